@@ -1,0 +1,5 @@
+//! The gateway: calls in, steps out.
+#![tactic(auto)]
+
+pub mod call;
+pub mod config;

@@ -1,0 +1,17 @@
+pub mod Match
+pub mod Meet
+pub mod Parts
+pub mod Chunks
+pub mod Relations
+pub mod Related
+pub mod Checks
+pub mod Laws
+pub mod Spelling
+pub mod Spell
+pub mod SpellCovers
+pub mod Characters
+pub mod Plain
+pub mod Strips
+pub mod Behind
+pub mod ChangeLemmas
+pub mod Naturals

@@ -1,0 +1,4 @@
+//! The choice among offers, and the filter between regions.
+#![tactic(auto)]
+
+pub mod gateways;

@@ -1,0 +1,7 @@
+use Rattle.std.proofs.Common.{ℕ, ◌<◌, ap}
+use Rattle.std.specs.Map.{keys_of}
+use Rattle.zq_tables.proofs.Small.{All-rest}
+use Rattle.zq_tables.proofs.iter.RegionsIterator.next.Goals as goal
+
+pub invariant_of-self-2 : goal.invariant_of-self-2
+invariant_of-self-2 g c = All-rest (λ k. k < 770) _ _ _ c.in_ok-i.ensures.steps c.self.invariant
