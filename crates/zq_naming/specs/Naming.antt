@@ -4,7 +4,7 @@ use Rattle.std.specs.Option.{option_map}
 use Rattle.std.specs.Prelude.{slice_index}
 use Rattle.std.specs.Str.{bytes_eq}
 use Rattle.std.specs.Ordering.{nat_cmp}
-use Rattle.std.specs.Map.{lookup, remove_entry, set_value}
+use Rattle.std.specs.Map.{keys_of, lookup, remove_entry, set_value}
 use Rattle.std.specs.BTreeMap.{is_at, insert_entry}
 use Rattle.zq_key.specs.declared.message.Mapping.{Mapping}
 use Rattle.zq_key.specs.declared.message.Mapping.TheVariants as mapping
@@ -82,16 +82,17 @@ without_name id n = record n { theirs = remove_entry (is_at (nat_cmp id)) n.thei
 abbrev pub change_naming : ℕ → (FaceNaming → FaceNaming) → NamingState → NamingState
 change_naming face f s = set_value (is_at (nat_cmp face)) s (f (face_naming face s))
 
--- the number stands for the text
-abbrev pub names_text : List ℕ → ℕ × List ℕ → Bool
-names_text text e = not (e.0 == 0) && bytes_eq e.1 text
+abbrev pub is_text : List ℕ → Option (List ℕ) → Bool
+is_text text None = false
+is_text text (Some t) = bytes_eq t text
 
-abbrev pub first_id : ℕ × List ℕ → ℕ
-first_id e = e.0
+-- the number stands for the text; the number 0 stands for none
+abbrev pub names_text : Names → List ℕ → ℕ → Bool
+names_text names text id = not (id == 0) && is_text text (text_at id names)
 
 -- the least number that stands for the text
 abbrev pub least_name : List ℕ → Names → Option ℕ
-least_name text names = option_map first_id (find (names_text text) names)
+least_name text names = find (names_text names text) (keys_of names)
 
 -- a text under no number
 abbrev pub plain : List ℕ → WireExpr

@@ -162,18 +162,24 @@ fn numbered(
 fn least_name(names: &BTreeMap<u16, Text>, text: &str) -> Option<u16>
     ensures { result ≡ least_name text.now names.now.entries }
 {
-    for (id, name) in names {
-        if is_name(*id, name.as_str(), text) {
+    for id in names.keys() {
+        if is_name(names, *id, text) {
             return Some(*id);
         }
     }
     None
 }
 
-fn is_name(id: u16, name: &str, text: &str) -> bool
-    ensures { result ≡ names_text text.now (id, name.now) }
+fn is_name(names: &BTreeMap<u16, Text>, id: u16, text: &str) -> bool
+    ensures { result ≡ names_text names.now.entries text.now id }
 {
-    id != 0 && name == text
+    if id == 0 {
+        return false;
+    }
+    match names.get(&id) {
+        Some(name) => name.as_str() == text,
+        None => false,
+    }
 }
 
 /// The numbers of every open face.
@@ -230,14 +236,24 @@ impl Naming {
         }
     }
 
-    /// The text as it is handed to the face.
-    pub fn best(&self, face: FaceId, text: &str) -> Result<WireExpr, OutOfMemory>
+    fn best_of(&self, face: FaceId, text: &str) -> Result<WireExpr, OutOfMemory>
         ensures { IfOk result (λ w. w ≡ best (face_naming face.0 self.now) text.now) }
     {
         match self.faces.get(&face.0) {
             Some(numbers) => numbers.best(self.alloc, text),
             None => FaceNumbers::new(self.alloc).best(self.alloc, text),
         }
+    }
+
+    /// The text as it is handed to the face (upstream's `get_best_key`): by the number of the
+    /// longest part of whole chunks that has one, a number of the face before one of the gateway
+    /// and the least of several, else whole.
+    #[tactic(auto, using(crate::proofs::Reading::answer_reads))]
+    pub fn best(&self, face: FaceId, text: &str) -> Result<WireExpr, OutOfMemory>
+        ensures key { IfOk result (λ w. w ≡ best (face_naming face.0 self.now) text.now) }
+        ensures reads { 0 < length text.now → IfOk result (λ w. read_by (face_naming face.0 self.now) w ≡ Said.Full text.now) }
+    {
+        self.best_of(face, text)
     }
 
     /// What a number of the face stands for.
