@@ -3,3 +3,5 @@
 
 pub mod call;
 pub mod config;
+pub mod face;
+pub mod hats;
