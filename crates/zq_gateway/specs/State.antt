@@ -1,6 +1,6 @@
 -- What a gateway is seen as between two calls: lists.
 use Rattle.std.specs.Prelude.{ℕ, ◌+◌, ◌<◌, ◌==◌, Bool, true, false, ◌&&◌, not, List, [], ◌∷◌, fold, Option, Some, None, if◌then◌else◌, nat_lt}
-use Rattle.std.specs.Option.{is_some, option_map_or, option_and_then}
+use Rattle.std.specs.Option.{is_some, option_map, option_map_or, option_and_then}
 use Rattle.std.specs.List.{All}
 use Rattle.std.specs.Map.{keys_of, lookup, set_value}
 use Rattle.std.specs.BTreeMap.{is_at}
@@ -106,3 +106,10 @@ has_declared_in face id (Some h) = is_some (declaration_at face id h)
 abbrev pub clashes_in : ℕ → ℕ → List ℕ → Option HatState → Bool
 clashes_in face id key None = false
 clashes_in face id key (Some h) = clashes_at face id key h
+
+abbrev pub region_in : OpenFace → Region
+region_in o = o.region
+
+-- the region of an open face
+abbrev pub face_region : ℕ → Core → Option Region
+face_region face c = option_map region_in (at face c.faces)

@@ -4,4 +4,6 @@
 pub mod call;
 pub mod config;
 pub mod face;
+mod handed;
+pub mod gateway;
 pub mod hats;
