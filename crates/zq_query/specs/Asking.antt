@@ -1,5 +1,5 @@
 -- What a request makes of the records: one entry a target, under the next id there.
-use Rattle.std.specs.Prelude.{ℕ, ◌+◌, ◌^◌, ◌==◌, ◌&&◌, ◌||◌, Bool, true, not, List, [], ◌∷◌, ◌++◌, map, fold, if◌then◌else◌, Option, Some, None}
+use Rattle.std.specs.Prelude.{ℕ, ◌+◌, ◌^◌, ◌==◌, ◌&&◌, ◌||◌, Bool, true, not, List, [], ◌∷◌, ◌++◌, map, fold, nat_lt, if◌then◌else◌, Option, Some, None}
 use Rattle.std.specs.List.{list_any}
 use Rattle.std.specs.Option.{unwrap_or, is_some}
 use Rattle.std.specs.BTreeMap.{insert_entry, is_at}
@@ -62,6 +62,10 @@ entering asker id qos places deadline s = record s { records = s.records ++ aske
 -- and each target the id as its last
 abbrev pub after_ask : FaceId → ℕ → ℕ → List FaceId → ℕ → QueryState → QueryState
 after_ask asker id qos targets deadline s = record (entering asker id qos (map (given_place s) targets) deadline s) { last_ids = giving s.last_ids (map (given_place s) targets) }
+
+-- some record has the number, or a greater one
+abbrev pub has_number_from : ℕ → List Record → Bool
+has_number_from number rs = list_any (λ r. not (nat_lt r.number number)) rs
 
 -- some place is pending
 abbrev pub any_pending : List Record → List (ℕ × ℕ) → Bool
