@@ -1,4 +1,5 @@
 //! The choice among offers, and the filter between regions.
 #![tactic(auto)]
 
+pub mod builder;
 pub mod gateways;
