@@ -2,5 +2,6 @@
 #![tactic(auto)]
 
 pub mod builder;
+pub mod filter;
 pub mod gateways;
 pub mod selection;
