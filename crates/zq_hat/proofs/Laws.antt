@@ -1,5 +1,5 @@
 -- The laws of merging.
-use Rattle.std.proofs.Common.{◌≡◌, ℕ, min, Bool, true, false, ap, ◌∙◌, refl, arith}
+use Rattle.std.proofs.Common.{◌≡◌, ℕ, min, Bool, true, false, ap, refl, arith}
 use Rattle.zq_key.specs.declared.message.QueryableInfoType.{QueryableInfoType}
 use Rattle.zq_hat.specs.Infos.{merge}
 

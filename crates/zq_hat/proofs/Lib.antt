@@ -2,3 +2,4 @@ pub mod Places
 pub mod KeyPlaces
 pub mod Folds
 pub mod Laws
+pub mod Rebuilt

@@ -1,5 +1,5 @@
 -- Informations on queryables, and their merge.
-use Rattle.std.specs.Prelude.{ℕ, min, Bool, List, ◌==◌, Option, Some, None, if◌then◌else◌, fold, cond, true, false, ◌&&◌}
+use Rattle.std.specs.Prelude.{min, Bool, ◌==◌, Option, Some, None, if◌then◌else◌, cond, true, false, ◌&&◌}
 use Rattle.zq_key.specs.declared.message.QueryableInfoType.{QueryableInfoType}
 
 -- whether both or neither hold

@@ -31,14 +31,14 @@ impl Model for HatFace {
     ghost Value = { FaceState };
 
     ghost view = { λ f. record {
-        zid = f.zid;
-        mode = f.mode;
-        remote_bound = f.remote_bound;
-        declared = f.declared.entries;
-        interests = [];
-        last_told = f.last_told;
-        marks = [];
-        nodes = record { ids = [] };
+      zid = f.zid;
+      mode = f.mode;
+      remote_bound = f.remote_bound;
+      declared = f.declared.entries;
+      interests = [];
+      last_told = f.last_told;
+      marks = [];
+      nodes = record { ids = [] };
     } };
 }
 
@@ -66,6 +66,21 @@ fn keys(declared: &BTreeMap<u32, Declaration>, alloc: Global) -> Result<TextList
     Ok(keys)
 }
 
+/// Equal declarations.
+#[tactic(auto, using(crate::proofs::Rebuilt::rebuilt_numbers))]
+fn copy_declared(
+    declared: &BTreeMap<u32, Declaration>,
+    alloc: Global,
+) -> Result<BTreeMap<u32, Declaration>, OutOfMemory>
+    ensures { IfOk result (λ d. d.entries ≡ declared.now.entries) }
+{
+    let mut made = BTreeMap::new(alloc);
+    for (id, declaration) in declared {
+        made.insert(*id, declaration.copy(alloc)?)?;
+    }
+    Ok(made)
+}
+
 impl HatFace {
     /// A face that has declared nothing and was told nothing.
     pub fn new(alloc: Global, opened: FaceRecord, told_start: u32) -> HatFace
@@ -78,6 +93,19 @@ impl HatFace {
             declared: BTreeMap::new(alloc),
             last_told: told_start,
         }
+    }
+
+    /// An equal face.
+    pub fn copy(&self, alloc: Global) -> Result<HatFace, OutOfMemory>
+        ensures { IfOk result (λ f. f ≡ self.now) }
+    {
+        Ok(HatFace {
+            zid: self.zid,
+            mode: self.mode,
+            remote_bound: self.remote_bound,
+            declared: copy_declared(&self.declared, alloc)?,
+            last_told: self.last_told,
+        })
     }
 
     /// What the face declared on the key, merged.
@@ -108,12 +136,7 @@ impl HatFace {
     }
 
     /// The same id replaces.
-    pub fn declare(
-        &mut self,
-        id: u32,
-        key: Key,
-        info: QueryableInfoType,
-    ) -> Result<(), OutOfMemory>
+    pub fn declare(&mut self, id: u32, key: Key, info: QueryableInfoType) -> Result<(), OutOfMemory>
         ensures ok { OnOk result (self.new ≡ declare id key info self.old) }
         ensures err { OnErr result (self.new ≡ self.old) }
     {

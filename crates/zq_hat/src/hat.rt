@@ -41,15 +41,15 @@ impl Model for Hat {
     ghost Value = { HatState };
 
     ghost view = { λ h. record {
-        region = h.region;
-        north_mode = h.north_mode;
-        own = h.own;
-        told_start = h.told_start;
-        faces = h.faces.entries;
-        told = [];
-        entries = [];
-        owned = [];
-        network = record { nodes = []; trees = []; distances = [] };
+      region = h.region;
+      north_mode = h.north_mode;
+      own = h.own;
+      told_start = h.told_start;
+      faces = h.faces.entries;
+      told = [];
+      entries = [];
+      owned = [];
+      network = record { nodes = []; trees = []; distances = [] };
     } };
 }
 
@@ -119,6 +119,21 @@ fn changed(
     }
 }
 
+/// Equal faces.
+#[tactic(auto, using(crate::proofs::Rebuilt::rebuilt_numbers))]
+fn copy_faces(
+    faces: &BTreeMap<u32, HatFace>,
+    alloc: Global,
+) -> Result<BTreeMap<u32, HatFace>, OutOfMemory>
+    ensures { IfOk result (λ f. f.entries ≡ faces.now.entries) }
+{
+    let mut made = BTreeMap::new(alloc);
+    for (number, face) in faces {
+        made.insert(*number, face.copy(alloc)?)?;
+    }
+    Ok(made)
+}
+
 impl Hat {
     /// A hat without faces; `told_start` is the id before the first that a face is told.
     pub fn new(alloc: Global, region: Region, north_mode: Mode, own: Zid, told_start: u32) -> Hat
@@ -132,6 +147,20 @@ impl Hat {
             faces: BTreeMap::new(alloc),
             alloc,
         }
+    }
+
+    /// An equal hat.
+    pub fn copy(&self, alloc: Global) -> Result<Hat, OutOfMemory>
+        ensures { IfOk result (λ h. h ≡ self.now) }
+    {
+        Ok(Hat {
+            region: self.region,
+            north_mode: self.north_mode,
+            own: self.own,
+            told_start: self.told_start,
+            faces: copy_faces(&self.faces, alloc)?,
+            alloc,
+        })
     }
 
     pub fn strategy(&self) -> Strategy

@@ -70,10 +70,7 @@ fn add_keys(
 }
 
 /// The keys that the faces declared, each once, in order.
-fn declared_keys(
-    alloc: Global,
-    faces: &BTreeMap<u32, HatFace>,
-) -> Result<Vec<Key>, OutOfMemory>
+fn declared_keys(alloc: Global, faces: &BTreeMap<u32, HatFace>) -> Result<Vec<Key>, OutOfMemory>
     ensures { IfOk result (λ ks. ks.items ≡ declared_keys faces.now.entries) }
 {
     let mut keys = Vec::new(alloc);
@@ -159,7 +156,11 @@ fn offer_of(
     requires { IsTrue (is_key q.now) }
     ensures { IfOk result (λ o. o ≡ offer_of region q.now key.now number info) }
 {
-    let distance = if matches!(region, Region::Local) { 0 } else { 1 };
+    let distance = if matches!(region, Region::Local) {
+        0
+    } else {
+        1
+    };
     Ok(QueryTargetQabl {
         face: FaceId(number),
         info: Some(QueryableInfoType {
@@ -187,10 +188,7 @@ fn add_offer(
 {
     match face.info(key.as_str()) {
         None => Ok(()),
-        Some(info) => put(
-            offers,
-            offer_of(alloc, region, number, key, q, info)?,
-        ),
+        Some(info) => put(offers, offer_of(alloc, region, number, key, q, info)?),
     }
 }
 
@@ -249,4 +247,3 @@ pub fn declared_offers(
     }
     Ok(Items::from_vec(offers))
 }
-

@@ -2,11 +2,11 @@
 ghost use Rattle.std.specs.Prelude.{◌≡◌, IfOk};
 
 use std::alloc::Global;
+use zq_key::Key;
 use zq_key::items::Items;
 use zq_key::memory::OutOfMemory;
 use zq_key::message::{Bound, FaceId, Mode, QueryableInfoType, Region, Zid};
 use zq_key::text::Text;
-use zq_key::Key;
 
 /// How a region keeps and offers queryables.
 #[derive(Clone, Copy, Debug, PartialEq, Eq)]
@@ -31,6 +31,18 @@ pub struct FaceRecord {
 pub struct Declaration {
     pub key: Key,
     pub info: QueryableInfoType,
+}
+
+impl Declaration {
+    /// An equal declaration.
+    pub fn copy(&self, alloc: Global) -> Result<Declaration, OutOfMemory>
+        ensures { IfOk result (λ d. d ≡ self.now) }
+    {
+        Ok(Declaration {
+            key: self.key.copy(alloc)?,
+            info: self.info,
+        })
+    }
 }
 
 /// An interest of a face in the queryables of others: all, or those that meet a key.
