@@ -236,12 +236,13 @@ opened o = record { region = o.region; zid = o.zid; mode = o.mode; remote_bound 
 abbrev pub seat : ℕ → Opening → FaceRecord
 seat n o = record { face = record { 0 = n }; zid = o.zid; mode = o.mode; remote_bound = o.remote_bound }
 
+-- a face joins the open ones
+abbrev pub with_open : Opening → Core → Core
+with_open o c = record c { faces = insert_entry nat_cmp c.faces c.next_face (opened o); next_face = c.next_face + 1 }
+
 -- a face joins the open ones and its region's
 abbrev pub with_face : Opening → Core → Core
-with_face o c = record c {
-    faces = insert_entry nat_cmp c.faces c.next_face (opened o);
-    next_face = c.next_face + 1;
-    hats = change_hat o.region (joined (seat c.next_face o)) c.hats }
+with_face o c = record (with_open o c) { hats = change_hat o.region (joined (seat c.next_face o)) c.hats }
 
 -- a face leaves the open ones and its region's, and its entries are let go
 abbrev pub without_open : ℕ → Core → Core
@@ -269,9 +270,17 @@ accepted c (passing now) = with_queries c (after_poll now c.queries)
 accepted c (listing r table) = record c { tables = with_entry c.tables r table }
 accepted c unbuilt = c
 
+-- a new face has no numbers yet
+abbrev pub with_numbers : State → NamingState
+with_numbers s = insert_entry nat_cmp s.names s.core.next_face no_names
+
+-- a face joins the open ones, with no numbers yet
+abbrev pub seated : Opening → State → State
+seated o s = record { core = with_open o s.core; names = with_numbers s }
+
 -- the numbers after a call that was accepted
 abbrev pub renamed : State → TextCall → NamingState
-renamed s (opening o) = insert_entry nat_cmp s.names s.core.next_face no_names
+renamed s (opening o) = with_numbers s
 renamed s (closing face) = remove_entry (is_at (nat_cmp face.0)) s.names
 renamed s (naming face id said standing) = change_naming face.0 (with_name id (full_text said)) s.names
 renamed s (unnaming face id standing) = change_naming face.0 (without_name id) s.names

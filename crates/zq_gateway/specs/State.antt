@@ -95,8 +95,8 @@ abbrev pub joined : FaceRecord → HatState → HatState
 joined r h = if has_face r.face.0 h then h else with_face_opened r h
 
 -- every number is below the next one
-abbrev pub AreBelow : {X : Type 0} → ℕ → List (ℕ × X) → Type 0
-AreBelow n entries = All (λ k. k < n) (keys_of entries)
+pub record AreBelow {X : Type 0} (n : ℕ) (entries : List (ℕ × X)) : Type 0 where
+  pub each : All (λ k. k < n) (keys_of entries)
 
 -- the face declared the id in the hat, if there is one
 abbrev pub has_declared_in : ℕ → ℕ → Option HatState → Bool

@@ -1,11 +1,14 @@
 //! The gateway: each call is one event.
-ghost use Rattle.std.specs.Prelude.{◌≡◌, ◌<◌, ◌+◌, ◌^◌, [], Some, None, true, false, IfOk, OnOk, OnErr, option_map, map, option_to_list};
-ghost use Rattle.std.specs.Option.{is_some};
+ghost use Rattle.std.specs.Prelude.{◌≡◌, ◌<◌, ◌+◌, ◌^◌, [], Some, None, true, false, IfOk, OnOk, OnErr, option_copied, option_map, map, option_to_list};
+ghost use Rattle.std.specs.BTreeMap.{insert_entry};
+ghost use Rattle.std.specs.Ordering.{nat_cmp};
+ghost use Rattle.zq_naming.specs.Naming.{is_text};
 ghost use Rattle.zq_gateway.specs.declared.call.Call.TheVariants as call;
 ghost use Rattle.zq_gateway.specs.Calls.{is_built};
-ghost use Rattle.zq_gateway.specs.Deciding.{done, refused};
+ghost use Rattle.zq_gateway.specs.Deciding.{done, opened, refused, remaps, seat};
 ghost use Rattle.zq_gateway.specs.Machine.{after, answer, follow, step};
-ghost use Rattle.zq_gateway.specs.State.{face_region, is_open, opening_state};
+ghost use Rattle.zq_gateway.specs.State.{at, change_hat, face_region, is_open, joined, opening_state};
+ghost use Rattle.zq_naming.specs.Naming.{face_naming, no_names, text_at};
 ghost use Rattle.zq_gateway.specs.TextCalls.{declaring, ending, listing, naming, opening, replying, reporting, unnaming, withdrawing};
 
 use crate::call::{Call, Opening, Outcome, Refusal, Step};
@@ -25,7 +28,7 @@ use zq_key::text::Text;
 use zq_key::{Key, KeyError, is_key};
 use zq_naming::naming::Naming;
 use zq_naming::said::Said;
-use zq_query::book::Queries;
+use zq_query::queries::Queries;
 use zq_query::records::ReplyRefusal;
 use zq_route::gateways::Gateways;
 use zq_tables::RegionMap;
@@ -183,6 +186,141 @@ impl Gateway {
                 handed: final_in(room, last),
             }),
             Err(_) => Ok(self.refused(Refusal::NotInFlight)),
+        }
+    }
+
+    // A face is opened.
+    fn open(&mut self, asked: &Opening) -> Result<Step, OutOfMemory>
+        ensures step { IfOk result (λ t. t ≡ answer self.old (opening asked.now)) }
+        ensures after { OnOk result (self.new ≡ follow self.old (opening asked.now)) }
+        ensures err { OnErr result (self.new ≡ self.old) }
+    {
+        if hats::hat_at(&self.hats, asked.region).is_none() {
+            return Ok(self.refused(Refusal::UnknownRegion));
+        }
+        if self.next_face == u32::MAX {
+            return Ok(self.refused(Refusal::NoFreeId));
+        }
+        let face = FaceId(self.next_face);
+        take_seat(&mut self.names, &mut self.faces, &mut self.hats, face, asked)?;
+        self.next_face += 1;
+        Ok(Step {
+            outcome: Outcome::Opened(face),
+            handed: Items::new(self.alloc),
+        })
+    }
+
+    // The face declares a number for a text.
+    fn declare_key(&mut self, face: FaceId, id: u16, said: &Said) -> Result<Step, OutOfMemory>
+        ensures step { IfOk result (λ t. t ≡ answer self.old (naming face id said.now (text_at id (face_naming face.0 self.old.names).theirs))) }
+        ensures after { OnOk result (self.new ≡ follow self.old (naming face id said.now (text_at id (face_naming face.0 self.old.names).theirs))) }
+        ensures err { OnErr result (self.new ≡ self.old) }
+    {
+        if !self.is_open(face) {
+            return Ok(self.refused(Refusal::UnknownFace));
+        }
+        let text = match said {
+            Said::Unscoped => return Ok(self.refused(Refusal::UnknownScope)),
+            Said::Empty => return Ok(self.refused(Refusal::InvalidKeyExpr)),
+            Said::Full(text) => text,
+        };
+        if !is_key(text.as_str()) {
+            return Ok(self.refused(Refusal::InvalidKeyExpr));
+        }
+        if remaps(id, text.as_str(), self.names.standing(face, id)) {
+            return Ok(self.refused(Refusal::Remapped));
+        }
+        self.names.declare(face, id, text.as_str())?;
+        Ok(self.done())
+    }
+
+    // The face gives a number up.
+    fn undeclare_key(&mut self, face: FaceId, id: u16) -> Result<Step, OutOfMemory>
+        ensures step { IfOk result (λ t. t ≡ answer self.old (unnaming face id (text_at id (face_naming face.0 self.old.names).theirs))) }
+        ensures after { OnOk result (self.new ≡ follow self.old (unnaming face id (text_at id (face_naming face.0 self.old.names).theirs))) }
+        ensures err { OnErr result (self.new ≡ self.old) }
+    {
+        if !self.is_open(face) {
+            return Ok(self.refused(Refusal::UnknownFace));
+        }
+        if self.names.standing(face, id).is_none() {
+            return Ok(self.refused(Refusal::UnknownId));
+        }
+        self.names.undeclare(face, id);
+        Ok(self.done())
+    }
+
+    // The gateways of a region are listed.
+    fn set_gateways(&mut self, region: Region, table: &Gateways) -> Result<Step, OutOfMemory>
+        ensures step { IfOk result (λ t. t ≡ answer self.old (listing region table.now)) }
+        ensures after { OnOk result (self.new ≡ follow self.old (listing region table.now)) }
+        ensures err { OnErr result (self.new ≡ self.old) }
+    {
+        if hats::hat_at(&self.hats, region).is_none() {
+            return Ok(self.refused(Refusal::UnknownRegion));
+        }
+        let copy = table.copy(self.alloc)?;
+        hats::put_table(&mut self.tables, region, copy)?;
+        Ok(self.done())
+    }
+}
+
+fn remaps(id: u16, text: &str, standing: Option<&Text>) -> bool
+    ensures { result ≡ remaps id text.now (option_copied standing.entry) }
+{
+    if id == 0 {
+        return true;
+    }
+    match standing {
+        Some(other) => other.as_str() != text,
+        None => false,
+    }
+}
+
+// A face joins the open ones, those that have numbers, and its region's. Each of them is as before
+// where no memory is found.
+fn take_seat(
+    names: &mut Naming,
+    faces: &mut BTreeMap<u32, OpenFace>,
+    hats: &mut RegionMap<Hat>,
+    face: FaceId,
+    opening: &Opening,
+) -> Result<(), OutOfMemory>
+    requires named { at face.0 names.old ≡ None }
+    requires absent { at face.0 faces.old.entries ≡ None }
+    ensures names { OnOk result (names.new ≡ insert_entry nat_cmp names.old face.0 no_names) }
+    ensures faces { OnOk result (faces.new.entries ≡ insert_entry nat_cmp faces.old.entries face.0 (opened opening.now)) }
+    ensures hats { OnOk result (hats.new ≡ change_hat opening.now.region (joined (seat face.0 opening.now)) hats.old) }
+    ensures no_names { OnErr result (names.new ≡ names.old) }
+    ensures no_faces { OnErr result (faces.new.entries ≡ faces.old.entries) }
+    ensures no_hats { OnErr result (hats.new ≡ hats.old) }
+{
+    names.open(face)?;
+    let open = OpenFace {
+        region: opening.region,
+        zid: opening.zid,
+        mode: opening.mode,
+        remote_bound: opening.remote_bound,
+    };
+    match faces.insert(face.0, open) {
+        Ok(_) => {}
+        Err(_) => {
+            names.close(face);
+            return Err(OutOfMemory);
+        }
+    }
+    let seat = FaceRecord {
+        face,
+        zid: opening.zid,
+        mode: opening.mode,
+        remote_bound: opening.remote_bound,
+    };
+    match hats::join(hats, opening.region, seat) {
+        Ok(()) => Ok(()),
+        Err(_) => {
+            let _ = faces.remove(&face.0);
+            names.close(face);
+            Err(OutOfMemory)
         }
     }
 }

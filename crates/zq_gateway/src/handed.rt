@@ -12,7 +12,7 @@ use zq_key::memory::OutOfMemory;
 use zq_key::message::{FaceId, Mapping, Message, Request, Response, ResponseFinal, WireExpr};
 use zq_key::text::Text;
 use zq_naming::naming::Naming;
-use zq_query::book::Queries;
+use zq_query::queries::Queries;
 use zq_query::records::{Final, ReplyTo};
 
 /// A final to its asker. It takes no memory.

@@ -2,6 +2,7 @@
 ghost use Rattle.std.specs.Prelude.{◌≡◌, true, false, Some, None, IfOk, OnOk, OnErr, IsErrOf, ◌↔◌, option_copied, is_none};
 ghost use Rattle.std.specs.Option.{is_some, option_map_or};
 ghost use Rattle.zq_hat.specs.Kept.{clashes_at, declaration_at, registered, unregistered, without_face};
+ghost use Rattle.zq_tables.specs.RegionMap.{with_entry};
 ghost use Rattle.zq_gateway.specs.State.{change_hat, clashes_in, has_declared_in, hat_at, is_region, joined};
 
 use crate::config::SOUTH_IDS;
@@ -11,6 +12,7 @@ use zq_hat::types::{FaceRecord, HatRefusal};
 use zq_key::Key;
 use zq_key::memory::OutOfMemory;
 use zq_key::message::{FaceId, QueryableInfoType, Region};
+use zq_route::gateways::Gateways;
 use zq_tables::RegionMap;
 
 /// Whether a region of this id can be.
@@ -156,5 +158,21 @@ fn withdraw_in(hat: &mut Hat, face: FaceId, id: u32, node: u16) -> Result<(), Ha
     match hat.unregister_queryable(face, id, None, node) {
         Ok(_) => Ok(()),
         Err(refusal) => Err(refusal),
+    }
+}
+
+/// The gateways of a region are put in place.
+pub fn put_table(
+    tables: &mut RegionMap<Gateways>,
+    region: Region,
+    table: Gateways,
+) -> Result<(), OutOfMemory>
+    requires { is_region region ≡ true }
+    ensures ok { OnOk result (tables.new ≡ with_entry tables.old region table) }
+    ensures err { OnErr result (tables.new ≡ tables.old) }
+{
+    match tables.insert(region, table) {
+        Ok(_) => Ok(()),
+        Err(_) => Err(OutOfMemory),
     }
 }

@@ -79,8 +79,13 @@ with_name id text n = record n { theirs = insert_entry nat_cmp n.theirs id text 
 abbrev pub without_name : ℕ → FaceNaming → FaceNaming
 without_name id n = record n { theirs = remove_entry (is_at (nat_cmp id)) n.theirs }
 
+abbrev pub put_naming : ℕ → (FaceNaming → FaceNaming) → NamingState → Option FaceNaming → NamingState
+put_naming face f s None = s
+put_naming face f s (Some n) = set_value (is_at (nat_cmp face)) s (f n)
+
+-- the numbers of an open face are changed
 abbrev pub change_naming : ℕ → (FaceNaming → FaceNaming) → NamingState → NamingState
-change_naming face f s = set_value (is_at (nat_cmp face)) s (f (face_naming face s))
+change_naming face f s = put_naming face f s (naming_at face s)
 
 abbrev pub is_text : List ℕ → Option (List ℕ) → Bool
 is_text text None = false

@@ -266,9 +266,8 @@ impl Naming {
         }
     }
 
-    /// The face declares a number.
+    /// The face declares a number. A face that is not open declares none.
     pub fn declare(&mut self, face: FaceId, id: u16, text: &str) -> Result<(), OutOfMemory>
-        requires { IsSome (naming_at face.0 self.old) }
         ensures ok { OnOk result (self.new ≡ change_naming face.0 (with_name id text.now) self.old) }
         ensures err { OnErr result (self.new ≡ self.old) }
     {
@@ -276,9 +275,8 @@ impl Naming {
         declare_at(&mut self.faces, face.0, id, text)
     }
 
-    /// The face gives a number up. It takes no memory.
+    /// The face gives a number up. It takes no memory. A face that is not open has none.
     pub fn undeclare(&mut self, face: FaceId, id: u16)
-        requires { IsSome (naming_at face.0 self.old) }
         ensures { self.new ≡ change_naming face.0 (without_name id) self.old }
     {
         undeclare_at(&mut self.faces, face.0, id)
@@ -291,22 +289,20 @@ fn declare_at(
     id: u16,
     text: Text,
 ) -> Result<(), OutOfMemory>
-    requires { IsSome (naming_at face faces.old.entries) }
     ensures ok { OnOk result (faces.new.entries ≡ change_naming face (with_name id text) faces.old.entries) }
     ensures err { OnErr result (faces.new.entries ≡ faces.old.entries) }
 {
     match faces.get_mut(&face) {
         Some(numbers) => numbers.declare(id, text),
-        None => unreachable!(),
+        None => Ok(()),
     }
 }
 
 fn undeclare_at(faces: &mut BTreeMap<u32, FaceNumbers>, face: u32, id: u16)
-    requires { IsSome (naming_at face faces.old.entries) }
     ensures { faces.new.entries ≡ change_naming face (without_name id) faces.old.entries }
 {
     match faces.get_mut(&face) {
         Some(numbers) => numbers.undeclare(id),
-        None => unreachable!(),
+        None => {}
     }
 }
