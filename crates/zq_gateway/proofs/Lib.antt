@@ -1,3 +1,4 @@
 pub mod Entries
 pub mod Writing
 pub mod Below
+pub mod Replies

@@ -1,12 +1,14 @@
 //! The gateway: each call is one event.
 ghost use Rattle.std.specs.Prelude.{◌≡◌, ◌<◌, ◌+◌, ◌^◌, [], Some, None, true, false, IfOk, OnOk, OnErr, option_copied, option_map, map, option_to_list};
 ghost use Rattle.std.specs.BTreeMap.{insert_entry};
+ghost use Rattle.std.specs.Option.{IsSome};
 ghost use Rattle.std.specs.Ordering.{nat_cmp};
+ghost use Rattle.zq_query.specs.Records.{next_reply};
 ghost use Rattle.zq_naming.specs.Naming.{is_text};
 ghost use Rattle.zq_gateway.specs.declared.call.Call.TheVariants as call;
 ghost use Rattle.zq_gateway.specs.Calls.{is_built};
-ghost use Rattle.zq_gateway.specs.Deciding.{done, opened, refused, remaps, seat};
-ghost use Rattle.zq_gateway.specs.Machine.{after, answer, follow, step};
+ghost use Rattle.zq_gateway.specs.Deciding.{done, full_text, granted, is_unscoped, lacks_reply_number, opened, refused, remaps, says_key_or_nothing, seat};
+ghost use Rattle.zq_gateway.specs.Machine.{accepted_state, after, answer, follow, step, write};
 ghost use Rattle.zq_gateway.specs.State.{at, change_hat, face_region, is_open, joined, opening_state};
 ghost use Rattle.zq_naming.specs.Naming.{face_naming, no_names, text_at};
 ghost use Rattle.zq_gateway.specs.TextCalls.{declaring, ending, listing, naming, opening, replying, reporting, unnaming, withdrawing};
@@ -29,7 +31,7 @@ use zq_key::{Key, KeyError, is_key};
 use zq_naming::naming::Naming;
 use zq_naming::said::Said;
 use zq_query::queries::Queries;
-use zq_query::records::ReplyRefusal;
+use zq_query::records::{ReplyRefusal, ReplyTo};
 use zq_route::gateways::Gateways;
 use zq_tables::RegionMap;
 
@@ -210,6 +212,59 @@ impl Gateway {
         })
     }
 
+    // A reply of a target.
+    fn reply(&mut self, face: FaceId, said: &Said, response: &Response) -> Result<Step, OutOfMemory>
+        ensures step { IfOk result (λ t. t ≡ answer self.old (replying face said.now response.now)) }
+        ensures after { OnOk result (self.new ≡ follow self.old (replying face said.now response.now)) }
+        ensures err { OnErr result (self.new ≡ self.old) }
+    {
+        if !self.is_open(face) {
+            return Ok(self.refused(Refusal::UnknownFace));
+        }
+        if is_unscoped(said) {
+            return Ok(self.refused(Refusal::UnknownScope));
+        }
+        if !self.queries.is_pending(face, response.rid) {
+            return Ok(self.refused(Refusal::QueryNotFound));
+        }
+        if !says_key_or_nothing(said) {
+            return Ok(self.refused(Refusal::InvalidKeyExpr));
+        }
+        match self.queries.would_reply(face, response.rid) {
+            Ok(to) => self.put_reply(face, said, response, &to),
+            Err(ReplyRefusal::NoFreeId) => Ok(self.refused(Refusal::NoFreeId)),
+            Err(ReplyRefusal::QueryNotFound) => unreachable!(),
+            Err(ReplyRefusal::OutOfMemory) => unreachable!(),
+        }
+    }
+
+    // A reply is handed to its asker and put in flight.
+    #[tactic(auto, using(crate::proofs::Writing::replies_written))]
+    fn put_reply(
+        &mut self,
+        face: FaceId,
+        said: &Said,
+        response: &Response,
+        to: &ReplyTo,
+    ) -> Result<Step, OutOfMemory>
+        requires next { next_reply face.0 response.now.rid self.old.core.queries ≡ Some to.now }
+        requires fits { IsSome to.now.reply → self.old.core.queries.replies + 1 < 2 ^ 64 }
+        ensures step { IfOk result (λ t. t ≡ write self.old.names (granted self.old.core (replying face said.now response.now))) }
+        ensures after { OnOk result (self.new ≡ accepted_state self.old (replying face said.now response.now)) }
+        ensures err { OnErr result (self.new ≡ self.old) }
+    {
+        let handed = written_replies(self.alloc, full_text(said), response, to)?;
+        match self.queries.reply(face, response.rid) {
+            Ok(to) => Ok(Step {
+                outcome: Outcome::Replied(to.reply),
+                handed,
+            }),
+            Err(ReplyRefusal::OutOfMemory) => Err(OutOfMemory),
+            Err(ReplyRefusal::QueryNotFound) => unreachable!(),
+            Err(ReplyRefusal::NoFreeId) => unreachable!(),
+        }
+    }
+
     // The face declares a number for a text.
     fn declare_key(&mut self, face: FaceId, id: u16, said: &Said) -> Result<Step, OutOfMemory>
         ensures step { IfOk result (λ t. t ≡ answer self.old (naming face id said.now (text_at id (face_naming face.0 self.old.names).theirs))) }
@@ -322,5 +377,31 @@ fn take_seat(
             names.close(face);
             Err(OutOfMemory)
         }
+    }
+}
+
+fn is_unscoped(said: &Said) -> bool
+    ensures { result ≡ is_unscoped said.now }
+{
+    matches!(said, Said::Unscoped)
+}
+
+fn says_key_or_nothing(said: &Said) -> bool
+    ensures { result ≡ says_key_or_nothing said.now }
+{
+    match said {
+        Said::Unscoped => false,
+        Said::Empty => true,
+        Said::Full(text) => is_key(text.as_str()),
+    }
+}
+
+fn full_text(said: &Said) -> &str
+    ensures { result.now ≡ full_text said.now }
+{
+    match said {
+        Said::Unscoped => "",
+        Said::Empty => "",
+        Said::Full(text) => text.as_str(),
     }
 }
