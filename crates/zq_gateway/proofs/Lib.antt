@@ -2,3 +2,4 @@ pub mod Entries
 pub mod Writing
 pub mod Below
 pub mod Replies
+pub mod Routes

@@ -36,7 +36,7 @@ use Rattle.zq_gateway.specs.declared.call.Step.{Step}
 use Rattle.zq_gateway.specs.declared.face.OpenFace.{OpenFace}
 use Rattle.zq_gateway.specs.State.{Core, State, at, is_open, has_hat, hat_of, has_declared_in, clashes_in, joined, change_hat, change_hat_of}
 use Rattle.zq_gateway.specs.TextCalls.{TextCall, opening, closing, naming, unnaming, declaring, withdrawing, asking, replying, ending, reporting, passing, listing, unbuilt}
-use Rattle.zq_gateway.specs.Selecting.{select, target_of}
+use Rattle.zq_gateway.specs.Selecting.{select, target_of, is_unscoped, says_key, says_key_or_nothing, full_text}
 
 abbrev pub lacks_reply_numbers : ℕ → QueryState → Bool
 lacks_reply_numbers now q = false
@@ -60,28 +60,6 @@ Cause = Bool × Refusal
 abbrev pub first_of : List Cause → Option Refusal
 first_of [] = None
 first_of (c ∷ cs) = if c.0 then Some c.1 else first_of cs
-
-abbrev pub is_unscoped : Said → Bool
-is_unscoped said.Unscoped = true
-is_unscoped said.Empty = false
-is_unscoped (said.Full text) = false
-
--- the full text is a key
-abbrev pub says_key : Said → Bool
-says_key said.Unscoped = false
-says_key said.Empty = false
-says_key (said.Full text) = is_key text
-
--- the full text is a key, or there is none to be one
-abbrev pub says_key_or_nothing : Said → Bool
-says_key_or_nothing said.Unscoped = false
-says_key_or_nothing said.Empty = true
-says_key_or_nothing (said.Full text) = is_key text
-
-abbrev pub full_text : Said → List ℕ
-full_text said.Unscoped = []
-full_text said.Empty = []
-full_text (said.Full text) = text
 
 abbrev pub is_other : List ℕ → Option (List ℕ) → Bool
 is_other text None = false

@@ -7,3 +7,4 @@ pub mod face;
 mod handed;
 pub mod gateway;
 pub mod hats;
+mod select;
