@@ -66,13 +66,13 @@ abbrev pub passes : List (ℕ × OpenFace) → List (ℕ × Gateways) → Zid �
 passes faces tables own asker opened o = not (o.face.0 == asker.0) && carries_between tables own (filter_for faces opened o)
 
 -- a region's part joins what earlier regions gave: the offers that pass and that the target picks, each face once
-abbrev pub with_part : List (ℕ × OpenFace) → List (ℕ × Gateways) → Zid → FaceId → OpenFace → List ℕ → QueryTarget → List (ℕ × QueryTargetQabl) → ℕ × HatState → List (ℕ × QueryTargetQabl)
+abbrev pub with_part : List (ℕ × OpenFace) → List (ℕ × Gateways) → Zid → FaceId → OpenFace → List ℕ → QueryTarget → List (ℕ × QueryTargetQabl) → HatState → List (ℕ × QueryTargetQabl)
 with_part faces tables own asker opened key target route h =
-    with_offers route (chosen target (filter (passes faces tables own asker opened) (offers_of h.1 opened.region key)))
+    with_offers route (chosen target (filter (passes faces tables own asker opened) (offers_of h opened.region key)))
 
 -- region by region, in the order of their places
 abbrev pub route_for : Core → FaceId → OpenFace → List ℕ → QueryTarget → List (ℕ × QueryTargetQabl)
-route_for c asker opened key target = fold (with_part c.faces c.tables c.config.zid asker opened key target) [] c.hats
+route_for c asker opened key target = fold (with_part c.faces c.tables c.config.zid asker opened key target) [] (values_of c.hats)
 
 -- the offers that a request of an open face is handed to
 abbrev pub select_for : Core → FaceId → Said → QueryTarget → Option OpenFace → List QueryTargetQabl

@@ -2,9 +2,9 @@
 ghost use Rattle.std.specs.Prelude.{◌≡◌, ℕ, [], Bool, IfOk, OnOk, Some, IsTrue, option_map};
 ghost use Rattle.std.specs.Map.{values_of};
 ghost use Rattle.zq_key.specs.Key.{is_key as key_of};
-ghost use Rattle.zq_hat.specs.State.{HatState};
-ghost use Rattle.zq_gateway.specs.Selecting.{carries_between, filter_for, passes, with_part, zid_of};
-ghost use Rattle.std.specs.Prelude.{filter, fold, true};
+ghost use Rattle.zq_query.specs.Asking.{are_distinct, face_numbers};
+ghost use Rattle.zq_gateway.specs.Selecting.{target_of, carries_between, filter_for, passes, with_part, zid_of};
+ghost use Rattle.std.specs.Prelude.{filter, fold, map, true};
 
 use crate::face::OpenFace;
 use crate::hats::is_region;
@@ -96,11 +96,45 @@ impl<'a> Asker<'a> {
         hat: &Hat,
     ) -> Result<(), OutOfMemory>
         requires { IsTrue (key_of key.now) }
-        ensures { OnOk result ((index : ℕ) → route.new ≡ with_part self.now.faces.now.entries self.now.tables.now self.now.own self.now.face self.now.opened key.now target route.old (index, hat.now)) }
+        ensures { OnOk result (route.new ≡ with_part self.now.faces.now.entries self.now.tables.now self.now.own self.now.face self.now.opened key.now target route.old hat.now) }
     {
         let offers = hat.compute_query_route(&self.opened.region, key, Some(0))?;
         let offers = self.passing(alloc, offers)?;
         compute_final_route(alloc, target, route, &offers, is_any)
+    }
+
+    // Region by region, in the order of their places.
+    fn route(
+        &self,
+        alloc: Global,
+        hats: &RegionMap<Hat>,
+        key: &str,
+        target: QueryTarget,
+    ) -> Result<RouteBuilder<QueryTargetQabl>, OutOfMemory>
+        requires { IsTrue (key_of key.now) }
+        ensures { IfOk result (λ r. r ≡ fold (with_part self.now.faces.now.entries self.now.tables.now self.now.own self.now.face self.now.opened key.now target) [] (values_of hats.now)) }
+    {
+        let mut route = RouteBuilder::new(alloc);
+        for hat in hats.values() {
+            self.add_part(alloc, key, target, &mut route, hat)?;
+        }
+        Ok(route)
+    }
+
+    /// The offers that the asker's request on a key is handed to, of each face one.
+    #[tactic(auto, using(crate::proofs::Routes::route_distinct))]
+    pub fn select(
+        &self,
+        alloc: Global,
+        hats: &RegionMap<Hat>,
+        key: &str,
+        target: QueryTarget,
+    ) -> Result<Vec<QueryTargetQabl>, OutOfMemory>
+        requires { IsTrue (key_of key.now) }
+        ensures offers { IfOk result (λ v. v.items ≡ values_of (fold (with_part self.now.faces.now.entries self.now.tables.now self.now.own self.now.face self.now.opened key.now target) [] (values_of hats.now))) }
+        ensures distinct { IfOk result (λ v. are_distinct (face_numbers (map target_of v.items)) ≡ true) }
+    {
+        Ok(self.route(alloc, hats, key, target)?.build())
     }
 }
 
