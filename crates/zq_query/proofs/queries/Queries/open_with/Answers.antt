@@ -56,6 +56,7 @@ invariant_of-self-2 c =
           c.insert.new.self.entries c.in-Ok.ensures.entries c.insert.ensures.ordered c.in-Ok.ensures.updates.0
           c.insert-2.new.self.entries c.in-Ok-insert.ensures.entries c.insert-2.ensures.ordered c.in-Ok-insert.ensures.updates.0
           c.insert-3.new.self.entries c.insert-3.ensures.ordered c.in-Ok-insert-2.ensures.updates.0,
+      c.self.invariant.2,
     )
 
 pub returns-clause-ok : goal.returns-clause-ok

@@ -46,6 +46,7 @@ invariant_of-self-2 c =
       tied_owed i.heads.entries i.pending.entries i.dues.entries i.replies.entries c.self.invariant.0 (c.args.face, c.args.id) v absent alone h.0 (more_owed h.0) h.1 refl
           c.insert.new.self.entries c.in-Ok.ensures.entries c.insert.ensures.ordered c.in-Ok.ensures.updates.0 c.insert-2.new.self.entries c.insert-2.ensures.ordered c.in-Ok-insert.ensures.updates.0,
       below_owed i.heads.entries i.replies.entries i.requests i.next_reply c.args.number h.0 (more_owed h.0) h.1 c.self.invariant.1,
+      c.self.invariant.2,
     )
 
 pub returns-clause-ok : goal.returns-clause-ok
