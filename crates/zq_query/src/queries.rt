@@ -10,6 +10,7 @@ ghost use Rattle.zq_query.specs.declared.records.Final.{Final};
 ghost use Rattle.zq_query.specs.Records.{is_pending, is_entry, is_closed, final_if_open, owner, next_reply, needs_number, after_put, after_reply, last_given, next_id, pending_count, has_number, owes_face, adding, letting_go, letting_go_all, has_deadline, has_earlier, owes_any, over_after, is_in_flight, flies, landing, over_after_reply};
 
 mod ask;
+mod close;
 
 use crate::records::{Final, NotInFlight, QueryNotFound, ReplyRefusal, ReplyTo};
 use std::alloc::Global;
