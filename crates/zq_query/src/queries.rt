@@ -1,5 +1,5 @@
 //! The open requests by number, their entries by place and by deadline, and the replies in flight.
-ghost use Rattle.std.specs.Prelude.{◌≡◌, true, ◌<◌, ◌-◌, ◌+◌, ◌^◌, ◌&&◌, ◌==◌, Some, None, if◌then◌else◌, IfSome, IfNone, IfOk, OnOk, OnErr, IsErrOf, [], ◌++◌, ◌∷◌, false, length};
+ghost use Rattle.std.specs.Prelude.{◌≡◌, ℕ, true, ◌<◌, ◌-◌, ◌+◌, ◌^◌, ◌&&◌, ◌==◌, Some, None, if◌then◌else◌, IfSome, IfNone, IfOk, OnOk, OnErr, IsErrOf, [], ◌++◌, ◌∷◌, false, length};
 ghost use Rattle.std.specs.BTreeMap.{get, is_at, insert_entry};
 ghost use Rattle.std.specs.Map.{remove_entry, set_value};
 ghost use Rattle.std.specs.Option.{is_some, IsSome, option_map};
@@ -7,9 +7,10 @@ ghost use Rattle.std.specs.Ordering.{nat_cmp};
 ghost use Rattle.std.specs.List.{list_any};
 ghost use Rattle.zq_query.specs.Tables.{place_cmp, due_cmp, at_number, at_place, less_owed, less_flying, more_flying, more_owed, first_record, is_spent, final_at};
 ghost use Rattle.zq_query.specs.declared.records.Final.{Final};
-ghost use Rattle.zq_query.specs.Records.{is_pending, is_entry, is_closed, final_if_open, owner, next_reply, needs_number, after_put, after_reply, last_given, next_id, pending_count, has_number, owes_face, adding, letting_go, letting_go_all, has_deadline, has_earlier, owes_any, over_after, is_in_flight, landing, over_after_reply};
+ghost use Rattle.zq_query.specs.Records.{is_pending, is_entry, is_closed, final_if_open, owner, next_reply, needs_number, after_put, after_reply, last_given, next_id, pending_count, has_number, owes_face, adding, letting_go, letting_go_all, has_deadline, has_earlier, owes_any, over_after, is_in_flight, flies, landing, over_after_reply};
 
 mod ask;
+mod close;
 
 use crate::records::{Final, NotInFlight, QueryNotFound, ReplyRefusal, ReplyTo};
 use std::alloc::Global;
@@ -42,6 +43,7 @@ pub struct Queries {
     pending: BTreeMap<(u32, u32), Owed>,
     dues: BTreeMap<(u64, u64, u32), u32>,
     replies: BTreeMap<u64, u64>,
+    flights: BTreeSet<(u64, u64)>,
     last_ids: BTreeMap<u32, u32>,
     closed: BTreeSet<u32>,
     requests: u64,
@@ -51,13 +53,13 @@ pub struct Queries {
 
 impl Model for Queries {
     ghost use Rattle.zq_query.specs.Records.{QueryState};
-    ghost use Rattle.zq_query.specs.Tables.{IsTied, IsBelow, records_of};
+    ghost use Rattle.zq_query.specs.Tables.{IsTied, IsBelow, IsFlown, records_of};
 
     ghost Value = { QueryState };
 
     ghost view = { λ q. record { records = records_of q.heads.entries q.pending.entries q.replies.entries; last_ids = q.last_ids.entries; closed = q.closed.keys; requests = q.requests; replies = q.next_reply; request_ids = q.request_ids } };
 
-    ghost invariant = { λ q. IsTied q.heads.entries q.pending.entries q.dues.entries q.replies.entries × IsBelow q.heads.entries q.replies.entries q.requests q.next_reply };
+    ghost invariant = { λ q. IsTied q.heads.entries q.pending.entries q.dues.entries q.replies.entries × IsBelow q.heads.entries q.replies.entries q.requests q.next_reply × IsFlown q.replies.entries q.flights.keys };
 }
 
 /// The count of the request goes down by one.
@@ -139,6 +141,7 @@ impl Queries {
             pending: BTreeMap::new(alloc),
             dues: BTreeMap::new(alloc),
             replies: BTreeMap::new(alloc),
+            flights: BTreeSet::new(alloc),
             last_ids: BTreeMap::new(alloc),
             closed: BTreeSet::new(alloc),
             requests,
@@ -202,6 +205,7 @@ impl Queries {
         };
         let number = *found;
         let _ = self.replies.remove(&reply);
+        let _ = self.flights.remove(&(number, reply));
         let left = fly_less(&mut self.heads, number);
         settle(&mut self.heads, number, left)
     }
@@ -305,6 +309,13 @@ impl Queries {
         match self.replies.insert(self.next_reply, number) {
             Ok(_) => {}
             Err(_) => return Err(OutOfMemory),
+        }
+        match self.flights.insert((number, self.next_reply)) {
+            Ok(_) => {}
+            Err(_) => {
+                let _ = self.replies.remove(&self.next_reply);
+                return Err(OutOfMemory);
+            }
         }
         fly_more(&mut self.heads, number);
         self.next_reply += 1;
@@ -413,6 +424,21 @@ impl Queries {
         for place in places {
             self.drop_entry(place.0, place.1);
         }
+    }
+
+    /// The least reply in flight of the request.
+    pub fn first_in_flight(&self, number: u64) -> Option<u64>
+        ensures there { IfSome result (λ reply. flies number reply self.now.records ≡ true) }
+        ensures least { IfSome result (λ reply. (earlier : ℕ) → earlier < reply → flies number earlier self.now.records ≡ false) }
+        ensures none { IfNone result ((reply : ℕ) → flies number reply self.now.records ≡ false) }
+    {
+        let Some(flight) = self.flights.range((number, 0)..).next() else {
+            return None;
+        };
+        if flight.0 != number {
+            return None;
+        }
+        Some(flight.1)
     }
 
     /// The least deadline of all pending entries.

@@ -1,9 +1,13 @@
-use Rattle.std.proofs.Common.{◌≡◌, ◌∙◌, sym, ap, None, true≢false, List}
+use Rattle.std.proofs.Common.{◌≡◌, ◌∙◌, sym, ap, None, true≢false, List, refl}
+use Rattle.std.specs.Ordering.{nat_cmp}
+use Rattle.std.specs.BTreeMap.{is_at}
+use Rattle.std.specs.Map.{remove_entry}
 use Rattle.std.specs.Option.{is_some, option_copied}
 use Rattle.zq_query.specs.Tables.{at_number, records_of}
 use Rattle.zq_query.specs.Records.{QueryState, Record, is_in_flight, landing, over_after_reply}
 use Rattle.zq_query.proofs.Entries.{flying_is}
 use Rattle.zq_query.proofs.Letting.{carrier, settled, tied_landed, below_landed, records_landed, final_landed}
+use Rattle.zq_query.proofs.Flights.{flown_out}
 use Rattle.zq_query.proofs.queries.Queries.land.Goals as goal
 
 pub unreachable-requires : goal.unreachable-requires
@@ -30,6 +34,7 @@ invariant_of-self c =
     rw (heads, c.remove.ensures.entries) (
       tied_landed i.heads.entries i.pending.entries i.dues.entries i.replies.entries c.self.invariant.0 c.args.reply n is left less,
       below_landed i.heads.entries i.pending.entries i.dues.entries i.replies.entries c.self.invariant.0 c.args.reply n is left less i.requests i.next_reply c.self.invariant.1,
+      flown_out i.replies.entries i.flights.keys (remove_entry (is_at (nat_cmp c.args.reply)) i.replies.entries) c.remove-2.new.self.keys c.self.invariant.2 c.args.reply n is c.self.invariant.0.flights refl c.remove-2.ensures.updates.0,
     )
 
 pub returns-clause-records : goal.returns-clause-records

@@ -30,6 +30,7 @@ invariant_of-self c =
     rw (heads, c.remove.ensures.entries, c.remove-2.ensures.entries) (
       tied_let_go i.heads.entries i.pending.entries i.dues.entries i.replies.entries c.self.invariant.0 c.args.face c.args.id v is left less,
       below_let_go i.heads.entries i.pending.entries i.dues.entries i.replies.entries c.self.invariant.0 c.args.face c.args.id v is left less i.requests i.next_reply c.self.invariant.1,
+      c.self.invariant.2,
     )
 
 pub returns-clause-records : goal.returns-clause-records

@@ -11,6 +11,13 @@ use Rattle.zq_query.proofs.Owing.{undone, absent_of}
 use Rattle.zq_query.proofs.Opening.{new_number, records_opened, tied_opened, below_opened}
 use Rattle.zq_query.proofs.queries.Queries.open_with.Goals as goal
 
+pub invariant_of-self-in-Err-insert : goal.invariant_of-self-in-Err-insert
+invariant_of-self-in-Err-insert c =
+    let i = c.self.inside in
+    let new = new_number i.heads.entries i.pending.entries i.dues.entries i.replies.entries c.self.invariant.0 i.requests i.next_reply c.self.invariant.1 in
+    let heads = c.remove.ensures.entries ∙ ap (remove_entry (is_at (nat_cmp i.requests))) c.in-Ok.ensures.entries ∙ undone nat_cmp_total exact_unsigned i.heads.entries i.requests c.args.opened new in
+    rw (heads, c.in-Err-insert.ensures.err) c.self.invariant
+
 pub returns-in-Err-insert-clause-err : goal.returns-in-Err-insert-clause-err
 returns-in-Err-insert-clause-err c =
     let i = c.self.inside in
@@ -48,14 +55,15 @@ invariant_of-self-2 c =
     let tied = c.self.invariant.0 in
     let absent = absent_of c.args.face c.args.id i.heads.entries i.pending.entries i.dues.entries i.replies.entries tied (ap (λ (s : QueryState). is_pending c.args.face c.args.id s.records) c.self.view_is ∙ c.requires.absent) in
     let new = new_number i.heads.entries i.pending.entries i.dues.entries i.replies.entries tied i.requests i.next_reply c.self.invariant.1 in (
-      tied_opened i.heads.entries i.pending.entries i.dues.entries i.replies.entries tied i.requests i.next_reply c.self.invariant.1 (c.args.face, c.args.id) c.args.deadline absent c.args.opened c.requires.counts.0 c.requires.counts.1
+      tied_opened i.heads.entries i.pending.entries i.dues.entries i.replies.entries tied i.requests i.next_reply c.self.invariant.1 (c.args.face, c.args.id) c.args.deadline absent c.ranges.id.fits c.args.opened c.requires.counts.0 c.requires.counts.1
           c.insert.new.self.entries c.in-Ok.ensures.entries c.insert.ensures.ordered c.in-Ok.ensures.updates.0
           c.insert-2.new.self.entries c.in-Ok-insert.ensures.entries c.insert-2.ensures.ordered c.in-Ok-insert.ensures.updates.0
           c.insert-3.new.self.entries c.insert-3.ensures.ordered c.in-Ok-insert-2.ensures.updates.0,
-      below_opened i.heads.entries i.pending.entries i.dues.entries i.replies.entries tied i.requests i.next_reply c.self.invariant.1 (c.args.face, c.args.id) c.args.deadline absent c.args.opened c.requires.counts.0 c.requires.counts.1
+      below_opened i.heads.entries i.pending.entries i.dues.entries i.replies.entries tied i.requests i.next_reply c.self.invariant.1 (c.args.face, c.args.id) c.args.deadline absent c.ranges.id.fits c.args.opened c.requires.counts.0 c.requires.counts.1
           c.insert.new.self.entries c.in-Ok.ensures.entries c.insert.ensures.ordered c.in-Ok.ensures.updates.0
           c.insert-2.new.self.entries c.in-Ok-insert.ensures.entries c.insert-2.ensures.ordered c.in-Ok-insert.ensures.updates.0
           c.insert-3.new.self.entries c.insert-3.ensures.ordered c.in-Ok-insert-2.ensures.updates.0,
+      c.self.invariant.2,
     )
 
 pub returns-clause-ok : goal.returns-clause-ok
@@ -66,7 +74,7 @@ returns-clause-ok c =
     let new = new_number i.heads.entries i.pending.entries i.dues.entries i.replies.entries tied i.requests i.next_reply c.self.invariant.1 in
     let shown : List Record → QueryState = λ l. record { records = l; last_ids = i.last_ids.entries; closed = i.closed.keys; requests = i.requests + 1; replies = i.next_reply; request_ids = i.request_ids } in
     let p : Pending = record { face = c.args.face; id = c.args.id; deadline = c.args.deadline } in
-    ap shown (records_opened i.heads.entries i.pending.entries i.dues.entries i.replies.entries tied i.requests i.next_reply c.self.invariant.1 (c.args.face, c.args.id) c.args.deadline absent c.args.opened c.requires.counts.0 c.requires.counts.1
+    ap shown (records_opened i.heads.entries i.pending.entries i.dues.entries i.replies.entries tied i.requests i.next_reply c.self.invariant.1 (c.args.face, c.args.id) c.args.deadline absent c.ranges.id.fits c.args.opened c.requires.counts.0 c.requires.counts.1
     c.insert.new.self.entries c.in-Ok.ensures.entries c.insert.ensures.ordered c.in-Ok.ensures.updates.0
     c.insert-2.new.self.entries c.in-Ok-insert.ensures.entries c.insert-2.ensures.ordered c.in-Ok-insert.ensures.updates.0
     c.insert-3.new.self.entries c.insert-3.ensures.ordered c.in-Ok-insert-2.ensures.updates.0)

@@ -1,4 +1,4 @@
-use Rattle.std.proofs.Common.{◌∙◌, sym, ap, refl, List, arith}
+use Rattle.std.proofs.Common.{◌∙◌, sym, ap, refl, List, arith, ℕ}
 use Rattle.std.specs.Map.{remove_entry}
 use Rattle.std.specs.BTreeMap.{is_at}
 use Rattle.zq_query.specs.declared.queries.Owed.{Owed}
@@ -41,11 +41,12 @@ invariant_of-self-2 c =
     let v : Owed = record { number = c.args.number; deadline = c.args.deadline } in
     let h = head_of c.args.number i.heads.entries i.pending.entries i.replies.entries (ap (λ (s : QueryState). list_any (has_number c.args.number) s.records) c.self.view_is ∙ c.requires.there) in
     let absent = absent_of c.args.face c.args.id i.heads.entries i.pending.entries i.dues.entries i.replies.entries c.self.invariant.0 (ap (λ (s : QueryState). is_pending c.args.face c.args.id s.records) c.self.view_is ∙ c.requires.absent) in
-    let alone = alone_of c.args.deadline c.args.number c.args.face i.heads.entries i.pending.entries i.dues.entries i.replies.entries c.self.invariant.0 (ap (λ (s : QueryState). owes_face c.args.number c.args.face s.records) c.self.view_is ∙ c.requires.alone) in
+    let alone = λ (d : ℕ). alone_of d c.args.number c.args.face i.heads.entries i.pending.entries i.dues.entries i.replies.entries c.self.invariant.0 (ap (λ (s : QueryState). owes_face c.args.number c.args.face s.records) c.self.view_is ∙ c.requires.alone) in
     rw (c.owe_more.ensures h.0 h.1) (
-      tied_owed i.heads.entries i.pending.entries i.dues.entries i.replies.entries c.self.invariant.0 (c.args.face, c.args.id) v absent alone h.0 (more_owed h.0) h.1 refl
+      tied_owed i.heads.entries i.pending.entries i.dues.entries i.replies.entries c.self.invariant.0 (c.args.face, c.args.id) v absent alone c.ranges.id.fits h.0 (more_owed h.0) h.1 refl
           c.insert.new.self.entries c.in-Ok.ensures.entries c.insert.ensures.ordered c.in-Ok.ensures.updates.0 c.insert-2.new.self.entries c.insert-2.ensures.ordered c.in-Ok-insert.ensures.updates.0,
       below_owed i.heads.entries i.replies.entries i.requests i.next_reply c.args.number h.0 (more_owed h.0) h.1 c.self.invariant.1,
+      c.self.invariant.2,
     )
 
 pub returns-clause-ok : goal.returns-clause-ok
@@ -56,8 +57,8 @@ returns-clause-ok c =
     let shown : List Record → QueryState = λ l. record { records = l; last_ids = i.last_ids.entries; closed = i.closed.keys; requests = i.requests; replies = i.next_reply; request_ids = i.request_ids } in
     let h = head_of c.args.number i.heads.entries i.pending.entries i.replies.entries (ap (λ (s : QueryState). list_any (has_number c.args.number) s.records) c.self.view_is ∙ c.requires.there) in
     let absent = absent_of c.args.face c.args.id i.heads.entries i.pending.entries i.dues.entries i.replies.entries c.self.invariant.0 (ap (λ (s : QueryState). is_pending c.args.face c.args.id s.records) c.self.view_is ∙ c.requires.absent) in
-    let alone = alone_of c.args.deadline c.args.number c.args.face i.heads.entries i.pending.entries i.dues.entries i.replies.entries c.self.invariant.0 (ap (λ (s : QueryState). owes_face c.args.number c.args.face s.records) c.self.view_is ∙ c.requires.alone) in
+    let alone = λ (d : ℕ). alone_of d c.args.number c.args.face i.heads.entries i.pending.entries i.dues.entries i.replies.entries c.self.invariant.0 (ap (λ (s : QueryState). owes_face c.args.number c.args.face s.records) c.self.view_is ∙ c.requires.alone) in
     ap shown (ap (λ l. records_of l c.insert.new.self.entries i.replies.entries) (c.owe_more.ensures h.0 h.1)
-    ∙ sym (records_owed i.heads.entries i.pending.entries i.dues.entries i.replies.entries c.self.invariant.0 (c.args.face, c.args.id) v absent alone h.0 (more_owed h.0) h.1 refl
+    ∙ sym (records_owed i.heads.entries i.pending.entries i.dues.entries i.replies.entries c.self.invariant.0 (c.args.face, c.args.id) v absent alone c.ranges.id.fits h.0 (more_owed h.0) h.1 refl
     c.insert.new.self.entries c.in-Ok.ensures.entries c.insert.ensures.ordered c.in-Ok.ensures.updates.0 c.insert-2.new.self.entries c.insert-2.ensures.ordered c.in-Ok-insert.ensures.updates.0))
     ∙ ap (λ (s : QueryState). record s { records = adding c.args.number p s.records }) c.self.view_is
