@@ -1,8 +1,10 @@
 //! The messages that a step hands.
 ghost use Rattle.std.specs.Prelude.{◌≡◌, ◌<◌, [], ◌∷◌, IfOk, IfSome, map, option_to_list, vec_capacity, vec_len};
-ghost use Rattle.zq_naming.specs.Naming.{plain};
+ghost use Rattle.zq_naming.specs.Naming.{face_naming, plain};
 ghost use Rattle.zq_query.specs.Asking.{given_id};
-ghost use Rattle.zq_gateway.specs.Machine.{sent_final, sent_replies};
+ghost use Rattle.zq_gateway.specs.Machine.{sent_final, sent_replies, written, written_message};
+ghost use Rattle.zq_gateway.specs.Deciding.{handed_request, handed_requests};
+ghost use Rattle.zq_key.specs.declared.message.Message.{Message};
 
 use crate::call::{Handed, HandedList};
 use std::alloc::{AllocError, Global};
@@ -115,5 +117,99 @@ pub fn written_replies(
         message: Message::Response(message),
         leaves: Some(Message::Response(leaves)),
     })?;
+    Ok(handed)
+}
+
+fn given_id(queries: &Queries, face: FaceId) -> u32
+    ensures { result ≡ given_id queries.now face }
+{
+    match queries.next_id(face) {
+        Some(id) => id,
+        None => 0,
+    }
+}
+
+fn request_message(
+    queries: &Queries,
+    names: &Naming,
+    text: &str,
+    request: &Request,
+    offer: &QueryTargetQabl,
+    alloc: Global,
+) -> Result<Request, OutOfMemory>
+    ensures { IfOk result (λ r. Message.Request r ≡ written_message (face_naming offer.now.face.0 names.now) (handed_request queries.now text.now request.now offer.now).message) }
+{
+    Ok(Request {
+        id: given_id(queries, offer.face),
+        wire: names.best(offer.face, text)?,
+        target: request.target,
+        timeout: request.timeout,
+        node: offer.node,
+        qos: request.qos,
+        payload: request.payload.copy(alloc)?,
+    })
+}
+
+// A request to the face of an offer.
+fn written_request(
+    alloc: Global,
+    queries: &Queries,
+    names: &Naming,
+    text: &str,
+    request: &Request,
+    offer: &QueryTargetQabl,
+) -> Result<Handed, OutOfMemory>
+    ensures { IfOk result (λ h. h ≡ written names.now (handed_request queries.now text.now request.now offer.now)) }
+{
+    let message = request_message(queries, names, text, request, offer, alloc)?;
+    let leaves = message.copy(alloc)?;
+    Ok(Handed {
+        to: offer.face,
+        number: Some(queries.next_number()),
+        reply: None,
+        message: Message::Request(message),
+        leaves: Some(Message::Request(leaves)),
+    })
+}
+
+fn requests_to(
+    alloc: Global,
+    queries: &Queries,
+    names: &Naming,
+    text: &str,
+    request: &Request,
+    offers: &[QueryTargetQabl],
+) -> Result<HandedList, OutOfMemory>
+    ensures { IfOk result (λ l. l ≡ map (written names.now) (map (handed_request queries.now text.now request.now) offers.now)) }
+{
+    let mut handed = Items::new(alloc);
+    for offer in offers {
+        handed.push(written_request(alloc, queries, names, text, request, offer)?)?;
+    }
+    Ok(handed)
+}
+
+/// What a request hands; with no offer, its final.
+pub fn written_requests(
+    alloc: Global,
+    queries: &Queries,
+    names: &Naming,
+    asker: FaceId,
+    text: &str,
+    request: &Request,
+    offers: &[QueryTargetQabl],
+) -> Result<HandedList, OutOfMemory>
+    ensures { IfOk result (λ l. l ≡ map (written names.now) (handed_requests queries.now asker text.now request.now offers.now)) }
+{
+    if !offers.is_empty() {
+        return requests_to(alloc, queries, names, text, request, offers);
+    }
+    let mut handed = Items::new(alloc);
+    handed.push(written_final(Final {
+        number: queries.next_number(),
+        asker,
+        id: request.id,
+        qos: request.qos,
+    }))?;
     Ok(handed)
 }

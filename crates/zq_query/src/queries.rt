@@ -348,6 +348,13 @@ impl Queries {
         }
     }
 
+    /// The number of the next request.
+    pub fn next_number(&self) -> u64
+        ensures { result ≡ self.now.requests }
+    {
+        self.requests
+    }
+
     /// The first id after the last given that is not pending there.
     pub fn next_id(&self, face: FaceId) -> Option<u32>
         ensures { result ≡ next_id self.now face.0 }
