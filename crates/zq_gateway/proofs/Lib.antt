@@ -3,3 +3,4 @@ pub mod Writing
 pub mod Below
 pub mod Replies
 pub mod Routes
+pub mod Valid

@@ -22,6 +22,7 @@ use Rattle.zq_query.specs.declared.records.Final.{Final}
 use Rattle.zq_query.specs.declared.records.ReplyTo.{ReplyTo}
 use Rattle.zq_query.specs.declared.records.Timeout.{Timeout}
 use Rattle.zq_query.specs.Records.{QueryState, is_pending, is_in_flight, is_entry, letting_go, over_after, landing, over_after_reply, final_if_open, next_reply, after_reply, needs_number}
+use Rattle.zq_query.specs.Closing.{closing_finals, after_close}
 use Rattle.zq_query.specs.Asking.{lacks_number, given_id, after_ask}
 use Rattle.zq_naming.specs.declared.said.Said.{Said}
 use Rattle.zq_naming.specs.declared.said.Said.TheVariants as said
@@ -40,14 +41,10 @@ use Rattle.zq_gateway.specs.Selecting.{select, target_of, is_unscoped, says_key,
 
 abbrev pub lacks_reply_numbers : ℕ → QueryState → Bool
 lacks_reply_numbers now q = false
-abbrev pub closing_finals : ℕ → QueryState → List Final
-closing_finals f q = []
 abbrev pub timeouts : ℕ → QueryState → List Timeout
 timeouts f q = []
 abbrev pub handed_timeout : Timeout → List Handed
 handed_timeout t = []
-abbrev pub after_close : ℕ → QueryState → QueryState
-after_close f q = q
 abbrev pub after_poll : ℕ → QueryState → QueryState
 after_poll f q = q
 -- ---- causes of a refusal

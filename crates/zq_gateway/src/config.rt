@@ -253,7 +253,8 @@ impl Config {
 
     /// Its entries, in the order in which they were given.
     pub fn entries(&self) -> &[Entry]
-        ensures { result.now ≡ self.now.entries }
+        ensures entries { result.now ≡ self.now.entries }
+        ensures valid { bad_config result.now ≡ None }
     {
         self.entries.as_slice()
     }

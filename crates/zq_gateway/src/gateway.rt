@@ -3,36 +3,41 @@ ghost use Rattle.std.specs.Prelude.{◌≡◌, ◌<◌, ◌+◌, ◌^◌, [], So
 ghost use Rattle.std.specs.BTreeMap.{insert_entry};
 ghost use Rattle.std.specs.Option.{IsSome};
 ghost use Rattle.std.specs.Ordering.{nat_cmp};
+ghost use Rattle.std.specs.List.{list_any};
 ghost use Rattle.zq_query.specs.Records.{next_reply};
+ghost use Rattle.zq_query.specs.Asking.{are_distinct, face_numbers, is_full, lacks_number};
 ghost use Rattle.zq_naming.specs.Naming.{is_text};
 ghost use Rattle.zq_gateway.specs.declared.call.Call.TheVariants as call;
 ghost use Rattle.zq_gateway.specs.Calls.{is_built};
 ghost use Rattle.zq_gateway.specs.Deciding.{done, granted, lacks_reply_number, opened, refused, remaps, seat};
-ghost use Rattle.zq_gateway.specs.Selecting.{full_text, is_unscoped, says_key_or_nothing};
+ghost use Rattle.zq_gateway.specs.Selecting.{full_text, is_unscoped, says_key, says_key_or_nothing, select_for, target_of};
 ghost use Rattle.zq_gateway.specs.Machine.{accepted_state, after, answer, follow, step, write};
 ghost use Rattle.zq_gateway.specs.State.{at, change_hat, face_region, is_open, joined, opening_state};
 ghost use Rattle.zq_naming.specs.Naming.{face_naming, no_names, text_at};
-ghost use Rattle.zq_gateway.specs.TextCalls.{declaring, ending, listing, naming, opening, replying, reporting, unnaming, withdrawing};
+ghost use Rattle.zq_gateway.specs.TextCalls.{asking, closing, declaring, ending, listing, naming, opening, replying, reporting, unnaming, withdrawing};
 
 use crate::call::{Call, Opening, Outcome, Refusal, Step};
 use crate::config::Config;
 use crate::face::OpenFace;
-use crate::handed::{final_in, room_for_final, written_replies};
+use crate::handed::{
+    final_in, room_for_final, written_finals, written_replies, written_requests,
+};
 use crate::hats;
-use std::alloc::Global;
+use crate::select::Asker;
+use std::alloc::{AllocError, Global};
 use std::collections::BTreeMap;
 use std::marker::Model;
 use zq_hat::hat::Hat;
-use zq_hat::types::{FaceRecord, HatRefusal};
+use zq_hat::types::{FaceRecord, HatRefusal, QueryTargetQabl};
 use zq_key::items::Items;
 use zq_key::memory::OutOfMemory;
-use zq_key::message::{FaceId, QueryableInfoType, Region, Response};
+use zq_key::message::{FaceId, QueryTarget, QueryableInfoType, Region, Request, Response};
 use zq_key::text::Text;
 use zq_key::{Key, KeyError, is_key};
 use zq_naming::naming::Naming;
 use zq_naming::said::Said;
 use zq_query::queries::Queries;
-use zq_query::records::{ReplyRefusal, ReplyTo};
+use zq_query::records::{AskRefusal, ReplyRefusal, ReplyTo};
 use zq_route::gateways::Gateways;
 use zq_tables::RegionMap;
 
@@ -71,6 +76,76 @@ impl Model for Gateway {
 }
 
 impl Gateway {
+    /// A gateway of this configuration, before any call.
+    pub fn new(alloc: Global, config: &Config) -> Result<Gateway, OutOfMemory>
+        ensures { IfOk result (λ g. g ≡ opening_state config.now) }
+    {
+        let counters = *config.counters();
+        Ok(Gateway {
+            alloc,
+            config: config.copy(alloc)?,
+            faces: BTreeMap::new(alloc),
+            next_face: counters.faces,
+            hats: hats::first_hats(alloc, config)?,
+            tables: RegionMap::new(alloc),
+            queries: Queries::new(alloc, counters.requests, counters.replies, counters.request_ids),
+            names: Naming::new(alloc),
+        })
+    }
+
+    /// Makes a call: one event, which is answered by a step. The first cause that holds refuses it,
+    /// and then nothing changes; a call that finds no memory changes nothing either. Of the forms of
+    /// calls those are answered that are built (`Call::is_built`).
+    pub fn call(&mut self, call: &Call) -> Result<Step, OutOfMemory>
+        requires { is_built self.old.core.config call.now ≡ true }
+        ensures step { IfOk result (λ t. t ≡ step self.old call.now) }
+        ensures after { OnOk result (self.new ≡ after self.old call.now) }
+        ensures err { OnErr result (self.new ≡ self.old) }
+    {
+        match call {
+            Call::Open(asked) => self.open(asked),
+            Call::Close { face } => self.close(*face),
+            Call::DeclareKeyExpr { face, id, wire } => {
+                let said = self.names.said(*face, wire)?;
+                self.declare_key(*face, *id, &said)
+            }
+            Call::UndeclareKeyExpr { face, id } => self.undeclare_key(*face, *id),
+            Call::DeclareQueryable {
+                face,
+                id,
+                wire,
+                info,
+                node,
+            } => {
+                let said = self.names.said(*face, wire)?;
+                self.declare_queryable(*face, *id, &said, *info, *node)
+            }
+            Call::UndeclareQueryable {
+                face,
+                id,
+                wire: _,
+                node,
+            } => self.undeclare_queryable(*face, *id, *node),
+            Call::Request { face, request, now } => {
+                let said = self.names.said(*face, &request.wire)?;
+                self.request(*face, &said, request, *now)
+            }
+            Call::Response { face, response } => {
+                let said = self.names.said(*face, &response.wire)?;
+                self.reply(*face, &said, response)
+            }
+            Call::ResponseFinal { face, rid } => self.response_final(*face, *rid),
+            Call::Sent { reply } => self.report(*reply),
+            Call::Poll { .. } => unreachable!(),
+            Call::SetGateways { region, table } => self.set_gateways(*region, table),
+            Call::Interest { .. } => unreachable!(),
+            Call::InterestFinal { .. } => unreachable!(),
+            Call::FinalizeInterest { .. } => unreachable!(),
+            Call::SetNetwork { .. } => unreachable!(),
+            Call::SetNodeIds { .. } => unreachable!(),
+        }
+    }
+
     fn refused(&self, refusal: Refusal) -> Step
         ensures { result ≡ refused refusal }
     {
@@ -210,6 +285,102 @@ impl Gateway {
         Ok(Step {
             outcome: Outcome::Opened(face),
             handed: Items::new(self.alloc),
+        })
+    }
+
+    fn opened(&self, face: FaceId) -> Option<OpenFace>
+        ensures { result ≡ at face.0 self.now.core.faces }
+    {
+        match self.faces.get(&face.0) {
+            Some(opened) => Some(*opened),
+            None => None,
+        }
+    }
+
+    // The offers that a request is handed to, of each face one.
+    fn select(
+        &self,
+        face: FaceId,
+        opened: OpenFace,
+        said: &Said,
+        target: QueryTarget,
+    ) -> Result<Vec<QueryTargetQabl>, OutOfMemory>
+        ensures offers { IfOk result (λ v. v.items ≡ select_for self.now.core face said.now target (Some opened)) }
+        ensures distinct { IfOk result (λ v. are_distinct (face_numbers (map target_of v.items)) ≡ true) }
+    {
+        if !says_key(said) {
+            return Ok(Vec::new(self.alloc));
+        }
+        let asker = Asker {
+            faces: &self.faces,
+            tables: &self.tables,
+            own: self.config.zid(),
+            face,
+            opened,
+        };
+        asker.select(self.alloc, &self.hats, full_text(said), target)
+    }
+
+    // A request of a face.
+    fn request(
+        &mut self,
+        face: FaceId,
+        said: &Said,
+        request: &Request,
+        now: u64,
+    ) -> Result<Step, OutOfMemory>
+        ensures step { IfOk result (λ t. t ≡ answer self.old (asking face said.now request.now now)) }
+        ensures after { OnOk result (self.new ≡ follow self.old (asking face said.now request.now now)) }
+        ensures err { OnErr result (self.new ≡ self.old) }
+    {
+        let Some(opened) = self.opened(face) else {
+            return Ok(self.refused(Refusal::UnknownFace));
+        };
+        let offers = self.select(face, opened, said, request.target)?;
+        let targets = targets_of(self.alloc, offers.as_slice())?;
+        if lacks_number(&self.queries, targets.as_slice()) {
+            return Ok(self.refused(Refusal::NoFreeId));
+        }
+        let handed = written_requests(
+            self.alloc,
+            &self.queries,
+            &self.names,
+            face,
+            full_text(said),
+            request,
+            offers.as_slice(),
+        )?;
+        let number = self.queries.next_number();
+        let deadline = now.saturating_add(request.timeout.unwrap_or(self.config.timeout()));
+        match self.queries.ask(face, request.id, request.qos, targets.as_slice(), deadline) {
+            Ok(_) => Ok(Step {
+                outcome: Outcome::Asked(number),
+                handed,
+            }),
+            Err(AskRefusal::OutOfMemory) => Err(OutOfMemory),
+            Err(AskRefusal::NoFreeId) => unreachable!(),
+        }
+    }
+
+    // A face is closed: its entries are let go, and it gives up its numbers.
+    #[tactic(auto, using(crate::proofs::Writing::finals_written))]
+    fn close(&mut self, face: FaceId) -> Result<Step, OutOfMemory>
+        ensures step { IfOk result (λ t. t ≡ answer self.old (closing face)) }
+        ensures after { OnOk result (self.new ≡ follow self.old (closing face)) }
+        ensures err { OnErr result (self.new ≡ self.old) }
+    {
+        let Some(region) = self.region_of(face) else {
+            return Ok(self.refused(Refusal::UnknownFace));
+        };
+        let finals = self.queries.would_close(face)?;
+        let handed = written_finals(self.alloc, finals.as_slice())?;
+        let _ = self.queries.close(face)?;
+        hats::leave(&mut self.hats, region, face);
+        let _ = self.faces.remove(&face.0);
+        self.names.close(face);
+        Ok(Step {
+            outcome: Outcome::Done,
+            handed,
         })
     }
 
@@ -405,4 +576,37 @@ fn full_text(said: &Said) -> &str
         Said::Empty => "",
         Said::Full(text) => text.as_str(),
     }
+}
+
+fn says_key(said: &Said) -> bool
+    ensures { result ≡ says_key said.now }
+{
+    match said {
+        Said::Unscoped => false,
+        Said::Empty => false,
+        Said::Full(text) => is_key(text.as_str()),
+    }
+}
+
+// The faces of offers.
+fn targets_of(alloc: Global, offers: &[QueryTargetQabl]) -> Result<Vec<FaceId>, AllocError>
+    ensures { IfOk result (λ v. v.items ≡ map target_of offers.now) }
+{
+    offers.iter().map(|offer| offer.face).collect(alloc)
+}
+
+// No number is left for the request, or no id at a target.
+fn lacks_number(queries: &Queries, targets: &[FaceId]) -> bool
+    ensures { result ≡ lacks_number targets.now queries.now }
+{
+    if queries.next_number() == u64::MAX {
+        return true;
+    }
+    any_full(queries, targets)
+}
+
+fn any_full(queries: &Queries, targets: &[FaceId]) -> bool
+    ensures { result ≡ list_any (is_full queries.now) targets.now }
+{
+    targets.iter().any(|face| queries.next_id(*face).is_none())
 }

@@ -3,9 +3,10 @@ ghost use Rattle.std.specs.Prelude.{◌≡◌, true, false, Some, None, IfOk, On
 ghost use Rattle.std.specs.Option.{is_some, option_map_or};
 ghost use Rattle.zq_hat.specs.Kept.{clashes_at, declaration_at, registered, unregistered, without_face};
 ghost use Rattle.zq_tables.specs.RegionMap.{with_entry};
-ghost use Rattle.zq_gateway.specs.State.{change_hat, clashes_in, has_declared_in, hat_at, is_region, joined};
+ghost use Rattle.zq_gateway.specs.Configs.{region_of};
+ghost use Rattle.zq_gateway.specs.State.{first_hats, with_hat, change_hat, clashes_in, has_declared_in, hat_at, is_region, joined};
 
-use crate::config::SOUTH_IDS;
+use crate::config::{Config, Entry, SOUTH_IDS};
 use std::alloc::Global;
 use zq_hat::hat::Hat;
 use zq_hat::types::{FaceRecord, HatRefusal};
@@ -175,4 +176,31 @@ pub fn put_table(
         Ok(_) => Ok(()),
         Err(_) => Err(OutOfMemory),
     }
+}
+
+/// One hat for each region of the configuration.
+pub fn first_hats(alloc: Global, config: &Config) -> Result<RegionMap<Hat>, OutOfMemory>
+    ensures { IfOk result (λ h. h ≡ first_hats config.now) }
+{
+    let mut hats = RegionMap::new(alloc);
+    for entry in config.entries() {
+        add_hat(alloc, &mut hats, config, *entry)?;
+    }
+    Ok(hats)
+}
+
+fn add_hat(
+    alloc: Global,
+    hats: &mut RegionMap<Hat>,
+    config: &Config,
+    entry: Entry,
+) -> Result<(), OutOfMemory>
+    requires { is_region (region_of entry) ≡ true }
+    ensures { OnOk result (hats.new ≡ with_hat config.now hats.old entry) }
+{
+    let region = entry.region();
+    let told = config.counters().told;
+    let hat = Hat::new(alloc, region, config.north(), config.zid(), told);
+    let _ = hats.insert(region, hat)?;
+    Ok(())
 }

@@ -7,4 +7,5 @@ pub mod face;
 mod handed;
 pub mod gateway;
 pub mod hats;
+pub mod replay;
 mod select;

@@ -1,0 +1,9 @@
+use Rattle.std.proofs.Common.{◌≡◌, ◌++◌, drop}
+use Rattle.zq_gateway.specs.Machine.{steps, steps_from}
+use Rattle.zq_gateway.proofs.replay.replay.Given as goal
+
+abbrev pub invariant-loop-call : goal.invariant-loop-call
+invariant-loop-call l = record {
+  told : l.steps ++ steps_from l.gateway (drop l.call-index l.calls) ≡ steps l.config l.calls;
+  same : l.gateway.core.config ≡ l.config;
+}
