@@ -1,13 +1,13 @@
-// A library with one function.
+//! Scripts of calls, the prints of steps, and the call that runs a script.
+//!
+//! - `lines`: which call a line says.
+//! - `calls`: how a call is written as a line, and that it reads back.
+//! - `script`: a whole script: its first lines, and its calls in parts.
+//! - `steps`: how messages and steps are printed.
+//! - `run`: reads a script from a source, and gives the print of its steps to a sink.
 #![tactic(auto)]
 
-ghost use Rattle.std.specs.Prelude.{◌≡◌};
-ghost use Rattle.zq_script.specs.Echo.{echo_of};
-
-// The `ensures` clause is the contract: what `echo` returns is `echo_of` of its argument, a definition
-// in `specs/Echo.antt`, which a caller's clause can cite too.
-pub fn echo(x: usize) -> usize
-    ensures { result ≡ echo_of x }
-{
-    x
-}
+pub mod calls;
+pub mod lines;
+pub mod script;
+pub mod steps;

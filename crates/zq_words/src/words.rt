@@ -131,8 +131,8 @@ pub fn push_word(out: &mut String, bytes: &[u8]) -> Result<(), AllocError>
 #[tactic(auto, using(crate::proofs::Back::payload_back, crate::proofs::Back::payload_is_word))]
 pub fn print_word(alloc: Global, bytes: &[u8]) -> Result<Bytes, OutOfMemory>
     ensures value { IfOk result (λ w. w ≡ payload_word bytes.now) }
-    ensures word { IsWord (payload_word bytes.now) }
-    ensures back { payload_of (payload_word bytes.now) ≡ bytes.now }
+    ensures word { IfOk result (λ w. IsWord w) }
+    ensures back { IfOk result (λ w. payload_of w ≡ bytes.now) }
 {
     let mut out = String::new(alloc);
     push_word(&mut out, bytes)?;

@@ -1,0 +1,2 @@
+pub mod LinesBack
+pub mod Parts
