@@ -1,0 +1,4 @@
+pub mod Places
+pub mod KeyPlaces
+pub mod Folds
+pub mod Laws

@@ -1,0 +1,5 @@
+pub mod Infos
+pub mod State
+pub mod Regions
+pub mod Kept
+pub mod Offers

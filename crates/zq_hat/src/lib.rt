@@ -1,4 +1,16 @@
-//! What each region keeps of its faces, and what it offers and tells.
+//! What each region keeps of its faces, and what it offers.
+//!
+//! - `types`: what hats keep, offer and tell
+//! - `info`: informations on queryables, and their merge
+//! - `strategy`: how a region keeps and offers queryables
+//! - `face`: what one face declared
+//! - `offers`: what a region offers for the key of a request
+//! - `hat`: the hat of one region
 #![tactic(auto)]
 
+mod face;
+pub mod hat;
+pub mod info;
+mod offers;
+pub mod strategy;
 pub mod types;

@@ -6,6 +6,7 @@ use zq_key::items::Items;
 use zq_key::memory::OutOfMemory;
 use zq_key::message::{Bound, FaceId, Mode, QueryableInfoType, Region, Zid};
 use zq_key::text::Text;
+use zq_key::Key;
 
 /// How a region keeps and offers queryables.
 #[derive(Clone, Copy, Debug, PartialEq, Eq)]
@@ -23,6 +24,48 @@ pub struct FaceRecord {
     pub zid: Zid,
     pub mode: Mode,
     pub remote_bound: Bound,
+}
+
+/// A queryable that a face declared.
+#[derive(Drop)]
+pub struct Declaration {
+    pub key: Key,
+    pub info: QueryableInfoType,
+}
+
+/// An interest of a face in the queryables of others: all, or those that meet a key.
+#[derive(Drop)]
+pub struct InterestEntry {
+    pub key: Option<Key>,
+    pub keys: bool,
+}
+
+/// What a face was told of a key, and under which id.
+#[derive(Clone, Copy, Debug, PartialEq, Eq)]
+pub struct ToldEntry {
+    pub id: u32,
+    pub info: QueryableInfoType,
+}
+
+/// Why a hat refused a declaration or a withdrawal.
+#[derive(Clone, Copy, Debug, PartialEq, Eq)]
+pub enum HatRefusal {
+    /// The id stands for another key.
+    IdInUse,
+    /// The id is not declared.
+    UnknownId,
+    OutOfMemory,
+}
+
+/// The key of a withdrawal, and what became of the region's information on it.
+#[derive(Debug, Drop)]
+pub enum UnregisterEntityResult {
+    /// It stays.
+    DisableRoutes(Text),
+    /// It changed.
+    InfoUpdate(Text),
+    /// It ended.
+    LastUnregistered(Text),
 }
 
 /// What a face no longer has to ask for: all of a north-bound peer's queryables, or those on one key.

@@ -1,0 +1,68 @@
+-- What a region offers for the key of a request.
+use Rattle.std.specs.Prelude.{ℕ, ◌-◌, ◌&&◌, List, [], ◌∷◌, fold, length, Option, Some, None, if◌then◌else◌}
+use Rattle.std.specs.List.{flat_map, suffix_len, insert}
+use Rattle.std.specs.Option.{option_map_or}
+use Rattle.std.specs.declared.cmp.Ordering.{Ordering}
+use Rattle.std.specs.Ordering.{nat_cmp, ordering_then, is_lt}
+use Rattle.zq_key.specs.declared.message.QueryableInfoType.{QueryableInfoType}
+use Rattle.zq_key.specs.declared.message.Region.{Region}
+use Rattle.zq_key.specs.declared.message.FaceId.{FaceId}
+use Rattle.zq_key.specs.Key.{intersects, includes}
+use Rattle.zq_hat.specs.declared.types.QueryTargetQabl.{QueryTargetQabl}
+use Rattle.zq_hat.specs.declared.types.Strategy.{Strategy}
+use Rattle.zq_hat.specs.declared.types.Strategy.TheVariants as strategy
+use Rattle.zq_hat.specs.Kept.{text_cmp, info, declared_keys}
+use Rattle.zq_hat.specs.Regions.{is_local, strategy_at}
+use Rattle.zq_hat.specs.State.{FaceState, HatState}
+
+-- x is put before the greater elements that end the list
+abbrev pub place : {X : Type 0} → (X → X → Ordering) → List X → X → List X
+place cmp xs x = insert xs (length xs - suffix_len (λ y. is_lt (cmp x y)) xs) x
+
+-- the elements in order, equal ones as they came
+abbrev pub sorted : {X : Type 0} → (X → X → Ordering) → List X → List X
+sorted cmp xs = fold (place cmp) [] xs
+
+-- the distance of an offer; without information it is the greatest
+abbrev pub distance : QueryTargetQabl → ℕ
+distance o = option_map_or (λ i. i.distance) o.info 65535
+
+-- by distance, key text and face
+abbrev pub offer_cmp : QueryTargetQabl → QueryTargetQabl → Ordering
+offer_cmp a b = ordering_then (nat_cmp (distance a) (distance b)) (ordering_then (text_cmp a.key b.key) (nat_cmp a.face.0 b.face.0))
+
+-- what is offered of an information on a declared key: complete only if the key includes the request's
+abbrev pub offered : List ℕ → List ℕ → Region → QueryableInfoType → QueryableInfoType
+offered q key region i = record { complete = i.complete && includes key q; distance = if is_local region then 0 else 1 }
+
+-- the offer of a face for a declared key
+abbrev pub offer_of : Region → List ℕ → List ℕ → ℕ → QueryableInfoType → QueryTargetQabl
+offer_of region q key number i = record { face = record { 0 = number }; info = Some (offered q key region i); key = key; region = region; node = 0 }
+
+-- one offer where there is information
+abbrev pub offer_list : Region → List ℕ → List ℕ → ℕ → Option QueryableInfoType → List QueryTargetQabl
+offer_list region q key number None = []
+offer_list region q key number (Some i) = offer_of region q key number i ∷ []
+
+-- what the face offers by its declarations on the key
+abbrev pub offers_on : Region → List ℕ → List ℕ → ℕ × FaceState → List QueryTargetQabl
+offers_on region q key f = offer_list region q key f.0 (info key f.1)
+
+-- what the faces offer on the key, if it meets the request's
+abbrev pub offers_for : Region → List (ℕ × FaceState) → List ℕ → List ℕ → List QueryTargetQabl
+offers_for region faces q key = if intersects key q then flat_map (offers_on region q key) faces else []
+
+-- one offer for each declared key that meets q and each face that declared it
+abbrev pub declared_offers : Region → List (ℕ × FaceState) → List ℕ → List QueryTargetQabl
+declared_offers region faces q = flat_map (offers_for region faces q) (declared_keys faces)
+
+-- what a strategy offers to an asker of region src; those of clients, peers and routers are not built yet
+abbrev pub offers_by : Strategy → Region → Region → List (ℕ × FaceState) → List ℕ → List QueryTargetQabl
+offers_by strategy.Broker region src faces q = declared_offers region faces q
+offers_by strategy.Client region src faces q = []
+offers_by strategy.Peer region src faces q = []
+offers_by strategy.Router region src faces q = []
+
+-- the offers of the hat to an asker of region src for key q, in order
+abbrev pub offers_of : HatState → Region → List ℕ → List QueryTargetQabl
+offers_of s src q = sorted offer_cmp (offers_by (strategy_at s) s.region src s.faces q)

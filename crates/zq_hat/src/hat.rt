@@ -1,0 +1,283 @@
+//! The hat of one region.
+ghost use Rattle.std.specs.Prelude.{◌≡◌, ◌↔◌, Some, None, true, false, is_some, OnOk, OnErr, IfOk, IsErrOf, option_map, IsTrue};
+ghost use Rattle.std.specs.Map.{set_value};
+ghost use Rattle.std.specs.BTreeMap.{is_at};
+ghost use Rattle.std.specs.Ordering.{nat_cmp};
+ghost use Rattle.zq_key.specs.Key.{is_key};
+ghost use Rattle.zq_hat.specs.Kept.{new_hat, with_face_opened, without_face, keys_of_face, has_face, clashes_at, declaration_at, registered, unregistered, unregister_result, region_info, changed, at_id, face_at, declare, withdraw};
+ghost use Rattle.zq_hat.specs.State.{FaceState};
+ghost use Rattle.zq_hat.specs.Offers.{offers_of};
+ghost use Rattle.zq_hat.specs.Regions.{strategy_at};
+
+use crate::face::HatFace;
+use crate::info::{joined, same_info};
+use crate::offers;
+use crate::strategy::strategy_of;
+use crate::types::{FaceRecord, HatRefusal, OfferList, Strategy, UnregisterEntityResult};
+use std::alloc::Global;
+use std::collections::BTreeMap;
+use std::marker::Model;
+use zq_key::Key;
+use zq_key::items::Items;
+use zq_key::memory::OutOfMemory;
+use zq_key::message::{FaceId, Mode, QueryableInfoType, Region, TextList, Zid};
+use zq_key::text::Text;
+
+/// The hat of a region (upstream's `HatQueriesTrait` and what implements it).
+#[derive(Drop)]
+pub struct Hat {
+    region: Region,
+    north_mode: Mode,
+    own: Zid,
+    told_start: u32,
+    faces: BTreeMap<u32, HatFace>,
+    alloc: Global,
+}
+
+impl Model for Hat {
+    ghost use Rattle.std.specs.Prelude.{[]};
+    ghost use Rattle.zq_hat.specs.State.{HatState};
+
+    ghost Value = { HatState };
+
+    ghost view = { λ h. record {
+        region = h.region;
+        north_mode = h.north_mode;
+        own = h.own;
+        told_start = h.told_start;
+        faces = h.faces.entries;
+        told = [];
+        entries = [];
+        owned = [];
+        network = record { nodes = []; trees = []; distances = [] };
+    } };
+}
+
+/// What the faces declared on the key, merged.
+fn region_info(faces: &BTreeMap<u32, HatFace>, key: &str) -> Option<QueryableInfoType>
+    ensures { result ≡ region_info key.now faces.now.entries }
+{
+    let mut merged = None;
+    for (_, face) in faces {
+        merged = joined(merged, face.info(key));
+    }
+    merged
+}
+
+/// The face declares the key under the id.
+#[tactic(auto, using(std::proofs::lemmas::Map::Steps::set_value_same))]
+fn declare(
+    faces: &mut BTreeMap<u32, HatFace>,
+    face: FaceId,
+    id: u32,
+    key: Key,
+    info: QueryableInfoType,
+) -> Result<(), OutOfMemory>
+    requires { is_some (at_id face.0 faces.old.entries) ≡ true }
+    ensures ok { OnOk result ((f : FaceState) → at_id face.0 faces.old.entries ≡ Some f → faces.new.entries ≡ set_value (is_at (nat_cmp face.0)) faces.old.entries (declare id key info f)) }
+    ensures err { OnErr result (faces.new.entries ≡ faces.old.entries) }
+{
+    match faces.get_mut(&face.0) {
+        Some(found) => match found.declare(id, key, info) {
+            Ok(()) => Ok(()),
+            Err(error) => Err(error),
+        },
+        None => unreachable!(),
+    }
+}
+
+/// The face withdraws the id.
+fn withdraw(faces: &mut BTreeMap<u32, HatFace>, face: FaceId, id: u32)
+    requires { is_some (at_id face.0 faces.old.entries) ≡ true }
+    ensures { (f : FaceState) → at_id face.0 faces.old.entries ≡ Some f → faces.new.entries ≡ set_value (is_at (nat_cmp face.0)) faces.old.entries (withdraw id f) }
+{
+    match faces.get_mut(&face.0) {
+        Some(found) => {
+            let _ = found.withdraw(id);
+        }
+        None => unreachable!(),
+    }
+}
+
+fn changed(
+    key: Text,
+    before: Option<QueryableInfoType>,
+    after: Option<QueryableInfoType>,
+) -> UnregisterEntityResult
+    ensures { result ≡ changed key before after }
+{
+    match (before, after) {
+        (_, None) => UnregisterEntityResult::LastUnregistered(key),
+        (None, Some(_)) => UnregisterEntityResult::InfoUpdate(key),
+        (Some(a), Some(b)) => {
+            if same_info(a, b) {
+                UnregisterEntityResult::DisableRoutes(key)
+            } else {
+                UnregisterEntityResult::InfoUpdate(key)
+            }
+        }
+    }
+}
+
+impl Hat {
+    /// A hat without faces; `told_start` is the id before the first that a face is told.
+    pub fn new(alloc: Global, region: Region, north_mode: Mode, own: Zid, told_start: u32) -> Hat
+        ensures { result ≡ new_hat region north_mode own told_start }
+    {
+        Hat {
+            region,
+            north_mode,
+            own,
+            told_start,
+            faces: BTreeMap::new(alloc),
+            alloc,
+        }
+    }
+
+    pub fn strategy(&self) -> Strategy
+        ensures { result ≡ strategy_at self.now }
+    {
+        strategy_of(self.region, self.north_mode)
+    }
+
+    pub fn has_face(&self, face: FaceId) -> bool
+        ensures { result ≡ has_face face.0 self.now }
+    {
+        self.faces.contains_key(&face.0)
+    }
+
+    fn face(&self, face: FaceId) -> &HatFace
+        requires { has_face face.0 self.now ≡ true }
+        ensures { face_at face.0 self.now ≡ Some result.now }
+    {
+        match self.faces.get(&face.0) {
+            Some(found) => found,
+            None => unreachable!(),
+        }
+    }
+
+    fn clashes(&self, face: FaceId, id: u32, key: &str) -> bool
+        requires { has_face face.0 self.now ≡ true }
+        ensures { result ≡ clashes_at face.0 id key.now self.now }
+    {
+        match self.face(face).declaration(id) {
+            Some(declaration) => declaration.key.as_str() != key,
+            None => false,
+        }
+    }
+
+    /// Takes in a face, which has declared nothing.
+    pub fn new_face(&mut self, face: FaceRecord) -> Result<(), OutOfMemory>
+        requires { has_face face.face.0 self.old ≡ false }
+        ensures ok { OnOk result (self.new ≡ with_face_opened face self.old) }
+        ensures err { OnErr result (self.new ≡ self.old) }
+    {
+        let opened = HatFace::new(self.alloc, face, self.told_start);
+        match self.faces.insert(face.face.0, opened) {
+            Ok(_) => Ok(()),
+            Err(_) => Err(OutOfMemory),
+        }
+    }
+
+    /// The face declares the key under the id; the same id replaces. `IdInUse` exactly where the id
+    /// stands for another key.
+    pub fn register_queryable(
+        &mut self,
+        face: FaceId,
+        id: u32,
+        key: &Key,
+        _node: u16,
+        info: QueryableInfoType,
+    ) -> Result<(), HatRefusal>
+        requires { has_face face.0 self.old ≡ true }
+        ensures in_use { IsErrOf result HatRefusal.IdInUse ↔ (clashes_at face.0 id key.now self.old ≡ true) }
+        ensures known { IsErrOf result HatRefusal.UnknownId → ⊥ }
+        ensures after { OnOk result (self.new ≡ registered face.0 id key.now info self.old) }
+        ensures err { OnErr result (self.new ≡ self.old) }
+    {
+        if self.clashes(face, id, key.as_str()) {
+            return Err(HatRefusal::IdInUse);
+        }
+        let Ok(copy) = key.copy(self.alloc) else {
+            return Err(HatRefusal::OutOfMemory);
+        };
+        match declare(&mut self.faces, face, id, copy, info) {
+            Ok(()) => Ok(()),
+            Err(_) => Err(HatRefusal::OutOfMemory),
+        }
+    }
+
+    /// The face withdraws the id. Answers its key, and whether the region's information on it stays,
+    /// changes or ends. `UnknownId` exactly where the id is not declared.
+    pub fn unregister_queryable(
+        &mut self,
+        face: FaceId,
+        id: u32,
+        _key: Option<&Key>,
+        _node: u16,
+    ) -> Result<UnregisterEntityResult, HatRefusal>
+        requires { has_face face.0 self.old ≡ true }
+        ensures unknown { IsErrOf result HatRefusal.UnknownId ↔ (declaration_at face.0 id self.old ≡ None) }
+        ensures own { IsErrOf result HatRefusal.IdInUse → ⊥ }
+        ensures value { IfOk result (λ r. option_map (unregister_result self.old self.new) (declaration_at face.0 id self.old) ≡ Some r) }
+        ensures after { OnOk result (self.new ≡ unregistered face.0 id self.old) }
+        ensures err { OnErr result (self.new ≡ self.old) }
+    {
+        let Some(declaration) = self.face(face).declaration(id) else {
+            return Err(HatRefusal::UnknownId);
+        };
+        let Ok(copy) = Text::new(self.alloc, declaration.key.as_str()) else {
+            return Err(HatRefusal::OutOfMemory);
+        };
+        let before = region_info(&self.faces, copy.as_str());
+        withdraw(&mut self.faces, face, id);
+        let after = region_info(&self.faces, copy.as_str());
+        Ok(changed(copy, before, after))
+    }
+
+    /// What the region's faces declared on the key, merged.
+    pub fn remote_queryables_of(&self, key: &str) -> Option<QueryableInfoType>
+        ensures { result ≡ region_info key.now self.now.faces }
+    {
+        region_info(&self.faces, key)
+    }
+
+    /// The offers for the key to an asker of region `src`, by distance, key text and face.
+    pub fn compute_query_route(
+        &self,
+        src: &Region,
+        key: &str,
+        _node: Option<u16>,
+    ) -> Result<OfferList, OutOfMemory>
+        requires { IsTrue (is_key key.now) }
+        ensures { IfOk result (λ o. o ≡ offers_of self.now src.now key.now) }
+    {
+        match self.strategy() {
+            Strategy::Broker => offers::declared_offers(self.alloc, self.region, &self.faces, key),
+            Strategy::Client => Ok(Items::new(self.alloc)),
+            Strategy::Peer => Ok(Items::new(self.alloc)),
+            Strategy::Router => Ok(Items::new(self.alloc)),
+        }
+    }
+
+    /// Takes the face out, with what it declared. Takes no memory.
+    pub fn forget_face(&mut self, face: FaceId)
+        requires { has_face face.0 self.old ≡ true }
+        ensures { self.new ≡ without_face face.0 self.old }
+    {
+        let _ = self.faces.remove(&face.0);
+    }
+
+    /// Takes the face out, with what it declared; answers the keys that it had declared, one for
+    /// each declaration.
+    pub fn close_face(&mut self, face: FaceId) -> Result<TextList, OutOfMemory>
+        requires { has_face face.0 self.old ≡ true }
+        ensures keys { IfOk result (λ ks. ks ≡ keys_of_face face.0 self.old) }
+        ensures after { OnOk result (self.new ≡ without_face face.0 self.old) }
+        ensures err { OnErr result (self.new ≡ self.old) }
+    {
+        let keys = self.face(face).keys(self.alloc)?;
+        self.forget_face(face);
+        Ok(keys)
+    }
+}
