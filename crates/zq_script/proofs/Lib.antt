@@ -1,2 +1,1 @@
 pub mod LinesBack
-pub mod Parts

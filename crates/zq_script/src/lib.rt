@@ -9,5 +9,3 @@
 
 pub mod calls;
 pub mod lines;
-pub mod script;
-pub mod steps;

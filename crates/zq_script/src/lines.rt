@@ -415,7 +415,7 @@ fn by_of(alloc: Global, word: &[u8]) -> Result<Option<Zid>, OutOfMemory>
 }
 
 /// `by:` and an id, behind a space.
-#[tactic(auto, unfolding(crate::specs::Words::read_at))]
+#[tactic(auto, unfolding(zq_words::specs::Words::read_at))]
 fn by_at(alloc: Global, bytes: &[u8]) -> Result<Option<(Zid, &[u8])>, OutOfMemory>
     ensures { IfOk result (λ o. option_map (λ t. (t.0, t.1.now)) o ≡ read_at by_of bytes.now) }
 {
@@ -476,7 +476,7 @@ fn reply_of(alloc: Global, bytes: &[u8]) -> Result<Option<Call>, OutOfMemory>
     }))
 }
 
-#[tactic(auto, unfolding(crate::specs::Lines::final_of), using(crate::proofs::Given::final_given))]
+#[tactic(auto, unfolding(crate::specs::Lines::final_of))]
 fn final_of(alloc: Global, bytes: &[u8]) -> Result<Option<Call>, OutOfMemory>
     ensures value { IfOk result (λ c. c ≡ final_of bytes.now) }
 {
