@@ -1,1 +1,2 @@
 pub mod LinesBack
+pub mod Sameness

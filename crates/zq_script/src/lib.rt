@@ -9,3 +9,5 @@
 
 pub mod calls;
 pub mod lines;
+mod same;
+pub mod steps;
