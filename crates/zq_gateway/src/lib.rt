@@ -3,3 +3,7 @@
 
 pub mod call;
 pub mod config;
+pub mod face;
+mod handed;
+pub mod gateway;
+pub mod hats;

@@ -1,0 +1,119 @@
+//! The messages that a step hands.
+ghost use Rattle.std.specs.Prelude.{◌≡◌, ◌<◌, [], ◌∷◌, IfOk, IfSome, map, option_to_list, vec_capacity, vec_len};
+ghost use Rattle.zq_naming.specs.Naming.{plain};
+ghost use Rattle.zq_query.specs.Asking.{given_id};
+ghost use Rattle.zq_gateway.specs.Machine.{sent_final, sent_replies};
+
+use crate::call::{Handed, HandedList};
+use std::alloc::{AllocError, Global};
+use zq_hat::types::QueryTargetQabl;
+use zq_key::items::Items;
+use zq_key::memory::OutOfMemory;
+use zq_key::message::{FaceId, Mapping, Message, Request, Response, ResponseFinal, WireExpr};
+use zq_key::text::Text;
+use zq_naming::naming::Naming;
+use zq_query::book::Queries;
+use zq_query::records::{Final, ReplyTo};
+
+/// A final to its asker. It takes no memory.
+pub fn written_final(last: Final) -> Handed
+    ensures { result ≡ sent_final last }
+{
+    let message = ResponseFinal {
+        rid: last.id,
+        qos: last.qos,
+    };
+    Handed {
+        to: last.asker,
+        number: Some(last.number),
+        reply: None,
+        message: Message::ResponseFinal(message),
+        leaves: Some(Message::ResponseFinal(message)),
+    }
+}
+
+/// Room for the one message that a final may need.
+pub fn room_for_final(alloc: Global) -> Result<Vec<Handed>, AllocError>
+    ensures empty { IfOk result (λ v. v.items ≡ []) }
+    ensures room { IfOk result (λ v. vec_len v < vec_capacity v) }
+{
+    Vec::with_capacity(alloc, 1)
+}
+
+/// The final, where there is one. It takes no memory.
+pub fn final_in(mut room: Vec<Handed>, last: Option<Final>) -> HandedList
+    requires empty { room.items ≡ [] }
+    requires room { vec_len room < vec_capacity room }
+    ensures { result ≡ map sent_final (option_to_list last) }
+{
+    if let Some(last) = last {
+        match room.push(written_final(last)) {
+            Ok(()) => {}
+            Err(_) => unreachable!(),
+        }
+    }
+    Items::from_vec(room)
+}
+
+/// Finals to their askers.
+pub fn written_finals(alloc: Global, finals: &[Final]) -> Result<HandedList, OutOfMemory>
+    ensures { IfOk result (λ l. l ≡ map sent_final finals.now) }
+{
+    let mut handed = Items::new(alloc);
+    for last in finals {
+        handed.push(written_final(*last))?;
+    }
+    Ok(handed)
+}
+
+fn whole(alloc: Global, text: &str) -> Result<WireExpr, OutOfMemory>
+    ensures { IfOk result (λ w. w ≡ plain text.now) }
+{
+    Ok(WireExpr {
+        scope: 0,
+        mapping: Mapping::Sender,
+        suffix: Text::new(alloc, text)?,
+    })
+}
+
+fn reply_message(
+    alloc: Global,
+    text: &str,
+    response: &Response,
+    to: &ReplyTo,
+) -> Result<Response, OutOfMemory>
+    ensures { IfOk result (λ r. r ≡ record { rid = to.now.id; wire = plain text.now; qos = to.now.qos; payload = response.now.payload; responder = response.now.responder }) }
+{
+    Ok(Response {
+        rid: to.id,
+        wire: whole(alloc, text)?,
+        qos: to.qos,
+        payload: response.payload.copy(alloc)?,
+        responder: response.responder,
+    })
+}
+
+/// A reply to its asker; to no one, where the asker is closed.
+pub fn written_replies(
+    alloc: Global,
+    text: &str,
+    response: &Response,
+    to: &ReplyTo,
+) -> Result<HandedList, OutOfMemory>
+    ensures { IfOk result (λ l. l ≡ sent_replies text.now response.now to.now) }
+{
+    let mut handed = Items::new(alloc);
+    if to.reply.is_none() {
+        return Ok(handed);
+    }
+    let message = reply_message(alloc, text, response, to)?;
+    let leaves = message.copy(alloc)?;
+    handed.push(Handed {
+        to: to.asker,
+        number: Some(to.number),
+        reply: to.reply,
+        message: Message::Response(message),
+        leaves: Some(Message::Response(leaves)),
+    })?;
+    Ok(handed)
+}
