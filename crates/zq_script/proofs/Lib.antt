@@ -1,2 +1,4 @@
 pub mod LinesBack
 pub mod Sameness
+pub mod Parts
+pub mod Built

@@ -8,6 +8,10 @@
 #![tactic(auto)]
 
 pub mod calls;
+mod head;
 pub mod lines;
+pub mod refusal;
+pub mod run;
 mod same;
+pub mod script;
 pub mod steps;
