@@ -13,6 +13,8 @@
 pub mod show;
 pub mod stored;
 pub mod streams;
+#[cfg(test)]
+mod tests;
 pub mod transfer;
 pub mod values;
 pub mod words;
