@@ -2,3 +2,5 @@ pub mod LinesBack
 pub mod Sameness
 pub mod Parts
 pub mod Built
+pub mod Given
+pub mod GivenLines
