@@ -6,6 +6,7 @@ use Rattle.zq_gateway.specs.declared.call.Call.{Call}
 use Rattle.zq_gateway.specs.Calls.{is_sent, is_built}
 use Rattle.zq_gateway.specs.Configs.{Settings}
 use Rattle.zq_words.specs.Words.{◌>>=◌}
+use Rattle.zq_script.specs.Fits.{FitsCall}
 use Rattle.zq_script.specs.Lines.{call_of}
 use Rattle.zq_script.specs.Head.{Head, head_of}
 use Rattle.zq_script.specs.declared.script.Script.{Script}
@@ -90,3 +91,8 @@ Gives (Err e) read = Refuses e read
 -- the gateway answers each of the calls
 abbrev pub AllBuilt : Settings → List Call → Type 0
 AllBuilt config calls = AllByRecursion (λ c. is_built config c ≡ true) calls
+
+-- each call fits its line, and the gateway answers it
+pub record Holds (s : Script) : Type 0 where
+  pub built : AllByRecursion (AllBuilt s.config) s.parts
+  pub fits : AllByRecursion (AllByRecursion FitsCall) s.parts
