@@ -1,7 +1,7 @@
 -- The calls of a script fit their lines, and are those that the gateway answers.
 use Rattle.std.proofs.Common.{◌≡◌, ℕ, ◌+◌, ◌-◌, ◌<◌, List, [], ◌∷◌, Option, Some, None, Result, Ok, Err, Bool, true, false, cond, refl, subst}
 use Rattle.std.proofs.lemmas.List.Elements.{All-head, All-tail, All-nil, All-cons}
-use Rattle.std.specs.Prelude.{◌==◌, ◌&&◌, nat_lt, codes, IfOk, All}
+use Rattle.std.specs.Prelude.{◌==◌, ◌&&◌, nat_lt, codes, IfOk}
 use Rattle.std.specs.Str.{bytes_eq}
 use Rattle.std.specs.List.{AllByRecursion, onto_first}
 use Rattle.zq_key.specs.declared.message.Zid.{Zid}
@@ -15,7 +15,7 @@ use Rattle.zq_words.specs.Fits.{IsBytes}
 use Rattle.zq_script.specs.Fits.{FitsCall}
 use Rattle.zq_script.specs.Lines.{call_of}
 use Rattle.zq_script.specs.Head.{Head, start_of, config_of, start_at, no_counts, ended, configured, headed, with_start, with_config, head_of}
-use Rattle.zq_script.specs.Script.{Parts, lines_of, onto, new_part, with_line, unless_sent, only_built, script_call, parts_from, onto_parts, made, with_parts, script_of, Gives, AllBuilt, Holds}
+use Rattle.zq_script.specs.Script.{Parts, lines_of, onto, new_part, with_line, unless_sent, script_call, parts_from, onto_parts, made, with_parts, script_of, Gives, AllBuilt, Holds}
 use Rattle.zq_script.specs.Running.{first_part}
 use Rattle.zq_script.specs.declared.refusal.ScriptRefusal.{ScriptRefusal}
 use Rattle.zq_script.specs.declared.script.Script.{Script}
@@ -29,7 +29,7 @@ call_built config shared line = bind (any_given (call_of line >>= unless_sent sh
 call_fits : (config : Settings) (shared : Bool) (line : List ℕ) → IsBytes line → Given FitsCall (script_call config shared line)
 call_fits config shared line a =
     bind (bind (call_given line a) (λ c p. either (shared && is_sent c) _ _ (λ e. no_one) (one {P = FitsCall} p)))
-      (λ c p. either (is_built config c) _ _ (λ e. one {P = FitsCall} p) no_one)
+    (λ c p. either (is_built config c) _ _ (λ e. one {P = FitsCall} p) no_one)
 
 -- parts of such calls
 abbrev EachPart : (Call → Type 0) → Result Parts ℕ → Type 0
@@ -56,8 +56,8 @@ parts_each : (P : Call → Type 0) (config : Settings) (shared : Bool) → ((lin
 parts_each P config shared g n workers [] a = (tt, tt)
 parts_each P config shared g n workers (line ∷ lines) a =
     cond_each P (bytes_eq line (codes "worker")) _ _
-      (cond_each P (nat_lt 0 workers) _ _ (new_each P _ (parts_each P config shared g (n + 1) (workers - 1) lines a.1)) tt)
-      (line_each P n (script_call config shared line) _ (g line a.0) (parts_each P config shared g (n + 1) workers lines a.1))
+    (cond_each P (nat_lt 0 workers) _ _ (new_each P _ (parts_each P config shared g (n + 1) (workers - 1) lines a.1)) tt)
+    (line_each P n (script_call config shared line) _ (g line a.0) (parts_each P config shared g (n + 1) workers lines a.1))
 
 -- the lines of bytes
 first_bytes : (b : ℕ) (ws : List (List ℕ)) → b < 256 → AllByRecursion IsBytes ws → AllByRecursion IsBytes (onto_first b ws)
@@ -111,8 +111,8 @@ made_holds head (Err n) p q = tt
 with_holds : (workers : ℕ) (h : Result Head ℕ) → RestFits h → HoldsScript (with_parts workers h)
 with_holds workers (Ok head) a =
     made_holds head _
-      (parts_each (λ c. is_built head.0 c ≡ true) head.0 (nat_lt 0 workers) (λ line b. call_built head.0 (nat_lt 0 workers) line) head.2 workers head.3 a)
-      (parts_each FitsCall head.0 (nat_lt 0 workers) (λ line b. call_fits head.0 (nat_lt 0 workers) line b) head.2 workers head.3 a)
+    (parts_each (λ c. is_built head.0 c ≡ true) head.0 (nat_lt 0 workers) (λ line b. call_built head.0 (nat_lt 0 workers) line) head.2 workers head.3 a)
+    (parts_each FitsCall head.0 (nat_lt 0 workers) (λ line b. call_fits head.0 (nat_lt 0 workers) line b) head.2 workers head.3 a)
 with_holds workers (Err n) a = tt
 
 script_holds : (workers : ℕ) (bytes : List ℕ) (s : Script) → IsBytes bytes → script_of workers (lines_of bytes) ≡ Ok s → Holds s

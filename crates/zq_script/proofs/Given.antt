@@ -1,24 +1,17 @@
 -- What a word says fits.
-use Rattle.std.proofs.Common.{◌≡◌, ℕ, ◌+◌, ◌-◌, ◌*◌, ◌≤◌, ◌<◌, List, [], ◌∷◌, ◌++◌, Option, Some, None, refl, subst, arith, take, drop, length, Bool, true, false, cond}
+use Rattle.std.proofs.Common.{◌≡◌, ℕ, ◌+◌, ◌-◌, ◌*◌, ◌≤◌, ◌<◌, List, [], ◌∷◌, Option, Some, None, refl, subst, arith, length, Bool, true, false, cond}
 use Rattle.std.proofs.lemmas.Bool.{and_parts}
 use Rattle.std.proofs.lemmas.Bool.Decides.{nat_tests}
 use Rattle.std.proofs.lemmas.List.Elements.{All-head, All-tail, All-nil, All-cons, All-take, All-drop}
 use Rattle.std.proofs.lemmas.Grind.{common_steps}
 use Rattle.std.specs.Str.{bytes_eq, is_utf8}
-use Rattle.std.specs.List.{AllByRecursion, slice_split, onto_first}
+use Rattle.std.specs.List.{AllByRecursion, onto_first}
 use Rattle.percent_encoding.specs.Percent.{percent_decode}
 use Rattle.percent_encoding.proofs.PercentLemmas.{All-percent_decode, length-percent_decode}
-use Rattle.std.specs.Prelude.{◌==◌, ◌&&◌, nat_le, nat_lt, codes, All, not, map, filter, ⊤}
-use Rattle.zq_key.specs.declared.message.FaceId.{FaceId}
-use Rattle.zq_key.specs.declared.message.Zid.{Zid}
-use Rattle.zq_key.specs.declared.message.WireExpr.{WireExpr}
-use Rattle.zq_key.specs.declared.message.Mode.{Mode}
-use Rattle.zq_key.specs.declared.message.Region.{Region}
+use Rattle.std.specs.Prelude.{◌==◌, ◌&&◌, nat_le, nat_lt, codes}
 use Rattle.zq_key.specs.declared.message.Region.TheVariants as region
-use Rattle.zq_hat.specs.declared.types.Tree.{Tree}
-use Rattle.zq_route.specs.declared.gateways.GatewayEntry.{GatewayEntry}
 use Rattle.zq_words.specs.Words.{◌>>=◌, len_to, after_cut, cut, pieces, read_each, list_of, option_of, is_digit, number_from, number, word_at, read_at, at_end, text_of, payload_of, bytes_of}
-use Rattle.zq_words.specs.Values.{most_8, most_16, most_32, most_64, most_128, face_of, zid_of, mode_of, bound_of, target_of, wire_of, mapping_of, flag_of, behind, south_of, region_of, zids_of, entry_of, all_of, direction_of, tree_of}
+use Rattle.zq_words.specs.Values.{most_16, most_32, most_128, face_of, zid_of, mode_of, wire_of, mapping_of, behind, south_of, region_of, zids_of, entry_of, all_of, direction_of, tree_of}
 use Rattle.zq_words.specs.Fits.{IsBytes, IsText, FitsFace, FitsZid, FitsWire, FitsOption, FitsRegion, FitsEntry, FitsTree}
 use Rattle.zq_script.specs.Fits.{IsNamespace}
 
@@ -91,12 +84,13 @@ word_given (b ∷ bytes) a =
     let rest : IsBytes bytes = All-tail (λ b. b < 256) b bytes a in
     let within : len_to 32 bytes ≤ length bytes = len_within 32 bytes in
     either (b == 32 && nat_lt 0 (len_to 32 bytes)) _ _
-      (λ e.
-        let more : 0 < len_to 32 bytes = positive _ (and_parts _ _ e).1 in
-        one (record {
-          word = record { bytes = All-take (λ b. b < 256) (len_to 32 bytes) bytes rest; some = grind (arith, common_steps) };
-          rest = All-drop (λ b. b < 256) (len_to 32 bytes) bytes rest }))
-      no_one
+    (λ e.
+    let more : 0 < len_to 32 bytes = positive _ (and_parts _ _ e).1 in
+    one (record {
+      word = record { bytes = All-take (λ b. b < 256) (len_to 32 bytes) bytes rest; some = grind (arith, common_steps) };
+      rest = All-drop (λ b. b < 256) (len_to 32 bytes) bytes rest;
+    }))
+    no_one
 
 -- a field that fits, and the bytes that follow
 pub some_given : {X : Type 0} {P : X → Type 0} {read : List ℕ → Option X} → ((w : List ℕ) → SomeBytes w → Given P (read w)) → (bytes : List ℕ) → IsBytes bytes → Given (FieldFits P) (read_at read bytes)
@@ -147,7 +141,7 @@ south_given : (w : List ℕ) → IsBytes w → Given FitsRegion (south_of w)
 unfolding south_of
 south_given w a =
     bind (cut_given 58 w a) (λ parts p. bind (behind_given (codes "south") parts p) (λ rest q. bind (cut_given 58 rest q) (λ fields r.
-      bind (number_given most_32 fields.0 r.word) (λ id s. bind (any_given (mode_of fields.1)) (λ m u. one {P = FitsRegion} {a = region.South id m} s)))))
+    bind (number_given most_32 fields.0 r.word) (λ id s. bind (any_given (mode_of fields.1)) (λ m u. one {P = FitsRegion} {a = region.South id m} s)))))
 
 pub region_given : (w : List ℕ) → IsBytes w → Given FitsRegion (region_of w)
 region_given w a = either (bytes_eq w (codes "north")) _ _ (λ e. one {P = FitsRegion} {a = region.North} tt) (either (bytes_eq w (codes "local")) _ _ (λ e. one {P = FitsRegion} {a = region.Local} tt) (south_given w a))
@@ -156,7 +150,7 @@ pub wire_given : (w : List ℕ) → IsBytes w → Given FitsWire (wire_of w)
 unfolding wire_of
 wire_given w a =
     bind (cut_given 58 w a) (λ parts p. bind (number_given most_16 parts.0 p.word) (λ scope q. bind (cut_given 58 parts.1 p.rest) (λ fields r.
-      bind (any_given (mapping_of fields.0)) (λ mapping u. bind (text_given fields.1 r.rest) (λ suffix v. one (record { scope = q; suffix = v }))))))
+    bind (any_given (mapping_of fields.0)) (λ mapping u. bind (text_given fields.1 r.rest) (λ suffix v. one (record { scope = q; suffix = v }))))))
 
 option_some : {X : Type 0} {P : X → Type 0} (read : List ℕ → Option X) (w : List ℕ) → Given P (read w) → Given (FitsOption P) (option_of read w)
 option_some {P = P} read w g = either (bytes_eq w (codes "-")) _ _ (λ e. one {P = FitsOption P} tt) (bind g (λ x p. one {P = FitsOption P} p))
@@ -175,8 +169,8 @@ name_given w s = name_by (bytes_eq w (codes "-")) w s refl
     name_by true w s e = rw e (one {P = FitsOption IsNamespace} tt)
     name_by false w s e =
         option_some text_of w (rw e (either (is_utf8 (percent_decode w)) _ _
-          (λ u. one {P = IsNamespace} (record { text = record { small = All-percent_decode w s.bytes; utf8 = u }; some = decoded_some w s.some }))
-          no_one))
+        (λ u. one {P = IsNamespace} (record { text = record { small = All-percent_decode w s.bytes; utf8 = u }; some = decoded_some w s.some }))
+        no_one))
 
 -- lists
 first_bytes : (b : ℕ) (ws : List (List ℕ)) → b < 256 → AllByRecursion IsBytes ws → AllByRecursion IsBytes (onto_first b ws)
@@ -217,4 +211,4 @@ pub tree_given : (w : List ℕ) → IsBytes w → Given FitsTree (tree_of w)
 unfolding tree_of
 tree_given w a =
     bind (cut_given 47 w a) (λ parts p. bind (list_given 44 (number_given most_32) parts.0 p.word) (λ children q.
-      bind (list_given 44 direction_given parts.1 p.rest) (λ directions r. one (record { children = q; directions = r }))))
+    bind (list_given 44 direction_given parts.1 p.rest) (λ directions r. one (record { children = q; directions = r }))))

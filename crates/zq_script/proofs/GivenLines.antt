@@ -1,20 +1,15 @@
 -- What a line says fits.
-use Rattle.std.proofs.Common.{◌≡◌, ℕ, ◌≤◌, ◌<◌, List, [], ◌∷◌, Option, Some, None, refl, Bool, true, false, cond}
-use Rattle.std.proofs.lemmas.List.Elements.{All-tail, All-nil, All-take, All-drop}
+use Rattle.std.proofs.Common.{ℕ, ◌≤◌, ◌<◌, List, [], ◌∷◌, Option, Some, refl, Bool, true, false, cond}
+use Rattle.std.proofs.lemmas.List.Elements.{All-tail, All-drop}
 use Rattle.std.specs.Str.{bytes_eq}
 use Rattle.std.specs.List.{AllByRecursion}
-use Rattle.std.specs.Prelude.{◌==◌, codes, All, not, map, filter, take, drop}
+use Rattle.std.specs.Prelude.{◌==◌, codes, map, filter}
 use Rattle.zq_key.specs.declared.message.QueryTarget.{QueryTarget}
 use Rattle.zq_key.specs.declared.message.QueryableInfoType.{QueryableInfoType}
-use Rattle.zq_key.specs.declared.message.ReplyBody.{ReplyBody}
-use Rattle.zq_key.specs.declared.message.ReplyBody.TheVariants as body
-use Rattle.zq_hat.specs.declared.types.FinalMark.{FinalMark}
 use Rattle.zq_hat.specs.declared.types.FinalMark.TheVariants as mark
-use Rattle.zq_gateway.specs.declared.call.Call.{Call}
-use Rattle.zq_gateway.specs.declared.call.Call.TheVariants as call
-use Rattle.zq_words.specs.Words.{◌>>=◌, len_to, cut, pieces, read_each, list_of, option_of, number, read_at, at_end, text_of, bytes_of}
-use Rattle.zq_words.specs.Values.{most_8, most_16, most_32, most_64, face_of, mode_of, bound_of, target_of, wire_of, flag_of}
-use Rattle.zq_words.specs.Fits.{IsBytes, IsText, FitsZid, FitsOption, FitsEntry, FitsTree}
+use Rattle.zq_words.specs.Words.{len_to, pieces}
+use Rattle.zq_words.specs.Values.{most_8, most_16, most_32, most_64, mode_of, bound_of, target_of, flag_of}
+use Rattle.zq_words.specs.Fits.{IsBytes, IsText, FitsZid, FitsOption}
 use Rattle.zq_script.specs.declared.lines.Deny.{Deny}
 use Rattle.zq_script.specs.Lines.{deny_side, deny_of, denies_of, at_entry, at_exit, deny_text, opening_of, close_of, key_of, unkey_of, info_at, queryable_of, unqueryable_of, interest_of, uninterest_of, mark_by, mark_at, finalize_of, manner_at, ask_of, body_by, body_at, by_of, responder_of, reply_of, final_of, sent_of, poll_of, gateways_of, network_of, nodes_of, call_by, other_by, call_of}
 use Rattle.zq_script.specs.Fits.{FitsMark, FitsBody, FitsCall}
@@ -28,7 +23,7 @@ key_given : (bytes : List ℕ) → IsBytes bytes → Given FitsCall (key_of byte
 unfolding key_of
 key_given bytes a =
     bind (field_given face_given bytes a) (λ face p. bind (field_given (number_given most_16) face.1 p.rest) (λ id q.
-      bind (field_given wire_given id.1 q.rest) (λ wire r. end_given wire.1 _ (record { face = p.value; id = q.value }, r.value))))
+    bind (field_given wire_given id.1 q.rest) (λ wire r. end_given wire.1 _ (record { face = p.value; id = q.value }, r.value))))
 
 unkey_given : (bytes : List ℕ) → IsBytes bytes → Given FitsCall (unkey_of bytes)
 unfolding unkey_of
@@ -39,26 +34,26 @@ info_given : (bytes : List ℕ) → IsBytes bytes → Given (FieldFits (λ (info
 unfolding info_at
 info_given bytes a =
     bind (free_given (flag_of (codes "c") (codes "p")) bytes a) (λ complete p. bind (field_given (number_given most_16) complete.1 p.rest) (λ distance q.
-      one (record { value = q.value; rest = q.rest })))
+    one (record { value = q.value; rest = q.rest })))
 
 queryable_given : (bytes : List ℕ) → IsBytes bytes → Given FitsCall (queryable_of bytes)
 unfolding queryable_of
 queryable_given bytes a =
     bind (field_given face_given bytes a) (λ face p. bind (field_given (number_given most_32) face.1 p.rest) (λ id q. bind (field_given wire_given id.1 q.rest) (λ wire r.
-      bind (info_given wire.1 r.rest) (λ info s. bind (field_given (number_given most_16) info.1 s.rest) (λ node u.
-        end_given node.1 _ (record { face = p.value; id = q.value }, r.value, s.value, u.value))))))
+    bind (info_given wire.1 r.rest) (λ info s. bind (field_given (number_given most_16) info.1 s.rest) (λ node u.
+    end_given node.1 _ (record { face = p.value; id = q.value }, r.value, s.value, u.value))))))
 
 unqueryable_given : (bytes : List ℕ) → IsBytes bytes → Given FitsCall (unqueryable_of bytes)
 unfolding unqueryable_of
 unqueryable_given bytes a =
     bind (field_given face_given bytes a) (λ face p. bind (field_given (number_given most_32) face.1 p.rest) (λ id q. bind (field_given (option_given wire_given) id.1 q.rest) (λ wire r.
-      bind (field_given (number_given most_16) wire.1 r.rest) (λ node u. end_given node.1 _ (record { face = p.value; id = q.value }, r.value, u.value)))))
+    bind (field_given (number_given most_16) wire.1 r.rest) (λ node u. end_given node.1 _ (record { face = p.value; id = q.value }, r.value, u.value)))))
 
 interest_given : (bytes : List ℕ) → IsBytes bytes → Given FitsCall (interest_of bytes)
 unfolding interest_of
 interest_given bytes a =
     bind (field_given face_given bytes a) (λ face p. bind (field_given (number_given most_32) face.1 p.rest) (λ id q. bind (field_given (option_given wire_given) id.1 q.rest) (λ wire r.
-      bind (free_given (flag_of (codes "k") (codes "n")) wire.1 r.rest) (λ keys u. end_given keys.1 _ (record { face = p.value; id = q.value }, r.value)))))
+    bind (free_given (flag_of (codes "k") (codes "n")) wire.1 r.rest) (λ keys u. end_given keys.1 _ (record { face = p.value; id = q.value }, r.value)))))
 
 uninterest_given : (bytes : List ℕ) → IsBytes bytes → Given FitsCall (uninterest_of bytes)
 unfolding uninterest_of
@@ -78,7 +73,7 @@ finalize_given : (bytes : List ℕ) → IsBytes bytes → Given FitsCall (finali
 unfolding finalize_of
 finalize_given bytes a =
     bind (field_given face_given bytes a) (λ face p. bind (mark_given face.1 p.rest) (λ what q. bind (free_given (flag_of (codes "1") (codes "0")) what.1 q.rest) (λ set r.
-      end_given set.1 _ (p.value, q.value))))
+    end_given set.1 _ (p.value, q.value))))
 
 -- what stands between the expression and the payload
 record FitsManner (t : QueryTarget × Option ℕ × ℕ × ℕ × List ℕ) : Type 0 where
@@ -91,15 +86,15 @@ manner_given : (bytes : List ℕ) → IsBytes bytes → Given FitsManner (manner
 unfolding manner_at
 manner_given bytes a =
     bind (free_given target_of bytes a) (λ target p. bind (field_given (option_given (number_given most_64)) target.1 p.rest) (λ timeout q.
-      bind (field_given (number_given most_16) timeout.1 q.rest) (λ node r. bind (field_given (number_given most_8) node.1 r.rest) (λ qos s.
-        one (record { timeout = q.value; node = r.value; qos = s.value; rest = s.rest })))))
+    bind (field_given (number_given most_16) timeout.1 q.rest) (λ node r. bind (field_given (number_given most_8) node.1 r.rest) (λ qos s.
+    one (record { timeout = q.value; node = r.value; qos = s.value; rest = s.rest })))))
 
 ask_given : (bytes : List ℕ) → IsBytes bytes → Given FitsCall (ask_of bytes)
 unfolding ask_of
 ask_given bytes a =
     bind (field_given face_given bytes a) (λ face p. bind (field_given (number_given most_32) face.1 p.rest) (λ id q. bind (field_given wire_given id.1 q.rest) (λ wire r.
-      bind (manner_given wire.1 r.rest) (λ manner s. bind (field_given bytes_given manner.4 s.rest) (λ payload u. bind (field_given (number_given most_64) payload.1 u.rest) (λ now v.
-        end_given now.1 _ (p.value, record { id = q.value; wire = r.value; timeout = s.timeout; node = s.node; qos = s.qos; payload = u.value }, v.value)))))))
+    bind (manner_given wire.1 r.rest) (λ manner s. bind (field_given bytes_given manner.4 s.rest) (λ payload u. bind (field_given (number_given most_64) payload.1 u.rest) (λ now v.
+    end_given now.1 _ (p.value, record { id = q.value; wire = r.value; timeout = s.timeout; node = s.node; qos = s.qos; payload = u.value }, v.value)))))))
 
 body_fits : (ok : Bool) (payload : List ℕ) → IsBytes payload → FitsBody (body_by ok payload)
 body_fits true payload a = a
@@ -109,7 +104,7 @@ body_given : (bytes : List ℕ) → IsBytes bytes → Given (FieldFits FitsBody)
 unfolding body_at
 body_given bytes a =
     bind (free_given (flag_of (codes "ok") (codes "err")) bytes a) (λ kind p. bind (field_given bytes_given kind.1 p.rest) (λ payload q.
-      one (record { value = body_fits kind.0 payload.0 q.value; rest = q.rest })))
+    one (record { value = body_fits kind.0 payload.0 q.value; rest = q.rest })))
 
 by_given : (w : List ℕ) → IsBytes w → Given FitsZid (by_of w)
 unfolding by_of
@@ -124,8 +119,8 @@ reply_given : (bytes : List ℕ) → IsBytes bytes → Given FitsCall (reply_of 
 unfolding reply_of
 reply_given bytes a =
     bind (field_given face_given bytes a) (λ face p. bind (field_given (number_given most_32) face.1 p.rest) (λ id q. bind (field_given wire_given id.1 q.rest) (λ wire r.
-      bind (body_given wire.1 r.rest) (λ payload s. bind (responder_given payload.1 s.rest) (λ responder u.
-        one (p.value, record { rid = q.value; wire = r.value; qos = refl; payload = s.value; responder = u }))))))
+    bind (body_given wire.1 r.rest) (λ payload s. bind (responder_given payload.1 s.rest) (λ responder u.
+    one (p.value, record { rid = q.value; wire = r.value; qos = refl; payload = s.value; responder = u }))))))
 
 final_given : (bytes : List ℕ) → IsBytes bytes → Given FitsCall (final_of bytes)
 unfolding final_of
@@ -144,14 +139,14 @@ gateways_given : (bytes : List ℕ) → IsBytes bytes → Given FitsCall (gatewa
 unfolding gateways_of
 gateways_given bytes a =
     bind (field_given region_given bytes a) (λ region p. bind (field_given (list_given 59 entry_given) region.1 p.rest) (λ entries q.
-      bind (field_given all_given entries.1 q.rest) (λ others r. end_given others.1 _ (p.value, record { of = q.value; all = r.value }))))
+    bind (field_given all_given entries.1 q.rest) (λ others r. end_given others.1 _ (p.value, record { of = q.value; all = r.value }))))
 
 network_given : (bytes : List ℕ) → IsBytes bytes → Given FitsCall (network_of bytes)
 unfolding network_of
 network_given bytes a =
     bind (field_given region_given bytes a) (λ region p. bind (field_given zids_given region.1 p.rest) (λ nodes q. bind (field_given (list_given 59 tree_given) nodes.1 q.rest) (λ trees r.
-      bind (field_given (list_given 44 (number_given most_16)) trees.1 r.rest) (λ distances s.
-        end_given distances.1 _ (p.value, record { nodes = q.value; trees = r.value; distances = s.value })))))
+    bind (field_given (list_given 44 (number_given most_16)) trees.1 r.rest) (λ distances s.
+    end_given distances.1 _ (p.value, record { nodes = q.value; trees = r.value; distances = s.value })))))
 
 nodes_given : (bytes : List ℕ) → IsBytes bytes → Given FitsCall (nodes_of bytes)
 unfolding nodes_of
@@ -181,8 +176,8 @@ opening_given : (bytes : List ℕ) → IsBytes bytes → Given FitsCall (opening
 unfolding opening_of
 opening_given bytes a =
     bind (field_given region_given bytes a) (λ region p. bind (field_given zid_given region.1 p.rest) (λ zid q. bind (free_given mode_of zid.1 q.rest) (λ strategy r.
-      bind (free_given bound_of strategy.1 r.rest) (λ remote s. bind (some_given name_given remote.1 s.rest) (λ namespace u. bind (denies_given namespace.1 u.rest) (λ denies v.
-        one (record { region = p.value; zid = q.value; namespace = u.value; entry_deny = side_fits at_entry denies v; exit_deny = side_fits at_exit denies v })))))))
+    bind (free_given bound_of strategy.1 r.rest) (λ remote s. bind (some_given name_given remote.1 s.rest) (λ namespace u. bind (denies_given namespace.1 u.rest) (λ denies v.
+    one (record { region = p.value; zid = q.value; namespace = u.value; entry_deny = side_fits at_entry denies v; exit_deny = side_fits at_exit denies v })))))))
 
 -- the call of a line
 other_given : (head bytes : List ℕ) → IsBytes bytes → Given FitsCall (other_by head bytes)

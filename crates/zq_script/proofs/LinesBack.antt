@@ -1,7 +1,7 @@
 -- A written call reads back.
-use Rattle.std.proofs.Common.{◌≡◌, ℕ, ◌+◌, ◌≤◌, ◌<◌, ◌^◌, List, [], ◌∷◌, ◌++◌, Option, Some, None, refl, ap, ◌∙◌, sym, arith, length, take, drop, Bool, true, false, append_assoc, length-append}
+use Rattle.std.proofs.Common.{◌≡◌, ℕ, ◌≤◌, List, [], ◌∷◌, ◌++◌, Option, Some, None, refl, ap, ◌∙◌, sym, arith, length, Bool, true, false, append_assoc}
 use Rattle.std.proofs.lemmas.List.{append-nil}
-use Rattle.std.specs.Prelude.{◌==◌, codes, map, filter}
+use Rattle.std.specs.Prelude.{codes, map, filter}
 use Rattle.std.specs.Str.{bytes_eq}
 use Rattle.std.specs.Fmt.{decimal}
 use Rattle.std.specs.List.{AllByRecursion, flat_map}
@@ -23,13 +23,13 @@ use Rattle.zq_gateway.specs.declared.call.Opening.{Opening}
 use Rattle.zq_script.specs.declared.lines.Deny.{Deny}
 use Rattle.zq_gateway.specs.declared.call.Call.{Call}
 use Rattle.zq_gateway.specs.declared.call.Call.TheVariants as call
-use Rattle.zq_words.specs.Words.{◌>>=◌, field, lacks, bytes_of, len_to, number, read_at, text_of, payload_of, payload_word, list_of, list_word, option_of, option_word}
-use Rattle.zq_words.specs.Values.{most_8, most_16, most_32, most_64, most_128, flag_of, flag_word, face_word, zid_word, wire_of, wire_word, target_word, region_word, mode_word, bound_word, zids_word, entry_word, tree_word, all_word}
-use Rattle.zq_script.specs.Lines.{deny_of, denies_of, at_entry, at_exit, deny_text, opening_of, close_of, key_of, unkey_of, info_at, queryable_of, unqueryable_of, interest_of, uninterest_of, mark_by, mark_at, finalize_of, manner_at, ask_of, body_by, body_at, by_of, responder_of, reply_of, final_of, sent_of, poll_of, gateways_of, network_of, nodes_of, call_by, other_by, call_of}
+use Rattle.zq_words.specs.Words.{◌>>=◌, field, lacks, bytes_of, number, read_at, text_of, payload_of, payload_word, list_word, option_of, option_word}
+use Rattle.zq_words.specs.Values.{most_8, most_16, most_32, most_64, flag_of, flag_word, face_word, zid_word, wire_of, wire_word, target_word, region_word, mode_word, bound_word, zids_word, entry_word, tree_word, all_word}
+use Rattle.zq_script.specs.Lines.{deny_of, denies_of, at_entry, at_exit, deny_text, opening_of, close_of, key_of, unkey_of, info_at, queryable_of, unqueryable_of, interest_of, uninterest_of, mark_by, mark_at, finalize_of, manner_at, ask_of, body_at, by_of, responder_of, reply_of, final_of, sent_of, poll_of, gateways_of, network_of, nodes_of, call_by, other_by, call_of}
 use Rattle.zq_script.specs.CallLines.{deny_in, deny_out, denies_words, info_words, mark_words, body_words, by_words, call_words}
 use Rattle.zq_words.specs.Fits.{IsText, IsBytes, FitsFace, FitsZid, FitsWire, FitsOption, FitsRegion}
 use Rattle.zq_script.specs.Fits.{IsNamespace, FitsOpening, FitsIds, FitsRequest, FitsResponse, FitsBody, FitsMark, FitsGateways, FitsNetwork, FitsCall}
-use Rattle.zq_words.proofs.Back.{lacks_append, cut_back, len_stop, take_front, drop_front, Ends, Reads, then, read_back, number_reads, text_reads, text_back, same_bytes, payload_back, payload_lacks, payload_some, space_escaped}
+use Rattle.zq_words.proofs.Back.{lacks_append, len_stop, take_front, drop_front, Ends, Reads, then, read_back, number_reads, text_reads, text_back, same_bytes, payload_back, payload_lacks, payload_some, space_escaped}
 use Rattle.zq_words.proofs.Lists.{Piece, each_back, OptionReads, option_reads}
 use Rattle.zq_words.proofs.ValuesBack.{face_reads, mode_reads, bound_reads, zid_reads, wire_reads, target_reads, region_reads, zids_reads, numbers_reads, entries_reads, trees_reads, all_reads}
 
@@ -94,7 +94,7 @@ queryable_back : (face : FaceId) (id : ℕ) (wire : WireExpr) (info : QueryableI
     → queryable_of (field (face_word face) ++ (field (decimal id) ++ (field (wire_word wire) ++ ((info_words info) ++ (field (decimal node)))))) ≡ Some (call.DeclareQueryable face id wire info node)
 unfolding queryable_of
 queryable_back face id wire info node f g d n = then _ (face_reads face f.face) refl (then _ (number_reads most_32 id f.id (omega arith)) refl (then _ (wire_reads wire g) refl
-      (on _ (info_back info (field (decimal node)) d refl) (then_last _ (number_reads most_16 node n (omega arith)) refl))))
+    (on _ (info_back info (field (decimal node)) d refl) (then_last _ (number_reads most_16 node n (omega arith)) refl))))
 
 wires : (o : Option WireExpr) → FitsOption FitsWire o → OptionReads wire_of wire_word o
 wires None f = tt
@@ -113,6 +113,7 @@ interest_back : (face : FaceId) (id : ℕ) (keys : Bool) (wire : Option WireExpr
     → interest_of (field (face_word face) ++ (field (decimal id) ++ (field (option_word wire_word wire) ++ (field (flag_word (codes "k") (codes "n") keys))))) ≡ Some (call.Interest face id keys wire)
 unfolding interest_of
 interest_back face id keys wire f g = then _ (face_reads face f.face) refl (then _ (number_reads most_32 id f.id (omega arith)) refl (then _ (option_wire wire g) refl (then_last _ (k_reads keys) refl)))
+
 -- words that are joined from the left, joined from the right
 nest3 : (n a b c : List ℕ) → ((n ++ a) ++ b) ++ c ≡ n ++ (a ++ (b ++ c))
 nest3 n a b c = append_assoc (n ++ a) b c ∙ append_assoc n a (b ++ c)
@@ -146,14 +147,14 @@ manner_back : (r : Request) (rest : List ℕ) → FitsRequest r → Ends rest �
 unfolding manner_at
 manner_back r rest f e =
     then _ (target_reads r.target) refl (then _ (option_reads (number most_64) decimal r.timeout refl (timeouts r.timeout f.timeout)) refl
-      (then _ (number_reads most_16 r.node f.node (omega arith)) refl (then _ (number_reads most_8 r.qos f.qos (omega arith)) e refl)))
+    (then _ (number_reads most_16 r.node f.node (omega arith)) refl (then _ (number_reads most_8 r.qos f.qos (omega arith)) e refl)))
 
 ask_back : (face : FaceId) (r : Request) (now : ℕ) → FitsFace face → FitsRequest r → now ≤ most_64
     → ask_of (field (face_word face) ++ (field (decimal r.id) ++ (field (wire_word r.wire) ++ (field (target_word r.target) ++ (field (option_word decimal r.timeout) ++ (field (decimal r.node) ++ (field (decimal r.qos) ++ (field (payload_word r.payload) ++ field (decimal now))))))))) ≡ Some (call.Request face r now)
 unfolding ask_of
 ask_back face r now f g n =
     then _ (face_reads face f) refl (then _ (number_reads most_32 r.id g.id (omega arith)) refl (then _ (wire_reads r.wire g.wire) refl
-      (on _ (manner_back r _ g refl) (then _ (bytes_reads r.payload g.payload) refl (then_last _ (number_reads most_64 now n (omega arith)) refl)))))
+    (on _ (manner_back r _ g refl) (then _ (bytes_reads r.payload g.payload) refl (then_last _ (number_reads most_64 now n (omega arith)) refl)))))
 
 key_mark : Reads (flag_of (codes "key") (codes "initial")) (codes "key") true
 key_mark = record { whole = refl; some = omega arith; value = refl }
@@ -212,7 +213,7 @@ reply_back : (face : FaceId) (r : Response) → FitsFace face → FitsResponse r
 unfolding reply_of
 reply_back face r f g =
     then _ (face_reads face f) refl (then _ (number_reads most_32 r.rid g.rid (omega arith)) refl (then _ (wire_reads r.wire g.wire) (body_ends r.payload _)
-      (on _ (body_back r.payload _ g.payload (by_ends r.responder)) (on _ (responder_back r.responder g.responder) (zero_qos face r g.qos)))))
+    (on _ (body_back r.payload _ g.payload (by_ends r.responder)) (on _ (responder_back r.responder g.responder) (zero_qos face r g.qos)))))
 
 gateways_back : (r : Region) (t : Gateways) → FitsRegion r → FitsGateways t → gateways_of (field (region_word r) ++ (field (list_word 59 entry_word t.of) ++ field (all_word t.all))) ≡ Some (call.SetGateways r t)
 unfolding gateways_of
@@ -335,8 +336,8 @@ opening_back : (o : Opening) → FitsOpening o → opening_of (field (region_wor
 unfolding opening_of
 opening_back o f =
     then _ (region_reads o.region f.region) refl (then _ (zid_reads o.zid f.zid) refl (then _ (mode_reads o.mode) refl (then _ (bound_reads o.remote_bound) refl
-      (then _ (name_reads o.namespace f.namespace) (denies_ends o.entry_deny o.exit_deny)
-        (on _ (denies_back o.entry_deny o.exit_deny f.entry_deny f.exit_deny) (same_opening o _ _ (entry_part o.entry_deny o.exit_deny) (exit_part o.entry_deny o.exit_deny)))))))
+    (then _ (name_reads o.namespace f.namespace) (denies_ends o.entry_deny o.exit_deny)
+    (on _ (denies_back o.entry_deny o.exit_deny f.entry_deny f.exit_deny) (same_opening o _ _ (entry_part o.entry_deny o.exit_deny) (exit_part o.entry_deny o.exit_deny)))))))
 
 -- a written call reads back
 pub call_back : (c : Call) → FitsCall c → call_of (call_words c) ≡ Some c

@@ -18,12 +18,10 @@ use Rattle.zq_key.specs.declared.message.DeclareBody.TheVariants as body
 use Rattle.zq_key.specs.declared.message.Declare.{Declare}
 use Rattle.zq_key.specs.declared.message.Message.{Message}
 use Rattle.zq_key.specs.declared.message.Message.TheVariants as message
-
 use Rattle.std.specs.Bool.{Decides}
-use Rattle.std.specs.Str.{bytes_eq}
 use Rattle.std.proofs.lemmas.Bool.Decides.{Decides-and, Decides-like, Decides-eqb}
 use Rattle.std.proofs.lemmas.Slice.Eq.{bytes_eq-Decides}
-use Rattle.zq_script.specs.Same.{same_number, same_flag, same_option, same_zid, same_mapping, target_place, same_target, same_reply, same_wire, same_info, same_request, same_response, same_final, same_interest, same_body, same_declare, same_message}
+use Rattle.zq_script.specs.Same.{same_number, same_flag, same_option, same_zid, same_mapping, same_target, same_reply, same_wire, same_info, same_request, same_response, same_final, same_interest, same_body, same_declare, same_message}
 
 -- two that differ in kind
 other : {X : Type 0} {a b : X} → (a ≡ b → ⊥) → Decides false (a ≡ b)
@@ -82,8 +80,8 @@ wire_from a b e0 e1 e2 =
 pub wire_same : (a b : WireExpr) → Decides (same_wire a b) (a ≡ b)
 wire_same a b =
     Decides-like _ (λ h. wire_from a b (h.0.0) (h.0.1) (h.1))
-      (λ e. ((ap (λ (x : WireExpr). x.scope) e, ap (λ (x : WireExpr). x.mapping) e), ap (λ (x : WireExpr). x.suffix) e))
-      (Decides-and _ _ (Decides-and _ _ (Decides-eqb a.scope b.scope) (mapping_same a.mapping b.mapping)) (bytes_eq-Decides a.suffix b.suffix))
+    (λ e. ((ap (λ (x : WireExpr). x.scope) e, ap (λ (x : WireExpr). x.mapping) e), ap (λ (x : WireExpr). x.suffix) e))
+    (Decides-and _ _ (Decides-and _ _ (Decides-eqb a.scope b.scope) (mapping_same a.mapping b.mapping)) (bytes_eq-Decides a.suffix b.suffix))
 
 info_from : (a b : QueryableInfoType) → a.complete ≡ b.complete → a.distance ≡ b.distance → a ≡ b
 info_from a b e0 e1 =
@@ -93,8 +91,8 @@ info_from a b e0 e1 =
 pub info_same : (a b : QueryableInfoType) → Decides (same_info a b) (a ≡ b)
 info_same a b =
     Decides-like _ (λ h. info_from a b (h.0) (h.1))
-      (λ e. (ap (λ (x : QueryableInfoType). x.complete) e, ap (λ (x : QueryableInfoType). x.distance) e))
-      (Decides-and _ _ (flag_same a.complete b.complete) (Decides-eqb a.distance b.distance))
+    (λ e. (ap (λ (x : QueryableInfoType). x.complete) e, ap (λ (x : QueryableInfoType). x.distance) e))
+    (Decides-and _ _ (flag_same a.complete b.complete) (Decides-eqb a.distance b.distance))
 
 request_from : (a b : Request) → a.id ≡ b.id → a.wire ≡ b.wire → a.target ≡ b.target → a.timeout ≡ b.timeout → a.node ≡ b.node → a.qos ≡ b.qos → a.payload ≡ b.payload → a ≡ b
 request_from a b e0 e1 e2 e3 e4 e5 e6 =
@@ -109,8 +107,8 @@ request_from a b e0 e1 e2 e3 e4 e5 e6 =
 pub request_same : (a b : Request) → Decides (same_request a b) (a ≡ b)
 request_same a b =
     Decides-like _ (λ h. request_from a b (h.0.0.0.0.0.0) (h.0.0.0.0.0.1) (h.0.0.0.0.1) (h.0.0.0.1) (h.0.0.1) (h.0.1) (h.1))
-      (λ e. ((((((ap (λ (x : Request). x.id) e, ap (λ (x : Request). x.wire) e), ap (λ (x : Request). x.target) e), ap (λ (x : Request). x.timeout) e), ap (λ (x : Request). x.node) e), ap (λ (x : Request). x.qos) e), ap (λ (x : Request). x.payload) e))
-      (Decides-and _ _ (Decides-and _ _ (Decides-and _ _ (Decides-and _ _ (Decides-and _ _ (Decides-and _ _ (Decides-eqb a.id b.id) (wire_same a.wire b.wire)) (target_same a.target b.target)) (option_same same_number number_same a.timeout b.timeout)) (Decides-eqb a.node b.node)) (Decides-eqb a.qos b.qos)) (bytes_eq-Decides a.payload b.payload))
+    (λ e. ((((((ap (λ (x : Request). x.id) e, ap (λ (x : Request). x.wire) e), ap (λ (x : Request). x.target) e), ap (λ (x : Request). x.timeout) e), ap (λ (x : Request). x.node) e), ap (λ (x : Request). x.qos) e), ap (λ (x : Request). x.payload) e))
+    (Decides-and _ _ (Decides-and _ _ (Decides-and _ _ (Decides-and _ _ (Decides-and _ _ (Decides-and _ _ (Decides-eqb a.id b.id) (wire_same a.wire b.wire)) (target_same a.target b.target)) (option_same same_number number_same a.timeout b.timeout)) (Decides-eqb a.node b.node)) (Decides-eqb a.qos b.qos)) (bytes_eq-Decides a.payload b.payload))
 
 response_from : (a b : Response) → a.rid ≡ b.rid → a.wire ≡ b.wire → a.qos ≡ b.qos → a.payload ≡ b.payload → a.responder ≡ b.responder → a ≡ b
 response_from a b e0 e1 e2 e3 e4 =
@@ -123,8 +121,8 @@ response_from a b e0 e1 e2 e3 e4 =
 pub response_same : (a b : Response) → Decides (same_response a b) (a ≡ b)
 response_same a b =
     Decides-like _ (λ h. response_from a b (h.0.0.0.0) (h.0.0.0.1) (h.0.0.1) (h.0.1) (h.1))
-      (λ e. ((((ap (λ (x : Response). x.rid) e, ap (λ (x : Response). x.wire) e), ap (λ (x : Response). x.qos) e), ap (λ (x : Response). x.payload) e), ap (λ (x : Response). x.responder) e))
-      (Decides-and _ _ (Decides-and _ _ (Decides-and _ _ (Decides-and _ _ (Decides-eqb a.rid b.rid) (wire_same a.wire b.wire)) (Decides-eqb a.qos b.qos)) (reply_same a.payload b.payload)) (option_same same_zid zid_same a.responder b.responder))
+    (λ e. ((((ap (λ (x : Response). x.rid) e, ap (λ (x : Response). x.wire) e), ap (λ (x : Response). x.qos) e), ap (λ (x : Response). x.payload) e), ap (λ (x : Response). x.responder) e))
+    (Decides-and _ _ (Decides-and _ _ (Decides-and _ _ (Decides-and _ _ (Decides-eqb a.rid b.rid) (wire_same a.wire b.wire)) (Decides-eqb a.qos b.qos)) (reply_same a.payload b.payload)) (option_same same_zid zid_same a.responder b.responder))
 
 final_from : (a b : ResponseFinal) → a.rid ≡ b.rid → a.qos ≡ b.qos → a ≡ b
 final_from a b e0 e1 =
@@ -134,8 +132,8 @@ final_from a b e0 e1 =
 pub final_same : (a b : ResponseFinal) → Decides (same_final a b) (a ≡ b)
 final_same a b =
     Decides-like _ (λ h. final_from a b (h.0) (h.1))
-      (λ e. (ap (λ (x : ResponseFinal). x.rid) e, ap (λ (x : ResponseFinal). x.qos) e))
-      (Decides-and _ _ (Decides-eqb a.rid b.rid) (Decides-eqb a.qos b.qos))
+    (λ e. (ap (λ (x : ResponseFinal). x.rid) e, ap (λ (x : ResponseFinal). x.qos) e))
+    (Decides-and _ _ (Decides-eqb a.rid b.rid) (Decides-eqb a.qos b.qos))
 
 interest_from : (a b : Interest) → a.id ≡ b.id → a.keys ≡ b.keys → a.wire ≡ b.wire → a ≡ b
 interest_from a b e0 e1 e2 =
@@ -146,8 +144,8 @@ interest_from a b e0 e1 e2 =
 pub interest_same : (a b : Interest) → Decides (same_interest a b) (a ≡ b)
 interest_same a b =
     Decides-like _ (λ h. interest_from a b (h.0.0) (h.0.1) (h.1))
-      (λ e. ((ap (λ (x : Interest). x.id) e, ap (λ (x : Interest). x.keys) e), ap (λ (x : Interest). x.wire) e))
-      (Decides-and _ _ (Decides-and _ _ (Decides-eqb a.id b.id) (flag_same a.keys b.keys)) (option_same same_wire wire_same a.wire b.wire))
+    (λ e. ((ap (λ (x : Interest). x.id) e, ap (λ (x : Interest). x.keys) e), ap (λ (x : Interest). x.wire) e))
+    (Decides-and _ _ (Decides-and _ _ (Decides-eqb a.id b.id) (flag_same a.keys b.keys)) (option_same same_wire wire_same a.wire b.wire))
 
 body_same : (a b : DeclareBody) → Decides (same_body a b) (a ≡ b)
 body_same (body.DeclareKeyExpr id wire) (body.DeclareKeyExpr id2 wire2) = Decides-like _ (λ h. cc) (λ e. (cc, cc)) (Decides-and _ _ (Decides-eqb id id2) (wire_same wire wire2))
@@ -185,8 +183,8 @@ declare_from a b e0 e1 e2 =
 pub declare_same : (a b : Declare) → Decides (same_declare a b) (a ≡ b)
 declare_same a b =
     Decides-like _ (λ h. declare_from a b (h.0.0) (h.0.1) (h.1))
-      (λ e. ((ap (λ (x : Declare). x.interest) e, ap (λ (x : Declare). x.node) e), ap (λ (x : Declare). x.body) e))
-      (Decides-and _ _ (Decides-and _ _ (option_same same_number number_same a.interest b.interest) (Decides-eqb a.node b.node)) (body_same a.body b.body))
+    (λ e. ((ap (λ (x : Declare). x.interest) e, ap (λ (x : Declare). x.node) e), ap (λ (x : Declare). x.body) e))
+    (Decides-and _ _ (Decides-and _ _ (option_same same_number number_same a.interest b.interest) (Decides-eqb a.node b.node)) (body_same a.body b.body))
 
 pub message_same : (a b : Message) → Decides (same_message a b) (a ≡ b)
 message_same (message.Interest i) (message.Interest j) = Decides-like _ (λ e. ap message.Interest e) (λ e. cc) (interest_same i j)

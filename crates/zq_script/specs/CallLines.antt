@@ -1,5 +1,5 @@
 -- How a call is written as a line.
-use Rattle.std.specs.Prelude.{ℕ, Bool, true, false, List, [], ◌∷◌, ◌++◌, Option, Some, None, codes}
+use Rattle.std.specs.Prelude.{ℕ, List, [], ◌++◌, Option, Some, None, codes}
 use Rattle.std.specs.List.{flat_map}
 use Rattle.std.specs.Fmt.{decimal}
 use Rattle.zq_key.specs.declared.message.Zid.{Zid}
@@ -12,11 +12,13 @@ use Rattle.zq_gateway.specs.declared.call.Opening.{Opening}
 use Rattle.zq_gateway.specs.declared.call.Call.{Call}
 use Rattle.zq_gateway.specs.declared.call.Call.TheVariants as call
 use Rattle.zq_words.specs.Words.{field, payload_word, list_word, option_word}
-use Rattle.zq_words.specs.Values.{flag_word, face_word, zid_word, mode_word, bound_word, target_word, region_word, wire_word, zids_word, entry_word, all_word, direction_word, tree_word}
+use Rattle.zq_words.specs.Values.{flag_word, face_word, zid_word, mode_word, bound_word, target_word, region_word, wire_word, zids_word, entry_word, all_word, tree_word}
 
+-- an item of the list of what may not come in
 abbrev pub deny_in : List ℕ → List ℕ
 deny_in text = field (codes "in:" ++ payload_word text)
 
+-- an item of the list of what may not go out
 abbrev pub deny_out : List ℕ → List ℕ
 deny_out text = field (codes "out:" ++ payload_word text)
 
@@ -24,18 +26,22 @@ deny_out text = field (codes "out:" ++ payload_word text)
 abbrev pub denies_words : List (List ℕ) → List (List ℕ) → List ℕ
 denies_words entry exit = flat_map deny_in entry ++ flat_map deny_out exit
 
+-- the words of an opening
 abbrev pub opening_words : Opening → List ℕ
 opening_words o =
     field (region_word o.region) ++ field (zid_word o.zid) ++ field (mode_word o.mode) ++ field (bound_word o.remote_bound)
     ++ field (option_word payload_word o.namespace) ++ denies_words o.entry_deny o.exit_deny
 
+-- c or p, and a distance
 abbrev pub info_words : QueryableInfoType → List ℕ
 info_words info = field (flag_word (codes "c") (codes "p") info.complete) ++ field (decimal info.distance)
 
+-- the words of a mark
 abbrev pub mark_words : FinalMark → List ℕ
 mark_words mark.Initial = field (codes "initial")
 mark_words (mark.Key text) = field (codes "key") ++ field (payload_word text)
 
+-- what a reply brings
 abbrev pub body_words : ReplyBody → List ℕ
 body_words (body.Reply payload) = field (codes "ok") ++ field (payload_word payload)
 body_words (body.Err payload) = field (codes "err") ++ field (payload_word payload)
@@ -45,6 +51,7 @@ abbrev pub by_words : Option Zid → List ℕ
 by_words None = []
 by_words (Some zid) = field (codes "by:" ++ zid_word zid)
 
+-- the line of a call
 abbrev pub call_words : Call → List ℕ
 call_words (call.Open o) = codes "open" ++ opening_words o
 call_words (call.Close face) = codes "close" ++ field (face_word face)

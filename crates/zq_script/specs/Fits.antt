@@ -1,34 +1,27 @@
 -- The calls that a line can say: numbers within their fields, and texts that are UTF-8.
-use Rattle.std.specs.Prelude.{◌≡◌, ℕ, ◌≤◌, ◌<◌, List, [], Option, Some, None, length, All, true, ⊤}
+use Rattle.std.specs.Prelude.{◌≡◌, ℕ, ◌≤◌, ◌<◌, List, length, ⊤}
 use Rattle.std.specs.List.{AllByRecursion}
-use Rattle.std.specs.Str.{is_utf8}
 use Rattle.zq_key.specs.declared.message.FaceId.{FaceId}
-use Rattle.zq_key.specs.declared.message.Zid.{Zid}
-use Rattle.zq_key.specs.declared.message.WireExpr.{WireExpr}
-use Rattle.zq_key.specs.declared.message.Region.{Region}
-use Rattle.zq_key.specs.declared.message.Region.TheVariants as region
 use Rattle.zq_key.specs.declared.message.ReplyBody.{ReplyBody}
 use Rattle.zq_key.specs.declared.message.ReplyBody.TheVariants as body
 use Rattle.zq_hat.specs.declared.types.FinalMark.{FinalMark}
 use Rattle.zq_hat.specs.declared.types.FinalMark.TheVariants as mark
-use Rattle.zq_key.specs.declared.message.QueryableInfoType.{QueryableInfoType}
 use Rattle.zq_key.specs.declared.message.Request.{Request}
 use Rattle.zq_key.specs.declared.message.Response.{Response}
-use Rattle.zq_hat.specs.declared.types.Tree.{Tree}
 use Rattle.zq_hat.specs.declared.types.Network.{Network}
-use Rattle.zq_route.specs.declared.gateways.GatewayEntry.{GatewayEntry}
 use Rattle.zq_route.specs.declared.gateways.Gateways.{Gateways}
 use Rattle.zq_gateway.specs.declared.call.Opening.{Opening}
 use Rattle.zq_gateway.specs.declared.call.Call.{Call}
 use Rattle.zq_gateway.specs.declared.call.Call.TheVariants as call
 use Rattle.zq_words.specs.Fits.{IsBytes, IsText, FitsFace, FitsZid, FitsWire, FitsOption, FitsRegion, FitsEntry, FitsTree}
-use Rattle.zq_words.specs.Values.{most_8, most_16, most_32, most_64, most_128}
+use Rattle.zq_words.specs.Values.{most_8, most_16, most_32, most_64}
 
 -- the empty namespace is written as none
 pub record IsNamespace (name : List ℕ) : Type 0 where
   pub text : IsText name
   pub some : 0 < length name
 
+-- an opening
 pub record FitsOpening (o : Opening) : Type 0 where
   pub region : FitsRegion o.region
   pub zid : FitsZid o.zid
@@ -36,14 +29,17 @@ pub record FitsOpening (o : Opening) : Type 0 where
   pub entry_deny : AllByRecursion IsText o.entry_deny
   pub exit_deny : AllByRecursion IsText o.exit_deny
 
+-- a mark
 abbrev pub FitsMark : FinalMark → Type 0
 FitsMark mark.Initial = ⊤
 FitsMark (mark.Key text) = IsText text
 
+-- what a reply brings
 abbrev pub FitsBody : ReplyBody → Type 0
 FitsBody (body.Reply payload) = IsBytes payload
 FitsBody (body.Err payload) = IsBytes payload
 
+-- a request
 pub record FitsRequest (r : Request) : Type 0 where
   pub id : r.id ≤ most_32
   pub wire : FitsWire r.wire
@@ -52,6 +48,7 @@ pub record FitsRequest (r : Request) : Type 0 where
   pub qos : r.qos ≤ most_8
   pub payload : IsBytes r.payload
 
+-- a reply, whose line has no quality byte
 pub record FitsResponse (r : Response) : Type 0 where
   pub rid : r.rid ≤ most_32
   pub wire : FitsWire r.wire
@@ -59,10 +56,12 @@ pub record FitsResponse (r : Response) : Type 0 where
   pub payload : FitsBody r.payload
   pub responder : FitsOption FitsZid r.responder
 
+-- the gateways of a region
 pub record FitsGateways (table : Gateways) : Type 0 where
   pub of : AllByRecursion FitsEntry table.of
   pub all : FitsOption (AllByRecursion FitsZid) table.all
 
+-- the routers of a region
 pub record FitsNetwork (net : Network) : Type 0 where
   pub nodes : AllByRecursion FitsZid net.nodes
   pub trees : AllByRecursion FitsTree net.trees
@@ -73,6 +72,7 @@ pub record FitsIds (f : FaceId) (n most : ℕ) : Type 0 where
   pub face : FitsFace f
   pub id : n ≤ most
 
+-- a call that a line can say
 abbrev pub FitsCall : Call → Type 0
 FitsCall (call.Open o) = FitsOpening o
 FitsCall (call.Close face) = FitsFace face

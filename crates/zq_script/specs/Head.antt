@@ -48,6 +48,7 @@ entry_of word = if bytes_eq word (codes "local") then Some entry.Local else or_s
 abbrev pub entry_word_of : List ℕ → Option EntryWord
 entry_word_of word = entry_of word >>= (λ e. Some (record { 0 = e }))
 
+-- the entry that the word says
 abbrev pub entry_in : EntryWord → Entry
 entry_in word = word.0
 
@@ -97,6 +98,7 @@ abbrev pub unless_bad : Option BadConfig → Settings → Result Settings ℕ
 unless_bad None config = Ok config
 unless_bad (Some b) config = Err 1
 
+-- the configuration of a config line with these counters
 abbrev pub configured : Zid × ℕ × List Entry → Counters → Result Settings ℕ
 configured c start = unless_bad (bad_config c.2) (record { zid = c.0; entries = c.2; timeout = c.1; start = start })
 
@@ -104,6 +106,7 @@ configured c start = unless_bad (bad_config c.2) (record { zid = c.0; entries = 
 abbrev pub Head : Type 0
 Head = Settings × List ℕ × ℕ × List (List ℕ)
 
+-- the head with this configuration
 abbrev pub headed : List ℕ → ℕ → List (List ℕ) → Result Settings ℕ → Result Head ℕ
 headed text number lines (Ok config) = Ok (config, text, number, lines)
 headed text number lines (Err n) = Err n
@@ -113,6 +116,7 @@ abbrev pub with_start : List ℕ → List (List ℕ) → Zid × ℕ × List Entr
 with_start line lines c None = headed (ended line) 2 lines (configured c no_counts)
 with_start line lines c (Some s) = headed (ended line ++ ended s.1) 3 s.2 (configured c s.0)
 
+-- the head of which the first line is this one
 abbrev pub with_config : List ℕ → List (List ℕ) → Option (Zid × ℕ × List Entry) → Result Head ℕ
 with_config line lines None = Err 1
 with_config line lines (Some c) = with_start line lines c (start_at lines)

@@ -1,30 +1,24 @@
 -- The lines of a script: which call a line says, and how a call is written.
-use Rattle.std.specs.Prelude.{ℕ, ◌+◌, ◌-◌, Bool, true, false, ◌&&◌, ◌==◌, nat_le, nat_lt, not, List, [], ◌∷◌, ◌++◌, Option, Some, None, if◌then◌else◌, drop, take, length, codes, map, filter}
-use Rattle.std.specs.List.{flat_map}
+use Rattle.std.specs.Prelude.{ℕ, Bool, true, false, ◌==◌, not, List, [], ◌∷◌, Option, Some, None, if◌then◌else◌, drop, take, codes, map, filter}
 use Rattle.std.specs.Str.{bytes_eq}
-use Rattle.std.specs.Fmt.{decimal}
-use Rattle.zq_key.specs.declared.message.FaceId.{FaceId}
 use Rattle.zq_key.specs.declared.message.Zid.{Zid}
-use Rattle.zq_key.specs.declared.message.WireExpr.{WireExpr}
 use Rattle.zq_key.specs.declared.message.QueryableInfoType.{QueryableInfoType}
 use Rattle.zq_key.specs.declared.message.QueryTarget.{QueryTarget}
 use Rattle.zq_key.specs.declared.message.ReplyBody.{ReplyBody}
 use Rattle.zq_key.specs.declared.message.ReplyBody.TheVariants as body
 use Rattle.zq_hat.specs.declared.types.FinalMark.{FinalMark}
 use Rattle.zq_hat.specs.declared.types.FinalMark.TheVariants as mark
-use Rattle.zq_route.specs.declared.gateways.Gateways.{Gateways}
-use Rattle.zq_hat.specs.declared.types.Network.{Network}
-use Rattle.zq_gateway.specs.declared.call.Opening.{Opening}
 use Rattle.zq_gateway.specs.declared.call.Call.{Call}
 use Rattle.zq_gateway.specs.declared.call.Call.TheVariants as call
-use Rattle.zq_words.specs.Words.{◌>>=◌, len_to, cut, pieces, number, word_at, read_at, read_each, at_end, text_of, bytes_of, list_of, list_word, option_of, option_word}
-use Rattle.zq_words.specs.Values.{most_8, most_16, most_32, most_64, flag_of, flag_word, face_of, face_word, zid_of, zid_word, mode_of, mode_word, bound_of, bound_word, target_of, target_word, behind, region_of, region_word, wire_of, wire_word, zids_of, zids_word, entry_of, entry_word, all_of, all_word, direction_of, direction_word, tree_of, tree_word}
+use Rattle.zq_words.specs.Words.{◌>>=◌, len_to, cut, pieces, number, read_at, read_each, at_end, text_of, bytes_of, list_of, option_of}
+use Rattle.zq_words.specs.Values.{most_8, most_16, most_32, most_64, flag_of, face_of, zid_of, mode_of, bound_of, target_of, behind, region_of, wire_of, zids_of, entry_of, all_of, tree_of}
 use Rattle.zq_script.specs.declared.lines.Deny.{Deny}
 
 -- REGION Z MODE BOUND NS and then the entries of the two lists
 abbrev pub deny_side : List ℕ → Option Bool
 deny_side word = flag_of (codes "in") (codes "out") word
 
+-- `in:TEXT` or `out:TEXT`
 unfoldable pub deny_of : List ℕ → Option Deny
 deny_of word = do
   parts ← cut 58 word
@@ -37,15 +31,19 @@ abbrev pub denies_of : List ℕ → Option (List Deny)
 denies_of [] = Some []
 denies_of (b ∷ bytes) = if b == 32 then read_each deny_of (pieces 32 bytes) else None
 
+-- the item is of what may not come in
 abbrev pub at_entry : Deny → Bool
 at_entry d = d.entry
 
+-- the item is of what may not go out
 abbrev pub at_exit : Deny → Bool
 at_exit d = not d.entry
 
+-- the text of the item
 abbrev pub deny_text : Deny → List ℕ
 deny_text d = d.text
 
+-- `open REGION Z MODE BOUND NS ITEM ..`
 unfoldable pub opening_of : List ℕ → Option Call
 opening_of bytes = do
   region ← read_at region_of bytes
@@ -56,11 +54,13 @@ opening_of bytes = do
   denies ← denies_of namespace.1
   Some (call.Open (record { region = region.0; zid = zid.0; mode = strategy.0; remote_bound = remote.0; namespace = namespace.0; entry_deny = map deny_text (filter at_entry denies); exit_deny = map deny_text (filter at_exit denies) }))
 
+-- `close F`
 unfoldable pub close_of : List ℕ → Option Call
 close_of bytes = do
   face ← read_at face_of bytes
   at_end face.1 (call.Close face.0)
 
+-- `key F NUM WIRE`
 unfoldable pub key_of : List ℕ → Option Call
 key_of bytes = do
   face ← read_at face_of bytes
@@ -68,6 +68,7 @@ key_of bytes = do
   wire ← read_at wire_of id.1
   at_end wire.1 (call.DeclareKeyExpr face.0 id.0 wire.0)
 
+-- `unkey F NUM`
 unfoldable pub unkey_of : List ℕ → Option Call
 unkey_of bytes = do
   face ← read_at face_of bytes
@@ -81,6 +82,7 @@ info_at bytes = do
   distance ← read_at (number most_16) complete.1
   Some (record { complete = complete.0; distance = distance.0 }, distance.1)
 
+-- `queryable F NUM WIRE c DIST NODE`
 unfoldable pub queryable_of : List ℕ → Option Call
 queryable_of bytes = do
   face ← read_at face_of bytes
@@ -90,6 +92,7 @@ queryable_of bytes = do
   node ← read_at (number most_16) info.1
   at_end node.1 (call.DeclareQueryable face.0 id.0 wire.0 info.0 node.0)
 
+-- `unqueryable F NUM OPT-WIRE NODE`
 unfoldable pub unqueryable_of : List ℕ → Option Call
 unqueryable_of bytes = do
   face ← read_at face_of bytes
@@ -98,6 +101,7 @@ unqueryable_of bytes = do
   node ← read_at (number most_16) wire.1
   at_end node.1 (call.UndeclareQueryable face.0 id.0 wire.0 node.0)
 
+-- `interest F NUM OPT-WIRE k`
 unfoldable pub interest_of : List ℕ → Option Call
 interest_of bytes = do
   face ← read_at face_of bytes
@@ -106,6 +110,7 @@ interest_of bytes = do
   keys ← read_at (flag_of (codes "k") (codes "n")) wire.1
   at_end keys.1 (call.Interest face.0 id.0 keys.0 wire.0)
 
+-- `uninterest F NUM`
 unfoldable pub uninterest_of : List ℕ → Option Call
 uninterest_of bytes = do
   face ← read_at face_of bytes
@@ -119,11 +124,13 @@ mark_by true bytes = do
   Some (mark.Key text.0, text.1)
 mark_by false bytes = Some (mark.Initial, bytes)
 
+-- `initial`, or `key TEXT`
 unfoldable pub mark_at : List ℕ → Option (FinalMark × List ℕ)
 mark_at bytes = do
   kind ← read_at (flag_of (codes "key") (codes "initial")) bytes
   mark_by kind.0 kind.1
 
+-- `finalize F MARK 1`
 unfoldable pub finalize_of : List ℕ → Option Call
 finalize_of bytes = do
   face ← read_at face_of bytes
@@ -140,6 +147,7 @@ manner_at bytes = do
   qos ← read_at (number most_8) node.1
   Some (target.0, timeout.0, node.0, qos.0, qos.1)
 
+-- `ask F ID WIRE TARGET OPT-TIMEOUT NODE QOS PAYLOAD NOW`
 unfoldable pub ask_of : List ℕ → Option Call
 ask_of bytes = do
   face ← read_at face_of bytes
@@ -150,10 +158,12 @@ ask_of bytes = do
   now ← read_at (number most_64) payload.1
   at_end now.1 (call.Request face.0 (record { id = id.0; wire = wire.0; target = manner.0; timeout = manner.1; node = manner.2; qos = manner.3; payload = payload.0 }) now.0)
 
+-- a reply, or an error
 abbrev pub body_by : Bool → List ℕ → ReplyBody
 body_by true payload = body.Reply payload
 body_by false payload = body.Err payload
 
+-- `ok PAYLOAD` or `err PAYLOAD`
 unfoldable pub body_at : List ℕ → Option (ReplyBody × List ℕ)
 body_at bytes = do
   kind ← read_at (flag_of (codes "ok") (codes "err")) bytes
@@ -174,6 +184,7 @@ responder_of (b ∷ bytes) = do
   zid ← read_at by_of (b ∷ bytes)
   at_end zid.1 (Some zid.0)
 
+-- `reply F ID WIRE ok PAYLOAD`, and maybe `by:Z`
 unfoldable pub reply_of : List ℕ → Option Call
 reply_of bytes = do
   face ← read_at face_of bytes
@@ -183,22 +194,26 @@ reply_of bytes = do
   responder ← responder_of payload.1
   Some (call.Response face.0 (record { rid = id.0; wire = wire.0; qos = 0; payload = payload.0; responder = responder }))
 
+-- `final F ID`
 unfoldable pub final_of : List ℕ → Option Call
 final_of bytes = do
   face ← read_at face_of bytes
   id ← read_at (number most_32) face.1
   at_end id.1 (call.ResponseFinal face.0 id.0)
 
+-- `sent NUM`
 unfoldable pub sent_of : List ℕ → Option Call
 sent_of bytes = do
   reply ← read_at (number most_64) bytes
   at_end reply.1 (call.Sent reply.0)
 
+-- `poll NOW`
 unfoldable pub poll_of : List ℕ → Option Call
 poll_of bytes = do
   now ← read_at (number most_64) bytes
   at_end now.1 (call.Poll now.0)
 
+-- `gateways REGION ENTRIES ALL`
 unfoldable pub gateways_of : List ℕ → Option Call
 gateways_of bytes = do
   region ← read_at region_of bytes
@@ -206,6 +221,7 @@ gateways_of bytes = do
   others ← read_at all_of entries.1
   at_end others.1 (call.SetGateways region.0 (record { of = entries.0; all = others.0 }))
 
+-- `network REGION NODES TREES DISTANCES`
 unfoldable pub network_of : List ℕ → Option Call
 network_of bytes = do
   region ← read_at region_of bytes
@@ -214,6 +230,7 @@ network_of bytes = do
   distances ← read_at (list_of 44 (number most_16)) trees.1
   at_end distances.1 (call.SetNetwork region.0 (record { nodes = nodes.0; trees = trees.0; distances = distances.0 }))
 
+-- `nodes F LIST`
 unfoldable pub nodes_of : List ℕ → Option Call
 nodes_of bytes = do
   face ← read_at face_of bytes
@@ -247,5 +264,6 @@ call_by head bytes =
     else (if bytes_eq head (codes "finalize") then finalize_of bytes
     else other_by head bytes))))))))
 
+-- the call that a line says
 abbrev pub call_of : List ℕ → Option Call
 call_of line = call_by (take (len_to 32 line) line) (drop (len_to 32 line) line)

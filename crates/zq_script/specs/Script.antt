@@ -71,6 +71,7 @@ abbrev pub made : Head → Result (List (List Call)) ℕ → Result Script ℕ
 made head (Ok parts) = Ok (record { head = head.1; config = head.0; parts = parts })
 made head (Err n) = Err n
 
+-- the script of a head, with its parts
 abbrev pub with_parts : ℕ → Result Head ℕ → Result Script ℕ
 with_parts workers (Ok head) = made head (parts_of head.0 head.2 workers head.3)
 with_parts workers (Err n) = Err n
@@ -79,11 +80,12 @@ with_parts workers (Err n) = Err n
 abbrev pub script_of : ℕ → List (List ℕ) → Result Script ℕ
 script_of workers lines = with_parts workers (head_of lines)
 
--- what the call answered is what reading gives, unless memory ran out
+-- the refusal is what reading gives
 abbrev pub Refuses : {X : Type 0} → ScriptRefusal → Result X ℕ → Type 0
 Refuses (refusal.BadLine n) read = read ≡ Err n
 Refuses refusal.OutOfMemory read = Unit {0}
 
+-- what the call answered is what reading gives, unless memory ran out
 abbrev pub Gives : {X : Type 0} → Result X ScriptRefusal → Result X ℕ → Type 0
 Gives (Ok x) read = read ≡ Ok x
 Gives (Err e) read = Refuses e read

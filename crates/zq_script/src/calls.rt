@@ -132,7 +132,13 @@ pub fn push_call(out: &mut String, call: &Call) -> Result<(), AllocError>
             push_field(out, face)?;
             push_field(out, id)
         }
-        Call::DeclareQueryable { face, id, wire, info, node } => {
+        Call::DeclareQueryable {
+            face,
+            id,
+            wire,
+            info,
+            node,
+        } => {
             write!(out, "queryable")?;
             push_field(out, face)?;
             push_field(out, id)?;
@@ -140,14 +146,24 @@ pub fn push_call(out: &mut String, call: &Call) -> Result<(), AllocError>
             push_info(out, info)?;
             push_field(out, node)
         }
-        Call::UndeclareQueryable { face, id, wire, node } => {
+        Call::UndeclareQueryable {
+            face,
+            id,
+            wire,
+            node,
+        } => {
             write!(out, "unqueryable")?;
             push_field(out, face)?;
             push_field(out, id)?;
             push_field(out, wire)?;
             push_field(out, node)
         }
-        Call::Interest { face, id, keys, wire } => {
+        Call::Interest {
+            face,
+            id,
+            keys,
+            wire,
+        } => {
             write!(out, "interest")?;
             push_field(out, face)?;
             push_field(out, id)?;

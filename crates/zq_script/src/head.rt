@@ -208,10 +208,7 @@ fn push_ended(text: &mut Vec<u8>, line: &[u8]) -> Result<(), OutOfMemory>
 
 /// The configuration, the lines before the calls, each ended by a newline, the number of the next
 /// line, and what stands from there on.
-pub fn head_of(
-    alloc: Global,
-    bytes: &[u8],
-) -> Result<(Config, Bytes, u64, &[u8]), ScriptRefusal>
+pub fn head_of(alloc: Global, bytes: &[u8]) -> Result<(Config, Bytes, u64, &[u8]), ScriptRefusal>
     ensures value { MatchResult result (λ t. head_of (lines_of bytes.now) ≡ Ok (t.0, t.1, t.2, lines_of t.3.now)) (λ e. Refuses e (head_of (lines_of bytes.now))) }
     ensures small { IfOk result (λ t. t.2 ≤ 3) }
     ensures shorter { IfOk result (λ t. length t.3.now ≤ length bytes.now) }

@@ -277,7 +277,11 @@ fn uninterest_of(alloc: Global, bytes: &[u8]) -> Result<Option<Call>, OutOfMemor
 }
 
 #[tactic(auto, unfolding(crate::specs::Lines::mark_by))]
-fn mark_by(alloc: Global, key: bool, bytes: &[u8]) -> Result<Option<(FinalMark, &[u8])>, OutOfMemory>
+fn mark_by(
+    alloc: Global,
+    key: bool,
+    bytes: &[u8],
+) -> Result<Option<(FinalMark, &[u8])>, OutOfMemory>
     ensures { IfOk result (λ o. option_map (λ t. (t.0, t.1.now)) o ≡ mark_by key bytes.now) }
 {
     if !key {
@@ -320,7 +324,10 @@ fn finalize_of(alloc: Global, bytes: &[u8]) -> Result<Option<Call>, OutOfMemory>
 
 /// What stands between the expression and the payload of a request.
 #[tactic(auto, unfolding(crate::specs::Lines::manner_at))]
-fn manner_at(alloc: Global, bytes: &[u8]) -> Result<Option<(QueryTarget, Option<u64>, u16, u8, &[u8])>, OutOfMemory>
+fn manner_at(
+    alloc: Global,
+    bytes: &[u8],
+) -> Result<Option<(QueryTarget, Option<u64>, u16, u8, &[u8])>, OutOfMemory>
     ensures { IfOk result (λ o. option_map (λ t. (t.0, t.1, t.2, t.3, t.4.now)) o ≡ manner_at bytes.now) }
 {
     let Some((target, rest)) = read_at::<QueryTarget>(alloc, bytes)? else {

@@ -124,9 +124,13 @@ fn same_body(a: &DeclareBody, b: &DeclareBody) -> bool
 {
     use DeclareBody::*;
     match (a, b) {
-        (DeclareKeyExpr { id, wire }, DeclareKeyExpr { id: id2, wire: wire2 }) => {
-            id == id2 && same_wire(wire, wire2)
-        }
+        (
+            DeclareKeyExpr { id, wire },
+            DeclareKeyExpr {
+                id: id2,
+                wire: wire2,
+            },
+        ) => { id == id2 && same_wire(wire, wire2) }
         (UndeclareKeyExpr { id }, UndeclareKeyExpr { id: id2 }) => id == id2,
         (
             DeclareQueryable { id, wire, info },
@@ -136,9 +140,13 @@ fn same_body(a: &DeclareBody, b: &DeclareBody) -> bool
                 info: info2,
             },
         ) => id == id2 && same_wire(wire, wire2) && same_info(info, info2),
-        (UndeclareQueryable { id, wire }, UndeclareQueryable { id: id2, wire: wire2 }) => {
-            id == id2 && same_option_wire(wire, wire2)
-        }
+        (
+            UndeclareQueryable { id, wire },
+            UndeclareQueryable {
+                id: id2,
+                wire: wire2,
+            },
+        ) => { id == id2 && same_option_wire(wire, wire2) }
         (DeclareFinal, DeclareFinal) => true,
         _ => false,
     }

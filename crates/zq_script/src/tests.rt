@@ -74,7 +74,11 @@ fn first_bad_lines(rt: HostRuntime) -> Result<(), Fail> {
         ("config 1 10000 local\n", 0, 1),
         ("config 1 10000 north:client south:256:peer\n", 0, 1),
         ("config 1 10000 north:client\n\n", 0, 2),
-        ("config 1 10000 north:client\nstart 0 0 0 0 0\nstart 0 0 0 0 0\n", 0, 3),
+        (
+            "config 1 10000 north:client\nstart 0 0 0 0 0\nstart 0 0 0 0 0\n",
+            0,
+            3,
+        ),
         ("config 1 10000 north:client\nsent 0\nworker\n", 0, 3),
         ("config 1 10000 north:client\nworker\nsent 0\n", 1, 3),
         ("config 1 10000 north:client\nworker\nworker", 1, 3),
@@ -123,9 +127,13 @@ fn steps_are_printed(rt: HostRuntime) -> Result<(), Fail> {
         handed: list,
     };
     let printed = print_steps(alloc, vec![in alloc; step]?.as_slice())?;
-    let want = b"= replied -\n> 1 0 - final 7 0\n> 1 0 - final 7 0\n< final 8 0\n> 1 0 - final 7 0\n< -\n";
+    let want =
+        b"= replied -\n> 1 0 - final 7 0\n> 1 0 - final 7 0\n< final 8 0\n> 1 0 - final 7 0\n< -\n";
     assert_eq!(rt; printed.as_slice(), want.as_slice());
-    assert_eq!(rt; print_message(alloc, &handed(7, None).message)?.as_slice(), b"final 7 0".as_slice());
+    assert_eq!(rt;
+        print_message(alloc, &handed(7, None).message)?.as_slice(),
+        b"final 7 0".as_slice()
+    );
     Ok(())
 }
 

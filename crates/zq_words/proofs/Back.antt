@@ -1,13 +1,12 @@
 -- A written word reads back.
 use Rattle.std.proofs.Common.{◌≡◌, ℕ, ◌+◌, ◌*◌, ◌-◌, ◌/◌, ◌%◌, ◌^◌, ◌≤◌, ◌<◌, List, [], ◌∷◌, ◌++◌, Option, Some, None, refl, ap, ◌∙◌, sym, arith, length, take, drop, get_or, Bool, true, false, cond, length-append, suc, zero, ne_eqb}
-use Rattle.std.proofs.lemmas.Bool.{and_parts}
 use Rattle.std.proofs.lemmas.Bool.Decides.{nat_tests}
 use Rattle.std.proofs.lemmas.Grind.{common_steps}
 use Rattle.std.proofs.lemmas.Fmt.{decimal_by_steps_wide, decimal_digit}
-use Rattle.std.specs.Prelude.{◌&&◌, ◌==◌, not, nat_le, codes, All, IsUtf8}
+use Rattle.std.specs.Prelude.{◌&&◌, ◌==◌, nat_le, codes, All}
 use Rattle.std.specs.List.{list_all}
 use Rattle.std.specs.Fmt.{decimal}
-use Rattle.std.specs.Str.{bytes_eq, is_utf8}
+use Rattle.std.specs.Str.{bytes_eq}
 use Rattle.std.proofs.lemmas.List.Elements.{All-head, All-tail}
 use Rattle.percent_encoding.specs.AsciiSet.{contains, should_percent_encode}
 use Rattle.percent_encoding.specs.Percent.{percent_encode, percent_decode}
@@ -105,20 +104,22 @@ first_more (d ∷ ds) xs e = refl
 digits_of : (most n : ℕ) → n < 10 ^ 64 → Digits most n (decimal n)
 digits_of most n small =
     decimal_by_steps_wide (Digits most)
-      (λ (n : ℕ) (h : n < 10). record {
-        value = λ fits. cond_some _ _ _ (is_on 0 n most h (omega arith)) (omega arith);
-        first = λ h. omega arith;
-        some = omega arith;
-        digits = grind (arith, digit_is n h) })
-      (λ (n : ℕ) (ds : List ℕ) (h : 10 ≤ n) (p : Digits most (n / 10) ds).
-        let d : n % 10 < 10 = omega arith in
-        let e : 10 * (n / 10) + n % 10 ≡ n = omega arith in
-        record {
-          value = λ fits. number_more most (n / 10) (n % 10) ds d (omega arith) 0 (p.value (omega arith)) ∙ ap Some e;
-          first = λ k. rw (first_more ds ((48 + n % 10) ∷ []) p.some) (p.first (omega arith));
-          some = omega (arith, length-append {A = ℕ});
-          digits = all_more ds (n % 10) d p.digits })
-      n small
+    (λ (n : ℕ) (h : n < 10). record {
+      value = λ fits. cond_some _ _ _ (is_on 0 n most h (omega arith)) (omega arith);
+      first = λ h. omega arith;
+      some = omega arith;
+      digits = grind (arith, digit_is n h);
+    })
+    (λ (n : ℕ) (ds : List ℕ) (h : 10 ≤ n) (p : Digits most (n / 10) ds).
+    let d : n % 10 < 10 = omega arith in
+    let e : 10 * (n / 10) + n % 10 ≡ n = omega arith in
+    record {
+      value = λ fits. number_more most (n / 10) (n % 10) ds d (omega arith) 0 (p.value (omega arith)) ∙ ap Some e;
+      first = λ k. rw (first_more ds ((48 + n % 10) ∷ []) p.some) (p.first (omega arith));
+      some = omega (arith, length-append {A = ℕ});
+      digits = all_more ds (n % 10) d p.digits;
+    })
+    n small
 
 cond_else : (b : Bool) (y z : Option ℕ) → b ≡ false → y ≡ z → cond b None y ≡ z
 cond_else true y z e f = cc

@@ -1,5 +1,5 @@
 -- Small facts on places and texts.
-use Rattle.std.proofs.Common.{◌≡◌, ℕ, ◌≤◌, ◌<◌, List, Option, Some, None, refl, arith, length, Bool, true, false, cond, ltb-false}
+use Rattle.std.proofs.Common.{◌≡◌, ℕ, List, Some, None, refl, arith, length, Bool, true, false, cond, ltb-false}
 use Rattle.std.specs.Prelude.{not}
 use Rattle.std.specs.List.{position, position_or_len}
 use Rattle.std.specs.Str.{IsUtf8, is_utf8}
@@ -18,9 +18,6 @@ position_none p xs e = omega (arith, ltb-false _ _ (none_false _ _ e), prefix_le
 -- a string is UTF-8
 pub string_utf8 : {Z : Type 0} (s : String Z) → is_utf8 (string_bytes s) ≡ true
 string_utf8 s = is_utf8-from_IsUtf8 (string_bytes s) (IsUtf8-string_bytes s)
-
-pub is_utf8_of : (bs : List ℕ) → IsUtf8 bs → is_utf8 bs ≡ true
-is_utf8_of bs u = is_utf8-from_IsUtf8 bs u
 
 not_true : (bs : List ℕ) (b : Bool) → is_utf8 bs ≡ b → (IsUtf8 bs → ⊥) → b ≡ false
 not_true bs true e wrong = absurd (wrong (IsUtf8-from_is_utf8 bs e))

@@ -1,13 +1,11 @@
 -- A written list reads back.
-use Rattle.std.proofs.Common.{◌≡◌, ℕ, ◌+◌, ◌≤◌, ◌<◌, List, [], ◌∷◌, ◌++◌, Option, Some, None, refl, ap, ◌∙◌, sym, arith, length, Bool, true, false, append_assoc, length-append}
-use Rattle.std.proofs.lemmas.Bool.{and_parts}
-use Rattle.std.proofs.lemmas.Bool.Decides.{nat_tests}
+use Rattle.std.proofs.Common.{◌≡◌, ℕ, ◌<◌, List, [], ◌∷◌, ◌++◌, Option, Some, None, refl, ap, ◌∙◌, sym, arith, length, Bool, true, false, length-append}
 use Rattle.std.proofs.lemmas.List.{append-nil}
-use Rattle.std.specs.Prelude.{◌==◌, not, ◌&&◌, codes}
+use Rattle.std.specs.Prelude.{◌==◌, codes}
 use Rattle.std.specs.Str.{bytes_eq}
 use Rattle.std.specs.List.{AllByRecursion}
-use Rattle.zq_words.specs.Words.{◌>>=◌, cut, pieces, read_each, rest_word, list_of, list_word, option_of, option_word, lacks}
-use Rattle.zq_words.proofs.Back.{lacks_append, cut_back, len_end, Reads, same_bytes}
+use Rattle.zq_words.specs.Words.{pieces, read_each, rest_word, list_of, list_word, option_of, option_word, lacks}
+use Rattle.zq_words.proofs.Back.{lacks_append, cut_back, Reads, same_bytes}
 use Rattle.zq_words.proofs.Split.{pieces_cut, pieces_whole, cut_whole}
 
 -- the piece stands for this

@@ -1,11 +1,9 @@
 -- Bytes that are cut from the left, and their pieces.
-use Rattle.std.proofs.Common.{◌≡◌, ℕ, ◌+◌, ◌-◌, ◌≤◌, ◌<◌, List, [], ◌∷◌, ◌++◌, Option, Some, None, refl, ap, ◌∙◌, sym, arith, length, take, drop, Bool, true, false, cond, append_assoc}
-use Rattle.std.proofs.lemmas.Bool.Decides.{nat_tests}
+use Rattle.std.proofs.Common.{◌≡◌, ℕ, ◌+◌, List, [], ◌∷◌, ◌++◌, Option, Some, None, refl, ap, ◌∙◌, sym, arith, length, take, drop, Bool, true, false, append_assoc}
 use Rattle.std.proofs.lemmas.Grind.{common_steps}
 use Rattle.std.specs.Prelude.{◌==◌, unwrap_or}
-use Rattle.std.specs.List.{onto_first, slice_split}
 use Rattle.zq_words.proofs.Back.{len_end}
-use Rattle.zq_words.specs.Words.{◌>>=◌, len_to, after_cut, cut, pieces, read_each, put_all, lacks}
+use Rattle.zq_words.specs.Words.{◌>>=◌, len_to, after_cut, cut, pieces, put_all, lacks}
 
 pub after_none : (f g rest : List ℕ) → after_cut f rest ≡ None → after_cut g rest ≡ None
 after_none f g [] e = refl

@@ -1,9 +1,9 @@
 -- Known bytes over several reads or writes.
-use Rattle.std.proofs.Common.{◌≡◌, ℕ, ◌+◌, ◌≤◌, ◌<◌, List, [], ◌++◌, Option, Some, None, ap, ◌∙◌, sym, append_assoc, length, take, refl, arith, length-append}
+use Rattle.std.proofs.Common.{◌≡◌, ℕ, ◌+◌, ◌<◌, List, [], ◌++◌, Option, Some, None, ap, ◌∙◌, sym, append_assoc, length, take, refl, arith, length-append}
 use Rattle.std.proofs.lemmas.List.{append-nil, take-append-drop, drop-take}
 use Rattle.std.proofs.lemmas.Grind.{common_steps}
 use Rattle.std.proofs.Common.{drop, Bool, true, false, ◌-◌, ◌^◌, inl, inr}
-use Rattle.std.specs.Prelude.{min, nat_lt, ◌⊎◌}
+use Rattle.std.specs.Prelude.{min, nat_lt}
 use Rattle.std.proofs.lemmas.Bool.Decides.{nat_tests}
 use Rattle.std.specs.Io.KnownBytes.{Consumes, Appends}
 use Rattle.zq_words.specs.Streams.{Rose, IsLonger}

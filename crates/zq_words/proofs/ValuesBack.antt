@@ -1,6 +1,5 @@
 -- Each written value reads back.
-use Rattle.std.proofs.Common.{◌≡◌, ℕ, ◌+◌, ◌≤◌, ◌<◌, ◌^◌, List, [], ◌∷◌, ◌++◌, Option, Some, None, refl, ap, ◌∙◌, sym, arith, length, Bool, true, false, append_assoc, length-append}
-use Rattle.std.proofs.lemmas.Bool.Decides.{nat_tests}
+use Rattle.std.proofs.Common.{◌≡◌, ℕ, ◌≤◌, ◌<◌, ◌^◌, List, [], ◌∷◌, ◌++◌, Option, Some, None, refl, arith, length, true, false, append_assoc, length-append}
 use Rattle.std.specs.Prelude.{◌==◌, codes}
 use Rattle.std.specs.Fmt.{decimal}
 use Rattle.std.specs.List.{AllByRecursion}
@@ -19,11 +18,11 @@ use Rattle.zq_key.specs.declared.message.QueryTarget.{QueryTarget}
 use Rattle.zq_key.specs.declared.message.QueryTarget.TheVariants as target
 use Rattle.zq_hat.specs.declared.types.Tree.{Tree}
 use Rattle.zq_route.specs.declared.gateways.GatewayEntry.{GatewayEntry}
-use Rattle.zq_words.specs.Words.{◌>>=◌, cut, is_digit, number, text_of, payload_word, list_of, list_word, option_of, option_word, lacks}
-use Rattle.zq_words.specs.Values.{most_8, most_16, most_32, most_64, most_128, flag_of, flag_word, face_of, face_word, zid_of, zid_word, mode_of, mode_word, bound_of, bound_word, target_of, target_word, behind, south_of, region_of, region_word, mapping_of, mapping_word, wire_of, wire_word, zids_of, zids_word, entry_of, entry_word, all_of, all_word, direction_of, direction_word, tree_of, tree_word}
-use Rattle.zq_words.specs.Fits.{IsText, FitsFace, FitsZid, FitsWire, FitsOption, FitsRegion, FitsEntry, FitsTree}
-use Rattle.zq_words.proofs.Back.{lacks_append, cut_back, Reads, number_value, number_reads, decimal_lacks, decimal_some, text_back, text_reads, payload_lacks, payload_some, space_escaped}
-use Rattle.zq_words.proofs.Lists.{Piece, not_name, list_back, list_reads, list_lacks, list_some, OptionReads, option_reads}
+use Rattle.zq_words.specs.Words.{is_digit, number, payload_word, list_of, list_word, lacks}
+use Rattle.zq_words.specs.Values.{most_16, most_32, most_128, face_of, face_word, zid_of, zid_word, mode_of, mode_word, bound_of, bound_word, target_of, target_word, south_of, region_of, region_word, mapping_of, mapping_word, wire_of, wire_word, zids_of, zids_word, entry_of, entry_word, all_of, all_word, direction_of, direction_word, tree_of, tree_word}
+use Rattle.zq_words.specs.Fits.{FitsFace, FitsZid, FitsWire, FitsOption, FitsRegion, FitsEntry, FitsTree}
+use Rattle.zq_words.proofs.Back.{lacks_append, cut_back, Reads, number_value, decimal_lacks, decimal_some, text_back, payload_lacks, space_escaped}
+use Rattle.zq_words.proofs.Lists.{Piece, not_name, list_back, list_reads, list_lacks}
 
 pub face_reads : (face : FaceId) → FitsFace face → Reads face_of (face_word face) face
 face_reads face f = record {
@@ -70,11 +69,13 @@ some_between u w byte = omega (arith, length-append {A = ℕ})
 wire_value : (w : WireExpr) → FitsWire w → wire_of (wire_word w) ≡ Some w
 unfolding wire_of
 wire_value w f = simp append_assoc (
-    rw (cut_back 58 (decimal w.scope) _ (decimal_lacks 58 w.scope (omega (arith, f.scope)) refl),
-        number_value most_16 w.scope f.scope (omega arith),
-        cut_back 58 (mapping_word w.mapping) (payload_word w.suffix) (mapping_lacks w.mapping).0,
-        mapping_back w.mapping,
-        text_back w.suffix f.suffix) refl)
+    rw (
+      cut_back 58 (decimal w.scope) _ (decimal_lacks 58 w.scope (omega (arith, f.scope)) refl),
+      number_value most_16 w.scope f.scope (omega arith),
+      cut_back 58 (mapping_word w.mapping) (payload_word w.suffix) (mapping_lacks w.mapping).0,
+      mapping_back w.mapping,
+      text_back w.suffix f.suffix,
+    ) refl)
 
 pub wire_reads : (w : WireExpr) → FitsWire w → Reads wire_of (wire_word w) w
 wire_reads w f = record {
@@ -136,13 +137,15 @@ entry_lacks byte e d h k s f =
 
 entry_pieces : (es : List GatewayEntry) → AllByRecursion FitsEntry es → AllByRecursion (Piece 59 entry_of entry_word) es
 entry_pieces [] a = tt
-entry_pieces (e ∷ es) a =
-    (record {
-      apart = entry_lacks 59 e refl refl refl refl a.0;
-      whole = entry_lacks 32 e refl refl refl refl a.0;
-      some = some_between (zid_word e.node) _ 61;
-      value = entry_value e a.0;
-    }, entry_pieces es a.1)
+entry_pieces (e ∷ es) a = (
+  record {
+    apart = entry_lacks 59 e refl refl refl refl a.0;
+    whole = entry_lacks 32 e refl refl refl refl a.0;
+    some = some_between (zid_word e.node) _ 61;
+    value = entry_value e a.0;
+  },
+  entry_pieces es a.1,
+)
 
 pub entries_reads : (es : List GatewayEntry) → AllByRecursion FitsEntry es → Reads (list_of 59 entry_of) (list_word 59 entry_word es) es
 unfolding entry_of
@@ -158,13 +161,15 @@ direction_some (Some n) f = decimal_some n (omega arith)
 
 direction_pieces : (ds : List (Option ℕ)) → AllByRecursion (FitsOption (λ n. n ≤ most_32)) ds → AllByRecursion (Piece 44 direction_of direction_word) ds
 direction_pieces [] a = tt
-direction_pieces (d ∷ ds) a =
-    (record {
-      apart = direction_lacks 44 d refl refl a.0;
-      whole = direction_lacks 32 d refl refl a.0;
-      some = direction_some d a.0;
-      value = direction_back d a.0;
-    }, direction_pieces ds a.1)
+direction_pieces (d ∷ ds) a = (
+  record {
+    apart = direction_lacks 44 d refl refl a.0;
+    whole = direction_lacks 32 d refl refl a.0;
+    some = direction_some d a.0;
+    value = direction_back d a.0;
+  },
+  direction_pieces ds a.1,
+)
 
 directions_apart : (byte : ℕ) (ds : List (Option ℕ)) → is_digit byte ≡ false → (120 == byte) ≡ false → AllByRecursion (FitsOption (λ n. n ≤ most_32)) ds → AllByRecursion (λ d. lacks byte (direction_word d) ≡ true) ds
 directions_apart byte [] e x a = tt
@@ -177,25 +182,29 @@ numbers_apart byte most (n ∷ ns) e l a = let fits : n ≤ most = a.0 in (decim
 tree_value : (t : Tree) → FitsTree t → tree_of (tree_word t) ≡ Some t
 unfolding tree_of
 tree_value t f =
-    rw (cut_back 47 (list_word 44 decimal t.children) (list_word 44 direction_word t.directions) (list_lacks 47 44 decimal t.children refl refl (numbers_apart 47 most_32 t.children refl (omega arith) f.children)),
-        list_back 44 (number most_32) decimal t.children refl (number_pieces most_32 t.children (omega arith) f.children),
-        list_back 44 direction_of direction_word t.directions refl (direction_pieces t.directions f.directions)) refl
+    rw (
+      cut_back 47 (list_word 44 decimal t.children) (list_word 44 direction_word t.directions) (list_lacks 47 44 decimal t.children refl refl (numbers_apart 47 most_32 t.children refl (omega arith) f.children)),
+      list_back 44 (number most_32) decimal t.children refl (number_pieces most_32 t.children (omega arith) f.children),
+      list_back 44 direction_of direction_word t.directions refl (direction_pieces t.directions f.directions),
+    ) refl
 
 tree_lacks : (byte : ℕ) (t : Tree) → is_digit byte ≡ false → (120 == byte) ≡ false → (45 == byte) ≡ false → (44 == byte) ≡ false → (47 == byte) ≡ false → FitsTree t → lacks byte (tree_word t) ≡ true
 tree_lacks byte t e x d c s f =
     lacks_between 47 byte (list_word 44 decimal t.children) _ s
-      (list_lacks byte 44 decimal t.children d c (numbers_apart byte most_32 t.children e (omega arith) f.children))
-      (list_lacks byte 44 direction_word t.directions d c (directions_apart byte t.directions e x f.directions))
+    (list_lacks byte 44 decimal t.children d c (numbers_apart byte most_32 t.children e (omega arith) f.children))
+    (list_lacks byte 44 direction_word t.directions d c (directions_apart byte t.directions e x f.directions))
 
 tree_pieces : (ts : List Tree) → AllByRecursion FitsTree ts → AllByRecursion (Piece 59 tree_of tree_word) ts
 tree_pieces [] a = tt
-tree_pieces (t ∷ ts) a =
-    (record {
-      apart = tree_lacks 59 t refl refl refl refl refl a.0;
-      whole = tree_lacks 32 t refl refl refl refl refl a.0;
-      some = some_between (list_word 44 decimal t.children) _ 47;
-      value = tree_value t a.0;
-    }, tree_pieces ts a.1)
+tree_pieces (t ∷ ts) a = (
+  record {
+    apart = tree_lacks 59 t refl refl refl refl refl a.0;
+    whole = tree_lacks 32 t refl refl refl refl refl a.0;
+    some = some_between (list_word 44 decimal t.children) _ 47;
+    value = tree_value t a.0;
+  },
+  tree_pieces ts a.1,
+)
 
 pub trees_reads : (ts : List Tree) → AllByRecursion FitsTree ts → Reads (list_of 59 tree_of) (list_word 59 tree_word ts) ts
 unfolding tree_of

@@ -20,29 +20,36 @@ pub record IsText (bytes : List ℕ) : Type 0 where
   pub small : IsBytes bytes
   pub utf8 : is_utf8 bytes ≡ true
 
+-- the number of a face
 abbrev pub FitsFace : FaceId → Type 0
 FitsFace face = face.0 ≤ most_32
 
+-- an id
 abbrev pub FitsZid : Zid → Type 0
 FitsZid zid = zid.0 ≤ most_128
 
+-- an expression
 pub record FitsWire (wire : WireExpr) : Type 0 where
   pub scope : wire.scope ≤ most_16
   pub suffix : IsText wire.suffix
 
+-- a value that fits, if there is one
 abbrev pub FitsOption : {X : Type 0} → (X → Type 0) → Option X → Type 0
 FitsOption P None = ⊤
 FitsOption P (Some x) = P x
 
+-- a region
 abbrev pub FitsRegion : Region → Type 0
 FitsRegion region.North = ⊤
 FitsRegion region.Local = ⊤
 FitsRegion (region.South id strategy) = id ≤ most_32
 
+-- the gateways of one node
 pub record FitsEntry (entry : GatewayEntry) : Type 0 where
   pub node : FitsZid entry.node
   pub gateways : AllByRecursion FitsZid entry.gateways
 
+-- a tree
 pub record FitsTree (tree : Tree) : Type 0 where
   pub children : AllByRecursion (λ n. n ≤ most_32) tree.children
   pub directions : AllByRecursion (FitsOption (λ n. n ≤ most_32)) tree.directions

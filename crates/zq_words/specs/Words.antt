@@ -1,12 +1,12 @@
 -- Words: what one word of a line stands for, and how a word is written.
-use Rattle.std.specs.Prelude.{◌≡◌, ◌<◌, not, ℕ, ◌+◌, ◌*◌, ◌-◌, Bool, true, false, ◌&&◌, ◌==◌, nat_le, nat_lt, List, [], ◌∷◌, ◌++◌, Option, Some, None, if◌then◌else◌, drop, take, length, codes, map}
+use Rattle.std.specs.Prelude.{◌≡◌, ◌<◌, not, ℕ, ◌+◌, ◌*◌, ◌-◌, Bool, true, ◌&&◌, ◌==◌, nat_le, nat_lt, List, [], ◌∷◌, ◌++◌, Option, Some, None, if◌then◌else◌, drop, take, length, codes}
 use Rattle.std.specs.List.{flat_map, slice_split, position_or_len}
 use Rattle.std.specs.Str.{bytes_eq, is_utf8}
-use Rattle.std.specs.Fmt.{decimal}
 use Rattle.zq_words.specs.declared.words.TheConstants.{ESCAPED}
 use Rattle.percent_encoding.specs.Percent.{percent_encode, percent_decode}
 
 infixl 10 ◌>>=◌
+-- go on with what was read, if anything
 abbrev pub ◌>>=◌ : {A B : Type 0} → Option A → (A → Option B) → Option B
 None >>= f = None
 (Some x) >>= f = f x
@@ -15,18 +15,20 @@ None >>= f = None
 abbrev pub pieces : ℕ → List ℕ → List (List ℕ)
 pieces byte bytes = slice_split (λ b. b == byte) bytes
 
--- how many bytes stand before the first such byte
+-- the byte is this one
 abbrev pub is_byte : ℕ → ℕ → Bool
 is_byte byte b = b == byte
 
+-- how many bytes stand before the first such byte
 abbrev pub len_to : ℕ → List ℕ → ℕ
 len_to byte bytes = position_or_len (is_byte byte) bytes
 
--- what stands before and after the first such byte
+-- the front, and the back without its first byte
 abbrev pub after_cut : List ℕ → List ℕ → Option (List ℕ × List ℕ)
 after_cut front [] = None
 after_cut front (b ∷ back) = Some (front, back)
 
+-- what stands before and after the first such byte
 abbrev pub cut : ℕ → List ℕ → Option (List ℕ × List ℕ)
 cut byte bytes = after_cut (take (len_to byte bytes) bytes) (drop (len_to byte bytes) bytes)
 
@@ -109,10 +111,12 @@ list_of byte read word = if bytes_eq word (codes "-") then Some [] else read_eac
 abbrev pub rest_word : {X : Type 0} → List ℕ → (X → List ℕ) → List X → List ℕ
 rest_word separator write xs = flat_map (λ x. separator ++ write x) xs
 
+-- a list with separators, or a dash for the empty one
 abbrev pub list_words : {X : Type 0} → List ℕ → (X → List ℕ) → List X → List ℕ
 list_words separator write [] = codes "-"
 list_words separator write (x ∷ xs) = write x ++ rest_word separator write xs
 
+-- a list joined by a byte, or a dash for the empty one
 abbrev pub list_word : {X : Type 0} → ℕ → (X → List ℕ) → List X → List ℕ
 list_word byte write xs = list_words (byte ∷ []) write xs
 
@@ -120,6 +124,7 @@ list_word byte write xs = list_words (byte ∷ []) write xs
 abbrev pub option_of : {X : Type 0} → (List ℕ → Option X) → List ℕ → Option (Option X)
 option_of read word = if bytes_eq word (codes "-") then Some None else read word >>= (λ x. Some (Some x))
 
+-- a dash for none
 abbrev pub option_word : {X : Type 0} → (X → List ℕ) → Option X → List ℕ
 option_word write None = codes "-"
 option_word write (Some x) = write x

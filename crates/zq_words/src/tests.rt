@@ -18,10 +18,21 @@ fn words_of_bytes(rt: HostRuntime) -> Result<(), Fail> {
     ] {
         let printed = print_word(alloc, bytes.as_bytes())?;
         assert_eq!(rt; printed.as_slice(), word.as_bytes());
-        assert_eq!(rt; read_word(alloc, word.as_bytes())?.as_slice(), bytes.as_bytes());
+        assert_eq!(rt;
+            read_word(alloc, word.as_bytes())?.as_slice(),
+            bytes.as_bytes()
+        );
     }
-    for (word, bytes) in [("%", "%"), ("%4", "%4"), ("%zz", "%zz"), ("%c8%b2", "\u{232}")] {
-        assert_eq!(rt; read_word(alloc, word.as_bytes())?.as_slice(), bytes.as_bytes());
+    for (word, bytes) in [
+        ("%", "%"),
+        ("%4", "%4"),
+        ("%zz", "%zz"),
+        ("%c8%b2", "\u{232}"),
+    ] {
+        assert_eq!(rt;
+            read_word(alloc, word.as_bytes())?.as_slice(),
+            bytes.as_bytes()
+        );
     }
     assert!(rt; text_of(alloc, b"%C8%B2")?.is_some());
     assert!(rt; text_of(alloc, b"%C8")?.is_none());

@@ -129,7 +129,10 @@ fn south_of(word: &[u8]) -> Option<Region>
     let (id, mode) = cut(b':', back)?;
     let id = number(4_294_967_295, id)?;
     let mode = mode_of(mode)?;
-    Some(Region::South { id: id as u32, mode })
+    Some(Region::South {
+        id: id as u32,
+        mode,
+    })
 }
 
 impl Word for Region {
@@ -217,6 +220,7 @@ impl Word for Bound {
     }
 }
 
+/// Whether the word is the first of two, or the other.
 pub fn flag_of(first: &str, other: &str, word: &[u8]) -> Option<bool>
     ensures { result ≡ flag_of first.now other.now word.now }
 {

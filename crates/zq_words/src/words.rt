@@ -14,6 +14,7 @@ use zq_key::text::{Bytes, Text};
 /// The bytes that are escaped in a word, beside those above 126.
 pub const ESCAPED: AsciiSet = ascii_set!(CONTROLS.add(b' ').add(b'%'));
 
+/// Whether the word is this text.
 pub fn is(word: &[u8], text: &str) -> bool
     ensures { result ≡ bytes_eq word.now text.now }
 {
@@ -162,7 +163,10 @@ pub trait Word: Sized {
 
 /// A space, a word that stands for something, and what follows the word.
 #[tactic(auto, unfolding(crate::specs::Words::read_at))]
-pub fn read_at<T: Word + Drop>(alloc: Global, bytes: &[u8]) -> Result<Option<(T, &[u8])>, OutOfMemory>
+pub fn read_at<T: Word + Drop>(
+    alloc: Global,
+    bytes: &[u8],
+) -> Result<Option<(T, &[u8])>, OutOfMemory>
     ensures { IfOk result (λ o. option_map (λ t. (t.0, t.1.now)) o ≡ read_at T.of bytes.now) }
 {
     let Some((word, rest)) = word_at(bytes) else {
@@ -176,7 +180,11 @@ pub fn read_at<T: Word + Drop>(alloc: Global, bytes: &[u8]) -> Result<Option<(T,
 
 /// The pieces of a word, each of which stands for something.
 #[tactic(auto, using(crate::proofs::Split::pieces_cut, crate::proofs::Split::pieces_whole, crate::proofs::Split::put_step))]
-pub fn read_each<T: Word + Drop>(alloc: Global, byte: u8, word: &[u8]) -> Result<Option<Items<T>>, OutOfMemory>
+pub fn read_each<T: Word + Drop>(
+    alloc: Global,
+    byte: u8,
+    word: &[u8],
+) -> Result<Option<Items<T>>, OutOfMemory>
     ensures { IfOk result (λ o. o ≡ read_each T.of (pieces byte word.now)) }
 {
     let mut items: Items<T> = Items::new(alloc);
@@ -198,7 +206,11 @@ pub fn read_each<T: Word + Drop>(alloc: Global, byte: u8, word: &[u8]) -> Result
 }
 
 /// A list joined by a byte, or a dash for the empty one.
-pub fn list_of<T: Word + Drop>(alloc: Global, byte: u8, word: &[u8]) -> Result<Option<Items<T>>, OutOfMemory>
+pub fn list_of<T: Word + Drop>(
+    alloc: Global,
+    byte: u8,
+    word: &[u8],
+) -> Result<Option<Items<T>>, OutOfMemory>
     ensures { IfOk result (λ o. o ≡ list_of byte T.of word.now) }
 {
     if is(word, "-") {

@@ -1,7 +1,7 @@
-use Rattle.std.proofs.Common.{◌≡◌, ◌<◌, arith, rules}
+use Rattle.std.proofs.Common.{◌≡◌, arith, rules}
 use Rattle.std.proofs.lemmas.List.Elements.{All-from_get_or}
 use Rattle.percent_encoding.proofs.PercentLemmas.{IsByte}
-use Rattle.zq_words.specs.Words.{payload_of, payload_word}
+use Rattle.zq_words.specs.Words.{payload_word}
 use Rattle.zq_words.proofs.Back.{payload_back}
 use Rattle.zq_words.proofs.words.print_word.Goals as goal
 
