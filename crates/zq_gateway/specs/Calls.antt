@@ -1,6 +1,5 @@
 -- Kinds of calls.
 use Rattle.std.specs.Prelude.{ℕ, Bool, true, false, not, ◌&&◌, ◌||◌, List, [], ◌∷◌, Option, Some, None}
-use Rattle.std.specs.List.{list_all}
 use Rattle.zq_key.specs.declared.message.Bound.{Bound}
 use Rattle.zq_key.specs.declared.message.Bound.TheVariants as bound
 use Rattle.zq_key.specs.declared.message.Mode.{Mode}
@@ -54,7 +53,3 @@ is_built config (call.Poll now) = false
 is_built config (call.SetNetwork r net) = false
 is_built config (call.SetNodeIds face ids) = false
 is_built config c = true
-
--- each call is of a form that the gateway answers today
-abbrev pub are_built : Settings → List Call → Bool
-are_built config calls = list_all (is_built config) calls

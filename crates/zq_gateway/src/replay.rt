@@ -1,6 +1,7 @@
 //! Whole runs.
 ghost use Rattle.std.specs.Prelude.{◌≡◌, IfOk, true};
-ghost use Rattle.zq_gateway.specs.Calls.{are_built};
+ghost use Rattle.std.specs.List.{AllByRecursion};
+ghost use Rattle.zq_gateway.specs.Calls.{is_built};
 ghost use Rattle.zq_gateway.specs.Machine.{steps};
 
 use crate::call::{Call, Replay};
@@ -12,7 +13,7 @@ use zq_key::memory::OutOfMemory;
 
 /// The steps of a new gateway for calls, one after another.
 pub fn replay(alloc: Global, config: &Config, calls: &[Call]) -> Result<Replay, OutOfMemory>
-    requires { are_built config.now calls.now ≡ true }
+    requires { AllByRecursion (λ c. is_built config.now c ≡ true) calls.now }
     ensures machine { IfOk result (λ r. r.steps ≡ steps config.now calls.now) }
 {
     let mut gateway = Gateway::new(alloc, config)?;
