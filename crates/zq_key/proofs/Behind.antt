@@ -1,17 +1,17 @@
 -- A plain prefix in front of texts changes neither how they relate, nor their order, nor whether they are keys.
-use Rattle.std.proofs.Common.{◌≡◌, ℕ, ◌<◌, ◌==◌, length, Bool, true, false, not, cond, ◌&&◌, ◌||◌, List, [], ◌∷◌, ◌++◌, Option, Some, None, Result, Ok, Err, IfOk, refl, sym, ap, ◌∙◌, arith}
-use Rattle.std.specs.List.{slice_split, onto_first, join_with_byte, list_all, list_any}
+use Rattle.std.proofs.Common.{◌≡◌, ℕ, ◌<◌, ◌==◌, length, Bool, true, false, cond, List, [], ◌∷◌, ◌++◌, Some, None, Result, Ok, Err, IfOk, refl, sym, ap, ◌∙◌, arith}
+use Rattle.std.specs.List.{slice_split, onto_first, join_with_byte, list_all}
 use Rattle.std.specs.Option.{option_map}
 use Rattle.std.specs.Str.{bytes_eq}
-use Rattle.std.specs.Ordering.{nat_cmp, ordering_then}
+use Rattle.std.specs.Ordering.{nat_cmp}
 use Rattle.std.specs.Cmp.Lexicographic.{slice_cmp}
-use Rattle.std.specs.declared.cmp.Ordering.TheVariants.{Less, Equal, Greater}
-use Rattle.std.proofs.lemmas.Bool.{false≢true, and_parts, not-true}
+use Rattle.std.specs.declared.cmp.Ordering.TheVariants.{Equal}
+use Rattle.std.proofs.lemmas.Bool.{and_parts}
 use Rattle.std.proofs.lemmas.Bool.Decides.{Decides-eqb, nat_tests}
 use Rattle.std.proofs.lemmas.Slice.Eq.{bytes_eq-Decides}
 use Rattle.std.proofs.lemmas.List.Splits.{join_with_byte-slice_split, length-slice_split}
 use Rattle.zq_key.specs.Match.{covers_by, meets_by}
-use Rattle.zq_key.specs.Key.{chunks, is_stars, is_star, is_verbatim, chunk_meets, chunk_covers, is_chunk, neighbours_fit, is_key, is_plain, is_plain_chunk, intersects, includes}
+use Rattle.zq_key.specs.Key.{chunks, is_stars, is_verbatim, chunk_meets, chunk_covers, is_chunk, neighbours_fit, is_key, is_plain, is_plain_chunk, intersects, includes}
 use Rattle.zq_key.specs.Space.{strip, strip_chunks, prefixed, behind}
 use Rattle.zq_key.proofs.Plain.{chunk_facts, plain-stars, plain-chunk_meets, plain-chunk_covers, plain-all}
 

@@ -1,10 +1,10 @@
 -- What a change of the first element that passes does, by the place of that element.
-use Rattle.std.proofs.Common.{◌≡◌, ℕ, zero, suc, ◌<◌, ◌≤◌, Bool, true, false, cond, ltb, ltb-false, List, [], ◌∷◌, ◌++◌, length, get_or, take, drop, ap, ◌∙◌, refl, arith, append_assoc, Some, None, Option, sym}
+use Rattle.std.proofs.Common.{◌≡◌, ℕ, zero, suc, ◌<◌, ◌≤◌, Bool, true, false, cond, ltb-false, List, [], ◌∷◌, ◌++◌, length, get_or, take, drop, ap, ◌∙◌, refl, arith, append_assoc, Some, None, sym}
 use Rattle.std.specs.List.{position, list_any, position_or_len, remove}
 use Rattle.std.specs.Prelude.{find, ◌||◌}
 use Rattle.std.proofs.lemmas.List.Sums.{fails_before_first}
 use Rattle.std.proofs.lemmas.List.Quantifiers.{position-Some}
-use Rattle.std.proofs.lemmas.List.{set_split, take-set, drop-set-lt, get_or-set_same}
+use Rattle.std.proofs.lemmas.List.{take-set, drop-set-lt, get_or-set_same}
 use Rattle.std.proofs.Common.{set}
 use Rattle.zq_key.specs.Changes.{change_first, update_first, insert_before}
 

@@ -5,7 +5,7 @@ pub mod Chunks
 pub mod Relations
 pub mod Related
 pub mod Checks
-pub mod Laws
+pub mod Lawful
 pub mod Spelling
 pub mod Spell
 pub mod SpellCovers

@@ -1,5 +1,5 @@
 -- List words against a map of the elements: each test of the mapped element is a test of the element.
-use Rattle.std.proofs.Common.{◌≡◌, ℕ, Bool, true, false, cond, List, [], ◌∷◌, ◌++◌, map, Option, Some, None, refl, ap, ◌∙◌}
+use Rattle.std.proofs.Common.{◌≡◌, Bool, true, false, cond, List, [], ◌∷◌, ◌++◌, map, Some, refl, ap, ◌∙◌}
 use Rattle.std.specs.List.{list_any, filter, flat_map}
 use Rattle.std.specs.Prelude.{find, fold}
 use Rattle.std.specs.Option.{option_map}

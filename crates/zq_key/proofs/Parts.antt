@@ -1,5 +1,5 @@
 -- The laws at the parts of chunks.
-use Rattle.std.proofs.Common.{◌≡◌, ℕ, ◌==◌, length, is_none, Bool, true, false, List, [], ◌∷◌, Option, Some, None, refl, ◌∙◌, arith}
+use Rattle.std.proofs.Common.{◌≡◌, ℕ, length, is_none, List, [], ◌∷◌, Option, Some, None, refl, ◌∙◌, arith}
 use Rattle.std.proofs.lemmas.Bool.Decides.{nat_tests}
 use Rattle.zq_key.specs.Walk.{never}
 use Rattle.zq_key.specs.Key.{parts, parts_meet, same_part}

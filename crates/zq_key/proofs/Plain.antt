@@ -1,5 +1,5 @@
 -- Plain keys intersect, and include each other, exactly where they are equal.
-use Rattle.std.proofs.Common.{◌≡◌, ℕ, ◌==◌, Bool, true, false, not, cond, is_none, ◌&&◌, ◌||◌, List, [], ◌∷◌, Option, Some, None, refl, sym, ap, ◌∙◌, arith}
+use Rattle.std.proofs.Common.{◌≡◌, ℕ, ◌==◌, Bool, true, false, not, is_none, ◌||◌, List, [], ◌∷◌, refl, sym, ap, ◌∙◌}
 use Rattle.std.specs.List.{list_all, list_any, join_with_byte}
 use Rattle.std.specs.Str.{bytes_eq}
 use Rattle.std.specs.Cmp.Lexicographic.{pointwise}
@@ -7,9 +7,9 @@ use Rattle.std.proofs.lemmas.Bool.{false≢true, and_parts, or_parts, not-true, 
 use Rattle.std.proofs.lemmas.Bool.Decides.{same_from_decides}
 use Rattle.std.proofs.lemmas.Slice.Eq.{bytes_eq-Decides, slice_eq-Decides}
 use Rattle.std.proofs.lemmas.List.Splits.{join_with_byte-slice_split}
-use Rattle.zq_key.specs.Match.{covers_by, meets_by}
+use Rattle.zq_key.specs.Match.{covers_by}
 use Rattle.zq_key.specs.Walk.{has_none, never}
-use Rattle.zq_key.specs.Key.{chunks, parts, parts_meet, parts_cover, same_part, is_verbatim, is_star, is_stars, chunk_meets, chunk_covers, is_plain_chunk, is_plain, is_key, intersects, includes}
+use Rattle.zq_key.specs.Key.{chunks, parts, parts_cover, same_part, is_verbatim, is_star, is_stars, chunk_meets, chunk_covers, is_plain_chunk, is_plain, is_key, intersects, includes}
 use Rattle.zq_key.proofs.Spelling.{somes}
 use Rattle.zq_key.proofs.Meet.{meets-covers}
 

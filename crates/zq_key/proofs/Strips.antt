@@ -1,8 +1,7 @@
 -- What is left of a key behind a namespace, chunk by chunk.
-use Rattle.std.proofs.Common.{◌≡◌, ℕ, ◌<◌, ◌+◌, ◌-◌, ◌==◌, ◌≤◌, ltb, ltb-false, lit<, Bor, MatchOption, length, length-drop, add-one, take, drop, get_or, Bool, true, false, not, cond, ◌&&◌, ◌||◌, List, [], ◌∷◌, ◌++◌, Option, Some, None, refl, sym, ap, ◌∙◌, arith}
-use Rattle.std.specs.List.{position, position_or_len, slice_split, onto_first, join_with_byte, list_all, list_any}
+use Rattle.std.proofs.Common.{◌≡◌, ℕ, ◌<◌, ◌+◌, ◌-◌, ◌==◌, ◌≤◌, ltb, ltb-false, lit<, Bor, MatchOption, length, length-drop, add-one, take, drop, get_or, Bool, true, false, cond, List, [], ◌∷◌, Option, Some, None, refl, sym, ap, ◌∙◌, arith}
+use Rattle.std.specs.List.{position, position_or_len, slice_split, onto_first, join_with_byte}
 use Rattle.std.specs.Option.{option_map}
-use Rattle.std.specs.Str.{bytes_eq}
 use Rattle.std.proofs.lemmas.List.Splits.{join_with_byte-slice_split}
 use Rattle.std.proofs.lemmas.List.Splits.{slice_split_first, slice_split_none}
 use Rattle.std.proofs.lemmas.List.Elements.{All-from_get_or}
@@ -12,7 +11,7 @@ use Rattle.std.proofs.lemmas.Str.Pattern.{IsSplitOnceResult, split_once_first}
 use Rattle.std.proofs.lemmas.Bool.Decides.{Decides-eqb}
 use Rattle.std.proofs.lemmas.Grind.{common_steps}
 use Rattle.zq_key.specs.Key.{chunks, is_stars, chunk_meets}
-use Rattle.zq_key.specs.Space.{strip, strip_chunks, prefixed, is_slash, first_chunk}
+use Rattle.zq_key.specs.Space.{strip, strip_chunks, is_slash, first_chunk}
 
 joined : (text : List ℕ) → join_with_byte 47 (chunks text) ≡ text
 joined text = join_with_byte-slice_split 47 text

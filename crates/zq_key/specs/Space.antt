@@ -1,6 +1,6 @@
 -- Namespaces: a text behind a prefix, and what is left of a key behind one.
-use Rattle.std.specs.Prelude.{ℕ, Bool, List, [], ◌∷◌, ◌++◌, ◌==◌, not, if◌then◌else◌, Option, Some, None}
-use Rattle.std.specs.List.{join_with_byte, before_first, after_first, position_or_len}
+use Rattle.std.specs.Prelude.{ℕ, Bool, List, [], ◌∷◌, ◌++◌, ◌==◌, if◌then◌else◌, Option, Some, None}
+use Rattle.std.specs.List.{join_with_byte, position_or_len}
 use Rattle.std.specs.Option.{option_map}
 use Rattle.std.specs.Prelude.{take, drop}
 use Rattle.zq_key.specs.Key.{chunks, is_stars, chunk_meets}

@@ -1,10 +1,21 @@
-//! Key expressions.
+//! Keys and messages: what every other crate speaks of.
+//!
+//! - `text`, `items`: texts, bytes and lists, which contracts see as lists
+//! - `message`: ids, regions, expressions and the messages of faces
+//! - `memory`: the one error of a call that can only lack memory
+//! - `name`: keys that are kept
+//! - `check`: which texts are keys, and which keys are plain
+//! - `matching`, `chunk`, `key`: whether two keys intersect, and whether one includes the other,
+//!   without memory and in time that is at most the product of their lengths
+//! - `laws`: that keys intersect both ways alike, and include and intersect themselves
+//! - `space`: texts cut by chunks, and texts behind a prefix
 #![tactic(auto)]
 
 mod check;
 mod chunk;
 pub mod items;
 mod key;
+pub mod laws;
 mod matching;
 pub mod memory;
 pub mod message;
@@ -20,7 +31,8 @@ pub use check::{is_key, is_plain};
 use key::{Relation, related};
 pub use name::{Key, KeyError};
 
-/// Whether two keys intersect.
+/// Whether two keys intersect (upstream's `keyexpr::intersects`): whether some text without wild
+/// chunks is matched by both. It takes no memory.
 #[tactic(auto, using(crate::proofs::Characters::relations))]
 pub fn intersects(a: &str, b: &str) -> bool
     requires first { IsTrue (key_of a.now) }
@@ -31,7 +43,8 @@ pub fn intersects(a: &str, b: &str) -> bool
     related(Relation::Meets, a.as_bytes(), b.as_bytes())
 }
 
-/// Whether key a includes key b.
+/// Whether key a includes key b (upstream's `keyexpr::includes`): whether all that b matches is
+/// matched by a. It takes no memory.
 #[tactic(auto, using(crate::proofs::Characters::relations))]
 pub fn includes(a: &str, b: &str) -> bool
     requires first { IsTrue (key_of a.now) }

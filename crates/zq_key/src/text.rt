@@ -5,6 +5,7 @@ use crate::memory::OutOfMemory;
 use std::alloc::Global;
 use std::marker::Model;
 
+/// A text, seen as the list of its bytes.
 #[derive(Debug, Drop)]
 pub struct Text {
     inner: String,
@@ -53,6 +54,7 @@ impl Text {
         Text::new(alloc, self.as_str())
     }
 
+    /// The text.
     pub fn as_str(&self) -> &str
         ensures { result.now ≡ self.now }
     {
@@ -60,6 +62,7 @@ impl Text {
     }
 }
 
+/// Bytes, seen as a list.
 #[derive(Debug, Drop)]
 pub struct Bytes {
     inner: Vec<u8>,
@@ -97,6 +100,7 @@ impl Bytes {
         Bytes { inner: bytes }
     }
 
+    /// The bytes.
     pub fn as_slice(&self) -> &[u8]
         ensures { result.now ≡ self.now }
     {

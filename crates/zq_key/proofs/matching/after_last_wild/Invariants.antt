@@ -1,4 +1,4 @@
-use Rattle.std.proofs.Common.{◌≡◌, Option, None}
+use Rattle.std.proofs.Common.{◌≡◌, None}
 use Rattle.std.specs.Option.{option_map}
 use Rattle.zq_key.specs.Walk.{after_last}
 use Rattle.zq_key.proofs.matching.after_last_wild.Given as goal

@@ -1,4 +1,4 @@
-use Rattle.std.proofs.Common.{◌≡◌, ◌∙◌, sym}
+use Rattle.std.proofs.Common.{◌∙◌, sym}
 use Rattle.zq_key.proofs.Meet.{again, found, over, onward}
 use Rattle.zq_key.proofs.matching.covers_after_wild.Goals as goal
 

@@ -1,4 +1,4 @@
-use Rattle.std.proofs.Common.{◌≡◌, ◌∙◌, sym, refl}
+use Rattle.std.proofs.Common.{◌∙◌, sym, refl}
 use Rattle.zq_key.proofs.Meet.{meets-no_wild, meets-no_wild_right, meets-two_wild}
 use Rattle.zq_key.proofs.matching.meets.Goals as goal
 

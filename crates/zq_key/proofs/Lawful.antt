@@ -92,3 +92,9 @@ includes-intersects a b h = covers-meets is_stars is_verbatim chunk_covers chunk
 
 pub intersects-self : (a : List ℕ) → intersects a a ≡ true
 intersects-self a = includes-intersects a a (includes-self a)
+
+pub ruleset both_ways = (intersects-swap)
+
+pub ruleset itself = (intersects-self, includes-self)
+
+pub ruleset inclusion = (includes-intersects)

@@ -1,0 +1,46 @@
+//! Laws of keys, each as a call that answers true.
+ghost use Rattle.std.specs.Prelude.{◌≡◌, true, IsTrue};
+ghost use Rattle.zq_key.specs.Key.{is_key as key_of};
+
+use crate::{includes, intersects};
+
+/// Two keys intersect whichever stands first.
+#[tactic(auto, using(crate::proofs::Lawful::both_ways))]
+pub fn intersect_alike(a: &str, b: &str) -> bool
+    requires first { IsTrue (key_of a.now) }
+    requires second { IsTrue (key_of b.now) }
+    ensures { result ≡ true }
+{
+    intersects(a, b) == intersects(b, a)
+}
+
+/// A key intersects itself.
+#[tactic(auto, using(crate::proofs::Lawful::itself))]
+pub fn intersects_itself(key: &str) -> bool
+    requires { IsTrue (key_of key.now) }
+    ensures { result ≡ true }
+{
+    intersects(key, key)
+}
+
+/// A key includes itself.
+#[tactic(auto, using(crate::proofs::Lawful::itself))]
+pub fn includes_itself(key: &str) -> bool
+    requires { IsTrue (key_of key.now) }
+    ensures { result ≡ true }
+{
+    includes(key, key)
+}
+
+/// What a key includes, it intersects.
+#[tactic(auto, using(crate::proofs::Lawful::inclusion))]
+pub fn intersects_what_it_includes(a: &str, b: &str) -> bool
+    requires first { IsTrue (key_of a.now) }
+    requires second { IsTrue (key_of b.now) }
+    ensures { result ≡ true }
+{
+    if includes(a, b) {
+        return intersects(a, b);
+    }
+    true
+}

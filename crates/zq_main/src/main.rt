@@ -1,0 +1,104 @@
+//! The command: replays a script from standard input to standard output.
+#![tactic(auto)]
+
+use std::alloc::Global;
+use std::process::ExitCode;
+use std::rt::Env;
+use std::{env, io};
+use zq_key::text::Text;
+use zq_script::run::{Status, run};
+use zq_words::streams::{ReadSource, WriteSink};
+
+const VERSION: &str = "zq 0.1.0, a port of zenoh 1.10.2's query gateway";
+
+const USAGE: &str = "usage: zq replay < SCRIPT
+
+Reads a script from standard input, one call a line, and prints what a gateway
+answers to each call and the messages that it hands out.
+
+  zq --help       prints this text
+  zq --version    prints the version
+
+status: 0 done, 1 other words, 2 a bad line, 3 the input failed, 4 the output
+failed, 5 no memory, 6 more than 16,777,216 bytes";
+
+/// What the words ask for.
+enum Asked {
+    Help,
+    Version,
+    Run,
+}
+
+fn read_words(words: &[Text]) -> Asked {
+    match words {
+        [word] => match word.as_str() {
+            "--help" => Asked::Help,
+            "--version" => Asked::Version,
+            _ => Asked::Run,
+        },
+        _ => Asked::Run,
+    }
+}
+
+fn words(rt: &(impl Env + Alloc), alloc: Global) -> Result<Vec<Text>, Status> {
+    let Ok(args) = env::args(rt) else {
+        return Err(Status::Words);
+    };
+    let mut words = Vec::new(alloc);
+    for arg in args.skip(1) {
+        let Ok(text) = Text::new(alloc, arg.as_str()) else {
+            return Err(Status::Memory);
+        };
+        if words.push(text).is_err() {
+            return Err(Status::Memory);
+        }
+    }
+    Ok(words)
+}
+
+/// One sentence for a person, where a run did not end well.
+fn sentence(status: Status) -> &'static str {
+    match status {
+        Status::Done => "",
+        Status::Words => USAGE,
+        Status::Script => "zq: the script has a bad line; standard output names it.",
+        Status::ReadFault => "zq: standard input could not be read.",
+        Status::WriteFault => "zq: standard output could not be written.",
+        Status::Memory => "zq: no memory was found.",
+        Status::TooLong => "zq: the script is longer than 16,777,216 bytes.",
+        Status::LinkFault => "zq: a link failed.",
+    }
+}
+
+fn replay(rt: &HostRuntime, alloc: Global, words: &[Text]) -> ExitCode {
+    let mut source = ReadSource::new(rt.stdin());
+    let mut sink = WriteSink::new(rt.stdout());
+    let status = run(alloc, words, &mut source, &mut sink);
+    ended(rt, status)
+}
+
+fn ended(rt: &HostRuntime, status: Status) -> ExitCode {
+    if !matches!(status, Status::Done) {
+        let _ = eprintln!(rt; "{}", sentence(status));
+    }
+    ExitCode::from(status.code())
+}
+
+fn say(rt: &HostRuntime, text: &str) -> ExitCode {
+    match println!(rt; "{text}") {
+        Ok(()) => ExitCode::from(0),
+        Err(_) => ExitCode::from(Status::WriteFault.code()),
+    }
+}
+
+fn main(rt: HostRuntime) -> ExitCode {
+    let alloc = rt.alloc();
+    match words(&rt, alloc) {
+        Ok(words) => match read_words(words.as_slice()) {
+            Asked::Help => say(&rt, USAGE),
+            Asked::Version => say(&rt, VERSION),
+            Asked::Run => replay(&rt, alloc, words.as_slice()),
+        },
+        Err(status) => ended(&rt, status),
+    }
+}
