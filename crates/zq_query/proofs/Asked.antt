@@ -19,10 +19,11 @@ use Rattle.zq_query.specs.declared.queries.Open.{Open}
 use Rattle.zq_query.specs.declared.queries.Owed.{Owed}
 use Rattle.zq_query.specs.Records.{Record, Pending, is_entry, has_entry, is_pending, has_number, owes_face, without, is_over, is_left, is_none_left, letting_go, letting_go_all, insert_pending, with_entry, adding}
 use Rattle.zq_query.specs.Asking.{entry_at, entries_at, asked_record, asked_records, any_pending, has_number_from}
+use Rattle.zq_query.specs.Polling.{is_among}
 use Rattle.zq_query.specs.Tables.{Place, Due, records_of, record_of, at_number, IsTied, IsBelow}
 use Rattle.zq_query.proofs.Keys.{each_entry}
 use Rattle.zq_query.proofs.Entries.{any_map, one_has}
-use Rattle.zq_query.proofs.Fusion.{all_fused, is_among}
+use Rattle.zq_query.proofs.Fusion.{all_fused}
 use Rattle.zq_query.proofs.Giving.{any_at}
 use Rattle.zq_query.proofs.Bools.{neither_of}
 use Rattle.zq_query.proofs.Undo.{unchanged}

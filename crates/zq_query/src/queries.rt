@@ -7,10 +7,11 @@ ghost use Rattle.std.specs.Ordering.{nat_cmp};
 ghost use Rattle.std.specs.List.{list_any};
 ghost use Rattle.zq_query.specs.Tables.{place_cmp, due_cmp, at_number, at_place, less_owed, less_flying, more_flying, more_owed, first_record, is_spent, final_at};
 ghost use Rattle.zq_query.specs.declared.records.Final.{Final};
-ghost use Rattle.zq_query.specs.Records.{is_pending, is_entry, is_closed, final_if_open, owner, next_reply, needs_number, after_put, after_reply, last_given, next_id, pending_count, has_number, owes_face, adding, letting_go, letting_go_all, has_deadline, has_earlier, owes_any, over_after, is_in_flight, flies, landing, over_after_reply};
+ghost use Rattle.zq_query.specs.Records.{is_pending, is_entry, is_closed, final_if_open, request, owner, next_reply, needs_number, after_put, after_reply, last_given, next_id, pending_count, has_number, owes_face, adding, letting_go, letting_go_all, has_deadline, has_earlier, owes_any, over_after, is_in_flight, flies, landing, over_after_reply};
 
 mod ask;
 mod close;
+mod poll;
 
 use crate::records::{Final, NotInFlight, QueryNotFound, ReplyRefusal, ReplyTo};
 use std::alloc::Global;
@@ -294,18 +295,29 @@ impl Queries {
         })
     }
 
-    /// A reply to the entry is put in flight.
-    fn put(&mut self, face: u32, id: u32) -> Result<(), OutOfMemory>
-        requires pending { is_pending face id self.old.records ≡ true }
+    /// The open request with the number.
+    fn request(&self, number: u64) -> Option<Final>
+        ensures { result ≡ request number self.now.records }
+    {
+        match self.heads.get(&number) {
+            Some(open) => Some(Final {
+                number,
+                asker: open.asker,
+                id: open.id,
+                qos: open.qos,
+            }),
+            None => None,
+        }
+    }
+
+    /// A reply of the request is put in flight.
+    fn put(&mut self, number: u64) -> Result<(), OutOfMemory>
+        requires there { list_any (has_number number) self.old.records ≡ true }
         requires fits { self.old.replies + 1 < 2 ^ 64 }
-        ensures ok { OnOk result ((f : Final) → owner face id self.old.records ≡ Some f → self.new ≡ after_put f.number self.old) }
+        ensures ok { OnOk result (self.new ≡ after_put number self.old) }
         ensures err { OnErr result (self.new ≡ self.old) }
     {
         let _ = self.replies.len();
-        let Some(found) = self.pending.get(&(face, id)) else {
-            unreachable!()
-        };
-        let number = found.number;
         match self.replies.insert(self.next_reply, number) {
             Ok(_) => {}
             Err(_) => return Err(OutOfMemory),
@@ -331,7 +343,7 @@ impl Queries {
     {
         let to = self.would_reply(face, id)?;
         if let Some(_) = to.reply {
-            match self.put(face.0, id) {
+            match self.put(to.number) {
                 Ok(()) => return Ok(to),
                 Err(_) => return Err(ReplyRefusal::OutOfMemory),
             }
