@@ -4,10 +4,11 @@ ghost use Rattle.std.specs.BTreeMap.{get, is_at, insert_entry};
 ghost use Rattle.std.specs.Map.{remove_entry, set_value};
 ghost use Rattle.std.specs.Option.{is_some, IsSome, option_map};
 ghost use Rattle.std.specs.Ordering.{nat_cmp};
-ghost use Rattle.std.specs.List.{list_any};
+ghost use Rattle.std.specs.List.{list_any, cons_option};
 ghost use Rattle.zq_query.specs.Tables.{place_cmp, due_cmp, at_number, at_place, less_owed, less_flying, more_flying, more_owed, first_record, is_spent, final_at};
 ghost use Rattle.zq_query.specs.declared.records.Final.{Final};
-ghost use Rattle.zq_query.specs.Records.{is_pending, is_entry, is_closed, final_if_open, request, owner, next_reply, needs_number, after_put, after_reply, last_given, next_id, pending_count, has_number, owes_face, adding, letting_go, letting_go_all, has_deadline, has_earlier, owes_any, over_after, is_in_flight, flies, landing, over_after_reply};
+ghost use Rattle.zq_query.specs.Closing.{finals_after, finals_landed};
+ghost use Rattle.zq_query.specs.Records.{is_pending, is_entry, is_closed, final_if_open, request, owner, next_reply, lacks_reply, after_put, after_reply, last_given, next_id, pending_count, has_number, owes_face, adding, letting_go, letting_go_all, has_deadline, has_earlier, owes_any, over_after, ending_after, ending_landed, is_in_flight, flies, landing, over_after_reply};
 
 mod ask;
 mod close;
@@ -178,6 +179,7 @@ impl Queries {
         requires { is_pending face id self.old.records ≡ true }
         ensures records { self.new ≡ record self.old { records = letting_go (is_entry face id) self.old.records } }
         ensures over { result ≡ over_after (is_entry face id) self.old.records }
+        ensures only { cons_option result [] ≡ ending_after (is_entry face id) self.old.records }
     {
         let Some(found) = self.pending.get(&(face, id)) else {
             unreachable!()
@@ -200,6 +202,7 @@ impl Queries {
         requires { is_in_flight reply self.old.records ≡ true }
         ensures records { self.new ≡ record self.old { records = landing reply self.old.records } }
         ensures over { result ≡ over_after_reply reply self.old.records }
+        ensures only { cons_option result [] ≡ ending_landed reply self.old.records }
     {
         let Some(found) = self.replies.get(&reply) else {
             unreachable!()
@@ -215,6 +218,7 @@ impl Queries {
     pub fn deny(&mut self, face: FaceId, id: u32) -> Option<Final>
         requires { is_pending face.0 id self.old.records ≡ true }
         ensures closing { result ≡ final_if_open self.old.closed (over_after (is_entry face.0 id) self.old.records) }
+        ensures all { cons_option result [] ≡ finals_after (is_entry face.0 id) self.old.closed self.old.records }
         ensures after { self.new ≡ record self.old { records = letting_go (is_entry face.0 id) self.old.records } }
     {
         let over = self.let_go(face.0, id);
@@ -224,6 +228,7 @@ impl Queries {
     pub fn last(&mut self, face: FaceId, id: u32) -> Result<Option<Final>, QueryNotFound>
         ensures found { OnOk result (is_pending face.0 id self.old.records ≡ true) }
         ensures closing { IfOk result (λ f. f ≡ final_if_open self.old.closed (over_after (is_entry face.0 id) self.old.records)) }
+        ensures all { IfOk result (λ f. cons_option f [] ≡ finals_after (is_entry face.0 id) self.old.closed self.old.records) }
         ensures after { OnOk result (self.new ≡ record self.old { records = letting_go (is_entry face.0 id) self.old.records }) }
         ensures not_found { OnErr result ((is_pending face.0 id self.old.records ≡ false) × (self.new ≡ self.old)) }
     {
@@ -236,6 +241,7 @@ impl Queries {
     pub fn sent(&mut self, reply: u64) -> Result<Option<Final>, NotInFlight>
         ensures found { OnOk result (is_in_flight reply self.old.records ≡ true) }
         ensures closing { IfOk result (λ f. f ≡ final_if_open self.old.closed (over_after_reply reply self.old.records)) }
+        ensures all { IfOk result (λ f. cons_option f [] ≡ finals_landed reply self.old.closed self.old.records) }
         ensures after { OnOk result (self.new ≡ record self.old { records = landing reply self.old.records }) }
         ensures not_found { OnErr result ((is_in_flight reply self.old.records ≡ false) × (self.new ≡ self.old)) }
     {
@@ -267,8 +273,9 @@ impl Queries {
     pub fn would_reply(&self, face: FaceId, id: u32) -> Result<ReplyTo, ReplyRefusal>
         ensures to { IfOk result (λ t. next_reply face.0 id self.now ≡ Some t) }
         ensures fits { IfOk result (λ t. IsSome t.reply → self.now.replies + 1 < 2 ^ 64) }
+        ensures free { OnOk result (lacks_reply face.0 id self.now ≡ false) }
         ensures not_found { IsErrOf result ReplyRefusal.QueryNotFound → next_reply face.0 id self.now ≡ None }
-        ensures no_free { IsErrOf result ReplyRefusal.NoFreeId → (needs_number face.0 id self.now ≡ true) × (self.now.replies + 1 ≡ 2 ^ 64) }
+        ensures no_free { IsErrOf result ReplyRefusal.NoFreeId → lacks_reply face.0 id self.now ≡ true }
         ensures memory { IsErrOf result ReplyRefusal.OutOfMemory → ⊥ }
     {
         let Some(found) = self.owner(face.0, id) else {
@@ -337,8 +344,9 @@ impl Queries {
     pub fn reply(&mut self, face: FaceId, id: u32) -> Result<ReplyTo, ReplyRefusal>
         ensures to { IfOk result (λ t. next_reply face.0 id self.old ≡ Some t) }
         ensures after { IfOk result (λ t. self.new ≡ after_reply t self.old) }
+        ensures free { OnOk result (lacks_reply face.0 id self.old ≡ false) }
         ensures not_found { IsErrOf result ReplyRefusal.QueryNotFound → next_reply face.0 id self.old ≡ None }
-        ensures no_free { IsErrOf result ReplyRefusal.NoFreeId → (needs_number face.0 id self.old ≡ true) × (self.old.replies + 1 ≡ 2 ^ 64) }
+        ensures no_free { IsErrOf result ReplyRefusal.NoFreeId → lacks_reply face.0 id self.old ≡ true }
         ensures err { OnErr result (self.new ≡ self.old) }
     {
         let to = self.would_reply(face, id)?;
@@ -372,6 +380,13 @@ impl Queries {
             }
         }
         None
+    }
+
+    /// The number of the next request.
+    pub fn next_number(&self) -> u64
+        ensures { result ≡ self.now.requests }
+    {
+        self.requests
     }
 
     pub fn start_at(&mut self, face: FaceId, last: u32) -> Result<(), OutOfMemory>
