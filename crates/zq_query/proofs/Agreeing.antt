@@ -1,6 +1,6 @@
 -- Letting go by two tests that agree on what the map of places has.
-use Rattle.std.proofs.Common.{◌≡◌, ℕ, Bool, true, false, cond, List, [], ◌∷◌, ap, ◌∙◌, refl, sym, true≢false}
-use Rattle.std.specs.Prelude.{map, not, ◌&&◌, ◌||◌, ◌==◌}
+use Rattle.std.proofs.Common.{◌≡◌, ℕ, Bool, true, false, cond, List, [], ◌∷◌, ap, ◌∙◌, refl, sym}
+use Rattle.std.specs.Prelude.{map, not, ◌||◌, ◌==◌}
 use Rattle.std.specs.List.{filter, AllByRecursion}
 use Rattle.zq_query.specs.declared.queries.Open.{Open}
 use Rattle.zq_query.specs.declared.queries.Owed.{Owed}

@@ -1,11 +1,10 @@
 -- Each call hands a final under a number exactly where it stops owing it; no call leaves a request with nothing.
-use Rattle.std.proofs.Common.{◌≡◌, ℕ, ◌+◌, ◌<◌, ◌≤◌, Bool, true, false, cond, List, [], ◌∷◌, ◌++◌, length, map, ap, ◌∙◌, refl, arith, sym, true≢false, eqb-true}
-use Rattle.std.specs.Prelude.{not, nat_lt, fold, ◌&&◌, ◌||◌, ◌==◌}
-use Rattle.std.specs.List.{filter, list_any}
+use Rattle.std.proofs.Common.{◌≡◌, ℕ, ◌+◌, Bool, true, false, cond, List, [], ◌∷◌, ◌++◌, length, map, ap, ◌∙◌, refl, arith, true≢false, eqb-true}
+use Rattle.std.specs.Prelude.{not, nat_lt, ◌&&◌, ◌||◌, ◌==◌}
+use Rattle.std.specs.List.{filter}
 use Rattle.std.specs.Option.{is_some}
 use Rattle.std.specs.Ordering.{nat_cmp}
 use Rattle.std.specs.BTreeSet.{insert_key}
-use Rattle.std.specs.Cmp.{nat_eq_equiv}
 use Rattle.std.proofs.lemmas.Bool.{lt-ltb, le-ltb, ltb-true, ltb-false, eqb-false}
 use Rattle.std.proofs.lemmas.List.{length-append, append-nil}
 use Rattle.std.proofs.lemmas.List.Elements.{filter-append}
@@ -60,7 +59,6 @@ landing_balance closed n reply rs = balanced closed n (without_reply reply) (λ 
 -- a closing: the requests that the face asked are owed nothing from then on
 pub closing_balance : (n face : ℕ) (s : QueryState) → finals_under n (closing_finals face s) + owed_by (closed_with face s.closed) n (after_close face s).records ≡ owed_by (closed_with face s.closed) n s.records
 closing_balance n face s = letting_balance (closed_with face s.closed) n (at_face face) s.records
-
 
 -- ---- a reply, and what a poll puts in flight
 same_by : (closed : List ℕ) (n : ℕ) (x y : Record) (xs ys : List Record) → x.number ≡ y.number → x.asker ≡ y.asker → owed_by closed n xs ≡ owed_by closed n ys → owed_by closed n (x ∷ xs) ≡ owed_by closed n (y ∷ ys)

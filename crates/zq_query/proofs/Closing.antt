@@ -1,24 +1,24 @@
 -- The entries of a face that closes, and the requests that end with them.
-use Rattle.std.proofs.Common.{◌≡◌, ℕ, ◌+◌, ◌-◌, ◌<◌, ◌≤◌, ◌^◌, Bool, true, false, cond, List, [], ◌∷◌, length, ap, ◌∙◌, refl, arith, Some, None, Option, sym, subst, true≢false, eqb-true, eq-eqb}
+use Rattle.std.proofs.Common.{◌≡◌, ℕ, ◌+◌, ◌-◌, ◌<◌, ◌^◌, Bool, true, false, cond, List, [], ◌∷◌, length, ap, ◌∙◌, refl, arith, Some, None, Option, sym, subst, true≢false, eqb-true, eq-eqb}
 use Rattle.std.specs.Prelude.{map, not, ◌&&◌, ◌||◌, ◌==◌}
-use Rattle.std.proofs.lemmas.Bool.{eqb-false, ne_eqb}
+use Rattle.std.proofs.lemmas.Bool.{ne_eqb}
 use Rattle.std.proofs.lemmas.Cmp.{ranked}
 use Rattle.std.specs.declared.cmp.Ordering.{Ordering}
 use Rattle.std.specs.declared.cmp.Ordering.TheVariants.{Less, Equal, Greater}
 use Rattle.std.specs.declared.ops.Bound.TheVariants.{Included}
 use Rattle.std.specs.Ordering.{nat_cmp, ordering_then, is_le, is_lt}
-use Rattle.std.specs.Cmp.{nat_cmp_total, nat_eq_equiv, both_ways, first_so, second_so}
+use Rattle.std.specs.Cmp.{nat_cmp_total, nat_eq_equiv, both_ways}
 use Rattle.std.specs.Option.{option_and_then, IsSome}
 use Rattle.std.specs.List.{filter, filter_map, list_any, AllByRecursion}
 use Rattle.std.specs.List.Sorted.{IsStrictlySortedBy}
-use Rattle.std.specs.Map.{keys_of, lookup, remove_entry}
+use Rattle.std.specs.Map.{keys_of, remove_entry}
 use Rattle.std.specs.BTreeMap.{is_at}
 use Rattle.std.specs.BTreeMap.Range.{range_contains}
 use Rattle.std.proofs.lemmas.Map.Lookups.{exact_unsigned}
 use Rattle.zq_query.specs.declared.records.Final.{Final}
 use Rattle.zq_query.specs.declared.queries.Open.{Open}
 use Rattle.zq_query.specs.declared.queries.Owed.{Owed}
-use Rattle.zq_query.specs.Records.{Record, Pending, is_entry, is_over, final_of, without, letting_go, letting_go_all}
+use Rattle.zq_query.specs.Records.{Pending, is_entry, is_over, final_of, without, letting_go, letting_go_all}
 use Rattle.zq_query.specs.Polling.{is_among}
 use Rattle.zq_query.specs.Tables.{Place, Due, place_cmp, is_of, flies_for, entry_of, record_of, records_of, at_number, at_place, final_at, IsTied}
 use Rattle.zq_query.specs.Closing.{at_face, has_open_asker, finals_after}

@@ -1,5 +1,5 @@
 -- The map of deadlines, and the entries of the records that are due.
-use Rattle.std.proofs.Common.{◌≡◌, ℕ, ◌+◌, ◌-◌, ◌<◌, ◌≤◌, ◌^◌, Bool, true, false, cond, List, [], ◌∷◌, ◌++◌, length, ap, ◌∙◌, refl, arith, Some, None, Option, sym, subst, true≢false, eqb-true, eq-eqb}
+use Rattle.std.proofs.Common.{◌≡◌, ℕ, ◌-◌, ◌<◌, ◌^◌, Bool, true, false, cond, List, [], ◌∷◌, ap, ◌∙◌, refl, arith, Some, None, Option, sym, true≢false, eqb-true, eq-eqb}
 use Rattle.std.specs.Prelude.{fold, map, not, nat_lt, ◌&&◌, ◌||◌, ◌==◌}
 use Rattle.std.proofs.lemmas.Bool.{lt-ltb, le-ltb}
 use Rattle.std.proofs.lemmas.Cmp.{ranked}
@@ -7,18 +7,18 @@ use Rattle.std.specs.declared.cmp.Ordering.{Ordering}
 use Rattle.std.specs.declared.cmp.Ordering.TheVariants.{Less, Equal, Greater}
 use Rattle.std.specs.declared.ops.Bound.TheVariants.{Included, Unbounded}
 use Rattle.std.specs.Ordering.{nat_cmp, ordering_then, is_lt}
-use Rattle.std.specs.Cmp.{nat_cmp_total, nat_eq_equiv, both_ways, first_so, second_so}
+use Rattle.std.specs.Cmp.{nat_eq_equiv, both_ways, first_so, second_so}
 use Rattle.std.specs.Option.{IsSome, is_some}
 use Rattle.std.specs.List.{filter, flat_map, list_any, AllByRecursion}
 use Rattle.std.specs.List.Sorted.{IsStrictlySortedBy}
-use Rattle.std.specs.Map.{keys_of, lookup}
+use Rattle.std.specs.Map.{keys_of}
 use Rattle.std.specs.BTreeMap.{is_at}
 use Rattle.std.specs.BTreeMap.Range.{range_contains}
 use Rattle.std.specs.BTreeSet.{insert_key}
 use Rattle.std.proofs.lemmas.List.Folds.{list_any-append}
 use Rattle.zq_query.specs.declared.queries.Open.{Open}
 use Rattle.zq_query.specs.declared.queries.Owed.{Owed}
-use Rattle.zq_query.specs.Records.{Record, Pending, is_entry, any_entry}
+use Rattle.zq_query.specs.Records.{Pending, is_entry, any_entry}
 use Rattle.zq_query.specs.Tables.{Place, Due, place_cmp, due_cmp, is_of, entry_of, record_of, records_of, at_number, at_place, at_due, IsTied, IsBelow}
 use Rattle.zq_query.specs.FaceEntries.{has_key}
 use Rattle.zq_query.specs.DueEntries.{dues_until}

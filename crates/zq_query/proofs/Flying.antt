@@ -1,7 +1,7 @@
 -- Replies that are put in flight, and that land again, on the list of records.
 use Rattle.std.proofs.Common.{◌≡◌, ℕ, ◌+◌, ◌<◌, ◌≤◌, zero, suc, Bool, true, false, cond, List, [], ◌∷◌, length, take, get_or, ap, ◌∙◌, refl, arith, sym, true≢false, eqb-true}
 use Rattle.std.specs.Prelude.{map, not, nat_lt, ◌&&◌, ◌||◌, ◌==◌}
-use Rattle.std.proofs.lemmas.Bool.{ltb-true, lt-ltb, ne_eqb}
+use Rattle.std.proofs.lemmas.Bool.{ltb-true, lt-ltb}
 use Rattle.std.specs.declared.cmp.Ordering.{Ordering}
 use Rattle.std.specs.declared.cmp.Ordering.TheVariants.{Less, Equal, Greater}
 use Rattle.std.specs.Ordering.{nat_cmp, match_ordering}
@@ -11,7 +11,7 @@ use Rattle.std.specs.BTreeSet.{insert_key}
 use Rattle.std.specs.Option.{is_some}
 use Rattle.std.proofs.lemmas.Map.Lookups.{exact_unsigned}
 use Rattle.zq_query.specs.declared.records.Timeout.{Timeout}
-use Rattle.zq_query.specs.Records.{QueryState, Record, Pending, is_reply, has_reply, is_in_flight, has_number, without_reply, is_over, is_left, is_none_left, any_over, any_entry, landing, with_reply, putting, after_put}
+use Rattle.zq_query.specs.Records.{QueryState, Record, Pending, is_reply, has_reply, is_in_flight, has_number, without_reply, is_over, is_left, is_none_left, any_over, any_entry, landing, putting, after_put}
 use Rattle.zq_query.specs.Polling.{has_number_for, numbers_in, after_timeout, timing_out, has_reply_from, landing_from}
 use Rattle.zq_query.proofs.Bools.{neither_of}
 

@@ -1,5 +1,5 @@
 -- The one final of a call, as a list.
-use Rattle.std.proofs.Common.{◌≡◌, ℕ, Bool, true, false, cond, List, [], ◌∷◌, ap, refl, Some, None, Option, sym}
+use Rattle.std.proofs.Common.{◌≡◌, ℕ, Bool, true, false, cond, List, [], ◌∷◌, refl, Some, None, Option}
 use Rattle.std.specs.Prelude.{not}
 use Rattle.std.specs.List.{filter, cons_option}
 use Rattle.zq_query.specs.declared.records.Final.{Final}

@@ -1,11 +1,11 @@
 -- What the moments that have come make of the records.
-use Rattle.std.specs.Prelude.{ℕ, zero, suc, ◌+◌, ◌-◌, ◌^◌, nat_lt, Bool, not, List, [], ◌∷◌, ◌++◌, map, fold, length, Option, Some, None, if◌then◌else◌}
+use Rattle.std.specs.Prelude.{ℕ, zero, suc, ◌+◌, ◌^◌, nat_lt, Bool, not, List, [], ◌++◌, map, fold, length, Some, None, if◌then◌else◌}
 use Rattle.std.specs.List.{filter, flat_map, list_any, cons_option}
 use Rattle.std.specs.Option.{option_map, is_some}
 use Rattle.std.specs.BTreeSet.{insert_key}
 use Rattle.zq_query.specs.declared.records.Final.{Final}
 use Rattle.zq_query.specs.declared.records.Timeout.{Timeout}
-use Rattle.zq_query.specs.Records.{QueryState, Record, Pending, is_closed, request, letting_go, landing, is_entry, after_put, has_number, has_reply}
+use Rattle.zq_query.specs.Records.{QueryState, Record, Pending, is_closed, request, letting_go, landing, is_entry, after_put, has_number}
 use Rattle.zq_query.specs.Tables.{Due, due_cmp}
 
 -- the deadline has come

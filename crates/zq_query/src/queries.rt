@@ -134,6 +134,8 @@ fn settle(heads: &mut BTreeMap<u64, Open>, number: u64, left: Open) -> Option<Fi
 }
 
 impl Queries {
+    /// No open requests; the next request and the next reply have these numbers, and `request_ids` is
+    /// the id last given at each face.
     pub fn new(alloc: Global, requests: u64, replies: u64, request_ids: u32) -> Queries
         ensures { result ≡ record { records = []; last_ids = []; closed = []; requests = requests; replies = replies; request_ids = request_ids } }
     {
@@ -152,18 +154,21 @@ impl Queries {
         }
     }
 
+    /// Whether the id is pending at the face.
     pub fn is_pending(&self, face: FaceId, id: u32) -> bool
         ensures { result ≡ is_pending face.0 id self.now.records }
     {
         self.pending.contains_key(&(face.0, id))
     }
 
+    /// Whether the face was closed.
     fn is_closed(&self, face: FaceId) -> bool
         ensures { result ≡ is_closed self.now.closed face.0 }
     {
         self.closed.contains(&face.0)
     }
 
+    /// The final, if its asker is open.
     fn if_open(&self, over: Option<Final>) -> Option<Final>
         ensures { result ≡ final_if_open self.now.closed over }
     {
@@ -191,6 +196,7 @@ impl Queries {
         settle(&mut self.heads, owed.number, left)
     }
 
+    /// Whether the reply is in flight.
     pub fn is_in_flight(&self, reply: u64) -> bool
         ensures { result ≡ is_in_flight reply self.now.records }
     {
@@ -214,7 +220,8 @@ impl Queries {
         settle(&mut self.heads, number, left)
     }
 
-    /// A target's final, or the exit's denial, lets its entry go.
+    /// Lets go an entry that the exit blocked. The final, where nothing of the request is left and its
+    /// asker is open; it takes no memory.
     pub fn deny(&mut self, face: FaceId, id: u32) -> Option<Final>
         requires { is_pending face.0 id self.old.records ≡ true }
         ensures closing { result ≡ final_if_open self.old.closed (over_after (is_entry face.0 id) self.old.records) }
@@ -225,6 +232,9 @@ impl Queries {
         self.if_open(over)
     }
 
+    /// A target's final lets its entry go. The final of the request, where nothing of it is left and
+    /// its asker is open. `QueryNotFound` where the id is not pending there, and then nothing changes.
+    /// It takes no memory. Upstream: `route_send_response_final`.
     pub fn last(&mut self, face: FaceId, id: u32) -> Result<Option<Final>, QueryNotFound>
         ensures found { OnOk result (is_pending face.0 id self.old.records ≡ true) }
         ensures closing { IfOk result (λ f. f ≡ final_if_open self.old.closed (over_after (is_entry face.0 id) self.old.records)) }
@@ -238,6 +248,8 @@ impl Queries {
         Ok(self.deny(face, id))
     }
 
+    /// The reply was sent. The final of its request, where nothing of it is left and its asker is open.
+    /// `NotInFlight` where the reply is not in flight, and then nothing changes. It takes no memory.
     pub fn sent(&mut self, reply: u64) -> Result<Option<Final>, NotInFlight>
         ensures found { OnOk result (is_in_flight reply self.old.records ≡ true) }
         ensures closing { IfOk result (λ f. f ≡ final_if_open self.old.closed (over_after_reply reply self.old.records)) }
@@ -270,6 +282,7 @@ impl Queries {
         })
     }
 
+    /// What `reply` would answer, but for want of memory.
     pub fn would_reply(&self, face: FaceId, id: u32) -> Result<ReplyTo, ReplyRefusal>
         ensures to { IfOk result (λ t. next_reply face.0 id self.now ≡ Some t) }
         ensures fits { IfOk result (λ t. IsSome t.reply → self.now.replies + 1 < 2 ^ 64) }
@@ -341,6 +354,9 @@ impl Queries {
         Ok(())
     }
 
+    /// A reply to the entry: under the next reply number, and in flight, if the asker is open; without
+    /// a number if it was closed. `QueryNotFound` where the id is not pending there, `NoFreeId` where
+    /// the number 2^64 - 1 is next. A refusal leaves all as it was. Upstream: `route_send_response`.
     pub fn reply(&mut self, face: FaceId, id: u32) -> Result<ReplyTo, ReplyRefusal>
         ensures to { IfOk result (λ t. next_reply face.0 id self.old ≡ Some t) }
         ensures after { IfOk result (λ t. self.new ≡ after_reply t self.old) }
@@ -359,6 +375,7 @@ impl Queries {
         Ok(to)
     }
 
+    /// The id last given at the face.
     fn last_given(&self, face: FaceId) -> u32
         ensures { result ≡ last_given self.now face.0 }
     {
@@ -368,7 +385,8 @@ impl Queries {
         }
     }
 
-    /// The first id after the last given that is not pending there.
+    /// The id that the face is given next: the first one after the last given, round, that is not
+    /// pending there; none where all 2^32 are.
     pub fn next_id(&self, face: FaceId) -> Option<u32>
         ensures { result ≡ next_id self.now face.0 }
     {
@@ -389,6 +407,7 @@ impl Queries {
         self.requests
     }
 
+    /// Sets the id last given at the face. Where memory is lacking nothing changes.
     pub fn start_at(&mut self, face: FaceId, last: u32) -> Result<(), OutOfMemory>
         ensures after { OnOk result (self.new ≡ record self.old { last_ids = insert_entry nat_cmp self.old.last_ids face.0 last }) }
         ensures err { OnErr result (self.new ≡ self.old) }
@@ -399,7 +418,7 @@ impl Queries {
         }
     }
 
-    /// How many entries of the request are pending.
+    /// How many entries of the request are pending: 0 where it is not open.
     pub fn pending_of(&self, number: u64) -> u64
         ensures { result ≡ pending_count number self.now.records }
     {

@@ -1,4 +1,4 @@
-use Rattle.std.proofs.Common.{◌∙◌, ap, List, Option, []}
+use Rattle.std.proofs.Common.{◌∙◌, ap, Option, []}
 use Rattle.std.specs.List.{filter, cons_option}
 use Rattle.zq_query.specs.declared.records.Final.{Final}
 use Rattle.zq_query.specs.Records.{QueryState, final_if_open}

@@ -6,7 +6,7 @@ use Rattle.std.specs.BTreeMap.{is_at}
 use Rattle.std.specs.Map.{remove_entry}
 use Rattle.std.specs.Option.{is_some, option_copied}
 use Rattle.zq_query.specs.Tables.{at_number, records_of}
-use Rattle.zq_query.specs.Records.{ending_after, ending_landed, QueryState, Record, is_in_flight, landing, over_after_reply}
+use Rattle.zq_query.specs.Records.{ending_landed, QueryState, Record, is_in_flight, landing, over_after_reply}
 use Rattle.zq_query.proofs.Entries.{flying_is}
 use Rattle.zq_query.proofs.Letting.{only_landed, carrier, settled, tied_landed, below_landed, records_landed, final_landed}
 use Rattle.zq_query.proofs.Flights.{flown_out}

@@ -1,6 +1,5 @@
 use Rattle.std.proofs.Common.{◌≡◌, ◌∙◌, ◌+◌, ◌-◌, ℕ, List, sym, ap, arith}
-use Rattle.zq_query.specs.Records.{QueryState, Record, landing}
-use Rattle.zq_query.specs.Polling.{landing_from}
+use Rattle.zq_query.specs.Records.{Record, landing}
 use Rattle.zq_query.proofs.Flying.{from_none, from_step}
 use Rattle.zq_query.proofs.queries.Queries.land_from.Goals as goal
 

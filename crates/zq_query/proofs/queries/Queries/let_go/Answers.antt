@@ -3,7 +3,7 @@ use Rattle.zq_query.specs.declared.records.Final.{Final}
 use Rattle.std.proofs.Common.{Option, [], ◌≡◌, ◌∙◌, sym, ap, None, true≢false, List}
 use Rattle.std.specs.Option.{is_some, option_copied}
 use Rattle.zq_query.specs.Tables.{at_place, records_of}
-use Rattle.zq_query.specs.Records.{ending_after, ending_landed, QueryState, Record, is_pending, is_entry, letting_go, over_after}
+use Rattle.zq_query.specs.Records.{ending_after, QueryState, Record, is_pending, is_entry, letting_go, over_after}
 use Rattle.zq_query.proofs.Entries.{pending_is}
 use Rattle.zq_query.proofs.Letting.{only_let_go, head, settled, tied_let_go, below_let_go, records_let_go, final_let_go}
 use Rattle.zq_query.proofs.queries.Queries.let_go.Goals as goal

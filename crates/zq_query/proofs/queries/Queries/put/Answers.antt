@@ -1,7 +1,5 @@
-use Rattle.std.proofs.Common.{◌≡◌, ◌∙◌, ◌+◌, sym, ap, refl, Some, None, true≢false, List, arith}
-use Rattle.std.specs.Option.{is_some, option_copied}
-use Rattle.zq_query.specs.declared.records.Final.{Final}
-use Rattle.zq_query.specs.Tables.{at_place, records_of, flies_for, more_flying, final_at}
+use Rattle.std.proofs.Common.{◌∙◌, ◌+◌, sym, ap, refl, List, arith}
+use Rattle.zq_query.specs.Tables.{records_of, flies_for, more_flying}
 use Rattle.zq_query.specs.Records.{QueryState, Record, has_number, after_put}
 use Rattle.std.specs.Ordering.{nat_cmp}
 use Rattle.std.specs.Cmp.{nat_cmp_total}

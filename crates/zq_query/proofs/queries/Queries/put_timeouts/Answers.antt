@@ -1,4 +1,4 @@
-use Rattle.std.proofs.Common.{◌≡◌, ◌∙◌, ◌+◌, ◌-◌, ◌≤◌, ℕ, List, None, sym, ap, get_or, take, arith, false}
+use Rattle.std.proofs.Common.{◌≡◌, ◌∙◌, ◌-◌, List, None, sym, ap, get_or, take, arith, false}
 use Rattle.std.specs.Prelude.{not}
 use Rattle.std.specs.List.{list_any}
 use Rattle.zq_query.specs.declared.records.Timeout.{Timeout}

@@ -1,4 +1,4 @@
-use Rattle.std.proofs.Common.{◌≡◌, ◌∙◌, ◌-◌, ℕ, sym, ap, false}
+use Rattle.std.proofs.Common.{◌≡◌, ◌∙◌, ◌-◌, ℕ, ap, false}
 use Rattle.zq_query.specs.Records.{QueryState}
 use Rattle.zq_query.specs.Tables.{records_of}
 use Rattle.zq_query.specs.Polling.{has_reply_from, landing_from}
