@@ -1,13 +1,14 @@
 -- Letting go by two tests that agree on what the map of places has.
-use Rattle.std.proofs.Common.{◌≡◌, ℕ, Bool, true, false, cond, List, [], ◌∷◌, ap, ◌∙◌, refl, sym, true≢false}
-use Rattle.std.specs.Prelude.{map, not, ◌&&◌, ◌||◌, ◌==◌}
+use Rattle.std.proofs.Common.{◌≡◌, ℕ, Bool, true, false, cond, List, [], ◌∷◌, ap, ◌∙◌, refl, sym}
+use Rattle.std.specs.Prelude.{map, not, ◌||◌, ◌==◌}
 use Rattle.std.specs.List.{filter, AllByRecursion}
 use Rattle.zq_query.specs.declared.queries.Open.{Open}
 use Rattle.zq_query.specs.declared.queries.Owed.{Owed}
 use Rattle.zq_query.specs.Records.{Record, Pending, without, is_left, letting_go, letting_go_all}
+use Rattle.zq_query.specs.Polling.{is_among}
 use Rattle.zq_query.specs.Tables.{Place, Due, is_of, entry_of, record_of, records_of, IsTied}
 use Rattle.zq_query.proofs.Entries.{map_both, map_each}
-use Rattle.zq_query.proofs.Fusion.{all_fused, is_among, all_left}
+use Rattle.zq_query.proofs.Fusion.{all_fused, all_left}
 
 pub all_in : (l : List Pending) → filter (λ e. not false) l ≡ l
 all_in [] = refl
@@ -42,7 +43,7 @@ module _ (p q : Pending → Bool) where
 keeps_record : (r : Record) → without (λ _. false) r ≡ r
 keeps_record r = ap (λ l. record r { pending = l }) (all_in r.pending)
 
-keeps_all : (rs : List Record) → map (without (λ _. false)) rs ≡ rs
+pub keeps_all : (rs : List Record) → map (without (λ _. false)) rs ≡ rs
 keeps_all [] = refl
 keeps_all (r ∷ rs) = λ j. keeps_record r j ∷ keeps_all rs j
 

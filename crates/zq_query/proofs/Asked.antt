@@ -1,5 +1,5 @@
 -- A request's record while its entries are added, and when they are taken back.
-use Rattle.std.proofs.Common.{◌≡◌, ℕ, ◌+◌, ◌-◌, ◌<◌, ◌≤◌, zero, suc, Bool, true, false, cond, List, [], ◌∷◌, ◌++◌, length, take, get_or, map, ap, ◌∙◌, refl, arith, Some, sym, subst, true≢false, eqb-true}
+use Rattle.std.proofs.Common.{◌≡◌, ℕ, ◌+◌, ◌-◌, ◌<◌, zero, suc, Bool, true, false, cond, List, [], ◌∷◌, ◌++◌, length, take, get_or, map, ap, ◌∙◌, refl, arith, Some, sym, subst, true≢false, eqb-true}
 use Rattle.std.specs.Prelude.{not, nat_lt, fold, ◌&&◌, ◌||◌, ◌==◌}
 use Rattle.std.specs.declared.cmp.Ordering.{Ordering}
 use Rattle.std.specs.declared.cmp.Ordering.TheVariants.{Less, Equal, Greater}
@@ -17,15 +17,16 @@ use Rattle.std.proofs.lemmas.Map.Lookups.{exact_unsigned}
 use Rattle.zq_key.specs.declared.message.FaceId.{FaceId}
 use Rattle.zq_query.specs.declared.queries.Open.{Open}
 use Rattle.zq_query.specs.declared.queries.Owed.{Owed}
-use Rattle.zq_query.specs.Records.{Record, Pending, is_entry, has_entry, is_pending, has_number, owes_face, without, is_over, is_left, is_none_left, letting_go, letting_go_all, insert_pending, with_entry, adding}
+use Rattle.zq_query.specs.Records.{Record, Pending, is_entry, has_entry, is_pending, has_number, owes_face, without, is_left, is_none_left, letting_go, letting_go_all, insert_pending, with_entry, adding}
 use Rattle.zq_query.specs.Asking.{entry_at, entries_at, asked_record, asked_records, any_pending, has_number_from}
+use Rattle.zq_query.specs.Polling.{is_among}
 use Rattle.zq_query.specs.Tables.{Place, Due, records_of, record_of, at_number, IsTied, IsBelow}
 use Rattle.zq_query.proofs.Keys.{each_entry}
 use Rattle.zq_query.proofs.Entries.{any_map, one_has}
-use Rattle.zq_query.proofs.Fusion.{all_fused, is_among}
+use Rattle.zq_query.proofs.Fusion.{all_fused}
 use Rattle.zq_query.proofs.Giving.{any_at}
 use Rattle.zq_query.proofs.Bools.{neither_of}
-use Rattle.zq_query.proofs.Undo.{unchanged}
+use Rattle.zq_query.proofs.Unchanged.{unchanged}
 
 pub same_less : (n : ℕ) → n + 1 - 1 ≡ n
 same_less n = omega arith
@@ -153,7 +154,7 @@ pub unchanged_all : (rs : List Record) (ps : List (ℕ × ℕ)) → any_pending 
 unchanged_all rs [] h left = refl
 unchanged_all rs (p ∷ ps) h left =
     let m = neither_of (is_pending p.0 p.1 rs) (any_pending rs ps) h in
-    ap (λ l. letting_go_all l ps) (unchanged p.0 p.1 0 rs m.0 left) ∙ unchanged_all rs ps m.1 left
+    ap (λ l. letting_go_all l ps) (unchanged p.0 p.1 rs m.0 left) ∙ unchanged_all rs ps m.1 left
 
 all_out : (q : Pending → Bool) (l : List Pending) → list_any (λ e. not (q e)) l ≡ false → filter (λ e. not (q e)) l ≡ []
 all_out q [] h = refl

@@ -1,24 +1,25 @@
 -- The entries of a face that closes, and the requests that end with them.
-use Rattle.std.proofs.Common.{◌≡◌, ℕ, ◌+◌, ◌-◌, ◌<◌, ◌≤◌, ◌^◌, Bool, true, false, cond, List, [], ◌∷◌, length, ap, ◌∙◌, refl, arith, Some, None, Option, sym, subst, true≢false, eqb-true, eq-eqb}
+use Rattle.std.proofs.Common.{◌≡◌, ℕ, ◌+◌, ◌-◌, ◌<◌, ◌^◌, Bool, true, false, cond, List, [], ◌∷◌, length, ap, ◌∙◌, refl, arith, Some, None, Option, sym, subst, true≢false, eqb-true, eq-eqb}
 use Rattle.std.specs.Prelude.{map, not, ◌&&◌, ◌||◌, ◌==◌}
-use Rattle.std.proofs.lemmas.Bool.{eqb-false, ne_eqb}
+use Rattle.std.proofs.lemmas.Bool.{ne_eqb}
 use Rattle.std.proofs.lemmas.Cmp.{ranked}
 use Rattle.std.specs.declared.cmp.Ordering.{Ordering}
 use Rattle.std.specs.declared.cmp.Ordering.TheVariants.{Less, Equal, Greater}
 use Rattle.std.specs.declared.ops.Bound.TheVariants.{Included}
 use Rattle.std.specs.Ordering.{nat_cmp, ordering_then, is_le, is_lt}
-use Rattle.std.specs.Cmp.{nat_cmp_total, nat_eq_equiv, both_ways, first_so, second_so}
+use Rattle.std.specs.Cmp.{nat_cmp_total, nat_eq_equiv, both_ways}
 use Rattle.std.specs.Option.{option_and_then, IsSome}
 use Rattle.std.specs.List.{filter, filter_map, list_any, AllByRecursion}
 use Rattle.std.specs.List.Sorted.{IsStrictlySortedBy}
-use Rattle.std.specs.Map.{keys_of, lookup, remove_entry}
+use Rattle.std.specs.Map.{keys_of, remove_entry}
 use Rattle.std.specs.BTreeMap.{is_at}
 use Rattle.std.specs.BTreeMap.Range.{range_contains}
 use Rattle.std.proofs.lemmas.Map.Lookups.{exact_unsigned}
 use Rattle.zq_query.specs.declared.records.Final.{Final}
 use Rattle.zq_query.specs.declared.queries.Open.{Open}
 use Rattle.zq_query.specs.declared.queries.Owed.{Owed}
-use Rattle.zq_query.specs.Records.{Record, Pending, is_entry, is_over, final_of, without, letting_go, letting_go_all}
+use Rattle.zq_query.specs.Records.{Pending, is_entry, is_over, final_of, without, letting_go, letting_go_all}
+use Rattle.zq_query.specs.Polling.{is_among}
 use Rattle.zq_query.specs.Tables.{Place, Due, place_cmp, is_of, flies_for, entry_of, record_of, records_of, at_number, at_place, final_at, IsTied}
 use Rattle.zq_query.specs.Closing.{at_face, has_open_asker, finals_after}
 use Rattle.zq_query.specs.FaceEntries.{entries_of_face, ending, ending_by, has_key}
@@ -26,7 +27,6 @@ use Rattle.zq_query.proofs.Keys.{each_entry, same_key, at_itself, place_total, p
 use Rattle.zq_query.proofs.Bools.{or_true, neither_of}
 use Rattle.zq_query.proofs.Counts.{count-remove}
 use Rattle.zq_query.proofs.Entries.{map_both, without_place, over_is, some_is}
-use Rattle.zq_query.proofs.Fusion.{is_among}
 use Rattle.zq_query.proofs.Agreeing.{without_agree, letting_all, all_in}
 use Rattle.zq_query.proofs.Lists.{filter_members, chosen, chosen_map, chosen_keys, chosen_kept, same_keys, sorted_kept, has_kept}
 
@@ -102,7 +102,7 @@ module _ (heads : List (ℕ × Open)) (pending : List (Place × Owed)) (dues : L
 
   face_entries : entries_of_face face pending ≡ filter (is_at_face face) pending
   face_entries = filter_members (λ e. range_contains place_cmp (Included (face, 0)) (Included (face, 2 ^ 32 - 1)) e.0) (is_at_face face) pending
-      (each_entry place_total place_exact (λ e. range_contains place_cmp (Included (face, 0)) (Included (face, 2 ^ 32 - 1)) e.0 ≡ is_at_face face e) pending tied.places (λ k v h. within_by face k _ refl (tied.ids k v h)))
+      (each_entry place_total place_exact (λ e. range_contains place_cmp (Included (face, 0)) (Included (face, 2 ^ 32 - 1)) e.0 ≡ is_at_face face e) pending tied.places (λ k v h. within_by face k _ refl ((tied.fits k v h).1)))
 
   among_face : (e : Place × Owed) (b : Bool) → (e.0.0 == face) ≡ b → at_place e.0 pending ≡ Some e.1 → list_any (λ y. is_entry y.0.0 y.0.1 (entry_of e)) (filter (is_at_face face) pending) ≡ b
   among_face e true here is = one_among face e pending here is

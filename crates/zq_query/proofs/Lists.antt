@@ -1,11 +1,11 @@
 -- Filters and look-ups of lists in order; two lists in order with the same keys are one.
-use Rattle.std.proofs.Common.{◌≡◌, ℕ, Bool, true, false, cond, List, [], ◌∷◌, ap, ◌∙◌, refl, Some, None, Option, sym, subst, true≢false}
-use Rattle.std.specs.Prelude.{map, not, ◌&&◌, ◌||◌}
+use Rattle.std.proofs.Common.{◌≡◌, Bool, true, false, cond, List, [], ◌∷◌, ap, ◌∙◌, refl, Some, None, Option, sym, subst, true≢false}
+use Rattle.std.specs.Prelude.{map, ◌&&◌, ◌||◌}
 use Rattle.std.specs.declared.cmp.Ordering.{Ordering}
 use Rattle.std.specs.declared.cmp.Ordering.TheVariants.{Less, Equal, Greater}
-use Rattle.std.specs.Ordering.{match_ordering, is_eq}
+use Rattle.std.specs.Ordering.{match_ordering}
 use Rattle.std.specs.Cmp.{IsTotalOrder}
-use Rattle.std.specs.List.{filter, filter_map, cons_option, list_any, AllByRecursion}
+use Rattle.std.specs.List.{filter, filter_map, cons_option, AllByRecursion}
 use Rattle.std.specs.List.Sorted.{IsStrictlySortedBy}
 use Rattle.std.specs.BTreeMap.{is_at}
 use Rattle.std.specs.BTreeSet.{insert_key}
@@ -104,6 +104,29 @@ module _ {K : Type 0} {R : K → K → Ordering} (o : IsTotalOrder R) (exact : C
   pub sorted_kept : (p : K → Bool) (xs : List K) → IsStrictlySortedBy R xs → IsStrictlySortedBy R (filter p xs)
   sorted_kept p [] s = s
   sorted_kept p (x ∷ xs) s = sorted_by p x xs (p x) (sorted_head R x xs s) (sorted_kept p xs (sorted_tail R x xs s))
+
+  all_put_by : (P : K → Type 0) (k x : K) (xs : List K) (r : Ordering) → P k → AllByRecursion P (x ∷ xs) → AllByRecursion P (insert_key R xs k) → AllByRecursion P (match_ordering r (k ∷ x ∷ xs) (x ∷ xs) (x ∷ insert_key R xs k))
+  all_put_by P k x xs Less it all ih = (it, all)
+  all_put_by P k x xs Equal it all ih = all
+  all_put_by P k x xs Greater it all ih = (all.0, ih)
+
+  all_put : (P : K → Type 0) (k : K) (xs : List K) → P k → AllByRecursion P xs → AllByRecursion P (insert_key R xs k)
+  all_put P k [] it all = (it, tt)
+  all_put P k (x ∷ xs) it all = all_put_by P k x xs (R k x) it all (all_put P k xs it all.1)
+
+  put_sorted_by : (k x : K) (xs : List K) (r : Ordering) → R k x ≡ r → IsStrictlySortedBy R (x ∷ xs) → IsStrictlySortedBy R (insert_key R xs k) → IsStrictlySortedBy R (match_ordering r (k ∷ x ∷ xs) (x ∷ xs) (x ∷ insert_key R xs k))
+  unfolding IsStrictlySortedBy
+  put_sorted_by k x xs Less h s ih = ((h, below_chain k x xs h s.0), s)
+  put_sorted_by k x xs Equal h s ih = s
+  put_sorted_by k x xs Greater h s ih = (all_put (λ z. R x z ≡ Less) k xs (flip o k x h) s.0, ih)
+
+  one_sorted : (k : K) → IsStrictlySortedBy R (k ∷ [])
+  unfolding IsStrictlySortedBy
+  one_sorted k = (tt, tt)
+
+  pub sorted_put : (xs : List K) (k : K) → IsStrictlySortedBy R xs → IsStrictlySortedBy R (insert_key R xs k)
+  sorted_put [] k s = one_sorted k
+  sorted_put (x ∷ xs) k s = put_sorted_by k x xs (R k x) refl s (sorted_put xs k (sorted_tail R x xs s))
 
   key_by : (p : K → Bool) (q x : K) (xs : List K) (b c : Bool) → is_at (R q) x ≡ b → p x ≡ c → has_key R q (filter p xs) ≡ (p q && has_key R q xs) → has_key R q (cond c (x ∷ filter p xs) (filter p xs)) ≡ (p q && (b || has_key R q xs))
   key_by p q x xs true true e f ih =

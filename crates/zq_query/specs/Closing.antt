@@ -1,10 +1,10 @@
 -- What the closing of a face makes of the records.
-use Rattle.std.specs.Prelude.{ℕ, ◌==◌, Bool, not, List, map}
+use Rattle.std.specs.Prelude.{ℕ, ◌==◌, Bool, not, List}
 use Rattle.std.specs.List.{filter}
 use Rattle.std.specs.BTreeSet.{insert_key}
 use Rattle.std.specs.Ordering.{nat_cmp}
 use Rattle.zq_query.specs.declared.records.Final.{Final}
-use Rattle.zq_query.specs.Records.{QueryState, Record, Pending, is_closed, is_over, final_of, without, letting_go}
+use Rattle.zq_query.specs.Records.{QueryState, Record, Pending, is_closed, ending_after, ending_landed, letting_go}
 
 abbrev pub at_face : ℕ → Pending → Bool
 at_face face e = e.face == face
@@ -14,7 +14,11 @@ has_open_asker closed f = not (is_closed closed f.asker.0)
 
 -- the requests that have nothing left without the entries that pass, and whose askers are open
 abbrev pub finals_after : (Pending → Bool) → List ℕ → List Record → List Final
-finals_after p closed rs = filter (has_open_asker closed) (map final_of (filter is_over (map (without p) rs)))
+finals_after p closed rs = filter (has_open_asker closed) (ending_after p rs)
+
+-- and those that have nothing left without the reply
+abbrev pub finals_landed : ℕ → List ℕ → List Record → List Final
+finals_landed reply closed rs = filter (has_open_asker closed) (ending_landed reply rs)
 
 abbrev pub closed_with : ℕ → List ℕ → List ℕ
 closed_with face closed = insert_key nat_cmp closed face

@@ -4,13 +4,15 @@ ghost use Rattle.std.specs.BTreeMap.{get, is_at, insert_entry};
 ghost use Rattle.std.specs.Map.{remove_entry, set_value};
 ghost use Rattle.std.specs.Option.{is_some, IsSome, option_map};
 ghost use Rattle.std.specs.Ordering.{nat_cmp};
-ghost use Rattle.std.specs.List.{list_any};
+ghost use Rattle.std.specs.List.{list_any, cons_option};
 ghost use Rattle.zq_query.specs.Tables.{place_cmp, due_cmp, at_number, at_place, less_owed, less_flying, more_flying, more_owed, first_record, is_spent, final_at};
 ghost use Rattle.zq_query.specs.declared.records.Final.{Final};
-ghost use Rattle.zq_query.specs.Records.{is_pending, is_entry, is_closed, final_if_open, owner, next_reply, needs_number, after_put, after_reply, last_given, next_id, pending_count, has_number, owes_face, adding, letting_go, letting_go_all, has_deadline, has_earlier, owes_any, over_after, is_in_flight, flies, landing, over_after_reply};
+ghost use Rattle.zq_query.specs.Closing.{finals_after, finals_landed};
+ghost use Rattle.zq_query.specs.Records.{is_pending, is_entry, is_closed, final_if_open, request, owner, next_reply, lacks_reply, after_put, after_reply, last_given, next_id, pending_count, has_number, owes_face, adding, letting_go, letting_go_all, has_deadline, has_earlier, owes_any, over_after, ending_after, ending_landed, is_in_flight, flies, landing, over_after_reply};
 
 mod ask;
 mod close;
+mod poll;
 
 use crate::records::{Final, NotInFlight, QueryNotFound, ReplyRefusal, ReplyTo};
 use std::alloc::Global;
@@ -132,6 +134,8 @@ fn settle(heads: &mut BTreeMap<u64, Open>, number: u64, left: Open) -> Option<Fi
 }
 
 impl Queries {
+    /// No open requests; the next request and the next reply have these numbers, and `request_ids` is
+    /// the id last given at each face.
     pub fn new(alloc: Global, requests: u64, replies: u64, request_ids: u32) -> Queries
         ensures { result ≡ record { records = []; last_ids = []; closed = []; requests = requests; replies = replies; request_ids = request_ids } }
     {
@@ -150,18 +154,21 @@ impl Queries {
         }
     }
 
+    /// Whether the id is pending at the face.
     pub fn is_pending(&self, face: FaceId, id: u32) -> bool
         ensures { result ≡ is_pending face.0 id self.now.records }
     {
         self.pending.contains_key(&(face.0, id))
     }
 
+    /// Whether the face was closed.
     fn is_closed(&self, face: FaceId) -> bool
         ensures { result ≡ is_closed self.now.closed face.0 }
     {
         self.closed.contains(&face.0)
     }
 
+    /// The final, if its asker is open.
     fn if_open(&self, over: Option<Final>) -> Option<Final>
         ensures { result ≡ final_if_open self.now.closed over }
     {
@@ -177,6 +184,7 @@ impl Queries {
         requires { is_pending face id self.old.records ≡ true }
         ensures records { self.new ≡ record self.old { records = letting_go (is_entry face id) self.old.records } }
         ensures over { result ≡ over_after (is_entry face id) self.old.records }
+        ensures only { cons_option result [] ≡ ending_after (is_entry face id) self.old.records }
     {
         let Some(found) = self.pending.get(&(face, id)) else {
             unreachable!()
@@ -188,6 +196,7 @@ impl Queries {
         settle(&mut self.heads, owed.number, left)
     }
 
+    /// Whether the reply is in flight.
     pub fn is_in_flight(&self, reply: u64) -> bool
         ensures { result ≡ is_in_flight reply self.now.records }
     {
@@ -199,6 +208,7 @@ impl Queries {
         requires { is_in_flight reply self.old.records ≡ true }
         ensures records { self.new ≡ record self.old { records = landing reply self.old.records } }
         ensures over { result ≡ over_after_reply reply self.old.records }
+        ensures only { cons_option result [] ≡ ending_landed reply self.old.records }
     {
         let Some(found) = self.replies.get(&reply) else {
             unreachable!()
@@ -210,19 +220,25 @@ impl Queries {
         settle(&mut self.heads, number, left)
     }
 
-    /// A target's final, or the exit's denial, lets its entry go.
+    /// Lets go an entry that the exit blocked. The final, where nothing of the request is left and its
+    /// asker is open; it takes no memory.
     pub fn deny(&mut self, face: FaceId, id: u32) -> Option<Final>
         requires { is_pending face.0 id self.old.records ≡ true }
         ensures closing { result ≡ final_if_open self.old.closed (over_after (is_entry face.0 id) self.old.records) }
+        ensures all { cons_option result [] ≡ finals_after (is_entry face.0 id) self.old.closed self.old.records }
         ensures after { self.new ≡ record self.old { records = letting_go (is_entry face.0 id) self.old.records } }
     {
         let over = self.let_go(face.0, id);
         self.if_open(over)
     }
 
+    /// A target's final lets its entry go. The final of the request, where nothing of it is left and
+    /// its asker is open. `QueryNotFound` where the id is not pending there, and then nothing changes.
+    /// It takes no memory. Upstream: `route_send_response_final`.
     pub fn last(&mut self, face: FaceId, id: u32) -> Result<Option<Final>, QueryNotFound>
         ensures found { OnOk result (is_pending face.0 id self.old.records ≡ true) }
         ensures closing { IfOk result (λ f. f ≡ final_if_open self.old.closed (over_after (is_entry face.0 id) self.old.records)) }
+        ensures all { IfOk result (λ f. cons_option f [] ≡ finals_after (is_entry face.0 id) self.old.closed self.old.records) }
         ensures after { OnOk result (self.new ≡ record self.old { records = letting_go (is_entry face.0 id) self.old.records }) }
         ensures not_found { OnErr result ((is_pending face.0 id self.old.records ≡ false) × (self.new ≡ self.old)) }
     {
@@ -232,9 +248,12 @@ impl Queries {
         Ok(self.deny(face, id))
     }
 
+    /// The reply was sent. The final of its request, where nothing of it is left and its asker is open.
+    /// `NotInFlight` where the reply is not in flight, and then nothing changes. It takes no memory.
     pub fn sent(&mut self, reply: u64) -> Result<Option<Final>, NotInFlight>
         ensures found { OnOk result (is_in_flight reply self.old.records ≡ true) }
         ensures closing { IfOk result (λ f. f ≡ final_if_open self.old.closed (over_after_reply reply self.old.records)) }
+        ensures all { IfOk result (λ f. cons_option f [] ≡ finals_landed reply self.old.closed self.old.records) }
         ensures after { OnOk result (self.new ≡ record self.old { records = landing reply self.old.records }) }
         ensures not_found { OnErr result ((is_in_flight reply self.old.records ≡ false) × (self.new ≡ self.old)) }
     {
@@ -263,11 +282,13 @@ impl Queries {
         })
     }
 
+    /// What `reply` would answer, but for want of memory.
     pub fn would_reply(&self, face: FaceId, id: u32) -> Result<ReplyTo, ReplyRefusal>
         ensures to { IfOk result (λ t. next_reply face.0 id self.now ≡ Some t) }
         ensures fits { IfOk result (λ t. IsSome t.reply → self.now.replies + 1 < 2 ^ 64) }
+        ensures free { OnOk result (lacks_reply face.0 id self.now ≡ false) }
         ensures not_found { IsErrOf result ReplyRefusal.QueryNotFound → next_reply face.0 id self.now ≡ None }
-        ensures no_free { IsErrOf result ReplyRefusal.NoFreeId → (needs_number face.0 id self.now ≡ true) × (self.now.replies + 1 ≡ 2 ^ 64) }
+        ensures no_free { IsErrOf result ReplyRefusal.NoFreeId → lacks_reply face.0 id self.now ≡ true }
         ensures memory { IsErrOf result ReplyRefusal.OutOfMemory → ⊥ }
     {
         let Some(found) = self.owner(face.0, id) else {
@@ -294,18 +315,29 @@ impl Queries {
         })
     }
 
-    /// A reply to the entry is put in flight.
-    fn put(&mut self, face: u32, id: u32) -> Result<(), OutOfMemory>
-        requires pending { is_pending face id self.old.records ≡ true }
+    /// The open request with the number.
+    fn request(&self, number: u64) -> Option<Final>
+        ensures { result ≡ request number self.now.records }
+    {
+        match self.heads.get(&number) {
+            Some(open) => Some(Final {
+                number,
+                asker: open.asker,
+                id: open.id,
+                qos: open.qos,
+            }),
+            None => None,
+        }
+    }
+
+    /// A reply of the request is put in flight.
+    fn put(&mut self, number: u64) -> Result<(), OutOfMemory>
+        requires there { list_any (has_number number) self.old.records ≡ true }
         requires fits { self.old.replies + 1 < 2 ^ 64 }
-        ensures ok { OnOk result ((f : Final) → owner face id self.old.records ≡ Some f → self.new ≡ after_put f.number self.old) }
+        ensures ok { OnOk result (self.new ≡ after_put number self.old) }
         ensures err { OnErr result (self.new ≡ self.old) }
     {
         let _ = self.replies.len();
-        let Some(found) = self.pending.get(&(face, id)) else {
-            unreachable!()
-        };
-        let number = found.number;
         match self.replies.insert(self.next_reply, number) {
             Ok(_) => {}
             Err(_) => return Err(OutOfMemory),
@@ -322,16 +354,20 @@ impl Queries {
         Ok(())
     }
 
+    /// A reply to the entry: under the next reply number, and in flight, if the asker is open; without
+    /// a number if it was closed. `QueryNotFound` where the id is not pending there, `NoFreeId` where
+    /// the number 2^64 - 1 is next. A refusal leaves all as it was. Upstream: `route_send_response`.
     pub fn reply(&mut self, face: FaceId, id: u32) -> Result<ReplyTo, ReplyRefusal>
         ensures to { IfOk result (λ t. next_reply face.0 id self.old ≡ Some t) }
         ensures after { IfOk result (λ t. self.new ≡ after_reply t self.old) }
+        ensures free { OnOk result (lacks_reply face.0 id self.old ≡ false) }
         ensures not_found { IsErrOf result ReplyRefusal.QueryNotFound → next_reply face.0 id self.old ≡ None }
-        ensures no_free { IsErrOf result ReplyRefusal.NoFreeId → (needs_number face.0 id self.old ≡ true) × (self.old.replies + 1 ≡ 2 ^ 64) }
+        ensures no_free { IsErrOf result ReplyRefusal.NoFreeId → lacks_reply face.0 id self.old ≡ true }
         ensures err { OnErr result (self.new ≡ self.old) }
     {
         let to = self.would_reply(face, id)?;
         if let Some(_) = to.reply {
-            match self.put(face.0, id) {
+            match self.put(to.number) {
                 Ok(()) => return Ok(to),
                 Err(_) => return Err(ReplyRefusal::OutOfMemory),
             }
@@ -339,6 +375,7 @@ impl Queries {
         Ok(to)
     }
 
+    /// The id last given at the face.
     fn last_given(&self, face: FaceId) -> u32
         ensures { result ≡ last_given self.now face.0 }
     {
@@ -348,14 +385,8 @@ impl Queries {
         }
     }
 
-    /// The number of the next request.
-    pub fn next_number(&self) -> u64
-        ensures { result ≡ self.now.requests }
-    {
-        self.requests
-    }
-
-    /// The first id after the last given that is not pending there.
+    /// The id that the face is given next: the first one after the last given, round, that is not
+    /// pending there; none where all 2^32 are.
     pub fn next_id(&self, face: FaceId) -> Option<u32>
         ensures { result ≡ next_id self.now face.0 }
     {
@@ -369,6 +400,14 @@ impl Queries {
         None
     }
 
+    /// The number of the next request.
+    pub fn next_number(&self) -> u64
+        ensures { result ≡ self.now.requests }
+    {
+        self.requests
+    }
+
+    /// Sets the id last given at the face. Where memory is lacking nothing changes.
     pub fn start_at(&mut self, face: FaceId, last: u32) -> Result<(), OutOfMemory>
         ensures after { OnOk result (self.new ≡ record self.old { last_ids = insert_entry nat_cmp self.old.last_ids face.0 last }) }
         ensures err { OnErr result (self.new ≡ self.old) }
@@ -379,7 +418,7 @@ impl Queries {
         }
     }
 
-    /// How many entries of the request are pending.
+    /// How many entries of the request are pending: 0 where it is not open.
     pub fn pending_of(&self, number: u64) -> u64
         ensures { result ≡ pending_count number self.now.records }
     {

@@ -1,9 +1,9 @@
-use Rattle.std.proofs.Common.{◌≡◌, ◌∙◌, ◌+◌, ◌-◌, ◌<◌, ◌++◌, ◌∷◌, [], ℕ, List, sym, ap, get_or, take, length, arith, false}
-use Rattle.std.specs.List.{filter, list_any}
+use Rattle.std.proofs.Common.{◌∙◌, ◌+◌, ◌-◌, ◌++◌, ◌∷◌, [], ℕ, List, sym, ap, get_or, take, arith}
+use Rattle.std.specs.List.{filter}
 use Rattle.std.proofs.lemmas.List.{length-take-le}
 use Rattle.std.proofs.lemmas.List.Sums.{fold_more}
-use Rattle.zq_query.specs.Records.{QueryState, Record, Pending, is_pending, is_left, has_number, owes_face, adding, insert_pending, letting_go_all}
-use Rattle.zq_query.specs.Asking.{asked_record, entry_at, entries_at, any_pending, has_number_from}
+use Rattle.zq_query.specs.Records.{QueryState, Record, Pending, is_pending, is_left, owes_face, adding, insert_pending, letting_go_all}
+use Rattle.zq_query.specs.Asking.{entry_at, has_number_from}
 use Rattle.zq_query.proofs.Fusion.{all_left}
 use Rattle.zq_query.proofs.Giving.{new_face, none_at}
 use Rattle.zq_query.proofs.Asked.{none_yet, next_is_free, same_less, still_absent, still_alone, added_last, taken_back}

@@ -1,8 +1,7 @@
-use Rattle.std.proofs.Common.{◌≡◌, ◌∙◌, ◌+◌, ◌-◌, ◌<◌, ◌++◌, ◌∷◌, [], ℕ, List, sym, ap, take, length, false, refl}
+use Rattle.std.proofs.Common.{◌∙◌, ◌-◌, sym, ap}
 use Rattle.std.specs.List.{filter}
-use Rattle.std.proofs.Math.Seq.{take-length}
-use Rattle.zq_query.specs.Records.{QueryState, Record, is_left, letting_go_all}
-use Rattle.zq_query.specs.Asking.{asked_record, asked_records, has_number_from}
+use Rattle.zq_query.specs.Records.{QueryState, is_left, letting_go_all}
+use Rattle.zq_query.specs.Asking.{has_number_from}
 use Rattle.zq_query.proofs.Fusion.{all_left}
 use Rattle.zq_query.proofs.Asked.{none_yet, same_less, all_taken_back}
 use Rattle.zq_query.proofs.queries.Queries.enter_and_give.Goals as goal

@@ -1,4 +1,4 @@
-use Rattle.std.proofs.Common.{◌≡◌, ◌∙◌, ◌<◌, ℕ, List, sym, ap, subst, true, false}
+use Rattle.std.proofs.Common.{◌≡◌, ◌∙◌, ℕ, List, sym, ap, subst, true, false}
 use Rattle.std.specs.Ordering.{is_gt}
 use Rattle.std.specs.Option.{IfSome}
 use Rattle.std.specs.List.{slice_get}

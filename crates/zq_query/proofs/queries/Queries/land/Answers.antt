@@ -1,12 +1,14 @@
-use Rattle.std.proofs.Common.{◌≡◌, ◌∙◌, sym, ap, None, true≢false, List, refl}
+use Rattle.std.specs.List.{cons_option}
+use Rattle.zq_query.specs.declared.records.Final.{Final}
+use Rattle.std.proofs.Common.{Option, [], ◌≡◌, ◌∙◌, sym, ap, None, true≢false, List, refl}
 use Rattle.std.specs.Ordering.{nat_cmp}
 use Rattle.std.specs.BTreeMap.{is_at}
 use Rattle.std.specs.Map.{remove_entry}
 use Rattle.std.specs.Option.{is_some, option_copied}
 use Rattle.zq_query.specs.Tables.{at_number, records_of}
-use Rattle.zq_query.specs.Records.{QueryState, Record, is_in_flight, landing, over_after_reply}
+use Rattle.zq_query.specs.Records.{ending_landed, QueryState, Record, is_in_flight, landing, over_after_reply}
 use Rattle.zq_query.proofs.Entries.{flying_is}
-use Rattle.zq_query.proofs.Letting.{carrier, settled, tied_landed, below_landed, records_landed, final_landed}
+use Rattle.zq_query.proofs.Letting.{only_landed, carrier, settled, tied_landed, below_landed, records_landed, final_landed}
 use Rattle.zq_query.proofs.Flights.{flown_out}
 use Rattle.zq_query.proofs.queries.Queries.land.Goals as goal
 
@@ -56,3 +58,13 @@ returns-clause-over c =
     c.settle.ensures.over
     ∙ sym (final_landed i.heads.entries i.pending.entries i.dues.entries i.replies.entries c.self.invariant.0 c.args.reply n (sym c.in-Some.ensures.value) left c.fly_less-left.ensures.left)
     ∙ ap (over_after_reply c.args.reply) (ap (λ (s : QueryState). s.records) c.self.view_is)
+
+pub returns-clause-only : goal.returns-clause-only
+returns-clause-only c =
+    let i = c.self.inside in
+    let n = c.in-Some.found.now in
+    let left = c.fly_less-left.result in
+    ap (λ (q : Option Final). cons_option q []) (returns-clause-over c)
+    ∙ ap (λ (s : QueryState). cons_option (over_after_reply c.args.reply s.records) []) (sym c.self.view_is)
+    ∙ sym (only_landed i.heads.entries i.pending.entries i.dues.entries i.replies.entries c.self.invariant.0 c.args.reply n (sym c.in-Some.ensures.value) left c.fly_less-left.ensures.left)
+    ∙ ap (λ (s : QueryState). ending_landed c.args.reply s.records) c.self.view_is

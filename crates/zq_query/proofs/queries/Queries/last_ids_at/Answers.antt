@@ -1,4 +1,4 @@
-use Rattle.std.proofs.Common.{◌≡◌, ◌∙◌, ◌++◌, ◌∷◌, [], ℕ, List, Option, sym, ap, get_or}
+use Rattle.std.proofs.Common.{◌≡◌, ◌∙◌, ◌++◌, ◌∷◌, [], ℕ, sym, ap, get_or}
 use Rattle.zq_query.specs.Tables.{at_number}
 use Rattle.zq_query.specs.Records.{QueryState}
 use Rattle.zq_query.proofs.Giving.{map_more}

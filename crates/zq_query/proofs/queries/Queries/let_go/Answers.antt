@@ -1,9 +1,11 @@
-use Rattle.std.proofs.Common.{◌≡◌, ◌∙◌, sym, ap, None, true≢false, List}
+use Rattle.std.specs.List.{cons_option}
+use Rattle.zq_query.specs.declared.records.Final.{Final}
+use Rattle.std.proofs.Common.{Option, [], ◌≡◌, ◌∙◌, sym, ap, None, true≢false, List}
 use Rattle.std.specs.Option.{is_some, option_copied}
 use Rattle.zq_query.specs.Tables.{at_place, records_of}
-use Rattle.zq_query.specs.Records.{QueryState, Record, is_pending, is_entry, letting_go, over_after}
+use Rattle.zq_query.specs.Records.{ending_after, QueryState, Record, is_pending, is_entry, letting_go, over_after}
 use Rattle.zq_query.proofs.Entries.{pending_is}
-use Rattle.zq_query.proofs.Letting.{head, settled, tied_let_go, below_let_go, records_let_go, final_let_go}
+use Rattle.zq_query.proofs.Letting.{only_let_go, head, settled, tied_let_go, below_let_go, records_let_go, final_let_go}
 use Rattle.zq_query.proofs.queries.Queries.let_go.Goals as goal
 
 pub unreachable-requires : goal.unreachable-requires
@@ -52,3 +54,13 @@ returns-clause-over c =
     c.settle.ensures.over
     ∙ sym (final_let_go i.heads.entries i.pending.entries i.dues.entries i.replies.entries c.self.invariant.0 c.args.face c.args.id v (sym c.in-Some.ensures.value) left c.owe_less-left.ensures.left)
     ∙ ap (over_after (is_entry c.args.face c.args.id)) (ap (λ (s : QueryState). s.records) c.self.view_is)
+
+pub returns-clause-only : goal.returns-clause-only
+returns-clause-only c =
+    let i = c.self.inside in
+    let v = c.in-Some.found.now in
+    let left = c.owe_less-left.result in
+    ap (λ (q : Option Final). cons_option q []) (returns-clause-over c)
+    ∙ ap (λ (s : QueryState). cons_option (over_after (is_entry c.args.face c.args.id) s.records) []) (sym c.self.view_is)
+    ∙ sym (only_let_go i.heads.entries i.pending.entries i.dues.entries i.replies.entries c.self.invariant.0 c.args.face c.args.id v (sym c.in-Some.ensures.value) left c.owe_less-left.ensures.left)
+    ∙ ap (λ (s : QueryState). ending_after (is_entry c.args.face c.args.id) s.records) c.self.view_is

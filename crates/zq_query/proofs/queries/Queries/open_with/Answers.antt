@@ -55,11 +55,11 @@ invariant_of-self-2 c =
     let tied = c.self.invariant.0 in
     let absent = absent_of c.args.face c.args.id i.heads.entries i.pending.entries i.dues.entries i.replies.entries tied (ap (λ (s : QueryState). is_pending c.args.face c.args.id s.records) c.self.view_is ∙ c.requires.absent) in
     let new = new_number i.heads.entries i.pending.entries i.dues.entries i.replies.entries tied i.requests i.next_reply c.self.invariant.1 in (
-      tied_opened i.heads.entries i.pending.entries i.dues.entries i.replies.entries tied i.requests i.next_reply c.self.invariant.1 (c.args.face, c.args.id) c.args.deadline absent c.ranges.id.fits c.args.opened c.requires.counts.0 c.requires.counts.1
+      tied_opened i.heads.entries i.pending.entries i.dues.entries i.replies.entries tied i.requests i.next_reply c.self.invariant.1 (c.args.face, c.args.id) c.args.deadline absent (c.ranges.face.fits, c.ranges.id.fits) c.args.opened c.requires.counts.0 c.requires.counts.1
           c.insert.new.self.entries c.in-Ok.ensures.entries c.insert.ensures.ordered c.in-Ok.ensures.updates.0
           c.insert-2.new.self.entries c.in-Ok-insert.ensures.entries c.insert-2.ensures.ordered c.in-Ok-insert.ensures.updates.0
           c.insert-3.new.self.entries c.insert-3.ensures.ordered c.in-Ok-insert-2.ensures.updates.0,
-      below_opened i.heads.entries i.pending.entries i.dues.entries i.replies.entries tied i.requests i.next_reply c.self.invariant.1 (c.args.face, c.args.id) c.args.deadline absent c.ranges.id.fits c.args.opened c.requires.counts.0 c.requires.counts.1
+      below_opened i.heads.entries i.pending.entries i.dues.entries i.replies.entries tied i.requests i.next_reply c.self.invariant.1 (c.args.face, c.args.id) c.args.deadline absent (c.ranges.face.fits, c.ranges.id.fits) c.args.opened c.requires.counts.0 c.requires.counts.1
           c.insert.new.self.entries c.in-Ok.ensures.entries c.insert.ensures.ordered c.in-Ok.ensures.updates.0
           c.insert-2.new.self.entries c.in-Ok-insert.ensures.entries c.insert-2.ensures.ordered c.in-Ok-insert.ensures.updates.0
           c.insert-3.new.self.entries c.insert-3.ensures.ordered c.in-Ok-insert-2.ensures.updates.0,
@@ -74,7 +74,7 @@ returns-clause-ok c =
     let new = new_number i.heads.entries i.pending.entries i.dues.entries i.replies.entries tied i.requests i.next_reply c.self.invariant.1 in
     let shown : List Record → QueryState = λ l. record { records = l; last_ids = i.last_ids.entries; closed = i.closed.keys; requests = i.requests + 1; replies = i.next_reply; request_ids = i.request_ids } in
     let p : Pending = record { face = c.args.face; id = c.args.id; deadline = c.args.deadline } in
-    ap shown (records_opened i.heads.entries i.pending.entries i.dues.entries i.replies.entries tied i.requests i.next_reply c.self.invariant.1 (c.args.face, c.args.id) c.args.deadline absent c.ranges.id.fits c.args.opened c.requires.counts.0 c.requires.counts.1
+    ap shown (records_opened i.heads.entries i.pending.entries i.dues.entries i.replies.entries tied i.requests i.next_reply c.self.invariant.1 (c.args.face, c.args.id) c.args.deadline absent (c.ranges.face.fits, c.ranges.id.fits) c.args.opened c.requires.counts.0 c.requires.counts.1
     c.insert.new.self.entries c.in-Ok.ensures.entries c.insert.ensures.ordered c.in-Ok.ensures.updates.0
     c.insert-2.new.self.entries c.in-Ok-insert.ensures.entries c.insert-2.ensures.ordered c.in-Ok-insert.ensures.updates.0
     c.insert-3.new.self.entries c.insert-3.ensures.ordered c.in-Ok-insert-2.ensures.updates.0)

@@ -43,7 +43,7 @@ invariant_of-self-2 c =
     let absent = absent_of c.args.face c.args.id i.heads.entries i.pending.entries i.dues.entries i.replies.entries c.self.invariant.0 (ap (λ (s : QueryState). is_pending c.args.face c.args.id s.records) c.self.view_is ∙ c.requires.absent) in
     let alone = λ (d : ℕ). alone_of d c.args.number c.args.face i.heads.entries i.pending.entries i.dues.entries i.replies.entries c.self.invariant.0 (ap (λ (s : QueryState). owes_face c.args.number c.args.face s.records) c.self.view_is ∙ c.requires.alone) in
     rw (c.owe_more.ensures h.0 h.1) (
-      tied_owed i.heads.entries i.pending.entries i.dues.entries i.replies.entries c.self.invariant.0 (c.args.face, c.args.id) v absent alone c.ranges.id.fits h.0 (more_owed h.0) h.1 refl
+      tied_owed i.heads.entries i.pending.entries i.dues.entries i.replies.entries c.self.invariant.0 (c.args.face, c.args.id) v absent alone (c.ranges.face.fits, c.ranges.id.fits) h.0 (more_owed h.0) h.1 refl
           c.insert.new.self.entries c.in-Ok.ensures.entries c.insert.ensures.ordered c.in-Ok.ensures.updates.0 c.insert-2.new.self.entries c.insert-2.ensures.ordered c.in-Ok-insert.ensures.updates.0,
       below_owed i.heads.entries i.replies.entries i.requests i.next_reply c.args.number h.0 (more_owed h.0) h.1 c.self.invariant.1,
       c.self.invariant.2,
@@ -59,6 +59,6 @@ returns-clause-ok c =
     let absent = absent_of c.args.face c.args.id i.heads.entries i.pending.entries i.dues.entries i.replies.entries c.self.invariant.0 (ap (λ (s : QueryState). is_pending c.args.face c.args.id s.records) c.self.view_is ∙ c.requires.absent) in
     let alone = λ (d : ℕ). alone_of d c.args.number c.args.face i.heads.entries i.pending.entries i.dues.entries i.replies.entries c.self.invariant.0 (ap (λ (s : QueryState). owes_face c.args.number c.args.face s.records) c.self.view_is ∙ c.requires.alone) in
     ap shown (ap (λ l. records_of l c.insert.new.self.entries i.replies.entries) (c.owe_more.ensures h.0 h.1)
-    ∙ sym (records_owed i.heads.entries i.pending.entries i.dues.entries i.replies.entries c.self.invariant.0 (c.args.face, c.args.id) v absent alone c.ranges.id.fits h.0 (more_owed h.0) h.1 refl
+    ∙ sym (records_owed i.heads.entries i.pending.entries i.dues.entries i.replies.entries c.self.invariant.0 (c.args.face, c.args.id) v absent alone (c.ranges.face.fits, c.ranges.id.fits) h.0 (more_owed h.0) h.1 refl
     c.insert.new.self.entries c.in-Ok.ensures.entries c.insert.ensures.ordered c.in-Ok.ensures.updates.0 c.insert-2.new.self.entries c.insert-2.ensures.ordered c.in-Ok-insert.ensures.updates.0))
     ∙ ap (λ (s : QueryState). record s { records = adding c.args.number p s.records }) c.self.view_is

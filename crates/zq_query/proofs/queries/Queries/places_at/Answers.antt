@@ -1,4 +1,4 @@
-use Rattle.std.proofs.Common.{◌∙◌, sym, ap, List, ℕ}
+use Rattle.std.proofs.Common.{◌∙◌, sym, ap}
 use Rattle.zq_query.specs.Records.{QueryState, letting_go, letting_go_all}
 use Rattle.std.specs.Map.{keys_of}
 use Rattle.zq_query.specs.FaceEntries.{entries_of_face}

@@ -1,5 +1,4 @@
-use Rattle.std.proofs.Common.{◌≡◌, ◌∙◌, ◌-◌, ap, false}
-use Rattle.zq_query.specs.Records.{QueryState}
+use Rattle.std.proofs.Common.{◌≡◌, ◌∙◌, ◌-◌, false}
 use Rattle.zq_query.specs.Tables.{records_of}
 use Rattle.zq_query.specs.Asking.{has_number_from}
 use Rattle.zq_query.proofs.Asked.{below_from}

@@ -1,6 +1,5 @@
-use Rattle.std.proofs.Common.{◌∙◌, sym, ap, ℕ, List}
+use Rattle.std.proofs.Common.{◌∙◌, ap}
 use Rattle.std.specs.Ordering.{nat_cmp}
-use Rattle.zq_query.specs.Records.{QueryState}
 use Rattle.zq_query.specs.FaceEntries.{has_key, ending}
 use Rattle.std.specs.List.{filter_map}
 use Rattle.zq_query.specs.Closing.{closed_with, closing_finals}

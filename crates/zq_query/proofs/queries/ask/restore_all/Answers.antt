@@ -1,4 +1,4 @@
-use Rattle.std.proofs.Common.{◌≡◌, ◌∙◌, ◌+◌, ◌-◌, ◌<◌, ℕ, List, Option, None, sym, ap, get_or, take, arith, length}
+use Rattle.std.proofs.Common.{◌≡◌, ◌∙◌, ◌+◌, ◌-◌, ◌<◌, ℕ, List, Option, None, ap, get_or, take, arith, length}
 use Rattle.std.proofs.lemmas.List.{get_or-map}
 use Rattle.zq_query.specs.Tables.{at_number}
 use Rattle.zq_query.specs.Asking.{giving, restoring}

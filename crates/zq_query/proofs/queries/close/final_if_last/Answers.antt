@@ -1,5 +1,5 @@
-use Rattle.std.proofs.Common.{◌≡◌, ◌∙◌, ℕ, Option, Some, None, sym, ap, true, false, cond, eq-eqb}
-use Rattle.std.specs.Prelude.{◌||◌, ◌&&◌, ◌==◌, not}
+use Rattle.std.proofs.Common.{◌≡◌, ◌∙◌, Some, None, sym, ap, true, false, cond, eq-eqb}
+use Rattle.std.specs.Prelude.{◌||◌, ◌&&◌, not}
 use Rattle.std.specs.BTreeMap.{is_at}
 use Rattle.std.specs.Ordering.{nat_cmp}
 use Rattle.std.specs.Cmp.{nat_cmp_total}
@@ -7,7 +7,7 @@ use Rattle.std.specs.Option.{option_and_then}
 use Rattle.std.proofs.lemmas.Map.Lookups.{exact_unsigned}
 use Rattle.zq_query.specs.Records.{is_closed}
 use Rattle.zq_query.specs.Tables.{final_at}
-use Rattle.zq_query.specs.FaceEntries.{ending, ending_by}
+use Rattle.zq_query.specs.FaceEntries.{ending_by}
 use Rattle.zq_query.specs.Closing.{closed_with}
 use Rattle.zq_query.proofs.Keys.{at_itself, apart}
 use Rattle.zq_query.proofs.Bools.{or_true}

@@ -1,8 +1,7 @@
-use Rattle.std.proofs.Common.{◌≡◌, ◌∙◌, ◌++◌, ◌∷◌, [], ℕ, Option, sym, ap, get_or, take}
+use Rattle.std.proofs.Common.{◌∙◌, ◌++◌, ◌∷◌, [], sym, ap, get_or, take}
 use Rattle.std.specs.List.{filter_map, cons_option}
 use Rattle.std.proofs.lemmas.List.{take_more}
 use Rattle.std.proofs.lemmas.List.Elements.{filter_map-append}
-use Rattle.zq_query.specs.declared.records.Final.{Final}
 use Rattle.zq_query.specs.FaceEntries.{ending}
 use Rattle.zq_query.specs.Closing.{closed_with}
 use Rattle.zq_query.proofs.queries.close.finals_in.Goals as goal

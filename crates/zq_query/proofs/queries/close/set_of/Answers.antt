@@ -1,4 +1,4 @@
-use Rattle.std.proofs.Common.{◌≡◌, ◌∙◌, ℕ, sym, ap, get_or, cond, true, false, Bool, refl}
+use Rattle.std.proofs.Common.{◌≡◌, ◌∙◌, sym, ap, get_or, cond, true, false, Bool, refl}
 use Rattle.std.specs.Prelude.{◌||◌}
 use Rattle.std.specs.BTreeMap.{is_at}
 use Rattle.std.specs.Ordering.{nat_cmp}

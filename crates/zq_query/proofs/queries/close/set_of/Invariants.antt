@@ -1,5 +1,4 @@
 use Rattle.std.proofs.Common.{◌≡◌, ℕ, take}
-use Rattle.std.specs.List.Sorted.{IsStrictlySortedBy}
 use Rattle.std.specs.Ordering.{nat_cmp}
 use Rattle.zq_query.specs.FaceEntries.{has_key}
 use Rattle.zq_query.proofs.queries.close.set_of.Given as goal

@@ -1,0 +1,15 @@
+use Rattle.std.proofs.Common.{◌∙◌, ap, Option, []}
+use Rattle.std.specs.List.{filter, cons_option}
+use Rattle.zq_query.specs.declared.records.Final.{Final}
+use Rattle.zq_query.specs.Records.{QueryState, final_if_open}
+use Rattle.zq_query.specs.Closing.{has_open_asker}
+use Rattle.zq_query.proofs.OneFinal.{open_one}
+use Rattle.zq_query.proofs.queries.Queries.deny.Goals as goal
+
+pub returns-clause-all : goal.returns-clause-all
+returns-clause-all c =
+    let s = c.args.self.now in
+    ap (λ (q : Option Final). cons_option q []) c.if_open.ensures
+    ∙ ap (λ (z : QueryState). cons_option (final_if_open z.closed c.let_go-over.result) []) c.let_go-over.ensures.records
+    ∙ open_one s.closed c.let_go-over.result
+    ∙ ap (filter (has_open_asker s.closed)) c.let_go-over.ensures.only

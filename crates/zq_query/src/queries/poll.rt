@@ -1,0 +1,233 @@
+//! Polling: the entries whose deadlines have come are let go, with an error reply each.
+ghost use Rattle.std.specs.Prelude.{◌≡◌, ◌+◌, ◌-◌, ◌<◌, ◌≤◌, ◌^◌, ◌++◌, [], map, false, true, IfOk, OnOk, OnErr, IsErrOf};
+ghost use Rattle.std.specs.List.{list_any, cons_option};
+ghost use Rattle.std.specs.Map.{keys_of};
+ghost use Rattle.std.specs.Option.{option_map, IsSome};
+ghost use Rattle.zq_query.specs.Records.{QueryState, request, any_entry, has_number, landing};
+ghost use Rattle.zq_query.specs.Polling.{is_amiss, dues_at, timed_out, after_timeout, landing_from, timeouts_of, timeouts, numbers_in, lacks_replies, timing_out, after_poll, has_reply_from, lacks_record};
+ghost use Rattle.zq_query.specs.DueEntries.{dues_until};
+
+use crate::queries::Queries;
+use crate::records::{PollRefusal, Timeout, TimeoutList};
+use std::alloc::Global;
+use std::collections::BTreeMap;
+use zq_key::items::Items;
+use zq_key::memory::OutOfMemory;
+use zq_key::message::FaceId;
+
+/// Deadline, number and face of the entries that are due.
+fn dues_in(
+    alloc: Global,
+    dues: &BTreeMap<(u64, u64, u32), u32>,
+    now: u64,
+) -> Result<Vec<(u64, u64, u32)>, OutOfMemory>
+    ensures { IfOk result (λ found. found.items ≡ keys_of (dues_until now dues.now.entries)) }
+{
+    let found = dues
+        .range(..=(now, u64::MAX, u32::MAX))
+        .map(|due| *due.0)
+        .collect(alloc)?;
+    Ok(found)
+}
+
+/// The places of the entries that are due.
+fn places_in(
+    alloc: Global,
+    dues: &BTreeMap<(u64, u64, u32), u32>,
+    now: u64,
+) -> Result<Vec<(u32, u32)>, OutOfMemory>
+    ensures { IfOk result (λ places. places.items ≡ map (λ e. (e.0.2, e.1)) (dues_until now dues.now.entries)) }
+{
+    let places = dues
+        .range(..=(now, u64::MAX, u32::MAX))
+        .map(|due| (due.0.2, *due.1))
+        .collect(alloc)?;
+    Ok(places)
+}
+
+/// One more timeout, if there is one; the answer is the reply number after it.
+fn push_timeout(
+    list: &mut TimeoutList,
+    next: u64,
+    timeout: Option<Timeout>,
+) -> Result<u64, PollRefusal>
+    ensures list { OnOk result (list.new ≡ list.old ++ cons_option timeout []) }
+    ensures next { IfOk result (λ after. after ≡ next + numbers_in (cons_option timeout [])) }
+    ensures fits { IfOk result (λ after. after < 2 ^ 64) }
+    ensures no_free { IsErrOf result PollRefusal.NoFreeId → next + numbers_in (cons_option timeout []) ≡ 2 ^ 64 }
+{
+    let Some(timeout) = timeout else {
+        return Ok(next);
+    };
+    if timeout.reply.is_none() {
+        return match list.push(timeout) {
+            Ok(()) => Ok(next),
+            Err(_) => Err(PollRefusal::OutOfMemory),
+        };
+    }
+    if next == u64::MAX {
+        return Err(PollRefusal::NoFreeId);
+    }
+    match list.push(timeout) {
+        Ok(()) => Ok(next + 1),
+        Err(_) => Err(PollRefusal::OutOfMemory),
+    }
+}
+
+impl Queries {
+    /// Deadline, number and face of the entries that are due.
+    fn dues_by(&self, now: u64) -> Result<Vec<(u64, u64, u32)>, OutOfMemory>
+        ensures { IfOk result (λ dues. dues.items ≡ dues_at now self.now.records) }
+    {
+        let _requests = self.requests;
+        let dues = dues_in(self.alloc, &self.dues, now)?;
+        Ok(dues)
+    }
+
+    /// The places of the entries that are due.
+    fn places_by(&self, now: u64) -> Result<Vec<(u32, u32)>, OutOfMemory>
+        ensures { IfOk result (λ places. any_entry (is_amiss places.items now) self.now.records ≡ false) }
+    {
+        let _requests = self.requests;
+        let places = places_in(self.alloc, &self.dues, now)?;
+        Ok(places)
+    }
+
+    /// The timeout of an entry that is due, with this reply number if it takes one.
+    fn timeout_of(&self, next: u64, due: &(u64, u64, u32)) -> Option<Timeout>
+        ensures { result ≡ option_map (timed_out self.now next due.now) (request due.now.1 self.now.records) }
+    {
+        let found = self.request(due.1)?;
+        let mut reply = None;
+        if !self.is_closed(found.asker) {
+            reply = Some(next);
+        }
+        Some(Timeout {
+            number: found.number,
+            asker: found.asker,
+            id: found.id,
+            qos: found.qos,
+            target: FaceId(due.2),
+            reply,
+        })
+    }
+
+    /// A timeout for each of these.
+    fn timeouts_for(&self, dues: &[(u64, u64, u32)]) -> Result<TimeoutList, PollRefusal>
+        ensures list { IfOk result (λ list. list ≡ timeouts_of self.now dues.now) }
+        ensures fits { IfOk result (λ list. lacks_replies list self.now ≡ false) }
+        ensures no_free { IsErrOf result PollRefusal.NoFreeId → lacks_replies (timeouts_of self.now dues.now) self.now ≡ true }
+    {
+        let mut list = Items::new(self.alloc);
+        let mut next = self.next_reply;
+        for due in dues {
+            let timeout = self.timeout_of(next, due);
+            match push_timeout(&mut list, next, timeout) {
+                Ok(after) => next = after,
+                Err(PollRefusal::NoFreeId) => return Err(PollRefusal::NoFreeId),
+                Err(PollRefusal::OutOfMemory) => return Err(PollRefusal::OutOfMemory),
+            }
+        }
+        Ok(list)
+    }
+
+    /// What `poll` would answer.
+    pub fn would_poll(&self, now: u64) -> Result<TimeoutList, PollRefusal>
+        ensures list { IfOk result (λ list. list ≡ timeouts now self.now) }
+        ensures fits { OnOk result (lacks_replies (timeouts now self.now) self.now ≡ false) }
+        ensures no_free { IsErrOf result PollRefusal.NoFreeId → lacks_replies (timeouts now self.now) self.now ≡ true }
+    {
+        match self.dues_by(now) {
+            Ok(dues) => self.timeouts_for(dues.as_slice()),
+            Err(_) => Err(PollRefusal::OutOfMemory),
+        }
+    }
+
+    /// The reply is no longer in flight, if it was.
+    fn land_if(&mut self, reply: u64)
+        ensures { self.new ≡ record self.old { records = landing reply self.old.records } }
+    {
+        let _ = &self.alloc;
+        if !self.is_in_flight(reply) {
+            return;
+        }
+        let _ = self.land(reply);
+    }
+
+    /// The replies from the first on are no longer in flight.
+    fn land_from(&mut self, first: u64, count: u64)
+        requires { first + count < 2 ^ 64 }
+        ensures { self.new ≡ record self.old { records = landing_from first count self.old.records } }
+    {
+        for step in 0..count {
+            self.land_if(first + (count - 1 - step));
+        }
+    }
+
+    /// The replies from the first on are no longer in flight, and their numbers are free again.
+    fn withdraw_replies(&mut self, first: u64)
+        requires low { first ≤ self.old.replies }
+        requires last { has_reply_from first (landing_from first (self.old.replies - first) self.old.records) ≡ false }
+        ensures { self.new ≡ record self.old { records = landing_from first (self.old.replies - first) self.old.records; replies = first } }
+    {
+        let count = self.next_reply - first;
+        self.land_from(first, count);
+        self.next_reply = first;
+    }
+
+    /// The error reply of the timeout is put in flight.
+    fn put_timeout(&mut self, timeout: &Timeout) -> Result<(), OutOfMemory>
+        requires there { list_any (has_number timeout.now.number) self.old.records ≡ true }
+        requires fits { IsSome timeout.now.reply → self.old.replies + 1 < 2 ^ 64 }
+        ensures ok { OnOk result (self.new ≡ after_timeout self.old timeout.now) }
+        ensures err { OnErr result (self.new ≡ self.old) }
+    {
+        match timeout.reply {
+            Some(_) => self.put(timeout.number),
+            None => Ok(()),
+        }
+    }
+
+    /// The error replies of the timeouts are put in flight; all or none.
+    fn put_timeouts(&mut self, timeouts: &[Timeout]) -> Result<(), OutOfMemory>
+        requires there { lacks_record self.old.records timeouts.now ≡ false }
+        requires fits { lacks_replies timeouts.now self.old ≡ false }
+        ensures ok { OnOk result (self.new ≡ timing_out timeouts.now self.old) }
+        ensures err { OnErr result (self.new ≡ self.old) }
+    {
+        let first = self.next_reply;
+        for i in 0..timeouts.len() {
+            match self.put_timeout(&timeouts[i]) {
+                Ok(()) => {}
+                Err(_) => {
+                    self.withdraw_replies(first);
+                    return Err(OutOfMemory);
+                }
+            }
+        }
+        Ok(())
+    }
+
+    /// Lets go each entry whose deadline is at most now, in order of deadline, number and face; an
+    /// error reply of each with an open asker is in flight from here on. `NoFreeId` where fewer
+    /// reply numbers are left. A refusal leaves all as it was. Upstream: the timeout of a query.
+    pub fn poll(&mut self, now: u64) -> Result<TimeoutList, PollRefusal>
+        ensures list { IfOk result (λ list. list ≡ timeouts now self.old) }
+        ensures fits { OnOk result (lacks_replies (timeouts now self.old) self.old ≡ false) }
+        ensures after { OnOk result (self.new ≡ after_poll now self.old) }
+        ensures no_free { IsErrOf result PollRefusal.NoFreeId → lacks_replies (timeouts now self.old) self.old ≡ true }
+        ensures err { OnErr result (self.new ≡ self.old) }
+    {
+        let _ = &self.alloc;
+        let list = self.would_poll(now)?;
+        let Ok(places) = self.places_by(now) else {
+            return Err(PollRefusal::OutOfMemory);
+        };
+        match self.put_timeouts(list.as_slice()) {
+            Ok(()) => {}
+            Err(_) => return Err(PollRefusal::OutOfMemory),
+        }
+        self.drop_all(places.as_slice());
+        Ok(list)
+    }
+}
