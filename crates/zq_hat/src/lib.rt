@@ -10,6 +10,7 @@
 
 mod face;
 pub mod hat;
+mod holders;
 pub mod info;
 mod offers;
 pub mod strategy;
