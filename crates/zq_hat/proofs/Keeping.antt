@@ -263,25 +263,6 @@ retied faces fs index t s o same = record {
 }
 
 module _ (faces : List (ℕ × FaceState)) (index : Index) (t : IsTied faces index) (n : ℕ) where
-  module _ (x : FaceState) (bare : x.declared ≡ []) (absent : at_id n faces ≡ None) where
-    new_ids_by : (m : ℕ) (g : FaceState) (b : Bool) → cond b (Some x) (at_id m faces) ≡ Some g → IsStrictlySortedBy nat_cmp (keys_of g.declared)
-    new_ids_by m g true is =
-        let same : x ≡ g = let both : Some x ≡ Some g = is in cc in
-        subst (λ (y : FaceState). IsStrictlySortedBy nat_cmp (keys_of y.declared)) same (subst (λ l. IsStrictlySortedBy nat_cmp (keys_of l)) (sym bare) (sorted_nothing nat_cmp))
-    new_ids_by m g false is = t.ids m g is
-
-    nothing_by : (k : List ℕ) (p : Place) (b : Bool) → is_at (nat_cmp n) p.0 ≡ b → declared_at k p faces ≡ option_and_then (λ g. option_and_then (info_on k) (declaration p.1 g)) (cond b (Some x) (at_id p.0 faces))
-    nothing_by k p true e =
-        ap (option_and_then (λ g. option_and_then (info_on k) (declaration p.1 g))) (ap (λ m. at_id m faces) (sym (same_key nat_cmp_total exact_unsigned n p.0 e)) ∙ absent)
-        ∙ sym (ap (λ l. option_and_then (info_on k) (at_id p.1 l)) bare)
-    nothing_by k p false e = refl
-
-    pub open_keeps : IsTied (insert_entry nat_cmp faces n x) index
-    open_keeps =
-        retied faces (insert_entry nat_cmp faces n x) index t (sorted_in nat_cmp_total exact_unsigned n x faces t.numbers)
-        (λ m g is. new_ids_by m g _ (sym (found_after_insertion nat_cmp_total exact_unsigned n m x faces) ∙ is))
-        (λ k p. nothing_by k p _ refl ∙ sym (ap (option_and_then (λ g. option_and_then (info_on k) (declaration p.1 g))) (found_after_insertion nat_cmp_total exact_unsigned n p.0 x faces)))
-
   module _ (f : FaceState) (at : at_id n faces ≡ Some f) (bare : f.declared ≡ []) where
     rest_by : (m : ℕ) (g : FaceState) (b : Bool) → cond b None (at_id m faces) ≡ Some g → IsStrictlySortedBy nat_cmp (keys_of g.declared)
     rest_by m g true is = absurd (let gap : None ≡ Some g = is in cc)
