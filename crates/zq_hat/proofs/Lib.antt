@@ -10,3 +10,4 @@ pub mod IndexKeys
 pub mod Tied
 pub mod Keeping
 pub mod Turns
+pub mod OfferLaws
