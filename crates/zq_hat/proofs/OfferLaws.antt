@@ -1,12 +1,11 @@
 -- Every offer of a hat is of one of its faces, and of its region.
-use Rattle.std.proofs.Common.{◌≡◌, ◌∙◌, sym, ap, refl, ℕ, zero, suc, Bool, true, false, cond, List, [], ◌∷◌, ◌++◌, Some, None, Option, fold, take, drop}
+use Rattle.std.proofs.Common.{◌≡◌, ap, refl, ℕ, zero, suc, Bool, true, false, cond, List, [], ◌∷◌, ◌++◌, Some, None, Option, fold, take, drop}
 use Rattle.std.specs.Prelude.{◌-◌, length}
-use Rattle.std.specs.Option.{is_some, option_map_or}
+use Rattle.std.specs.Option.{is_some}
 use Rattle.std.specs.declared.cmp.Ordering.{Ordering}
 use Rattle.std.specs.Ordering.{nat_cmp, is_lt}
 use Rattle.std.specs.Cmp.{nat_cmp_total}
 use Rattle.std.specs.List.{All, AllByRecursion, flat_map, suffix_len}
-use Rattle.std.specs.Map.{lookup}
 use Rattle.std.specs.BTreeMap.{is_at}
 use Rattle.std.proofs.lemmas.List.Elements.{All-nil, All-cons}
 use Rattle.std.proofs.lemmas.Map.Lookups.{exact_unsigned}
@@ -95,11 +94,11 @@ each_region (f ∷ fs) region q = ((λ k i. refl), each_region fs region q)
 pub offers_of_faces : (s : HatState) (src : Region) (q : List ℕ) → All (λ o. has_face o.face.0 s ≡ true) (offers_of s src q)
 offers_of_faces s src q =
     all_from (λ o. has_face o.face.0 s ≡ true) (offers_of s src q)
-        (all_sorted (λ o. has_face o.face.0 s ≡ true) offer_cmp (offers_by (strategy_at s) s.region src s.faces q)
-            (strategy_all (λ o. has_face o.face.0 s ≡ true) s.region q (strategy_at s) src s.faces (each_has s.faces s.faces s.region q (all_found s.faces))))
+    (all_sorted (λ o. has_face o.face.0 s ≡ true) offer_cmp (offers_by (strategy_at s) s.region src s.faces q)
+    (strategy_all (λ o. has_face o.face.0 s ≡ true) s.region q (strategy_at s) src s.faces (each_has s.faces s.faces s.region q (all_found s.faces))))
 
 pub offers_of_region : (s : HatState) (src : Region) (q : List ℕ) → All (λ o. o.region ≡ s.region) (offers_of s src q)
 offers_of_region s src q =
     all_from (λ o. o.region ≡ s.region) (offers_of s src q)
-        (all_sorted (λ o. o.region ≡ s.region) offer_cmp (offers_by (strategy_at s) s.region src s.faces q)
-            (strategy_all (λ o. o.region ≡ s.region) s.region q (strategy_at s) src s.faces (each_region s.faces s.region q)))
+    (all_sorted (λ o. o.region ≡ s.region) offer_cmp (offers_by (strategy_at s) s.region src s.faces q)
+    (strategy_all (λ o. o.region ≡ s.region) s.region q (strategy_at s) src s.faces (each_region s.faces s.region q)))

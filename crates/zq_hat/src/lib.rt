@@ -14,4 +14,6 @@ mod holders;
 pub mod info;
 mod offers;
 pub mod strategy;
+#[cfg(test)]
+mod tests;
 pub mod types;
