@@ -1,0 +1,6 @@
+pub mod Entries
+pub mod Writing
+pub mod Below
+pub mod Replies
+pub mod Routes
+pub mod Valid

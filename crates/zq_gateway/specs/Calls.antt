@@ -1,9 +1,55 @@
 -- Kinds of calls.
-use Rattle.std.specs.Prelude.{Bool, true, false}
+use Rattle.std.specs.Prelude.{ℕ, Bool, true, false, not, ◌&&◌, ◌||◌, List, [], ◌∷◌, Option, Some, None}
+use Rattle.zq_key.specs.declared.message.Bound.{Bound}
+use Rattle.zq_key.specs.declared.message.Bound.TheVariants as bound
+use Rattle.zq_key.specs.declared.message.Mode.{Mode}
+use Rattle.zq_key.specs.declared.message.Mode.TheVariants as mode
+use Rattle.zq_key.specs.declared.message.Region.{Region}
+use Rattle.zq_key.specs.declared.message.Region.TheVariants as region
+use Rattle.zq_gateway.specs.declared.call.Opening.{Opening}
 use Rattle.zq_gateway.specs.declared.call.Call.{Call}
 use Rattle.zq_gateway.specs.declared.call.Call.TheVariants as call
+use Rattle.zq_gateway.specs.Configs.{Settings, has_region}
 
 -- the call reports a reply as sent
 abbrev pub is_sent : Call → Bool
 is_sent (call.Sent n) = true
 is_sent c = false
+
+abbrev pub is_client : Mode → Bool
+is_client mode.Router = false
+is_client mode.Peer = false
+is_client mode.Client = true
+
+abbrev pub is_north : Bound → Bool
+is_north bound.North = true
+is_north bound.South = false
+
+-- a region that keeps its faces as a broker does
+abbrev pub is_broker : Region → Bool
+is_broker region.North = false
+is_broker region.Local = true
+is_broker (region.South id m) = is_client m
+
+abbrev pub is_absent : Option (List ℕ) → Bool
+is_absent None = true
+is_absent (Some name) = false
+
+abbrev pub has_none : List (List ℕ) → Bool
+has_none [] = true
+has_none (x ∷ xs) = false
+
+-- a client without namespace and deny lists
+abbrev pub is_plain_opening : Opening → Bool
+is_plain_opening o = is_client o.mode && is_north o.remote_bound && is_absent o.namespace && has_none o.entry_deny && has_none o.exit_deny
+
+-- calls that the gateway answers today: faces are opened in broker regions as plain clients, and in regions that the configuration lacks, where they are refused
+abbrev pub is_built : Settings → Call → Bool
+is_built config (call.Open o) = not (has_region config.entries o.region) || (is_broker o.region && is_plain_opening o)
+is_built config (call.Interest face id keys wire) = false
+is_built config (call.InterestFinal face id) = false
+is_built config (call.FinalizeInterest face mark set) = false
+is_built config (call.Poll now) = false
+is_built config (call.SetNetwork r net) = false
+is_built config (call.SetNodeIds face ids) = false
+is_built config c = true

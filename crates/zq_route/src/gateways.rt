@@ -1,6 +1,10 @@
 //! Which gateways the nodes of a region have.
+ghost use Rattle.std.specs.Prelude.{◌≡◌, IfOk};
+
+use std::alloc::Global;
 use zq_hat::types::ZidList;
 use zq_key::items::Items;
+use zq_key::memory::OutOfMemory;
 use zq_key::message::Zid;
 
 /// The gateways of one node.
@@ -19,4 +23,53 @@ pub type GatewayEntryList = Items<GatewayEntry>;
 pub struct Gateways {
     pub of: GatewayEntryList,
     pub all: Option<ZidList>,
+}
+
+impl Gateways {
+    /// An equal table.
+    pub fn copy(&self, alloc: Global) -> Result<Gateways, OutOfMemory>
+        ensures { IfOk result (λ g. g ≡ self.now) }
+    {
+        Ok(Gateways {
+            of: copy_entries(alloc, self.of.as_slice())?,
+            all: copy_all(alloc, &self.all)?,
+        })
+    }
+}
+
+fn copy_all(alloc: Global, all: &Option<ZidList>) -> Result<Option<ZidList>, OutOfMemory>
+    ensures { IfOk result (λ l. l ≡ all.now) }
+{
+    match all {
+        Some(zids) => Ok(Some(copy_zids(alloc, zids.as_slice())?)),
+        None => Ok(None),
+    }
+}
+
+fn copy_zids(alloc: Global, zids: &[Zid]) -> Result<ZidList, OutOfMemory>
+    ensures { IfOk result (λ l. l ≡ zids.now) }
+{
+    Ok(Items::from_vec(Vec::from_slice(alloc, zids)?))
+}
+
+fn copy_entry(alloc: Global, entry: &GatewayEntry) -> Result<GatewayEntry, OutOfMemory>
+    ensures { IfOk result (λ e. e ≡ entry.now) }
+{
+    Ok(GatewayEntry {
+        node: entry.node,
+        gateways: copy_zids(alloc, entry.gateways.as_slice())?,
+    })
+}
+
+fn copy_entries(
+    alloc: Global,
+    entries: &[GatewayEntry],
+) -> Result<GatewayEntryList, OutOfMemory>
+    ensures { IfOk result (λ l. l ≡ entries.now) }
+{
+    let mut copies = Items::new(alloc);
+    for entry in entries {
+        copies.push(copy_entry(alloc, entry)?)?;
+    }
+    Ok(copies)
 }

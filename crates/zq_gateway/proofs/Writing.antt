@@ -1,0 +1,21 @@
+-- Finals and replies are written as they are, whatever the numbers.
+use Rattle.std.proofs.Common.{◌≡◌, ℕ, Bool, true, false, cond, List, [], ◌∷◌, map, refl}
+use Rattle.std.specs.Option.{is_some}
+use Rattle.zq_key.proofs.Naturals.{map-map}
+use Rattle.zq_key.specs.declared.message.Response.{Response}
+use Rattle.zq_query.specs.declared.records.Final.{Final}
+use Rattle.zq_query.specs.declared.records.ReplyTo.{ReplyTo}
+use Rattle.zq_naming.specs.Naming.{NamingState}
+use Rattle.zq_gateway.specs.declared.call.Handed.{Handed}
+use Rattle.zq_gateway.specs.Deciding.{handed_final, handed_reply, handed_replies}
+use Rattle.zq_gateway.specs.Machine.{written, sent_final, sent_reply, sent_replies}
+
+pub finals_written : (names : NamingState) (fs : List Final) → map (written names) (map handed_final fs) ≡ map sent_final fs
+finals_written names fs = map-map handed_final (written names) sent_final (λ f. refl) fs
+
+pub replies_written : (names : NamingState) (text : List ℕ) (r : Response) (to : ReplyTo) → map (written names) (handed_replies text r to) ≡ sent_replies text r to
+replies_written names text r to = at (is_some to.reply)
+  where
+    at : (b : Bool) → map (written names) (cond b (handed_reply text r to ∷ []) []) ≡ cond b (sent_reply text r to ∷ []) []
+    at true = refl
+    at false = refl

@@ -1,0 +1,262 @@
+-- What a call is answered, over texts: the first cause that refuses it, or what it hands and changes.
+use Rattle.std.specs.Prelude.{ℕ, ◌+◌, ◌-◌, ◌^◌, ◌==◌, min, Bool, true, false, not, ◌&&◌, ◌||◌, List, [], ◌∷◌, ◌++◌, map, length, Option, Some, None, if◌then◌else◌, unwrap_or, option_to_list, is_none}
+use Rattle.std.specs.List.{filter, flat_map, list_any}
+use Rattle.std.specs.Option.{is_some, option_map, option_map_or}
+use Rattle.std.specs.Ordering.{nat_cmp}
+use Rattle.std.specs.BTreeMap.{is_at, insert_entry}
+use Rattle.std.specs.Map.{remove_entry}
+use Rattle.std.specs.Str.{bytes_eq}
+use Rattle.zq_key.specs.Key.{is_key}
+use Rattle.zq_key.specs.declared.message.FaceId.{FaceId}
+use Rattle.zq_key.specs.declared.message.Message.{Message}
+use Rattle.zq_key.specs.declared.message.Message.TheVariants as message
+use Rattle.zq_key.specs.declared.message.ReplyBody.TheVariants as body
+use Rattle.zq_key.specs.declared.message.Region.{Region}
+use Rattle.zq_key.specs.declared.message.Request.{Request}
+use Rattle.zq_key.specs.declared.message.Response.{Response}
+use Rattle.zq_tables.specs.RegionMap.{with_entry}
+use Rattle.zq_hat.specs.declared.types.FaceRecord.{FaceRecord}
+use Rattle.zq_hat.specs.declared.types.QueryTargetQabl.{QueryTargetQabl}
+use Rattle.zq_hat.specs.Kept.{clashes_at, declaration_at, registered, unregistered, with_face_opened, without_face}
+use Rattle.zq_query.specs.declared.records.Final.{Final}
+use Rattle.zq_query.specs.declared.records.ReplyTo.{ReplyTo}
+use Rattle.zq_query.specs.declared.records.Timeout.{Timeout}
+use Rattle.zq_query.specs.Records.{QueryState, is_pending, is_in_flight, is_entry, letting_go, over_after, landing, over_after_reply, final_if_open, next_reply, after_reply, needs_number}
+use Rattle.zq_query.specs.Closing.{closing_finals, after_close}
+use Rattle.zq_query.specs.Asking.{lacks_number, given_id, after_ask}
+use Rattle.zq_naming.specs.declared.said.Said.{Said}
+use Rattle.zq_naming.specs.declared.said.Said.TheVariants as said
+use Rattle.zq_naming.specs.Naming.{NamingState, no_names, plain, with_name, without_name, change_naming}
+use Rattle.zq_gateway.specs.declared.call.Opening.{Opening}
+use Rattle.zq_gateway.specs.declared.call.Outcome.{Outcome}
+use Rattle.zq_gateway.specs.declared.call.Outcome.TheVariants as outcome
+use Rattle.zq_gateway.specs.declared.call.Refusal.{Refusal}
+use Rattle.zq_gateway.specs.declared.call.Refusal.TheVariants as refusal
+use Rattle.zq_gateway.specs.declared.call.Handed.{Handed}
+use Rattle.zq_gateway.specs.declared.call.Step.{Step}
+use Rattle.zq_gateway.specs.declared.face.OpenFace.{OpenFace}
+use Rattle.zq_gateway.specs.State.{Core, State, at, is_open, has_hat, hat_of, has_declared_in, clashes_in, joined, change_hat, change_hat_of}
+use Rattle.zq_gateway.specs.TextCalls.{TextCall, opening, closing, naming, unnaming, declaring, withdrawing, asking, replying, ending, reporting, passing, listing, unbuilt}
+use Rattle.zq_gateway.specs.Selecting.{select, target_of, is_unscoped, says_key, says_key_or_nothing, full_text}
+
+abbrev pub lacks_reply_numbers : ℕ → QueryState → Bool
+lacks_reply_numbers now q = false
+abbrev pub timeouts : ℕ → QueryState → List Timeout
+timeouts f q = []
+abbrev pub handed_timeout : Timeout → List Handed
+handed_timeout t = []
+abbrev pub after_poll : ℕ → QueryState → QueryState
+after_poll f q = q
+-- ---- causes of a refusal
+
+-- a cause that may hold, and the refusal that it gives
+abbrev pub Cause : Type 0
+Cause = Bool × Refusal
+
+-- the first cause that holds
+abbrev pub first_of : List Cause → Option Refusal
+first_of [] = None
+first_of (c ∷ cs) = if c.0 then Some c.1 else first_of cs
+
+abbrev pub is_other : List ℕ → Option (List ℕ) → Bool
+is_other text None = false
+is_other text (Some t) = not (bytes_eq t text)
+
+-- the number 0, and one that stands for another text, can't be declared
+abbrev pub remaps : ℕ → List ℕ → Option (List ℕ) → Bool
+remaps id text standing = (id == 0) || is_other text standing
+
+-- the id stands for another key at the face
+abbrev pub clashes : FaceId → ℕ → List ℕ → Core → Bool
+clashes face id key c = clashes_in face.0 id key (hat_of face.0 c)
+
+-- the face declared the id
+abbrev pub has_declared : FaceId → ℕ → Core → Bool
+has_declared face id c = has_declared_in face.0 id (hat_of face.0 c)
+
+-- the next number of faces is the last one, which is never given
+abbrev pub lacks_face_number : Core → Bool
+lacks_face_number c = c.next_face + 1 == 2 ^ 32
+
+-- the faces that the request is handed to
+abbrev pub targets : Core → FaceId → Said → Request → List FaceId
+targets c asker s r = map target_of (select c asker s r.target)
+
+-- a reply needs a number, and none is left
+abbrev pub lacks_reply_number : FaceId → ℕ → QueryState → Bool
+lacks_reply_number face rid q = needs_number face.0 rid q && (q.replies + 1 == 2 ^ 64)
+
+abbrev pub unknown_face : FaceId → Core → Cause
+unknown_face face c = (not (is_open face.0 c), refusal.UnknownFace)
+
+-- what may refuse a call, in order
+abbrev pub causes : Core → TextCall → List Cause
+causes c (opening o) = (not (has_hat o.region c), refusal.UnknownRegion) ∷ (lacks_face_number c, refusal.NoFreeId) ∷ []
+causes c (closing face) = unknown_face face c ∷ []
+causes c (naming face id s standing) =
+    unknown_face face c ∷ (is_unscoped s, refusal.UnknownScope) ∷ (not (says_key s), refusal.InvalidKeyExpr)
+    ∷ (remaps id (full_text s) standing, refusal.Remapped) ∷ []
+causes c (unnaming face id standing) = unknown_face face c ∷ (is_none standing, refusal.UnknownId) ∷ []
+causes c (declaring face id s info node) =
+    unknown_face face c ∷ (is_unscoped s, refusal.UnknownScope) ∷ (not (says_key s), refusal.InvalidKeyExpr)
+    ∷ (clashes face id (full_text s) c, refusal.IdInUse) ∷ []
+causes c (withdrawing face id) = unknown_face face c ∷ (not (has_declared face id c), refusal.UnknownId) ∷ []
+causes c (asking face s r now) = unknown_face face c ∷ (lacks_number (targets c face s r) c.queries, refusal.NoFreeId) ∷ []
+causes c (replying face s r) =
+    unknown_face face c ∷ (is_unscoped s, refusal.UnknownScope) ∷ (not (is_pending face.0 r.rid c.queries.records), refusal.QueryNotFound)
+    ∷ (not (says_key_or_nothing s), refusal.InvalidKeyExpr) ∷ (lacks_reply_number face r.rid c.queries, refusal.NoFreeId) ∷ []
+causes c (ending face rid) = unknown_face face c ∷ (not (is_pending face.0 rid c.queries.records), refusal.QueryNotFound) ∷ []
+causes c (reporting reply) = (not (is_in_flight reply c.queries.records), refusal.NotInFlight) ∷ []
+causes c (passing now) = (lacks_reply_numbers now c.queries, refusal.NoFreeId) ∷ []
+causes c (listing r table) = (not (has_hat r c), refusal.UnknownRegion) ∷ []
+causes c unbuilt = []
+
+-- the refusal of a call, if some cause of it holds
+abbrev pub refusal_of : Core → TextCall → Option Refusal
+refusal_of c t = first_of (causes c t)
+
+-- ---- what is handed, each text whole, under no number
+
+abbrev pub refused : Refusal → Step
+refused r = record { outcome = outcome.Refused r; handed = [] }
+
+abbrev pub done : List Handed → Step
+done handed = record { outcome = outcome.Done; handed = handed }
+
+-- a final to its asker
+abbrev pub handed_final : Final → Handed
+handed_final f = record { to = f.asker; number = Some f.number; reply = None; message = message.ResponseFinal (record { rid = f.id; qos = f.qos }); leaves = None }
+
+-- the deadline of a request: its timeout or the configuration's from now on, at most the last moment
+abbrev pub deadline : Core → Option ℕ → ℕ → ℕ
+deadline c timeout now = min (now + unwrap_or timeout c.config.timeout) (2 ^ 64 - 1)
+
+-- a request to the face of an offer
+abbrev pub handed_request : QueryState → List ℕ → Request → QueryTargetQabl → Handed
+handed_request q text r offer = record {
+    to = offer.face;
+    number = Some q.requests;
+    reply = None;
+    message = message.Request (record {
+      id = given_id q offer.face;
+      wire = plain text;
+      target = r.target;
+      timeout = r.timeout;
+      node = offer.node;
+      qos = r.qos;
+      payload = r.payload });
+    leaves = None }
+
+-- with no offer the final comes at once
+abbrev pub handed_requests : QueryState → FaceId → List ℕ → Request → List QueryTargetQabl → List Handed
+handed_requests q asker text r [] = handed_final (record { number = q.requests; asker = asker; id = r.id; qos = r.qos }) ∷ []
+handed_requests q asker text r (o ∷ os) = map (handed_request q text r) (o ∷ os)
+
+-- a reply to its asker
+abbrev pub handed_reply : List ℕ → Response → ReplyTo → Handed
+handed_reply text r to = record {
+    to = to.asker;
+    number = Some to.number;
+    reply = to.reply;
+    message = message.Response (record { rid = to.id; wire = plain text; qos = to.qos; payload = r.payload; responder = r.responder });
+    leaves = None }
+
+-- a reply to a closed asker is handed to no one
+abbrev pub handed_replies : List ℕ → Response → ReplyTo → List Handed
+handed_replies text r to = if is_some to.reply then handed_reply text r to ∷ [] else []
+
+abbrev pub replied : List ℕ → Response → Option ReplyTo → Step
+replied text r None = refused refusal.QueryNotFound
+replied text r (Some to) = record { outcome = outcome.Replied to.reply; handed = handed_replies text r to }
+
+-- what a call is answered that nothing refuses
+abbrev pub granted : Core → TextCall → Step
+granted c (opening o) = record { outcome = outcome.Opened (record { 0 = c.next_face }); handed = [] }
+granted c (closing face) = done (map handed_final (closing_finals face.0 c.queries))
+granted c (naming face id s standing) = done []
+granted c (unnaming face id standing) = done []
+granted c (declaring face id s info node) = done []
+granted c (withdrawing face id) = done []
+granted c (asking face s r now) = record { outcome = outcome.Asked c.queries.requests; handed = handed_requests c.queries face (full_text s) r (select c face s r.target) }
+granted c (replying face s r) = replied (full_text s) r (next_reply face.0 r.rid c.queries)
+granted c (ending face rid) = done (map handed_final (option_to_list (final_if_open c.queries.closed (over_after (is_entry face.0 rid) c.queries.records))))
+granted c (reporting reply) = done (map handed_final (option_to_list (final_if_open c.queries.closed (over_after_reply reply c.queries.records))))
+granted c (passing now) = done (flat_map handed_timeout (timeouts now c.queries))
+granted c (listing r table) = done []
+granted c unbuilt = done []
+
+abbrev pub answered : Option Refusal → Step → Step
+answered None t = t
+answered (Some r) t = refused r
+
+-- what a call is answered
+abbrev pub decide : Core → TextCall → Step
+decide c t = answered (refusal_of c t) (granted c t)
+
+abbrev pub is_accepted : Outcome → Bool
+is_accepted (outcome.Refused r) = false
+is_accepted (outcome.Opened face) = true
+is_accepted (outcome.Asked number) = true
+is_accepted (outcome.Replied reply) = true
+is_accepted outcome.Done = true
+
+-- ---- what an accepted call changes
+
+abbrev pub with_queries : Core → QueryState → Core
+with_queries c q = record c { queries = q }
+
+abbrev pub opened : Opening → OpenFace
+opened o = record { region = o.region; zid = o.zid; mode = o.mode; remote_bound = o.remote_bound }
+
+abbrev pub seat : ℕ → Opening → FaceRecord
+seat n o = record { face = record { 0 = n }; zid = o.zid; mode = o.mode; remote_bound = o.remote_bound }
+
+-- a face joins the open ones
+abbrev pub with_open : Opening → Core → Core
+with_open o c = record c { faces = insert_entry nat_cmp c.faces c.next_face (opened o); next_face = c.next_face + 1 }
+
+-- a face joins the open ones and its region's
+abbrev pub with_face : Opening → Core → Core
+with_face o c = record (with_open o c) { hats = change_hat o.region (joined (seat c.next_face o)) c.hats }
+
+-- a face leaves the open ones and its region's, and its entries are let go
+abbrev pub without_open : ℕ → Core → Core
+without_open face c = record (change_hat_of face (without_face face) c) {
+    faces = remove_entry (is_at (nat_cmp face)) c.faces;
+    queries = after_close face c.queries }
+
+abbrev pub after_replied : Option ReplyTo → QueryState → QueryState
+after_replied None q = q
+after_replied (Some to) q = after_reply to q
+
+-- the deciding part after a call that was accepted
+abbrev pub accepted : Core → TextCall → Core
+accepted c (opening o) = with_face o c
+accepted c (closing face) = without_open face.0 c
+accepted c (naming face id s standing) = c
+accepted c (unnaming face id standing) = c
+accepted c (declaring face id s info node) = change_hat_of face.0 (registered face.0 id (full_text s) info) c
+accepted c (withdrawing face id) = change_hat_of face.0 (unregistered face.0 id) c
+accepted c (asking face s r now) = with_queries c (after_ask face r.id r.qos (targets c face s r) (deadline c r.timeout now) c.queries)
+accepted c (replying face s r) = with_queries c (after_replied (next_reply face.0 r.rid c.queries) c.queries)
+accepted c (ending face rid) = with_queries c (record c.queries { records = letting_go (is_entry face.0 rid) c.queries.records })
+accepted c (reporting reply) = with_queries c (record c.queries { records = landing reply c.queries.records })
+accepted c (passing now) = with_queries c (after_poll now c.queries)
+accepted c (listing r table) = record c { tables = with_entry c.tables r table }
+accepted c unbuilt = c
+
+-- a new face has no numbers yet
+abbrev pub with_numbers : State → NamingState
+with_numbers s = insert_entry nat_cmp s.names s.core.next_face no_names
+
+-- a face joins the open ones, with no numbers yet
+abbrev pub seated : Opening → State → State
+seated o s = record { core = with_open o s.core; names = with_numbers s }
+
+-- the numbers after a call that was accepted
+abbrev pub renamed : State → TextCall → NamingState
+renamed s (opening o) = with_numbers s
+renamed s (closing face) = remove_entry (is_at (nat_cmp face.0)) s.names
+renamed s (naming face id said standing) = change_naming face.0 (with_name id (full_text said)) s.names
+renamed s (unnaming face id standing) = change_naming face.0 (without_name id) s.names
+renamed s c = s.names

@@ -1,0 +1,11 @@
+//! An open face.
+use zq_key::message::{Bound, Mode, Region, Zid};
+
+/// How an open face was opened.
+#[derive(Clone, Copy, Debug, PartialEq, Eq)]
+pub struct OpenFace {
+    pub region: Region,
+    pub zid: Zid,
+    pub mode: Mode,
+    pub remote_bound: Bound,
+}

@@ -1,0 +1,612 @@
+//! The gateway: each call is one event.
+ghost use Rattle.std.specs.Prelude.{◌≡◌, ◌<◌, ◌+◌, ◌^◌, [], Some, None, true, false, IfOk, OnOk, OnErr, option_copied, option_map, map, option_to_list};
+ghost use Rattle.std.specs.BTreeMap.{insert_entry};
+ghost use Rattle.std.specs.Option.{IsSome};
+ghost use Rattle.std.specs.Ordering.{nat_cmp};
+ghost use Rattle.std.specs.List.{list_any};
+ghost use Rattle.zq_query.specs.Records.{next_reply};
+ghost use Rattle.zq_query.specs.Asking.{are_distinct, face_numbers, is_full, lacks_number};
+ghost use Rattle.zq_naming.specs.Naming.{is_text};
+ghost use Rattle.zq_gateway.specs.declared.call.Call.TheVariants as call;
+ghost use Rattle.zq_gateway.specs.Calls.{is_built};
+ghost use Rattle.zq_gateway.specs.Deciding.{done, granted, lacks_reply_number, opened, refused, remaps, seat};
+ghost use Rattle.zq_gateway.specs.Selecting.{full_text, is_unscoped, says_key, says_key_or_nothing, select_for, target_of};
+ghost use Rattle.zq_gateway.specs.Machine.{accepted_state, after, answer, follow, step, write};
+ghost use Rattle.zq_gateway.specs.State.{at, change_hat, face_region, is_open, joined, opening_state};
+ghost use Rattle.zq_naming.specs.Naming.{face_naming, no_names, text_at};
+ghost use Rattle.zq_gateway.specs.TextCalls.{asking, closing, declaring, ending, listing, naming, opening, replying, reporting, unnaming, withdrawing};
+
+use crate::call::{Call, Opening, Outcome, Refusal, Step};
+use crate::config::Config;
+use crate::face::OpenFace;
+use crate::handed::{
+    final_in, room_for_final, written_finals, written_replies, written_requests,
+};
+use crate::hats;
+use crate::select::Asker;
+use std::alloc::{AllocError, Global};
+use std::collections::BTreeMap;
+use std::marker::Model;
+use zq_hat::hat::Hat;
+use zq_hat::types::{FaceRecord, HatRefusal, QueryTargetQabl};
+use zq_key::items::Items;
+use zq_key::memory::OutOfMemory;
+use zq_key::message::{FaceId, QueryTarget, QueryableInfoType, Region, Request, Response};
+use zq_key::text::Text;
+use zq_key::{Key, KeyError, is_key};
+use zq_naming::naming::Naming;
+use zq_naming::said::Said;
+use zq_query::queries::Queries;
+use zq_query::records::{AskRefusal, ReplyRefusal, ReplyTo};
+use zq_route::gateways::Gateways;
+use zq_tables::RegionMap;
+
+/// What carries queries between faces (upstream's `Tables` with its faces): the open faces, a hat
+/// for each region, the gateways that were listed, the open queries, and the numbers of keys.
+#[derive(Drop)]
+pub struct Gateway {
+    alloc: Global,
+    config: Config,
+    faces: BTreeMap<u32, OpenFace>,
+    next_face: u32,
+    hats: RegionMap<Hat>,
+    tables: RegionMap<Gateways>,
+    queries: Queries,
+    names: Naming,
+}
+
+impl Model for Gateway {
+    ghost use Rattle.zq_gateway.specs.State.{AreBelow, State};
+
+    ghost Value = { State };
+
+    ghost view = { λ g. record {
+        core = record {
+            config = g.config;
+            faces = g.faces.entries;
+            next_face = g.next_face;
+            hats = g.hats;
+            tables = g.tables;
+            queries = g.queries;
+        };
+        names = g.names;
+    } };
+
+    ghost invariant = { λ g. AreBelow g.next_face g.faces.entries × AreBelow g.next_face g.names };
+}
+
+impl Gateway {
+    /// A gateway of this configuration, before any call.
+    pub fn new(alloc: Global, config: &Config) -> Result<Gateway, OutOfMemory>
+        ensures { IfOk result (λ g. g ≡ opening_state config.now) }
+    {
+        let counters = *config.counters();
+        Ok(Gateway {
+            alloc,
+            config: config.copy(alloc)?,
+            faces: BTreeMap::new(alloc),
+            next_face: counters.faces,
+            hats: hats::first_hats(alloc, config)?,
+            tables: RegionMap::new(alloc),
+            queries: Queries::new(alloc, counters.requests, counters.replies, counters.request_ids),
+            names: Naming::new(alloc),
+        })
+    }
+
+    /// Makes a call: one event, which is answered by a step. The first cause that holds refuses it,
+    /// and then nothing changes; a call that finds no memory changes nothing either. Of the forms of
+    /// calls those are answered that are built (`Call::is_built`).
+    pub fn call(&mut self, call: &Call) -> Result<Step, OutOfMemory>
+        requires { is_built self.old.core.config call.now ≡ true }
+        ensures step { IfOk result (λ t. t ≡ step self.old call.now) }
+        ensures after { OnOk result (self.new ≡ after self.old call.now) }
+        ensures err { OnErr result (self.new ≡ self.old) }
+    {
+        match call {
+            Call::Open(asked) => self.open(asked),
+            Call::Close { face } => self.close(*face),
+            Call::DeclareKeyExpr { face, id, wire } => {
+                let said = self.names.said(*face, wire)?;
+                self.declare_key(*face, *id, &said)
+            }
+            Call::UndeclareKeyExpr { face, id } => self.undeclare_key(*face, *id),
+            Call::DeclareQueryable {
+                face,
+                id,
+                wire,
+                info,
+                node,
+            } => {
+                let said = self.names.said(*face, wire)?;
+                self.declare_queryable(*face, *id, &said, *info, *node)
+            }
+            Call::UndeclareQueryable {
+                face,
+                id,
+                wire: _,
+                node,
+            } => self.undeclare_queryable(*face, *id, *node),
+            Call::Request { face, request, now } => {
+                let said = self.names.said(*face, &request.wire)?;
+                self.request(*face, &said, request, *now)
+            }
+            Call::Response { face, response } => {
+                let said = self.names.said(*face, &response.wire)?;
+                self.reply(*face, &said, response)
+            }
+            Call::ResponseFinal { face, rid } => self.response_final(*face, *rid),
+            Call::Sent { reply } => self.report(*reply),
+            Call::Poll { .. } => unreachable!(),
+            Call::SetGateways { region, table } => self.set_gateways(*region, table),
+            Call::Interest { .. } => unreachable!(),
+            Call::InterestFinal { .. } => unreachable!(),
+            Call::FinalizeInterest { .. } => unreachable!(),
+            Call::SetNetwork { .. } => unreachable!(),
+            Call::SetNodeIds { .. } => unreachable!(),
+        }
+    }
+
+    fn refused(&self, refusal: Refusal) -> Step
+        ensures { result ≡ refused refusal }
+    {
+        Step {
+            outcome: Outcome::Refused(refusal),
+            handed: Items::new(self.alloc),
+        }
+    }
+
+    fn done(&self) -> Step
+        ensures { result ≡ done [] }
+    {
+        Step {
+            outcome: Outcome::Done,
+            handed: Items::new(self.alloc),
+        }
+    }
+
+    fn is_open(&self, face: FaceId) -> bool
+        ensures { result ≡ is_open face.0 self.now.core }
+    {
+        self.faces.contains_key(&face.0)
+    }
+
+    fn region_of(&self, face: FaceId) -> Option<Region>
+        ensures { result ≡ face_region face.0 self.now.core }
+    {
+        match self.faces.get(&face.0) {
+            Some(open) => Some(open.region),
+            None => None,
+        }
+    }
+
+    // A face declares a queryable.
+    fn declare_queryable(
+        &mut self,
+        face: FaceId,
+        id: u32,
+        said: &Said,
+        info: QueryableInfoType,
+        node: u16,
+    ) -> Result<Step, OutOfMemory>
+        ensures step { IfOk result (λ t. t ≡ answer self.old (declaring face id said.now info node)) }
+        ensures after { OnOk result (self.new ≡ follow self.old (declaring face id said.now info node)) }
+        ensures err { OnErr result (self.new ≡ self.old) }
+    {
+        let Some(region) = self.region_of(face) else {
+            return Ok(self.refused(Refusal::UnknownFace));
+        };
+        let text = match said {
+            Said::Unscoped => return Ok(self.refused(Refusal::UnknownScope)),
+            Said::Empty => return Ok(self.refused(Refusal::InvalidKeyExpr)),
+            Said::Full(text) => text,
+        };
+        let key = match Key::new(self.alloc, text.as_str()) {
+            Ok(key) => key,
+            Err(KeyError::Invalid) => return Ok(self.refused(Refusal::InvalidKeyExpr)),
+            Err(KeyError::OutOfMemory) => return Err(OutOfMemory),
+        };
+        match hats::register(&mut self.hats, region, face, id, &key, node, info) {
+            Ok(()) => Ok(self.done()),
+            Err(HatRefusal::IdInUse) => Ok(self.refused(Refusal::IdInUse)),
+            Err(HatRefusal::OutOfMemory) => Err(OutOfMemory),
+            Err(HatRefusal::UnknownId) => unreachable!(),
+        }
+    }
+
+    // A face withdraws a queryable.
+    fn undeclare_queryable(&mut self, face: FaceId, id: u32, node: u16) -> Result<Step, OutOfMemory>
+        ensures step { IfOk result (λ t. t ≡ answer self.old (withdrawing face id)) }
+        ensures after { OnOk result (self.new ≡ follow self.old (withdrawing face id)) }
+        ensures err { OnErr result (self.new ≡ self.old) }
+    {
+        let Some(region) = self.region_of(face) else {
+            return Ok(self.refused(Refusal::UnknownFace));
+        };
+        match hats::withdraw(&mut self.hats, region, face, id, node) {
+            Ok(()) => Ok(self.done()),
+            Err(HatRefusal::UnknownId) => Ok(self.refused(Refusal::UnknownId)),
+            Err(HatRefusal::OutOfMemory) => Err(OutOfMemory),
+            Err(HatRefusal::IdInUse) => unreachable!(),
+        }
+    }
+
+    // A target ends a query.
+    #[tactic(auto, using(crate::proofs::Writing::finals_written))]
+    fn response_final(&mut self, face: FaceId, rid: u32) -> Result<Step, OutOfMemory>
+        ensures step { IfOk result (λ t. t ≡ answer self.old (ending face rid)) }
+        ensures after { OnOk result (self.new ≡ follow self.old (ending face rid)) }
+        ensures err { OnErr result (self.new ≡ self.old) }
+    {
+        if !self.is_open(face) {
+            return Ok(self.refused(Refusal::UnknownFace));
+        }
+        let room = room_for_final(self.alloc)?;
+        match self.queries.last(face, rid) {
+            Ok(last) => Ok(Step {
+                outcome: Outcome::Done,
+                handed: final_in(room, last),
+            }),
+            Err(_) => Ok(self.refused(Refusal::QueryNotFound)),
+        }
+    }
+
+    // A reply was sent.
+    #[tactic(auto, using(crate::proofs::Writing::finals_written))]
+    fn report(&mut self, reply: u64) -> Result<Step, OutOfMemory>
+        ensures step { IfOk result (λ t. t ≡ answer self.old (reporting reply)) }
+        ensures after { OnOk result (self.new ≡ follow self.old (reporting reply)) }
+        ensures err { OnErr result (self.new ≡ self.old) }
+    {
+        let room = room_for_final(self.alloc)?;
+        match self.queries.sent(reply) {
+            Ok(last) => Ok(Step {
+                outcome: Outcome::Done,
+                handed: final_in(room, last),
+            }),
+            Err(_) => Ok(self.refused(Refusal::NotInFlight)),
+        }
+    }
+
+    // A face is opened.
+    fn open(&mut self, asked: &Opening) -> Result<Step, OutOfMemory>
+        ensures step { IfOk result (λ t. t ≡ answer self.old (opening asked.now)) }
+        ensures after { OnOk result (self.new ≡ follow self.old (opening asked.now)) }
+        ensures err { OnErr result (self.new ≡ self.old) }
+    {
+        if hats::hat_at(&self.hats, asked.region).is_none() {
+            return Ok(self.refused(Refusal::UnknownRegion));
+        }
+        if self.next_face == u32::MAX {
+            return Ok(self.refused(Refusal::NoFreeId));
+        }
+        let face = FaceId(self.next_face);
+        take_seat(&mut self.names, &mut self.faces, &mut self.hats, face, asked)?;
+        self.next_face += 1;
+        Ok(Step {
+            outcome: Outcome::Opened(face),
+            handed: Items::new(self.alloc),
+        })
+    }
+
+    fn opened(&self, face: FaceId) -> Option<OpenFace>
+        ensures { result ≡ at face.0 self.now.core.faces }
+    {
+        match self.faces.get(&face.0) {
+            Some(opened) => Some(*opened),
+            None => None,
+        }
+    }
+
+    // The offers that a request is handed to, of each face one.
+    fn select(
+        &self,
+        face: FaceId,
+        opened: OpenFace,
+        said: &Said,
+        target: QueryTarget,
+    ) -> Result<Vec<QueryTargetQabl>, OutOfMemory>
+        ensures offers { IfOk result (λ v. v.items ≡ select_for self.now.core face said.now target (Some opened)) }
+        ensures distinct { IfOk result (λ v. are_distinct (face_numbers (map target_of v.items)) ≡ true) }
+    {
+        if !says_key(said) {
+            return Ok(Vec::new(self.alloc));
+        }
+        let asker = Asker {
+            faces: &self.faces,
+            tables: &self.tables,
+            own: self.config.zid(),
+            face,
+            opened,
+        };
+        asker.select(self.alloc, &self.hats, full_text(said), target)
+    }
+
+    // A request of a face.
+    fn request(
+        &mut self,
+        face: FaceId,
+        said: &Said,
+        request: &Request,
+        now: u64,
+    ) -> Result<Step, OutOfMemory>
+        ensures step { IfOk result (λ t. t ≡ answer self.old (asking face said.now request.now now)) }
+        ensures after { OnOk result (self.new ≡ follow self.old (asking face said.now request.now now)) }
+        ensures err { OnErr result (self.new ≡ self.old) }
+    {
+        let Some(opened) = self.opened(face) else {
+            return Ok(self.refused(Refusal::UnknownFace));
+        };
+        let offers = self.select(face, opened, said, request.target)?;
+        let targets = targets_of(self.alloc, offers.as_slice())?;
+        if lacks_number(&self.queries, targets.as_slice()) {
+            return Ok(self.refused(Refusal::NoFreeId));
+        }
+        let handed = written_requests(
+            self.alloc,
+            &self.queries,
+            &self.names,
+            face,
+            full_text(said),
+            request,
+            offers.as_slice(),
+        )?;
+        let number = self.queries.next_number();
+        let deadline = now.saturating_add(request.timeout.unwrap_or(self.config.timeout()));
+        match self.queries.ask(face, request.id, request.qos, targets.as_slice(), deadline) {
+            Ok(_) => Ok(Step {
+                outcome: Outcome::Asked(number),
+                handed,
+            }),
+            Err(AskRefusal::OutOfMemory) => Err(OutOfMemory),
+            Err(AskRefusal::NoFreeId) => unreachable!(),
+        }
+    }
+
+    // A face is closed: its entries are let go, and it gives up its numbers.
+    #[tactic(auto, using(crate::proofs::Writing::finals_written))]
+    fn close(&mut self, face: FaceId) -> Result<Step, OutOfMemory>
+        ensures step { IfOk result (λ t. t ≡ answer self.old (closing face)) }
+        ensures after { OnOk result (self.new ≡ follow self.old (closing face)) }
+        ensures err { OnErr result (self.new ≡ self.old) }
+    {
+        let Some(region) = self.region_of(face) else {
+            return Ok(self.refused(Refusal::UnknownFace));
+        };
+        let finals = self.queries.would_close(face)?;
+        let handed = written_finals(self.alloc, finals.as_slice())?;
+        let _ = self.queries.close(face)?;
+        hats::leave(&mut self.hats, region, face);
+        let _ = self.faces.remove(&face.0);
+        self.names.close(face);
+        Ok(Step {
+            outcome: Outcome::Done,
+            handed,
+        })
+    }
+
+    // A reply of a target.
+    fn reply(&mut self, face: FaceId, said: &Said, response: &Response) -> Result<Step, OutOfMemory>
+        ensures step { IfOk result (λ t. t ≡ answer self.old (replying face said.now response.now)) }
+        ensures after { OnOk result (self.new ≡ follow self.old (replying face said.now response.now)) }
+        ensures err { OnErr result (self.new ≡ self.old) }
+    {
+        if !self.is_open(face) {
+            return Ok(self.refused(Refusal::UnknownFace));
+        }
+        if is_unscoped(said) {
+            return Ok(self.refused(Refusal::UnknownScope));
+        }
+        if !self.queries.is_pending(face, response.rid) {
+            return Ok(self.refused(Refusal::QueryNotFound));
+        }
+        if !says_key_or_nothing(said) {
+            return Ok(self.refused(Refusal::InvalidKeyExpr));
+        }
+        match self.queries.would_reply(face, response.rid) {
+            Ok(to) => self.put_reply(face, said, response, &to),
+            Err(ReplyRefusal::NoFreeId) => Ok(self.refused(Refusal::NoFreeId)),
+            Err(ReplyRefusal::QueryNotFound) => unreachable!(),
+            Err(ReplyRefusal::OutOfMemory) => unreachable!(),
+        }
+    }
+
+    // A reply is handed to its asker and put in flight.
+    #[tactic(auto, using(crate::proofs::Writing::replies_written))]
+    fn put_reply(
+        &mut self,
+        face: FaceId,
+        said: &Said,
+        response: &Response,
+        to: &ReplyTo,
+    ) -> Result<Step, OutOfMemory>
+        requires next { next_reply face.0 response.now.rid self.old.core.queries ≡ Some to.now }
+        requires fits { IsSome to.now.reply → self.old.core.queries.replies + 1 < 2 ^ 64 }
+        ensures step { IfOk result (λ t. t ≡ write self.old.names (granted self.old.core (replying face said.now response.now))) }
+        ensures after { OnOk result (self.new ≡ accepted_state self.old (replying face said.now response.now)) }
+        ensures err { OnErr result (self.new ≡ self.old) }
+    {
+        let handed = written_replies(self.alloc, full_text(said), response, to)?;
+        match self.queries.reply(face, response.rid) {
+            Ok(to) => Ok(Step {
+                outcome: Outcome::Replied(to.reply),
+                handed,
+            }),
+            Err(ReplyRefusal::OutOfMemory) => Err(OutOfMemory),
+            Err(ReplyRefusal::QueryNotFound) => unreachable!(),
+            Err(ReplyRefusal::NoFreeId) => unreachable!(),
+        }
+    }
+
+    // The face declares a number for a text.
+    fn declare_key(&mut self, face: FaceId, id: u16, said: &Said) -> Result<Step, OutOfMemory>
+        ensures step { IfOk result (λ t. t ≡ answer self.old (naming face id said.now (text_at id (face_naming face.0 self.old.names).theirs))) }
+        ensures after { OnOk result (self.new ≡ follow self.old (naming face id said.now (text_at id (face_naming face.0 self.old.names).theirs))) }
+        ensures err { OnErr result (self.new ≡ self.old) }
+    {
+        if !self.is_open(face) {
+            return Ok(self.refused(Refusal::UnknownFace));
+        }
+        let text = match said {
+            Said::Unscoped => return Ok(self.refused(Refusal::UnknownScope)),
+            Said::Empty => return Ok(self.refused(Refusal::InvalidKeyExpr)),
+            Said::Full(text) => text,
+        };
+        if !is_key(text.as_str()) {
+            return Ok(self.refused(Refusal::InvalidKeyExpr));
+        }
+        if remaps(id, text.as_str(), self.names.standing(face, id)) {
+            return Ok(self.refused(Refusal::Remapped));
+        }
+        self.names.declare(face, id, text.as_str())?;
+        Ok(self.done())
+    }
+
+    // The face gives a number up.
+    fn undeclare_key(&mut self, face: FaceId, id: u16) -> Result<Step, OutOfMemory>
+        ensures step { IfOk result (λ t. t ≡ answer self.old (unnaming face id (text_at id (face_naming face.0 self.old.names).theirs))) }
+        ensures after { OnOk result (self.new ≡ follow self.old (unnaming face id (text_at id (face_naming face.0 self.old.names).theirs))) }
+        ensures err { OnErr result (self.new ≡ self.old) }
+    {
+        if !self.is_open(face) {
+            return Ok(self.refused(Refusal::UnknownFace));
+        }
+        if self.names.standing(face, id).is_none() {
+            return Ok(self.refused(Refusal::UnknownId));
+        }
+        self.names.undeclare(face, id);
+        Ok(self.done())
+    }
+
+    // The gateways of a region are listed.
+    fn set_gateways(&mut self, region: Region, table: &Gateways) -> Result<Step, OutOfMemory>
+        ensures step { IfOk result (λ t. t ≡ answer self.old (listing region table.now)) }
+        ensures after { OnOk result (self.new ≡ follow self.old (listing region table.now)) }
+        ensures err { OnErr result (self.new ≡ self.old) }
+    {
+        if hats::hat_at(&self.hats, region).is_none() {
+            return Ok(self.refused(Refusal::UnknownRegion));
+        }
+        let copy = table.copy(self.alloc)?;
+        hats::put_table(&mut self.tables, region, copy)?;
+        Ok(self.done())
+    }
+}
+
+fn remaps(id: u16, text: &str, standing: Option<&Text>) -> bool
+    ensures { result ≡ remaps id text.now (option_copied standing.entry) }
+{
+    if id == 0 {
+        return true;
+    }
+    match standing {
+        Some(other) => other.as_str() != text,
+        None => false,
+    }
+}
+
+// A face joins the open ones, those that have numbers, and its region's. Each of them is as before
+// where no memory is found.
+fn take_seat(
+    names: &mut Naming,
+    faces: &mut BTreeMap<u32, OpenFace>,
+    hats: &mut RegionMap<Hat>,
+    face: FaceId,
+    opening: &Opening,
+) -> Result<(), OutOfMemory>
+    requires named { at face.0 names.old ≡ None }
+    requires absent { at face.0 faces.old.entries ≡ None }
+    ensures names { OnOk result (names.new ≡ insert_entry nat_cmp names.old face.0 no_names) }
+    ensures faces { OnOk result (faces.new.entries ≡ insert_entry nat_cmp faces.old.entries face.0 (opened opening.now)) }
+    ensures hats { OnOk result (hats.new ≡ change_hat opening.now.region (joined (seat face.0 opening.now)) hats.old) }
+    ensures no_names { OnErr result (names.new ≡ names.old) }
+    ensures no_faces { OnErr result (faces.new.entries ≡ faces.old.entries) }
+    ensures no_hats { OnErr result (hats.new ≡ hats.old) }
+{
+    names.open(face)?;
+    let open = OpenFace {
+        region: opening.region,
+        zid: opening.zid,
+        mode: opening.mode,
+        remote_bound: opening.remote_bound,
+    };
+    match faces.insert(face.0, open) {
+        Ok(_) => {}
+        Err(_) => {
+            names.close(face);
+            return Err(OutOfMemory);
+        }
+    }
+    let seat = FaceRecord {
+        face,
+        zid: opening.zid,
+        mode: opening.mode,
+        remote_bound: opening.remote_bound,
+    };
+    match hats::join(hats, opening.region, seat) {
+        Ok(()) => Ok(()),
+        Err(_) => {
+            let _ = faces.remove(&face.0);
+            names.close(face);
+            Err(OutOfMemory)
+        }
+    }
+}
+
+fn is_unscoped(said: &Said) -> bool
+    ensures { result ≡ is_unscoped said.now }
+{
+    matches!(said, Said::Unscoped)
+}
+
+fn says_key_or_nothing(said: &Said) -> bool
+    ensures { result ≡ says_key_or_nothing said.now }
+{
+    match said {
+        Said::Unscoped => false,
+        Said::Empty => true,
+        Said::Full(text) => is_key(text.as_str()),
+    }
+}
+
+fn full_text(said: &Said) -> &str
+    ensures { result.now ≡ full_text said.now }
+{
+    match said {
+        Said::Unscoped => "",
+        Said::Empty => "",
+        Said::Full(text) => text.as_str(),
+    }
+}
+
+fn says_key(said: &Said) -> bool
+    ensures { result ≡ says_key said.now }
+{
+    match said {
+        Said::Unscoped => false,
+        Said::Empty => false,
+        Said::Full(text) => is_key(text.as_str()),
+    }
+}
+
+// The faces of offers.
+fn targets_of(alloc: Global, offers: &[QueryTargetQabl]) -> Result<Vec<FaceId>, AllocError>
+    ensures { IfOk result (λ v. v.items ≡ map target_of offers.now) }
+{
+    offers.iter().map(|offer| offer.face).collect(alloc)
+}
+
+// No number is left for the request, or no id at a target.
+fn lacks_number(queries: &Queries, targets: &[FaceId]) -> bool
+    ensures { result ≡ lacks_number targets.now queries.now }
+{
+    if queries.next_number() == u64::MAX {
+        return true;
+    }
+    any_full(queries, targets)
+}
+
+fn any_full(queries: &Queries, targets: &[FaceId]) -> bool
+    ensures { result ≡ list_any (is_full queries.now) targets.now }
+{
+    targets.iter().any(|face| queries.next_id(*face).is_none())
+}

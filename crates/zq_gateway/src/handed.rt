@@ -1,0 +1,215 @@
+//! The messages that a step hands.
+ghost use Rattle.std.specs.Prelude.{◌≡◌, ◌<◌, [], ◌∷◌, IfOk, IfSome, map, option_to_list, vec_capacity, vec_len};
+ghost use Rattle.zq_naming.specs.Naming.{face_naming, plain};
+ghost use Rattle.zq_query.specs.Asking.{given_id};
+ghost use Rattle.zq_gateway.specs.Machine.{sent_final, sent_replies, written, written_message};
+ghost use Rattle.zq_gateway.specs.Deciding.{handed_request, handed_requests};
+ghost use Rattle.zq_key.specs.declared.message.Message.{Message};
+
+use crate::call::{Handed, HandedList};
+use std::alloc::{AllocError, Global};
+use zq_hat::types::QueryTargetQabl;
+use zq_key::items::Items;
+use zq_key::memory::OutOfMemory;
+use zq_key::message::{FaceId, Mapping, Message, Request, Response, ResponseFinal, WireExpr};
+use zq_key::text::Text;
+use zq_naming::naming::Naming;
+use zq_query::queries::Queries;
+use zq_query::records::{Final, ReplyTo};
+
+/// A final to its asker. It takes no memory.
+pub fn written_final(last: Final) -> Handed
+    ensures { result ≡ sent_final last }
+{
+    let message = ResponseFinal {
+        rid: last.id,
+        qos: last.qos,
+    };
+    Handed {
+        to: last.asker,
+        number: Some(last.number),
+        reply: None,
+        message: Message::ResponseFinal(message),
+        leaves: Some(Message::ResponseFinal(message)),
+    }
+}
+
+/// Room for the one message that a final may need.
+pub fn room_for_final(alloc: Global) -> Result<Vec<Handed>, AllocError>
+    ensures empty { IfOk result (λ v. v.items ≡ []) }
+    ensures room { IfOk result (λ v. vec_len v < vec_capacity v) }
+{
+    Vec::with_capacity(alloc, 1)
+}
+
+/// The final, where there is one. It takes no memory.
+pub fn final_in(mut room: Vec<Handed>, last: Option<Final>) -> HandedList
+    requires empty { room.items ≡ [] }
+    requires room { vec_len room < vec_capacity room }
+    ensures { result ≡ map sent_final (option_to_list last) }
+{
+    if let Some(last) = last {
+        match room.push(written_final(last)) {
+            Ok(()) => {}
+            Err(_) => unreachable!(),
+        }
+    }
+    Items::from_vec(room)
+}
+
+/// Finals to their askers.
+pub fn written_finals(alloc: Global, finals: &[Final]) -> Result<HandedList, OutOfMemory>
+    ensures { IfOk result (λ l. l ≡ map sent_final finals.now) }
+{
+    let mut handed = Items::new(alloc);
+    for last in finals {
+        handed.push(written_final(*last))?;
+    }
+    Ok(handed)
+}
+
+fn whole(alloc: Global, text: &str) -> Result<WireExpr, OutOfMemory>
+    ensures { IfOk result (λ w. w ≡ plain text.now) }
+{
+    Ok(WireExpr {
+        scope: 0,
+        mapping: Mapping::Sender,
+        suffix: Text::new(alloc, text)?,
+    })
+}
+
+fn reply_message(
+    alloc: Global,
+    text: &str,
+    response: &Response,
+    to: &ReplyTo,
+) -> Result<Response, OutOfMemory>
+    ensures { IfOk result (λ r. r ≡ record { rid = to.now.id; wire = plain text.now; qos = to.now.qos; payload = response.now.payload; responder = response.now.responder }) }
+{
+    Ok(Response {
+        rid: to.id,
+        wire: whole(alloc, text)?,
+        qos: to.qos,
+        payload: response.payload.copy(alloc)?,
+        responder: response.responder,
+    })
+}
+
+/// A reply to its asker; to no one, where the asker is closed.
+pub fn written_replies(
+    alloc: Global,
+    text: &str,
+    response: &Response,
+    to: &ReplyTo,
+) -> Result<HandedList, OutOfMemory>
+    ensures { IfOk result (λ l. l ≡ sent_replies text.now response.now to.now) }
+{
+    let mut handed = Items::new(alloc);
+    if to.reply.is_none() {
+        return Ok(handed);
+    }
+    let message = reply_message(alloc, text, response, to)?;
+    let leaves = message.copy(alloc)?;
+    handed.push(Handed {
+        to: to.asker,
+        number: Some(to.number),
+        reply: to.reply,
+        message: Message::Response(message),
+        leaves: Some(Message::Response(leaves)),
+    })?;
+    Ok(handed)
+}
+
+fn given_id(queries: &Queries, face: FaceId) -> u32
+    ensures { result ≡ given_id queries.now face }
+{
+    match queries.next_id(face) {
+        Some(id) => id,
+        None => 0,
+    }
+}
+
+fn request_message(
+    queries: &Queries,
+    names: &Naming,
+    text: &str,
+    request: &Request,
+    offer: &QueryTargetQabl,
+    alloc: Global,
+) -> Result<Request, OutOfMemory>
+    ensures { IfOk result (λ r. Message.Request r ≡ written_message (face_naming offer.now.face.0 names.now) (handed_request queries.now text.now request.now offer.now).message) }
+{
+    Ok(Request {
+        id: given_id(queries, offer.face),
+        wire: names.best(offer.face, text)?,
+        target: request.target,
+        timeout: request.timeout,
+        node: offer.node,
+        qos: request.qos,
+        payload: request.payload.copy(alloc)?,
+    })
+}
+
+// A request to the face of an offer.
+fn written_request(
+    alloc: Global,
+    queries: &Queries,
+    names: &Naming,
+    text: &str,
+    request: &Request,
+    offer: &QueryTargetQabl,
+) -> Result<Handed, OutOfMemory>
+    ensures { IfOk result (λ h. h ≡ written names.now (handed_request queries.now text.now request.now offer.now)) }
+{
+    let message = request_message(queries, names, text, request, offer, alloc)?;
+    let leaves = message.copy(alloc)?;
+    Ok(Handed {
+        to: offer.face,
+        number: Some(queries.next_number()),
+        reply: None,
+        message: Message::Request(message),
+        leaves: Some(Message::Request(leaves)),
+    })
+}
+
+fn requests_to(
+    alloc: Global,
+    queries: &Queries,
+    names: &Naming,
+    text: &str,
+    request: &Request,
+    offers: &[QueryTargetQabl],
+) -> Result<HandedList, OutOfMemory>
+    ensures { IfOk result (λ l. l ≡ map (written names.now) (map (handed_request queries.now text.now request.now) offers.now)) }
+{
+    let mut handed = Items::new(alloc);
+    for offer in offers {
+        handed.push(written_request(alloc, queries, names, text, request, offer)?)?;
+    }
+    Ok(handed)
+}
+
+/// What a request hands; with no offer, its final.
+pub fn written_requests(
+    alloc: Global,
+    queries: &Queries,
+    names: &Naming,
+    asker: FaceId,
+    text: &str,
+    request: &Request,
+    offers: &[QueryTargetQabl],
+) -> Result<HandedList, OutOfMemory>
+    ensures { IfOk result (λ l. l ≡ map (written names.now) (handed_requests queries.now asker text.now request.now offers.now)) }
+{
+    if !offers.is_empty() {
+        return requests_to(alloc, queries, names, text, request, offers);
+    }
+    let mut handed = Items::new(alloc);
+    handed.push(written_final(Final {
+        number: queries.next_number(),
+        asker,
+        id: request.id,
+        qos: request.qos,
+    }))?;
+    Ok(handed)
+}

@@ -1,0 +1,206 @@
+//! The hats of the regions.
+ghost use Rattle.std.specs.Prelude.{◌≡◌, true, false, Some, None, IfOk, OnOk, OnErr, IsErrOf, ◌↔◌, option_copied, is_none};
+ghost use Rattle.std.specs.Option.{is_some, option_map_or};
+ghost use Rattle.zq_hat.specs.Kept.{clashes_at, declaration_at, registered, unregistered, without_face};
+ghost use Rattle.zq_tables.specs.RegionMap.{with_entry};
+ghost use Rattle.zq_gateway.specs.Configs.{region_of};
+ghost use Rattle.zq_gateway.specs.State.{first_hats, with_hat, change_hat, clashes_in, has_declared_in, hat_at, is_region, joined};
+
+use crate::config::{Config, Entry, SOUTH_IDS};
+use std::alloc::Global;
+use zq_hat::hat::Hat;
+use zq_hat::types::{FaceRecord, HatRefusal};
+use zq_key::Key;
+use zq_key::memory::OutOfMemory;
+use zq_key::message::{FaceId, QueryableInfoType, Region};
+use zq_route::gateways::Gateways;
+use zq_tables::RegionMap;
+
+/// Whether a region of this id can be.
+pub fn is_region(region: Region) -> bool
+    ensures { result ≡ is_region region }
+{
+    match region {
+        Region::North => true,
+        Region::Local => true,
+        Region::South { id, mode: _ } => id <= SOUTH_IDS,
+    }
+}
+
+/// The hat of a region.
+pub fn hat_at(hats: &RegionMap<Hat>, region: Region) -> Option<&Hat>
+    ensures { option_copied result ≡ hat_at region hats.now }
+{
+    if !is_region(region) {
+        return None;
+    }
+    hats.get(&region)
+}
+
+/// A face joins its region's hat.
+pub fn join(hats: &mut RegionMap<Hat>, region: Region, face: FaceRecord) -> Result<(), OutOfMemory>
+    ensures ok { OnOk result (hats.new ≡ change_hat region (joined face) hats.old) }
+    ensures err { OnErr result (hats.new ≡ hats.old) }
+{
+    if !is_region(region) {
+        return Ok(());
+    }
+    match hats.get_mut(&region) {
+        Some(hat) => join_hat(hat, face),
+        None => Ok(()),
+    }
+}
+
+fn join_hat(hat: &mut Hat, face: FaceRecord) -> Result<(), OutOfMemory>
+    ensures ok { OnOk result (hat.new ≡ joined face hat.old) }
+    ensures err { OnErr result (hat.new ≡ hat.old) }
+{
+    if hat.has_face(face.face) {
+        return Ok(());
+    }
+    hat.new_face(face)
+}
+
+/// A face leaves its region's hat. It takes no memory.
+pub fn leave(hats: &mut RegionMap<Hat>, region: Region, face: FaceId)
+    ensures { hats.new ≡ change_hat region (without_face face.0) hats.old }
+{
+    if !is_region(region) {
+        return;
+    }
+    match hats.get_mut(&region) {
+        Some(hat) => leave_hat(hat, face),
+        None => {}
+    }
+}
+
+fn leave_hat(hat: &mut Hat, face: FaceId)
+    ensures { hat.new ≡ without_face face.0 hat.old }
+{
+    if hat.has_face(face) {
+        hat.forget_face(face);
+    }
+}
+
+/// A face declares a queryable. Refused where the id stands for another key.
+pub fn register(
+    hats: &mut RegionMap<Hat>,
+    region: Region,
+    face: FaceId,
+    id: u32,
+    key: &Key,
+    node: u16,
+    info: QueryableInfoType,
+) -> Result<(), HatRefusal>
+    ensures in_use { IsErrOf result HatRefusal.IdInUse ↔ (clashes_in face.0 id key.now (hat_at region hats.old) ≡ true) }
+    ensures known { IsErrOf result HatRefusal.UnknownId → ⊥ }
+    ensures ok { OnOk result (hats.new ≡ change_hat region (registered face.0 id key.now info) hats.old) }
+    ensures err { OnErr result (hats.new ≡ hats.old) }
+{
+    if !is_region(region) {
+        return Ok(());
+    }
+    match hats.get_mut(&region) {
+        Some(hat) => register_in(hat, face, id, key, node, info),
+        None => Ok(()),
+    }
+}
+
+fn register_in(
+    hat: &mut Hat,
+    face: FaceId,
+    id: u32,
+    key: &Key,
+    node: u16,
+    info: QueryableInfoType,
+) -> Result<(), HatRefusal>
+    ensures in_use { IsErrOf result HatRefusal.IdInUse ↔ (clashes_at face.0 id key.now hat.old ≡ true) }
+    ensures known { IsErrOf result HatRefusal.UnknownId → ⊥ }
+    ensures ok { OnOk result (hat.new ≡ registered face.0 id key.now info hat.old) }
+    ensures err { OnErr result (hat.new ≡ hat.old) }
+{
+    if !hat.has_face(face) {
+        return Ok(());
+    }
+    hat.register_queryable(face, id, key, node, info)
+}
+
+/// A face withdraws a queryable. Refused where the id isn't declared.
+pub fn withdraw(
+    hats: &mut RegionMap<Hat>,
+    region: Region,
+    face: FaceId,
+    id: u32,
+    node: u16,
+) -> Result<(), HatRefusal>
+    ensures unknown { IsErrOf result HatRefusal.UnknownId ↔ (has_declared_in face.0 id (hat_at region hats.old) ≡ false) }
+    ensures own { IsErrOf result HatRefusal.IdInUse → ⊥ }
+    ensures ok { OnOk result (hats.new ≡ change_hat region (unregistered face.0 id) hats.old) }
+    ensures err { OnErr result (hats.new ≡ hats.old) }
+{
+    if !is_region(region) {
+        return Err(HatRefusal::UnknownId);
+    }
+    match hats.get_mut(&region) {
+        Some(hat) => withdraw_in(hat, face, id, node),
+        None => Err(HatRefusal::UnknownId),
+    }
+}
+
+fn withdraw_in(hat: &mut Hat, face: FaceId, id: u32, node: u16) -> Result<(), HatRefusal>
+    ensures unknown { IsErrOf result HatRefusal.UnknownId ↔ (is_some (declaration_at face.0 id hat.old) ≡ false) }
+    ensures own { IsErrOf result HatRefusal.IdInUse → ⊥ }
+    ensures ok { OnOk result (hat.new ≡ unregistered face.0 id hat.old) }
+    ensures err { OnErr result (hat.new ≡ hat.old) }
+{
+    if !hat.has_face(face) {
+        return Err(HatRefusal::UnknownId);
+    }
+    match hat.unregister_queryable(face, id, None, node) {
+        Ok(_) => Ok(()),
+        Err(refusal) => Err(refusal),
+    }
+}
+
+/// The gateways of a region are put in place.
+pub fn put_table(
+    tables: &mut RegionMap<Gateways>,
+    region: Region,
+    table: Gateways,
+) -> Result<(), OutOfMemory>
+    requires { is_region region ≡ true }
+    ensures ok { OnOk result (tables.new ≡ with_entry tables.old region table) }
+    ensures err { OnErr result (tables.new ≡ tables.old) }
+{
+    match tables.insert(region, table) {
+        Ok(_) => Ok(()),
+        Err(_) => Err(OutOfMemory),
+    }
+}
+
+/// One hat for each region of the configuration.
+pub fn first_hats(alloc: Global, config: &Config) -> Result<RegionMap<Hat>, OutOfMemory>
+    ensures { IfOk result (λ h. h ≡ first_hats config.now) }
+{
+    let mut hats = RegionMap::new(alloc);
+    for entry in config.entries() {
+        add_hat(alloc, &mut hats, config, *entry)?;
+    }
+    Ok(hats)
+}
+
+fn add_hat(
+    alloc: Global,
+    hats: &mut RegionMap<Hat>,
+    config: &Config,
+    entry: Entry,
+) -> Result<(), OutOfMemory>
+    requires { is_region (region_of entry) ≡ true }
+    ensures { OnOk result (hats.new ≡ with_hat config.now hats.old entry) }
+{
+    let region = entry.region();
+    let told = config.counters().told;
+    let hat = Hat::new(alloc, region, config.north(), config.zid(), told);
+    let _ = hats.insert(region, hat)?;
+    Ok(())
+}

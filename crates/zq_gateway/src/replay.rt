@@ -1,0 +1,25 @@
+//! Whole runs.
+ghost use Rattle.std.specs.Prelude.{◌≡◌, IfOk, true};
+ghost use Rattle.std.specs.List.{AllByRecursion};
+ghost use Rattle.zq_gateway.specs.Calls.{is_built};
+ghost use Rattle.zq_gateway.specs.Machine.{steps};
+
+use crate::call::{Call, Replay};
+use crate::config::Config;
+use crate::gateway::Gateway;
+use std::alloc::Global;
+use zq_key::items::Items;
+use zq_key::memory::OutOfMemory;
+
+/// The steps of a new gateway for calls, one after another.
+pub fn replay(alloc: Global, config: &Config, calls: &[Call]) -> Result<Replay, OutOfMemory>
+    requires { AllByRecursion (λ c. is_built config.now c ≡ true) calls.now }
+    ensures machine { IfOk result (λ r. r.steps ≡ steps config.now calls.now) }
+{
+    let mut gateway = Gateway::new(alloc, config)?;
+    let mut steps = Items::new(alloc);
+    for call in calls {
+        steps.push(gateway.call(call)?)?;
+    }
+    Ok(Replay { steps })
+}

@@ -1,0 +1,145 @@
+//! Which offers a request is handed to.
+ghost use Rattle.std.specs.Prelude.{◌≡◌, ℕ, [], Bool, IfOk, OnOk, Some, IsTrue, option_map};
+ghost use Rattle.std.specs.Map.{values_of};
+ghost use Rattle.zq_key.specs.Key.{is_key as key_of};
+ghost use Rattle.zq_query.specs.Asking.{are_distinct, face_numbers};
+ghost use Rattle.zq_gateway.specs.Selecting.{target_of, carries_between, filter_for, passes, with_part, zid_of};
+ghost use Rattle.std.specs.Prelude.{filter, fold, map, true};
+
+use crate::face::OpenFace;
+use crate::hats::is_region;
+use std::alloc::Global;
+use std::collections::BTreeMap;
+use zq_hat::hat::Hat;
+use zq_hat::types::{OfferList, QueryTargetQabl};
+use zq_key::items::Items;
+use zq_key::memory::OutOfMemory;
+use zq_key::message::{FaceId, QueryTarget, Zid};
+use zq_route::builder::RouteBuilder;
+use zq_route::filter::InterRegionFilter;
+use zq_route::gateways::Gateways;
+use zq_route::selection::compute_final_route;
+use zq_tables::RegionMap;
+
+
+fn zid_of(faces: &BTreeMap<u32, OpenFace>, face: FaceId) -> Option<Zid>
+    ensures { result ≡ zid_of face.0 faces.now.entries }
+{
+    match faces.get(&face.0) {
+        Some(open) => Some(open.zid),
+        None => None,
+    }
+}
+
+fn carries_between(tables: &RegionMap<Gateways>, own: Zid, filter: InterRegionFilter) -> bool
+    ensures { result ≡ carries_between tables.now own filter }
+{
+    if !is_region(filter.src) {
+        return false;
+    }
+    if !is_region(filter.dst) {
+        return false;
+    }
+    filter.resolve(tables, own)
+}
+
+/// Who asks, and what decides between regions.
+#[derive(Drop)]
+pub struct Asker<'a> {
+    pub faces: &'a BTreeMap<u32, OpenFace>,
+    pub tables: &'a RegionMap<Gateways>,
+    pub own: Zid,
+    pub face: FaceId,
+    pub opened: OpenFace,
+}
+
+impl<'a> Asker<'a> {
+    // Whether an offer is for the asker's request.
+    fn passes(&self, offer: &QueryTargetQabl) -> bool
+        ensures { result ≡ passes self.now.faces.now.entries self.now.tables.now self.now.own self.now.face self.now.opened offer.now }
+    {
+        if offer.face == self.face {
+            return false;
+        }
+        let filter = InterRegionFilter {
+            src: self.opened.region,
+            dst: offer.region,
+            src_zid: Some(self.opened.zid),
+            fwd_zid: Some(self.opened.zid),
+            dst_zid: zid_of(self.faces, offer.face),
+        };
+        carries_between(self.tables, self.own, filter)
+    }
+
+    // The offers that are for the asker's request.
+    fn passing(&self, alloc: Global, offers: OfferList) -> Result<OfferList, OutOfMemory>
+        ensures { IfOk result (λ l. l ≡ filter (passes self.now.faces.now.entries self.now.tables.now self.now.own self.now.face self.now.opened) offers) }
+    {
+        let mut kept = Items::new(alloc);
+        for offer in offers.into_vec() {
+            if self.passes(&offer) {
+                kept.push(offer)?;
+            }
+        }
+        Ok(kept)
+    }
+
+    // A region's part joins what earlier regions gave. The offers that pass are picked out first, so
+    // that the target picks among all that are left.
+    #[tactic(auto, using(crate::proofs::Routes::filter_all))]
+    fn add_part(
+        &self,
+        alloc: Global,
+        key: &str,
+        target: QueryTarget,
+        route: &mut RouteBuilder<QueryTargetQabl>,
+        hat: &Hat,
+    ) -> Result<(), OutOfMemory>
+        requires { IsTrue (key_of key.now) }
+        ensures { OnOk result (route.new ≡ with_part self.now.faces.now.entries self.now.tables.now self.now.own self.now.face self.now.opened key.now target route.old hat.now) }
+    {
+        let offers = hat.compute_query_route(&self.opened.region, key, Some(0))?;
+        let offers = self.passing(alloc, offers)?;
+        compute_final_route(alloc, target, route, &offers, is_any)
+    }
+
+    // Region by region, in the order of their places.
+    fn route(
+        &self,
+        alloc: Global,
+        hats: &RegionMap<Hat>,
+        key: &str,
+        target: QueryTarget,
+    ) -> Result<RouteBuilder<QueryTargetQabl>, OutOfMemory>
+        requires { IsTrue (key_of key.now) }
+        ensures { IfOk result (λ r. r ≡ fold (with_part self.now.faces.now.entries self.now.tables.now self.now.own self.now.face self.now.opened key.now target) [] (values_of hats.now)) }
+    {
+        let mut route = RouteBuilder::new(alloc);
+        for hat in hats.values() {
+            self.add_part(alloc, key, target, &mut route, hat)?;
+        }
+        Ok(route)
+    }
+
+    /// The offers that the asker's request on a key is handed to, of each face one.
+    #[tactic(auto, using(crate::proofs::Routes::route_distinct))]
+    pub fn select(
+        &self,
+        alloc: Global,
+        hats: &RegionMap<Hat>,
+        key: &str,
+        target: QueryTarget,
+    ) -> Result<Vec<QueryTargetQabl>, OutOfMemory>
+        requires { IsTrue (key_of key.now) }
+        ensures offers { IfOk result (λ v. v.items ≡ values_of (fold (with_part self.now.faces.now.entries self.now.tables.now self.now.own self.now.face self.now.opened key.now target) [] (values_of hats.now))) }
+        ensures distinct { IfOk result (λ v. are_distinct (face_numbers (map target_of v.items)) ≡ true) }
+    {
+        Ok(self.route(alloc, hats, key, target)?.build())
+    }
+}
+
+fn is_any(_offer: &QueryTargetQabl) -> bool
+    ensures { result ≡ true }
+{
+    true
+}

@@ -1,0 +1,139 @@
+-- What each open face and the gateway call keys by number, and what expressions say by it.
+use Rattle.std.specs.Prelude.{◌≡◌, ℕ, ◌+◌, ◌==◌, Bool, true, false, not, ◌&&◌, List, [], ◌∷◌, ◌++◌, take, drop, length, zero, suc, find, Option, Some, None, if◌then◌else◌, unwrap_or}
+use Rattle.std.specs.Option.{option_map}
+use Rattle.std.specs.Prelude.{slice_index}
+use Rattle.std.specs.Str.{bytes_eq}
+use Rattle.std.specs.Ordering.{nat_cmp}
+use Rattle.std.specs.Map.{keys_of, lookup, remove_entry, set_value}
+use Rattle.std.specs.BTreeMap.{is_at, insert_entry}
+use Rattle.zq_key.specs.declared.message.Mapping.{Mapping}
+use Rattle.zq_key.specs.declared.message.Mapping.TheVariants as mapping
+use Rattle.zq_key.specs.declared.message.WireExpr.{WireExpr}
+use Rattle.zq_naming.specs.declared.said.Said.{Said}
+use Rattle.zq_naming.specs.declared.said.Said.TheVariants as said
+
+-- numbers with the texts that they stand for, by number
+abbrev pub Names : Type 0
+Names = List (ℕ × List ℕ)
+
+-- the numbers that a face declared, and those that the gateway declared to it
+pub record FaceNaming : Type 0 where
+  pub theirs : Names
+  pub ours : Names
+
+-- the open faces, each with its numbers, by face number
+abbrev pub NamingState : Type 0
+NamingState = List (ℕ × FaceNaming)
+
+abbrev pub no_names : FaceNaming
+no_names = record { theirs = []; ours = [] }
+
+abbrev pub naming_at : ℕ → NamingState → Option FaceNaming
+naming_at face s = lookup (is_at (nat_cmp face)) s
+
+-- the numbers of a face that isn't open are none
+abbrev pub face_naming : ℕ → NamingState → FaceNaming
+face_naming face s = unwrap_or (naming_at face s) no_names
+
+-- the text of a number
+abbrev pub text_at : ℕ → Names → Option (List ℕ)
+text_at id names = lookup (is_at (nat_cmp id)) names
+
+-- in what a face sends, Sender reads its own numbers and Receiver the gateway's
+abbrev pub sent_side : FaceNaming → Mapping → Names
+sent_side n mapping.Sender = n.theirs
+sent_side n mapping.Receiver = n.ours
+
+-- in what a face is handed it is the other way round
+abbrev pub handed_side : FaceNaming → Mapping → Names
+handed_side n mapping.Sender = n.ours
+handed_side n mapping.Receiver = n.theirs
+
+abbrev pub said_under : Option (List ℕ) → List ℕ → Said
+said_under None suffix = said.Unscoped
+said_under (Some text) suffix = said.Full (text ++ suffix)
+
+abbrev pub said_plainly : List ℕ → Said
+said_plainly [] = said.Empty
+said_plainly (b ∷ suffix) = said.Full (b ∷ suffix)
+
+-- what an expression says, by the numbers of each side
+abbrev pub said_by : (Mapping → Names) → WireExpr → Said
+said_by side w =
+    if w.scope == 0 then said_plainly w.suffix
+    else said_under (text_at w.scope (side w.mapping)) w.suffix
+
+-- what an expression says that the face sends
+abbrev pub said_of : FaceNaming → WireExpr → Said
+said_of n w = said_by (sent_side n) w
+
+-- what an expression says to the face that it is handed to
+abbrev pub read_by : FaceNaming → WireExpr → Said
+read_by n w = said_by (handed_side n) w
+
+-- the face declares a number
+abbrev pub with_name : ℕ → List ℕ → FaceNaming → FaceNaming
+with_name id text n = record n { theirs = insert_entry nat_cmp n.theirs id text }
+
+-- the face gives a number up
+abbrev pub without_name : ℕ → FaceNaming → FaceNaming
+without_name id n = record n { theirs = remove_entry (is_at (nat_cmp id)) n.theirs }
+
+abbrev pub put_naming : ℕ → (FaceNaming → FaceNaming) → NamingState → Option FaceNaming → NamingState
+put_naming face f s None = s
+put_naming face f s (Some n) = set_value (is_at (nat_cmp face)) s (f n)
+
+-- the numbers of an open face are changed
+abbrev pub change_naming : ℕ → (FaceNaming → FaceNaming) → NamingState → NamingState
+change_naming face f s = put_naming face f s (naming_at face s)
+
+abbrev pub is_text : List ℕ → Option (List ℕ) → Bool
+is_text text None = false
+is_text text (Some t) = bytes_eq t text
+
+-- the number stands for the text; the number 0 stands for none
+abbrev pub names_text : Names → List ℕ → ℕ → Bool
+names_text names text id = not (id == 0) && is_text text (text_at id names)
+
+-- the least number that stands for the text
+abbrev pub least_name : List ℕ → Names → Option ℕ
+least_name text names = find (names_text names text) (keys_of names)
+
+-- a text under no number
+abbrev pub plain : List ℕ → WireExpr
+plain text = record { scope = 0; mapping = mapping.Sender; suffix = text }
+
+abbrev pub tagged : Mapping → Option ℕ → Option (ℕ × Mapping)
+tagged side None = None
+tagged side (Some id) = Some (id, side)
+
+abbrev pub or_else : {X : Type 0} → Option X → Option X → Option X
+or_else None other = other
+or_else (Some x) other = Some x
+
+-- the number of a text in what the face is handed, the face's own before the gateway's
+abbrev pub known : FaceNaming → List ℕ → Option (ℕ × Mapping)
+known n text = or_else (tagged mapping.Receiver (least_name text n.theirs)) (tagged mapping.Sender (least_name text n.ours))
+
+abbrev pub cut_at : ℕ → Option (ℕ × Mapping) → Option (ℕ × Mapping × ℕ)
+cut_at k None = None
+cut_at k (Some m) = Some (m.0, m.1, k)
+
+-- the longest numbered part of the text that ends before a `/` among its first k bytes
+abbrev pub best_before : FaceNaming → List ℕ → ℕ → Option (ℕ × Mapping × ℕ)
+best_before n text zero = None
+best_before n text (suc k) =
+    if slice_index text k == 47 then or_else (cut_at k (known n (take k text))) (best_before n text k)
+    else best_before n text k
+
+-- the longest numbered part of whole chunks of the text: its number, and where the text is cut
+abbrev pub best_part : FaceNaming → List ℕ → Option (ℕ × Mapping × ℕ)
+best_part n text = or_else (cut_at (length text) (known n text)) (best_before n text (length text))
+
+abbrev pub numbered : List ℕ → Option (ℕ × Mapping × ℕ) → WireExpr
+numbered text None = plain text
+numbered text (Some p) = record { scope = p.0; mapping = p.1; suffix = drop p.2 text }
+
+-- the text as it is handed to the face: by the longest numbered part of whole chunks, else whole
+abbrev pub best : FaceNaming → List ℕ → WireExpr
+best n text = numbered text (best_part n text)

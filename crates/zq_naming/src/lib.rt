@@ -1,0 +1,8 @@
+//! What faces and the gateway call keys by number.
+//!
+//! - `said`: what an expression says, once its number is read
+//! - `naming`: the numbers of every open face
+#![tactic(auto)]
+
+pub mod naming;
+pub mod said;

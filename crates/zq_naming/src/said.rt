@@ -1,0 +1,11 @@
+//! What an expression says.
+use zq_key::text::Text;
+
+/// What an expression of a face says: its full text, or nothing where it is empty, or that its
+/// number stands for nothing there.
+#[derive(Debug, Drop)]
+pub enum Said {
+    Unscoped,
+    Empty,
+    Full(Text),
+}

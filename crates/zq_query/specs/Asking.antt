@@ -1,0 +1,72 @@
+-- What a request makes of the records: one entry a target, under the next id there.
+use Rattle.std.specs.Prelude.{ℕ, ◌+◌, ◌^◌, ◌==◌, ◌&&◌, ◌||◌, Bool, true, not, List, [], ◌∷◌, ◌++◌, map, fold, nat_lt, if◌then◌else◌, Option, Some, None}
+use Rattle.std.specs.List.{list_any}
+use Rattle.std.specs.Option.{unwrap_or, is_some}
+use Rattle.std.specs.BTreeMap.{insert_entry, is_at}
+use Rattle.std.specs.Map.{remove_entry, set_value}
+use Rattle.std.specs.Ordering.{nat_cmp}
+use Rattle.zq_key.specs.declared.message.FaceId.{FaceId}
+use Rattle.zq_query.specs.Records.{QueryState, Record, Pending, insert_pending, next_id, is_pending, is_none_left}
+
+-- no number stands twice
+abbrev pub are_distinct : List ℕ → Bool
+are_distinct [] = true
+are_distinct (x ∷ xs) = not (list_any (λ y. y == x) xs) && are_distinct xs
+
+abbrev pub face_numbers : List FaceId → List ℕ
+face_numbers faces = map (λ (f : FaceId). f.0) faces
+
+-- a face has no free id
+abbrev pub is_full : QueryState → FaceId → Bool
+is_full s face = not (is_some (next_id s face.0))
+
+-- no number is left for the request, or no id at a target
+abbrev pub lacks_number : List FaceId → QueryState → Bool
+lacks_number targets s = (s.requests + 1 == 2 ^ 64) || list_any (is_full s) targets
+
+-- the id that a target is given; 0 where none is free
+abbrev pub given_id : QueryState → FaceId → ℕ
+given_id s face = unwrap_or (next_id s face.0) 0
+
+-- a target and its id
+abbrev pub given_place : QueryState → FaceId → ℕ × ℕ
+given_place s face = (face.0, given_id s face)
+
+abbrev pub entry_at : ℕ → ℕ × ℕ → Pending
+entry_at deadline p = record { face = p.0; id = p.1; deadline = deadline }
+
+-- an entry at each place, in the order of the places
+abbrev pub entries_at : ℕ → List (ℕ × ℕ) → List Pending
+entries_at deadline places = fold (λ l p. insert_pending l (entry_at deadline p)) [] places
+
+abbrev pub asked_record : ℕ → FaceId → ℕ → ℕ → List (ℕ × ℕ) → ℕ → Record
+asked_record number asker id qos places deadline = record { number = number; asker = asker; id = id; qos = qos; pending = entries_at deadline places; in_flight = [] }
+
+-- a request without targets has no record
+abbrev pub asked_records : ℕ → FaceId → ℕ → ℕ → List (ℕ × ℕ) → ℕ → List Record
+asked_records number asker id qos places deadline = if is_none_left places then [] else asked_record number asker id qos places deadline ∷ []
+
+-- the last ids given, after these
+abbrev pub giving : List (ℕ × ℕ) → List (ℕ × ℕ) → List (ℕ × ℕ)
+giving last_ids places = fold (λ l p. insert_entry nat_cmp l p.0 p.1) last_ids places
+
+-- the last ids with a face's as it was before
+abbrev pub restoring : ℕ → Option ℕ → List (ℕ × ℕ) → List (ℕ × ℕ)
+restoring face None ids = remove_entry (is_at (nat_cmp face)) ids
+restoring face (Some id) ids = set_value (is_at (nat_cmp face)) ids id
+
+-- the request has the next number, and its record stands last
+abbrev pub entering : FaceId → ℕ → ℕ → List (ℕ × ℕ) → ℕ → QueryState → QueryState
+entering asker id qos places deadline s = record s { records = s.records ++ asked_records s.requests asker id qos places deadline; requests = s.requests + 1 }
+
+-- and each target the id as its last
+abbrev pub after_ask : FaceId → ℕ → ℕ → List FaceId → ℕ → QueryState → QueryState
+after_ask asker id qos targets deadline s = record (entering asker id qos (map (given_place s) targets) deadline s) { last_ids = giving s.last_ids (map (given_place s) targets) }
+
+-- some record has the number, or a greater one
+abbrev pub has_number_from : ℕ → List Record → Bool
+has_number_from number rs = list_any (λ r. not (nat_lt r.number number)) rs
+
+-- some place is pending
+abbrev pub any_pending : List Record → List (ℕ × ℕ) → Bool
+any_pending rs places = list_any (λ p. is_pending p.0 p.1 rs) places

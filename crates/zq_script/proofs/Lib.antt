@@ -1,0 +1,6 @@
+pub mod LinesBack
+pub mod Sameness
+pub mod Parts
+pub mod Built
+pub mod Given
+pub mod GivenLines

@@ -1,0 +1,92 @@
+-- What a run reads and writes.
+use Rattle.std.specs.Prelude.{ℕ, ◌<◌, ◌≤◌, Bool, true, false, List, [], ◌∷◌, ◌++◌, Option, Result, Ok, Err, codes, length}
+use Rattle.std.specs.Str.{bytes_eq}
+use Rattle.std.specs.Fmt.{decimal}
+use Rattle.std.specs.Io.KnownBytes.{Appends}
+use Rattle.zq_gateway.specs.declared.call.Call.{Call}
+use Rattle.zq_gateway.specs.Machine.{steps}
+use Rattle.zq_words.specs.declared.transfer.TheConstants.{LIMIT}
+use Rattle.zq_words.specs.Streams.{AppendsPrefix}
+use Rattle.zq_script.specs.Script.{lines_of, script_of}
+use Rattle.zq_script.specs.Steps.{steps_words}
+use Rattle.zq_script.specs.declared.script.Script.{Script}
+use Rattle.zq_script.specs.declared.run.Status.{Status}
+use Rattle.zq_script.specs.declared.run.Status.TheVariants as status
+
+-- the words that a run takes: `replay` alone
+abbrev pub is_command : List (List ℕ) → Bool
+is_command [] = false
+is_command (word ∷ []) = bytes_eq word (codes "replay")
+is_command (word ∷ other ∷ words) = false
+
+-- the calls before the first line `worker`
+abbrev pub first_part : List (List Call) → List Call
+first_part [] = []
+first_part (calls ∷ parts) = calls
+
+-- what a script prints: the steps of its calls
+abbrev pub script_print : Script → List ℕ
+script_print s = steps_words (steps s.config (first_part s.parts))
+
+-- what is printed for a script, or for the first bad line
+abbrev pub print_by : Result Script ℕ → List ℕ
+print_by (Ok s) = script_print s
+print_by (Err n) = codes "bad line " ++ decimal n ++ 10 ∷ []
+
+-- what is printed for these bytes
+abbrev pub print_of : List ℕ → List ℕ
+print_of input = print_by (script_of 0 (lines_of input))
+
+-- the bytes are a script
+abbrev pub IsScript : Result Script ℕ → Type 0
+IsScript (Ok s) = Unit {0}
+IsScript (Err n) = ⊥
+
+-- the bytes have a bad line
+abbrev pub IsBad : Result Script ℕ → Type 0
+IsBad (Ok s) = ⊥
+IsBad (Err n) = Unit {0}
+
+-- the status where the print is taken: `Done` for a script, `Script` for a bad line
+abbrev pub IsEnd : Status → Result Script ℕ → Type 0
+IsEnd status.Done read = IsScript read
+IsEnd status.Words read = ⊥
+IsEnd status.Script read = IsBad read
+IsEnd status.ReadFault read = ⊥
+IsEnd status.WriteFault read = ⊥
+IsEnd status.Memory read = ⊥
+IsEnd status.TooLong read = ⊥
+IsEnd status.LinkFault read = ⊥
+
+-- a run that ended so, what it was given, and what the sink had and has taken
+abbrev pub Leaves : Status → List ℕ → Option (List ℕ) → Option (List ℕ) → Type 0
+Leaves status.Done input old new = IsScript (script_of 0 (lines_of input)) × (length input ≤ LIMIT) × Appends old new (print_of input)
+Leaves status.Words input old new = Unit {0}
+Leaves status.Script input old new = IsBad (script_of 0 (lines_of input)) × (length input ≤ LIMIT) × Appends old new (print_of input)
+Leaves status.ReadFault input old new = Unit {0}
+Leaves status.WriteFault input old new = (length input ≤ LIMIT) × AppendsPrefix old new (print_of input)
+Leaves status.Memory input old new = Unit {0}
+Leaves status.TooLong input old new = LIMIT < length input
+Leaves status.LinkFault input old new = ⊥
+
+-- only these ends come after a write
+abbrev pub wrote : Status → Bool
+wrote status.Done = true
+wrote status.Words = false
+wrote status.Script = true
+wrote status.ReadFault = false
+wrote status.WriteFault = true
+wrote status.Memory = false
+wrote status.TooLong = false
+wrote status.LinkFault = false
+
+-- the number of a status
+abbrev pub status_code : Status → ℕ
+status_code status.Done = 0
+status_code status.Words = 1
+status_code status.Script = 2
+status_code status.ReadFault = 3
+status_code status.WriteFault = 4
+status_code status.Memory = 5
+status_code status.TooLong = 6
+status_code status.LinkFault = 7

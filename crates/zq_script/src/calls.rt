@@ -1,0 +1,247 @@
+//! How calls are written.
+ghost use Rattle.std.specs.Prelude.{◌≡◌, ◌++◌, IfOk, OnOk, Some, string_bytes};
+ghost use Rattle.std.specs.List.{flat_map};
+ghost use Rattle.zq_script.specs.Lines.{call_of};
+ghost use Rattle.zq_script.specs.Fits.{FitsCall};
+ghost use Rattle.zq_script.specs.CallLines.{deny_in, deny_out, opening_words, info_words, mark_words, body_words, by_words, call_words};
+
+use std::alloc::{AllocError, Global};
+use std::fmt::Write;
+use zq_gateway::call::{Call, Opening};
+use zq_hat::types::FinalMark;
+use zq_key::memory::OutOfMemory;
+use zq_key::message::{QueryableInfoType, ReplyBody, Zid};
+use zq_key::text::{Bytes, Text};
+use zq_words::show::{Shown, push_field, push_flag};
+
+/// Writes an entry of the list of what may not come in.
+fn push_deny_in(out: &mut String, text: &Text) -> Result<(), AllocError>
+    ensures { OnOk result (string_bytes out.new ≡ string_bytes out.old ++ deny_in text.now) }
+{
+    write!(out, " in:")?;
+    text.show(out)
+}
+
+fn push_denies_in(out: &mut String, texts: &[Text]) -> Result<(), AllocError>
+    ensures { OnOk result (string_bytes out.new ≡ string_bytes out.old ++ flat_map deny_in texts.now) }
+{
+    for text in texts {
+        push_deny_in(out, text)?;
+    }
+    Ok(())
+}
+
+/// Writes an entry of the list of what may not go out.
+fn push_deny_out(out: &mut String, text: &Text) -> Result<(), AllocError>
+    ensures { OnOk result (string_bytes out.new ≡ string_bytes out.old ++ deny_out text.now) }
+{
+    write!(out, " out:")?;
+    text.show(out)
+}
+
+fn push_denies_out(out: &mut String, texts: &[Text]) -> Result<(), AllocError>
+    ensures { OnOk result (string_bytes out.new ≡ string_bytes out.old ++ flat_map deny_out texts.now) }
+{
+    for text in texts {
+        push_deny_out(out, text)?;
+    }
+    Ok(())
+}
+
+fn push_opening(out: &mut String, opening: &Opening) -> Result<(), AllocError>
+    ensures { OnOk result (string_bytes out.new ≡ string_bytes out.old ++ opening_words opening.now) }
+{
+    push_field(out, &opening.region)?;
+    push_field(out, &opening.zid)?;
+    push_field(out, &opening.mode)?;
+    push_field(out, &opening.remote_bound)?;
+    push_field(out, &opening.namespace)?;
+    push_denies_in(out, opening.entry_deny.as_slice())?;
+    push_denies_out(out, opening.exit_deny.as_slice())
+}
+
+/// Writes c or p, and a distance.
+pub fn push_info(out: &mut String, info: &QueryableInfoType) -> Result<(), AllocError>
+    ensures { OnOk result (string_bytes out.new ≡ string_bytes out.old ++ info_words info.now) }
+{
+    push_flag(out, "c", "p", info.complete)?;
+    push_field(out, &info.distance)
+}
+
+fn push_mark(out: &mut String, mark: &FinalMark) -> Result<(), AllocError>
+    ensures { OnOk result (string_bytes out.new ≡ string_bytes out.old ++ mark_words mark.now) }
+{
+    match mark {
+        FinalMark::Initial => write!(out, " initial"),
+        FinalMark::Key(text) => {
+            write!(out, " key")?;
+            push_field(out, text)
+        }
+    }
+}
+
+/// Writes what a reply brings.
+pub fn push_body(out: &mut String, body: &ReplyBody) -> Result<(), AllocError>
+    ensures { OnOk result (string_bytes out.new ≡ string_bytes out.old ++ body_words body.now) }
+{
+    match body {
+        ReplyBody::Reply(payload) => {
+            write!(out, " ok")?;
+            push_field(out, payload)
+        }
+        ReplyBody::Err(payload) => {
+            write!(out, " err")?;
+            push_field(out, payload)
+        }
+    }
+}
+
+fn push_by(out: &mut String, responder: &Option<Zid>) -> Result<(), AllocError>
+    ensures { OnOk result (string_bytes out.new ≡ string_bytes out.old ++ by_words responder.now) }
+{
+    match responder {
+        Some(zid) => {
+            write!(out, " by:")?;
+            zid.show(out)
+        }
+        None => Ok(()),
+    }
+}
+
+/// Writes a call as a line.
+pub fn push_call(out: &mut String, call: &Call) -> Result<(), AllocError>
+    ensures { OnOk result (string_bytes out.new ≡ string_bytes out.old ++ call_words call.now) }
+{
+    match call {
+        Call::Open(opening) => {
+            write!(out, "open")?;
+            push_opening(out, opening)
+        }
+        Call::Close { face } => {
+            write!(out, "close")?;
+            push_field(out, face)
+        }
+        Call::DeclareKeyExpr { face, id, wire } => {
+            write!(out, "key")?;
+            push_field(out, face)?;
+            push_field(out, id)?;
+            push_field(out, wire)
+        }
+        Call::UndeclareKeyExpr { face, id } => {
+            write!(out, "unkey")?;
+            push_field(out, face)?;
+            push_field(out, id)
+        }
+        Call::DeclareQueryable {
+            face,
+            id,
+            wire,
+            info,
+            node,
+        } => {
+            write!(out, "queryable")?;
+            push_field(out, face)?;
+            push_field(out, id)?;
+            push_field(out, wire)?;
+            push_info(out, info)?;
+            push_field(out, node)
+        }
+        Call::UndeclareQueryable {
+            face,
+            id,
+            wire,
+            node,
+        } => {
+            write!(out, "unqueryable")?;
+            push_field(out, face)?;
+            push_field(out, id)?;
+            push_field(out, wire)?;
+            push_field(out, node)
+        }
+        Call::Interest {
+            face,
+            id,
+            keys,
+            wire,
+        } => {
+            write!(out, "interest")?;
+            push_field(out, face)?;
+            push_field(out, id)?;
+            push_field(out, wire)?;
+            push_flag(out, "k", "n", *keys)
+        }
+        Call::InterestFinal { face, id } => {
+            write!(out, "uninterest")?;
+            push_field(out, face)?;
+            push_field(out, id)
+        }
+        Call::FinalizeInterest { face, mark, set } => {
+            write!(out, "finalize")?;
+            push_field(out, face)?;
+            push_mark(out, mark)?;
+            push_flag(out, "1", "0", *set)
+        }
+        Call::Request { face, request, now } => {
+            write!(out, "ask")?;
+            push_field(out, face)?;
+            push_field(out, &request.id)?;
+            push_field(out, &request.wire)?;
+            push_field(out, &request.target)?;
+            push_field(out, &request.timeout)?;
+            push_field(out, &request.node)?;
+            push_field(out, &request.qos)?;
+            push_field(out, &request.payload)?;
+            push_field(out, now)
+        }
+        Call::Response { face, response } => {
+            write!(out, "reply")?;
+            push_field(out, face)?;
+            push_field(out, &response.rid)?;
+            push_field(out, &response.wire)?;
+            push_body(out, &response.payload)?;
+            push_by(out, &response.responder)
+        }
+        Call::ResponseFinal { face, rid } => {
+            write!(out, "final")?;
+            push_field(out, face)?;
+            push_field(out, rid)
+        }
+        Call::Sent { reply } => {
+            write!(out, "sent")?;
+            push_field(out, reply)
+        }
+        Call::Poll { now } => {
+            write!(out, "poll")?;
+            push_field(out, now)
+        }
+        Call::SetGateways { region, table } => {
+            write!(out, "gateways")?;
+            push_field(out, region)?;
+            push_field(out, &table.of)?;
+            push_field(out, &table.all)
+        }
+        Call::SetNetwork { region, net } => {
+            write!(out, "network")?;
+            push_field(out, region)?;
+            push_field(out, &net.nodes)?;
+            push_field(out, &net.trees)?;
+            push_field(out, &net.distances)
+        }
+        Call::SetNodeIds { face, ids } => {
+            write!(out, "nodes")?;
+            push_field(out, face)?;
+            push_field(out, &ids.ids)
+        }
+    }
+}
+
+/// The line of a call.
+#[tactic(auto, using(crate::proofs::LinesBack::call_back))]
+pub fn print_call(alloc: Global, call: &Call) -> Result<Bytes, OutOfMemory>
+    ensures words { IfOk result (λ b. b ≡ call_words call.now) }
+    ensures back { FitsCall call.now → call_of (call_words call.now) ≡ Some call.now }
+{
+    let mut out = String::new(alloc);
+    push_call(&mut out, call)?;
+    Ok(Bytes::from_vec(out.into_bytes()))
+}

@@ -1,0 +1,235 @@
+//! The lines before the calls: the configuration, and the counters.
+ghost use Rattle.std.specs.Prelude.{◌≡◌, ◌≤◌, ◌+◌, ◌++◌, IfOk, IfSome, MatchOption, MatchResult, OnOk, Ok, length, map};
+ghost use Rattle.std.specs.Option.{option_map};
+ghost use Rattle.zq_script.specs.Script.{lines_of, Gives, Refuses};
+ghost use Rattle.zq_script.specs.Head.{ended, entry_of, entry_word_of, entry_in, north_of, south_entry, entries_of, counters_of, after_name, start_of, config_of, start_at, no_counts, configured, head_of};
+
+use crate::refusal::ScriptRefusal;
+use crate::script::next_line;
+use std::alloc::Global;
+use zq_gateway::config::{Config, ConfigRefusal, Counters, Entry, EntryList};
+use zq_key::items::Items;
+use zq_key::memory::OutOfMemory;
+use zq_key::message::{Mode, Region, Zid};
+use zq_key::text::Bytes;
+use zq_words::words::{Word, cut, is, len_to, read_at, read_each};
+
+/// The counters where no line `start` stands.
+const NO_COUNTS: Counters = Counters {
+    faces: 0,
+    requests: 0,
+    replies: 0,
+    told: 0,
+    request_ids: 0,
+};
+
+/// An entry of the configuration, as one word says it.
+#[derive(Clone, Copy, Debug, PartialEq, Eq)]
+pub struct EntryWord(pub Entry);
+
+impl Word for EntryWord {
+    ghost of = { entry_word_of };
+
+    fn read(alloc: Global, word: &[u8]) -> Result<Option<EntryWord>, OutOfMemory> {
+        match entry_of(alloc, word)? {
+            Some(entry) => Ok(Some(EntryWord(entry))),
+            None => Ok(None),
+        }
+    }
+}
+
+#[tactic(auto, unfolding(crate::specs::Head::entry_of))]
+fn entry_of(alloc: Global, word: &[u8]) -> Result<Option<Entry>, OutOfMemory>
+    ensures { IfOk result (λ o. o ≡ entry_of word.now) }
+{
+    if is(word, "local") {
+        return Ok(Some(Entry::Local));
+    }
+    match north_of(alloc, word)? {
+        Some(mode) => Ok(Some(Entry::North(mode))),
+        None => south_entry(alloc, word),
+    }
+}
+
+#[tactic(auto, unfolding(crate::specs::Head::north_of))]
+fn north_of(alloc: Global, word: &[u8]) -> Result<Option<Mode>, OutOfMemory>
+    ensures { IfOk result (λ o. o ≡ north_of word.now) }
+{
+    let Some((front, mode)) = cut(b':', word) else {
+        return Ok(None);
+    };
+    if !is(front, "north") {
+        return Ok(None);
+    }
+    Mode::read(alloc, mode)
+}
+
+fn south_entry(alloc: Global, word: &[u8]) -> Result<Option<Entry>, OutOfMemory>
+    ensures { IfOk result (λ o. o ≡ south_entry word.now) }
+{
+    match Region::read(alloc, word)? {
+        Some(Region::South { id, mode }) => Ok(Some(Entry::South { id, mode })),
+        _ => Ok(None),
+    }
+}
+
+/// The entries that the words say.
+fn entries_in(alloc: Global, words: &[EntryWord]) -> Result<EntryList, OutOfMemory>
+    ensures { IfOk result (λ l. l ≡ map entry_in words.now) }
+{
+    let mut entries = Items::new(alloc);
+    for word in words {
+        entries.push(word.0)?;
+    }
+    Ok(entries)
+}
+
+/// One or more entries up to the end of the line.
+fn entries_of(alloc: Global, bytes: &[u8]) -> Result<Option<EntryList>, OutOfMemory>
+    ensures { IfOk result (λ o. o ≡ entries_of bytes.now) }
+{
+    let [b' ', rest @ ..] = bytes else {
+        return Ok(None);
+    };
+    match read_each::<EntryWord>(alloc, b' ', rest)? {
+        Some(words) => Ok(Some(entries_in(alloc, words.as_slice())?)),
+        None => Ok(None),
+    }
+}
+
+#[tactic(auto, unfolding(crate::specs::Head::counters_of))]
+fn counters_of(alloc: Global, bytes: &[u8]) -> Result<Option<Counters>, OutOfMemory>
+    ensures { IfOk result (λ o. o ≡ counters_of bytes.now) }
+{
+    let Some((faces, rest)) = read_at::<u32>(alloc, bytes)? else {
+        return Ok(None);
+    };
+    let Some((requests, rest)) = read_at::<u64>(alloc, rest)? else {
+        return Ok(None);
+    };
+    let Some((replies, rest)) = read_at::<u64>(alloc, rest)? else {
+        return Ok(None);
+    };
+    let Some((told, rest)) = read_at::<u32>(alloc, rest)? else {
+        return Ok(None);
+    };
+    let Some((request_ids, rest)) = read_at::<u32>(alloc, rest)? else {
+        return Ok(None);
+    };
+    if !rest.is_empty() {
+        return Ok(None);
+    }
+    Ok(Some(Counters {
+        faces,
+        requests,
+        replies,
+        told,
+        request_ids,
+    }))
+}
+
+/// What follows the first word, where it is this one.
+fn after_name<'a>(name: &str, line: &'a [u8]) -> Option<&'a [u8]>
+    ensures { option_map (λ t. t.now) result ≡ after_name name.now line.now }
+{
+    let (head, rest) = line.split_at(len_to(b' ', line));
+    if is(head, name) { Some(rest) } else { None }
+}
+
+#[tactic(auto, unfolding(crate::specs::Head::start_of))]
+fn start_of(alloc: Global, line: &[u8]) -> Result<Option<Counters>, OutOfMemory>
+    ensures { IfOk result (λ o. o ≡ start_of line.now) }
+{
+    match after_name("start", line) {
+        Some(rest) => counters_of(alloc, rest),
+        None => Ok(None),
+    }
+}
+
+/// The line `config`: the own id, the default timeout and the entries.
+#[tactic(auto, unfolding(crate::specs::Head::config_of))]
+fn config_of(alloc: Global, line: &[u8]) -> Result<Option<(Zid, u64, EntryList)>, OutOfMemory>
+    ensures { IfOk result (λ o. o ≡ config_of line.now) }
+{
+    let Some(rest) = after_name("config", line) else {
+        return Ok(None);
+    };
+    let Some((zid, rest)) = read_at::<Zid>(alloc, rest)? else {
+        return Ok(None);
+    };
+    let Some((timeout, rest)) = read_at::<u64>(alloc, rest)? else {
+        return Ok(None);
+    };
+    match entries_of(alloc, rest)? {
+        Some(entries) => Ok(Some((zid, timeout, entries))),
+        None => Ok(None),
+    }
+}
+
+/// The counters of the next line, where it is a line `start`, with the line and what follows.
+fn start_at(alloc: Global, bytes: &[u8]) -> Result<Option<(Counters, &[u8], &[u8])>, OutOfMemory>
+    ensures value { IfOk result (λ o. option_map (λ t. (t.0, t.1.now, lines_of t.2.now)) o ≡ start_at (lines_of bytes.now)) }
+    ensures shorter { IfOk result (λ o. IfSome o (λ t. length t.2.now ≤ length bytes.now)) }
+{
+    let Some((line, rest)) = next_line(bytes) else {
+        return Ok(None);
+    };
+    match start_of(alloc, line)? {
+        Some(start) => Ok(Some((start, line, rest))),
+        None => Ok(None),
+    }
+}
+
+/// The configuration; the first line is bad where something is wrong with its entries.
+fn configured(
+    alloc: Global,
+    zid: Zid,
+    timeout: u64,
+    entries: &[Entry],
+    start: Counters,
+) -> Result<Config, ScriptRefusal>
+    ensures { Gives result (configured (zid, timeout, entries.now) start) }
+{
+    match Config::new(alloc, zid, entries, timeout, start) {
+        Ok(config) => Ok(config),
+        Err(ConfigRefusal::BadConfig(_)) => Err(ScriptRefusal::BadLine(1)),
+        Err(ConfigRefusal::OutOfMemory) => Err(ScriptRefusal::OutOfMemory),
+    }
+}
+
+/// Appends a line as it was given, and a newline.
+fn push_ended(text: &mut Vec<u8>, line: &[u8]) -> Result<(), OutOfMemory>
+    ensures { OnOk result (text.new.items ≡ text.old.items ++ ended line.now) }
+{
+    text.extend_from_slice(line)?;
+    text.push(b'\n')?;
+    Ok(())
+}
+
+/// The configuration, the lines before the calls, each ended by a newline, the number of the next
+/// line, and what stands from there on.
+pub fn head_of(alloc: Global, bytes: &[u8]) -> Result<(Config, Bytes, u64, &[u8]), ScriptRefusal>
+    ensures value { MatchResult result (λ t. head_of (lines_of bytes.now) ≡ Ok (t.0, t.1, t.2, lines_of t.3.now)) (λ e. Refuses e (head_of (lines_of bytes.now))) }
+    ensures small { IfOk result (λ t. t.2 ≤ 3) }
+    ensures shorter { IfOk result (λ t. length t.3.now ≤ length bytes.now) }
+{
+    let Some((line, rest)) = next_line(bytes) else {
+        return Err(ScriptRefusal::BadLine(1));
+    };
+    let Some((zid, timeout, entries)) = config_of(alloc, line)? else {
+        return Err(ScriptRefusal::BadLine(1));
+    };
+    let mut text = Vec::new(alloc);
+    push_ended(&mut text, line)?;
+    match start_at(alloc, rest)? {
+        None => {
+            let config = configured(alloc, zid, timeout, entries.as_slice(), NO_COUNTS)?;
+            Ok((config, Bytes::from_vec(text), 2, rest))
+        }
+        Some((start, next, rest)) => {
+            push_ended(&mut text, next)?;
+            let config = configured(alloc, zid, timeout, entries.as_slice(), start)?;
+            Ok((config, Bytes::from_vec(text), 3, rest))
+        }
+    }
+}

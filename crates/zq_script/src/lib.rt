@@ -1,0 +1,29 @@
+//! Scripts of calls, the prints of steps, and the call that runs a script.
+//!
+//! - `lines`: which call a line says.
+//! - `calls`: how a call is written as a line, which reads back as that call.
+//! - `head`: the lines before the calls.
+//! - `script`: a whole script: its head, and its calls in parts.
+//! - `refusal`: why bytes are no script.
+//! - `same`: whether what leaves is what was handed.
+//! - `steps`: how messages and steps are printed.
+//! - `run`: reads a script from a source, and gives the print of its steps to a sink.
+//!
+//! Words and streams stand in `zq_words`; what users of scripts need of them is passed on here.
+#![tactic(auto)]
+
+pub mod calls;
+mod head;
+pub mod lines;
+pub mod refusal;
+pub mod run;
+mod same;
+pub mod script;
+pub mod steps;
+#[cfg(test)]
+mod tests;
+
+pub use zq_words::stored::{MemorySink, MemorySource, SureSink, SureSource};
+pub use zq_words::streams::{Failed, ReadSource, Sink, Source, WriteSink};
+pub use zq_words::transfer::{LIMIT, ReadRefusal, WriteFault, read_all, write_all};
+pub use zq_words::words::{print_word, read_word};

@@ -1,0 +1,210 @@
+//! How messages and steps are printed.
+ghost use Rattle.std.specs.Prelude.{◌≡◌, ◌++◌, ◌∷◌, [], IfOk, OnOk, string_bytes};
+ghost use Rattle.std.specs.Fmt.{decimal};
+ghost use Rattle.zq_words.specs.Words.{field, option_word};
+ghost use Rattle.zq_script.specs.Steps.{request_words, response_words, interest_words, declare_words, message_words, refusal_name, outcome_words, leaving_words, handed_words, step_words, steps_words};
+
+use crate::calls::{push_body, push_info};
+use crate::same::same_message;
+use std::alloc::{AllocError, Global};
+use std::fmt::Write;
+use zq_gateway::call::{Handed, Outcome, Refusal, Step};
+use zq_key::memory::OutOfMemory;
+use zq_key::message::{Declare, DeclareBody, Interest, Message, Request, Response};
+use zq_key::text::Bytes;
+use zq_words::show::{Shown, push_field, push_flag};
+
+/// Writes the id of an interest, or a dash.
+fn push_id(out: &mut String, id: Option<u32>) -> Result<(), AllocError>
+    ensures { OnOk result (string_bytes out.new ≡ string_bytes out.old ++ field (option_word decimal id)) }
+{
+    match id {
+        Some(id) => write!(out, " {id}"),
+        None => write!(out, " -"),
+    }
+}
+
+fn push_request(out: &mut String, request: &Request) -> Result<(), AllocError>
+    ensures { OnOk result (string_bytes out.new ≡ string_bytes out.old ++ request_words request.now) }
+{
+    write!(out, "request")?;
+    push_field(out, &request.id)?;
+    push_field(out, &request.wire)?;
+    push_field(out, &request.target)?;
+    push_field(out, &request.timeout)?;
+    push_field(out, &request.node)?;
+    push_field(out, &request.qos)?;
+    push_field(out, &request.payload)
+}
+
+fn push_response(out: &mut String, response: &Response) -> Result<(), AllocError>
+    ensures { OnOk result (string_bytes out.new ≡ string_bytes out.old ++ response_words response.now) }
+{
+    write!(out, "response")?;
+    push_field(out, &response.rid)?;
+    push_field(out, &response.wire)?;
+    push_field(out, &response.qos)?;
+    push_body(out, &response.payload)?;
+    push_field(out, &response.responder)
+}
+
+fn push_interest(out: &mut String, interest: &Interest) -> Result<(), AllocError>
+    ensures { OnOk result (string_bytes out.new ≡ string_bytes out.old ++ interest_words interest.now) }
+{
+    write!(out, "interest")?;
+    push_field(out, &interest.id)?;
+    push_field(out, &interest.wire)?;
+    push_flag(out, "k", "n", interest.keys)
+}
+
+fn push_declare(out: &mut String, declare: &Declare) -> Result<(), AllocError>
+    ensures { OnOk result (string_bytes out.new ≡ string_bytes out.old ++ declare_words declare.now.interest declare.now.node declare.now.body) }
+{
+    match &declare.body {
+        DeclareBody::DeclareKeyExpr { id, wire } => {
+            write!(out, "key")?;
+            push_field(out, id)?;
+            push_field(out, wire)
+        }
+        DeclareBody::UndeclareKeyExpr { id } => {
+            write!(out, "unkey")?;
+            push_field(out, id)
+        }
+        DeclareBody::DeclareQueryable { id, wire, info } => {
+            write!(out, "queryable")?;
+            push_field(out, id)?;
+            push_field(out, wire)?;
+            push_info(out, info)?;
+            push_field(out, &declare.node)?;
+            push_id(out, declare.interest)
+        }
+        DeclareBody::UndeclareQueryable { id, wire } => {
+            write!(out, "unqueryable")?;
+            push_field(out, id)?;
+            push_field(out, wire)?;
+            push_field(out, &declare.node)
+        }
+        DeclareBody::DeclareFinal => {
+            write!(out, "declfinal")?;
+            push_id(out, declare.interest)
+        }
+    }
+}
+
+/// Writes the words of a message.
+fn push_message(out: &mut String, message: &Message) -> Result<(), AllocError>
+    ensures { OnOk result (string_bytes out.new ≡ string_bytes out.old ++ message_words message.now) }
+{
+    match message {
+        Message::Request(request) => push_request(out, request),
+        Message::Response(response) => push_response(out, response),
+        Message::ResponseFinal(last) => {
+            write!(out, "final")?;
+            push_field(out, &last.rid)?;
+            push_field(out, &last.qos)
+        }
+        Message::Declare(declare) => push_declare(out, declare),
+        Message::Interest(interest) => push_interest(out, interest),
+        Message::InterestFinal(id) => {
+            write!(out, "uninterest")?;
+            push_field(out, id)
+        }
+    }
+}
+
+/// The words of a message.
+pub fn print_message(alloc: Global, message: &Message) -> Result<Bytes, OutOfMemory>
+    ensures { IfOk result (λ b. b ≡ message_words message.now) }
+{
+    let mut out = String::new(alloc);
+    push_message(&mut out, message)?;
+    Ok(Bytes::from_vec(out.into_bytes()))
+}
+
+fn refusal_name(refusal: Refusal) -> &'static str
+    ensures { result.now ≡ refusal_name refusal }
+{
+    match refusal {
+        Refusal::UnknownFace => "UnknownFace",
+        Refusal::UnknownRegion => "UnknownRegion",
+        Refusal::UpstreamInUse => "UpstreamInUse",
+        Refusal::UnknownScope => "UnknownScope",
+        Refusal::InvalidKeyExpr => "InvalidKeyExpr",
+        Refusal::QueryNotFound => "QueryNotFound",
+        Refusal::NotInFlight => "NotInFlight",
+        Refusal::Remapped => "Remapped",
+        Refusal::UnknownId => "UnknownId",
+        Refusal::IdInUse => "IdInUse",
+        Refusal::UnknownRouter => "UnknownRouter",
+        Refusal::NoFreeId => "NoFreeId",
+    }
+}
+
+fn push_outcome(out: &mut String, outcome: &Outcome) -> Result<(), AllocError>
+    ensures { OnOk result (string_bytes out.new ≡ string_bytes out.old ++ outcome_words outcome.now) }
+{
+    match outcome {
+        Outcome::Opened(face) => write!(out, "opened {}", face.0),
+        Outcome::Asked(number) => write!(out, "asked {number}"),
+        Outcome::Replied(reply) => {
+            write!(out, "replied ")?;
+            reply.show(out)
+        }
+        Outcome::Done => write!(out, "done"),
+        Outcome::Refused(refusal) => write!(out, "refused {}", refusal_name(*refusal)),
+    }
+}
+
+/// Writes what leaves, on a line of its own, where it isn't what was handed.
+fn push_leaving(
+    out: &mut String,
+    message: &Message,
+    leaves: &Option<Message>,
+) -> Result<(), AllocError>
+    ensures { OnOk result (string_bytes out.new ≡ string_bytes out.old ++ leaving_words message.now leaves.now) }
+{
+    let Some(leaving) = leaves else {
+        return write!(out, "< -\n");
+    };
+    if same_message(message, leaving) {
+        return Ok(());
+    }
+    write!(out, "< ")?;
+    push_message(out, leaving)?;
+    writeln!(out)
+}
+
+fn push_handed(out: &mut String, handed: &Handed) -> Result<(), AllocError>
+    ensures { OnOk result (string_bytes out.new ≡ string_bytes out.old ++ handed_words handed.now) }
+{
+    write!(out, "> {}", handed.to.0)?;
+    push_field(out, &handed.number)?;
+    push_field(out, &handed.reply)?;
+    write!(out, " ")?;
+    push_message(out, &handed.message)?;
+    writeln!(out)?;
+    push_leaving(out, &handed.message, &handed.leaves)
+}
+
+fn push_step(out: &mut String, step: &Step) -> Result<(), AllocError>
+    ensures { OnOk result (string_bytes out.new ≡ string_bytes out.old ++ step_words step.now) }
+{
+    write!(out, "= ")?;
+    push_outcome(out, &step.outcome)?;
+    writeln!(out)?;
+    for handed in step.handed.as_slice() {
+        push_handed(out, handed)?;
+    }
+    Ok(())
+}
+
+/// The print of steps, one step after the other.
+pub fn print_steps(alloc: Global, steps: &[Step]) -> Result<Bytes, OutOfMemory>
+    ensures { IfOk result (λ b. b ≡ steps_words steps.now) }
+{
+    let mut out = String::new(alloc);
+    for step in steps {
+        push_step(&mut out, step)?;
+    }
+    Ok(Bytes::from_vec(out.into_bytes()))
+}

@@ -1,0 +1,55 @@
+-- The values that a word can say: numbers within their fields, and texts that are UTF-8.
+use Rattle.std.specs.Prelude.{◌≡◌, ℕ, ◌≤◌, ◌<◌, List, Option, Some, None, All, true, ⊤}
+use Rattle.std.specs.List.{AllByRecursion}
+use Rattle.std.specs.Str.{is_utf8}
+use Rattle.zq_key.specs.declared.message.FaceId.{FaceId}
+use Rattle.zq_key.specs.declared.message.Zid.{Zid}
+use Rattle.zq_key.specs.declared.message.WireExpr.{WireExpr}
+use Rattle.zq_key.specs.declared.message.Region.{Region}
+use Rattle.zq_key.specs.declared.message.Region.TheVariants as region
+use Rattle.zq_hat.specs.declared.types.Tree.{Tree}
+use Rattle.zq_route.specs.declared.gateways.GatewayEntry.{GatewayEntry}
+use Rattle.zq_words.specs.Values.{most_16, most_32, most_128}
+
+-- bytes
+abbrev pub IsBytes : List ℕ → Type 0
+IsBytes bytes = All (λ b. b < 256) bytes
+
+-- bytes that are UTF-8
+pub record IsText (bytes : List ℕ) : Type 0 where
+  pub small : IsBytes bytes
+  pub utf8 : is_utf8 bytes ≡ true
+
+-- the number of a face
+abbrev pub FitsFace : FaceId → Type 0
+FitsFace face = face.0 ≤ most_32
+
+-- an id
+abbrev pub FitsZid : Zid → Type 0
+FitsZid zid = zid.0 ≤ most_128
+
+-- an expression
+pub record FitsWire (wire : WireExpr) : Type 0 where
+  pub scope : wire.scope ≤ most_16
+  pub suffix : IsText wire.suffix
+
+-- a value that fits, if there is one
+abbrev pub FitsOption : {X : Type 0} → (X → Type 0) → Option X → Type 0
+FitsOption P None = ⊤
+FitsOption P (Some x) = P x
+
+-- a region
+abbrev pub FitsRegion : Region → Type 0
+FitsRegion region.North = ⊤
+FitsRegion region.Local = ⊤
+FitsRegion (region.South id strategy) = id ≤ most_32
+
+-- the gateways of one node
+pub record FitsEntry (entry : GatewayEntry) : Type 0 where
+  pub node : FitsZid entry.node
+  pub gateways : AllByRecursion FitsZid entry.gateways
+
+-- a tree
+pub record FitsTree (tree : Tree) : Type 0 where
+  pub children : AllByRecursion (λ n. n ≤ most_32) tree.children
+  pub directions : AllByRecursion (FitsOption (λ n. n ≤ most_32)) tree.directions

@@ -1,0 +1,386 @@
+//! What the words of a line stand for.
+ghost use Rattle.std.specs.Prelude.{◌≡◌, IfOk, OnOk, ◌++◌, string_bytes, List, Option, ℕ};
+ghost use Rattle.std.specs.Option.{option_map};
+ghost use Rattle.std.specs.Fmt.{decimal};
+ghost use Rattle.zq_words.specs.Words.{cut, number, text_of, bytes_of, read_at, option_of, list_of, payload_word};
+ghost use Rattle.zq_words.specs.Values.{most_8, most_16, most_32, most_64, most_128, flag_of, face_of, zid_of, mode_of, bound_of, target_of, behind, south_of, region_of, mapping_of, wire_of, zids_of, entry_of, all_of, direction_of, tree_of};
+
+use crate::words::{Word, cut, is, list_of, number, read_word, text_of, word_at};
+use std::alloc::Global;
+use zq_hat::types::Tree;
+use zq_key::items::Items;
+use zq_key::memory::OutOfMemory;
+use zq_key::message::{Bound, FaceId, Mapping, Mode, QueryTarget, Region, WireExpr, Zid};
+use zq_key::text::{Bytes, Text};
+use zq_route::gateways::GatewayEntry;
+
+impl Word for u8 {
+    ghost of = { number most_8 };
+
+    fn read(_alloc: Global, word: &[u8]) -> Result<Option<u8>, OutOfMemory> {
+        match number(255, word) {
+            Some(n) => Ok(Some(n as u8)),
+            None => Ok(None),
+        }
+    }
+}
+
+impl Word for u16 {
+    ghost of = { number most_16 };
+
+    fn read(_alloc: Global, word: &[u8]) -> Result<Option<u16>, OutOfMemory> {
+        match number(65_535, word) {
+            Some(n) => Ok(Some(n as u16)),
+            None => Ok(None),
+        }
+    }
+}
+
+impl Word for u32 {
+    ghost of = { number most_32 };
+
+    fn read(_alloc: Global, word: &[u8]) -> Result<Option<u32>, OutOfMemory> {
+        match number(4_294_967_295, word) {
+            Some(n) => Ok(Some(n as u32)),
+            None => Ok(None),
+        }
+    }
+}
+
+impl Word for u64 {
+    ghost of = { number most_64 };
+
+    fn read(_alloc: Global, word: &[u8]) -> Result<Option<u64>, OutOfMemory> {
+        match number(18_446_744_073_709_551_615, word) {
+            Some(n) => Ok(Some(n as u64)),
+            None => Ok(None),
+        }
+    }
+}
+
+impl Word for FaceId {
+    ghost of = { face_of };
+
+    fn read(_alloc: Global, word: &[u8]) -> Result<Option<FaceId>, OutOfMemory> {
+        match number(4_294_967_295, word) {
+            Some(n) => Ok(Some(FaceId(n as u32))),
+            None => Ok(None),
+        }
+    }
+}
+
+impl Word for Zid {
+    ghost of = { zid_of };
+
+    fn read(_alloc: Global, word: &[u8]) -> Result<Option<Zid>, OutOfMemory> {
+        match number(u128::MAX, word) {
+            Some(n) => Ok(Some(Zid(n))),
+            None => Ok(None),
+        }
+    }
+}
+
+impl Word for Text {
+    ghost of = { text_of };
+
+    fn read(alloc: Global, word: &[u8]) -> Result<Option<Text>, OutOfMemory> {
+        text_of(alloc, word)
+    }
+}
+
+impl Word for Bytes {
+    ghost of = { bytes_of };
+
+    fn read(alloc: Global, word: &[u8]) -> Result<Option<Bytes>, OutOfMemory> {
+        Ok(Some(read_word(alloc, word)?))
+    }
+}
+
+fn mode_of(word: &[u8]) -> Option<Mode>
+    ensures { result ≡ mode_of word.now }
+{
+    if is(word, "router") {
+        Some(Mode::Router)
+    } else if is(word, "peer") {
+        Some(Mode::Peer)
+    } else if is(word, "client") {
+        Some(Mode::Client)
+    } else {
+        None
+    }
+}
+
+impl Word for Mode {
+    ghost of = { mode_of };
+
+    fn read(_alloc: Global, word: &[u8]) -> Result<Option<Mode>, OutOfMemory> {
+        Ok(mode_of(word))
+    }
+}
+
+#[tactic(auto, unfolding(crate::specs::Values::south_of))]
+fn south_of(word: &[u8]) -> Option<Region>
+    ensures { result ≡ south_of word.now }
+{
+    let (front, back) = cut(b':', word)?;
+    if !is(front, "south") {
+        return None;
+    }
+    let (id, mode) = cut(b':', back)?;
+    let id = number(4_294_967_295, id)?;
+    let mode = mode_of(mode)?;
+    Some(Region::South {
+        id: id as u32,
+        mode,
+    })
+}
+
+impl Word for Region {
+    ghost of = { region_of };
+
+    fn read(_alloc: Global, word: &[u8]) -> Result<Option<Region>, OutOfMemory> {
+        if is(word, "north") {
+            Ok(Some(Region::North))
+        } else if is(word, "local") {
+            Ok(Some(Region::Local))
+        } else {
+            Ok(south_of(word))
+        }
+    }
+}
+
+fn mapping_of(word: &[u8]) -> Option<Mapping>
+    ensures { result ≡ mapping_of word.now }
+{
+    if is(word, "s") {
+        Some(Mapping::Sender)
+    } else if is(word, "r") {
+        Some(Mapping::Receiver)
+    } else {
+        None
+    }
+}
+
+/// The scope and the mapping of an expression, and its suffix as a word.
+impl Word for WireExpr {
+    ghost of = { wire_of };
+
+    #[tactic(auto, unfolding(crate::specs::Values::wire_of))]
+    fn read(alloc: Global, word: &[u8]) -> Result<Option<WireExpr>, OutOfMemory> {
+        let Some((scope, back)) = cut(b':', word) else {
+            return Ok(None);
+        };
+        let Some(scope) = number(65_535, scope) else {
+            return Ok(None);
+        };
+        let Some((mapping, suffix)) = cut(b':', back) else {
+            return Ok(None);
+        };
+        let Some(mapping) = mapping_of(mapping) else {
+            return Ok(None);
+        };
+        match text_of(alloc, suffix)? {
+            Some(suffix) => Ok(Some(WireExpr {
+                scope: scope as u16,
+                mapping,
+                suffix,
+            })),
+            None => Ok(None),
+        }
+    }
+}
+
+impl Word for QueryTarget {
+    ghost of = { target_of };
+
+    fn read(_alloc: Global, word: &[u8]) -> Result<Option<QueryTarget>, OutOfMemory> {
+        if is(word, "all") {
+            Ok(Some(QueryTarget::All))
+        } else if is(word, "complete") {
+            Ok(Some(QueryTarget::AllComplete))
+        } else if is(word, "best") {
+            Ok(Some(QueryTarget::BestMatching))
+        } else {
+            Ok(None)
+        }
+    }
+}
+
+impl Word for Bound {
+    ghost of = { bound_of };
+
+    fn read(_alloc: Global, word: &[u8]) -> Result<Option<Bound>, OutOfMemory> {
+        if is(word, "north") {
+            Ok(Some(Bound::North))
+        } else if is(word, "south") {
+            Ok(Some(Bound::South))
+        } else {
+            Ok(None)
+        }
+    }
+}
+
+/// Whether the word is the first of two, or the other.
+pub fn flag_of(first: &str, other: &str, word: &[u8]) -> Option<bool>
+    ensures { result ≡ flag_of first.now other.now word.now }
+{
+    if is(word, first) {
+        Some(true)
+    } else if is(word, other) {
+        Some(false)
+    } else {
+        None
+    }
+}
+
+/// One of two words, behind a space.
+#[tactic(auto, unfolding(crate::specs::Words::read_at))]
+pub fn flag_at<'a>(first: &str, other: &str, bytes: &'a [u8]) -> Option<(bool, &'a [u8])>
+    ensures { option_map (λ t. (t.0, t.1.now)) result ≡ read_at (flag_of first.now other.now) bytes.now }
+{
+    let (word, rest) = word_at(bytes)?;
+    let flag = flag_of(first, other, word)?;
+    Some((flag, rest))
+}
+
+impl Word for Option<u64> {
+    ghost of = { option_of (number most_64) };
+
+    fn read(alloc: Global, word: &[u8]) -> Result<Option<Option<u64>>, OutOfMemory> {
+        if is(word, "-") {
+            return Ok(Some(None));
+        }
+        match u64::read(alloc, word)? {
+            Some(n) => Ok(Some(Some(n))),
+            None => Ok(None),
+        }
+    }
+}
+
+impl Word for Option<WireExpr> {
+    ghost of = { option_of wire_of };
+
+    fn read(alloc: Global, word: &[u8]) -> Result<Option<Option<WireExpr>>, OutOfMemory> {
+        if is(word, "-") {
+            return Ok(Some(None));
+        }
+        match WireExpr::read(alloc, word)? {
+            Some(wire) => Ok(Some(Some(wire))),
+            None => Ok(None),
+        }
+    }
+}
+
+impl Word for Option<Text> {
+    ghost of = { option_of text_of };
+
+    fn read(alloc: Global, word: &[u8]) -> Result<Option<Option<Text>>, OutOfMemory> {
+        if is(word, "-") {
+            return Ok(Some(None));
+        }
+        match text_of(alloc, word)? {
+            Some(text) => Ok(Some(Some(text))),
+            None => Ok(None),
+        }
+    }
+}
+
+/// A direction of a tree.
+impl Word for Option<u32> {
+    ghost of = { direction_of };
+
+    fn read(alloc: Global, word: &[u8]) -> Result<Option<Option<u32>>, OutOfMemory> {
+        if is(word, "x") {
+            return Ok(Some(None));
+        }
+        match u32::read(alloc, word)? {
+            Some(n) => Ok(Some(Some(n))),
+            None => Ok(None),
+        }
+    }
+}
+
+impl Word for Items<Zid> {
+    ghost of = { zids_of };
+
+    fn read(alloc: Global, word: &[u8]) -> Result<Option<Items<Zid>>, OutOfMemory> {
+        list_of(alloc, b',', word)
+    }
+}
+
+impl Word for Items<u16> {
+    ghost of = { list_of 44 (number most_16) };
+
+    fn read(alloc: Global, word: &[u8]) -> Result<Option<Items<u16>>, OutOfMemory> {
+        list_of(alloc, b',', word)
+    }
+}
+
+impl Word for Option<Items<Zid>> {
+    ghost of = { all_of };
+
+    fn read(alloc: Global, word: &[u8]) -> Result<Option<Option<Items<Zid>>>, OutOfMemory> {
+        if is(word, "none") {
+            return Ok(Some(None));
+        }
+        match list_of(alloc, b',', word)? {
+            Some(zids) => Ok(Some(Some(zids))),
+            None => Ok(None),
+        }
+    }
+}
+
+impl Word for GatewayEntry {
+    ghost of = { entry_of };
+
+    #[tactic(auto, unfolding(crate::specs::Values::entry_of))]
+    fn read(alloc: Global, word: &[u8]) -> Result<Option<GatewayEntry>, OutOfMemory> {
+        let Some((node, gateways)) = cut(b'=', word) else {
+            return Ok(None);
+        };
+        let Some(node) = Zid::read(alloc, node)? else {
+            return Ok(None);
+        };
+        match list_of(alloc, b',', gateways)? {
+            Some(gateways) => Ok(Some(GatewayEntry { node, gateways })),
+            None => Ok(None),
+        }
+    }
+}
+
+impl Word for Tree {
+    ghost of = { tree_of };
+
+    #[tactic(auto, unfolding(crate::specs::Values::tree_of))]
+    fn read(alloc: Global, word: &[u8]) -> Result<Option<Tree>, OutOfMemory> {
+        let Some((children, directions)) = cut(b'/', word) else {
+            return Ok(None);
+        };
+        let Some(children) = list_of(alloc, b',', children)? else {
+            return Ok(None);
+        };
+        match list_of(alloc, b',', directions)? {
+            Some(directions) => Ok(Some(Tree {
+                children,
+                directions,
+            })),
+            None => Ok(None),
+        }
+    }
+}
+
+impl Word for Items<Tree> {
+    ghost of = { list_of 59 tree_of };
+
+    fn read(alloc: Global, word: &[u8]) -> Result<Option<Items<Tree>>, OutOfMemory> {
+        list_of(alloc, b';', word)
+    }
+}
+
+impl Word for Items<GatewayEntry> {
+    ghost of = { list_of 59 entry_of };
+
+    fn read(alloc: Global, word: &[u8]) -> Result<Option<Items<GatewayEntry>>, OutOfMemory> {
+        list_of(alloc, b';', word)
+    }
+}

@@ -1,0 +1,220 @@
+//! Words of a line, and what they say.
+ghost use Rattle.std.specs.Prelude.{◌≡◌, ◌<◌, ℕ, List, Option, IfOk, OnOk, map, length, ◌≤◌, ◌++◌, position, IfSome, ◌+◌, string_bytes};
+ghost use Rattle.std.specs.Option.{option_map};
+ghost use Rattle.std.specs.Str.{bytes_eq};
+ghost use Rattle.zq_words.specs.Words.{pieces, read_each, is_byte, len_to, cut, number_from, number, payload_of, payload_word, text_of, word_at, read_at, list_of, option_of, IsWord};
+
+use percent_encoding::{AsciiSet, CONTROLS, ascii_set, percent_decode, percent_encode};
+use std::alloc::{AllocError, Global};
+use std::fmt::Write;
+use zq_key::items::Items;
+use zq_key::memory::OutOfMemory;
+use zq_key::text::{Bytes, Text};
+
+/// The bytes that are escaped in a word, beside those above 126.
+pub const ESCAPED: AsciiSet = ascii_set!(CONTROLS.add(b' ').add(b'%'));
+
+/// Whether the word is this text.
+pub fn is(word: &[u8], text: &str) -> bool
+    ensures { result ≡ bytes_eq word.now text.now }
+{
+    word == text.as_bytes()
+}
+
+fn first_of(byte: u8, bytes: &[u8]) -> Option<usize>
+    ensures { result ≡ position (is_byte byte) bytes.now }
+{
+    bytes.iter().position(|b| *b == byte)
+}
+
+/// How many bytes stand before the first such byte.
+#[tactic(auto, using(crate::proofs::Known::position_none))]
+pub fn len_to(byte: u8, bytes: &[u8]) -> usize
+    ensures word { result ≡ len_to byte bytes.now }
+    ensures within { result ≤ length bytes.now }
+{
+    match first_of(byte, bytes) {
+        Some(at) => at,
+        None => bytes.len(),
+    }
+}
+
+/// What stands before and after the first such byte.
+pub fn cut(byte: u8, bytes: &[u8]) -> Option<(&[u8], &[u8])>
+    ensures value { option_map (λ t. (t.0.now, t.1.now)) result ≡ cut byte bytes.now }
+    ensures shorter { IfSome result (λ t. length t.1.now < length bytes.now) }
+{
+    let (front, back) = bytes.split_at(len_to(byte, bytes));
+    match back {
+        [_, back @ ..] => Some((front, back)),
+        [] => None,
+    }
+}
+
+/// A space, a word that isn't empty, and what follows the word.
+pub fn word_at(bytes: &[u8]) -> Option<(&[u8], &[u8])>
+    ensures { option_map (λ t. (t.0.now, t.1.now)) result ≡ word_at bytes.now }
+{
+    match bytes {
+        [b' ', rest @ ..] => {
+            let len = len_to(b' ', rest);
+            if len == 0 {
+                return None;
+            }
+            Some(rest.split_at(len))
+        }
+        _ => None,
+    }
+}
+
+fn number_from(most: u128, word: &[u8]) -> Option<u128>
+    ensures value { result ≡ number_from most 0 word.now }
+    ensures bound { IfSome result (λ n. n ≤ most) }
+{
+    let mut number: u128 = 0;
+    'digits: for c in word {
+        if !c.is_ascii_digit() {
+            return None;
+        }
+        let digit = u128::from(*c - b'0');
+        number = number.checked_mul(10)?.checked_add(digit)?;
+        if number > most {
+            return None;
+        }
+    }
+    Some(number)
+}
+
+/// Decimal digits without a leading zero.
+pub fn number(most: u128, word: &[u8]) -> Option<u128>
+    ensures value { result ≡ number most word.now }
+    ensures bound { IfSome result (λ n. n ≤ most) }
+{
+    match word {
+        [] => None,
+        [b'0', _, ..] => None,
+        _ => number_from(most, word),
+    }
+}
+
+/// The bytes that a PAYLOAD word stands for, which a vector holds.
+fn decoded(alloc: Global, word: &[u8]) -> Result<Vec<u8>, OutOfMemory>
+    ensures { IfOk result (λ b. b.items ≡ payload_of word.now) }
+{
+    let mut bytes = Vec::new(alloc);
+    if !is(word, "-") {
+        percent_decode(word).append_to(&mut bytes)?;
+    }
+    Ok(bytes)
+}
+
+/// The bytes that a PAYLOAD word stands for.
+pub fn read_word(alloc: Global, word: &[u8]) -> Result<Bytes, OutOfMemory>
+    ensures { IfOk result (λ b. b ≡ payload_of word.now) }
+{
+    Ok(Bytes::from_vec(decoded(alloc, word)?))
+}
+
+/// Writes the word of bytes.
+pub fn push_word(out: &mut String, bytes: &[u8]) -> Result<(), AllocError>
+    ensures { OnOk result (string_bytes out.new ≡ string_bytes out.old ++ payload_word bytes.now) }
+{
+    if bytes.is_empty() {
+        return write!(out, "-");
+    }
+    if is(bytes, "-") {
+        return write!(out, "%2D");
+    }
+    percent_encode(bytes, ESCAPED).append_to(out)
+}
+
+/// The word of bytes: what `read_word` reads back.
+#[tactic(auto, using(crate::proofs::Back::payload_back, crate::proofs::Back::payload_is_word))]
+pub fn print_word(alloc: Global, bytes: &[u8]) -> Result<Bytes, OutOfMemory>
+    ensures value { IfOk result (λ w. w ≡ payload_word bytes.now) }
+    ensures word { IfOk result (λ w. IsWord w) }
+    ensures back { IfOk result (λ w. payload_of w ≡ bytes.now) }
+{
+    let mut out = String::new(alloc);
+    push_word(&mut out, bytes)?;
+    Ok(Bytes::from_vec(out.into_bytes()))
+}
+
+/// The text that a TEXT word stands for; none where its bytes are no UTF-8.
+#[tactic(auto, using(crate::proofs::Known::not_utf8, crate::proofs::Known::string_utf8))]
+pub fn text_of(alloc: Global, word: &[u8]) -> Result<Option<Text>, OutOfMemory>
+    ensures { IfOk result (λ t. t ≡ text_of word.now) }
+{
+    match String::from_utf8(decoded(alloc, word)?) {
+        Ok(text) => Ok(Some(Text::from_string(text))),
+        Err(_) => Ok(None),
+    }
+}
+
+/// What one word can stand for.
+pub trait Word: Sized {
+    /// What a word stands for, if it does.
+    ghost of: { List ℕ → Option Self };
+
+    /// Reads a whole word.
+    fn read(alloc: Global, word: &[u8]) -> Result<Option<Self>, OutOfMemory>
+        ensures { IfOk result (λ o. o ≡ of word.now) };
+}
+
+/// A space, a word that stands for something, and what follows the word.
+#[tactic(auto, unfolding(crate::specs::Words::read_at))]
+pub fn read_at<T: Word + Drop>(
+    alloc: Global,
+    bytes: &[u8],
+) -> Result<Option<(T, &[u8])>, OutOfMemory>
+    ensures { IfOk result (λ o. option_map (λ t. (t.0, t.1.now)) o ≡ read_at T.of bytes.now) }
+{
+    let Some((word, rest)) = word_at(bytes) else {
+        return Ok(None);
+    };
+    match T::read(alloc, word)? {
+        Some(x) => Ok(Some((x, rest))),
+        None => Ok(None),
+    }
+}
+
+/// The pieces of a word, each of which stands for something.
+#[tactic(auto, using(crate::proofs::Split::pieces_cut, crate::proofs::Split::pieces_whole, crate::proofs::Split::put_step))]
+pub fn read_each<T: Word + Drop>(
+    alloc: Global,
+    byte: u8,
+    word: &[u8],
+) -> Result<Option<Items<T>>, OutOfMemory>
+    ensures { IfOk result (λ o. o ≡ read_each T.of (pieces byte word.now)) }
+{
+    let mut items: Items<T> = Items::new(alloc);
+    let mut left = word;
+    'pieces: while let Some((piece, rest)) = cut(byte, left) {
+        match T::read(alloc, piece)? {
+            Some(x) => items.push(x)?,
+            None => return Ok(None),
+        }
+        left = rest;
+    }
+    match T::read(alloc, left)? {
+        Some(x) => {
+            items.push(x)?;
+            Ok(Some(items))
+        }
+        None => Ok(None),
+    }
+}
+
+/// A list joined by a byte, or a dash for the empty one.
+pub fn list_of<T: Word + Drop>(
+    alloc: Global,
+    byte: u8,
+    word: &[u8],
+) -> Result<Option<Items<T>>, OutOfMemory>
+    ensures { IfOk result (λ o. o ≡ list_of byte T.of word.now) }
+{
+    if is(word, "-") {
+        return Ok(Some(Items::new(alloc)));
+    }
+    read_each(alloc, byte, word)
+}
