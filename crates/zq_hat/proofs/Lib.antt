@@ -11,3 +11,4 @@ pub mod Tied
 pub mod Keeping
 pub mod Turns
 pub mod OfferLaws
+pub mod OffersMoved

@@ -4,3 +4,4 @@ pub mod Regions
 pub mod Kept
 pub mod Offers
 pub mod Holders
+pub mod Moved
