@@ -1,5 +1,14 @@
-pub mod Places
-pub mod KeyPlaces
 pub mod Folds
 pub mod Laws
 pub mod Rebuilt
+pub mod Sorted
+pub mod Held
+pub mod Texts
+pub mod Holding
+pub mod Reading
+pub mod IndexKeys
+pub mod Tied
+pub mod Keeping
+pub mod Turns
+pub mod OfferLaws
+pub mod OffersMoved

@@ -11,6 +11,12 @@ use Rattle.std.specs.Map.{keys_of}
 use Rattle.std.specs.BTreeMap.{insert_entry}
 use Rattle.std.proofs.lemmas.Map.Keys.{sorted_head, sorted_tail}
 use Rattle.std.proofs.lemmas.List.{append-nil}
+use Rattle.std.specs.Prelude.{String}
+use Rattle.std.specs.String.{string_bytes, string_cmp}
+use Rattle.std.specs.declared.alloc.Global.{Global}
+use Rattle.zq_hat.specs.Kept.{text_cmp}
+use Rattle.zq_hat.specs.Holders.{Place, place_cmp, texts_of}
+use Rattle.zq_hat.proofs.Held.{place_total, text_total}
 use Rattle.zq_key.proofs.Naturals.{map-append}
 
 -- an entry is put in its place
@@ -47,3 +53,25 @@ module _ {K X : Type 0} {R : K → K → Ordering} (o : IsTotalOrder R) where
 
 pub rebuilt_numbers : {X : Type 0} (es : List (ℕ × X)) → IsStrictlySortedBy nat_cmp (keys_of es) → fold (put_entry nat_cmp) [] es ≡ es
 rebuilt_numbers es s = rebuilt nat_cmp_total es s
+
+pub rebuilt_places : {X : Type 0} (es : List (Place × X)) → IsStrictlySortedBy place_cmp (keys_of es) → fold (put_entry place_cmp) [] es ≡ es
+rebuilt_places es s = rebuilt place_total es s
+
+texts_above : {X : Type 0} (s : String Global) (es : List (String Global × X)) → AllByRecursion (λ y. string_cmp s y ≡ Less) (keys_of es) → AllByRecursion (λ y. text_cmp (string_bytes s) y ≡ Less) (keys_of (texts_of es))
+texts_above s [] all = tt
+texts_above s (e ∷ es) all = (all.0, texts_above s es all.1)
+
+sorted_cons : {K : Type 0} (R : K → K → Ordering) (k : K) (ks : List K) → AllByRecursion (λ y. R k y ≡ Less) ks → IsStrictlySortedBy R ks → IsStrictlySortedBy R (k ∷ ks)
+unfolding IsStrictlySortedBy
+sorted_cons R k ks all s = (all, s)
+
+sorted_nil : {K : Type 0} (R : K → K → Ordering) → IsStrictlySortedBy R []
+unfolding IsStrictlySortedBy
+sorted_nil R = tt
+
+sorted_texts : {X : Type 0} (es : List (String Global × X)) → IsStrictlySortedBy string_cmp (keys_of es) → IsStrictlySortedBy text_cmp (keys_of (texts_of es))
+sorted_texts [] s = sorted_nil text_cmp
+sorted_texts (e ∷ es) s = sorted_cons text_cmp (string_bytes e.0) (keys_of (texts_of es)) (texts_above e.0 es (sorted_head string_cmp e.0 (keys_of es) s)) (sorted_texts es (sorted_tail string_cmp e.0 (keys_of es) s))
+
+pub rebuilt_texts : {X : Type 0} (es : List (String Global × X)) → IsStrictlySortedBy string_cmp (keys_of es) → fold (put_entry text_cmp) [] (texts_of es) ≡ texts_of es
+rebuilt_texts es s = rebuilt text_total (texts_of es) (sorted_texts es s)

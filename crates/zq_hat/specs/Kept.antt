@@ -6,7 +6,7 @@ use Rattle.std.specs.BTreeMap.{insert_entry, is_at}
 use Rattle.std.specs.BTreeSet.{insert_key}
 use Rattle.std.specs.Cmp.Lexicographic.{slice_cmp}
 use Rattle.std.specs.declared.cmp.Ordering.{Ordering}
-use Rattle.std.specs.Ordering.{nat_cmp, is_gt}
+use Rattle.std.specs.Ordering.{nat_cmp}
 use Rattle.std.specs.Str.{bytes_eq}
 use Rattle.zq_key.specs.declared.message.QueryableInfoType.{QueryableInfoType}
 use Rattle.zq_key.specs.declared.message.Region.{Region}
@@ -136,7 +136,3 @@ without_face number s = record s { faces = remove_entry (is_at (nat_cmp number))
 -- the keys that the face declared, by id, one for each declaration
 abbrev pub keys_of_face : ℕ → HatState → List (List ℕ)
 keys_of_face number s = option_map_or (λ f. map key_of f.declared) (face_at number s) []
-
--- the key goes no further than here
-abbrev pub stops_key : List ℕ → List ℕ → Bool
-stops_key key k = not (is_gt (text_cmp key k))

@@ -3,3 +3,5 @@ pub mod State
 pub mod Regions
 pub mod Kept
 pub mod Offers
+pub mod Holders
+pub mod Moved

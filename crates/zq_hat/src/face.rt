@@ -1,9 +1,8 @@
 //! One face of a hat.
-ghost use Rattle.std.specs.Prelude.{◌≡◌, OnOk, OnErr, IfOk, map, fold, None};
+ghost use Rattle.std.specs.Prelude.{◌≡◌, OnOk, OnErr, IfOk, map, None};
 ghost use Rattle.std.specs.Option.{option_copied, option_map};
-ghost use Rattle.zq_hat.specs.Kept.{info, declaration, declare, withdraw, new_face, key_of, with_declared};
+ghost use Rattle.zq_hat.specs.Kept.{declaration, declare, withdraw, new_face, key_of};
 
-use crate::info::joined;
 use crate::types::{Declaration, FaceRecord};
 use std::alloc::Global;
 use std::collections::BTreeMap;
@@ -40,19 +39,6 @@ impl Model for HatFace {
       marks = [];
       nodes = record { ids = [] };
     } };
-}
-
-/// What was declared on the key, merged.
-fn info(declared: &BTreeMap<u32, Declaration>, key: &str) -> Option<QueryableInfoType>
-    ensures { result ≡ fold (with_declared key.now) None declared.now.entries }
-{
-    let mut merged = None;
-    for (_, declaration) in declared {
-        if declaration.key.as_str() == key {
-            merged = joined(merged, Some(declaration.info));
-        }
-    }
-    merged
 }
 
 /// Copies of the keys.
@@ -108,13 +94,6 @@ impl HatFace {
         })
     }
 
-    /// What the face declared on the key, merged.
-    pub fn info(&self, key: &str) -> Option<QueryableInfoType>
-        ensures { result ≡ info key.now self.now }
-    {
-        info(&self.declared, key)
-    }
-
     /// Copies of the keys that the face declared.
     pub fn keys(&self, alloc: Global) -> Result<TextList, OutOfMemory>
         ensures { IfOk result (λ ks. ks ≡ map key_of self.now.declared) }
@@ -138,6 +117,7 @@ impl HatFace {
     /// The same id replaces.
     pub fn declare(&mut self, id: u32, key: Key, info: QueryableInfoType) -> Result<(), OutOfMemory>
         ensures ok { OnOk result (self.new ≡ declare id key info self.old) }
+        ensures absent { OnErr result (declaration id self.old ≡ None) }
         ensures err { OnErr result (self.new ≡ self.old) }
     {
         match self.declared.insert(id, Declaration { key, info }) {

@@ -1,19 +1,23 @@
 //! The hat of one region.
-ghost use Rattle.std.specs.Prelude.{◌≡◌, ◌↔◌, Some, None, true, false, is_some, OnOk, OnErr, IfOk, IsErrOf, option_map, IsTrue};
+ghost use Rattle.std.specs.Prelude.{◌≡◌, ◌↔◌, Some, None, true, false, is_some, OnOk, OnErr, IfOk, IsErrOf, option_map, IsTrue, fold};
 ghost use Rattle.std.specs.Map.{set_value};
 ghost use Rattle.std.specs.BTreeMap.{is_at};
 ghost use Rattle.std.specs.Ordering.{nat_cmp};
 ghost use Rattle.zq_key.specs.Key.{is_key};
-ghost use Rattle.zq_hat.specs.Kept.{new_hat, with_face_opened, without_face, keys_of_face, has_face, clashes_at, declaration_at, registered, unregistered, unregister_result, region_info, changed, at_id, face_at, declare, withdraw};
+ghost use Rattle.zq_hat.specs.Kept.{new_hat, with_face_opened, without_face, keys_of_face, has_face, clashes_at, declaration_at, registered, unregistered, unregister_result, region_info, changed, at_id, face_at, declare, withdraw, declaration};
+ghost use Rattle.zq_hat.specs.Holders.{without_declared};
 ghost use Rattle.zq_hat.specs.State.{FaceState};
 ghost use Rattle.zq_hat.specs.Offers.{offers_of};
 ghost use Rattle.zq_hat.specs.Regions.{strategy_at};
 
 use crate::face::HatFace;
-use crate::info::{joined, same_info};
+use crate::holders::KeyHolders;
+use crate::info::same_info;
 use crate::offers;
 use crate::strategy::strategy_of;
-use crate::types::{FaceRecord, HatRefusal, OfferList, Strategy, UnregisterEntityResult};
+use crate::types::{
+    Declaration, FaceRecord, HatRefusal, OfferList, Strategy, UnregisterEntityResult,
+};
 use std::alloc::Global;
 use std::collections::BTreeMap;
 use std::marker::Model;
@@ -31,12 +35,14 @@ pub struct Hat {
     own: Zid,
     told_start: u32,
     faces: BTreeMap<u32, HatFace>,
+    index: KeyHolders,
     alloc: Global,
 }
 
 impl Model for Hat {
     ghost use Rattle.std.specs.Prelude.{[]};
     ghost use Rattle.zq_hat.specs.State.{HatState};
+    ghost use Rattle.zq_hat.specs.Holders.{IsTied};
 
     ghost Value = { HatState };
 
@@ -51,17 +57,8 @@ impl Model for Hat {
       owned = [];
       network = record { nodes = []; trees = []; distances = [] };
     } };
-}
 
-/// What the faces declared on the key, merged.
-fn region_info(faces: &BTreeMap<u32, HatFace>, key: &str) -> Option<QueryableInfoType>
-    ensures { result ≡ region_info key.now faces.now.entries }
-{
-    let mut merged = None;
-    for (_, face) in faces {
-        merged = joined(merged, face.info(key));
-    }
-    merged
+    ghost invariant = { λ h. IsTied h.faces.entries h.index };
 }
 
 /// The face declares the key under the id.
@@ -75,6 +72,7 @@ fn declare(
 ) -> Result<(), OutOfMemory>
     requires { is_some (at_id face.0 faces.old.entries) ≡ true }
     ensures ok { OnOk result ((f : FaceState) → at_id face.0 faces.old.entries ≡ Some f → faces.new.entries ≡ set_value (is_at (nat_cmp face.0)) faces.old.entries (declare id key info f)) }
+    ensures absent { OnErr result ((f : FaceState) → at_id face.0 faces.old.entries ≡ Some f → declaration id f ≡ None) }
     ensures err { OnErr result (faces.new.entries ≡ faces.old.entries) }
 {
     match faces.get_mut(&face.0) {
@@ -96,6 +94,15 @@ fn withdraw(faces: &mut BTreeMap<u32, HatFace>, face: FaceId, id: u32)
             let _ = found.withdraw(id);
         }
         None => unreachable!(),
+    }
+}
+
+/// The index without what the face declared.
+fn forget(index: &mut KeyHolders, number: u32, declared: &BTreeMap<u32, Declaration>)
+    ensures { index.new ≡ fold (without_declared number) index.old declared.now.entries }
+{
+    for (id, declaration) in declared {
+        index.take(declaration.key.as_str(), (number, *id));
     }
 }
 
@@ -145,6 +152,7 @@ impl Hat {
             own,
             told_start,
             faces: BTreeMap::new(alloc),
+            index: KeyHolders::new(alloc),
             alloc,
         }
     }
@@ -159,6 +167,7 @@ impl Hat {
             own: self.own,
             told_start: self.told_start,
             faces: copy_faces(&self.faces, alloc)?,
+            index: self.index.copy(alloc)?,
             alloc,
         })
     }
@@ -195,6 +204,43 @@ impl Hat {
         }
     }
 
+    /// The face declares the key under an id that does not stand for another.
+    fn declare(
+        &mut self,
+        face: FaceId,
+        id: u32,
+        key: &Key,
+        info: QueryableInfoType,
+    ) -> Result<(), OutOfMemory>
+        requires face { has_face face.0 self.old ≡ true }
+        requires free { clashes_at face.0 id key.now self.old ≡ false }
+        ensures ok { OnOk result (self.new ≡ registered face.0 id key.now info self.old) }
+        ensures err { OnErr result (self.new ≡ self.old) }
+    {
+        let copy = key.copy(self.alloc)?;
+        let place = (face.0, id);
+        match self.index.put(self.alloc, key.as_str(), place, info) {
+            Ok(()) => {}
+            Err(error) => return Err(error),
+        }
+        match declare(&mut self.faces, face, id, copy, info) {
+            Ok(()) => Ok(()),
+            Err(error) => {
+                self.index.take(key.as_str(), place);
+                Err(error)
+            }
+        }
+    }
+
+    /// The face withdraws the id, which stands for the key.
+    fn withdraw(&mut self, face: FaceId, id: u32, key: &str)
+        requires { option_map (λ d. d.key) (declaration_at face.0 id self.old) ≡ Some key.now }
+        ensures { self.new ≡ unregistered face.0 id self.old }
+    {
+        withdraw(&mut self.faces, face, id);
+        self.index.take(key, (face.0, id));
+    }
+
     /// Takes in a face, which has declared nothing.
     pub fn new_face(&mut self, face: FaceRecord) -> Result<(), OutOfMemory>
         requires { has_face face.face.0 self.old ≡ false }
@@ -227,10 +273,7 @@ impl Hat {
         if self.clashes(face, id, key.as_str()) {
             return Err(HatRefusal::IdInUse);
         }
-        let Ok(copy) = key.copy(self.alloc) else {
-            return Err(HatRefusal::OutOfMemory);
-        };
-        match declare(&mut self.faces, face, id, copy, info) {
+        match self.declare(face, id, key, info) {
             Ok(()) => Ok(()),
             Err(_) => Err(HatRefusal::OutOfMemory),
         }
@@ -258,9 +301,9 @@ impl Hat {
         let Ok(copy) = Text::new(self.alloc, declaration.key.as_str()) else {
             return Err(HatRefusal::OutOfMemory);
         };
-        let before = region_info(&self.faces, copy.as_str());
-        withdraw(&mut self.faces, face, id);
-        let after = region_info(&self.faces, copy.as_str());
+        let before = self.remote_queryables_of(copy.as_str());
+        self.withdraw(face, id, copy.as_str());
+        let after = self.remote_queryables_of(copy.as_str());
         Ok(changed(copy, before, after))
     }
 
@@ -268,7 +311,10 @@ impl Hat {
     pub fn remote_queryables_of(&self, key: &str) -> Option<QueryableInfoType>
         ensures { result ≡ region_info key.now self.now.faces }
     {
-        region_info(&self.faces, key)
+        match self.index.get(key) {
+            Some(holders) => holders.merged(),
+            None => None,
+        }
     }
 
     /// The offers for the key to an asker of region `src`, by distance, key text and face.
@@ -282,7 +328,7 @@ impl Hat {
         ensures { IfOk result (λ o. o ≡ offers_of self.now src.now key.now) }
     {
         match self.strategy() {
-            Strategy::Broker => offers::declared_offers(self.alloc, self.region, &self.faces, key),
+            Strategy::Broker => offers::declared_offers(self.alloc, self.region, &self.index, key),
             Strategy::Client => Ok(Items::new(self.alloc)),
             Strategy::Peer => Ok(Items::new(self.alloc)),
             Strategy::Router => Ok(Items::new(self.alloc)),
@@ -294,7 +340,10 @@ impl Hat {
         requires { has_face face.0 self.old ≡ true }
         ensures { self.new ≡ without_face face.0 self.old }
     {
-        let _ = self.faces.remove(&face.0);
+        match self.faces.remove(&face.0) {
+            Some(gone) => forget(&mut self.index, face.0, gone.declared()),
+            None => unreachable!(),
+        }
     }
 
     /// Takes the face out, with what it declared; answers the keys that it had declared, one for

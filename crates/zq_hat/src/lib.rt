@@ -10,7 +10,10 @@
 
 mod face;
 pub mod hat;
+mod holders;
 pub mod info;
 mod offers;
 pub mod strategy;
+#[cfg(test)]
+mod tests;
 pub mod types;

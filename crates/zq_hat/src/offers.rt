@@ -1,14 +1,16 @@
 //! What a region offers for the key of a request.
-ghost use Rattle.std.specs.Prelude.{◌≡◌, ◌<◌, ◌≤◌, ◌-◌, IfOk, OnOk, fold, length, true, false, slice_index_or, position, IsTrue};
-ghost use Rattle.std.specs.List.{flat_map, suffix_len};
-ghost use Rattle.std.specs.BTreeSet.{insert_key};
-ghost use Rattle.std.specs.Ordering.{is_lt, is_eq};
+ghost use Rattle.std.specs.Prelude.{◌≡◌, ◌<◌, ◌≤◌, ◌-◌, ◌∷◌, ℕ, IfOk, OnOk, Some, None, fold, map, length, true, false, slice_index_or, IsTrue};
+ghost use Rattle.std.specs.List.{AllByRecursion, flat_map, suffix_len};
+ghost use Rattle.std.specs.Option.{option_to_list};
+ghost use Rattle.std.specs.Ordering.{is_lt};
 ghost use Rattle.zq_key.specs.Key.{is_key};
-ghost use Rattle.zq_hat.specs.Kept.{text_cmp, with_key, declared_keys, stops_key};
-ghost use Rattle.zq_hat.specs.Offers.{offer_of, offers_on, offers_for, declared_offers, offer_cmp, place, sorted, distance};
+ghost use Rattle.zq_hat.specs.Kept.{text_cmp};
+ghost use Rattle.zq_hat.specs.Offers.{offer_cmp, place, sorted, distance};
+ghost use Rattle.zq_hat.specs.Holders.{Holdings, IsKeyed, groups_from, group_offer, holder_offers, texts_of};
 
-use crate::face::HatFace;
-use crate::types::{Declaration, OfferList, QueryTargetQabl};
+use crate::holders::{Holders, KeyHolders};
+use crate::info::merge_qabl_infos;
+use crate::types::{OfferList, QueryTargetQabl};
 use std::alloc::Global;
 use std::cmp::Ordering;
 use std::collections::BTreeMap;
@@ -16,68 +18,15 @@ use zq_key::items::Items;
 use zq_key::memory::OutOfMemory;
 use zq_key::message::{FaceId, QueryableInfoType, Region};
 use zq_key::text::Text;
-use zq_key::{Key, includes, intersects};
+use zq_key::{includes, intersects};
+
+/// A face's number, and what it declared on a key, merged.
+type Group = (u32, QueryableInfoType);
 
 fn compare(a: &str, b: &str) -> Ordering
     ensures { result ≡ text_cmp a.now b.now }
 {
     a.cmp(b)
-}
-
-fn slot_for(keys: &[Key], key: &str) -> Option<usize>
-    ensures { result ≡ position (stops_key key.now) keys.now }
-{
-    keys.iter()
-        .position(|k| compare(key, k.as_str()) != Ordering::Greater)
-}
-
-fn is_equal(a: &str, b: &str) -> bool
-    ensures { result ≡ is_eq (text_cmp a.now b.now) }
-{
-    compare(a, b) == Ordering::Equal
-}
-
-/// Puts the key in its place, if it is not there.
-fn put_key(keys: &mut Vec<Key>, key: Key) -> Result<(), OutOfMemory>
-    ensures { OnOk result (keys.new.items ≡ insert_key text_cmp keys.old.items key) }
-{
-    match slot_for(keys.as_slice(), key.as_str()) {
-        None => {
-            keys.push(key)?;
-            Ok(())
-        }
-        Some(at) => {
-            if is_equal(key.as_str(), keys[at].as_str()) {
-                return Ok(());
-            }
-            keys.insert(at, key)?;
-            Ok(())
-        }
-    }
-}
-
-fn add_keys(
-    keys: &mut Vec<Key>,
-    alloc: Global,
-    declared: &BTreeMap<u32, Declaration>,
-) -> Result<(), OutOfMemory>
-    ensures ok { OnOk result (keys.new.items ≡ fold with_key keys.old.items declared.now.entries) }
-{
-    for (_, declaration) in declared {
-        put_key(keys, declaration.key.copy(alloc)?)?;
-    }
-    Ok(())
-}
-
-/// The keys that the faces declared, each once, in order.
-fn declared_keys(alloc: Global, faces: &BTreeMap<u32, HatFace>) -> Result<Vec<Key>, OutOfMemory>
-    ensures { IfOk result (λ ks. ks.items ≡ declared_keys faces.now.entries) }
-{
-    let mut keys = Vec::new(alloc);
-    for (_, face) in faces {
-        add_keys(&mut keys, alloc, face.declared())?;
-    }
-    Ok(keys)
 }
 
 fn distance(offer: &QueryTargetQabl) -> u16
@@ -148,13 +97,13 @@ pub fn put(offers: &mut Vec<QueryTargetQabl>, offer: QueryTargetQabl) -> Result<
 fn offer_of(
     alloc: Global,
     region: Region,
-    number: u32,
-    key: &Key,
+    key: &str,
     q: &str,
-    info: QueryableInfoType,
+    group: Group,
 ) -> Result<QueryTargetQabl, OutOfMemory>
-    requires { IsTrue (is_key q.now) }
-    ensures { IfOk result (λ o. o ≡ offer_of region q.now key.now number info) }
+    requires key { IsTrue (is_key key.now) }
+    requires asked { IsTrue (is_key q.now) }
+    ensures { IfOk result (λ o. o ≡ group_offer region q.now key.now group) }
 {
     let distance = if matches!(region, Region::Local) {
         0
@@ -162,88 +111,146 @@ fn offer_of(
         1
     };
     Ok(QueryTargetQabl {
-        face: FaceId(number),
+        face: FaceId(group.0),
         info: Some(QueryableInfoType {
-            complete: info.complete && includes(key.as_str(), q),
+            complete: group.1.complete && includes(key, q),
             distance,
         }),
-        key: Text::new(alloc, key.as_str())?,
+        key: Text::new(alloc, key)?,
         region,
         node: 0,
     })
 }
 
-/// Adds what the face offers by its declarations on the key.
-fn add_offer(
+/// Puts the face's offer in its place.
+fn put_group(
     offers: &mut Vec<QueryTargetQabl>,
     alloc: Global,
     region: Region,
-    number: u32,
-    face: &HatFace,
-    key: &Key,
+    key: &str,
     q: &str,
+    group: Group,
 ) -> Result<(), OutOfMemory>
-    requires { IsTrue (is_key q.now) }
-    ensures ok { OnOk result (offers.new.items ≡ fold (place offer_cmp) offers.old.items (offers_on region q.now key.now (number, face.now))) }
+    requires key { IsTrue (is_key key.now) }
+    requires asked { IsTrue (is_key q.now) }
+    ensures { OnOk result (offers.new.items ≡ place offer_cmp offers.old.items (group_offer region q.now key.now group)) }
 {
-    match face.info(key.as_str()) {
+    put(offers, offer_of(alloc, region, key, q, group)?)
+}
+
+/// Merges a declaration into those of its face, or puts the offer of the face before it.
+fn next_group(
+    offers: &mut Vec<QueryTargetQabl>,
+    alloc: Global,
+    region: Region,
+    key: &str,
+    q: &str,
+    group: Option<Group>,
+    face: u32,
+    info: QueryableInfoType,
+) -> Result<Group, OutOfMemory>
+    requires key { IsTrue (is_key key.now) }
+    requires asked { IsTrue (is_key q.now) }
+    ensures { IfOk result (λ next. (id : ℕ) (rest : Holdings) → fold (place offer_cmp) offers.new.items (map (group_offer region q.now key.now) (groups_from (Some next) rest)) ≡ fold (place offer_cmp) offers.old.items (map (group_offer region q.now key.now) (groups_from group (((face, id), info) ∷ rest)))) }
+{
+    let Some(open) = group else {
+        return Ok((face, info));
+    };
+    if open.0 == face {
+        return Ok((open.0, merge_qabl_infos(open.1, info)));
+    }
+    put_group(offers, alloc, region, key, q, open)?;
+    Ok((face, info))
+}
+
+/// Puts the offer of the last face.
+fn last_group(
+    offers: &mut Vec<QueryTargetQabl>,
+    alloc: Global,
+    region: Region,
+    key: &str,
+    q: &str,
+    group: Option<Group>,
+) -> Result<(), OutOfMemory>
+    requires key { IsTrue (is_key key.now) }
+    requires asked { IsTrue (is_key q.now) }
+    ensures { OnOk result (offers.new.items ≡ fold (place offer_cmp) offers.old.items (map (group_offer region q.now key.now) (option_to_list group))) }
+{
+    match group {
+        Some(open) => put_group(offers, alloc, region, key, q, open),
         None => Ok(()),
-        Some(info) => put(offers, offer_of(alloc, region, number, key, q, info)?),
     }
 }
 
-#[tactic(auto, using(crate::proofs::Folds::fold_joined))]
-fn add_offers(
+/// Adds an offer for each face that declared the key.
+fn add_groups(
     offers: &mut Vec<QueryTargetQabl>,
     alloc: Global,
     region: Region,
-    faces: &BTreeMap<u32, HatFace>,
-    key: &Key,
+    key: &str,
+    infos: &BTreeMap<(u32, u32), QueryableInfoType>,
     q: &str,
 ) -> Result<(), OutOfMemory>
-    requires { IsTrue (is_key q.now) }
-    ensures ok { OnOk result (offers.new.items ≡ fold (place offer_cmp) offers.old.items (flat_map (offers_on region q.now key.now) faces.now.entries)) }
+    requires key { IsTrue (is_key key.now) }
+    requires asked { IsTrue (is_key q.now) }
+    ensures { OnOk result (offers.new.items ≡ fold (place offer_cmp) offers.old.items (map (group_offer region q.now key.now) (groups_from None infos.now.entries))) }
 {
-    for (number, face) in faces {
-        add_offer(offers, alloc, region, *number, face, key, q)?;
+    let mut group = None;
+    for (place, info) in infos {
+        group = Some(next_group(offers, alloc, region, key, q, group, place.0, *info)?);
     }
-    Ok(())
+    last_group(offers, alloc, region, key, q, group)
 }
 
-/// Adds what the faces offer on the key, if it meets the request's.
+/// Adds what is offered on the key, if it meets the request's.
 fn add_key_offers(
     offers: &mut Vec<QueryTargetQabl>,
     alloc: Global,
     region: Region,
-    faces: &BTreeMap<u32, HatFace>,
-    key: &Key,
+    key: &str,
+    holders: &Holders,
     q: &str,
 ) -> Result<(), OutOfMemory>
-    requires { IsTrue (is_key q.now) }
-    ensures ok { OnOk result (offers.new.items ≡ fold (place offer_cmp) offers.old.items (offers_for region faces.now.entries q.now key.now)) }
+    requires key { IsTrue (is_key key.now) }
+    requires asked { IsTrue (is_key q.now) }
+    ensures { OnOk result (offers.new.items ≡ fold (place offer_cmp) offers.old.items (holder_offers region q.now (key.now, holders.now))) }
 {
-    if intersects(key.as_str(), q) {
-        add_offers(offers, alloc, region, faces, key, q)
+    if intersects(key, q) {
+        add_groups(offers, alloc, region, key, holders.infos(), q)
     } else {
         Ok(())
     }
 }
 
 /// The offers by declarations, in order.
-#[tactic(auto, using(crate::proofs::Folds::fold_flat_more))]
+#[tactic(auto, using(crate::proofs::Folds::fold_joined))]
+fn offers_on_keys(
+    alloc: Global,
+    region: Region,
+    keys: &BTreeMap<String, Holders>,
+    q: &str,
+) -> Result<Vec<QueryTargetQabl>, OutOfMemory>
+    requires keys { AllByRecursion IsKeyed (texts_of keys.now.entries) }
+    requires asked { IsTrue (is_key q.now) }
+    ensures { IfOk result (λ o. o.items ≡ sorted offer_cmp (flat_map (holder_offers region q.now) (texts_of keys.now.entries))) }
+{
+    let mut offers = Vec::new(alloc);
+    for (key, holders) in keys {
+        add_key_offers(&mut offers, alloc, region, key.as_str(), holders, q)?;
+    }
+    Ok(offers)
+}
+
+/// The offers by declarations, in order.
 pub fn declared_offers(
     alloc: Global,
     region: Region,
-    faces: &BTreeMap<u32, HatFace>,
+    index: &KeyHolders,
     q: &str,
 ) -> Result<OfferList, OutOfMemory>
-    requires { IsTrue (is_key q.now) }
-    ensures { IfOk result (λ o. o ≡ sorted offer_cmp (declared_offers region faces.now.entries q.now)) }
+    requires keys { AllByRecursion IsKeyed index.now }
+    requires asked { IsTrue (is_key q.now) }
+    ensures { IfOk result (λ o. o ≡ sorted offer_cmp (flat_map (holder_offers region q.now) index.now)) }
 {
-    let keys = declared_keys(alloc, faces)?;
-    let mut offers = Vec::new(alloc);
-    for key in keys.as_slice() {
-        add_key_offers(&mut offers, alloc, region, faces, key, q)?;
-    }
-    Ok(Items::from_vec(offers))
+    Ok(Items::from_vec(offers_on_keys(alloc, region, index.keys(), q)?))
 }

@@ -5,3 +5,5 @@ pub mod builder;
 pub mod filter;
 pub mod gateways;
 pub mod selection;
+#[cfg(test)]
+mod tests;

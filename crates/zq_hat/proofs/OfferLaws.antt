@@ -1,0 +1,104 @@
+-- Every offer of a hat is of one of its faces, and of its region.
+use Rattle.std.proofs.Common.{◌≡◌, ap, refl, ℕ, zero, suc, Bool, true, false, cond, List, [], ◌∷◌, ◌++◌, Some, None, Option, fold, take, drop}
+use Rattle.std.specs.Prelude.{◌-◌, length}
+use Rattle.std.specs.Option.{is_some}
+use Rattle.std.specs.declared.cmp.Ordering.{Ordering}
+use Rattle.std.specs.Ordering.{nat_cmp, is_lt}
+use Rattle.std.specs.Cmp.{nat_cmp_total}
+use Rattle.std.specs.List.{All, AllByRecursion, flat_map, suffix_len}
+use Rattle.std.specs.BTreeMap.{is_at}
+use Rattle.std.proofs.lemmas.List.Elements.{All-nil, All-cons}
+use Rattle.std.proofs.lemmas.Map.Lookups.{exact_unsigned}
+use Rattle.zq_key.specs.Key.{intersects}
+use Rattle.zq_key.specs.declared.message.QueryableInfoType.{QueryableInfoType}
+use Rattle.zq_key.specs.declared.message.Region.{Region}
+use Rattle.zq_hat.specs.declared.types.QueryTargetQabl.{QueryTargetQabl}
+use Rattle.zq_hat.specs.declared.types.Strategy.{Strategy}
+use Rattle.zq_hat.specs.declared.types.Strategy.TheVariants as strategy
+use Rattle.zq_hat.specs.Kept.{at_id, has_face, info, declared_keys}
+use Rattle.zq_hat.specs.Offers.{place, sorted, offer_cmp, offer_of, offer_list, offers_on, offers_for, offers_by, offers_of}
+use Rattle.zq_hat.specs.Regions.{strategy_at}
+use Rattle.zq_hat.specs.State.{FaceState, HatState}
+use Rattle.zq_hat.proofs.Sorted.{at_itself}
+
+all_from : {X : Type 0} (P : X → Type 0) (xs : List X) → AllByRecursion P xs → All P xs
+all_from P [] all = All-nil P
+all_from P (x ∷ xs) all = All-cons P x xs all.0 (all_from P xs all.1)
+
+module _ {X : Type 0} (P : X → Type 0) where
+  all_joined : (xs ys : List X) → AllByRecursion P xs → AllByRecursion P ys → AllByRecursion P (xs ++ ys)
+  all_joined [] ys all more = more
+  all_joined (x ∷ xs) ys all more = (all.0, all_joined xs ys all.1 more)
+
+  all_inserted : (xs : List X) (i : ℕ) (x : X) → AllByRecursion P xs → P x → AllByRecursion P (take i xs ++ x ∷ drop i xs)
+  all_inserted [] i x all p = by i
+    where
+      by : (i : ℕ) → AllByRecursion P (take i [] ++ x ∷ drop i [])
+      by zero = (p, tt)
+      by (suc i) = (p, tt)
+  all_inserted (y ∷ ys) zero x all p = (p, all)
+  all_inserted (y ∷ ys) (suc i) x all p = (all.0, all_inserted ys i x all.1 p)
+
+  module _ (cmp : X → X → Ordering) where
+    sorted_from : (done xs : List X) → AllByRecursion P done → AllByRecursion P xs → AllByRecursion P (fold (place cmp) done xs)
+    sorted_from done [] all more = all
+    sorted_from done (x ∷ xs) all more = sorted_from (place cmp done x) xs (all_inserted done (length done - suffix_len (λ y. is_lt (cmp x y)) done) x all more.0) more.1
+
+    all_sorted : (xs : List X) → AllByRecursion P xs → AllByRecursion P (sorted cmp xs)
+    all_sorted xs all = sorted_from [] xs tt all
+
+module _ (P : QueryTargetQabl → Type 0) (region : Region) (q : List ℕ) where
+  one_offer : (key : List ℕ) (f : ℕ × FaceState) (m : Option QueryableInfoType) → ((k : List ℕ) (i : QueryableInfoType) → P (offer_of region q k f.0 i)) → AllByRecursion P (offer_list region q key f.0 m)
+  one_offer key f None has = tt
+  one_offer key f (Some i) has = (has key i, tt)
+
+  face_offers : (key : List ℕ) (fs : List (ℕ × FaceState)) → AllByRecursion (λ f. (k : List ℕ) (i : QueryableInfoType) → P (offer_of region q k f.0 i)) fs → AllByRecursion P (flat_map (offers_on region q key) fs)
+  face_offers key [] all = tt
+  face_offers key (f ∷ fs) all = all_joined P (offers_on region q key f) (flat_map (offers_on region q key) fs) (one_offer key f (info key f.1) all.0) (face_offers key fs all.1)
+
+  key_offers : (fs : List (ℕ × FaceState)) (key : List ℕ) (b : Bool) → AllByRecursion (λ f. (k : List ℕ) (i : QueryableInfoType) → P (offer_of region q k f.0 i)) fs → AllByRecursion P (cond b (flat_map (offers_on region q key) fs) [])
+  key_offers fs key true all = face_offers key fs all
+  key_offers fs key false all = tt
+
+  declared_all : (fs : List (ℕ × FaceState)) (ks : List (List ℕ)) → AllByRecursion (λ f. (k : List ℕ) (i : QueryableInfoType) → P (offer_of region q k f.0 i)) fs → AllByRecursion P (flat_map (offers_for region fs q) ks)
+  declared_all fs [] all = tt
+  declared_all fs (k ∷ ks) all = all_joined P (offers_for region fs q k) (flat_map (offers_for region fs q) ks) (key_offers fs k (intersects k q) all) (declared_all fs ks all)
+
+  strategy_all : (s : Strategy) (src : Region) (fs : List (ℕ × FaceState)) → AllByRecursion (λ f. (k : List ℕ) (i : QueryableInfoType) → P (offer_of region q k f.0 i)) fs → AllByRecursion P (offers_by s region src fs q)
+  strategy_all strategy.Broker src fs all = declared_all fs (declared_keys fs) all
+  strategy_all strategy.Client src fs all = tt
+  strategy_all strategy.Peer src fs all = tt
+  strategy_all strategy.Router src fs all = tt
+
+-- each face of a list is found there
+found_by : (n : ℕ) (f : ℕ × FaceState) (fs : List (ℕ × FaceState)) (b : Bool) → is_some (at_id n fs) ≡ true → is_some (cond b (Some f.1) (at_id n fs)) ≡ true
+found_by n f fs true e = refl
+found_by n f fs false e = e
+
+more_found : (f : ℕ × FaceState) (fs gs : List (ℕ × FaceState)) → AllByRecursion (λ g. is_some (at_id g.0 fs) ≡ true) gs → AllByRecursion (λ g. is_some (at_id g.0 (f ∷ fs)) ≡ true) gs
+more_found f fs [] all = tt
+more_found f fs (g ∷ gs) all = (found_by g.0 f fs (is_at (nat_cmp g.0) f.0) all.0, more_found f fs gs all.1)
+
+all_found : (fs : List (ℕ × FaceState)) → AllByRecursion (λ g. is_some (at_id g.0 fs) ≡ true) fs
+all_found [] = tt
+all_found (f ∷ fs) = (ap (λ b. is_some (cond b (Some f.1) (at_id f.0 fs))) (at_itself nat_cmp_total exact_unsigned f.0), more_found f fs fs (all_found fs))
+
+each_has : (all fs : List (ℕ × FaceState)) (region : Region) (q : List ℕ) → AllByRecursion (λ g. is_some (at_id g.0 all) ≡ true) fs → AllByRecursion (λ f. (k : List ℕ) (i : QueryableInfoType) → is_some (at_id (offer_of region q k f.0 i).face.0 all) ≡ true) fs
+each_has all [] region q found = tt
+each_has all (f ∷ fs) region q found = ((λ k i. found.0), each_has all fs region q found.1)
+
+each_region : (fs : List (ℕ × FaceState)) (region : Region) (q : List ℕ) → AllByRecursion (λ f. (k : List ℕ) (i : QueryableInfoType) → (offer_of region q k f.0 i).region ≡ region) fs
+each_region [] region q = tt
+each_region (f ∷ fs) region q = ((λ k i. refl), each_region fs region q)
+
+pub offers_of_faces : (s : HatState) (src : Region) (q : List ℕ) → All (λ o. has_face o.face.0 s ≡ true) (offers_of s src q)
+offers_of_faces s src q =
+    all_from (λ o. has_face o.face.0 s ≡ true) (offers_of s src q)
+    (all_sorted (λ o. has_face o.face.0 s ≡ true) offer_cmp (offers_by (strategy_at s) s.region src s.faces q)
+    (strategy_all (λ o. has_face o.face.0 s ≡ true) s.region q (strategy_at s) src s.faces (each_has s.faces s.faces s.region q (all_found s.faces))))
+
+pub offers_of_region : (s : HatState) (src : Region) (q : List ℕ) → All (λ o. o.region ≡ s.region) (offers_of s src q)
+offers_of_region s src q =
+    all_from (λ o. o.region ≡ s.region) (offers_of s src q)
+    (all_sorted (λ o. o.region ≡ s.region) offer_cmp (offers_by (strategy_at s) s.region src s.faces q)
+    (strategy_all (λ o. o.region ≡ s.region) s.region q (strategy_at s) src s.faces (each_region s.faces s.region q)))

@@ -1,0 +1,114 @@
+-- A hat whose texts are moved offers for the moved key what it offered, moved.
+use Rattle.std.proofs.Common.{◌≡◌, ◌∙◌, sym, ap, refl, ℕ, Bool, true, false, cond, List, [], ◌∷◌, ◌++◌, Some, None, Option, fold, map, take, drop, length}
+use Rattle.std.specs.Prelude.{◌-◌, ◌&&◌, reverse}
+use Rattle.std.specs.declared.cmp.Ordering.{Ordering}
+use Rattle.std.specs.declared.cmp.Ordering.TheVariants.{Less, Equal, Greater}
+use Rattle.std.specs.Ordering.{nat_cmp, is_lt, match_ordering, ordering_then}
+use Rattle.std.specs.List.{flat_map, suffix_len, prefix_len}
+use Rattle.std.specs.BTreeSet.{insert_key}
+use Rattle.std.proofs.lemmas.List.{take-map, drop-map, length-map, reverse-append}
+use Rattle.zq_key.proofs.Naturals.{map-append, fold-map, fold-moved, flat_map-map}
+use Rattle.zq_key.specs.Key.{intersects}
+use Rattle.zq_key.specs.declared.message.QueryableInfoType.{QueryableInfoType}
+use Rattle.zq_key.specs.declared.message.Region.{Region}
+use Rattle.zq_hat.specs.declared.types.Declaration.{Declaration}
+use Rattle.zq_hat.specs.declared.types.QueryTargetQabl.{QueryTargetQabl}
+use Rattle.zq_hat.specs.declared.types.Strategy.{Strategy}
+use Rattle.zq_hat.specs.declared.types.Strategy.TheVariants as strategy
+use Rattle.zq_hat.specs.Infos.{joined}
+use Rattle.zq_hat.specs.Kept.{text_cmp, with_declared, info, with_key, with_keys, declared_keys}
+use Rattle.zq_hat.specs.Offers.{place, sorted, offer_cmp, distance, offer_list, offers_on, offers_for, declared_offers, offers_by, offers_of}
+use Rattle.zq_hat.specs.Regions.{is_local, strategy_at}
+use Rattle.zq_hat.specs.State.{FaceState, HatState}
+use Rattle.zq_hat.specs.Moved.{Keeps, move_declared, move_face, move_hat, move_offer}
+
+-- ---- putting in order
+module _ {X Y : Type 0} (g : X → Y) where
+  prefix_moved : (p : Y → Bool) (q : X → Bool) → ((x : X) → p (g x) ≡ q x) → (xs : List X) → prefix_len p (map g xs) ≡ prefix_len q xs
+  prefix_moved p q same [] = refl
+  prefix_moved p q same (x ∷ xs) = rw (same x, prefix_moved p q same xs) refl
+
+  reverse_moved : (xs : List X) → reverse (map g xs) ≡ map g (reverse xs)
+  reverse_moved [] = refl
+  reverse_moved (x ∷ xs) =
+      reverse-append (g x ∷ []) (map g xs)
+      ∙ ap (λ l. l ++ g x ∷ []) (reverse_moved xs)
+      ∙ sym (map-append g (reverse xs) (x ∷ []))
+      ∙ ap (map g) (sym (reverse-append (x ∷ []) xs))
+
+  suffix_moved : (p : Y → Bool) (q : X → Bool) → ((x : X) → p (g x) ≡ q x) → (xs : List X) → suffix_len p (map g xs) ≡ suffix_len q xs
+  suffix_moved p q same xs = ap (prefix_len p) (reverse_moved xs) ∙ prefix_moved p q same (reverse xs)
+
+  inserted_moved : (xs : List X) (i : ℕ) (x : X) → take i (map g xs) ++ g x ∷ drop i (map g xs) ≡ map g (take i xs ++ x ∷ drop i xs)
+  inserted_moved xs i x = (λ j. take-map g i xs j ++ g x ∷ drop-map g i xs j) ∙ sym (map-append g (take i xs) (x ∷ drop i xs))
+
+  place_moved : (cmp : Y → Y → Ordering) (cmp' : X → X → Ordering) → ((a b : X) → cmp (g a) (g b) ≡ cmp' a b) → (xs : List X) (x : X) → place cmp (map g xs) (g x) ≡ map g (place cmp' xs x)
+  place_moved cmp cmp' same xs x =
+      let at : length (map g xs) - suffix_len (λ y. is_lt (cmp (g x) y)) (map g xs) ≡ length xs - suffix_len (λ y. is_lt (cmp' x y)) xs =
+      λ j. length-map xs g j - suffix_moved (λ y. is_lt (cmp (g x) y)) (λ y. is_lt (cmp' x y)) (λ y. ap is_lt (same x y)) xs j in
+      ap (λ i. take i (map g xs) ++ g x ∷ drop i (map g xs)) at ∙ inserted_moved xs (length xs - suffix_len (λ y. is_lt (cmp' x y)) xs) x
+
+  sorted_moved : (cmp : Y → Y → Ordering) (cmp' : X → X → Ordering) → ((a b : X) → cmp (g a) (g b) ≡ cmp' a b) → (xs : List X) → sorted cmp (map g xs) ≡ map g (sorted cmp' xs)
+  sorted_moved cmp cmp' same xs = fold-moved g (map g) (place cmp) (place cmp') (place_moved cmp cmp' same) [] xs
+
+module _ (φ : List ℕ → List ℕ) (keeps : Keeps φ) where
+  -- ---- the declared keys
+  key_by : (k x : List ℕ) (xs : List (List ℕ)) (r : Ordering) → insert_key text_cmp (map φ xs) (φ k) ≡ map φ (insert_key text_cmp xs k)
+      → match_ordering r (φ k ∷ φ x ∷ map φ xs) (φ x ∷ map φ xs) (φ x ∷ insert_key text_cmp (map φ xs) (φ k)) ≡ map φ (match_ordering r (k ∷ x ∷ xs) (x ∷ xs) (x ∷ insert_key text_cmp xs k))
+  key_by k x xs Less ih = refl
+  key_by k x xs Equal ih = refl
+  key_by k x xs Greater ih = ap (λ l. φ x ∷ l) ih
+
+  key_moved : (xs : List (List ℕ)) (k : List ℕ) → insert_key text_cmp (map φ xs) (φ k) ≡ map φ (insert_key text_cmp xs k)
+  key_moved [] k = refl
+  key_moved (x ∷ xs) k =
+      ap (λ r. match_ordering r (φ k ∷ φ x ∷ map φ xs) (φ x ∷ map φ xs) (φ x ∷ insert_key text_cmp (map φ xs) (φ k))) (keeps.order k x)
+      ∙ key_by k x xs (text_cmp k x) (key_moved xs k)
+
+  face_keys_moved : (ks : List (List ℕ)) (f : ℕ × FaceState) → with_keys (map φ ks) (move_face φ f) ≡ map φ (with_keys ks f)
+  face_keys_moved ks f = fold-moved (move_declared φ) (map φ) with_key with_key (λ l d. key_moved l d.1.key) ks f.1.declared
+
+  keys_moved : (faces : List (ℕ × FaceState)) → declared_keys (map (move_face φ) faces) ≡ map φ (declared_keys faces)
+  keys_moved faces = fold-moved (move_face φ) (map φ) with_keys with_keys face_keys_moved [] faces
+
+  -- ---- the offers
+  declared_moved : (key : List ℕ) (m : Option QueryableInfoType) (d : ℕ × Declaration) → with_declared (φ key) m (move_declared φ d) ≡ with_declared key m d
+  declared_moved key m d = ap (λ b. cond b (joined m (Some d.1.info)) m) (keeps.same d.1.key key)
+
+  info_moved : (key : List ℕ) (f : ℕ × FaceState) → info (φ key) (move_face φ f).1 ≡ info key f.1
+  info_moved key f = fold-map (move_declared φ) (with_declared (φ key)) (with_declared key) (declared_moved key) None f.1.declared
+
+  offer_moved : (region : Region) (q key : List ℕ) (n : ℕ) (m : Option QueryableInfoType) → offer_list region (φ q) (φ key) n m ≡ map (move_offer φ) (offer_list region q key n m)
+  offer_moved region q key n None = refl
+  offer_moved region q key n (Some i) =
+      ap (λ b. record { face = record { 0 = n }; info = Some (record { complete = i.complete && b; distance = cond (is_local region) 0 1 }); key = φ key; region = region; node = 0 } ∷ []) (keeps.cover key q)
+
+  face_moved : (region : Region) (q key : List ℕ) (f : ℕ × FaceState) → offers_on region (φ q) (φ key) (move_face φ f) ≡ map (move_offer φ) (offers_on region q key f)
+  face_moved region q key f = ap (offer_list region (φ q) (φ key) f.0) (info_moved key f) ∙ offer_moved region q key f.0 (info key f.1)
+
+  for_by : (region : Region) (faces : List (ℕ × FaceState)) (q key : List ℕ) (b : Bool) → cond b (flat_map (offers_on region (φ q) (φ key)) (map (move_face φ) faces)) [] ≡ map (move_offer φ) (cond b (flat_map (offers_on region q key) faces) [])
+  for_by region faces q key true = flat_map-map (move_face φ) (move_offer φ) (offers_on region (φ q) (φ key)) (offers_on region q key) (face_moved region q key) faces
+  for_by region faces q key false = refl
+
+  for_moved : (region : Region) (faces : List (ℕ × FaceState)) (q key : List ℕ) → offers_for region (map (move_face φ) faces) (φ q) (φ key) ≡ map (move_offer φ) (offers_for region faces q key)
+  for_moved region faces q key =
+      ap (λ b. cond b (flat_map (offers_on region (φ q) (φ key)) (map (move_face φ) faces)) []) (keeps.meet key q) ∙ for_by region faces q key (intersects key q)
+
+  all_moved : (region : Region) (faces : List (ℕ × FaceState)) (q : List ℕ) → declared_offers region (map (move_face φ) faces) (φ q) ≡ map (move_offer φ) (declared_offers region faces q)
+  all_moved region faces q =
+      ap (flat_map (offers_for region (map (move_face φ) faces) (φ q))) (keys_moved faces)
+      ∙ flat_map-map φ (move_offer φ) (offers_for region (map (move_face φ) faces) (φ q)) (offers_for region faces q) (for_moved region faces q) (declared_keys faces)
+
+  by_moved : (s : Strategy) (region src : Region) (faces : List (ℕ × FaceState)) (q : List ℕ) → offers_by s region src (map (move_face φ) faces) (φ q) ≡ map (move_offer φ) (offers_by s region src faces q)
+  by_moved strategy.Broker region src faces q = all_moved region faces q
+  by_moved strategy.Client region src faces q = refl
+  by_moved strategy.Peer region src faces q = refl
+  by_moved strategy.Router region src faces q = refl
+
+  order_moved : (a b : QueryTargetQabl) → offer_cmp (move_offer φ a) (move_offer φ b) ≡ offer_cmp a b
+  order_moved a b = ap (λ r. ordering_then (nat_cmp (distance a) (distance b)) (ordering_then r (nat_cmp a.face.0 b.face.0))) (keeps.order a.key b.key)
+
+  pub offers_moved : (s : HatState) (src : Region) (q : List ℕ) → offers_of (move_hat φ s) src (φ q) ≡ map (move_offer φ) (offers_of s src q)
+  offers_moved s src q =
+      ap (sorted offer_cmp) (by_moved (strategy_at s) s.region src s.faces q)
+      ∙ sorted_moved (move_offer φ) offer_cmp offer_cmp order_moved (offers_by (strategy_at s) s.region src s.faces q)
