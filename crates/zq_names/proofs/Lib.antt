@@ -1,0 +1,15 @@
+pub mod Joined
+pub mod TextOrder
+pub mod Rows
+pub mod Table
+pub mod Insertion
+pub mod Adding
+pub mod Heads
+pub mod Removal
+pub mod Below
+pub mod Cleaning
+pub mod Apart
+pub mod Pruning
+pub mod Forgetting
+pub mod Fresh
+pub mod Fronts
