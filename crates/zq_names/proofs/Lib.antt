@@ -13,3 +13,4 @@ pub mod Pruning
 pub mod Forgetting
 pub mod Fresh
 pub mod Fronts
+pub mod Copies

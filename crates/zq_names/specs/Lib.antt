@@ -2,3 +2,4 @@ pub mod Texts
 pub mod Names
 pub mod Matching
 pub mod Forgetting
+pub mod Copying

@@ -1,6 +1,7 @@
 -- Texts as lists of bytes: order, cuts before a `/`.
-use Rattle.std.specs.Prelude.{◌≡◌, ℕ, ◌+◌, ◌<◌, ◌≤◌, List, [], ◌∷◌, ◌++◌, length, take, drop, slice_index, slice_index_or, zero, suc, if◌then◌else◌, ◌==◌}
-use Rattle.std.specs.List.{Contains}
+use Rattle.std.specs.Prelude.{◌≡◌, ℕ, ◌+◌, ◌<◌, ◌≤◌, Bool, Option, Some, None, List, [], ◌∷◌, ◌++◌, length, take, drop, slice_index, slice_index_or, zero, suc, if◌then◌else◌, ◌==◌}
+use Rattle.std.specs.List.{Contains, position}
+use Rattle.std.specs.Str.{IsCharBoundary}
 use Rattle.std.specs.declared.cmp.Ordering.{Ordering}
 use Rattle.std.specs.Ordering.{nat_cmp}
 use Rattle.std.specs.Cmp.Lexicographic.{slice_cmp}
@@ -38,3 +39,21 @@ parent_of t = parent_to t (length t)
 -- the last chunk of t, with the `/` before it where it has one
 abbrev pub last_part : List ℕ → List ℕ
 last_part t = drop (length (parent_of t)) t
+
+abbrev pub is_star_byte : ℕ → Bool
+is_star_byte c = c == 42
+
+abbrev pub cut_at_star : List ℕ → Option ℕ → List ℕ
+cut_at_star t None = t
+cut_at_star t (Some k) = parent_of (take k t)
+
+-- t cut before its first chunk with a `*`
+abbrev pub nonwild : List ℕ → List ℕ
+nonwild t = cut_at_star t (position is_star_byte t)
+
+-- the first k bytes are what stands before the first chunk with a `*`
+pub record IsCutBefore (t : List ℕ) (k : ℕ) : Type 0 where
+  pub in_range : k < length t
+  pub boundary : IsCharBoundary t k
+  pub slash : 0 < k → slice_index t k ≡ 47
+  pub is : nonwild t ≡ take k t

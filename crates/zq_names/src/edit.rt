@@ -201,7 +201,7 @@ fn parent_place(nodes: &Slab<Node>, order: &[usize], text: &str) -> usize
     requires parent { Contains (texts (rows nodes.now.slots order.now)) (parent_of text.now) }
     ensures { IsPlaceOf (rows nodes.now.slots order.now) (parent_of text.now) result }
 {
-    match last_slash(text) {
+    match last_slash(text.as_bytes()) {
         None => 0,
         Some(k) => match search(nodes, order, &text[..k], "") {
             Ok(at) => at,

@@ -1,15 +1,16 @@
 //! The table of names.
-ghost use Rattle.std.specs.Prelude.{◌≡◌, ◌≢◌, ◌+◌, ◌<◌, ◌^◌, ◌++◌, ◌↔◌, [], ◌∷◌, IsTrue, IfOk, IfErr, IfSome, IfNone, OnOk, OnErr, Err, true, false, map, filter};
+ghost use Rattle.std.specs.Prelude.{◌≡◌, ◌≢◌, ◌+◌, ◌<◌, ◌^◌, ◌++◌, ◌↔◌, [], ◌∷◌, IsTrue, IfOk, IfErr, IfSome, IfNone, OnOk, OnErr, Err, true, false, length, drop, map, filter};
 ghost use Rattle.std.specs.List.{Contains};
 ghost use Rattle.std.specs.String.{string_bytes};
 ghost use Rattle.zq_key.specs.Key.{is_key as key_of};
 ghost use Rattle.zq_names.specs.Names.{IsLive, entry_at, entry_of, change_at, with_hold, without_hold, with_context, texts, HasText, Makes, Cleans, ids};
+ghost use Rattle.zq_names.specs.Texts.{last_part, nonwild};
 ghost use Rattle.zq_names.specs.Matching.{number, is_match};
 
 use crate::edit::{add_text, clean_from};
 use crate::matching::matches_of;
 use crate::node::{Node, ResourceId, ResourceList};
-use crate::order::{place_of, search};
+use crate::order::{cut_before_star, last_slash, place_of, search};
 use crate::refusal::NameRefusal;
 use slab::Slab;
 use std::alloc::Global;
@@ -75,6 +76,17 @@ impl Names {
         }
     }
 
+    /// An equal table, with the same numbers.
+    pub fn copy(&self, alloc: Global) -> Result<Names, OutOfMemory>
+        ensures { IfOk result (λ names. names ≡ self.now) }
+    {
+        Ok(Names {
+            nodes: self.nodes.clone()?,
+            order: Vec::from_slice(alloc, &self.order)?,
+            alloc,
+        })
+    }
+
     /// Whether the number is a node's.
     pub fn is_live(&self, r: ResourceId) -> bool
         ensures { IsTrue result ↔ IsLive self.now r }
@@ -96,6 +108,52 @@ impl Names {
         ensures { result.now ≡ (entry_at self.now r.0).text }
     {
         self.nodes[r.0 as usize].text.as_str()
+    }
+
+    /// The last chunk of the node's text, with the `/` before it where it has one.
+    pub fn suffix(&self, r: ResourceId) -> &str
+        requires { IsLive self.now r }
+        ensures { result.now ≡ last_part (entry_at self.now r.0).text }
+    {
+        let text = self.expr(r);
+        match last_slash(text.as_bytes()) {
+            Some(k) => &text[k..],
+            None => text,
+        }
+    }
+
+    /// The node's text as a key, or None for the root.
+    pub fn keyexpr(&self, r: ResourceId) -> Option<&str>
+        requires { IsLive self.now r }
+        ensures root { IfNone result ((entry_at self.now r.0).text ≡ []) }
+        ensures text { IfSome result (λ t. t.now ≡ (entry_at self.now r.0).text) }
+        ensures key { IfSome result (λ t. key_of t.now ≡ true) }
+    {
+        let node = &self.nodes[r.0 as usize];
+        let text = node.text.as_str();
+        if text.is_empty() {
+            return None;
+        }
+        Some(text)
+    }
+
+    /// The node of the part of the text that stands before its first chunk with a `*`, and what follows that part.
+    ///
+    /// There is no node, and all follows, where the part is empty and the text isn't.
+    pub fn nonwild_prefix(&self, r: ResourceId) -> (Option<ResourceId>, &str)
+        requires { IsLive self.now r }
+        ensures prefix { IfSome result.0 (λ p. HasText self.now p (nonwild (entry_at self.now r.0).text)) }
+        ensures some { IfSome result.0 (λ _. nonwild (entry_at self.now r.0).text ≡ [] → (entry_at self.now r.0).text ≡ []) }
+        ensures none { IfNone result.0 ((nonwild (entry_at self.now r.0).text ≡ []) × (0 < length (entry_at self.now r.0).text)) }
+        ensures rest { result.1.now ≡ drop (length (nonwild (entry_at self.now r.0).text)) (entry_at self.now r.0).text }
+    {
+        let _table = &self.order;
+        let text = self.expr(r);
+        match cut_before_star(text) {
+            None => (Some(r), ""),
+            Some(0) => (None, text),
+            Some(k) => (self.get_resource(self.root(), &text[..k]), &text[k..]),
+        }
     }
 
     /// Whether the node has a context.
@@ -146,6 +204,15 @@ impl Names {
             Ok(at) => Some(ResourceId(self.order[at] as u64)),
             Err(_) => None,
         }
+    }
+
+    /// The same as `get_resource`, which takes no memory either.
+    pub fn get_resource_ref(&self, from: ResourceId, suffix: &str) -> Option<ResourceId>
+        requires { IsLive self.now from }
+        ensures found { IfSome result (λ r. HasText self.now r ((entry_at self.now from.0).text ++ suffix.now)) }
+        ensures absent { IfNone result (Contains (texts self.now) ((entry_at self.now from.0).text ++ suffix.now) → ⊥) }
+    {
+        self.get_resource(from, suffix)
     }
 
     /// The node of the node's text followed by the suffix, made with the parts that end before a `/`, and given a context.

@@ -1,4 +1,5 @@
 //! A node of the table of names.
+use std::alloc::AllocError;
 use zq_key::items::Items;
 use zq_key::text::Text;
 
@@ -18,4 +19,24 @@ pub(crate) struct Node {
     pub(crate) matches: Vec<ResourceId>,
     // the matches that later ones took the place of
     pub(crate) former: Vec<ResourceId>,
+}
+
+impl Clone for Node {
+    ghost use Rattle.zq_names.specs.Copying.{IsNodeCopy};
+
+    ghost is_clone = { IsNodeCopy };
+
+    fn clone(&self) -> Result<Node, AllocError> {
+        let alloc = *self.matches.allocator();
+        let Ok(text) = self.text.copy(alloc) else {
+            return Err(AllocError);
+        };
+        Ok(Node {
+            text,
+            context: self.context,
+            holds: self.holds,
+            matches: Vec::from_slice(alloc, &self.matches)?,
+            former: Vec::from_slice(alloc, &self.former)?,
+        })
+    }
 }

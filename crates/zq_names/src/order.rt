@@ -1,8 +1,8 @@
 //! The order of the nodes by their texts.
 ghost use Rattle.std.specs.Prelude.{◌≡◌, ◌<◌, ◌++◌, [], length, take, slice_index, IsSome, IfOk, IfErr, IfSome, IfNone, true, false};
 ghost use Rattle.std.specs.Ordering.{is_lt, is_eq};
-ghost use Rattle.std.specs.List.{Contains};
-ghost use Rattle.zq_names.specs.Texts.{text_cmp, IsBelow, parent_of};
+ghost use Rattle.std.specs.List.{Contains, position};
+ghost use Rattle.zq_names.specs.Texts.{text_cmp, is_star_byte, IsBelow, IsCutBefore, nonwild, parent_of};
 ghost use Rattle.zq_names.specs.Names.{AreLive, Rises, SplitsAt, slot, row, rows, IsGapAt, IsPlaceOf, HasBelow, IsTable};
 
 use crate::node::Node;
@@ -110,17 +110,36 @@ pub(crate) fn has_below(nodes: &Slab<Node>, order: &[usize], text: &str) -> bool
 }
 
 // The last place with a `/`.
-pub(crate) fn last_slash(text: &str) -> Option<usize>
+pub(crate) fn last_slash(text: &[u8]) -> Option<usize>
     ensures none { IfNone result (parent_of text.now ≡ []) }
     ensures found { IfSome result (λ k. (k < length text.now) × (slice_index text.now k ≡ 47) × (parent_of text.now ≡ take k text.now)) }
 {
-    let bytes = text.as_bytes();
-    for k in (0..bytes.len()).rev() {
-        if bytes[k] == b'/' {
+    for k in (0..text.len()).rev() {
+        if text[k] == b'/' {
             return Some(k);
         }
     }
     None
+}
+
+// The first place with a `*`.
+fn first_star(text: &[u8]) -> Option<usize>
+    ensures { result ≡ position is_star_byte text.now }
+{
+    text.iter().position(|c| *c == b'*')
+}
+
+// The place before which the text is cut so that no chunk with a `*` is left, or None where it has none.
+pub(crate) fn cut_before_star(text: &str) -> Option<usize>
+    ensures none { IfNone result (nonwild text.now ≡ text.now) }
+    ensures cut { IfSome result (IsCutBefore text.now) }
+{
+    let bytes = text.as_bytes();
+    let star = first_star(bytes)?;
+    match last_slash(&bytes[..star]) {
+        Some(k) => Some(k),
+        None => Some(0),
+    }
 }
 
 // The place of a node.
