@@ -14,3 +14,4 @@ pub mod Forgetting
 pub mod Fresh
 pub mod Fronts
 pub mod Copies
+pub mod KeepingLemmas

@@ -3,3 +3,4 @@ pub mod Names
 pub mod Matching
 pub mod Forgetting
 pub mod Copying
+pub mod Keeping

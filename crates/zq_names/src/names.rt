@@ -1,9 +1,10 @@
 //! The table of names.
-ghost use Rattle.std.specs.Prelude.{◌≡◌, ◌≢◌, ◌+◌, ◌<◌, ◌^◌, ◌++◌, ◌↔◌, [], ◌∷◌, IsTrue, IfOk, IfErr, IfSome, IfNone, OnOk, OnErr, Err, true, false, length, drop, map, filter};
+ghost use Rattle.std.specs.Prelude.{◌≡◌, ◌≢◌, ℕ, ◌+◌, ◌<◌, ◌^◌, ◌++◌, ◌↔◌, [], ◌∷◌, IsTrue, IfOk, IfErr, IfSome, IfNone, OnOk, OnErr, Err, true, false, length, drop, map, filter};
 ghost use Rattle.std.specs.List.{Contains};
 ghost use Rattle.std.specs.String.{string_bytes};
 ghost use Rattle.zq_key.specs.Key.{is_key as key_of};
 ghost use Rattle.zq_names.specs.Names.{IsLive, entry_at, entry_of, change_at, with_hold, without_hold, with_context, texts, HasText, Makes, Cleans, ids};
+ghost use Rattle.zq_names.specs.Keeping.{AllStay, ChangesAt, NoneCome};
 ghost use Rattle.zq_names.specs.Texts.{last_part, nonwild};
 ghost use Rattle.zq_names.specs.Matching.{number, is_match};
 
@@ -167,7 +168,8 @@ impl Names {
     /// Gives the node a context.
     pub fn upgrade_resource(&mut self, r: ResourceId)
         requires { IsLive self.old r }
-        ensures { self.new ≡ change_at self.old r.0 with_context }
+        ensures all { self.new ≡ change_at self.old r.0 with_context }
+        ensures entries { ChangesAt self.old self.new r.0 with_context }
     {
         let node = &mut self.nodes[r.0 as usize];
         node.context = true;
@@ -177,7 +179,8 @@ impl Names {
     pub fn hold(&mut self, r: ResourceId)
         requires live { IsLive self.old r }
         requires room { (entry_at self.old r.0).holds + 1 < 2 ^ 128 }
-        ensures { self.new ≡ change_at self.old r.0 with_hold }
+        ensures all { self.new ≡ change_at self.old r.0 with_hold }
+        ensures entries { ChangesAt self.old self.new r.0 with_hold }
     {
         let node = &mut self.nodes[r.0 as usize];
         node.holds += 1;
@@ -187,7 +190,8 @@ impl Names {
     pub fn unhold(&mut self, r: ResourceId)
         requires live { IsLive self.old r }
         requires held { 0 < (entry_at self.old r.0).holds }
-        ensures { self.new ≡ change_at self.old r.0 without_hold }
+        ensures all { self.new ≡ change_at self.old r.0 without_hold }
+        ensures entries { ChangesAt self.old self.new r.0 without_hold }
     {
         let node = &mut self.nodes[r.0 as usize];
         node.holds -= 1;
@@ -197,6 +201,7 @@ impl Names {
     pub fn get_resource(&self, from: ResourceId, suffix: &str) -> Option<ResourceId>
         requires { IsLive self.now from }
         ensures found { IfSome result (λ r. HasText self.now r ((entry_at self.now from.0).text ++ suffix.now)) }
+        ensures only { IfSome result (λ r. (i : ℕ) → Contains (ids self.now) i → (entry_at self.now i).text ≡ (entry_at self.now from.0).text ++ suffix.now → i ≡ r.0) }
         ensures absent { IfNone result (Contains (texts self.now) ((entry_at self.now from.0).text ++ suffix.now) → ⊥) }
     {
         let head = self.expr(from);
@@ -219,6 +224,8 @@ impl Names {
     pub fn make_resource(&mut self, from: ResourceId, suffix: &str) -> Result<ResourceId, NameRefusal>
         requires { IsLive self.old from }
         ensures made { IfOk result (λ r. Makes self.old self.new r ((entry_at self.old from.0).text ++ suffix.now)) }
+        ensures named { IfOk result (λ r. HasText self.new r ((entry_at self.old from.0).text ++ suffix.now)) }
+        ensures kept { OnOk result (AllStay self.old self.new) }
         ensures key { OnOk result (key_of ((entry_at self.old from.0).text ++ suffix.now) ≡ true) }
         ensures invalid { result ≡ Err NameRefusal.InvalidKeyExpr → key_of ((entry_at self.old from.0).text ++ suffix.now) ≡ false }
         ensures only { IfErr result (λ e. key_of ((entry_at self.old from.0).text ++ suffix.now) ≡ true → e ≡ NameRefusal.OutOfMemory) }
@@ -237,7 +244,9 @@ impl Names {
     /// Takes out the node and then its parents, as far as each isn't held, has no text below it and isn't the root.
     pub fn clean(&mut self, r: ResourceId)
         requires { IsLive self.old r }
-        ensures { Cleans self.old (entry_at self.old r.0).text self.new }
+        ensures cleans { Cleans self.old (entry_at self.old r.0).text self.new }
+        ensures held { (i : ℕ) → Contains (ids self.old) i → 0 < (entry_at self.old i).holds → Contains (ids self.new) i }
+        ensures kept { NoneCome self.old self.new }
     {
         let place = place_of(&self.nodes, &self.order, r.0 as usize);
         clean_from(&mut self.nodes, &mut self.order, place);
