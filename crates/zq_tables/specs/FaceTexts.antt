@@ -1,5 +1,5 @@
 -- The ids of one face as the texts that they stand for, and the choices among them.
-use Rattle.std.specs.Prelude.{◌≡◌, ℕ, zero, suc, Bool, List, [], ◌∷◌, ◌++◌, length, take, drop, map, find, slice_index, Option, Some, None, option_map, if◌then◌else◌, ◌==◌}
+use Rattle.std.specs.Prelude.{◌≡◌, ℕ, zero, suc, Bool, List, [], ◌∷◌, ◌++◌, length, take, drop, map, find, slice_index, Option, Some, None, option_map, unwrap_or, if◌then◌else◌, ◌==◌}
 use Rattle.std.specs.Str.{bytes_eq}
 use Rattle.zq_key.specs.Key.{is_key}
 use Rattle.zq_key.specs.declared.message.WireExpr.{WireExpr}
@@ -10,7 +10,7 @@ use Rattle.zq_names.specs.Texts.{nonwild}
 use Rattle.zq_names.specs.declared.refusal.NameRefusal.{NameRefusal}
 use Rattle.zq_names.specs.declared.refusal.NameRefusal.TheVariants.{UnknownScope, InvalidKeyExpr, Remapped, UnknownId, OutOfMemory}
 use Rattle.zq_tables.specs.FaceIds.{FaceIds, of_id, with_id, next_id}
-use Rattle.zq_tables.specs.declared.face.DeclKey.{DeclKey}
+use Rattle.zq_tables.specs.declared.decl.DeclKey.{DeclKey}
 
 -- the ids that a face declared with their texts, and those that were declared to it
 pub record FaceTexts : Type 0 where
@@ -96,23 +96,39 @@ best_key face t = key_from (best_part face t) t
 abbrev pub whole_key : List ℕ → DeclKey
 whole_key t = record { wire = whole t; declared = None }
 
--- a new id for the part p of t
-abbrev pub new_key : List ℕ → List ℕ → Option ℕ → DeclKey
-new_key t p None = whole_key t
-new_key t p (Some i) = record { wire = record { scope = i; mapping = Sender; suffix = drop (length p) t }; declared = Some i }
+-- a part with the rest behind it, under an id
+abbrev pub under : ℕ → Mapping → List ℕ → Option ℕ → DeclKey
+under i m rest declared = record { wire = record { scope = i; mapping = m; suffix = rest }; declared = declared }
+
+-- a new id for the part
+abbrev pub new_choice : List ℕ → Option ℕ → Option DeclKey
+new_choice rest None = None
+new_choice rest (Some i) = Some (under i Sender rest (Some i))
 
 -- the id that the part has, or a new one where that may be
-abbrev pub part_key : FaceTexts → Bool → List ℕ → List ℕ → Option (ℕ × Mapping) → DeclKey
-part_key face may t p (Some x) = record { wire = record { scope = x.0; mapping = x.1; suffix = drop (length p) t }; declared = None }
-part_key face may t p None = if may then new_key t p (next_id face.theirs face.ours) else whole_key t
+abbrev pub known_choice : FaceTexts → Bool → List ℕ → Option (ℕ × Mapping) → Option DeclKey
+known_choice face may rest (Some x) = Some (under x.0 x.1 rest None)
+known_choice face may rest None = if may then new_choice rest (next_id face.theirs face.ours) else None
+
+abbrev pub part_choice : FaceTexts → Bool → List ℕ → List ℕ → Option DeclKey
+part_choice face may p rest = known_choice face may rest (known face p)
 
 abbrev pub prefix_key : FaceTexts → Bool → List ℕ → List ℕ → DeclKey
 prefix_key face may t [] = whole_key t
-prefix_key face may t (c ∷ p) = part_key face may t (c ∷ p) (known face (c ∷ p))
+prefix_key face may t (c ∷ p) = unwrap_or (part_choice face may (c ∷ p) (drop (length (c ∷ p)) t)) (whole_key t)
 
--- the declared key of a text at a face
+-- the declared key of a text at a face: by an id of its part without a `*`, by a new id for that part, or whole
 abbrev pub declared_key : FaceTexts → Bool → Bool → List ℕ → DeclKey
 declared_key face local may t = if local then whole_key t else prefix_key face may t (nonwild t)
+
+-- the ids with the one that was declared for a node, if one was
+abbrev pub with_new : FaceIds → ℕ → Option ℕ → FaceIds
+with_new face node None = face
+with_new face node (Some i) = record face { ours = with_id face.ours i node }
+
+abbrev pub declared_ids : FaceIds → ℕ → Option DeclKey → FaceIds
+declared_ids face node None = face
+declared_ids face node (Some d) = with_new face node d.declared
 
 -- with the id that was declared, if one was
 abbrev pub with_declared : FaceTexts → List ℕ → Option ℕ → FaceTexts
