@@ -24,8 +24,10 @@ use Rattle.zq_key.specs.declared.message.WireExpr.{WireExpr}
 use Rattle.zq_names.specs.declared.node.ResourceId.{ResourceId}
 use Rattle.zq_names.specs.Names.{NameEntry, IsLive, HasText, ids, texts, entry_at}
 use Rattle.zq_names.specs.Keeping.{AllStay}
-use Rattle.zq_tables.specs.FaceIds.{FaceIds, of_id, with_id, side, AreLiveIds, AreLive, least_id}
-use Rattle.zq_tables.specs.FaceTexts.{FaceTexts, id_texts, texts_of, text_side, full_of, swapped, read_by, id_of, or_else, known, known_at, best_to, best_part, key_from, best_key, registered, added, text_refusal, register_refusal}
+use Rattle.zq_names.specs.Texts.{nonwild}
+use Rattle.zq_tables.specs.FaceIds.{FaceIds, of_id, with_id, side, is_used, free_from, next_id, AreLiveIds, AreLive, least_id}
+use Rattle.zq_tables.proofs.IdLemmas.{free_from-used, free_from-free, free_from-none}
+use Rattle.zq_tables.specs.FaceTexts.{FaceTexts, id_texts, theirs_texts, ours_texts, texts_of, part_choice, known_choice, new_choice, with_new, with_declared, text_side, full_of, swapped, read_by, id_of, or_else, known, known_at, best_to, best_part, key_from, best_key, registered, added, text_refusal, register_refusal}
 use Rattle.zq_key.specs.Key.{is_key}
 use Rattle.zq_names.specs.declared.refusal.NameRefusal.TheVariants.{Remapped}
 
@@ -331,3 +333,36 @@ reads_ok (Err e) f t fine is = tt
 
 pub no_mapping : (o : Option ResourceId) (x : Option ℕ) → o ≡ None → option_map (λ (r : ResourceId). r.0) o ≡ x → x ≡ None
 no_mapping o x none is = sym is ∙ ap (option_map (λ (r : ResourceId). r.0)) none
+
+-- ---- declared keys
+
+some_map : {X Y : Type 0} (f : X → Y) (o : Option X) → is_some (option_map f o) ≡ is_some o
+some_map f None = refl
+some_map f (Some x) = refl
+
+is_used-texts : (names : List NameEntry) (a b : List (ℕ × ℕ)) (i : ℕ) → is_used (id_texts names a) (id_texts names b) i ≡ is_used a b i
+is_used-texts names a b i = rw (of_id-texts names a i, of_id-texts names b i, some_map (λ (n : ℕ). (entry_at names n).text) (of_id a i), some_map (λ (n : ℕ). (entry_at names n).text) (of_id b i)) refl
+
+-- the least free id doesn't depend on what the ids stand for
+free_from-texts : (names : List NameEntry) (a b : List (ℕ × ℕ)) (n i : ℕ) → free_from (id_texts names a) (id_texts names b) n i ≡ free_from a b n i
+free_from-texts names a b zero i = free_from-none (id_texts names a) (id_texts names b) i ∙ sym (free_from-none a b i)
+free_from-texts names a b (suc n) i = by (is_used a b i) refl (free_from-texts names a b n (i + 1))
+  where
+    by : (u : Bool) → is_used a b i ≡ u → free_from (id_texts names a) (id_texts names b) n (i + 1) ≡ free_from a b n (i + 1) → free_from (id_texts names a) (id_texts names b) (suc n) i ≡ free_from a b (suc n) i
+    by true u later = free_from-used (id_texts names a) (id_texts names b) n i (is_used-texts names a b i ∙ u) ∙ later ∙ sym (free_from-used a b n i u)
+    by false u later = free_from-free (id_texts names a) (id_texts names b) n i (is_used-texts names a b i ∙ u) ∙ sym (free_from-free a b n i u)
+
+pub next-texts : (names : List NameEntry) (face : FaceIds) → next_id (theirs_texts names face) (ours_texts names face) ≡ next_id face.theirs face.ours
+next-texts names face = free_from-texts names face.theirs face.ours 65535 1
+
+pub part_choice-new : (names : List NameEntry) (face : FaceIds) (p rest : List ℕ) (next : Option ℕ) → None ≡ known (texts_of names face) p → next ≡ next_id face.theirs face.ours → part_choice (texts_of names face) true p rest ≡ new_choice rest next
+part_choice-new names face p rest next none is = ap (known_choice (texts_of names face) true rest) (sym none) ∙ ap (new_choice rest) (next-texts names face ∙ sym is)
+
+-- the ids after a declaration, as texts
+pub declared_texts : (names : List NameEntry) (face : FaceIds) (node : ℕ) (t : List ℕ) (declared : Option ℕ) → (entry_at names node).text ≡ nonwild t → texts_of names (with_new face node declared) ≡ with_declared (texts_of names face) t declared
+declared_texts names face node t None named = refl
+declared_texts names face node t (Some i) named = rw (id_texts-with_id names face.ours i node, named) refl
+
+pub declared_live : (names : List NameEntry) (face : FaceIds) (node : ℕ) (declared : Option ℕ) → AreLive names face → Contains (ids names) node → AreLive names (with_new face node declared)
+declared_live names face node None live has = live
+declared_live names face node (Some i) live has = record { theirs = live.theirs; ours = AreLiveIds-with_id names face.ours i node live.ours has }

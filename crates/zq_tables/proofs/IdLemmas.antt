@@ -176,3 +176,16 @@ next_more theirs ours i lt so_far used = so_far ∙ ap (λ n. free_from theirs o
 
 pub next_none : (theirs ours : List (ℕ × ℕ)) (i : ℕ) → i ≡ 65535 → free_from theirs ours 65535 1 ≡ free_from theirs ours (65536 - i) i → is_used theirs ours i ≡ true → None ≡ free_from theirs ours 65535 1
 next_none theirs ours i last so_far used = sym (so_far ∙ ap (λ n. free_from theirs ours n i) (omega arith) ∙ free_from-used theirs ours 0 i used ∙ free_from-none theirs ours (i + 1))
+
+-- an id that is declared is the least that was free
+pub IsFace-declared : (theirs ours : List (ℕ × ℕ)) (free i n : ℕ) → free_from theirs ours 65535 1 ≡ Some i → IsFace theirs ours free → IsFace theirs (with_id ours i n) i
+IsFace-declared theirs ours free i n found face =
+    let least = free_from-least theirs ours 65535 1 i found in
+    record {
+      theirs_positive = face.theirs_positive;
+      ours_positive = All-keys-insert_entry nat_cmp i n (λ k. 0 < k) ours face.ours_positive (omega (arith, least.0));
+      positive = omega (arith, least.0);
+      used = λ j above below unused.
+        let differ : j ≢ i = omega arith in
+        false≢true (sym (rw (of_id-with_other ours i j n differ) at unused) ∙ least.3 j above below);
+    }
