@@ -1,5 +1,5 @@
 -- Texts whose first bytes show that they don't meet.
-use Rattle.std.proofs.Common.{◌≡◌, ◌≢◌, ℕ, ◌+◌, ◌<◌, ◌≤◌, Bool, true, false, not, is_none, ◌&&◌, ◌||◌, cond, eqb, List, [], ◌∷◌, ◌++◌, length, take, drop, get_or, sym, subst, ap, ◌∙◌, refl, arith, inl, inr, ◌⊎◌, Option, Some, None}
+use Rattle.std.proofs.Common.{◌≡◌, ◌≢◌, ℕ, ◌+◌, ◌<◌, Bool, true, false, not, ◌&&◌, ◌||◌, cond, eqb, List, [], ◌∷◌, ◌++◌, length, take, drop, get_or, sym, subst, ap, ◌∙◌, refl, arith, inl, inr, ◌⊎◌, Some}
 use Rattle.std.specs.List.{onto_first}
 use Rattle.std.specs.Str.{bytes_eq}
 use Rattle.std.proofs.lemmas.Bool.{false≢true, false_from_ne_true, and_parts, or_parts, not-true}
@@ -7,7 +7,7 @@ use Rattle.std.proofs.lemmas.Bool.Decides.{nat_tests}
 use Rattle.std.proofs.lemmas.Slice.Eq.{bytes_eq-Decides}
 use Rattle.std.proofs.lemmas.List.{take_more, drop_more, take_all, take-append-drop, append_assoc, append-nil}
 use Rattle.zq_key.specs.Match.{meets_by}
-use Rattle.zq_key.specs.Key.{chunks, parts, same_part, parts_meet, is_verbatim, is_star, is_stars, chunk_meets, intersects}
+use Rattle.zq_key.specs.Key.{chunks, parts, parts_meet, is_verbatim, is_star, is_stars, chunk_meets, intersects}
 use Rattle.zq_key.proofs.Plain.{has_wild, plain-stars}
 use Rattle.zq_names.specs.Matching.{is_wild, is_apart}
 

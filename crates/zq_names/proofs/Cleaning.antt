@@ -1,8 +1,7 @@
 -- Steps of a clean.
-use Rattle.std.proofs.Common.{◌≡◌, ◌≢◌, ℕ, ◌+◌, ◌-◌, ◌<◌, ◌≤◌, Bool, true, false, cond, eqb, List, [], ◌∷◌, ◌++◌, length, map, take, drop, get_or, subst, sym, ap, ◌∙◌, refl, arith, suc, zero, Option, Some, None, inl, inr, ◌⊎◌}
-use Rattle.std.specs.List.{Contains, remove, slice_get}
+use Rattle.std.proofs.Common.{◌≡◌, ◌≢◌, ℕ, ◌<◌, ◌≤◌, Bool, true, false, cond, eqb, List, [], length, take, get_or, subst, sym, ap, ◌∙◌, refl, arith, suc, zero, Option, Some, None, inl, inr, ◌⊎◌}
+use Rattle.std.specs.List.{Contains, remove}
 use Rattle.std.specs.Option.{IfNone}
-use Rattle.std.proofs.lemmas.Bool.{cases_eq}
 use Rattle.std.proofs.lemmas.Bool.Decides.{nat_tests}
 use Rattle.std.proofs.lemmas.Option.{get_or_from_slice_get, slice_get_within}
 use Rattle.std.proofs.lemmas.List.{length-take-le, get_or_default}
@@ -23,7 +22,7 @@ parent_cases t zero le = inl refl
 parent_cases t (suc n) le = by (eqb (get_or t n 0) 47) refl (parent_cases t n (omega arith))
   where
     by : (b : Bool) → eqb (get_or t n 0) 47 ≡ b → (parent_to t n ≡ []) ⊎ (IsBelow (parent_to t n) t × (length (parent_to t n) < length t))
-      → (cond b (take n t) (parent_to t n) ≡ []) ⊎ (IsBelow (cond b (take n t) (parent_to t n)) t × (length (cond b (take n t) (parent_to t n)) < length t))
+        → (cond b (take n t) (parent_to t n) ≡ []) ⊎ (IsBelow (cond b (take n t) (parent_to t n)) t × (length (cond b (take n t) (parent_to t n)) < length t))
     by true e earlier =
         let count = length-take-le n t (omega arith) in
         let slash : get_or t n 0 ≡ 47 = grind (arith, nat_tests) in
@@ -42,14 +41,14 @@ parent_stays numbers ns at names in_at past =
     let n = length-texts ns in
     let C : List (List ℕ) → Type 0 = λ (l : List (List ℕ)). Contains l (parent_of t) in
     subst C (sym (texts-removed_at ns at ∙ map-remove (λ (e : NameEntry). e.text) ns at)) (elim (parent_cases t (length t) (omega arith)) [
-      inl root ↦
-        let within = slice_get_within ts 0 [] names.root_text in
-        rw root (Contains-remove ts at 0 [] (omega (arith, n)) within (omega arith) (get_or_from_slice_get ts 0 [] [] names.root_text))
-    | inr cut ↦
-        let has = names.closed (parent_of t) t (at, omega (arith, n), get_or_default ts at t [] (omega (arith, n))) cut.0 in
-        let elsewhere : has.0 ≢ at = λ same.
+      | inl root ↦
+          let within = slice_get_within ts 0 [] names.root_text in
+          rw root (Contains-remove ts at 0 [] (omega (arith, n)) within (omega arith) (get_or_from_slice_get ts 0 [] [] names.root_text))
+      | inr cut ↦
+          let has = names.closed (parent_of t) t (at, omega (arith, n), get_or_default ts at t [] (omega (arith, n))) cut.0 in
+          let elsewhere : has.0 ≢ at = λ same.
           let here : t ≡ parent_of t = sym (get_or_default ts at (parent_of t) [] (omega (arith, n))) ∙ ap (λ q. get_or ts q (parent_of t)) (sym same) ∙ has.2 in
           let longer : length t ≡ length (parent_of t) = ap length here in
           omega (arith, longer, cut.1) in
-        Contains-remove ts at has.0 (parent_of t) (omega (arith, n)) has.1 elsewhere has.2
+          Contains-remove ts at has.0 (parent_of t) (omega (arith, n)) has.1 elsewhere has.2
     ])

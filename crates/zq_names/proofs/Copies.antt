@@ -1,12 +1,12 @@
 -- The slots of a copy.
-use Rattle.std.proofs.Common.{◌≡◌, ℕ, List, [], ◌∷◌, ◌++◌, Option, Some, None, IsSome, get_or, sym, ap, subst, ◌∙◌, refl, zero, suc}
+use Rattle.std.proofs.Common.{◌≡◌, ℕ, List, [], ◌∷◌, ◌++◌, Option, Some, None, get_or, sym, ap, subst, ◌∙◌, refl, zero, suc}
 use Rattle.std.specs.Option.{is_some}
-use Rattle.std.specs.List.{All, AllZip, Contains}
+use Rattle.std.specs.List.{AllZip, Contains}
 use Rattle.slab.specs.Slab.{IsSlotClone}
 use Rattle.zq_names.specs.declared.node.Node.{Node}
 use Rattle.zq_names.specs.declared.node.ResourceId.{ResourceId}
 use Rattle.zq_names.specs.Copying.{IsNodeCopy}
-use Rattle.zq_names.specs.Names.{NameEntry, IsTable, IsNames, IsLinked, IsSound, slot, slot_matches, slot_former, row, rows, texts, entry_of}
+use Rattle.zq_names.specs.Names.{NameEntry, IsNames, IsSound, slot, slot_matches, slot_former, rows, texts, entry_of}
 
 -- what contracts and links see of a slot
 record SameSlot (i : ℕ) (old new : Option Node) : Type 0 where
@@ -41,9 +41,9 @@ IsSound-copy old new order copies sound =
         names = subst N (sym (ap texts (rows-copy old new order copies))) sound.table.names;
       };
       linked = λ a b has.
-        let M : List ResourceId → Type 0 = λ (l : List ResourceId). Contains l a in
-        let L : List ResourceId → Type 0 = λ (l : List ResourceId). Contains (l ++ slot_former (slot new a.0)) b in
-        let F : List ResourceId → Type 0 = λ (l : List ResourceId). Contains (slot_matches (slot old a.0) ++ l) b in
-        let matches : (i : ℕ) → slot_matches (slot new i) ≡ slot_matches (slot old i) = λ i. ap (λ (e : NameEntry). e.matches) (same i).entry in
-        subst L (sym (matches a.0)) (subst F (sym (same a.0).former) (sound.linked a b (subst M (matches b.0) has)));
+          let M : List ResourceId → Type 0 = λ (l : List ResourceId). Contains l a in
+          let L : List ResourceId → Type 0 = λ (l : List ResourceId). Contains (l ++ slot_former (slot new a.0)) b in
+          let F : List ResourceId → Type 0 = λ (l : List ResourceId). Contains (slot_matches (slot old a.0) ++ l) b in
+          let matches : (i : ℕ) → slot_matches (slot new i) ≡ slot_matches (slot old i) = λ i. ap (λ (e : NameEntry). e.matches) (same i).entry in
+          subst L (sym (matches a.0)) (subst F (sym (same a.0).former) (sound.linked a b (subst M (matches b.0) has)));
     }

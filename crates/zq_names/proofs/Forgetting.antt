@@ -1,15 +1,14 @@
 -- A number leaves the matches of other nodes.
-use Rattle.std.proofs.Common.{◌≡◌, ◌≢◌, ℕ, ◌+◌, ◌<◌, Bool, true, false, cond, not, eqb, List, [], ◌∷◌, ◌++◌, length, map, take, drop, filter, get_or, set, Option, Some, None, IsSome, subst, sym, ap, ◌∙◌, refl, arith, zero, suc, inl, inr, ◌⊎◌}
-use Rattle.std.specs.Option.{is_some}
-use Rattle.std.specs.List.{Contains, All}
+use Rattle.std.proofs.Common.{◌≡◌, ◌≢◌, ℕ, Bool, true, false, cond, not, eqb, List, [], ◌∷◌, ◌++◌, map, filter, get_or, set, Option, Some, None, IsSome, subst, sym, ap, ◌∙◌, refl, arith, zero, suc, inl, inr, ◌⊎◌}
+use Rattle.std.specs.List.{Contains}
 use Rattle.std.proofs.lemmas.Bool.{cases_eq, false≢true}
 use Rattle.std.proofs.lemmas.Bool.Decides.{nat_tests}
-use Rattle.std.proofs.lemmas.List.Elements.{Contains-append_left, Contains-append_right, Contains-append_cases, All-head, All-tail, All-cons, Contains-push_cases}
+use Rattle.std.proofs.lemmas.List.Elements.{Contains-append_left, Contains-append_right, Contains-append_cases}
 use Rattle.zq_names.specs.declared.node.Node.{Node}
 use Rattle.zq_names.specs.declared.node.ResourceId.{ResourceId}
-use Rattle.zq_names.specs.Names.{NameEntry, IsTable, IsNames, IsLinked, slot, slot_text, slot_matches, slot_former, row, rows, texts, entry_of, without_match}
+use Rattle.zq_names.specs.Names.{NameEntry, IsTable, IsNames, IsLinked, slot, slot_matches, slot_former, row, rows, texts, without_match}
 use Rattle.zq_names.specs.Forgetting.{Drops}
-use Rattle.zq_names.proofs.Table.{Changes, Changes-with_value}
+use Rattle.zq_names.proofs.Table.{Changes-with_value}
 
 -- ---- lists without a number
 
@@ -41,9 +40,9 @@ from_others i (m ∷ ms) x has = by (other i m) has (from_others i ms x)
   where
     by : (b : Bool) → Contains (cond b (m ∷ others_of i ms) (others_of i ms)) x → (Contains (others_of i ms) x → Contains ms x) → Contains (m ∷ ms) x
     by true h more = elim (Contains-append_cases (m ∷ []) (others_of i ms) x h) [
-        inl first ↦ Contains-append_left (m ∷ []) ms x first
+      | inl first ↦ Contains-append_left (m ∷ []) ms x first
       | inr later ↦ Contains-cons m ms x (more later)
-      ]
+    ]
     by false h more = Contains-cons m ms x (more h)
 
 -- another number is kept
@@ -72,9 +71,9 @@ not_among_others i (m ∷ ms) x is has = by (other i m) refl has (not_among_othe
 
     by : (b : Bool) → other i m ≡ b → Contains (cond b (m ∷ others_of i ms) (others_of i ms)) x → (Contains (others_of i ms) x → ⊥) → ⊥
     by true e h more = elim (Contains-append_cases (m ∷ []) (others_of i ms) x h) [
-        inl first ↦ let here : m.0 ≡ x.0 = ap (λ (r : ResourceId). r.0) (same first) in let is_i : eqb m.0 i ≡ true = grind (arith, nat_tests) in false≢true (rw is_i at e)
+      | inl first ↦ let here : m.0 ≡ x.0 = ap (λ (r : ResourceId). r.0) (same first) in let is_i : eqb m.0 i ≡ true = grind (arith, nat_tests) in false≢true (rw is_i at e)
       | inr later ↦ more later
-      ]
+    ]
     by false e h more = more h
 
 -- a list without the number stays
@@ -97,12 +96,12 @@ one_holder x y (suc k, lt, is) = absurd (omega arith)
 
 pub Drops-none : (old : List (Option Node)) (i : ℕ) (holder : ResourceId) → (IsSome (slot old holder.0) → ⊥) → Drops old old i (holder ∷ [])
 Drops-none old i holder none = record {
-    same = λ j. refl;
-    live = λ j. refl;
-    former = λ j. refl;
-    fewer = λ j m has. has;
-    gone = λ h m held is has. empty (slot old h.0) (λ some. none (rw (one_holder holder h held) at some)) m has;
-  }
+  same = λ j. refl;
+  live = λ j. refl;
+  former = λ j. refl;
+  fewer = λ j m has. has;
+  gone = λ h m held is has. empty (slot old h.0) (λ some. none (rw (one_holder holder h held) at some)) m has;
+}
   where
     empty : (o : Option Node) → (IsSome o → ⊥) → (m : ResourceId) → Contains (slot_matches o) m → ⊥
     empty None never m (k, lt, e) = omega arith
@@ -116,35 +115,35 @@ Drops-written old i holder before after was fewer text context holds former =
     let changes = Changes-with_value old holder.0 before after was in
     record {
       same = λ j. elim (cases_eq j holder.0) [
-          inl here ↦ rw (here, changes.is, changes.was, fewer, ← filter_twice, text, context, holds)
+        | inl here ↦ rw (here, changes.is, changes.was, fewer, ← filter_twice, text, context, holds)
         | inr differ ↦ rw (changes.others j differ)
-        ];
+      ];
       live = λ j. elim (cases_eq j holder.0) [
-          inl here ↦ rw (here, changes.is, changes.was)
+        | inl here ↦ rw (here, changes.is, changes.was)
         | inr differ ↦ rw (changes.others j differ)
-        ];
+      ];
       former = λ j. elim (cases_eq j holder.0) [
-          inl here ↦ rw (here, changes.is, changes.was, former)
+        | inl here ↦ rw (here, changes.is, changes.was, former)
         | inr differ ↦ rw (changes.others j differ)
-        ];
+      ];
       fewer = λ j m has. elim (cases_eq j holder.0) [
-          inl here ↦ rw (here, changes.was) (from_others i before.matches.items m (rw (here, changes.is, fewer) at has))
+        | inl here ↦ rw (here, changes.was) (from_others i before.matches.items m (rw (here, changes.is, fewer) at has))
         | inr differ ↦ rw (changes.others j differ) at has
-        ];
+      ];
       gone = λ h m held is has. not_among_others i before.matches.items m is (rw (one_holder holder h held, changes.is, fewer) at has);
     }
 
 pub Drops-more : (a b c : List (Option Node)) (i : ℕ) (xs ys : List ResourceId) → Drops a b i xs → Drops b c i ys → Drops a c i (xs ++ ys)
 Drops-more a b c i xs ys first second = record {
-    same = λ j. second.same j ∙ first.same j;
-    live = λ j. second.live j ∙ first.live j;
-    former = λ j. second.former j ∙ first.former j;
-    fewer = λ j m has. first.fewer j m (second.fewer j m has);
-    gone = λ h m held is has. elim (Contains-append_cases xs ys h held) [
-        inl in_first ↦ first.gone h m in_first is (second.fewer h.0 m has)
-      | inr in_second ↦ second.gone h m in_second is has
-      ];
-  }
+  same = λ j. second.same j ∙ first.same j;
+  live = λ j. second.live j ∙ first.live j;
+  former = λ j. second.former j ∙ first.former j;
+  fewer = λ j m has. first.fewer j m (second.fewer j m has);
+  gone = λ h m held is has. elim (Contains-append_cases xs ys h held) [
+    | inl in_first ↦ first.gone h m in_first is (second.fewer h.0 m has)
+    | inr in_second ↦ second.gone h m in_second is has
+  ];
+}
 
 -- ---- a node that is taken out
 
@@ -167,8 +166,8 @@ was_there : (old middle new : List (Option Node)) (i : ℕ) (node : Node) → Fo
 was_there old middle new i node forgets j m has =
     let before = forgets.drops.fewer j m has in
     elim (cases_eq j i) [
-      inl here ↦ absurd (none_there (slot middle j) (ap (slot middle) here ∙ forgets.is) m before)
-    | inr differ ↦ (differ, rw (forgets.others j differ) at before)
+      | inl here ↦ absurd (none_there (slot middle j) (ap (slot middle) here ∙ forgets.is) m before)
+      | inr differ ↦ (differ, rw (forgets.others j differ) at before)
     ]
 
 -- no node has the number among its matches
@@ -210,8 +209,8 @@ IsLinked-forgot old middle new i node linked forgets a b has =
     let C : List ResourceId → Type 0 = λ (l : List ResourceId). Contains l b in
     let here = forgets.others a.0 apart in
     let kept : others_of i (slot_matches (slot old a.0)) ≡ others_of i (slot_matches (slot new a.0)) =
-      ap (λ (o : Option Node). others_of i (slot_matches o)) (sym here) ∙ sym (ap (λ (e : NameEntry). e.matches) (forgets.drops.same a.0)) in
+    ap (λ (o : Option Node). others_of i (slot_matches o)) (sym here) ∙ sym (ap (λ (e : NameEntry). e.matches) (forgets.drops.same a.0)) in
     elim (Contains-append_cases (slot_matches (slot old a.0)) (slot_former (slot old a.0)) b (linked a b before.1)) [
-      inl among ↦ Contains-append_left (slot_matches (slot new a.0)) (slot_former (slot new a.0)) b (from_others i (slot_matches (slot new a.0)) b (subst C kept (to_others i (slot_matches (slot old a.0)) b before.0 among)))
-    | inr once ↦ Contains-append_right (slot_matches (slot new a.0)) (slot_former (slot new a.0)) b (subst C (ap slot_former (sym here) ∙ sym (forgets.drops.former a.0)) once)
+      | inl among ↦ Contains-append_left (slot_matches (slot new a.0)) (slot_former (slot new a.0)) b (from_others i (slot_matches (slot new a.0)) b (subst C kept (to_others i (slot_matches (slot old a.0)) b before.0 among)))
+      | inr once ↦ Contains-append_right (slot_matches (slot new a.0)) (slot_former (slot new a.0)) b (subst C (ap slot_former (sym here) ∙ sym (forgets.drops.former a.0)) once)
     ]

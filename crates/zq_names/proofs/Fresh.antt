@@ -1,5 +1,5 @@
 -- The table of the root alone.
-use Rattle.std.proofs.Common.{◌≡◌, ◌≢◌, ℕ, ◌+◌, ◌<◌, true, false, List, [], ◌∷◌, length, get_or, Option, Some, None, IsSome, refl, sym, ap, ◌∙◌, arith, suc, zero, subst}
+use Rattle.std.proofs.Common.{◌≡◌, ◌≢◌, ℕ, ◌<◌, List, [], ◌∷◌, length, Option, Some, IsSome, refl, sym, ap, ◌∙◌, arith, suc, zero}
 use Rattle.std.specs.List.{Contains}
 use Rattle.std.proofs.lemmas.Bool.{false≢true}
 use Rattle.std.proofs.lemmas.Bool.{cases_eq}
@@ -8,9 +8,9 @@ use Rattle.std.proofs.lemmas.Cmp.{nat_list_cmp_total}
 use Rattle.std.proofs.lemmas.List.Elements.{All-cons, All-nil}
 use Rattle.std.proofs.lemmas.Map.Keys.{sorted_from_all_adjacent}
 use Rattle.zq_names.specs.declared.node.Node.{Node}
-use Rattle.zq_names.specs.Texts.{text_cmp, IsBelow}
+use Rattle.zq_names.specs.Texts.{IsBelow}
 use Rattle.zq_names.specs.declared.node.ResourceId.{ResourceId}
-use Rattle.zq_names.specs.Names.{IsTable, IsNames, IsLinked, slot, slot_text, slot_matches, rows, texts}
+use Rattle.zq_names.specs.Names.{IsTable, IsNames, IsLinked, slot, rows, texts}
 
 only_root : (s t : List ℕ) → Contains ([] ∷ []) t → IsBelow s t → Contains ([] ∷ []) s
 only_root s t (suc k, lt, is) below = absurd (omega arith)
@@ -26,30 +26,32 @@ no_text t (zero, lt, is) some = omega (arith, ap length is)
 
 names-root : IsNames (0 ∷ []) ([] ∷ [])
 names-root = record {
-    rising = sorted_from_all_adjacent nat_list_cmp_total ([] ∷ []) [] (λ k lt. absurd (omega arith));
-    root = refl;
-    root_text = refl;
-    closed = only_root;
-    keys = λ t has some. absurd (no_text t has some);
-  }
+  rising = sorted_from_all_adjacent nat_list_cmp_total ([] ∷ []) [] (λ k lt. absurd (omega arith));
+  root = refl;
+  root_text = refl;
+  closed = only_root;
+  keys = λ t has some. absurd (no_text t has some);
+}
 
 pub IsTable-root : (old new : List (Option Node)) (i : ℕ) (node : Node) → old ≡ [] → i ≡ 0 → node.text ≡ [] → slot new i ≡ Some node → ((j : ℕ) → j ≢ i → slot new j ≡ slot old j) → (texts (rows new (i ∷ [])) ≡ [] ∷ []) × IsTable new (i ∷ [])
 IsTable-root old new i node empty first text is others =
-    let shown : texts (rows new (i ∷ [])) ≡ [] ∷ [] = rw (is, text) in
-    (shown, record {
-      live = All-cons (λ j. IsSome (slot new j)) i [] (rw is refl) (All-nil (λ j. IsSome (slot new j)));
-      covered = λ j some. elim (cases_eq j i) [
-          inl same ↦ (zero, omega arith, sym same)
-        | inr differ ↦ absurd (false≢true (rw (others j differ, empty) at some))
+    let shown : texts (rows new (i ∷ [])) ≡ [] ∷ [] = rw (is, text) in (
+      shown,
+      record {
+        live = All-cons (λ j. IsSome (slot new j)) i [] (rw is refl) (All-nil (λ j. IsSome (slot new j)));
+        covered = λ j some. elim (cases_eq j i) [
+          | inl same ↦ (zero, omega arith, sym same)
+          | inr differ ↦ absurd (false≢true (rw (others j differ, empty) at some))
         ];
-      names = rw (shown, first) names-root;
-    })
+        names = rw (shown, first) names-root;
+      },
+    )
 
 pub IsLinked-root : (old new : List (Option Node)) (i : ℕ) (node : Node) → old ≡ [] → node.matches.items ≡ [] → slot new i ≡ Some node → ((j : ℕ) → j ≢ i → slot new j ≡ slot old j) → IsLinked new
 IsLinked-root old new i node empty bare is others a b has = elim (cases_eq b.0 i) [
-    inl same ↦ absurd (nothing_in a (rw (same, is, bare) at has))
+  | inl same ↦ absurd (nothing_in a (rw (same, is, bare) at has))
   | inr differ ↦ absurd (nothing_in a (rw (others b.0 differ, empty) at has))
-  ]
+]
   where
     nothing_in : (x : ResourceId) → Contains [] x → ⊥
     nothing_in x (k, lt, e) = omega arith

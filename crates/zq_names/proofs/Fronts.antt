@@ -1,5 +1,5 @@
 -- The part of a key before one of its `/` is a key.
-use Rattle.std.proofs.Common.{◌≡◌, ◌+◌, ◌<◌, ℕ, Bool, true, false, ◌&&◌, List, [], ◌∷◌, ◌++◌, length, take, drop, get_or, sym, subst, ap, ◌∙◌, refl, arith, suc}
+use Rattle.std.proofs.Common.{◌≡◌, ◌+◌, ◌<◌, ℕ, Bool, true, false, ◌&&◌, List, [], ◌∷◌, ◌++◌, length, take, drop, get_or, sym, subst, ap, ◌∙◌, refl}
 use Rattle.std.specs.List.{list_all}
 use Rattle.std.proofs.lemmas.List.{take-append-drop, drop_more}
 use Rattle.zq_key.specs.Key.{chunks, is_chunk, is_key, neighbours_fit}
@@ -34,8 +34,8 @@ key_before s rest h =
     let A : List (List ℕ) → Type 0 = λ (l : List (List ℕ)). list_all is_chunk l ≡ true in
     let N : List (List ℕ) → Type 0 = λ (l : List (List ℕ)). neighbours_fit l ≡ true in
     both (list_all is_chunk (chunks s)) (neighbours_fit (chunks s))
-      (list_all-front is_chunk (chunks s) (chunks rest) (subst A (chunks-behind s rest) fine))
-      (neighbours_fit-front (chunks s) (chunks rest) (subst N (chunks-behind s rest) apart))
+    (list_all-front is_chunk (chunks s) (chunks rest) (subst A (chunks-behind s rest) fine))
+    (neighbours_fit-front (chunks s) (chunks rest) (subst N (chunks-behind s rest) apart))
 
 pub front_key : (t : List ℕ) (k : ℕ) → is_key t ≡ true → k < length t → get_or t k 0 ≡ 47 → is_key (take k t) ≡ true
 front_key t k key lt slash =

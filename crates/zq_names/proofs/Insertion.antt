@@ -1,22 +1,21 @@
 -- A new node in the gap for its text.
-use Rattle.std.proofs.Common.{◌≡◌, ◌≢◌, ℕ, ◌+◌, ◌-◌, ◌<◌, ◌≤◌, Bool, true, false, List, [], ◌∷◌, ◌++◌, length, map, take, drop, get_or, subst, sym, ap, ◌∙◌, refl, arith, suc, zero, Option, Some, None, IsSome, ◌⊎◌, inl, inr}
+use Rattle.std.proofs.Common.{◌≡◌, ◌≢◌, ℕ, ◌+◌, ◌-◌, ◌<◌, ◌≤◌, true, List, [], ◌∷◌, ◌++◌, length, map, take, drop, get_or, subst, sym, ap, ◌∙◌, refl, arith, suc, zero, Option, Some, None, IsSome, ◌⊎◌, inl, inr}
 use Rattle.std.specs.declared.cmp.Ordering.TheVariants.{Less}
 use Rattle.std.specs.List.{All, Contains, insert, slice_get}
 use Rattle.std.specs.List.Sorted.{IsStrictlySortedBy}
 use Rattle.std.proofs.lemmas.Bool.{cases_eq, cases_lt, false≢true}
 use Rattle.std.proofs.lemmas.Cmp.{nat_list_cmp_total}
 use Rattle.std.proofs.lemmas.Option.{none-some, slice_get_within, get_or_from_slice_get}
-use Rattle.std.proofs.lemmas.List.{map-append, take-map, drop-map, take-append-drop, length-map}
+use Rattle.std.proofs.lemmas.List.{map-append, take-map, drop-map, take-append-drop}
 use Rattle.std.proofs.lemmas.List.Edits.{length-insert, get_or-insert_below, get_or-insert_at, get_or-insert_above}
-use Rattle.std.proofs.lemmas.List.Elements.{All-append, All-cons, All-head, All-tail, All-take, All-drop, All-contains, Contains-append_left, Contains-append_right, Contains-append_cases}
+use Rattle.std.proofs.lemmas.List.Elements.{All-append, All-cons, All-head, All-tail, All-take, All-drop, Contains-append_left, Contains-append_right, Contains-append_cases}
 use Rattle.std.proofs.lemmas.Map.Keys.{sorted_from_all_adjacent, Less-from_sorted}
 use Rattle.zq_names.specs.declared.node.Node.{Node}
 use Rattle.zq_key.specs.Key.{is_key}
 use Rattle.zq_names.specs.Texts.{text_cmp, IsBelow}
 use Rattle.zq_names.specs.declared.node.ResourceId.{ResourceId}
-use Rattle.zq_names.specs.Names.{NameEntry, IsTable, IsNames, IsLinked, IsGapAt, slot, slot_matches, slot_former, row, rows, texts, text_at, entry_of}
-use Rattle.zq_names.proofs.Rows.{length-rows, length-texts, length-texts-rows}
-use Rattle.zq_names.proofs.TextOrder.{not_below_itself}
+use Rattle.zq_names.specs.Names.{NameEntry, IsTable, IsNames, IsLinked, IsGapAt, slot, slot_matches, slot_former, row, rows, texts, entry_of}
+use Rattle.zq_names.proofs.Rows.{length-texts}
 
 -- ---- lists with one more element
 
@@ -24,8 +23,8 @@ pub Contains-insert_old : {X : Type 0} (xs : List X) (i : ℕ) (x y : X) → Con
 Contains-insert_old {X} xs i x y has =
     let C : List X → Type 0 = λ (l : List X). Contains l y in
     elim (Contains-append_cases (take i xs) (drop i xs) y (subst C (sym (take-append-drop i xs)) has)) [
-      inl front ↦ Contains-append_left (take i xs) (x ∷ drop i xs) y front
-    | inr back ↦ Contains-append_right (take i xs) (x ∷ drop i xs) y (Contains-append_right (x ∷ []) (drop i xs) y back)
+      | inl front ↦ Contains-append_left (take i xs) (x ∷ drop i xs) y front
+      | inr back ↦ Contains-append_right (take i xs) (x ∷ drop i xs) y (Contains-append_right (x ∷ []) (drop i xs) y back)
     ]
 
 pub Contains-insert_new : {X : Type 0} (xs : List X) (i : ℕ) (x : X) → Contains (insert xs i x) x
@@ -35,10 +34,10 @@ pub Contains-insert_cases : {X : Type 0} (xs : List X) (i : ℕ) (x y : X) → C
 Contains-insert_cases {X} xs i x y has =
     let C : List X → Type 0 = λ (l : List X). Contains l y in
     elim (Contains-append_cases (take i xs) (x ∷ drop i xs) y has) [
-      inl front ↦ inl (subst C (take-append-drop i xs) (Contains-append_left (take i xs) (drop i xs) y front))
-    | inr more ↦ elim (Contains-append_cases (x ∷ []) (drop i xs) y more) [
-        inl here ↦ inr (single here)
-      | inr back ↦ inl (subst C (take-append-drop i xs) (Contains-append_right (take i xs) (drop i xs) y back))
+      | inl front ↦ inl (subst C (take-append-drop i xs) (Contains-append_left (take i xs) (drop i xs) y front))
+      | inr more ↦ elim (Contains-append_cases (x ∷ []) (drop i xs) y more) [
+        | inl here ↦ inr (single here)
+        | inr back ↦ inl (subst C (take-append-drop i xs) (Contains-append_right (take i xs) (drop i xs) y back))
       ]
     ]
   where
@@ -60,23 +59,23 @@ pub rising-insert : (ts : List (List ℕ)) (t : List ℕ) (i : ℕ) → IsStrict
     → IsStrictlySortedBy text_cmp (insert ts i t)
 rising-insert ts t i rising in_range before after =
     sorted_from_all_adjacent nat_list_cmp_total (insert ts i t) [] (λ k lt.
-      let n = length-insert ts i t in_range in
-      elim (cases_lt (k + 1) i) [
-        inl below ↦ rw (get_or-insert_below ts i t [] k (omega arith) in_range, get_or-insert_below ts i t [] (k + 1) below in_range) (Less-from_sorted text_cmp ts k (k + 1) [] rising (omega arith) (omega arith))
+    let n = length-insert ts i t in_range in
+    elim (cases_lt (k + 1) i) [
+      | inl below ↦ rw (get_or-insert_below ts i t [] k (omega arith) in_range, get_or-insert_below ts i t [] (k + 1) below in_range) (Less-from_sorted text_cmp ts k (k + 1) [] rising (omega arith) (omega arith))
       | inr not_below ↦ elim (cases_eq (k + 1) i) [
-          inl here ↦
+        | inl here ↦
             let next : get_or (insert ts i t) (k + 1) [] ≡ t = rw here (get_or-insert_at ts i t [] in_range) in
             rw (get_or-insert_below ts i t [] k (omega arith) in_range, next) (before k (omega arith))
         | inr past ↦ elim (cases_eq k i) [
-            inl at ↦
+          | inl at ↦
               let this : get_or (insert ts i t) k [] ≡ t = rw at (get_or-insert_at ts i t [] in_range) in
               rw (this, get_or-insert_above ts i t [] k (omega arith) in_range) (after k (omega arith) (omega (arith, n)))
           | inr above ↦
               let this : get_or (insert ts i t) k [] ≡ get_or ts (k - 1) [] = subst (λ q. get_or (insert ts i t) q [] ≡ get_or ts (k - 1) []) {x = k - 1 + 1} (omega arith) (get_or-insert_above ts i t [] (k - 1) (omega arith) in_range) in
               rw (this, get_or-insert_above ts i t [] k (omega arith) in_range) (Less-from_sorted text_cmp ts (k - 1) k [] rising (omega arith) (omega (arith, n)))
-          ]
         ]
-      ])
+      ]
+    ])
 
 -- ---- the table
 
@@ -116,31 +115,33 @@ IsTable-put old new order i at node key table gap closed fresh is others =
     let past = gap_past_root (rows old order) node.text at table.names.root_text gap in
     let ts = texts (rows old order) in
     let comes : (j : ℕ) → IsSome (slot old j) → IsSome (slot new j) = λ j some. elim (cases_eq j i) [
-        inl same_j ↦ rw (same_j, is) refl
+      | inl same_j ↦ rw (same_j, is) refl
       | inr differ ↦ rw (others j differ) some
-      ] in
-    (view, record {
-      live = All-append (λ j. IsSome (slot new j)) (take at order) (i ∷ drop at order)
-        (All-take (λ j. IsSome (slot new j)) at order (λ k d lt. comes _ (table.live k d lt)))
-        (All-cons (λ j. IsSome (slot new j)) i (drop at order) (rw is refl) (All-drop (λ j. IsSome (slot new j)) at order (λ k d lt. comes _ (table.live k d lt))));
-      covered = λ j some. elim (cases_eq j i) [
-          inl same_j ↦ rw same_j (Contains-insert_new order at i)
-        | inr differ ↦ Contains-insert_old order at i j (table.covered j (rw (others j differ) at some))
+    ] in (
+      view,
+      record {
+        live = All-append (λ j. IsSome (slot new j)) (take at order) (i ∷ drop at order)
+            (All-take (λ j. IsSome (slot new j)) at order (λ k d lt. comes _ (table.live k d lt)))
+            (All-cons (λ j. IsSome (slot new j)) i (drop at order) (rw is refl) (All-drop (λ j. IsSome (slot new j)) at order (λ k d lt. comes _ (table.live k d lt))));
+        covered = λ j some. elim (cases_eq j i) [
+          | inl same_j ↦ rw same_j (Contains-insert_new order at i)
+          | inr differ ↦ Contains-insert_old order at i j (table.covered j (rw (others j differ) at some))
         ];
-      names = subst N (sym shown) (record {
-        rising = rising-insert ts node.text at table.names.rising (omega (arith, gap.in_range, length-texts (rows old order))) gap.before (λ k le lt. gap.after k le (omega (arith, length-texts (rows old order))));
-        root = first-insert order at i 0 past table.names.root;
-        root_text = first-insert ts at node.text [] past table.names.root_text;
-        closed = λ s t has below. elim (Contains-insert_cases ts at node.text t has) [
-            inl old_t ↦ Contains-insert_old ts at node.text s (table.names.closed s t old_t below)
-          | inr new_t ↦ Contains-insert_old ts at node.text s (closed s (let B : List ℕ → Type 0 = IsBelow s in subst B (sym new_t) below))
+        names = subst N (sym shown) (record {
+          rising = rising-insert ts node.text at table.names.rising (omega (arith, gap.in_range, length-texts (rows old order))) gap.before (λ k le lt. gap.after k le (omega (arith, length-texts (rows old order))));
+          root = first-insert order at i 0 past table.names.root;
+          root_text = first-insert ts at node.text [] past table.names.root_text;
+          closed = λ s t has below. elim (Contains-insert_cases ts at node.text t has) [
+            | inl old_t ↦ Contains-insert_old ts at node.text s (table.names.closed s t old_t below)
+            | inr new_t ↦ Contains-insert_old ts at node.text s (closed s (let B : List ℕ → Type 0 = IsBelow s in subst B (sym new_t) below))
           ];
-        keys = λ t has some. elim (Contains-insert_cases ts at node.text t has) [
-            inl old_t ↦ table.names.keys t old_t some
-          | inr new_t ↦ ap is_key (sym new_t) ∙ key
+          keys = λ t has some. elim (Contains-insert_cases ts at node.text t has) [
+            | inl old_t ↦ table.names.keys t old_t some
+            | inr new_t ↦ ap is_key (sym new_t) ∙ key
           ];
-      });
-    })
+        });
+      },
+    )
 
 -- ---- links
 
@@ -150,11 +151,11 @@ empty_slot o none m has = nothing_in m (rw none at has)
 pub IsLinked-put : (old new : List (Option Node)) (i : ℕ) (node : Node) → node.matches.items ≡ [] → slot old i ≡ None → slot new i ≡ Some node → ((j : ℕ) → j ≢ i → slot new j ≡ slot old j) → IsLinked old → IsLinked new
 IsLinked-put old new i node bare fresh is others linked a b has =
     elim (cases_eq b.0 i) [
-      inl same ↦ absurd (nothing_in a (rw (same, is, bare) at has))
-    | inr differ ↦
-      let before = linked a b (rw (others b.0 differ) at has) in
-      elim (cases_eq a.0 i) [
-        inl same ↦ absurd (empty_slot (slot old a.0) (ap (slot old) same ∙ fresh) b before)
-      | inr apart ↦ rw (others a.0 apart) before
-      ]
+      | inl same ↦ absurd (nothing_in a (rw (same, is, bare) at has))
+      | inr differ ↦
+          let before = linked a b (rw (others b.0 differ) at has) in
+          elim (cases_eq a.0 i) [
+            | inl same ↦ absurd (empty_slot (slot old a.0) (ap (slot old) same ∙ fresh) b before)
+            | inr apart ↦ rw (others a.0 apart) before
+          ]
     ]

@@ -1,12 +1,12 @@
 -- What changes keep of the numbers that are live.
-use Rattle.std.proofs.Common.{◌≡◌, ◌≢◌, ℕ, ◌+◌, ◌-◌, ◌<◌, ◌≤◌, Bool, true, false, cond, eqb, List, [], ◌∷◌, ◌++◌, length, map, take, drop, get_or, subst, sym, ap, ◌∙◌, refl, arith, suc, zero, Option, Some, None, IsSome, ◌⊎◌, inl, inr}
+use Rattle.std.proofs.Common.{◌≡◌, ◌≢◌, ℕ, ◌<◌, Bool, true, false, cond, eqb, List, [], ◌∷◌, length, map, get_or, subst, sym, ap, ◌∙◌, refl, arith, suc, zero, Option, None, inl, inr}
 use Rattle.std.specs.List.{Contains, remove}
 use Rattle.std.proofs.lemmas.Bool.{cases_eq, cases_lt}
 use Rattle.std.proofs.lemmas.Bool.Decides.{nat_tests}
 use Rattle.std.proofs.lemmas.List.{length-map, get_or-map, get_or_default}
 use Rattle.zq_names.specs.declared.node.Node.{Node}
 use Rattle.zq_names.specs.declared.node.ResourceId.{ResourceId}
-use Rattle.zq_names.specs.Names.{NameEntry, IsTable, IsPlaceOf, IsIdle, Adds, IsBare, slot, row, rows, texts, ids, entry_of, entry_at, change_at, with_context, without_match, removed_at, Cleans, IsLive, HasText}
+use Rattle.zq_names.specs.Names.{NameEntry, IsTable, Adds, row, rows, texts, ids, entry_of, entry_at, change_at, with_context, without_match, removed_at, Cleans, HasText}
 use Rattle.zq_names.specs.Names.Cleans.{stops, goes}
 use Rattle.zq_names.specs.Keeping.{Keeps, AllStay, NoneCome, ChangesAt}
 use Rattle.zq_names.proofs.Table.{ids-rows, entry_at-rows}
@@ -30,14 +30,14 @@ ids-change_at (e ∷ es) i f keeps = by (eqb e.id i) (ids-change_at es i f keeps
 entry_at-changed : (ns : List NameEntry) (i : ℕ) (f : NameEntry → NameEntry) → ((e : NameEntry) → (f e).id ≡ e.id) → Contains (ids ns) i → entry_at (change_at ns i f) i ≡ f (entry_at ns i)
 entry_at-changed [] i f keeps (k, lt, is) = absurd (omega arith)
 entry_at-changed (e ∷ es) i f keeps has = elim (cases_eq e.id i) [
-    inl same ↦
+  | inl same ↦
       let here : eqb e.id i ≡ true = grind (arith, nat_tests) in
       let kept : eqb (f e).id i ≡ true = ap (λ (n : ℕ). eqb n i) (keeps e) ∙ here in
       rw (here, kept)
   | inr differ ↦
       let other : eqb e.id i ≡ false = grind (arith, nat_tests) in
       rw (other, other) (entry_at-changed es i f keeps (tail has differ))
-  ]
+]
   where
     tail : Contains (e.id ∷ ids es) i → e.id ≢ i → Contains (ids es) i
     tail (zero, lt, same) differ = absurd (differ same)
@@ -46,7 +46,7 @@ entry_at-changed (e ∷ es) i f keeps has = elim (cases_eq e.id i) [
 entry_at-unchanged : (ns : List NameEntry) (i j : ℕ) (f : NameEntry → NameEntry) → ((e : NameEntry) → (f e).id ≡ e.id) → j ≢ i → entry_at (change_at ns i f) j ≡ entry_at ns j
 entry_at-unchanged [] i j f keeps apart = refl
 entry_at-unchanged (e ∷ es) i j f keeps apart = elim (cases_eq e.id i) [
-    inl same ↦
+  | inl same ↦
       let here : eqb e.id i ≡ true = grind (arith, nat_tests) in
       let other : eqb e.id j ≡ false = grind (arith, nat_tests) in
       let kept : eqb (f e).id j ≡ false = ap (λ (n : ℕ). eqb n j) (keeps e) ∙ other in
@@ -54,14 +54,14 @@ entry_at-unchanged (e ∷ es) i j f keeps apart = elim (cases_eq e.id i) [
   | inr differ ↦
       let other : eqb e.id i ≡ false = grind (arith, nat_tests) in
       rw (other, entry_at-unchanged es i j f keeps apart)
-  ]
+]
 
 pub ChangesAt-change_at : (ns : List NameEntry) (i : ℕ) (f : NameEntry → NameEntry) → ((e : NameEntry) → (f e).id ≡ e.id) → Contains (ids ns) i → ChangesAt ns (change_at ns i f) i f
 ChangesAt-change_at ns i f keeps has = record {
-    live = ids-change_at ns i f keeps;
-    here = entry_at-changed ns i f keeps has;
-    others = λ j differ. entry_at-unchanged ns i j f keeps differ;
-  }
+  live = ids-change_at ns i f keeps;
+  here = entry_at-changed ns i f keeps has;
+  others = λ j differ. entry_at-unchanged ns i j f keeps differ;
+}
 
 -- ---- entries added
 
@@ -90,17 +90,19 @@ stay-made nodes nodes' order order' old new added r view adds live marked i was 
     let before : entry_at middle i ≡ entry_at old i = entry_at-rows nodes' order' i same.0 ∙ same.1 ∙ sym (entry_at-rows nodes order i has) ∙ ap (λ (ns : List NameEntry). entry_at ns i) view in
     let changes = ChangesAt-change_at middle r with_context (λ e. refl) (in_ids nodes' order' r live) in
     let text_of = λ (e : NameEntry). e.text in
-    let holds_of = λ (e : NameEntry). e.holds in
-    (subst C (sym marked) (in_number middle i r (in_ids nodes' order' i same.0)), elim (cases_eq i r) [
-      inl here ↦ record {
-        text = ap (λ (ns : List NameEntry). (entry_at ns i).text) marked ∙ ap (λ (k : ℕ). (entry_at (change_at middle r with_context) k).text) here ∙ ap text_of changes.here ∙ ap (λ (k : ℕ). (entry_at middle k).text) (sym here) ∙ ap text_of before;
-        holds = ap (λ (ns : List NameEntry). (entry_at ns i).holds) marked ∙ ap (λ (k : ℕ). (entry_at (change_at middle r with_context) k).holds) here ∙ ap holds_of changes.here ∙ ap (λ (k : ℕ). (entry_at middle k).holds) (sym here) ∙ ap holds_of before;
-      }
-    | inr differ ↦ record {
-        text = ap (λ (ns : List NameEntry). (entry_at ns i).text) marked ∙ ap text_of (changes.others i differ) ∙ ap text_of before;
-        holds = ap (λ (ns : List NameEntry). (entry_at ns i).holds) marked ∙ ap holds_of (changes.others i differ) ∙ ap holds_of before;
-      }
-    ])
+    let holds_of = λ (e : NameEntry). e.holds in (
+      subst C (sym marked) (in_number middle i r (in_ids nodes' order' i same.0)),
+      elim (cases_eq i r) [
+        | inl here ↦ record {
+          text = ap (λ (ns : List NameEntry). (entry_at ns i).text) marked ∙ ap (λ (k : ℕ). (entry_at (change_at middle r with_context) k).text) here ∙ ap text_of changes.here ∙ ap (λ (k : ℕ). (entry_at middle k).text) (sym here) ∙ ap text_of before;
+          holds = ap (λ (ns : List NameEntry). (entry_at ns i).holds) marked ∙ ap (λ (k : ℕ). (entry_at (change_at middle r with_context) k).holds) here ∙ ap holds_of changes.here ∙ ap (λ (k : ℕ). (entry_at middle k).holds) (sym here) ∙ ap holds_of before;
+        }
+        | inr differ ↦ record {
+          text = ap (λ (ns : List NameEntry). (entry_at ns i).text) marked ∙ ap text_of (changes.others i differ) ∙ ap text_of before;
+          holds = ap (λ (ns : List NameEntry). (entry_at ns i).holds) marked ∙ ap holds_of (changes.others i differ) ∙ ap holds_of before;
+        }
+      ],
+    )
   where
     in_number : (ns : List NameEntry) (i r : ℕ) → Contains (ids ns) i → Contains (ids (change_at ns r with_context)) i
     in_number ns i r has = let C : List ℕ → Type 0 = λ (is : List ℕ). Contains is i in subst C (sym (ids-change_at ns r with_context (λ e. refl))) has
@@ -202,8 +204,8 @@ none_come-removed_at ns at lt once j has =
     let left = subst C (ids-removed_at ns at) has in
     let was = from_Contains-remove (ids ns) at j (omega (arith, n)) left in
     let differ : (get_or ns at d).id ≢ j = λ same.
-      let R : ℕ → Type 0 = λ (x : ℕ). Contains (remove (ids ns) at) x in
-      gone_once (ids ns) at (omega (arith, n)) once (subst R (sym (number_at ns at d lt ∙ same)) left) in
+    let R : ℕ → Type 0 = λ (x : ℕ). Contains (remove (ids ns) at) x in
+    gone_once (ids ns) at (omega (arith, n)) once (subst R (sym (number_at ns at d lt ∙ same)) left) in
     ((was.0, was.1, was.3), Keeps-removed_at ns at j lt differ)
 
 NoneCome-more : (a b c : List NameEntry) → NoneCome a b → NoneCome b c → NoneCome a c
@@ -231,8 +233,8 @@ held-cleans old new t once (goes ns last u at place idle rest) i has held =
     let lt = place.in_range in
     let n = length-map ns (λ (e : NameEntry). e.id) in
     let differ : (get_or ns at d).id ≢ i = λ same.
-      let here : (entry_at ns i).holds ≡ 0 = ap (λ (k : ℕ). (entry_at ns k).holds) (sym same) ∙ ap (λ (e : NameEntry). e.holds) (entry_at-place ns at d lt once) ∙ idle.unheld in
-      omega (arith, here, held) in
+    let here : (entry_at ns i).holds ≡ 0 = ap (λ (k : ℕ). (entry_at ns k).holds) (sym same) ∙ ap (λ (e : NameEntry). e.holds) (entry_at-place ns at d lt once) ∙ idle.unheld in
+    omega (arith, here, held) in
     let C : List ℕ → Type 0 = λ (is : List ℕ). Contains is i in
     let stays = subst C (sym (ids-removed_at ns at)) (stays_there (ids ns) at i (omega (arith, n)) has (λ same. differ (sym (number_at ns at d lt) ∙ sym same))) in
     let keeps = Keeps-removed_at ns at i lt differ in
@@ -250,9 +252,9 @@ one_number nodes order i j table (k, in_k, e) (l, in_l, f) same =
     let at_l : get_or ts l [] ≡ (row nodes j).text = text_at-rows nodes order l in_l ∙ ap (λ (q : ℕ). (row nodes q).text) second in
     let equal : get_or ts k [] ≡ get_or ts l [] = at_k ∙ same ∙ sym at_l in
     elim (cases_lt k l) [
-      inl below ↦ absurd (not_below_itself (get_or ts l []) (rw equal at (Less-from_sorted text_cmp ts k l [] table.names.rising below (omega (arith, n)))))
-    | inr not_below ↦ elim (cases_lt l k) [
-        inl above ↦ absurd (not_below_itself (get_or ts k []) (rw (← equal) at (Less-from_sorted text_cmp ts l k [] table.names.rising above (omega (arith, n)))))
-      | inr not_above ↦ let place : k ≡ l = omega arith in sym first ∙ ap (λ q. get_or order q 0) place ∙ second
+      | inl below ↦ absurd (not_below_itself (get_or ts l []) (rw equal at (Less-from_sorted text_cmp ts k l [] table.names.rising below (omega (arith, n)))))
+      | inr not_below ↦ elim (cases_lt l k) [
+        | inl above ↦ absurd (not_below_itself (get_or ts k []) (rw (← equal) at (Less-from_sorted text_cmp ts l k [] table.names.rising above (omega (arith, n)))))
+        | inr not_above ↦ let place : k ≡ l = omega arith in sym first ∙ ap (λ q. get_or order q 0) place ∙ second
       ]
     ]

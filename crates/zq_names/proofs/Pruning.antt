@@ -1,12 +1,12 @@
 -- A run of texts that begin with bytes with which no match begins.
-use Rattle.std.proofs.Common.{◌≡◌, ◌≢◌, ℕ, ◌+◌, ◌-◌, ◌<◌, ◌≤◌, Bool, true, false, cond, ◌&&◌, List, [], ◌∷◌, ◌++◌, length, map, take, drop, filter, get_or, subst, sym, ap, ◌∙◌, refl, arith, suc, zero, inl, inr, Option}
+use Rattle.std.proofs.Common.{◌≡◌, ◌≢◌, ℕ, ◌+◌, ◌<◌, ◌≤◌, Bool, true, false, cond, ◌&&◌, List, [], ◌∷◌, ◌++◌, length, take, drop, filter, get_or, sym, ap, ◌∙◌, refl, arith, inl, inr, Option}
 use Rattle.std.specs.declared.cmp.Ordering.{Ordering}
 use Rattle.std.specs.declared.cmp.Ordering.TheVariants.{Less, Equal, Greater}
-use Rattle.std.specs.Ordering.{nat_cmp, ordering_then, ordering_reverse}
+use Rattle.std.specs.Ordering.{nat_cmp, ordering_then}
 use Rattle.std.specs.List.{All}
 use Rattle.std.specs.List.Sorted.{IsStrictlySortedBy}
-use Rattle.std.proofs.lemmas.Bool.{cases_lt, cases_eq, false≢true}
-use Rattle.std.proofs.lemmas.Cmp.{ranked, nat_list_cmp_total}
+use Rattle.std.proofs.lemmas.Bool.{cases_lt, cases_eq}
+use Rattle.std.proofs.lemmas.Cmp.{ranked}
 use Rattle.std.proofs.lemmas.List.{get_or_default, take_more, drop_more, append_assoc, drop_at, length-take-le, length-drop, get_or-drop, get_or-take, get_or-map, take-take, take-append-drop, map-append}
 use Rattle.std.proofs.lemmas.List.Elements.{All-head, All-tail, filter-append}
 use Rattle.std.proofs.lemmas.Map.Keys.{Less-from_sorted}
@@ -52,7 +52,7 @@ squeezed_run (d ∷ ds) [] r b above below = absurd (above refl)
 squeezed_run (d ∷ ds) (a ∷ cs) r b above below = by (nat_cmp a d) refl above below (squeezed_run ds cs r b)
   where
     by : (o : Ordering) → o ≡ nat_cmp a d → ordering_then o (text_cmp cs (ds ++ b ∷ r)) ≢ Less → ordering_then o (text_cmp cs (ds ++ (b + 1) ∷ [])) ≡ Less
-      → (text_cmp cs (ds ++ b ∷ r) ≢ Less → text_cmp cs (ds ++ (b + 1) ∷ []) ≡ Less → Begins ds b cs) → Begins (d ∷ ds) b (a ∷ cs)
+        → (text_cmp cs (ds ++ b ∷ r) ≢ Less → text_cmp cs (ds ++ (b + 1) ∷ []) ≡ Less → Begins ds b cs) → Begins (d ∷ ds) b (a ∷ cs)
     by Less is above below later = absurd (above refl)
     by Equal is above below later = let deeper = later above below in (deeper.0, rw (ranked a d Equal is, deeper.1))
     by Greater is above below later = cc
@@ -80,16 +80,16 @@ pub run_begins : (ns : List NameEntry) (p : List ℕ) (b i j q : ℕ) → IsStri
 run_begins ns p b i j q rising split (r, is) le lt =
     let n = length-texts ns in
     let above : text_cmp (text_at ns q) (p ++ b ∷ r) ≢ Less = elim (cases_eq q i) [
-        inl same ↦ λ less. not_below_itself (p ++ b ∷ r) (rw (ap (λ k. text_at ns k) same ∙ is) at less)
+      | inl same ↦ λ less. not_below_itself (p ++ b ∷ r) (rw (ap (λ k. text_at ns k) same ∙ is) at less)
       | inr differ ↦ rw (← is) (not_less_back (text_at ns i) (text_at ns q) (Less-from_sorted text_cmp (texts ns) i q [] rising (omega arith) (omega (arith, split.in_range, n))))
-      ] in
+    ] in
     squeezed_run p (text_at ns q) r b above (split.before q lt)
 
 pub run_goes_on : (ns : List NameEntry) (p : List ℕ) (b i j : ℕ) → SplitsAt ns (p ++ (b + 1) ∷ []) j → i < length ns → Begins p b (text_at ns i) → i < j
 run_goes_on ns p b i j split lt (r, is) = elim (cases_lt i j) [
-    inl yes_lt ↦ yes_lt
+  | inl yes_lt ↦ yes_lt
   | inr past ↦ absurd (split.from i past lt (rw is (run_is_less p r b)))
-  ]
+]
 
 -- a context, and a text that passes
 abbrev passes : (List ℕ → Bool) → NameEntry → Bool
@@ -129,8 +129,8 @@ jump key ns t p i j k rising split lt there cut apart =
     let begins : Begins p b (text_at ns i) = (drop (k + 1) t, sym there ∙ whole) in
     let front : take (k + 1) t ≡ p ++ b ∷ [] = take_more t k 0 apart.in_range ∙ rw (← cut) in
     let dead : (rest : List ℕ) → meets_key key (p ++ b ∷ rest) ≡ false = λ rest.
-      let longer : is_apart (p ++ b ∷ rest) key ≡ true = ap (λ (x : List ℕ). is_apart x key) (sym (append_assoc p (b ∷ []) rest)) ∙ is_apart-longer (p ++ b ∷ []) rest key (ap (λ (x : List ℕ). is_apart x key) (sym front) ∙ apart.apart) in
-      no_meeting key (p ++ b ∷ rest) (apart_misses (p ++ b ∷ rest) key longer) in
+    let longer : is_apart (p ++ b ∷ rest) key ≡ true = ap (λ (x : List ℕ). is_apart x key) (sym (append_assoc p (b ∷ []) rest)) ∙ is_apart-longer (p ++ b ∷ []) rest key (ap (λ (x : List ℕ). is_apart x key) (sym front) ∙ apart.apart) in
+    no_meeting key (p ++ b ∷ rest) (apart_misses (p ++ b ∷ rest) key longer) in
     (run_goes_on ns p b i j split lt begins, dead_run (meets_key key) ns p b i j rising split begins dead)
 
 -- one entry looked at

@@ -1,6 +1,6 @@
 -- A table by its numbers, and what a change of one node leaves.
-use Rattle.std.proofs.Common.{◌≡◌, ◌≢◌, ℕ, ◌+◌, ◌-◌, ◌<◌, ◌≤◌, Bool, true, false, cond, eqb, List, [], ◌∷◌, ◌++◌, length, map, get_or, set, Option, subst, sym, ap, ◌∙◌, refl, arith, suc, zero, Some, None, IsSome, inl, inr}
-use Rattle.std.specs.List.{All, Contains}
+use Rattle.std.proofs.Common.{◌≡◌, ◌≢◌, ℕ, ◌<◌, true, false, eqb, List, [], ◌∷◌, ◌++◌, length, get_or, set, Option, subst, sym, ap, ◌∙◌, refl, arith, suc, zero, Some, None, IsSome, inl, inr}
+use Rattle.std.specs.List.{Contains}
 use Rattle.std.proofs.lemmas.Bool.{cases_eq}
 use Rattle.std.proofs.lemmas.Bool.Decides.{nat_tests}
 use Rattle.std.proofs.lemmas.List.{get_or-set_same, get_or-set_other, get_or_default}
@@ -9,7 +9,7 @@ use Rattle.std.proofs.lemmas.Option.{none-some}
 use Rattle.zq_names.specs.declared.node.Node.{Node}
 use Rattle.zq_names.proofs.Rows.{length-rows, text_at-rows}
 use Rattle.zq_names.specs.declared.node.ResourceId.{ResourceId}
-use Rattle.zq_names.specs.Names.{NameEntry, IsPlaceOf, HasText, slot, slot_matches, slot_former, IsSound, IsTable, IsNames, entry_of, row, rows, texts, text_at, ids, entry_at, change_at, AreLive}
+use Rattle.zq_names.specs.Names.{NameEntry, IsPlaceOf, HasText, slot, slot_matches, slot_former, IsSound, IsTable, IsNames, entry_of, row, rows, texts, ids, entry_at, change_at}
 
 pub ids-rows : (nodes : List (Option Node)) (order : List ℕ) → ids (rows nodes order) ≡ order
 ids-rows nodes [] = refl
@@ -33,9 +33,9 @@ Contains-tail j i is (suc k, lt, same) differ = (k, omega arith, same)
 pub entry_at-rows : (nodes : List (Option Node)) (order : List ℕ) (i : ℕ) → Contains order i → entry_at (rows nodes order) i ≡ row nodes i
 entry_at-rows nodes [] i has = absurd (omega (arith, has.1))
 entry_at-rows nodes (j ∷ is) i has = elim (cases_eq j i) [
-    inl same ↦ rw same (entry_at-head nodes i is)
+  | inl same ↦ rw same (entry_at-head nodes i is)
   | inr differ ↦ entry_at-tail nodes j i is differ ∙ entry_at-rows nodes is i (Contains-tail j i is has differ)
-  ]
+]
 
 -- ---- a change of one node
 
@@ -48,7 +48,7 @@ pub record Changes (old new : List (Option Node)) (i : ℕ) (before after : Node
 pub rows-change : (old new : List (Option Node)) (order : List ℕ) (i : ℕ) (before after : Node) (f : NameEntry → NameEntry) → Changes old new i before after → entry_of i (Some after) ≡ f (entry_of i (Some before)) → rows new order ≡ change_at (rows old order) i f
 rows-change old new [] i before after f changes made = refl
 rows-change old new (j ∷ js) i before after f changes made = elim (cases_eq j i) [
-    inl same ↦
+  | inl same ↦
       let here : eqb j i ≡ true = grind (arith, nat_tests) in
       let now : row new j ≡ f (row old j) = rw (same, changes.is, changes.was) made in
       rw (here, now, rows-change old new js i before after f changes made)
@@ -56,31 +56,31 @@ rows-change old new (j ∷ js) i before after f changes made = elim (cases_eq j 
       let other : eqb j i ≡ false = grind (arith, nat_tests) in
       let now : row new j ≡ row old j = rw (changes.others j differ) in
       rw (other, now, rows-change old new js i before after f changes made)
-  ]
+]
 
 texts-change : (old new : List (Option Node)) (order : List ℕ) (i : ℕ) (before after : Node) → Changes old new i before after → after.text ≡ before.text → texts (rows new order) ≡ texts (rows old order)
 texts-change old new [] i before after changes same_text = refl
 texts-change old new (j ∷ js) i before after changes same_text = elim (cases_eq j i) [
-    inl same ↦
+  | inl same ↦
       let now : (row new j).text ≡ (row old j).text = rw (same, changes.is, changes.was) same_text in
       rw (now, texts-change old new js i before after changes same_text)
   | inr differ ↦
       let now : (row new j).text ≡ (row old j).text = rw (changes.others j differ) in
       rw (now, texts-change old new js i before after changes same_text)
-  ]
+]
 
 -- a change that keeps the text keeps the table
 pub IsTable-change : (old new : List (Option Node)) (order : List ℕ) (i : ℕ) (before after : Node) → Changes old new i before after → after.text ≡ before.text → IsTable old order → IsTable new order
 IsTable-change old new order i before after changes same_text table =
     let N : List (List ℕ) → Type 0 = IsNames order in
     let stays : (j : ℕ) → IsSome (slot new j) → IsSome (slot old j) = λ j some. elim (cases_eq j i) [
-        inl same ↦ rw (same, changes.was) refl
+      | inl same ↦ rw (same, changes.was) refl
       | inr differ ↦ rw (changes.others j differ) at some
-      ] in
+    ] in
     let comes : (j : ℕ) → IsSome (slot old j) → IsSome (slot new j) = λ j some. elim (cases_eq j i) [
-        inl same ↦ rw (same, changes.is) refl
+      | inl same ↦ rw (same, changes.is) refl
       | inr differ ↦ rw (changes.others j differ) some
-      ] in
+    ] in
     record {
       live = λ k d lt. comes _ (table.live k d lt);
       covered = λ j some. table.covered j (stays j some);
@@ -96,10 +96,10 @@ in_slots (o ∷ os) (suc i) x is = omega (arith, in_slots os i x is)
 
 pub Changes-with_value : (nodes : List (Option Node)) (i : ℕ) (before after : Node) → slot nodes i ≡ Some before → Changes nodes (set nodes i (Some after)) i before after
 Changes-with_value nodes i before after was = record {
-    was = was;
-    is = get_or-set_same nodes i (Some after) None (in_slots nodes i before was);
-    others = λ j differ. get_or-set_other nodes i j (Some after) None differ;
-  }
+  was = was;
+  is = get_or-set_same nodes i (Some after) None (in_slots nodes i before was);
+  others = λ j differ. get_or-set_other nodes i j (Some after) None differ;
+}
 
 pub view_written : (nodes : List (Option Node)) (order : List ℕ) (i : ℕ) (before after : Node) (f : NameEntry → NameEntry) → slot nodes i ≡ Some before → entry_of i (Some after) ≡ f (entry_of i (Some before)) → rows (set nodes i (Some after)) order ≡ change_at (rows nodes order) i f
 view_written nodes order i before after f was made = rows-change nodes (set nodes i (Some after)) order i before after f (Changes-with_value nodes i before after was) made
@@ -112,20 +112,20 @@ sound_written nodes order i before after was same matches former sound =
     let new = set nodes i (Some after) in
     let changes = Changes-with_value nodes i before after was in
     let matches_stay : (j : ℕ) → slot_matches (slot new j) ≡ slot_matches (slot nodes j) = λ j. elim (cases_eq j i) [
-        inl here ↦ rw (here, changes.is, was) matches
+      | inl here ↦ rw (here, changes.is, was) matches
       | inr differ ↦ rw (changes.others j differ)
-      ] in
+    ] in
     let former_stay : (j : ℕ) → slot_former (slot new j) ≡ slot_former (slot nodes j) = λ j. elim (cases_eq j i) [
-        inl here ↦ rw (here, changes.is, was) former
+      | inl here ↦ rw (here, changes.is, was) former
       | inr differ ↦ rw (changes.others j differ)
-      ] in
+    ] in
     record {
       table = table_written nodes order i before after was same sound.table;
       linked = λ a b has.
-        let M : List ResourceId → Type 0 = λ (l : List ResourceId). Contains l a in
-        let L : List ResourceId → Type 0 = λ (l : List ResourceId). Contains (l ++ slot_former (slot new a.0)) b in
-        let F : List ResourceId → Type 0 = λ (l : List ResourceId). Contains (slot_matches (slot nodes a.0) ++ l) b in
-        subst L (sym (matches_stay a.0)) (subst F (sym (former_stay a.0)) (sound.linked a b (subst M (matches_stay b.0) has)));
+          let M : List ResourceId → Type 0 = λ (l : List ResourceId). Contains l a in
+          let L : List ResourceId → Type 0 = λ (l : List ResourceId). Contains (l ++ slot_former (slot new a.0)) b in
+          let F : List ResourceId → Type 0 = λ (l : List ResourceId). Contains (slot_matches (slot nodes a.0) ++ l) b in
+          subst L (sym (matches_stay a.0)) (subst F (sym (former_stay a.0)) (sound.linked a b (subst M (matches_stay b.0) has)));
     }
 
 -- ---- what a method knows of a number that is live
@@ -157,11 +157,11 @@ HasText-at nodes order ns t at id view place is =
     record {
       live = subst C (ap ids view) (subst C (sym (ids-rows nodes order)) has);
       text =
-        ap (λ (v : List NameEntry). (entry_at v id).text) (sym view)
-        ∙ ap (λ (e : NameEntry). e.text) (entry_at-rows nodes order id has)
-        ∙ ap (λ (i : ℕ). (row nodes i).text) (sym number)
-        ∙ sym (text_at-rows nodes order at in_range)
-        ∙ place.is;
+          ap (λ (v : List NameEntry). (entry_at v id).text) (sym view)
+          ∙ ap (λ (e : NameEntry). e.text) (entry_at-rows nodes order id has)
+          ∙ ap (λ (i : ℕ). (row nodes i).text) (sym number)
+          ∙ sym (text_at-rows nodes order at in_range)
+          ∙ place.is;
     }
 
 -- the number at the place of a text

@@ -1,5 +1,5 @@
 -- Texts as lists of bytes: order, cuts before a `/`.
-use Rattle.std.specs.Prelude.{◌≡◌, ℕ, ◌+◌, ◌<◌, ◌≤◌, Bool, Option, Some, None, List, [], ◌∷◌, ◌++◌, length, take, drop, slice_index, slice_index_or, zero, suc, if◌then◌else◌, ◌==◌}
+use Rattle.std.specs.Prelude.{◌≡◌, ℕ, ◌<◌, Bool, Option, Some, None, List, [], ◌∷◌, ◌++◌, length, take, drop, slice_index, slice_index_or, zero, suc, if◌then◌else◌, ◌==◌}
 use Rattle.std.specs.List.{Contains, position}
 use Rattle.std.specs.Str.{IsCharBoundary}
 use Rattle.std.specs.declared.cmp.Ordering.{Ordering}

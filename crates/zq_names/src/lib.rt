@@ -20,3 +20,6 @@ pub mod refusal;
 pub use names::Names;
 pub use node::{ResourceId, ResourceList};
 pub use refusal::NameRefusal;
+
+#[cfg(test)]
+mod tests;

@@ -221,7 +221,11 @@ impl Names {
     }
 
     /// The node of the node's text followed by the suffix, made with the parts that end before a `/`, and given a context.
-    pub fn make_resource(&mut self, from: ResourceId, suffix: &str) -> Result<ResourceId, NameRefusal>
+    pub fn make_resource(
+        &mut self,
+        from: ResourceId,
+        suffix: &str,
+    ) -> Result<ResourceId, NameRefusal>
         requires { IsLive self.old from }
         ensures made { IfOk result (λ r. Makes self.old self.new r ((entry_at self.old from.0).text ++ suffix.now)) }
         ensures named { IfOk result (λ r. HasText self.new r ((entry_at self.old from.0).text ++ suffix.now)) }

@@ -1,9 +1,9 @@
-use Rattle.std.proofs.Common.{◌≡◌, ◌++◌, ◌∷◌, [], List, ℕ, Option, sym, subst, ap}
+use Rattle.std.proofs.Common.{◌≡◌, List, ℕ, Option, sym, subst, ap}
 use Rattle.slab.specs.Slab.{Slab}
 use Rattle.std.specs.List.{Contains}
 use Rattle.std.proofs.lemmas.List.{append-nil}
-use Rattle.zq_names.specs.Texts.{IsChain, heads}
-use Rattle.zq_names.specs.Names.{rows, texts, node_texts, IsPlaceOf, IsLinked}
+use Rattle.zq_names.specs.Texts.{IsChain}
+use Rattle.zq_names.specs.Names.{IsLinked}
 use Rattle.zq_names.specs.declared.node.Node.{Node}
 use Rattle.zq_names.proofs.Heads.{IsChain-heads, Contains-heads_self}
 use Rattle.zq_names.proofs.TextOrder.{absent_in_gap}

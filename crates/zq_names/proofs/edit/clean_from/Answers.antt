@@ -1,7 +1,6 @@
-use Rattle.std.proofs.Common.{◌≡◌, ◌<◌, ℕ, List, length, subst, sym, ap, ◌∙◌, refl, arith}
-use Rattle.std.specs.List.{Contains, remove}
+use Rattle.std.proofs.Common.{◌≡◌, ◌<◌, length, ap, ◌∙◌, refl, arith}
 use Rattle.zq_names.specs.Texts.{parent_of}
-use Rattle.zq_names.specs.Names.{NameEntry, rows, texts, text_at, Cleans, IsIdle}
+use Rattle.zq_names.specs.Names.{rows, text_at}
 use Rattle.zq_names.specs.Names.Cleans.{stops, goes}
 use Rattle.zq_names.proofs.Rows.{length-rows}
 use Rattle.zq_names.proofs.Cleaning.{parent_stays}

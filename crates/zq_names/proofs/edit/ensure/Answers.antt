@@ -1,5 +1,5 @@
-use Rattle.std.proofs.Common.{◌≡◌, ◌∷◌, [], List, ℕ, Some}
-use Rattle.zq_names.specs.Names.{NameEntry, Adds, entry_of, rows}
+use Rattle.std.proofs.Common.{Some}
+use Rattle.zq_names.specs.Names.{entry_of}
 use Rattle.zq_names.proofs.Adding.{Adds-put}
 use Rattle.zq_names.proofs.edit.ensure.Goals as goal
 

@@ -1,4 +1,3 @@
-use Rattle.std.proofs.Common.{◌≡◌, ◌∙◌, ap}
 use Rattle.zq_names.proofs.Insertion.{IsTable-put, IsLinked-put}
 use Rattle.zq_names.proofs.edit.put.Goals as goal
 

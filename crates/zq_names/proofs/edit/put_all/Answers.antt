@@ -1,11 +1,11 @@
-use Rattle.std.proofs.Common.{◌≡◌, ◌+◌, ◌<◌, ◌≤◌, ◌∷◌, ◌++◌, [], List, ℕ, length, take, get_or, map, subst, sym, ap, ◌∙◌, refl, arith}
+use Rattle.std.proofs.Common.{◌≡◌, [], List, ℕ, length, get_or, subst, sym, ap, ◌∙◌, arith}
 use Rattle.std.specs.List.{Contains}
 use Rattle.std.proofs.lemmas.Iterator.Consumers.{YieldsList-turn}
 use Rattle.std.proofs.lemmas.Iterator.Adapters.{YieldsList-from_vec}
 use Rattle.std.proofs.lemmas.List.{take_more, take-map, length-map, get_or-map, length_push, map_push}
 use Rattle.zq_names.specs.declared.node.Node.{Node}
 use Rattle.zq_names.specs.Texts.{IsBelow}
-use Rattle.zq_names.specs.Names.{texts, rows, node_texts}
+use Rattle.zq_names.specs.Names.{node_texts}
 use Rattle.zq_names.proofs.Adding.{Adds-more}
 use Rattle.zq_names.proofs.edit.put_all.Goals as goal
 

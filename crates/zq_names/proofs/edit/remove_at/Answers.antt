@@ -3,7 +3,7 @@ use Rattle.std.specs.List.{remove}
 use Rattle.std.proofs.lemmas.List.{get_or_default}
 use Rattle.zq_names.specs.declared.node.Node.{Node}
 use Rattle.zq_names.specs.declared.node.ResourceId.{ResourceId}
-use Rattle.zq_names.specs.Names.{NameEntry, slot, rows, entry_of, without_match, removed_at}
+use Rattle.zq_names.specs.Names.{NameEntry, slot, rows, entry_of, without_match}
 use Rattle.zq_names.specs.Forgetting.{Drops}
 use Rattle.zq_names.proofs.Rows.{row_at}
 use Rattle.zq_names.proofs.Forgetting.{Forgets, Drops-more, rows-forgot, IsTable-forgot, IsLinked-forgot}
@@ -23,11 +23,11 @@ forgets : (old middle last new : List (Option Node)) (order : List ℕ) (at id :
     → slot old (get_or order at 0) ≡ Option.Some node → slot middle (get_or order at 0) ≡ None → ((j : ℕ) → (j ≡ get_or order at 0 → ⊥) → slot middle j ≡ slot old j)
     → xs ≡ node.matches.items → ys ≡ node.former.items → Drops middle last id xs → Drops last new id ys → Forgets old middle new (get_or order at 0) node
 forgets old middle last new order at id node xs ys lt is was gone others first second p q = record {
-    was = was;
-    is = gone;
-    others = others;
-    drops = twice middle last new id (get_or order at 0) xs ys node.matches.items node.former.items (same_number order at id lt is) first second p q;
-  }
+  was = was;
+  is = gone;
+  others = others;
+  drops = twice middle last new id (get_or order at 0) xs ys node.matches.items node.former.items (same_number order at id lt is) first second p q;
+}
 
 pub returns : goal.returns
 returns c =

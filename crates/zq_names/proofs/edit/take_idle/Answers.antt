@@ -1,6 +1,5 @@
-use Rattle.std.proofs.Common.{◌≡◌, ◌<◌, ℕ, List, length, subst, sym, ap, ◌∙◌, refl, arith}
-use Rattle.zq_names.specs.Texts.{IsBelow}
-use Rattle.zq_names.specs.Names.{rows, text_at, HasBelow, IsIdle}
+use Rattle.std.proofs.Common.{◌≡◌, ◌<◌, length, ◌∙◌, arith}
+use Rattle.zq_names.specs.Names.{rows, text_at}
 use Rattle.zq_names.proofs.Rows.{text_there, holds_there}
 use Rattle.zq_names.proofs.edit.take_idle.Goals as goal
 
@@ -20,6 +19,8 @@ returns-clause-taken c =
     let lt : c.args.at < length order = omega (arith, c.args.order.now.ok.0) in
     let same : c.as_str.result.now ≡ text_at (rows nodes order) c.args.at = c.as_str.ensures ∙ text_there nodes order c.args.at c.index.result.now c.index-node.result.now lt c.index.ensures c.index-node.ensures in
     let none = rw (same, c.deref.ensures.value) at (c.has_below.ensures.none c.if-has_below.false) in
-    let unheld : c.index-node.result.now.holds ≡ 0 = omega arith in
-    (record { past_root = omega arith; unheld = holds_there nodes order c.args.at c.index.result.now c.index-node.result.now lt c.index.ensures c.index-node.ensures ∙ unheld; lonely = none },
-      c.remove_at.ensures.rows, c.remove_at.ensures.text)
+    let unheld : c.index-node.result.now.holds ≡ 0 = omega arith in (
+      record { past_root = omega arith; unheld = holds_there nodes order c.args.at c.index.result.now c.index-node.result.now lt c.index.ensures c.index-node.ensures ∙ unheld; lonely = none },
+      c.remove_at.ensures.rows,
+      c.remove_at.ensures.text,
+    )

@@ -1,6 +1,5 @@
-use Rattle.std.proofs.Common.{◌≡◌, ◌≢◌, ◌<◌, ℕ, Option, List, None, Some, get_or, length, sym, ap, ◌∙◌, subst, arith}
+use Rattle.std.proofs.Common.{◌≡◌, ◌<◌, ℕ, List, get_or, length, sym, ap, ◌∙◌, arith}
 use Rattle.std.proofs.lemmas.List.{get_or_default}
-use Rattle.zq_names.specs.declared.node.Node.{Node}
 use Rattle.zq_names.specs.Names.{slot, row, slot_text}
 use Rattle.zq_names.proofs.Rows.{text_at-rows}
 use Rattle.zq_names.proofs.Removal.{taken}

@@ -1,4 +1,4 @@
-use Rattle.std.proofs.Common.{◌≡◌, ℕ, Bool, not, eqb, filter, rules, sym, ap}
+use Rattle.std.proofs.Common.{not, eqb, rules}
 use borrow.Author.Tests.{tests}
 use Rattle.std.proofs.lemmas.Fn.{filter_same}
 use Rattle.zq_names.specs.declared.node.ResourceId.{ResourceId}

@@ -1,4 +1,4 @@
-use Rattle.std.proofs.Common.{◌≡◌, ◌++◌, ◌∷◌, [], List, take, subst, sym, arith}
+use Rattle.std.proofs.Common.{List, subst, sym}
 use Rattle.std.proofs.lemmas.List.{take_more}
 use Rattle.zq_names.specs.declared.node.ResourceId.{ResourceId}
 use Rattle.zq_names.specs.Forgetting.{Drops}

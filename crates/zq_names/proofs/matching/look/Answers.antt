@@ -1,4 +1,4 @@
-use Rattle.std.proofs.Common.{◌≡◌, ◌<◌, ◌≤◌, ◌+◌, ◌++◌, ◌∷◌, ◌&&◌, [], ℕ, List, Option, Bool, true, false, length, map, take, drop, filter, get_or, subst, sym, ap, ◌∙◌, refl, arith, None, Some}
+use Rattle.std.proofs.Common.{◌≡◌, ◌<◌, ◌+◌, ◌++◌, ◌∷◌, ◌&&◌, [], ℕ, List, Option, Bool, true, false, length, map, take, drop, filter, get_or, subst, sym, ap, ◌∙◌, refl, arith, None, Some}
 use Rattle.std.proofs.lemmas.Bool.Decides.{nat_tests}
 use Rattle.std.proofs.lemmas.List.{append-nil, map_push, get_or_default, nil_from_length}
 use Rattle.zq_key.specs.Key.{is_key, intersects}

@@ -1,4 +1,4 @@
-use Rattle.std.proofs.Common.{◌≡◌, ◌∙◌, ap, ◌++◌, List, ℕ, filter, drop, take, arith}
+use Rattle.std.proofs.Common.{◌∙◌, ap, ◌++◌, List, ℕ, filter, drop, take, arith}
 use Rattle.zq_names.specs.Names.{rows, ids}
 use Rattle.zq_names.specs.Matching.{is_match}
 use Rattle.zq_names.proofs.Pruning.{looked_more}
@@ -12,7 +12,7 @@ loop-i-preserved c =
     record {
       in_range = bounds.1;
       so_far =
-        c.in_ok-i.ensures.found
-        ∙ ap (λ (l : List ℕ). l ++ ids (filter m (drop c.loop-i.i (take c.in_ok-i.i ns)))) c.loop-i.invariant.so_far
-        ∙ looked_more m ns c.loop-i.i c.in_ok-i.i (omega (arith, bounds.0));
+          c.in_ok-i.ensures.found
+          ∙ ap (λ (l : List ℕ). l ++ ids (filter m (drop c.loop-i.i (take c.in_ok-i.i ns)))) c.loop-i.invariant.so_far
+          ∙ looked_more m ns c.loop-i.i c.in_ok-i.i (omega (arith, bounds.0));
     }

@@ -1,5 +1,4 @@
-use Rattle.std.proofs.Common.{◌≡◌, ◌++◌, ◌≤◌, ℕ, List, length, take, drop, sym, ap, ◌∙◌, refl, arith}
-use Rattle.std.specs.Ordering.{ordering_then}
+use Rattle.std.proofs.Common.{◌++◌, ℕ, List, length, take, drop, sym, ap, ◌∙◌, arith}
 use Rattle.std.proofs.lemmas.List.{take-append-drop, length-take-le}
 use Rattle.zq_names.specs.Texts.{text_cmp}
 use Rattle.zq_names.proofs.Joined.{cmp-shorter, cmp-joined}

@@ -1,9 +1,9 @@
-use Rattle.std.proofs.Common.{◌≡◌, ℕ, ◌<◌, ◌≤◌, List, [], Option, Some, None, IfNone, length, take, get_or, sym, ap, subst, ◌∙◌, refl, arith}
+use Rattle.std.proofs.Common.{◌≡◌, ℕ, ◌<◌, List, Option, Some, None, length, take, get_or, sym, ap, ◌∙◌, arith}
 use Rattle.std.specs.List.{position}
 use Rattle.std.proofs.lemmas.List.{length-take-le, get_or-take, take-take}
 use Rattle.std.proofs.lemmas.List.Quantifiers.{position-Some}
 use Rattle.std.proofs.lemmas.Str.{IsCharBoundary-before_ascii, IsCharBoundary-start}
-use Rattle.zq_names.specs.Texts.{nonwild, parent_of, is_star_byte, cut_at_star, IsCutBefore}
+use Rattle.zq_names.specs.Texts.{parent_of, is_star_byte, cut_at_star, IsCutBefore}
 use Rattle.zq_names.proofs.order.cut_before_star.Goals as goal
 
 star_there : (t bytes : List ℕ) (r : Option ℕ) (k : ℕ) → bytes ≡ t → r ≡ position is_star_byte bytes → r ≡ Some k → position is_star_byte t ≡ Some k

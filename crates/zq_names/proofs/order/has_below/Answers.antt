@@ -1,7 +1,7 @@
-use Rattle.std.proofs.Common.{[], ◌∷◌, ◌++◌, ◌≡◌, ◌<◌, ◌≤◌, ℕ, List, length, get_or, sym, subst, ap, ◌∙◌, refl, arith}
+use Rattle.std.proofs.Common.{[], ◌∷◌, ◌++◌, ◌≡◌, ◌<◌, ℕ, List, length, get_or, subst, ◌∙◌, arith}
 use Rattle.std.proofs.lemmas.List.{get_or_default}
 use Rattle.zq_names.specs.Texts.{IsBelow}
-use Rattle.zq_names.specs.Names.{NameEntry, SplitsAt, rows, texts, text_at, row}
+use Rattle.zq_names.specs.Names.{NameEntry, SplitsAt, rows, texts, row}
 use Rattle.zq_names.proofs.Rows.{length-texts-rows, length-rows, text_at-rows}
 use Rattle.zq_names.proofs.Below.{first_below}
 use Rattle.zq_names.proofs.order.has_below.Goals as goal

@@ -1,6 +1,6 @@
-use Rattle.std.proofs.Common.{◌≡◌, ◌<◌, ◌≤◌, ◌++◌, ℕ, List, length, sym, ap, subst, refl, arith, ◌∙◌}
-use Rattle.zq_names.specs.Names.{rows, texts, IsGapAt, IsPlaceOf}
-use Rattle.zq_names.proofs.Rows.{length-texts-rows, length-rows, text_at-rows}
+use Rattle.std.proofs.Common.{◌≡◌, ◌<◌, ◌++◌, ℕ, List, length, sym, subst, arith, ◌∙◌}
+use Rattle.zq_names.specs.Names.{rows, IsGapAt}
+use Rattle.zq_names.proofs.Rows.{length-rows, text_at-rows}
 use Rattle.zq_names.proofs.TextOrder.{same_from_is_eq, gap_at_end, gap_before}
 use Rattle.zq_names.proofs.order.search.Goals as goal
 
@@ -31,4 +31,4 @@ returns-clause-gap c =
     let here : at < length order = omega arith in
     let G : List ℕ → Type 0 = λ (t : List ℕ). IsGapAt (rows nodes order) t at in
     subst G (both_parts c.as_bytes-front.ensures.value c.as_bytes-rest.ensures.value)
-      (gap_before _ _ _ c.requires.rising c.lower_bound-at.ensures (rw (text_at-rows nodes order at here) (sym c.if-is_joined.ensures)))
+    (gap_before _ _ _ c.requires.rising c.lower_bound-at.ensures (rw (text_at-rows nodes order at here) (sym c.if-is_joined.ensures)))

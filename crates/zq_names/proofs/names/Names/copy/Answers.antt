@@ -1,4 +1,4 @@
-use Rattle.std.proofs.Common.{◌≡◌, ℕ, List, sym, ap, subst, ◌∙◌}
+use Rattle.std.proofs.Common.{ℕ, List, sym, ap, subst, ◌∙◌}
 use Rattle.zq_names.specs.Names.{IsSound, rows}
 use Rattle.zq_names.proofs.Copies.{rows-copy, IsSound-copy}
 use Rattle.zq_names.proofs.names.Names.copy.Goals as goal

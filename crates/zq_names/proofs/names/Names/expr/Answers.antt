@@ -1,5 +1,5 @@
-use Rattle.std.proofs.Common.{◌≡◌, ◌+◌, ◌<◌, arith, refl, ap, sym, ◌∙◌, true}
-use Rattle.zq_names.specs.Names.{NameEntry, with_hold, without_hold, with_context, entry_at}
+use Rattle.std.proofs.Common.{ap, sym, ◌∙◌}
+use Rattle.zq_names.specs.Names.{NameEntry}
 use Rattle.zq_names.proofs.Table.{has_node, entry_is}
 use Rattle.zq_names.proofs.names.Names.expr.Goals as goal
 

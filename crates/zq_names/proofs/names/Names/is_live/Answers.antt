@@ -1,4 +1,3 @@
-use Rattle.std.proofs.Common.{rules}
 use Rattle.zq_names.proofs.Table.{has_node, live_number}
 use Rattle.zq_names.proofs.names.Names.is_live.Goals as goal
 

@@ -1,8 +1,8 @@
-use Rattle.std.proofs.Common.{◌≡◌, ℕ, ◌<◌, List, [], length, sym, ap, subst, ◌∙◌, refl, arith}
+use Rattle.std.proofs.Common.{◌≡◌, ◌<◌, length, sym, ap, ◌∙◌, arith}
 use Rattle.std.proofs.lemmas.Bool.Decides.{nat_tests}
 use Rattle.std.proofs.lemmas.List.{nil_from_length}
 use Rattle.zq_key.specs.Key.{is_key}
-use Rattle.zq_names.specs.Names.{NameEntry, rows, row, texts, slot_text}
+use Rattle.zq_names.specs.Names.{NameEntry, rows, row, slot_text}
 use Rattle.zq_names.proofs.Adding.{Contains-map}
 use Rattle.zq_names.proofs.Table.{has_node, entry_is, in_order}
 use Rattle.zq_names.proofs.names.Names.keyexpr.Goals as goal

@@ -1,4 +1,4 @@
-use Rattle.std.proofs.Common.{◌≡◌, ◌<◌, ◌+◌, length, sym, refl, arith, []}
+use Rattle.std.proofs.Common.{sym, arith, []}
 use Rattle.std.proofs.lemmas.Option.{get_or_from_slice_get, slice_get_within}
 use Rattle.zq_names.proofs.Rows.{length-rows}
 use Rattle.zq_names.proofs.Table.{HasText-at}

@@ -1,7 +1,7 @@
-use Rattle.std.proofs.Common.{◌≡◌, ◌+◌, ◌<◌, arith, refl, ap, sym, subst, ◌∙◌, true, List}
+use Rattle.std.proofs.Common.{arith, refl, ap, sym, subst, List}
 use Rattle.zq_names.specs.Keeping.{ChangesAt}
 use Rattle.zq_names.proofs.KeepingLemmas.{ChangesAt-change_at}
-use Rattle.zq_names.specs.Names.{NameEntry, with_hold, without_hold, with_context, entry_at}
+use Rattle.zq_names.specs.Names.{NameEntry, without_hold}
 use Rattle.zq_names.proofs.Table.{has_node, entry_is, view_written, sound_written}
 use Rattle.zq_names.proofs.names.Names.unhold.Goals as goal
 

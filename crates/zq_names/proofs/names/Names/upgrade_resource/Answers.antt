@@ -1,8 +1,8 @@
-use Rattle.std.proofs.Common.{◌≡◌, ◌+◌, ◌<◌, arith, refl, ap, sym, subst, ◌∙◌, true, List}
+use Rattle.std.proofs.Common.{refl, sym, subst, List}
 use Rattle.zq_names.specs.Keeping.{ChangesAt}
 use Rattle.zq_names.proofs.KeepingLemmas.{ChangesAt-change_at}
-use Rattle.zq_names.specs.Names.{NameEntry, with_hold, without_hold, with_context, entry_at}
-use Rattle.zq_names.proofs.Table.{has_node, entry_is, view_written, sound_written}
+use Rattle.zq_names.specs.Names.{NameEntry, with_context}
+use Rattle.zq_names.proofs.Table.{has_node, view_written, sound_written}
 use Rattle.zq_names.proofs.names.Names.upgrade_resource.Goals as goal
 
 pub index_mut-node-requires : goal.index_mut-node-requires
