@@ -77,11 +77,11 @@ scope_some names face w (Some r) is other = full_by_id names face w (Some r.0) i
 text_of_live : (names : List NameEntry) (n : ℕ) → Contains (ids names) n → Contains (texts names) (entry_at names n).text
 text_of_live [] n (k, lt, is) = absurd (omega arith)
 text_of_live (e ∷ es) n has = elim (cases_eq e.id n) [
-    inl same ↦ let here : eqb e.id n ≡ true = grind (arith, nat_tests) in rw here (zero, omega arith, refl)
+  | inl same ↦ let here : eqb e.id n ≡ true = grind (arith, nat_tests) in rw here (zero, omega arith, refl)
   | inr differ ↦
       let other : eqb e.id n ≡ false = grind (arith, nat_tests) in
       rw other (more (text_of_live es n (tail has differ)))
-  ]
+]
   where
     tail : Contains (e.id ∷ ids es) n → e.id ≢ n → Contains (ids es) n
     tail (zero, lt, same) differ = absurd (differ same)
@@ -100,9 +100,9 @@ id_of-absent names (p ∷ ps) t live absent =
     let u = (entry_at names p.1).text in
     let here = All-head (λ (p : ℕ × ℕ). Contains (ids names) p.1) p ps live in
     let other : bytes_eq u t ≡ false = false_from_ne_true (bytes_eq u t) (λ yes_eq.
-      let same = (bytes_eq-Decides u t).0 yes_eq in
-      let C : List ℕ → Type 0 = λ (x : List ℕ). Contains (texts names) x in
-      absent (subst C same (text_of_live names p.1 here))) in
+    let same = (bytes_eq-Decides u t).0 yes_eq in
+    let C : List ℕ → Type 0 = λ (x : List ℕ). Contains (texts names) x in
+    absent (subst C same (text_of_live names p.1 here))) in
     rw other (id_of-absent names ps t (All-tail (λ (p : ℕ × ℕ). Contains (ids names) p.1) p ps live) absent)
 
 pub id_of-found : (names : List NameEntry) (es : List (ℕ × ℕ)) (t : List ℕ) (r : ℕ) → AreLiveIds names es → (entry_at names r).text ≡ t → ((i : ℕ) → Contains (ids names) i → (entry_at names i).text ≡ t → i ≡ r) → id_of (id_texts names es) t ≡ least_id es r
@@ -112,14 +112,14 @@ id_of-found names (p ∷ ps) t r live is only =
     let here = All-head (λ (p : ℕ × ℕ). Contains (ids names) p.1) p ps live in
     let later = id_of-found names ps t r (All-tail (λ (p : ℕ × ℕ). Contains (ids names) p.1) p ps live) is only in
     elim (cases_eq p.1 r) [
-      inl same ↦
-        let equal : bytes_eq u t ≡ true = (bytes_eq-Decides u t).1 (ap (λ (n : ℕ). (entry_at names n).text) same ∙ is) in
-        let number : eqb p.1 r ≡ true = grind (arith, nat_tests) in
-        rw (equal, number)
-    | inr differ ↦
-        let unequal : bytes_eq u t ≡ false = false_from_ne_true (bytes_eq u t) (λ yes_eq. differ (only p.1 here ((bytes_eq-Decides u t).0 yes_eq))) in
-        let number : eqb p.1 r ≡ false = grind (arith, nat_tests) in
-        rw (unequal, number) later
+      | inl same ↦
+          let equal : bytes_eq u t ≡ true = (bytes_eq-Decides u t).1 (ap (λ (n : ℕ). (entry_at names n).text) same ∙ is) in
+          let number : eqb p.1 r ≡ true = grind (arith, nat_tests) in
+          rw (equal, number)
+      | inr differ ↦
+          let unequal : bytes_eq u t ≡ false = false_from_ne_true (bytes_eq u t) (λ yes_eq. differ (only p.1 here ((bytes_eq-Decides u t).0 yes_eq))) in
+          let number : eqb p.1 r ≡ false = grind (arith, nat_tests) in
+          rw (unequal, number) later
     ]
 
 -- ---- what is read in a best key
@@ -141,7 +141,7 @@ id_of-reads [] u i sorted is = absurd (none-some i is)
 id_of-reads (e ∷ es) u i sorted is = by (bytes_eq e.1 u) refl is (id_of-reads es u i (sorted_tail nat_cmp e.0 (keys_of es) sorted))
   where
     by : (b : Bool) → bytes_eq e.1 u ≡ b → option_map (λ (q : ℕ × List ℕ). q.0) (cond b (Some e) (find (λ (q : ℕ × List ℕ). bytes_eq q.1 u) es)) ≡ Some i
-      → (id_of es u ≡ Some i → (of_id es i ≡ Some u) × Contains (keys_of es) i) → (of_id (e ∷ es) i ≡ Some u) × Contains (keys_of (e ∷ es)) i
+        → (id_of es u ≡ Some i → (of_id es i ≡ Some u) × Contains (keys_of es) i) → (of_id (e ∷ es) i ≡ Some u) × Contains (keys_of (e ∷ es)) i
     by true eq here later =
         let same : e.0 ≡ i = same_Some _ _ here in
         let text : e.1 ≡ u = (bytes_eq-Decides e.1 u).0 eq in
@@ -234,7 +234,7 @@ id_texts-with_id names (e ∷ es) i n = by (nat_cmp i e.0) (id_texts-with_id nam
     t = (entry_at names n).text
 
     by : (o : Ordering) → id_texts names (with_id es i n) ≡ with_id (id_texts names es) i (entry_at names n).text
-      → id_texts names (match_ordering o ((i, n) ∷ e ∷ es) ((e.0, n) ∷ es) (e ∷ with_id es i n)) ≡ match_ordering o ((i, (entry_at names n).text) ∷ id_texts names (e ∷ es)) ((e.0, (entry_at names n).text) ∷ id_texts names es) ((e.0, (entry_at names e.1).text) ∷ with_id (id_texts names es) i (entry_at names n).text)
+        → id_texts names (match_ordering o ((i, n) ∷ e ∷ es) ((e.0, n) ∷ es) (e ∷ with_id es i n)) ≡ match_ordering o ((i, (entry_at names n).text) ∷ id_texts names (e ∷ es)) ((e.0, (entry_at names n).text) ∷ id_texts names es) ((e.0, (entry_at names e.1).text) ∷ with_id (id_texts names es) i (entry_at names n).text)
     by Less later = refl
     by Equal later = refl
     by Greater later = rw later
@@ -264,8 +264,8 @@ mapped_texts names names' old new i t r live stay named absent theirs ours =
     let same : (j : ℕ) → Contains (ids names) j → (entry_at names' j).text ≡ (entry_at names j).text = λ j has. (stay j has).1.text in
     let no_text : of_id (id_texts names old.theirs) i ≡ None = of_id-texts names old.theirs i ∙ ap (option_map (λ (n : ℕ). (entry_at names n).text)) absent in
     let first : id_texts names' new.theirs ≡ with_id (id_texts names old.theirs) i t =
-      ap (id_texts names') theirs ∙ id_texts-with_id names' old.theirs i r.0
-      ∙ rw (id_texts-kept names names' old.theirs same live.theirs, named.text) in
+    ap (id_texts names') theirs ∙ id_texts-with_id names' old.theirs i r.0
+    ∙ rw (id_texts-kept names names' old.theirs same live.theirs, named.text) in
     let second : id_texts names' new.ours ≡ id_texts names old.ours = ap (id_texts names') ours ∙ id_texts-kept names names' old.ours same live.ours in
     rw (no_text, first, second)
 

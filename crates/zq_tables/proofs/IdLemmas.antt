@@ -59,7 +59,7 @@ with_id-twice [] i a b = rw (itself i)
 with_id-twice (e ∷ es) i a b = by (nat_cmp i e.0) refl (with_id-twice es i a b)
   where
     by : (o : Ordering) → nat_cmp i e.0 ≡ o → with_id (with_id es i a) i b ≡ with_id es i b
-      → with_id (match_ordering o ((i, a) ∷ e ∷ es) ((e.0, a) ∷ es) (e ∷ with_id es i a)) i b ≡ match_ordering o ((i, b) ∷ e ∷ es) ((e.0, b) ∷ es) (e ∷ with_id es i b)
+        → with_id (match_ordering o ((i, a) ∷ e ∷ es) ((e.0, a) ∷ es) (e ∷ with_id es i a)) i b ≡ match_ordering o ((i, b) ∷ e ∷ es) ((e.0, b) ∷ es) (e ∷ with_id es i b)
     by Less is later = rw (itself i)
     by Equal is later = rw is
     by Greater is later = rw is (rw later)
@@ -69,7 +69,7 @@ without-with_id [] i a absent = rw (itself i)
 without-with_id (e ∷ es) i a absent = by (nat_cmp i e.0) refl (without-with_id es i a)
   where
     by : (o : Ordering) → nat_cmp i e.0 ≡ o → (of_id es i ≡ None → without_id (with_id es i a) i ≡ es)
-      → without_id (match_ordering o ((i, a) ∷ e ∷ es) ((e.0, a) ∷ es) (e ∷ with_id es i a)) i ≡ e ∷ es
+        → without_id (match_ordering o ((i, a) ∷ e ∷ es) ((e.0, a) ∷ es) (e ∷ with_id es i a)) i ≡ e ∷ es
     by Less is later = rw (itself i)
     by Equal is later = absurd (none-some e.1 (sym absent ∙ rw is))
     by Greater is later = rw is (rw (later (rw is at absent)))
@@ -114,13 +114,17 @@ free_from-least a b zero i k found = absurd (none-some k (sym (free_from-none a 
 free_from-least {X} a b (suc n) i k found = by (is_used a b i) refl (free_from-least a b n (i + 1) k)
   where
     by : (u : Bool) → is_used a b i ≡ u → (free_from a b n (i + 1) ≡ Some k → (i + 1 ≤ k) × (k < i + 1 + n) × (is_used a b k ≡ false) × ((j : ℕ) → i + 1 ≤ j → j < k → is_used a b j ≡ true))
-      → (i ≤ k) × (k < i + suc n) × (is_used a b k ≡ false) × ((j : ℕ) → i ≤ j → j < k → is_used a b j ≡ true)
+        → (i ≤ k) × (k < i + suc n) × (is_used a b k ≡ false) × ((j : ℕ) → i ≤ j → j < k → is_used a b j ≡ true)
     by true u later =
-        let rest = later (sym (free_from-used a b n i u) ∙ found) in
-        (omega (arith, rest.0), omega (arith, rest.1), rest.2, λ j le lt. elim (cases_eq j i) [
-          inl same ↦ rw same u
-        | inr differ ↦ rest.3 j (omega arith) lt
-        ])
+        let rest = later (sym (free_from-used a b n i u) ∙ found) in (
+          omega (arith, rest.0),
+          omega (arith, rest.1),
+          rest.2,
+          λ j le lt. elim (cases_eq j i) [
+            | inl same ↦ rw same u
+            | inr differ ↦ rest.3 j (omega arith) lt
+          ],
+        )
     by false u later =
         let same : i ≡ k = same_Some _ _ (sym (free_from-free a b n i u) ∙ found) in
         (omega arith, omega arith, rw (← same) u, λ j le lt. absurd (omega arith))
@@ -137,24 +141,24 @@ first_unused (Some x) b e = absurd (false≢true (sym e))
 
 pub IsFace-with_theirs : (theirs ours : List (ℕ × ℕ)) (free i n : ℕ) → 0 < i → IsFace theirs ours free → IsFace (with_id theirs i n) ours free
 IsFace-with_theirs theirs ours free i n positive face = record {
-    theirs_positive = All-keys-insert_entry nat_cmp i n (λ k. 0 < k) theirs face.theirs_positive positive;
-    ours_positive = face.ours_positive;
-    positive = face.positive;
-    used = λ j above below unused. elim (cases_eq j i) [
-        inl same ↦ false≢true (sym (first_unused (of_id (with_id theirs i n) j) (is_some (of_id ours j)) unused) ∙ ap is_some (ap (of_id (with_id theirs i n)) same ∙ of_id-with_id theirs i n))
-      | inr differ ↦ face.used j above below (rw (← of_id-with_other theirs i j n differ) unused)
-      ];
-  }
+  theirs_positive = All-keys-insert_entry nat_cmp i n (λ k. 0 < k) theirs face.theirs_positive positive;
+  ours_positive = face.ours_positive;
+  positive = face.positive;
+  used = λ j above below unused. elim (cases_eq j i) [
+    | inl same ↦ false≢true (sym (first_unused (of_id (with_id theirs i n) j) (is_some (of_id ours j)) unused) ∙ ap is_some (ap (of_id (with_id theirs i n)) same ∙ of_id-with_id theirs i n))
+    | inr differ ↦ face.used j above below (rw (← of_id-with_other theirs i j n differ) unused)
+  ];
+}
 
 pub IsFace-without_theirs : (theirs ours : List (ℕ × ℕ)) (free i n : ℕ) → of_id theirs i ≡ Some n → IsFace theirs ours free → IsFace (without_id theirs i) ours (min free i)
 IsFace-without_theirs theirs ours free i n is face = record {
-    theirs_positive = All-map-remove_entry (is_at (nat_cmp i)) (λ (e : ℕ × ℕ). e.0) (λ k. 0 < k) theirs face.theirs_positive;
-    ours_positive = face.ours_positive;
-    positive = omega (arith, face.positive, positive_id theirs i n face.theirs_positive is);
-    used = λ j above below unused.
+  theirs_positive = All-map-remove_entry (is_at (nat_cmp i)) (λ (e : ℕ × ℕ). e.0) (λ k. 0 < k) theirs face.theirs_positive;
+  ours_positive = face.ours_positive;
+  positive = omega (arith, face.positive, positive_id theirs i n face.theirs_positive is);
+  used = λ j above below unused.
       let differ : j ≢ i = omega arith in
       face.used j above (omega arith) (rw (← of_id-without_other theirs i j differ) unused);
-  }
+}
 
 true_from : (b : Bool) → (b ≡ false → ⊥) → b ≡ true
 true_from true never = refl
@@ -186,6 +190,6 @@ IsFace-declared theirs ours free i n found face =
       ours_positive = All-keys-insert_entry nat_cmp i n (λ k. 0 < k) ours face.ours_positive (omega (arith, least.0));
       positive = omega (arith, least.0);
       used = λ j above below unused.
-        let differ : j ≢ i = omega arith in
-        false≢true (sym (rw (of_id-with_other ours i j n differ) at unused) ∙ least.3 j above below);
+          let differ : j ≢ i = omega arith in
+          false≢true (sym (rw (of_id-with_other ours i j n differ) at unused) ∙ least.3 j above below);
     }

@@ -134,7 +134,12 @@ impl FaceNames {
     }
 
     /// The full text of an expression that the face sends, or None for an unknown scope.
-    pub fn full(&self, alloc: Global, names: &Names, wire: &WireExpr) -> Result<Option<Text>, OutOfMemory>
+    pub fn full(
+        &self,
+        alloc: Global,
+        names: &Names,
+        wire: &WireExpr,
+    ) -> Result<Option<Text>, OutOfMemory>
         requires { AreLive names.now self.now }
         ensures { IfOk result (λ t. t ≡ full_of (texts_of names.now self.now) wire.now) }
     {
@@ -147,7 +152,13 @@ impl FaceNames {
     /// Lets an id that the face declares stand for an expression's text. An id that stands for it already stays as it is.
     ///
     /// (`register_expr`)
-    pub fn register_expr(&mut self, alloc: Global, names: &mut Names, id: u16, wire: &WireExpr) -> Result<(), NameRefusal>
+    pub fn register_expr(
+        &mut self,
+        alloc: Global,
+        names: &mut Names,
+        id: u16,
+        wire: &WireExpr,
+    ) -> Result<(), NameRefusal>
         requires { AreLive names.old self.old }
         ensures accepted { OnOk result (register_refusal (texts_of names.old self.old) id wire.now ≡ None) }
         ensures reason { IfErr result (IsReason (register_refusal (texts_of names.old self.old) id wire.now)) }
@@ -174,7 +185,13 @@ impl FaceNames {
     }
 
     // Lets a new id stand for the text, of which the node is made. Room for the id is taken first, under a number that is set later.
-    fn map_new(&mut self, names: &mut Names, id: u16, from: ResourceId, suffix: &str) -> Result<(), NameRefusal>
+    fn map_new(
+        &mut self,
+        names: &mut Names,
+        id: u16,
+        from: ResourceId,
+        suffix: &str,
+    ) -> Result<(), NameRefusal>
         requires live { IsLive names.old from }
         requires new { of_id self.old.theirs id ≡ None }
         requires positive { 0 < id }
@@ -234,7 +251,13 @@ impl FaceNames {
     }
 
     /// The best key of the node's text followed by the suffix, in what is handed to the face. (`Resource::get_best_key`)
-    pub fn get_best_key(&self, alloc: Global, names: &Names, r: ResourceId, suffix: &str) -> Result<WireExpr, OutOfMemory>
+    pub fn get_best_key(
+        &self,
+        alloc: Global,
+        names: &Names,
+        r: ResourceId,
+        suffix: &str,
+    ) -> Result<WireExpr, OutOfMemory>
         requires live { IsLive names.now r }
         requires ids { AreLive names.now self.now }
         ensures best { IfOk result (λ w. w ≡ best_key (texts_of names.now self.now) ((entry_at names.now r.0).text ++ suffix.now)) }
@@ -258,7 +281,14 @@ impl FaceNames {
     }
 
     // The declared key of a text behind its part without a `*`, which has a node.
-    fn part_key(&mut self, alloc: Global, names: &Names, part: ResourceId, rest: &str, may: bool) -> Result<Option<DeclKey>, OutOfMemory>
+    fn part_key(
+        &mut self,
+        alloc: Global,
+        names: &Names,
+        part: ResourceId,
+        rest: &str,
+        may: bool,
+    ) -> Result<Option<DeclKey>, OutOfMemory>
         requires live { IsLive names.now part }
         requires ids { AreLive names.now self.old }
         ensures chosen { IfOk result (λ d. d ≡ part_choice (texts_of names.now self.old) may (entry_at names.now part.0).text rest.now) }
@@ -296,7 +326,14 @@ impl FaceNames {
     /// The declared key of the node's text: by an id of its part without a `*`, by a new id for that part, or whole.
     ///
     /// `local` is whether the face is local, and `may` whether a new id may be declared. (`Resource::decl_key`)
-    pub fn decl_key(&mut self, alloc: Global, names: &mut Names, r: ResourceId, local: bool, may: bool) -> Result<DeclKey, OutOfMemory>
+    pub fn decl_key(
+        &mut self,
+        alloc: Global,
+        names: &mut Names,
+        r: ResourceId,
+        local: bool,
+        may: bool,
+    ) -> Result<DeclKey, OutOfMemory>
         requires live { IsLive names.old r }
         requires ids { AreLive names.old self.old }
         ensures key { IfOk result (λ d. d ≡ declared_key (texts_of names.old self.old) local may (entry_at names.old r.0).text) }

@@ -59,12 +59,12 @@ on_ok (Err e) P Q p then_q = tt
 
 new_id : (names names' : _) (old new : FaceIds) (i : ℕ) (w : _) (t : List ℕ) → full_of (texts_of names old) w ≡ Some t → of_id old.theirs i ≡ None → AreLive names old → Maps names names' old new i t → Registers names names' old new i w
 new_id names names' old new i w t full absent live maps = record {
-    text = t;
-    full = full;
-    maps = rw absent maps;
-    texts = mapped_texts names names' old new i t maps.r live maps.kept maps.named absent maps.mapped maps.ours;
-    live = mapped_live names names' old new i t maps.r live maps.kept maps.named maps.mapped maps.ours;
-  }
+  text = t;
+  full = full;
+  maps = rw absent maps;
+  texts = mapped_texts names names' old new i t maps.r live maps.kept maps.named absent maps.mapped maps.ours;
+  live = mapped_live names names' old new i t maps.r live maps.kept maps.named maps.mapped maps.ours;
+}
 
 pub returns-clause-accepted : goal.returns-clause-accepted
 returns-clause-accepted c =
