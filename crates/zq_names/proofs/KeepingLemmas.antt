@@ -208,16 +208,16 @@ none_come-removed_at ns at lt once j has =
     gone_once (ids ns) at (omega (arith, n)) once (subst R (sym (number_at ns at d lt ∙ same)) left) in
     ((was.0, was.1, was.3), Keeps-removed_at ns at j lt differ)
 
-NoneCome-more : (a b c : List NameEntry) → NoneCome a b → NoneCome b c → NoneCome a c
+pub NoneCome-more : (a b c : List NameEntry) → NoneCome a b → NoneCome b c → NoneCome a c
 NoneCome-more a b c first second i has =
     let later = second i has in
     let earlier = first i later.0 in
     (earlier.0, record { text = later.1.text ∙ earlier.1.text; holds = later.1.holds ∙ earlier.1.holds })
 
-NoneCome-same : (a : List NameEntry) → NoneCome a a
+pub NoneCome-same : (a : List NameEntry) → NoneCome a a
 NoneCome-same a i has = (has, record { text = refl; holds = refl })
 
-once_removed_at : (ns : List NameEntry) (at : ℕ) → at < length ns → Once (ids ns) → Once (ids (removed_at ns at))
+pub once_removed_at : (ns : List NameEntry) (at : ℕ) → at < length ns → Once (ids ns) → Once (ids (removed_at ns at))
 once_removed_at ns at lt once = subst Once (sym (ids-removed_at ns at)) (Once-remove (ids ns) at (omega (arith, length-map ns (λ (e : NameEntry). e.id))) once)
 
 pub none_come-cleans : (old new : List NameEntry) (t : List ℕ) → Once (ids old) → Cleans old t new → NoneCome old new

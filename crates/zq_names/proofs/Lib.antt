@@ -15,3 +15,4 @@ pub mod Fresh
 pub mod Fronts
 pub mod Copies
 pub mod KeepingLemmas
+pub mod ClosingLemmas

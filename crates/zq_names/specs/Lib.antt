@@ -4,3 +4,4 @@ pub mod Matching
 pub mod Forgetting
 pub mod Copying
 pub mod Keeping
+pub mod Closing

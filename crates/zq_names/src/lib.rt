@@ -4,11 +4,13 @@
 //! - `refusal`: why a name or an id is refused
 //! - `order`: the nodes in the order of their texts, and the search in it
 //! - `edit`: how nodes come and go
+//! - `close`: how all nodes below a text go
 //! - `forget`: how a number leaves the matches of other nodes
 //! - `matching`: the nodes whose texts meet a key, without a test of every node
 //! - `names`: `Names`, which callers use
 #![tactic(auto)]
 
+mod close;
 mod edit;
 mod forget;
 mod matching;

@@ -4,10 +4,12 @@ ghost use Rattle.std.specs.List.{Contains};
 ghost use Rattle.std.specs.String.{string_bytes};
 ghost use Rattle.zq_key.specs.Key.{is_key as key_of};
 ghost use Rattle.zq_names.specs.Names.{IsLive, entry_at, entry_of, change_at, with_hold, without_hold, with_context, texts, HasText, Makes, Cleans, ids};
+ghost use Rattle.zq_names.specs.Closing.{Closes};
 ghost use Rattle.zq_names.specs.Keeping.{AllStay, ChangesAt, NoneCome};
 ghost use Rattle.zq_names.specs.Texts.{last_part, nonwild};
 ghost use Rattle.zq_names.specs.Matching.{number, is_match};
 
+use crate::close::close_at;
 use crate::edit::{add_text, clean_from};
 use crate::matching::matches_of;
 use crate::node::{Node, ResourceId, ResourceList};
@@ -254,6 +256,25 @@ impl Names {
     {
         let place = place_of(&self.nodes, &self.order, r.0 as usize);
         clean_from(&mut self.nodes, &mut self.order, place);
+    }
+
+    /// Takes out all nodes below the node, and the node unless it is the root, held or not. (`Resource::close`)
+    pub fn close(&mut self, r: ResourceId)
+        requires { IsLive self.old r }
+        ensures closes { Closes self.old (entry_at self.old r.0).text self.new }
+        ensures kept { NoneCome self.old self.new }
+    {
+        let place = place_of(&self.nodes, &self.order, r.0 as usize);
+        close_at(&mut self.nodes, &mut self.order, place);
+    }
+
+    /// The node's matches.
+    pub fn matches(&self, r: ResourceId) -> &[ResourceId]
+        requires { IsLive self.now r }
+        ensures { result.now ≡ (entry_at self.now r.0).matches }
+    {
+        let node = &self.nodes[r.0 as usize];
+        &node.matches
     }
 
     /// The nodes with a context whose texts the key meets, by text.
