@@ -42,10 +42,10 @@ later_place ts at j rising in_at in_j (r, is) =
     let u = get_or ts at [] in
     let above : text_cmp u (get_or ts j []) ≡ Less = ap (text_cmp u) is ∙ below_is_above u r in
     elim (cases_lt at j) [
-      inl lt ↦ lt
-    | inr not_lt ↦ elim (cases_eq at j) [
-        inl same ↦ absurd (not_below_itself u (rw (ap (λ q. get_or ts q []) (sym same)) at above))
-      | inr differ ↦ absurd (not_below_itself u (Less-trans u (get_or ts j []) u above (Less-from_sorted text_cmp ts j at [] rising (omega arith) in_at)))
+      | inl lt ↦ lt
+      | inr not_lt ↦ elim (cases_eq at j) [
+        | inl same ↦ absurd (not_below_itself u (rw (ap (λ q. get_or ts q []) (sym same)) at above))
+        | inr differ ↦ absurd (not_below_itself u (Less-trans u (get_or ts j []) u above (Less-from_sorted text_cmp ts j at [] rising (omega arith) in_at)))
       ]
     ]
 
@@ -69,9 +69,9 @@ run-root numbers ns names some =
       in_range = omega arith;
       inside = λ k above below. rw root (longer (text_at ns k) (rw root at (Less-from_sorted text_cmp ts 0 k [] names.rising (omega arith) (omega (arith, n)))));
       before = λ k lt below.
-        let first : k ≡ 0 = omega arith in
-        let none : 0 < 0 = rw (first, root) at below in
-        omega arith;
+          let first : k ≡ 0 = omega arith in
+          let none : 0 < 0 = rw (first, root) at below in
+          omega arith;
       after = λ k le lt below. omega arith;
     }
   where
@@ -91,13 +91,13 @@ run-below numbers ns (c ∷ t) place low high names in_place past is first last 
     let n = length-texts ns in
     record {
       stands = elim (cases_lt place low) [
-        inl lt ↦ lt
-      | inr not_lt ↦ absurd (first.from place not_lt in_place (rw is (below_is_above p [])))
+        | inl lt ↦ lt
+        | inr not_lt ↦ absurd (first.from place not_lt in_place (rw is (below_is_above p [])))
       ];
       text = is;
       order = elim (cases_lt high low) [
-        inl lt ↦ absurd (last.from high (omega arith) (omega (arith, first.in_range)) (Less-trans (text_at ns high) (p ++ 47 ∷ []) (p ++ 48 ∷ []) (first.before high lt) (run_is_less p [] 47)))
-      | inr not_lt ↦ not_lt
+        | inl lt ↦ absurd (last.from high (omega arith) (omega (arith, first.in_range)) (Less-trans (text_at ns high) (p ++ 47 ∷ []) (p ++ 48 ∷ []) (first.before high lt) (run_is_less p [] 47)))
+        | inr not_lt ↦ not_lt
       ];
       in_range = last.in_range;
       inside = λ k above below. squeezed_run p (text_at ns k) [] 47 (first.from k above (omega (arith, below, last.in_range))) (last.before k below);
@@ -128,8 +128,8 @@ lonely-own ns (c ∷ t) place low run some s (j, in_j, is) below =
     let T : List ℕ → Type 0 = λ (x : List ℕ). IsBelow x s in
     let under : IsBelow (c ∷ t) (text_at ns j) = subst B (sym here) (subst T run.text below) in
     elim (cases_lt j low) [
-      inl lt ↦ run.before j lt under
-    | inr not_lt ↦ run.after j not_lt (omega (arith, n)) under
+      | inl lt ↦ run.before j lt under
+      | inr not_lt ↦ run.after j not_lt (omega (arith, n)) under
     ]
 
 -- the texts after a removal
@@ -162,9 +162,9 @@ run-shorter ns t place low high at run le last =
 
 pub closed-run : (ns : List NameEntry) (t : List ℕ) (place low : ℕ) → IsRun ns t place low low → ClosesBelow ns t ns
 closed-run ns t place low run = done ns t (λ k lt under. elim (cases_lt k low) [
-    inl below ↦ run.before k below under
+  | inl below ↦ run.before k below under
   | inr above ↦ run.after k above lt under
-  ])
+])
 
 pub own-root : (ns : List NameEntry) (t : List ℕ) (new : List NameEntry) → t ≡ [] → new ≡ ns → TakesOwn ns t new
 own-root ns [] new root same = same

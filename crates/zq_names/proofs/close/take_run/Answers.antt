@@ -26,8 +26,8 @@ loop-end-preserved c =
       sound = c.remove_at-text.ensures.sound;
       run = subst R (sym c.remove_at-text.ensures.rows) (run-shorter ns t c.args.place c.args.low end (end - 1) old.run le last);
       rest = λ new closes.
-        let C : List NameEntry → Type 0 = λ (v : List NameEntry). ClosesBelow v t new in
-        old.rest new (more ns new t (end - 1) (omega (arith, old.run.in_range)) (old.run.inside (end - 1) le (omega arith)) (subst C c.remove_at-text.ensures.rows closes));
+          let C : List NameEntry → Type 0 = λ (v : List NameEntry). ClosesBelow v t new in
+          old.rest new (more ns new t (end - 1) (omega (arith, old.run.in_range)) (old.run.inside (end - 1) le (omega arith)) (subst C c.remove_at-text.ensures.rows closes));
     }
 
 empty_run : (ns : List NameEntry) (t : List ℕ) (place low end : ℕ) → end ≤ low → IsRun ns t place low end → IsRun ns t place low low

@@ -16,9 +16,9 @@ returns-clause-closes c =
     let order = c.self.inside.order.items in
     let i = c.args.r.0 in
     let text : (entry_at c.args.self.now i).text ≡ text_at (rows nodes order) c.place_of-place.result =
-      ap (λ (ns : List NameEntry). (entry_at ns i).text) (sym c.self.view_is)
-      ∙ ap (λ (e : NameEntry). e.text) (entry_at-rows nodes order i (in_order _ _ _ _ c.self.view_is c.requires))
-      ∙ sym (rw c.deref.ensures.value at c.place_of-place.ensures.is) in
+    ap (λ (ns : List NameEntry). (entry_at ns i).text) (sym c.self.view_is)
+    ∙ ap (λ (e : NameEntry). e.text) (entry_at-rows nodes order i (in_order _ _ _ _ c.self.view_is c.requires))
+    ∙ sym (rw c.deref.ensures.value at c.place_of-place.ensures.is) in
     rw text (rw (← c.self.view_is) c.close_at.ensures.closes)
 
 once : (nodes : List (Option Node)) (order : List ℕ) (ns : List NameEntry) → rows nodes order ≡ ns → IsTable nodes order → Once (ids ns)
