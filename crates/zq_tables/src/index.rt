@@ -4,7 +4,7 @@ ghost use Rattle.zq_tables.specs.Region.{HasIndex, region_index, region_at, mode
 
 use zq_key::message::{Mode, Region};
 
-/// The region's place in the order of regions.
+/// The region's place in the order of regions: North, Local, and each South id with its three modes.
 pub fn region_to_index(r: &Region) -> usize
     requires { HasIndex r.now }
     ensures index { result ≡ region_index r.now }
@@ -54,7 +54,7 @@ fn mode_at(n: usize) -> Mode
     }
 }
 
-/// A region comes back from its index.
+/// The law that a region comes back from its index.
 pub fn round_trip(r: &Region) -> Region
     requires { HasIndex r.now }
     ensures { result ≡ r.now }

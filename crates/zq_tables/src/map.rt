@@ -21,7 +21,9 @@ use std::ops::{Index, IndexMut};
 use zq_key::memory::OutOfMemory;
 use zq_key::message::Region;
 
-/// A value for some regions.
+/// A value for some regions, seen as the list of indices with values, by rising index. (`RegionMap`)
+///
+/// There is no `Default`, since an empty map keeps the allocator for what is put in.
 #[derive(Drop)]
 pub struct RegionMap<D> {
     entries: BTreeMap<usize, D>,
@@ -39,6 +41,7 @@ impl<D> Model for RegionMap<D> {
 }
 
 impl<D> RegionMap<D> {
+    /// A map without values.
     pub fn new(alloc: Global) -> RegionMap<D>
         ensures { result ≡ [] }
     {
@@ -47,6 +50,7 @@ impl<D> RegionMap<D> {
         }
     }
 
+    /// The region's value, None where it has none.
     pub fn get(&self, r: &Region) -> Option<&D>
         requires { HasIndex r.now }
         ensures { option_copied result ≡ value_at self.now r.now }
@@ -54,6 +58,7 @@ impl<D> RegionMap<D> {
         self.entries.get(&region_to_index(r))
     }
 
+    /// The region's value, to be changed in place.
     pub fn get_mut(&mut self, r: &Region) -> Option<&mut D>
         requires { HasIndex r.now }
         ensures* writes_back { sem 𝓛 (LendsEntry D.row self.entry r.now result) }
@@ -63,6 +68,7 @@ impl<D> RegionMap<D> {
         self.entries.get_mut(&i)
     }
 
+    /// Gives the region a value, and answers the one that it had. Want of memory changes nothing.
     pub fn insert(&mut self, r: Region, d: D) -> Result<Option<D>, OutOfMemory>
     where
         D: Drop,
@@ -105,8 +111,12 @@ impl<D> RegionMap<D> {
         }
     }
 
-    /// A map of the results of `f` at each value.
-    pub fn map_ref<E, F: Fn(&D) -> E>(&self, alloc: Global, f: F) -> Result<RegionMap<E>, OutOfMemory>
+    /// The same regions, each with what `f` makes of its value.
+    pub fn map_ref<E, F: Fn(&D) -> E>(
+        &self,
+        alloc: Global,
+        f: F,
+    ) -> Result<RegionMap<E>, OutOfMemory>
     where
         E: Drop,
         F: Drop,
@@ -120,7 +130,7 @@ impl<D> RegionMap<D> {
         Ok(RegionMap { entries })
     }
 
-    /// A map of the results of `f` at each value.
+    /// The same regions, each with what `f` makes of its value, which it takes.
     pub fn map<E, F: Fn(D) -> E>(self, alloc: Global, f: F) -> Result<RegionMap<E>, OutOfMemory>
     where
         D: Drop,
@@ -136,8 +146,12 @@ impl<D> RegionMap<D> {
         Ok(RegionMap { entries })
     }
 
-    /// The region's value and the other entries.
-    pub fn partition(&self, alloc: Global, r: &Region) -> Result<Option<(&D, RegionMap<&D>)>, OutOfMemory>
+    /// The region's value and the other entries, None where the region has no value.
+    pub fn partition(
+        &self,
+        alloc: Global,
+        r: &Region,
+    ) -> Result<Option<(&D, RegionMap<&D>)>, OutOfMemory>
         requires { HasIndex r.now }
         ensures absent { IfOk result (λ parts. IsNone parts ↔ (value_at self.now r.now ≡ None)) }
         ensures value { IfOk result (λ parts. IfSome parts (λ p. value_at self.now r.now ≡ Some p.0.now)) }
@@ -157,7 +171,10 @@ impl<D> RegionMap<D> {
     }
 
     /// The map of these entries, a later one in the place of an earlier.
-    pub fn from_entries(alloc: Global, entries: Vec<(Region, D)>) -> Result<RegionMap<D>, OutOfMemory>
+    pub fn from_entries(
+        alloc: Global,
+        entries: Vec<(Region, D)>,
+    ) -> Result<RegionMap<D>, OutOfMemory>
     where
         D: Drop,
         requires { All (λ e. HasIndex e.0) entries.items }
@@ -170,6 +187,7 @@ impl<D> RegionMap<D> {
         Ok(made)
     }
 
+    /// Drops all values.
     pub fn clear(&mut self)
     where
         D: Drop,

@@ -1,0 +1,9 @@
+use Rattle.std.proofs.Common.{◌≤◌, length}
+use Rattle.zq_names.proofs.Apart.{AgreesTo}
+use Rattle.zq_names.proofs.matching.apart.Given as goal
+
+abbrev pub invariant-loop-k : goal.invariant-loop-k
+invariant-loop-k l = record {
+  within : l.k ≤ length l.key;
+  agrees : AgreesTo l.text l.key l.k;
+}

@@ -1,0 +1,7 @@
+pub mod Texts
+pub mod Names
+pub mod Matching
+pub mod Forgetting
+pub mod Copying
+pub mod Keeping
+pub mod Closing

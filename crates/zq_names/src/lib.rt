@@ -1,0 +1,27 @@
+//! The names: every text that stands for something, as a node with marks.
+//!
+//! - `node`: what is kept of a text, and the number that names it
+//! - `refusal`: why a name or an id is refused
+//! - `order`: the nodes in the order of their texts, and the search in it
+//! - `edit`: how nodes come and go
+//! - `close`: how all nodes below a text go
+//! - `forget`: how a number leaves the matches of other nodes
+//! - `matching`: the nodes whose texts meet a key, without a test of every node
+//! - `names`: `Names`, which callers use
+#![tactic(auto)]
+
+mod close;
+mod edit;
+mod forget;
+mod matching;
+pub mod names;
+pub mod node;
+mod order;
+pub mod refusal;
+
+pub use names::Names;
+pub use node::{ResourceId, ResourceList};
+pub use refusal::NameRefusal;
+
+#[cfg(test)]
+mod tests;

@@ -1,0 +1,111 @@
+//! The nodes whose texts meet a key.
+//!
+//! The nodes are looked at in the order of their texts. Where the first bytes of a text already show that it doesn't meet the key,
+//! all texts that begin with these bytes are passed over by one search, so that a plain key isn't compared to every plain text.
+ghost use Rattle.std.specs.Prelude.{◌≡◌, ◌+◌, ◌<◌, ◌≤◌, ◌++◌, ◌∷◌, [], true, length, map, take, drop, filter, slice_index, IfOk, IfSome};
+ghost use Rattle.zq_key.specs.Key.{is_key};
+ghost use Rattle.zq_names.specs.Names.{IsTable, NameEntry, rows, ids, SplitsAt};
+ghost use Rattle.zq_names.specs.Matching.{number, is_match, is_wild, IsApartAt};
+
+use crate::node::{Node, ResourceId};
+use crate::order::lower_bound;
+use slab::Slab;
+use std::alloc::Global;
+use zq_key::intersects;
+use zq_key::memory::OutOfMemory;
+
+// Whether a byte may be of a `*` or of a `$*`.
+fn may_be_wild(byte: u8) -> bool
+    ensures { result ≡ is_wild byte }
+{
+    byte == b'*' || byte == b'$'
+}
+
+// The place of the first byte that shows that the text, and any that begins like it up to there, doesn't meet the key.
+fn apart(text: &[u8], key: &[u8]) -> Option<usize>
+    ensures { IfSome result (IsApartAt text.now key.now) }
+{
+    for k in 0..text.len() {
+        let byte = text[k];
+        if may_be_wild(byte) || byte == 255 {
+            return None;
+        }
+        if k >= key.len() {
+            if byte == b'/' {
+                return None;
+            }
+            return Some(k);
+        }
+        if may_be_wild(key[k]) {
+            return None;
+        }
+        if byte != key[k] {
+            return Some(k);
+        }
+    }
+    None
+}
+
+// The first place after those whose texts begin with the head and the byte.
+fn after_run(nodes: &Slab<Node>, order: &[usize], head: &[u8], byte: u8) -> usize
+    requires table { IsTable nodes.now.slots order.now }
+    requires byte { byte < 255 }
+    ensures { SplitsAt (rows nodes.now.slots order.now) (head.now ++ (byte + 1) ∷ []) result }
+{
+    lower_bound(nodes, order, head, &[byte + 1])
+}
+
+// Looks at the node at a place, and gives the next place to look at.
+fn look(
+    nodes: &Slab<Node>,
+    order: &[usize],
+    found: &mut Vec<ResourceId>,
+    i: usize,
+    key: &str,
+) -> Result<usize, OutOfMemory>
+    requires table { IsTable nodes.now.slots order.now }
+    requires in_range { i < length order.now }
+    requires key { is_key key.now ≡ true }
+    ensures bounds { IfOk result (λ j. (i < j) × (j ≤ length order.now)) }
+    ensures found { IfOk result (λ j. map number found.new.items ≡ map number found.old.items ++ ids (filter (is_match key.now) (drop i (take j (rows nodes.now.slots order.now))))) }
+{
+    let id = order[i];
+    let node = &nodes[id];
+    let text = node.text.as_str();
+    let bytes = text.as_bytes();
+    if let Some(k) = apart(bytes, key.as_bytes()) {
+        return Ok(after_run(nodes, order, &bytes[..k], bytes[k]));
+    }
+    if !node.context {
+        return Ok(i + 1);
+    }
+    if text.is_empty() {
+        return Ok(i + 1);
+    }
+    if !intersects(text, key) {
+        return Ok(i + 1);
+    }
+    match found.push(ResourceId(id as u64)) {
+        Ok(()) => Ok(i + 1),
+        Err(_) => Err(OutOfMemory),
+    }
+}
+
+// The nodes with a context whose texts the key meets, by text.
+pub(crate) fn matches_of(
+    alloc: Global,
+    nodes: &Slab<Node>,
+    order: &[usize],
+    key: &str,
+) -> Result<Vec<ResourceId>, OutOfMemory>
+    requires table { IsTable nodes.now.slots order.now }
+    requires key { is_key key.now ≡ true }
+    ensures { IfOk result (λ rs. map number rs.items ≡ ids (filter (is_match key.now) (rows nodes.now.slots order.now))) }
+{
+    let mut found = Vec::new(alloc);
+    let mut i = 0;
+    while i < order.len() {
+        i = look(nodes, order, &mut found, i, key)?;
+    }
+    Ok(found)
+}

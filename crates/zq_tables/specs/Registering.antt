@@ -1,0 +1,25 @@
+-- What it means that an id came to stand for a text.
+use Rattle.std.specs.Prelude.{◌≡◌, ℕ, List, Some, MatchOption}
+use Rattle.zq_key.specs.declared.message.WireExpr.{WireExpr}
+use Rattle.zq_names.specs.declared.node.ResourceId.{ResourceId}
+use Rattle.zq_names.specs.Names.{NameEntry, Makes, HasText}
+use Rattle.zq_names.specs.Keeping.{AllStay}
+use Rattle.zq_tables.specs.FaceIds.{FaceIds, of_id, with_id, AreLive}
+use Rattle.zq_tables.specs.FaceTexts.{texts_of, full_of, registered}
+
+-- the text was made, and its number stands under the id
+pub record Maps (names names' : List NameEntry) (old new : FaceIds) (i : ℕ) (t : List ℕ) : Type 0 where
+  pub r : ResourceId
+  pub made : Makes names names' r t
+  pub named : HasText names' r t
+  pub kept : AllStay names names'
+  pub mapped : new.theirs ≡ with_id old.theirs i r.0
+  pub ours : new.ours ≡ old.ours
+
+-- the id was mapped, or stood for the text before; as lists of texts, one id more stands for it
+pub record Registers (names names' : List NameEntry) (old new : FaceIds) (i : ℕ) (w : WireExpr) : Type 0 where
+  pub text : List ℕ
+  pub full : full_of (texts_of names old) w ≡ Some text
+  pub maps : MatchOption (of_id old.theirs i) (Maps names names' old new i text) (λ _. (new ≡ old) × (names' ≡ names))
+  pub texts : texts_of names' new ≡ registered (texts_of names old) i text
+  pub live : AreLive names' new

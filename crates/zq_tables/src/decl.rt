@@ -1,0 +1,9 @@
+//! The key under which a text is declared to a face.
+use zq_key::message::WireExpr;
+
+/// An expression, and the id that has to be declared for it first, if a new one is needed.
+#[derive(Debug, Drop)]
+pub struct DeclKey {
+    pub wire: WireExpr,
+    pub declared: Option<u16>,
+}

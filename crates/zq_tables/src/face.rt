@@ -1,0 +1,408 @@
+//! The ids of one face.
+ghost use Rattle.std.specs.Prelude.{◌≡◌, ◌+◌, ◌<◌, ◌≤◌, ◌++◌, [], None, Some, Err, IfOk, IfErr, IfSome, IfNone, OnOk, OnErr, MatchOption, option_map, is_some, true, false};
+ghost use Rattle.std.specs.Str.{IsCharBoundary};
+ghost use Rattle.std.specs.List.{Contains};
+ghost use Rattle.zq_key.specs.Key.{is_key as key_of};
+ghost use Rattle.zq_names.specs.Names.{IsLive, HasText, Makes, entry_at};
+ghost use Rattle.zq_tables.specs.FaceIds.{of_id, with_id, without_id, side, sent_side, is_used as used_of, next_id, AreLive};
+ghost use Rattle.zq_tables.specs.Registering.{Maps, Registers};
+ghost use Rattle.zq_tables.specs.FaceTexts.{texts_of, full_of, read_by, known as known_of, part_choice, declared_ids, best_part as part_of, best_key, declared_key, with_declared, registered, register_refusal, IsReason};
+
+use crate::choice::{expression, joined, least_id, whole_key};
+use crate::decl::DeclKey;
+use std::alloc::Global;
+use std::collections::BTreeMap;
+use std::marker::Model;
+use zq_key::is_key;
+use zq_key::memory::OutOfMemory;
+use zq_key::message::{Mapping, WireExpr};
+use zq_key::text::Text;
+use zq_names::{NameRefusal, Names, ResourceId};
+
+/// The ids that a face declared and those that were declared to it, each with the node that it stands for.
+///
+/// (`FaceState::remote_mappings` and `FaceState::local_mappings`)
+#[derive(Drop)]
+pub struct FaceNames {
+    theirs: BTreeMap<u16, u64>,
+    ours: BTreeMap<u16, u64>,
+    // each id from 1 on below this one is in use
+    free: u16,
+}
+
+impl Model for FaceNames {
+    ghost use Rattle.zq_tables.specs.FaceIds.{FaceIds, IsFace};
+
+    ghost Value = { FaceIds };
+
+    ghost view = { λ s. record { theirs = s.theirs.entries; ours = s.ours.entries } };
+
+    ghost invariant = { λ s. IsFace s.theirs.entries s.ours.entries s.free };
+}
+
+impl FaceNames {
+    /// A face without ids, which keeps the allocator for those to come.
+    pub fn new(alloc: Global) -> FaceNames
+        ensures theirs { result.theirs ≡ [] }
+        ensures ours { result.ours ≡ [] }
+    {
+        FaceNames {
+            theirs: BTreeMap::new(alloc),
+            ours: BTreeMap::new(alloc),
+            free: 1,
+        }
+    }
+
+    /// The node of an id in what the face sends. (`FaceState::get_mapping`)
+    pub fn get_mapping(&self, scope: u16, mapping: Mapping) -> Option<ResourceId>
+        ensures { option_map (λ r. r.0) result ≡ of_id (side self.now mapping) scope }
+    {
+        let found = match mapping {
+            Mapping::Sender => self.theirs.get(&scope).copied(),
+            Mapping::Receiver => self.ours.get(&scope).copied(),
+        };
+        match found {
+            Some(node) => Some(ResourceId(node)),
+            None => None,
+        }
+    }
+
+    /// The node of an id in what is handed to the face. (`FaceState::get_sent_mapping`)
+    pub fn get_sent_mapping(&self, scope: u16, mapping: Mapping) -> Option<ResourceId>
+        ensures { option_map (λ r. r.0) result ≡ of_id (sent_side self.now mapping) scope }
+    {
+        let found = match mapping {
+            Mapping::Sender => self.ours.get(&scope).copied(),
+            Mapping::Receiver => self.theirs.get(&scope).copied(),
+        };
+        match found {
+            Some(node) => Some(ResourceId(node)),
+            None => None,
+        }
+    }
+
+    fn is_used(&self, id: u16) -> bool
+        ensures { result ≡ used_of self.now.theirs self.now.ours id }
+    {
+        if self.theirs.contains_key(&id) {
+            return true;
+        }
+        self.ours.contains_key(&id)
+    }
+
+    /// The least id from 1 on that neither side uses. (`FaceState::get_next_local_id`)
+    pub fn get_next_local_id(&self) -> Option<u16>
+        ensures { result ≡ next_id self.now.theirs self.now.ours }
+    {
+        for id in self.free..=65535 {
+            if !self.is_used(id) {
+                return Some(id);
+            }
+        }
+        None
+    }
+
+    /// Drops an id that the face declared. The node stays as it is. (`unregister_expr`)
+    pub fn unregister_expr(&mut self, _names: &mut Names, id: u16) -> Result<(), NameRefusal>
+        ensures ok { OnOk result (self.new ≡ record self.old { theirs = without_id self.old.theirs id }) }
+        ensures known { OnOk result (is_some (of_id self.old.theirs id) ≡ true) }
+        ensures unknown { OnErr result (of_id self.old.theirs id ≡ None) }
+        ensures reason { IfErr result (λ e. e ≡ NameRefusal.UnknownId) }
+        ensures refused { OnErr result (self.new ≡ self.old) }
+        ensures names { _names.new ≡ _names.old }
+    {
+        match self.theirs.remove(&id) {
+            Some(_) => {
+                self.free = self.free.min(id);
+                Ok(())
+            }
+            None => Err(NameRefusal::UnknownId),
+        }
+    }
+
+    // The node of an expression's scope.
+    fn scope_node(&self, names: &Names, wire: &WireExpr) -> Option<ResourceId>
+        requires { AreLive names.now self.now }
+        ensures none { IfNone result (full_of (texts_of names.now self.now) wire.now ≡ None) }
+        ensures live { IfSome result (λ r. IsLive names.now r) }
+        ensures some { IfSome result (λ r. full_of (texts_of names.now self.now) wire.now ≡ Some ((entry_at names.now r.0).text ++ wire.now.suffix)) }
+    {
+        if wire.scope == 0 {
+            return Some(names.root());
+        }
+        self.get_mapping(wire.scope, wire.mapping)
+    }
+
+    /// The full text of an expression that the face sends, or None for an unknown scope.
+    pub fn full(
+        &self,
+        alloc: Global,
+        names: &Names,
+        wire: &WireExpr,
+    ) -> Result<Option<Text>, OutOfMemory>
+        requires { AreLive names.now self.now }
+        ensures { IfOk result (λ t. t ≡ full_of (texts_of names.now self.now) wire.now) }
+    {
+        let Some(from) = self.scope_node(names, wire) else {
+            return Ok(None);
+        };
+        Ok(Some(joined(alloc, names.expr(from), wire.suffix.as_str())?))
+    }
+
+    /// Lets an id that the face declares stand for an expression's text. An id that stands for it already stays as it is.
+    ///
+    /// (`register_expr`)
+    pub fn register_expr(
+        &mut self,
+        alloc: Global,
+        names: &mut Names,
+        id: u16,
+        wire: &WireExpr,
+    ) -> Result<(), NameRefusal>
+        requires { AreLive names.old self.old }
+        ensures accepted { OnOk result (register_refusal (texts_of names.old self.old) id wire.now ≡ None) }
+        ensures reason { IfErr result (IsReason (register_refusal (texts_of names.old self.old) id wire.now)) }
+        ensures refused { OnErr result ((self.new ≡ self.old) × (names.new ≡ names.old)) }
+        ensures ids { OnOk result (Registers names.old names.new self.old self.new id wire.now) }
+    {
+        let Some(from) = self.scope_node(names, wire) else {
+            return Err(NameRefusal::UnknownScope);
+        };
+        let text = joined(alloc, names.expr(from), wire.suffix.as_str())?;
+        if !is_key(text.as_str()) {
+            return Err(NameRefusal::InvalidKeyExpr);
+        }
+        if id == 0 {
+            return Err(NameRefusal::Remapped);
+        }
+        if let Some(node) = self.get_mapping(id, Mapping::Sender) {
+            if names.expr(node) == text.as_str() {
+                return Ok(());
+            }
+            return Err(NameRefusal::Remapped);
+        }
+        self.map_new(names, id, from, wire.suffix.as_str())
+    }
+
+    // Lets a new id stand for the text, of which the node is made. Room for the id is taken first, under a number that is set later.
+    fn map_new(
+        &mut self,
+        names: &mut Names,
+        id: u16,
+        from: ResourceId,
+        suffix: &str,
+    ) -> Result<(), NameRefusal>
+        requires live { IsLive names.old from }
+        requires new { of_id self.old.theirs id ≡ None }
+        requires positive { 0 < id }
+        ensures ok { OnOk result (Maps names.old names.new self.old self.new id ((entry_at names.old from.0).text ++ suffix.now)) }
+        ensures err { OnErr result ((self.new ≡ self.old) × (names.new ≡ names.old)) }
+        ensures only { IfErr result (λ e. key_of ((entry_at names.old from.0).text ++ suffix.now) ≡ true → e ≡ NameRefusal.OutOfMemory) }
+    {
+        hold_place(&mut self.theirs, id)?;
+        match names.make_resource(from, suffix) {
+            Ok(r) => {
+                fill_place(&mut self.theirs, id, r.0);
+                Ok(())
+            }
+            Err(refusal) => {
+                self.theirs.remove(&id);
+                Err(refusal)
+            }
+        }
+    }
+
+    // The id that names the text to the face, its own first.
+    fn known(&self, names: &Names, text: &str) -> Option<(u16, Mapping)>
+        requires { AreLive names.now self.now }
+        ensures { result ≡ known_of (texts_of names.now self.now) text.now }
+    {
+        let Some(node) = names.get_resource(names.root(), text) else {
+            return None;
+        };
+        if let Some(id) = least_id(&self.theirs, node.0) {
+            return Some((id, Mapping::Receiver));
+        }
+        if let Some(id) = least_id(&self.ours, node.0) {
+            return Some((id, Mapping::Sender));
+        }
+        None
+    }
+
+    // The longest part of the text that is known to the face.
+    fn best_part(&self, names: &Names, text: &str) -> Option<(u16, Mapping, usize)>
+        requires { AreLive names.now self.now }
+        ensures best { result ≡ part_of (texts_of names.now self.now) text.now }
+        ensures in_text { IfSome result (λ p. IsCharBoundary text.now p.2) }
+    {
+        let bytes = text.as_bytes();
+        if let Some((id, mapping)) = self.known(names, text) {
+            return Some((id, mapping, bytes.len()));
+        }
+        for k in (0..bytes.len()).rev() {
+            if bytes[k] != b'/' {
+                continue;
+            }
+            if let Some((id, mapping)) = self.known(names, &text[..k]) {
+                return Some((id, mapping, k));
+            }
+        }
+        None
+    }
+
+    /// The best key of the node's text followed by the suffix, in what is handed to the face. (`Resource::get_best_key`)
+    pub fn get_best_key(
+        &self,
+        alloc: Global,
+        names: &Names,
+        r: ResourceId,
+        suffix: &str,
+    ) -> Result<WireExpr, OutOfMemory>
+        requires live { IsLive names.now r }
+        requires ids { AreLive names.now self.now }
+        ensures best { IfOk result (λ w. w ≡ best_key (texts_of names.now self.now) ((entry_at names.now r.0).text ++ suffix.now)) }
+        ensures reads { IfOk result (λ w. read_by (texts_of names.now self.now) w ≡ Some ((entry_at names.now r.0).text ++ suffix.now)) }
+    {
+        let _theirs = self.theirs.len();
+        let _ours = self.ours.len();
+        let text = joined(alloc, names.expr(r), suffix)?;
+        expression(alloc, self.best_part(names, text.as_str()), text.as_str())
+    }
+
+    // Lets the least free id, which the gateway declares, stand for a node.
+    fn declare(&mut self, id: u16, node: ResourceId) -> Result<(), OutOfMemory>
+        requires { next_id self.old.theirs self.old.ours ≡ Some id }
+        ensures ok { OnOk result (self.new ≡ record self.old { ours = with_id self.old.ours id node.0 }) }
+        ensures err { OnErr result (self.new ≡ self.old) }
+    {
+        put_id(&mut self.ours, id, node.0)?;
+        self.free = id;
+        Ok(())
+    }
+
+    // The declared key of a text behind its part without a `*`, which has a node.
+    fn part_key(
+        &mut self,
+        alloc: Global,
+        names: &Names,
+        part: ResourceId,
+        rest: &str,
+        may: bool,
+    ) -> Result<Option<DeclKey>, OutOfMemory>
+        requires live { IsLive names.now part }
+        requires ids { AreLive names.now self.old }
+        ensures chosen { IfOk result (λ d. d ≡ part_choice (texts_of names.now self.old) may (entry_at names.now part.0).text rest.now) }
+        ensures ids { IfOk result (λ d. self.new ≡ declared_ids self.old part.0 d) }
+        ensures err { OnErr result (self.new ≡ self.old) }
+    {
+        let suffix = Text::new(alloc, rest)?;
+        if let Some((scope, mapping)) = self.known(names, names.expr(part)) {
+            return Ok(Some(DeclKey {
+                wire: WireExpr {
+                    scope,
+                    mapping,
+                    suffix,
+                },
+                declared: None,
+            }));
+        }
+        if !may {
+            return Ok(None);
+        }
+        let Some(id) = self.get_next_local_id() else {
+            return Ok(None);
+        };
+        self.declare(id, part)?;
+        Ok(Some(DeclKey {
+            wire: WireExpr {
+                scope: id,
+                mapping: Mapping::Sender,
+                suffix,
+            },
+            declared: Some(id),
+        }))
+    }
+
+    /// The declared key of the node's text: by an id of its part without a `*`, by a new id for that part, or whole.
+    ///
+    /// `local` is whether the face is local, and `may` whether a new id may be declared. (`Resource::decl_key`)
+    pub fn decl_key(
+        &mut self,
+        alloc: Global,
+        names: &mut Names,
+        r: ResourceId,
+        local: bool,
+        may: bool,
+    ) -> Result<DeclKey, OutOfMemory>
+        requires live { IsLive names.old r }
+        requires ids { AreLive names.old self.old }
+        ensures key { IfOk result (λ d. d ≡ declared_key (texts_of names.old self.old) local may (entry_at names.old r.0).text) }
+        ensures texts { IfOk result (λ d. texts_of names.new self.new ≡ with_declared (texts_of names.old self.old) (entry_at names.old r.0).text d.declared) }
+        ensures live { AreLive names.new self.new }
+        ensures err { OnErr result (self.new ≡ self.old) }
+        ensures names { names.new ≡ names.old }
+    {
+        let text = names.expr(r);
+        if local {
+            return whole_key(alloc, text);
+        }
+        let (Some(part), rest) = names.nonwild_prefix(r) else {
+            return whole_key(alloc, text);
+        };
+        if text.is_empty() {
+            return whole_key(alloc, text);
+        }
+        match self.part_key(alloc, names, part, rest, may)? {
+            Some(key) => Ok(key),
+            None => whole_key(alloc, text),
+        }
+    }
+
+    /// An equal face.
+    pub fn copy(&self, alloc: Global) -> Result<FaceNames, OutOfMemory>
+        ensures { IfOk result (λ f. f ≡ self.now) }
+    {
+        Ok(FaceNames {
+            theirs: copy_ids(alloc, &self.theirs)?,
+            ours: copy_ids(alloc, &self.ours)?,
+            free: self.free,
+        })
+    }
+}
+
+// Lets an id stand for a node.
+fn put_id(ids: &mut BTreeMap<u16, u64>, id: u16, node: u64) -> Result<(), OutOfMemory>
+    ensures ok { OnOk result (ids.new.entries ≡ with_id ids.old.entries id node) }
+    ensures err { OnErr result (ids.new.entries ≡ ids.old.entries) }
+{
+    match ids.insert(id, node) {
+        Ok(_) => Ok(()),
+        Err(_) => Err(OutOfMemory),
+    }
+}
+
+fn copy_ids(_alloc: Global, ids: &BTreeMap<u16, u64>) -> Result<BTreeMap<u16, u64>, OutOfMemory>
+    ensures { IfOk result (λ copy. copy.entries ≡ ids.now.entries) }
+{
+    Ok(ids.clone()?)
+}
+
+// Puts the id in with no node yet.
+fn hold_place(ids: &mut BTreeMap<u16, u64>, id: u16) -> Result<(), NameRefusal>
+    ensures ok { OnOk result (ids.new.entries ≡ with_id ids.old.entries id 0) }
+    ensures err { OnErr result (ids.new.entries ≡ ids.old.entries) }
+    ensures only { IfErr result (λ e. e ≡ NameRefusal.OutOfMemory) }
+{
+    match ids.insert(id, 0) {
+        Ok(_) => Ok(()),
+        Err(_) => Err(NameRefusal::OutOfMemory),
+    }
+}
+
+// Gives an id that is there its node.
+fn fill_place(ids: &mut BTreeMap<u16, u64>, id: u16, node: u64)
+    requires { is_some (of_id ids.old.entries id) ≡ true }
+    ensures { ids.new.entries ≡ with_id ids.old.entries id node }
+{
+    let _ = ids.insert(id, node);
+}
