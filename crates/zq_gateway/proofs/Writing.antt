@@ -5,10 +5,14 @@ use Rattle.zq_key.proofs.Naturals.{map-map}
 use Rattle.zq_key.specs.declared.message.Response.{Response}
 use Rattle.zq_query.specs.declared.records.Final.{Final}
 use Rattle.zq_query.specs.declared.records.ReplyTo.{ReplyTo}
+use Rattle.std.specs.List.{filter}
+use Rattle.zq_query.specs.declared.records.Timeout.{Timeout}
+use Rattle.zq_query.specs.Polling.{has_number_for}
+use Rattle.zq_gateway.specs.declared.face.OpenFace.{OpenFace}
 use Rattle.zq_naming.specs.Naming.{NamingState}
 use Rattle.zq_gateway.specs.declared.call.Handed.{Handed}
-use Rattle.zq_gateway.specs.Deciding.{handed_final, handed_reply, handed_replies}
-use Rattle.zq_gateway.specs.Machine.{written, sent_final, sent_reply, sent_replies}
+use Rattle.zq_gateway.specs.Deciding.{handed_final, handed_reply, handed_replies, handed_timeouts, timed_out}
+use Rattle.zq_gateway.specs.Machine.{written, sent_final, sent_reply, sent_replies, sent_timeout}
 
 pub finals_written : (names : NamingState) (fs : List Final) → map (written names) (map handed_final fs) ≡ map sent_final fs
 finals_written names fs = map-map handed_final (written names) sent_final (λ f. refl) fs
@@ -19,3 +23,6 @@ replies_written names text r to = at (is_some to.reply)
     at : (b : Bool) → map (written names) (cond b (handed_reply text r to ∷ []) []) ≡ cond b (sent_reply text r to ∷ []) []
     at true = refl
     at false = refl
+
+pub timeouts_written : (names : NamingState) (faces : List (ℕ × OpenFace)) (ts : List Timeout) → map (written names) (handed_timeouts faces ts) ≡ map (sent_timeout faces) (filter has_number_for ts)
+timeouts_written names faces ts = map-map (timed_out faces) (written names) (sent_timeout faces) (λ t. refl) (filter has_number_for ts)

@@ -49,7 +49,6 @@ is_built config (call.Open o) = not (has_region config.entries o.region) || (is_
 is_built config (call.Interest face id keys wire) = false
 is_built config (call.InterestFinal face id) = false
 is_built config (call.FinalizeInterest face mark set) = false
-is_built config (call.Poll now) = false
 is_built config (call.SetNetwork r net) = false
 is_built config (call.SetNodeIds face ids) = false
 is_built config c = true

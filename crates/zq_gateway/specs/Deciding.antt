@@ -1,5 +1,5 @@
 -- What a call is answered, over texts: the first cause that refuses it, or what it hands and changes.
-use Rattle.std.specs.Prelude.{ℕ, ◌+◌, ◌-◌, ◌^◌, ◌==◌, min, Bool, true, false, not, ◌&&◌, ◌||◌, List, [], ◌∷◌, ◌++◌, map, length, Option, Some, None, if◌then◌else◌, unwrap_or, option_to_list, is_none}
+use Rattle.std.specs.Prelude.{codes, ℕ, ◌+◌, ◌-◌, ◌^◌, ◌==◌, min, Bool, true, false, not, ◌&&◌, ◌||◌, List, [], ◌∷◌, ◌++◌, map, length, Option, Some, None, if◌then◌else◌, unwrap_or, option_to_list, is_none}
 use Rattle.std.specs.List.{filter, flat_map, list_any}
 use Rattle.std.specs.Option.{is_some, option_map, option_map_or}
 use Rattle.std.specs.Ordering.{nat_cmp}
@@ -22,7 +22,8 @@ use Rattle.zq_query.specs.declared.records.Final.{Final}
 use Rattle.zq_query.specs.declared.records.ReplyTo.{ReplyTo}
 use Rattle.zq_query.specs.declared.records.Timeout.{Timeout}
 use Rattle.zq_query.specs.Records.{QueryState, is_pending, is_in_flight, is_entry, letting_go, over_after, landing, over_after_reply, final_if_open, next_reply, after_reply, needs_number}
-use Rattle.zq_query.specs.Closing.{closing_finals, after_close}
+use Rattle.zq_query.specs.Closing.{closing_finals, after_close, finals_after, finals_landed}
+use Rattle.zq_query.specs.Polling.{timeouts, after_poll, lacks_replies, has_number_for}
 use Rattle.zq_query.specs.Asking.{lacks_number, given_id, after_ask}
 use Rattle.zq_naming.specs.declared.said.Said.{Said}
 use Rattle.zq_naming.specs.declared.said.Said.TheVariants as said
@@ -37,16 +38,8 @@ use Rattle.zq_gateway.specs.declared.call.Step.{Step}
 use Rattle.zq_gateway.specs.declared.face.OpenFace.{OpenFace}
 use Rattle.zq_gateway.specs.State.{Core, State, at, is_open, has_hat, hat_of, has_declared_in, clashes_in, joined, change_hat, change_hat_of}
 use Rattle.zq_gateway.specs.TextCalls.{TextCall, opening, closing, naming, unnaming, declaring, withdrawing, asking, replying, ending, reporting, passing, listing, unbuilt}
-use Rattle.zq_gateway.specs.Selecting.{select, target_of, is_unscoped, says_key, says_key_or_nothing, full_text}
+use Rattle.zq_gateway.specs.Selecting.{select, target_of, zid_of, is_unscoped, says_key, says_key_or_nothing, full_text}
 
-abbrev pub lacks_reply_numbers : ℕ → QueryState → Bool
-lacks_reply_numbers now q = false
-abbrev pub timeouts : ℕ → QueryState → List Timeout
-timeouts f q = []
-abbrev pub handed_timeout : Timeout → List Handed
-handed_timeout t = []
-abbrev pub after_poll : ℕ → QueryState → QueryState
-after_poll f q = q
 -- ---- causes of a refusal
 
 -- a cause that may hold, and the refusal that it gives
@@ -107,7 +100,7 @@ causes c (replying face s r) =
     ∷ (not (says_key_or_nothing s), refusal.InvalidKeyExpr) ∷ (lacks_reply_number face r.rid c.queries, refusal.NoFreeId) ∷ []
 causes c (ending face rid) = unknown_face face c ∷ (not (is_pending face.0 rid c.queries.records), refusal.QueryNotFound) ∷ []
 causes c (reporting reply) = (not (is_in_flight reply c.queries.records), refusal.NotInFlight) ∷ []
-causes c (passing now) = (lacks_reply_numbers now c.queries, refusal.NoFreeId) ∷ []
+causes c (passing now) = (lacks_replies (timeouts now c.queries) c.queries, refusal.NoFreeId) ∷ []
 causes c (listing r table) = (not (has_hat r c), refusal.UnknownRegion) ∷ []
 causes c unbuilt = []
 
@@ -165,6 +158,23 @@ handed_reply text r to = record {
 abbrev pub handed_replies : List ℕ → Response → ReplyTo → List Handed
 handed_replies text r to = if is_some to.reply then handed_reply text r to ∷ [] else []
 
+-- the word of a reply that a deadline gives
+abbrev pub timeout_word : List ℕ
+timeout_word = codes "Timeout"
+
+-- an error reply to the asker, in the place of a target that was too late
+abbrev pub timed_out : List (ℕ × OpenFace) → Timeout → Handed
+timed_out faces t = record {
+    to = t.asker;
+    number = Some t.number;
+    reply = t.reply;
+    message = message.Response (record { rid = t.id; wire = plain []; qos = t.qos; payload = body.Err timeout_word; responder = zid_of t.target.0 faces });
+    leaves = None }
+
+-- a closed asker is handed nothing
+abbrev pub handed_timeouts : List (ℕ × OpenFace) → List Timeout → List Handed
+handed_timeouts faces ts = map (timed_out faces) (filter has_number_for ts)
+
 abbrev pub replied : List ℕ → Response → Option ReplyTo → Step
 replied text r None = refused refusal.QueryNotFound
 replied text r (Some to) = record { outcome = outcome.Replied to.reply; handed = handed_replies text r to }
@@ -179,9 +189,9 @@ granted c (declaring face id s info node) = done []
 granted c (withdrawing face id) = done []
 granted c (asking face s r now) = record { outcome = outcome.Asked c.queries.requests; handed = handed_requests c.queries face (full_text s) r (select c face s r.target) }
 granted c (replying face s r) = replied (full_text s) r (next_reply face.0 r.rid c.queries)
-granted c (ending face rid) = done (map handed_final (option_to_list (final_if_open c.queries.closed (over_after (is_entry face.0 rid) c.queries.records))))
-granted c (reporting reply) = done (map handed_final (option_to_list (final_if_open c.queries.closed (over_after_reply reply c.queries.records))))
-granted c (passing now) = done (flat_map handed_timeout (timeouts now c.queries))
+granted c (ending face rid) = done (map handed_final (finals_after (is_entry face.0 rid) c.queries.closed c.queries.records))
+granted c (reporting reply) = done (map handed_final (finals_landed reply c.queries.closed c.queries.records))
+granted c (passing now) = done (handed_timeouts c.faces (timeouts now c.queries))
 granted c (listing r table) = done []
 granted c unbuilt = done []
 

@@ -5,3 +5,4 @@ pub mod TextCalls
 pub mod Selecting
 pub mod Deciding
 pub mod Machine
+pub mod Headline

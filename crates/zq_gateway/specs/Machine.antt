@@ -6,6 +6,8 @@ use Rattle.zq_key.specs.declared.message.Message.TheVariants as message
 use Rattle.zq_key.specs.declared.message.Response.{Response}
 use Rattle.zq_query.specs.declared.records.Final.{Final}
 use Rattle.zq_query.specs.declared.records.ReplyTo.{ReplyTo}
+use Rattle.zq_query.specs.declared.records.Timeout.{Timeout}
+use Rattle.zq_gateway.specs.declared.face.OpenFace.{OpenFace}
 use Rattle.zq_naming.specs.Naming.{FaceNaming, NamingState, best, face_naming}
 use Rattle.zq_gateway.specs.declared.call.Call.{Call}
 use Rattle.zq_gateway.specs.declared.call.Handed.{Handed}
@@ -13,7 +15,7 @@ use Rattle.zq_gateway.specs.declared.call.Step.{Step}
 use Rattle.zq_gateway.specs.Configs.{Settings}
 use Rattle.zq_gateway.specs.State.{Core, State, opening_state}
 use Rattle.zq_gateway.specs.TextCalls.{TextCall, read}
-use Rattle.zq_gateway.specs.Deciding.{handed_final, handed_reply, decide, accepted, renamed, is_accepted}
+use Rattle.zq_gateway.specs.Deciding.{handed_final, handed_reply, timed_out, decide, accepted, renamed, is_accepted}
 
 -- a request is written with the best number that its receiver knows; all else is written whole
 abbrev pub written_message : FaceNaming → Message → Message
@@ -43,6 +45,9 @@ sent_reply text r to = leaving (handed_reply text r to).message (handed_reply te
 
 abbrev pub sent_replies : List ℕ → Response → ReplyTo → List Handed
 sent_replies text r to = if is_some to.reply then sent_reply text r to ∷ [] else []
+
+abbrev pub sent_timeout : List (ℕ × OpenFace) → Timeout → Handed
+sent_timeout faces t = leaving (timed_out faces t).message (timed_out faces t)
 
 -- what a call whose expressions are read is answered
 abbrev pub answer : State → TextCall → Step

@@ -126,7 +126,6 @@ impl Call {
             Call::Interest { .. } => false,
             Call::InterestFinal { .. } => false,
             Call::FinalizeInterest { .. } => false,
-            Call::Poll { .. } => false,
             Call::SetNetwork { .. } => false,
             Call::SetNodeIds { .. } => false,
             _ => true,

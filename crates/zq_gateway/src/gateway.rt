@@ -14,13 +14,14 @@ ghost use Rattle.zq_gateway.specs.Selecting.{full_text, is_unscoped, says_key, s
 ghost use Rattle.zq_gateway.specs.Machine.{accepted_state, after, answer, follow, step, write};
 ghost use Rattle.zq_gateway.specs.State.{at, change_hat, face_region, is_open, joined, opening_state};
 ghost use Rattle.zq_naming.specs.Naming.{face_naming, no_names, text_at};
-ghost use Rattle.zq_gateway.specs.TextCalls.{asking, closing, declaring, ending, listing, naming, opening, replying, reporting, unnaming, withdrawing};
+ghost use Rattle.zq_gateway.specs.TextCalls.{asking, closing, declaring, ending, listing, naming, opening, passing, replying, reporting, unnaming, withdrawing};
 
 use crate::call::{Call, Opening, Outcome, Refusal, Step};
 use crate::config::Config;
 use crate::face::OpenFace;
 use crate::handed::{
     final_in, room_for_final, written_finals, written_replies, written_requests,
+    written_timeouts,
 };
 use crate::hats;
 use crate::select::Asker;
@@ -37,7 +38,7 @@ use zq_key::{Key, KeyError, is_key};
 use zq_naming::naming::Naming;
 use zq_naming::said::Said;
 use zq_query::queries::Queries;
-use zq_query::records::{AskRefusal, ReplyRefusal, ReplyTo};
+use zq_query::records::{AskRefusal, PollRefusal, ReplyRefusal, ReplyTo};
 use zq_route::gateways::Gateways;
 use zq_tables::RegionMap;
 
@@ -136,7 +137,7 @@ impl Gateway {
             }
             Call::ResponseFinal { face, rid } => self.response_final(*face, *rid),
             Call::Sent { reply } => self.report(*reply),
-            Call::Poll { .. } => unreachable!(),
+            Call::Poll { now } => self.poll(*now),
             Call::SetGateways { region, table } => self.set_gateways(*region, table),
             Call::Interest { .. } => unreachable!(),
             Call::InterestFinal { .. } => unreachable!(),
@@ -434,6 +435,29 @@ impl Gateway {
             Err(ReplyRefusal::OutOfMemory) => Err(OutOfMemory),
             Err(ReplyRefusal::QueryNotFound) => unreachable!(),
             Err(ReplyRefusal::NoFreeId) => unreachable!(),
+        }
+    }
+
+    // A moment has come: entries whose deadlines have come are let go.
+    #[tactic(auto, using(crate::proofs::Writing::timeouts_written))]
+    fn poll(&mut self, now: u64) -> Result<Step, OutOfMemory>
+        ensures step { IfOk result (λ t. t ≡ answer self.old (passing now)) }
+        ensures after { OnOk result (self.new ≡ follow self.old (passing now)) }
+        ensures err { OnErr result (self.new ≡ self.old) }
+    {
+        let timeouts = match self.queries.would_poll(now) {
+            Ok(timeouts) => timeouts,
+            Err(PollRefusal::NoFreeId) => return Ok(self.refused(Refusal::NoFreeId)),
+            Err(PollRefusal::OutOfMemory) => return Err(OutOfMemory),
+        };
+        let handed = written_timeouts(self.alloc, &self.faces, timeouts.as_slice())?;
+        match self.queries.poll(now) {
+            Ok(_) => Ok(Step {
+                outcome: Outcome::Done,
+                handed,
+            }),
+            Err(PollRefusal::OutOfMemory) => Err(OutOfMemory),
+            Err(PollRefusal::NoFreeId) => unreachable!(),
         }
     }
 

@@ -1,21 +1,29 @@
 //! The messages that a step hands.
-ghost use Rattle.std.specs.Prelude.{◌≡◌, ◌<◌, [], ◌∷◌, IfOk, IfSome, map, option_to_list, vec_capacity, vec_len};
+ghost use Rattle.std.specs.Prelude.{◌≡◌, ◌<◌, [], ◌∷◌, IfOk, IfSome, map, vec_capacity, vec_len};
+ghost use Rattle.std.specs.List.{cons_option, filter};
 ghost use Rattle.zq_naming.specs.Naming.{face_naming, plain};
+ghost use Rattle.zq_query.specs.Polling.{has_number_for};
+ghost use Rattle.zq_gateway.specs.Selecting.{zid_of};
 ghost use Rattle.zq_query.specs.Asking.{given_id};
-ghost use Rattle.zq_gateway.specs.Machine.{sent_final, sent_replies, written, written_message};
-ghost use Rattle.zq_gateway.specs.Deciding.{handed_request, handed_requests};
+ghost use Rattle.zq_gateway.specs.Machine.{sent_final, sent_replies, sent_timeout, written, written_message};
+ghost use Rattle.zq_gateway.specs.Deciding.{timed_out, timeout_word, handed_request, handed_requests};
 ghost use Rattle.zq_key.specs.declared.message.Message.{Message};
 
 use crate::call::{Handed, HandedList};
+use crate::face::OpenFace;
+use crate::select::zid_of;
 use std::alloc::{AllocError, Global};
+use std::collections::BTreeMap;
 use zq_hat::types::QueryTargetQabl;
 use zq_key::items::Items;
 use zq_key::memory::OutOfMemory;
-use zq_key::message::{FaceId, Mapping, Message, Request, Response, ResponseFinal, WireExpr};
-use zq_key::text::Text;
+use zq_key::message::{
+    FaceId, Mapping, Message, ReplyBody, Request, Response, ResponseFinal, WireExpr,
+};
+use zq_key::text::{Bytes, Text};
 use zq_naming::naming::Naming;
 use zq_query::queries::Queries;
-use zq_query::records::{Final, ReplyTo};
+use zq_query::records::{Final, ReplyTo, Timeout};
 
 /// A final to its asker. It takes no memory.
 pub fn written_final(last: Final) -> Handed
@@ -46,7 +54,7 @@ pub fn room_for_final(alloc: Global) -> Result<Vec<Handed>, AllocError>
 pub fn final_in(mut room: Vec<Handed>, last: Option<Final>) -> HandedList
     requires empty { room.items ≡ [] }
     requires room { vec_len room < vec_capacity room }
-    ensures { result ≡ map sent_final (option_to_list last) }
+    ensures { result ≡ map sent_final (cons_option last []) }
 {
     if let Some(last) = last {
         match room.push(written_final(last)) {
@@ -211,5 +219,56 @@ pub fn written_requests(
         id: request.id,
         qos: request.qos,
     }))?;
+    Ok(handed)
+}
+
+fn timeout_message(
+    alloc: Global,
+    faces: &BTreeMap<u32, OpenFace>,
+    timeout: &Timeout,
+) -> Result<Response, OutOfMemory>
+    ensures { IfOk result (λ r. Message.Response r ≡ (timed_out faces.now.entries timeout.now).message) }
+{
+    Ok(Response {
+        rid: timeout.id,
+        wire: whole(alloc, "")?,
+        qos: timeout.qos,
+        payload: ReplyBody::Err(Bytes::new(alloc, b"Timeout")?),
+        responder: zid_of(faces, timeout.target),
+    })
+}
+
+fn written_timeout(
+    alloc: Global,
+    faces: &BTreeMap<u32, OpenFace>,
+    timeout: &Timeout,
+) -> Result<Handed, OutOfMemory>
+    ensures { IfOk result (λ h. h ≡ sent_timeout faces.now.entries timeout.now) }
+{
+    let message = timeout_message(alloc, faces, timeout)?;
+    let leaves = message.copy(alloc)?;
+    Ok(Handed {
+        to: timeout.asker,
+        number: Some(timeout.number),
+        reply: timeout.reply,
+        message: Message::Response(message),
+        leaves: Some(Message::Response(leaves)),
+    })
+}
+
+/// Error replies to the askers that are open.
+pub fn written_timeouts(
+    alloc: Global,
+    faces: &BTreeMap<u32, OpenFace>,
+    timeouts: &[Timeout],
+) -> Result<HandedList, OutOfMemory>
+    ensures { IfOk result (λ l. l ≡ map (sent_timeout faces.now.entries) (filter has_number_for timeouts.now)) }
+{
+    let mut handed = Items::new(alloc);
+    for timeout in timeouts {
+        if timeout.reply.is_some() {
+            handed.push(written_timeout(alloc, faces, timeout)?)?;
+        }
+    }
     Ok(handed)
 }

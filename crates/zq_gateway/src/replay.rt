@@ -1,8 +1,11 @@
 //! Whole runs.
-ghost use Rattle.std.specs.Prelude.{◌≡◌, IfOk, true};
+ghost use Rattle.std.specs.Prelude.{◌≡◌, ◌++◌, ◌∷◌, IfOk, List, true};
 ghost use Rattle.std.specs.List.{AllByRecursion};
 ghost use Rattle.zq_gateway.specs.Calls.{is_built};
-ghost use Rattle.zq_gateway.specs.Machine.{steps};
+ghost use Rattle.zq_gateway.specs.Machine.{state_after, steps};
+ghost use Rattle.zq_gateway.specs.State.{opening_state};
+ghost use Rattle.zq_gateway.specs.Headline.{KeepsPromises};
+ghost use Rattle.zq_gateway.specs.declared.call.Call.{Call};
 
 use crate::call::{Call, Replay};
 use crate::config::Config;
@@ -15,6 +18,7 @@ use zq_key::memory::OutOfMemory;
 pub fn replay(alloc: Global, config: &Config, calls: &[Call]) -> Result<Replay, OutOfMemory>
     requires { AllByRecursion (λ c. is_built config.now c ≡ true) calls.now }
     ensures machine { IfOk result (λ r. r.steps ≡ steps config.now calls.now) }
+    ensures promises { IfOk result (λ _. (before rest : List Call) (c : Call) → calls.now ≡ before ++ c ∷ rest → KeepsPromises (state_after (opening_state config.now) before) c) }
 {
     let mut gateway = Gateway::new(alloc, config)?;
     let mut steps = Items::new(alloc);

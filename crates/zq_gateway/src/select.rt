@@ -22,7 +22,8 @@ use zq_route::selection::compute_final_route;
 use zq_tables::RegionMap;
 
 
-fn zid_of(faces: &BTreeMap<u32, OpenFace>, face: FaceId) -> Option<Zid>
+/// The id of an open face.
+pub fn zid_of(faces: &BTreeMap<u32, OpenFace>, face: FaceId) -> Option<Zid>
     ensures { result ≡ zid_of face.0 faces.now.entries }
 {
     match faces.get(&face.0) {

@@ -1,4 +1,4 @@
-//! What faces and the gateway call keys by number.
+//! What faces and the gateway call keys by number, and the best key of a text.
 //!
 //! - `said`: what an expression says, once its number is read
 //! - `naming`: the numbers of every open face
@@ -6,3 +6,5 @@
 
 pub mod naming;
 pub mod said;
+#[cfg(test)]
+mod tests;

@@ -1,0 +1,306 @@
+-- What each call of a run promises of requests, replies and refusals.
+use Rattle.std.proofs.Common.{◌≡◌, ℕ, ◌+◌, ◌<◌, ◌^◌, Bool, true, false, cond, not, List, [], ◌∷◌, ◌++◌, map, length, Option, Some, None, refl, sym, ap, ◌∙◌, arith, true≢false, subst}
+use Rattle.std.specs.List.{filter, list_any}
+use Rattle.std.specs.Prelude.{find, ◌&&◌, ◌||◌, unwrap_or}
+use Rattle.std.specs.Option.{is_some, option_map_or}
+use Rattle.std.proofs.lemmas.Bool.{and_parts, not-true, false≢true}
+use Rattle.zq_key.specs.Key.{is_key, is_chunk}
+use Rattle.zq_key.specs.declared.message.FaceId.{FaceId}
+use Rattle.zq_key.specs.declared.message.Message.TheVariants as message
+use Rattle.zq_key.specs.declared.message.Request.{Request}
+use Rattle.zq_key.specs.declared.message.QueryTarget.{QueryTarget}
+use Rattle.zq_key.specs.declared.message.Response.{Response}
+use Rattle.zq_hat.specs.declared.types.QueryTargetQabl.{QueryTargetQabl}
+use Rattle.zq_query.specs.declared.records.Final.{Final}
+use Rattle.zq_query.specs.declared.records.ReplyTo.{ReplyTo}
+use Rattle.zq_query.specs.declared.records.Timeout.{Timeout}
+use Rattle.zq_query.specs.Records.{QueryState, is_pending, next_reply, next_id}
+use Rattle.zq_query.specs.Asking.{given_id, is_full, lacks_number}
+use Rattle.zq_query.specs.Polling.{timeouts, has_number_for}
+use Rattle.zq_query.proofs.Ids.{next_id_is_new}
+use Rattle.zq_naming.specs.Naming.{NamingState, best, face_naming, read_by}
+use Rattle.zq_naming.specs.declared.said.Said.{Said}
+use Rattle.zq_naming.specs.declared.said.Said.TheVariants as said
+use Rattle.zq_naming.proofs.Reading.{best-reads}
+use Rattle.zq_gateway.specs.declared.call.Call.{Call}
+use Rattle.zq_gateway.specs.declared.call.Call.TheVariants as call
+use Rattle.zq_gateway.specs.declared.call.Handed.{Handed}
+use Rattle.zq_gateway.specs.declared.call.Outcome.TheVariants as outcome
+use Rattle.zq_gateway.specs.declared.call.Refusal.{Refusal}
+use Rattle.zq_gateway.specs.declared.call.Step.{Step}
+use Rattle.zq_gateway.specs.declared.face.OpenFace.{OpenFace}
+use Rattle.zq_gateway.specs.State.{State, Core, at}
+use Rattle.zq_gateway.specs.Selecting.{select, select_for, full_text, says_key, target_of}
+use Rattle.zq_gateway.specs.TextCalls.{TextCall, opening, closing, naming, unnaming, declaring, withdrawing, asking, replying, ending, reporting, passing, listing, unbuilt, read, said as said_by_face}
+use Rattle.zq_gateway.specs.Deciding.{Cause, first_of, causes, refusal_of, refused, granted, answered, decide, is_accepted, targets, handed_final, handed_request, handed_requests, handed_replies, handed_timeouts, replied}
+use Rattle.zq_gateway.specs.Machine.{written, write, answer, follow, accepted_state, step, after, sent_final, sent_reply, sent_replies, sent_timeout}
+use Rattle.zq_gateway.specs.Headline.{IsHandedOn, HandsOn, HandsEach, HandsRequest, RequestPromise, HandsReply, ReplyPromise, RefusesBy, asks, replies_to}
+use Rattle.zq_gateway.proofs.Writing.{finals_written, replies_written, timeouts_written}
+use Rattle.zq_gateway.proofs.Replies.{next-pending}
+
+key_some : (t : List ℕ) → is_key t ≡ true → 0 < length t
+unfolding is_key is_chunk
+key_some [] h = absurd (false≢true h)
+key_some (c ∷ t) h = omega arith
+
+-- ---- causes
+passed : (c : Cause) (cs : List Cause) → first_of (c ∷ cs) ≡ None → (c.0 ≡ false) × (first_of cs ≡ None)
+passed c cs h = by c.0 refl h
+  where
+    by : (b : Bool) → c.0 ≡ b → cond b (Some c.1) (first_of cs) ≡ None → (c.0 ≡ false) × (first_of cs ≡ None)
+    by true e g = absurd (cc)
+    by false e g = (e, g)
+
+-- ---- requests
+module _ (s : State) (text : List ℕ) (r : Request) (some : 0 < length text) where
+  free : (o : QueryTargetQabl) (i : Option ℕ) → next_id s.core.queries o.face.0 ≡ i → not (is_some i) ≡ false → is_pending o.face.0 (unwrap_or i 0) s.core.queries.records ≡ false
+  free o None e h = absurd (true≢false h)
+  free o (Some id) e h = next_id_is_new s.core.queries o.face.0 id e
+
+  hands : (o : QueryTargetQabl) → is_full s.core.queries o.face ≡ false → HandsOn s text r o (written s.names (handed_request s.core.queries text r o))
+  hands o h = record {
+      to = refl;
+      number = refl;
+      copy = (record { id = given_id s.core.queries o.face; wire = best (face_naming o.face.0 s.names) text; target = r.target; timeout = r.timeout; node = o.node; qos = r.qos; payload = r.payload }, refl, record {
+        free = free o (next_id s.core.queries o.face.0) refl h;
+        key = best-reads (face_naming o.face.0 s.names) text some;
+        payload = refl; target = refl; timeout = refl; qos = refl; node = refl });
+    }
+
+  or_none : (a b : Bool) → (a || b) ≡ false → (a ≡ false) × (b ≡ false)
+  or_none true b e = absurd (true≢false e)
+  or_none false b e = (refl, e)
+
+  hands_each : (os : List QueryTargetQabl) → list_any (is_full s.core.queries) (map target_of os) ≡ false → HandsEach s text r os (map (written s.names) (map (handed_request s.core.queries text r) os))
+  hands_each [] h = tt
+  hands_each (o ∷ os) h =
+      let p = or_none (is_full s.core.queries o.face) (list_any (is_full s.core.queries) (map target_of os)) h in
+      (hands o p.0, hands_each os p.1)
+
+-- what is selected is selected on a key
+selected_key : (c : Core) (asker : FaceId) (s : Said) (t : QueryTarget) (o : Option OpenFace) (x : QueryTargetQabl) (xs : List QueryTargetQabl) → select_for c asker s t o ≡ x ∷ xs → 0 < length (full_text s)
+selected_key c asker s t None x xs e = absurd (cc)
+selected_key c asker said.Unscoped t (Some f) x xs e = absurd (cc)
+selected_key c asker said.Empty t (Some f) x xs e = absurd (cc)
+selected_key c asker (said.Full text) t (Some f) x xs e = by (is_key text) refl e
+  where
+    by : (b : Bool) → is_key text ≡ b → {ys : List QueryTargetQabl} → cond b ys [] ≡ x ∷ xs → 0 < length text
+    by true k g = key_some text k
+    by false k g = absurd (cc)
+
+requests_handed : (s : State) (face : FaceId) (sd : Said) (r : Request) (os : List QueryTargetQabl) → select s.core face sd r.target ≡ os → list_any (is_full s.core.queries) (map target_of os) ≡ false
+    → HandsRequest s face (full_text sd) r os (map (written s.names) (handed_requests s.core.queries face (full_text sd) r os))
+requests_handed s face sd r [] e h = refl
+requests_handed s face sd r (o ∷ os) e h = hands_each s (full_text sd) r (selected_key s.core face sd r.target (at face.0 s.core.faces) o os e) (o ∷ os) h
+
+no_full : (s : State) (face : FaceId) (sd : Said) (r : Request) (now : ℕ) → refusal_of s.core (asking face sd r now) ≡ None → list_any (is_full s.core.queries) (targets s.core face sd r) ≡ false
+no_full s face sd r now h =
+    let p = passed _ _ h in
+    let q = passed _ _ p.1 in
+    second (s.core.queries.requests + 1 == 2 ^ 64) (list_any (is_full s.core.queries) (targets s.core face sd r)) q.0
+  where
+    second : (a b : Bool) → (a || b) ≡ false → b ≡ false
+    second true b e = absurd (true≢false e)
+    second false b e = e
+
+asked_promise : (s : State) (face : FaceId) (sd : Said) (r : Request) (now : ℕ) (o : Option Refusal) → refusal_of s.core (asking face sd r now) ≡ o
+    → is_accepted (write s.names (answered o (granted s.core (asking face sd r now)))).outcome ≡ true
+    → ((write s.names (answered o (granted s.core (asking face sd r now)))).outcome ≡ outcome.Asked s.core.queries.requests)
+    × HandsRequest s face (full_text sd) r (select s.core face sd r.target) (write s.names (answered o (granted s.core (asking face sd r now)))).handed
+asked_promise s face sd r now (Some x) e a = absurd (false≢true a)
+asked_promise s face sd r now None e a = (refl, requests_handed s face sd r (select s.core face sd r.target) refl (no_full s face sd r now e))
+
+-- ---- messages that are none of a kind
+no_finals_ask : (names : NamingState) (fs : List Final) → list_any asks (map (written names) (map handed_final fs)) ≡ false
+no_finals_ask names [] = refl
+no_finals_ask names (f ∷ fs) = no_finals_ask names fs
+
+no_finals_reply : (names : NamingState) (fs : List Final) → list_any replies_to (map (written names) (map handed_final fs)) ≡ false
+no_finals_reply names [] = refl
+no_finals_reply names (f ∷ fs) = no_finals_reply names fs
+
+no_requests_reply : (names : NamingState) (q : QueryState) (text : List ℕ) (r : Request) (os : List QueryTargetQabl) → list_any replies_to (map (written names) (map (handed_request q text r) os)) ≡ false
+no_requests_reply names q text r [] = refl
+no_requests_reply names q text r (o ∷ os) = no_requests_reply names q text r os
+
+no_asking_replies : (names : NamingState) (q : QueryState) (face : FaceId) (text : List ℕ) (r : Request) (os : List QueryTargetQabl) → list_any replies_to (map (written names) (handed_requests q face text r os)) ≡ false
+no_asking_replies names q face text r [] = refl
+no_asking_replies names q face text r (o ∷ os) = no_requests_reply names q text r (o ∷ os)
+
+no_timeouts_ask : (names : NamingState) (faces : List (ℕ × OpenFace)) (ts : List Timeout) → list_any asks (map (written names) (handed_timeouts faces ts)) ≡ false
+no_timeouts_ask names faces ts = ap (list_any asks) (timeouts_written names faces ts) ∙ none (filter has_number_for ts)
+  where
+    none : (us : List Timeout) → list_any asks (map (sent_timeout faces) us) ≡ false
+    none [] = refl
+    none (u ∷ us) = none us
+
+no_replies_ask : (names : NamingState) (text : List ℕ) (r : Response) (to : ReplyTo) → list_any asks (map (written names) (handed_replies text r to)) ≡ false
+no_replies_ask names text r to = ap (list_any asks) (replies_written names text r to) ∙ by (is_some to.reply)
+  where
+    by : (b : Bool) → list_any asks (cond b (sent_reply text r to ∷ []) []) ≡ false
+    by true = refl
+    by false = refl
+
+no_replied_asks : (names : NamingState) (text : List ℕ) (r : Response) (o : Option ReplyTo) → list_any asks (map (written names) (replied text r o).handed) ≡ false
+no_replied_asks names text r None = refl
+no_replied_asks names text r (Some to) = no_replies_ask names text r to
+
+is_asking : TextCall → Bool
+is_asking (asking face s r now) = true
+is_asking (opening o) = false
+is_asking (closing face) = false
+is_asking (naming face id s x) = false
+is_asking (unnaming face id x) = false
+is_asking (declaring face id s i n) = false
+is_asking (withdrawing face id) = false
+is_asking (replying face s r) = false
+is_asking (ending face rid) = false
+is_asking (reporting reply) = false
+is_asking (passing now) = false
+is_asking (listing r t) = false
+is_asking unbuilt = false
+
+granted_asks : (names : NamingState) (c : Core) (t : TextCall) → is_asking t ≡ false → list_any asks (map (written names) (granted c t).handed) ≡ false
+unfolding is_asking
+granted_asks names c (asking face s r now) h = absurd (true≢false h)
+granted_asks names c (opening o) h = refl
+granted_asks names c (closing face) h = no_finals_ask names _
+granted_asks names c (naming face id s x) h = refl
+granted_asks names c (unnaming face id x) h = refl
+granted_asks names c (declaring face id s i n) h = refl
+granted_asks names c (withdrawing face id) h = refl
+granted_asks names c (replying face s r) h = no_replied_asks names (full_text s) r (next_reply face.0 r.rid c.queries)
+granted_asks names c (ending face rid) h = no_finals_ask names _
+granted_asks names c (reporting reply) h = no_finals_ask names _
+granted_asks names c (passing now) h = no_timeouts_ask names c.faces (timeouts now c.queries)
+granted_asks names c (listing r t) h = refl
+granted_asks names c unbuilt h = refl
+
+quiet_asks : (s : State) (t : TextCall) → is_asking t ≡ false → list_any asks (answer s t).handed ≡ false
+quiet_asks s t h = by (refusal_of s.core t)
+  where
+    by : (o : Option Refusal) → list_any asks (map (written s.names) (answered o (granted s.core t)).handed) ≡ false
+    by (Some r) = refl
+    by None = granted_asks s.names s.core t h
+
+pub request_promise : (s : State) (c : Call) → RequestPromise s c (step s c)
+unfolding is_asking
+request_promise s (call.Request face r now) = asked_promise s face (said_by_face face r.wire s) r now (refusal_of s.core (asking face (said_by_face face r.wire s) r now)) refl
+request_promise s (call.Open o) = quiet_asks s (opening o) refl
+request_promise s (call.Close face) = quiet_asks s (closing face) refl
+request_promise s (call.DeclareKeyExpr face id wire) = quiet_asks s (read s (call.DeclareKeyExpr face id wire)) refl
+request_promise s (call.UndeclareKeyExpr face id) = quiet_asks s (read s (call.UndeclareKeyExpr face id)) refl
+request_promise s (call.DeclareQueryable face id wire info node) = quiet_asks s (read s (call.DeclareQueryable face id wire info node)) refl
+request_promise s (call.UndeclareQueryable face id wire node) = quiet_asks s (withdrawing face id) refl
+request_promise s (call.Response face r) = quiet_asks s (read s (call.Response face r)) refl
+request_promise s (call.ResponseFinal face rid) = quiet_asks s (ending face rid) refl
+request_promise s (call.Sent reply) = quiet_asks s (reporting reply) refl
+request_promise s (call.Poll now) = quiet_asks s (passing now) refl
+request_promise s (call.SetGateways r t) = quiet_asks s (listing r t) refl
+request_promise s (call.Interest face id keys wire) = quiet_asks s unbuilt refl
+request_promise s (call.InterestFinal face id) = quiet_asks s unbuilt refl
+request_promise s (call.FinalizeInterest face mark set) = quiet_asks s unbuilt refl
+request_promise s (call.SetNetwork r net) = quiet_asks s unbuilt refl
+request_promise s (call.SetNodeIds face ids) = quiet_asks s unbuilt refl
+
+-- ---- replies
+is_replying : TextCall → Bool
+is_replying (replying face s r) = true
+is_replying (passing now) = true
+is_replying (asking face s r now) = false
+is_replying (opening o) = false
+is_replying (closing face) = false
+is_replying (naming face id s x) = false
+is_replying (unnaming face id x) = false
+is_replying (declaring face id s i n) = false
+is_replying (withdrawing face id) = false
+is_replying (ending face rid) = false
+is_replying (reporting reply) = false
+is_replying (listing r t) = false
+is_replying unbuilt = false
+
+granted_replies : (names : NamingState) (c : Core) (t : TextCall) → is_replying t ≡ false → list_any replies_to (map (written names) (granted c t).handed) ≡ false
+unfolding is_replying
+granted_replies names c (replying face s r) h = absurd (true≢false h)
+granted_replies names c (passing now) h = absurd (true≢false h)
+granted_replies names c (asking face s r now) h = no_asking_replies names c.queries face (full_text s) r (select c face s r.target)
+granted_replies names c (opening o) h = refl
+granted_replies names c (closing face) h = no_finals_reply names _
+granted_replies names c (naming face id s x) h = refl
+granted_replies names c (unnaming face id x) h = refl
+granted_replies names c (declaring face id s i n) h = refl
+granted_replies names c (withdrawing face id) h = refl
+granted_replies names c (ending face rid) h = no_finals_reply names _
+granted_replies names c (reporting reply) h = no_finals_reply names _
+granted_replies names c (listing r t) h = refl
+granted_replies names c unbuilt h = refl
+
+quiet_replies : (s : State) (t : TextCall) → is_replying t ≡ false → list_any replies_to (answer s t).handed ≡ false
+quiet_replies s t h = by (refusal_of s.core t)
+  where
+    by : (o : Option Refusal) → list_any replies_to (map (written s.names) (answered o (granted s.core t)).handed) ≡ false
+    by (Some r) = refl
+    by None = granted_replies s.names s.core t h
+
+replied_promise : (s : State) (face : FaceId) (r : Response) (o : Option Refusal) (to : Option ReplyTo) → next_reply face.0 r.rid s.core.queries ≡ to
+    → is_accepted (write s.names (answered o (replied (full_text (said_by_face face r.wire s)) r to))).outcome ≡ true
+    → HandsReply s face r (write s.names (answered o (replied (full_text (said_by_face face r.wire s)) r to)))
+replied_promise s face r (Some x) to e a = absurd (false≢true a)
+replied_promise s face r None None e a = absurd (false≢true a)
+replied_promise s face r None (Some to) e a = record { goes = to; there = e; outcome = refl; handed = replies_written s.names (full_text (said_by_face face r.wire s)) r to }
+
+timed_promise : (s : State) (now : ℕ) (o : Option Refusal) → is_accepted (write s.names (answered o (granted s.core (passing now)))).outcome ≡ true
+    → (write s.names (answered o (granted s.core (passing now)))).handed ≡ map (sent_timeout s.core.faces) (filter has_number_for (timeouts now s.core.queries))
+timed_promise s now (Some x) a = absurd (false≢true a)
+timed_promise s now None a = timeouts_written s.names s.core.faces (timeouts now s.core.queries)
+
+pub reply_promise : (s : State) (c : Call) → ReplyPromise s c (step s c)
+unfolding is_replying
+reply_promise s (call.Response face r) = replied_promise s face r (refusal_of s.core (read s (call.Response face r))) (next_reply face.0 r.rid s.core.queries) refl
+reply_promise s (call.Poll now) = timed_promise s now (refusal_of s.core (passing now))
+reply_promise s (call.Request face r now) = quiet_replies s (read s (call.Request face r now)) refl
+reply_promise s (call.Open o) = quiet_replies s (opening o) refl
+reply_promise s (call.Close face) = quiet_replies s (closing face) refl
+reply_promise s (call.DeclareKeyExpr face id wire) = quiet_replies s (read s (call.DeclareKeyExpr face id wire)) refl
+reply_promise s (call.UndeclareKeyExpr face id) = quiet_replies s (read s (call.UndeclareKeyExpr face id)) refl
+reply_promise s (call.DeclareQueryable face id wire info node) = quiet_replies s (read s (call.DeclareQueryable face id wire info node)) refl
+reply_promise s (call.UndeclareQueryable face id wire node) = quiet_replies s (withdrawing face id) refl
+reply_promise s (call.ResponseFinal face rid) = quiet_replies s (ending face rid) refl
+reply_promise s (call.Sent reply) = quiet_replies s (reporting reply) refl
+reply_promise s (call.SetGateways r t) = quiet_replies s (listing r t) refl
+reply_promise s (call.Interest face id keys wire) = quiet_replies s unbuilt refl
+reply_promise s (call.InterestFinal face id) = quiet_replies s unbuilt refl
+reply_promise s (call.FinalizeInterest face mark set) = quiet_replies s unbuilt refl
+reply_promise s (call.SetNetwork r net) = quiet_replies s unbuilt refl
+reply_promise s (call.SetNodeIds face ids) = quiet_replies s unbuilt refl
+
+-- ---- refusals
+pending_there : (o : Option ReplyTo) (p : Bool) → is_some o ≡ p → not p ≡ false → (text : List ℕ) (r : Response) → is_accepted (replied text r o).outcome ≡ true
+pending_there None p e h text r = absurd (true≢false (ap not e ∙ h))
+pending_there (Some to) p e h text r = refl
+
+granted_is_accepted : (c : Core) (t : TextCall) → refusal_of c t ≡ None → is_accepted (granted c t).outcome ≡ true
+granted_is_accepted c (replying face s r) h =
+    let a = passed _ _ h in
+    let b = passed _ _ a.1 in
+    let d = passed _ _ b.1 in
+    pending_there (next_reply face.0 r.rid c.queries) (is_pending face.0 r.rid c.queries.records) (next-pending face.0 r.rid c.queries) d.0 (full_text s) r
+granted_is_accepted c (passing now) h = refl
+granted_is_accepted c (asking face s r now) h = refl
+granted_is_accepted c (opening o) h = refl
+granted_is_accepted c (closing face) h = refl
+granted_is_accepted c (naming face id s x) h = refl
+granted_is_accepted c (unnaming face id x) h = refl
+granted_is_accepted c (declaring face id s i n) h = refl
+granted_is_accepted c (withdrawing face id) h = refl
+granted_is_accepted c (ending face rid) h = refl
+granted_is_accepted c (reporting reply) h = refl
+granted_is_accepted c (listing r t) h = refl
+granted_is_accepted c unbuilt h = refl
+
+pub refusal_promise : (s : State) (c : Call) → RefusesBy (refusal_of s.core (read s c)) s c
+refusal_promise s c = by (refusal_of s.core (read s c)) refl
+  where
+    by : (o : Option Refusal) → refusal_of s.core (read s c) ≡ o → RefusesBy o s c
+    by (Some r) e = (ap (λ p. write s.names (answered p (granted s.core (read s c)))) e, ap (λ p. cond (is_accepted (answered p (granted s.core (read s c))).outcome) (accepted_state s (read s c)) s) e)
+    by None e = ap (λ p. is_accepted (answered p (granted s.core (read s c))).outcome) e ∙ granted_is_accepted s.core (read s c) e
