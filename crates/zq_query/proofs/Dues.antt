@@ -55,7 +55,7 @@ key_is q [] = refl
 key_is q (e ∷ es) = key_found q e es (is_at (due_cmp q) e.0) (key_is q es)
 
 -- ---- the list of the records' entries
-any_concat : {X : Type 0} (q : Due) (f : X → List Due) (xs : List X) → has_key due_cmp q (flat_map f xs) ≡ list_any (λ x. has_key due_cmp q (f x)) xs
+pub any_concat : {X : Type 0} (q : Due) (f : X → List Due) (xs : List X) → has_key due_cmp q (flat_map f xs) ≡ list_any (λ x. has_key due_cmp q (f x)) xs
 any_concat q f [] = refl
 any_concat q f (x ∷ xs) = list_any-append (is_at (due_cmp q)) (f x) (flat_map f xs) ∙ ap (λ b. has_key due_cmp q (f x) || b) (any_concat q f xs)
 
@@ -64,11 +64,11 @@ or_swap true b true = refl
 or_swap true b false = refl
 or_swap false b c = refl
 
-folded_key : (q : Due) (l ds : List Due) → has_key due_cmp q (fold (insert_key due_cmp) l ds) ≡ (has_key due_cmp q ds || has_key due_cmp q l)
+pub folded_key : (q : Due) (l ds : List Due) → has_key due_cmp q (fold (insert_key due_cmp) l ds) ≡ (has_key due_cmp q ds || has_key due_cmp q l)
 folded_key q l [] = refl
 folded_key q l (d ∷ ds) = folded_key q (insert_key due_cmp l d) ds ∙ ap (λ b. has_key due_cmp q ds || b) (has_put due_total due_exact q d l) ∙ or_swap (is_at (due_cmp q) d) (has_key due_cmp q l) (has_key due_cmp q ds)
 
-or_none : (b : Bool) → (b || false) ≡ b
+pub or_none : (b : Bool) → (b || false) ≡ b
 or_none true = refl
 or_none false = refl
 

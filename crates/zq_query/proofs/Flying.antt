@@ -97,9 +97,9 @@ module _ (r : ℕ) where
   put_later n [] h = refl
   put_later n (x ∷ rs) h = let m = neither_of (list_any (λ k. not (nat_lt k r)) x.in_flight) (has_reply_from r rs) h in rw (put_later_by n x (x.number == n) m.0) (put_later n rs m.1)
 
-  some_put : (l : List ℕ) → is_none_left (insert_key nat_cmp l r) ≡ false
-  some_put [] = refl
-  some_put (n ∷ l) = step (nat_cmp r n)
+  pub some_flies : (l : List ℕ) → is_none_left (insert_key nat_cmp l r) ≡ false
+  some_flies [] = refl
+  some_flies (n ∷ l) = step (nat_cmp r n)
     where
       step : (o : Ordering) → is_none_left (match_ordering o (r ∷ n ∷ l) (n ∷ l) (n ∷ insert_key nat_cmp l r)) ≡ false
       step Less = refl
@@ -111,7 +111,7 @@ module _ (r : ℕ) where
   and_false false = refl
 
   not_over_by : (n : ℕ) (x : Record) (b : Bool) → is_over x ≡ false → is_over (cond b (record x { in_flight = insert_key nat_cmp x.in_flight r }) x) ≡ false
-  not_over_by n x true h = ap (λ b. is_none_left x.pending && b) (some_put x.in_flight) ∙ and_false (is_none_left x.pending)
+  not_over_by n x true h = ap (λ b. is_none_left x.pending && b) (some_flies x.in_flight) ∙ and_false (is_none_left x.pending)
   not_over_by n x false h = h
 
   -- no request is over by it

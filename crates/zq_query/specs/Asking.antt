@@ -13,6 +13,7 @@ abbrev pub are_distinct : List ℕ → Bool
 are_distinct [] = true
 are_distinct (x ∷ xs) = not (list_any (λ y. y == x) xs) && are_distinct xs
 
+-- the numbers of the faces
 abbrev pub face_numbers : List FaceId → List ℕ
 face_numbers faces = map (λ (f : FaceId). f.0) faces
 
@@ -32,6 +33,7 @@ given_id s face = unwrap_or (next_id s face.0) 0
 abbrev pub given_place : QueryState → FaceId → ℕ × ℕ
 given_place s face = (face.0, given_id s face)
 
+-- the entry at a place
 abbrev pub entry_at : ℕ → ℕ × ℕ → Pending
 entry_at deadline p = record { face = p.0; id = p.1; deadline = deadline }
 
@@ -39,6 +41,7 @@ entry_at deadline p = record { face = p.0; id = p.1; deadline = deadline }
 abbrev pub entries_at : ℕ → List (ℕ × ℕ) → List Pending
 entries_at deadline places = fold (λ l p. insert_pending l (entry_at deadline p)) [] places
 
+-- the record of a request with an entry at each place
 abbrev pub asked_record : ℕ → FaceId → ℕ → ℕ → List (ℕ × ℕ) → ℕ → Record
 asked_record number asker id qos places deadline = record { number = number; asker = asker; id = id; qos = qos; pending = entries_at deadline places; in_flight = [] }
 

@@ -6,9 +6,11 @@ use Rattle.std.specs.Ordering.{nat_cmp}
 use Rattle.zq_query.specs.declared.records.Final.{Final}
 use Rattle.zq_query.specs.Records.{QueryState, Record, Pending, is_closed, ending_after, ending_landed, letting_go}
 
+-- the entry is at the face
 abbrev pub at_face : ℕ → Pending → Bool
 at_face face e = e.face == face
 
+-- the asker of the final is open
 abbrev pub has_open_asker : List ℕ → Final → Bool
 has_open_asker closed f = not (is_closed closed f.asker.0)
 
@@ -20,6 +22,7 @@ finals_after p closed rs = filter (has_open_asker closed) (ending_after p rs)
 abbrev pub finals_landed : ℕ → List ℕ → List Record → List Final
 finals_landed reply closed rs = filter (has_open_asker closed) (ending_landed reply rs)
 
+-- the closed faces, with one more
 abbrev pub closed_with : ℕ → List ℕ → List ℕ
 closed_with face closed = insert_key nat_cmp closed face
 

@@ -24,5 +24,6 @@ entries_of_face face es = entries_between place_cmp (Included (face, 0)) (Includ
 abbrev pub ending_by : List ℕ → ℕ → Open → Option Final
 ending_by closed n o = if (o.pending == 1) && (o.in_flight == 0) && not (is_closed closed o.asker.0) then Some (final_at n o) else None
 
+-- the same of the request with the number
 abbrev pub ending : List (ℕ × Open) → List ℕ → ℕ → Option Final
 ending heads closed n = option_and_then (ending_by closed n) (at_number n heads)

@@ -20,6 +20,7 @@ dues_of now r = map (λ (e : Pending). (e.deadline, r.number, e.face)) (filter (
 abbrev pub dues_at : ℕ → List Record → List Due
 dues_at now rs = fold (insert_key due_cmp) [] (flat_map (dues_of now) rs)
 
+-- the timeout has a reply number
 abbrev pub has_number_for : Timeout → Bool
 has_number_for t = is_some t.reply
 
@@ -27,6 +28,7 @@ has_number_for t = is_some t.reply
 abbrev pub numbers_in : List Timeout → ℕ
 numbers_in ts = length (filter has_number_for ts)
 
+-- the timeout of the request's entry, with this reply number if its asker is open
 abbrev pub timed_out : QueryState → ℕ → Due → Final → Timeout
 timed_out s reply d f = record { number = f.number; asker = f.asker; id = f.id; qos = f.qos; target = record { 0 = d.2 }; reply = if is_closed s.closed f.asker.0 then None else Some reply }
 
@@ -34,6 +36,7 @@ timed_out s reply d f = record { number = f.number; asker = f.asker; id = f.id; 
 abbrev pub with_timeout : QueryState → List Timeout → Due → List Timeout
 with_timeout s ts d = ts ++ cons_option (option_map (timed_out s (s.replies + numbers_in ts) d) (request d.1 s.records)) []
 
+-- a timeout for each of these, in their order
 abbrev pub timeouts_of : QueryState → List Due → List Timeout
 timeouts_of s ds = fold (with_timeout s) [] ds
 
@@ -49,6 +52,7 @@ lacks_replies ts s = not (nat_lt (s.replies + numbers_in ts) (2 ^ 64))
 abbrev pub after_timeout : QueryState → Timeout → QueryState
 after_timeout s t = if is_some t.reply then after_put t.number s else s
 
+-- the error replies of all of them are in flight
 abbrev pub timing_out : List Timeout → QueryState → QueryState
 timing_out ts s = fold after_timeout s ts
 

@@ -4,7 +4,8 @@ ghost use Rattle.std.specs.List.{list_any, cons_option};
 ghost use Rattle.std.specs.Map.{keys_of};
 ghost use Rattle.std.specs.Option.{option_map, IsSome};
 ghost use Rattle.zq_query.specs.Records.{QueryState, request, any_entry, has_number, landing};
-ghost use Rattle.zq_query.specs.Polling.{is_amiss, dues_at, timed_out, after_timeout, landing_from, timeouts_of, timeouts, numbers_in, lacks_replies, timing_out, after_poll, has_reply_from, lacks_record};
+ghost use Rattle.zq_query.specs.Closing.{finals_after};
+ghost use Rattle.zq_query.specs.Polling.{is_due, is_amiss, dues_at, timed_out, after_timeout, landing_from, timeouts_of, timeouts, numbers_in, lacks_replies, timing_out, after_poll, has_reply_from, lacks_record};
 ghost use Rattle.zq_query.specs.DueEntries.{dues_until};
 
 use crate::queries::Queries;
@@ -215,6 +216,7 @@ impl Queries {
         ensures list { IfOk result (λ list. list ≡ timeouts now self.old) }
         ensures fits { OnOk result (lacks_replies (timeouts now self.old) self.old ≡ false) }
         ensures after { OnOk result (self.new ≡ after_poll now self.old) }
+        ensures quiet { OnOk result (finals_after (is_due now) (timing_out (timeouts now self.old) self.old).closed (timing_out (timeouts now self.old) self.old).records ≡ []) }
         ensures no_free { IsErrOf result PollRefusal.NoFreeId → lacks_replies (timeouts now self.old) self.old ≡ true }
         ensures err { OnErr result (self.new ≡ self.old) }
     {

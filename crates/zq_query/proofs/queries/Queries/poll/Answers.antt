@@ -1,10 +1,13 @@
-use Rattle.std.proofs.Common.{◌≡◌, ◌∙◌, List, sym, ap, false}
+use Rattle.std.proofs.Common.{◌≡◌, ◌∙◌, List, sym, ap, subst, Some, false}
+use Rattle.std.specs.List.{AllByRecursion}
 use Rattle.zq_query.specs.declared.records.Timeout.{Timeout}
-use Rattle.zq_query.specs.Records.{QueryState, Record, any_over, any_entry, letting_go_all}
+use Rattle.zq_query.specs.Records.{QueryState, Record, request, final_of, any_over, any_entry, letting_go_all}
 use Rattle.zq_query.specs.Polling.{timing_out, timeouts, dues_at, lacks_record, is_amiss}
 use Rattle.zq_query.proofs.Fusion.{none_over}
 use Rattle.zq_query.proofs.Flying.{timing_none_over, entries_stay}
 use Rattle.zq_query.proofs.TimingOut.{have_records, due_let_go}
+use Rattle.zq_query.proofs.Ids.{each_alone}
+use Rattle.zq_query.proofs.Quiet.{poll_quiet}
 use Rattle.zq_query.proofs.queries.Queries.poll.Goals as goal
 
 pub put_timeouts-requires-clause-there : goal.put_timeouts-requires-clause-there
@@ -25,3 +28,11 @@ returns-clause-after c =
     c.drop_all.ensures
     ∙ ap (λ (z : QueryState). record z { records = letting_go_all z.records places }) put
     ∙ ap (λ (l : List Record). record (timing_out ts s) { records = l }) (due_let_go places now (timing_out ts s).records (timing_none_over ts s left) amiss)
+
+pub returns-clause-quiet : goal.returns-clause-quiet
+returns-clause-quiet c =
+    let s = c.args.self.now in
+    let i = c.self.inside in
+    let left : any_over s.records ≡ false = ap (λ (z : QueryState). any_over z.records) (sym c.self.view_is) ∙ none_over i.heads.entries i.pending.entries i.dues.entries i.replies.entries c.self.invariant.0 in
+    poll_quiet c.args.now s left
+    (subst (λ (z : QueryState). AllByRecursion (λ r. request r.number z.records ≡ Some (final_of r)) z.records) c.self.view_is (each_alone i.heads.entries i.pending.entries i.dues.entries i.replies.entries c.self.invariant.0))
