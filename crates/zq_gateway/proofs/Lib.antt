@@ -4,3 +4,5 @@ pub mod Below
 pub mod Replies
 pub mod Routes
 pub mod Valid
+pub mod Promises
+pub mod Finals

@@ -4,6 +4,7 @@ use Rattle.std.specs.List.{filter, list_any}
 use Rattle.std.specs.Prelude.{find, ◌&&◌, ◌||◌, unwrap_or}
 use Rattle.std.specs.Option.{is_some, option_map_or}
 use Rattle.std.proofs.lemmas.Bool.{and_parts, not-true, false≢true}
+use Rattle.zq_key.proofs.Naturals.{map-append}
 use Rattle.zq_key.specs.Key.{is_key, is_chunk}
 use Rattle.zq_key.specs.declared.message.FaceId.{FaceId}
 use Rattle.zq_key.specs.declared.message.Message.TheVariants as message
@@ -32,7 +33,7 @@ use Rattle.zq_gateway.specs.declared.face.OpenFace.{OpenFace}
 use Rattle.zq_gateway.specs.State.{State, Core, at}
 use Rattle.zq_gateway.specs.Selecting.{select, select_for, full_text, says_key, target_of}
 use Rattle.zq_gateway.specs.TextCalls.{TextCall, opening, closing, naming, unnaming, declaring, withdrawing, asking, replying, ending, reporting, passing, listing, unbuilt, read, said as said_by_face}
-use Rattle.zq_gateway.specs.Deciding.{Cause, first_of, causes, refusal_of, refused, granted, answered, decide, is_accepted, targets, handed_final, handed_request, handed_requests, handed_replies, handed_timeouts, replied}
+use Rattle.zq_gateway.specs.Deciding.{passing_finals, Cause, first_of, causes, refusal_of, refused, granted, answered, decide, is_accepted, targets, handed_final, handed_request, handed_requests, handed_replies, handed_timeouts, replied}
 use Rattle.zq_gateway.specs.Machine.{written, write, answer, follow, accepted_state, step, after, sent_final, sent_reply, sent_replies, sent_timeout}
 use Rattle.zq_gateway.specs.Headline.{IsHandedOn, HandsOn, HandsEach, HandsRequest, RequestPromise, HandsReply, ReplyPromise, RefusesBy, asks, replies_to}
 use Rattle.zq_gateway.proofs.Writing.{finals_written, replies_written, timeouts_written}
@@ -44,7 +45,7 @@ key_some [] h = absurd (false≢true h)
 key_some (c ∷ t) h = omega arith
 
 -- ---- causes
-passed : (c : Cause) (cs : List Cause) → first_of (c ∷ cs) ≡ None → (c.0 ≡ false) × (first_of cs ≡ None)
+pub passed : (c : Cause) (cs : List Cause) → first_of (c ∷ cs) ≡ None → (c.0 ≡ false) × (first_of cs ≡ None)
 passed c cs h = by c.0 refl h
   where
     by : (b : Bool) → c.0 ≡ b → cond b (Some c.1) (first_of cs) ≡ None → (c.0 ≡ false) × (first_of cs ≡ None)
@@ -127,6 +128,14 @@ no_asking_replies : (names : NamingState) (q : QueryState) (face : FaceId) (text
 no_asking_replies names q face text r [] = refl
 no_asking_replies names q face text r (o ∷ os) = no_requests_reply names q text r (o ∷ os)
 
+any_both : (p : Handed → Bool) (xs ys : List Handed) → list_any p xs ≡ false → list_any p ys ≡ false → list_any p (xs ++ ys) ≡ false
+any_both p [] ys e h = h
+any_both p (x ∷ xs) ys e h = by (p x) (list_any p xs) e (any_both p xs ys)
+  where
+    by : (a b : Bool) → (a || b) ≡ false → (b ≡ false → list_any p ys ≡ false → list_any p (xs ++ ys) ≡ false) → (a || list_any p (xs ++ ys)) ≡ false
+    by true b g more = absurd (true≢false g)
+    by false b g more = more g h
+
 no_timeouts_ask : (names : NamingState) (faces : List (ℕ × OpenFace)) (ts : List Timeout) → list_any asks (map (written names) (handed_timeouts faces ts)) ≡ false
 no_timeouts_ask names faces ts = ap (list_any asks) (timeouts_written names faces ts) ∙ none (filter has_number_for ts)
   where
@@ -172,7 +181,9 @@ granted_asks names c (withdrawing face id) h = refl
 granted_asks names c (replying face s r) h = no_replied_asks names (full_text s) r (next_reply face.0 r.rid c.queries)
 granted_asks names c (ending face rid) h = no_finals_ask names _
 granted_asks names c (reporting reply) h = no_finals_ask names _
-granted_asks names c (passing now) h = no_timeouts_ask names c.faces (timeouts now c.queries)
+granted_asks names c (passing now) h =
+    ap (list_any asks) (map-append (written names) (handed_timeouts c.faces (timeouts now c.queries)) (map handed_final (passing_finals now c.queries)))
+    ∙ any_both asks _ _ (no_timeouts_ask names c.faces (timeouts now c.queries)) (no_finals_ask names (passing_finals now c.queries))
 granted_asks names c (listing r t) h = refl
 granted_asks names c unbuilt h = refl
 
@@ -250,9 +261,12 @@ replied_promise s face r None None e a = absurd (false≢true a)
 replied_promise s face r None (Some to) e a = record { goes = to; there = e; outcome = refl; handed = replies_written s.names (full_text (said_by_face face r.wire s)) r to }
 
 timed_promise : (s : State) (now : ℕ) (o : Option Refusal) → is_accepted (write s.names (answered o (granted s.core (passing now)))).outcome ≡ true
-    → (write s.names (answered o (granted s.core (passing now)))).handed ≡ map (sent_timeout s.core.faces) (filter has_number_for (timeouts now s.core.queries))
+    → (write s.names (answered o (granted s.core (passing now)))).handed ≡ map (sent_timeout s.core.faces) (filter has_number_for (timeouts now s.core.queries)) ++ map sent_final (passing_finals now s.core.queries)
 timed_promise s now (Some x) a = absurd (false≢true a)
-timed_promise s now None a = timeouts_written s.names s.core.faces (timeouts now s.core.queries)
+timed_promise s now None a =
+    map-append (written s.names) (handed_timeouts s.core.faces (timeouts now s.core.queries)) (map handed_final (passing_finals now s.core.queries))
+    ∙ ap (λ l. l ++ map (written s.names) (map handed_final (passing_finals now s.core.queries))) (timeouts_written s.names s.core.faces (timeouts now s.core.queries))
+    ∙ ap (λ l. map (sent_timeout s.core.faces) (filter has_number_for (timeouts now s.core.queries)) ++ l) (finals_written s.names (passing_finals now s.core.queries))
 
 pub reply_promise : (s : State) (c : Call) → ReplyPromise s c (step s c)
 unfolding is_replying
@@ -279,7 +293,7 @@ pending_there : (o : Option ReplyTo) (p : Bool) → is_some o ≡ p → not p �
 pending_there None p e h text r = absurd (true≢false (ap not e ∙ h))
 pending_there (Some to) p e h text r = refl
 
-granted_is_accepted : (c : Core) (t : TextCall) → refusal_of c t ≡ None → is_accepted (granted c t).outcome ≡ true
+pub granted_is_accepted : (c : Core) (t : TextCall) → refusal_of c t ≡ None → is_accepted (granted c t).outcome ≡ true
 granted_is_accepted c (replying face s r) h =
     let a = passed _ _ h in
     let b = passed _ _ a.1 in

@@ -1,5 +1,5 @@
 -- Finals and replies are written as they are, whatever the numbers.
-use Rattle.std.proofs.Common.{◌≡◌, ℕ, Bool, true, false, cond, List, [], ◌∷◌, map, refl}
+use Rattle.std.proofs.Common.{◌≡◌, ℕ, Bool, true, false, cond, List, [], ◌∷◌, map, refl, ap, ◌∙◌, append-nil}
 use Rattle.std.specs.Option.{is_some}
 use Rattle.zq_key.proofs.Naturals.{map-map}
 use Rattle.zq_key.specs.declared.message.Response.{Response}
@@ -26,3 +26,10 @@ replies_written names text r to = at (is_some to.reply)
 
 pub timeouts_written : (names : NamingState) (faces : List (ℕ × OpenFace)) (ts : List Timeout) → map (written names) (handed_timeouts faces ts) ≡ map (sent_timeout faces) (filter has_number_for ts)
 timeouts_written names faces ts = map-map (timed_out faces) (written names) (sent_timeout faces) (λ t. refl) (filter has_number_for ts)
+
+-- a moment that has come ends no request of an open asker
+pub passing_written : (names : NamingState) (faces : List (ℕ × OpenFace)) (ts : List Timeout) (fs : List Final) → fs ≡ [] → map (written names) (handed_timeouts faces ts ++ map handed_final fs) ≡ map (sent_timeout faces) (filter has_number_for ts)
+passing_written names faces ts fs none =
+    ap (λ l. map (written names) (handed_timeouts faces ts ++ map handed_final l)) none
+    ∙ ap (map (written names)) (append-nil (handed_timeouts faces ts))
+    ∙ timeouts_written names faces ts

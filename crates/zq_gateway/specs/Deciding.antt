@@ -23,7 +23,7 @@ use Rattle.zq_query.specs.declared.records.ReplyTo.{ReplyTo}
 use Rattle.zq_query.specs.declared.records.Timeout.{Timeout}
 use Rattle.zq_query.specs.Records.{QueryState, is_pending, is_in_flight, is_entry, letting_go, over_after, landing, over_after_reply, final_if_open, next_reply, after_reply, needs_number}
 use Rattle.zq_query.specs.Closing.{closing_finals, after_close, finals_after, finals_landed}
-use Rattle.zq_query.specs.Polling.{timeouts, after_poll, lacks_replies, has_number_for}
+use Rattle.zq_query.specs.Polling.{is_due, timing_out, timeouts, after_poll, lacks_replies, has_number_for}
 use Rattle.zq_query.specs.Asking.{lacks_number, given_id, after_ask}
 use Rattle.zq_naming.specs.declared.said.Said.{Said}
 use Rattle.zq_naming.specs.declared.said.Said.TheVariants as said
@@ -175,6 +175,10 @@ timed_out faces t = record {
 abbrev pub handed_timeouts : List (ℕ × OpenFace) → List Timeout → List Handed
 handed_timeouts faces ts = map (timed_out faces) (filter has_number_for ts)
 
+-- the finals of a moment that has come: of the requests that it leaves with nothing, once their error replies are in flight
+abbrev pub passing_finals : ℕ → QueryState → List Final
+passing_finals now q = finals_after (is_due now) (timing_out (timeouts now q) q).closed (timing_out (timeouts now q) q).records
+
 abbrev pub replied : List ℕ → Response → Option ReplyTo → Step
 replied text r None = refused refusal.QueryNotFound
 replied text r (Some to) = record { outcome = outcome.Replied to.reply; handed = handed_replies text r to }
@@ -191,7 +195,7 @@ granted c (asking face s r now) = record { outcome = outcome.Asked c.queries.req
 granted c (replying face s r) = replied (full_text s) r (next_reply face.0 r.rid c.queries)
 granted c (ending face rid) = done (map handed_final (finals_after (is_entry face.0 rid) c.queries.closed c.queries.records))
 granted c (reporting reply) = done (map handed_final (finals_landed reply c.queries.closed c.queries.records))
-granted c (passing now) = done (handed_timeouts c.faces (timeouts now c.queries))
+granted c (passing now) = done (handed_timeouts c.faces (timeouts now c.queries) ++ map handed_final (passing_finals now c.queries))
 granted c (listing r table) = done []
 granted c unbuilt = done []
 

@@ -25,7 +25,7 @@ use Rattle.zq_gateway.specs.declared.call.Step.{Step}
 use Rattle.zq_gateway.specs.State.{State}
 use Rattle.zq_gateway.specs.Selecting.{select, full_text}
 use Rattle.zq_gateway.specs.TextCalls.{read, said as said_by_face}
-use Rattle.zq_gateway.specs.Deciding.{refused, refusal_of, is_accepted}
+use Rattle.zq_gateway.specs.Deciding.{passing_finals, refused, refusal_of, is_accepted}
 use Rattle.zq_gateway.specs.Machine.{step, after, sent_final, sent_replies, sent_timeout}
 
 -- ---- requests
@@ -100,7 +100,7 @@ pub record HandsReply (s : State) (face : FaceId) (r : Response) (t : Step) : Ty
 -- an accepted reply is handed to its asker alone; a moment that has come hands an error reply for each entry that was too late and whose asker is open; no other call hands a reply
 abbrev pub ReplyPromise : State → Call → Step → Type 0
 ReplyPromise s (call.Response face r) t = is_accepted t.outcome ≡ true → HandsReply s face r t
-ReplyPromise s (call.Poll now) t = is_accepted t.outcome ≡ true → t.handed ≡ map (sent_timeout s.core.faces) (filter has_number_for (timeouts now s.core.queries))
+ReplyPromise s (call.Poll now) t = is_accepted t.outcome ≡ true → t.handed ≡ map (sent_timeout s.core.faces) (filter has_number_for (timeouts now s.core.queries)) ++ map sent_final (passing_finals now s.core.queries)
 ReplyPromise s c t = list_any replies_to t.handed ≡ false
 
 -- ---- finals
