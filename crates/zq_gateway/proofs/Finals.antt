@@ -55,22 +55,22 @@ pub record Sound (faces : List (ℕ × OpenFace)) (next : ℕ) (q : QueryState) 
 
 same_closed : (faces : List (ℕ × OpenFace)) (next : ℕ) (q z : QueryState) → Sound faces next q → z.closed ≡ q.closed → any_over z.records ≡ false → Sound faces next z
 same_closed faces next q z s e over = record {
-    sorted = s.sorted;
-    open_below = s.open_below;
-    closed_below = λ f h. s.closed_below f (ap (λ l. is_closed l f) (sym e) ∙ h);
-    apart = λ f h. ap (λ l. is_closed l f) e ∙ s.apart f h;
-    standing = over;
-  }
+  sorted = s.sorted;
+  open_below = s.open_below;
+  closed_below = λ f h. s.closed_below f (ap (λ l. is_closed l f) (sym e) ∙ h);
+  apart = λ f h. ap (λ l. is_closed l f) e ∙ s.apart f h;
+  standing = over;
+}
 
 -- a face of the next number is opened
 opened_sound : (faces : List (ℕ × OpenFace)) (next : ℕ) (q : QueryState) (o : OpenFace) → Sound faces next q → Sound (insert_entry nat_cmp faces next o) (next + 1) q
 opened_sound faces next q o s = record {
-    sorted = sorted_in nat_cmp_total faces next o s.sorted;
-    open_below = λ f h. below f (next == f) refl h;
-    closed_below = λ f h. let l = s.closed_below f h in omega (arith, l);
-    apart = λ f h. away f (next == f) refl h;
-    standing = s.standing;
-  }
+  sorted = sorted_in nat_cmp_total faces next o s.sorted;
+  open_below = λ f h. below f (next == f) refl h;
+  closed_below = λ f h. let l = s.closed_below f h in omega (arith, l);
+  apart = λ f h. away f (next == f) refl h;
+  standing = s.standing;
+}
   where
     below : (f : ℕ) (b : Bool) → (next == f) ≡ b → is_some (at f (insert_entry nat_cmp faces next o)) ≡ true → f < next + 1
     below f true e h = let same : next ≡ f = eqb-true next f e in omega (arith, same)
@@ -93,12 +93,12 @@ some_there (Some v) h = (v, refl)
 -- an open face is closed
 closed_sound : (faces : List (ℕ × OpenFace)) (next face : ℕ) (q : QueryState) → is_some (at face faces) ≡ true → Sound faces next q → Sound (remove_entry (is_at (nat_cmp face)) faces) next (after_close face q)
 closed_sound faces next face q there s = record {
-    sorted = sorted_out nat_cmp (is_at (nat_cmp face)) faces s.sorted;
-    open_below = λ f h. s.open_below f (still f h).1;
-    closed_below = λ f h. below f (is_at (nat_cmp f) face) refl (sym (has_put nat_cmp_total exact_unsigned f face q.closed) ∙ h);
-    apart = λ f h. has_put nat_cmp_total exact_unsigned f face q.closed ∙ away f (is_at (nat_cmp f) face) refl (still f h);
-    standing = close_none_over face q;
-  }
+  sorted = sorted_out nat_cmp (is_at (nat_cmp face)) faces s.sorted;
+  open_below = λ f h. s.open_below f (still f h).1;
+  closed_below = λ f h. below f (is_at (nat_cmp f) face) refl (sym (has_put nat_cmp_total exact_unsigned f face q.closed) ∙ h);
+  apart = λ f h. has_put nat_cmp_total exact_unsigned f face q.closed ∙ away f (is_at (nat_cmp f) face) refl (still f h);
+  standing = close_none_over face q;
+}
   where
     still : (f : ℕ) → is_some (at f (remove_entry (is_at (nat_cmp face)) faces)) ≡ true → (face ≡ f → ⊥) × (is_some (at f faces) ≡ true)
     still f h =
@@ -167,12 +167,12 @@ none_sorted = tt
 
 pub opening_sound : (config : Settings) → IsSound (opening_state config)
 opening_sound config = record {
-    sorted = none_sorted;
-    open_below = λ f h. absurd (false≢true h);
-    closed_below = λ f h. absurd (false≢true h);
-    apart = λ f h. absurd (false≢true h);
-    standing = refl;
-  }
+  sorted = none_sorted;
+  open_below = λ f h. absurd (false≢true h);
+  closed_below = λ f h. absurd (false≢true h);
+  apart = λ f h. absurd (false≢true h);
+  standing = refl;
+}
 
 pub run_sound : (cs : List Call) (s : State) → IsSound s → IsSound (state_after s cs)
 run_sound [] s i = i
@@ -295,6 +295,6 @@ follow_balance n s t None e i = by (is_accepted (granted s.core t).outcome) (gra
 
 pub final_promise : (n : ℕ) (s : State) (c : Call) → IsSound s → FinalPromise n s c
 final_promise n s c i = record {
-    balance = follow_balance n s (read s c) (refusal_of s.core (read s c)) refl i;
-    standing = (follow_sound s (read s c) i).standing;
-  }
+  balance = follow_balance n s (read s c) (refusal_of s.core (read s c)) refl i;
+  standing = (follow_sound s (read s c) i).standing;
+}

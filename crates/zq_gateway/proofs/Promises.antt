@@ -69,13 +69,22 @@ module _ (s : State) (text : List ℕ) (r : Request) (some : 0 < length text) wh
 
   hands : (o : QueryTargetQabl) → is_full s.core.queries o.face ≡ false → HandsOn s text r o (written s.names (handed_request s.core.queries text r o))
   hands o h = record {
-      to = refl;
-      number = refl;
-      copy = (record { id = given_id s.core.queries o.face; wire = best (face_naming o.face.0 s.names) text; target = r.target; timeout = r.timeout; node = o.node; qos = r.qos; payload = r.payload }, refl, record {
+    to = refl;
+    number = refl;
+    copy = (
+      record { id = given_id s.core.queries o.face; wire = best (face_naming o.face.0 s.names) text; target = r.target; timeout = r.timeout; node = o.node; qos = r.qos; payload = r.payload },
+      refl,
+      record {
         free = free o (next_id s.core.queries o.face.0) refl h;
         key = best-reads (face_naming o.face.0 s.names) text some;
-        payload = refl; target = refl; timeout = refl; qos = refl; node = refl });
-    }
+        payload = refl;
+        target = refl;
+        timeout = refl;
+        qos = refl;
+        node = refl;
+      },
+    );
+  }
 
   or_none : (a b : Bool) → (a || b) ≡ false → (a ≡ false) × (b ≡ false)
   or_none true b e = absurd (true≢false e)

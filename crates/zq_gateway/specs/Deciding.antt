@@ -127,18 +127,20 @@ deadline c timeout now = min (now + unwrap_or timeout c.config.timeout) (2 ^ 64 
 -- a request to the face of an offer
 abbrev pub handed_request : QueryState → List ℕ → Request → QueryTargetQabl → Handed
 handed_request q text r offer = record {
-    to = offer.face;
-    number = Some q.requests;
-    reply = None;
-    message = message.Request (record {
-      id = given_id q offer.face;
-      wire = plain text;
-      target = r.target;
-      timeout = r.timeout;
-      node = offer.node;
-      qos = r.qos;
-      payload = r.payload });
-    leaves = None }
+  to = offer.face;
+  number = Some q.requests;
+  reply = None;
+  message = message.Request (record {
+    id = given_id q offer.face;
+    wire = plain text;
+    target = r.target;
+    timeout = r.timeout;
+    node = offer.node;
+    qos = r.qos;
+    payload = r.payload;
+  });
+  leaves = None;
+}
 
 -- with no offer the final comes at once
 abbrev pub handed_requests : QueryState → FaceId → List ℕ → Request → List QueryTargetQabl → List Handed
@@ -148,11 +150,12 @@ handed_requests q asker text r (o ∷ os) = map (handed_request q text r) (o ∷
 -- a reply to its asker
 abbrev pub handed_reply : List ℕ → Response → ReplyTo → Handed
 handed_reply text r to = record {
-    to = to.asker;
-    number = Some to.number;
-    reply = to.reply;
-    message = message.Response (record { rid = to.id; wire = plain text; qos = to.qos; payload = r.payload; responder = r.responder });
-    leaves = None }
+  to = to.asker;
+  number = Some to.number;
+  reply = to.reply;
+  message = message.Response (record { rid = to.id; wire = plain text; qos = to.qos; payload = r.payload; responder = r.responder });
+  leaves = None;
+}
 
 -- a reply to a closed asker is handed to no one
 abbrev pub handed_replies : List ℕ → Response → ReplyTo → List Handed
@@ -165,11 +168,12 @@ timeout_word = codes "Timeout"
 -- an error reply to the asker, in the place of a target that was too late
 abbrev pub timed_out : List (ℕ × OpenFace) → Timeout → Handed
 timed_out faces t = record {
-    to = t.asker;
-    number = Some t.number;
-    reply = t.reply;
-    message = message.Response (record { rid = t.id; wire = plain []; qos = t.qos; payload = body.Err timeout_word; responder = zid_of t.target.0 faces });
-    leaves = None }
+  to = t.asker;
+  number = Some t.number;
+  reply = t.reply;
+  message = message.Response (record { rid = t.id; wire = plain []; qos = t.qos; payload = body.Err timeout_word; responder = zid_of t.target.0 faces });
+  leaves = None;
+}
 
 -- a closed asker is handed nothing
 abbrev pub handed_timeouts : List (ℕ × OpenFace) → List Timeout → List Handed
@@ -236,8 +240,9 @@ with_face o c = record (with_open o c) { hats = change_hat o.region (joined (sea
 -- a face leaves the open ones and its region's, and its entries are let go
 abbrev pub without_open : ℕ → Core → Core
 without_open face c = record (change_hat_of face (without_face face) c) {
-    faces = remove_entry (is_at (nat_cmp face)) c.faces;
-    queries = after_close face c.queries }
+  faces = remove_entry (is_at (nat_cmp face)) c.faces;
+  queries = after_close face c.queries;
+}
 
 abbrev pub after_replied : Option ReplyTo → QueryState → QueryState
 after_replied None q = q

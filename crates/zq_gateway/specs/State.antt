@@ -49,8 +49,9 @@ no_queries config = record { records = []; last_ids = []; closed = []; requests 
 -- the gateway before any call
 abbrev pub opening_state : Settings → State
 opening_state config = record {
-    core = record { config = config; faces = []; next_face = config.start.faces; hats = first_hats config; tables = []; queries = no_queries config };
-    names = [] }
+  core = record { config = config; faces = []; next_face = config.start.faces; hats = first_hats config; tables = []; queries = no_queries config };
+  names = [];
+}
 
 -- what stands at a number
 abbrev pub at : {X : Type 0} → ℕ → List (ℕ × X) → Option X

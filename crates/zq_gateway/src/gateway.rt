@@ -1,9 +1,10 @@
 //! The gateway: each call is one event.
-ghost use Rattle.std.specs.Prelude.{◌≡◌, ◌<◌, ◌+◌, ◌^◌, [], Some, None, true, false, IfOk, OnOk, OnErr, option_copied, option_map, map, option_to_list};
+ghost use Rattle.std.specs.Prelude.{IfErr, ◌≡◌, ◌<◌, ◌+◌, ◌^◌, [], Some, None, true, false, IfOk, OnOk, OnErr, option_copied, option_map, map, option_to_list};
 ghost use Rattle.std.specs.BTreeMap.{insert_entry};
 ghost use Rattle.std.specs.Option.{IsSome};
 ghost use Rattle.std.specs.Ordering.{nat_cmp};
-ghost use Rattle.std.specs.List.{list_any};
+ghost use Rattle.std.specs.List.{cons_option};
+ghost use Rattle.zq_gateway.specs.Configs.{north_of};
 ghost use Rattle.zq_query.specs.Records.{next_reply};
 ghost use Rattle.zq_query.specs.Asking.{are_distinct, face_numbers, is_full, lacks_number};
 ghost use Rattle.zq_naming.specs.Naming.{is_text};
@@ -16,24 +17,27 @@ ghost use Rattle.zq_gateway.specs.State.{at, change_hat, face_region, is_open, j
 ghost use Rattle.zq_naming.specs.Naming.{face_naming, no_names, text_at};
 ghost use Rattle.zq_gateway.specs.TextCalls.{asking, closing, declaring, ending, listing, naming, opening, passing, replying, reporting, unnaming, withdrawing};
 
-use crate::call::{Call, Opening, Outcome, Refusal, Step};
+use crate::call::{Call, Handed, Opening, Outcome, Refusal, Step};
 use crate::config::Config;
 use crate::face::OpenFace;
 use crate::handed::{
-    final_in, room_for_final, written_finals, written_replies, written_requests,
+    final_in, room_for_final, written_final, written_finals, written_replies, written_requests,
     written_timeouts,
 };
 use crate::hats;
+use crate::parts::{lacks_number, take_seat, targets_of};
+use crate::read::{full_text, is_unscoped, remaps, says_key, says_key_or_nothing};
 use crate::select::Asker;
-use std::alloc::{AllocError, Global};
+use std::alloc::Global;
 use std::collections::BTreeMap;
 use std::marker::Model;
 use zq_hat::hat::Hat;
-use zq_hat::types::{FaceRecord, HatRefusal, QueryTargetQabl};
+use zq_hat::types::{HatRefusal, QueryTargetQabl};
 use zq_key::items::Items;
 use zq_key::memory::OutOfMemory;
-use zq_key::message::{FaceId, QueryTarget, QueryableInfoType, Region, Request, Response};
-use zq_key::text::Text;
+use zq_key::message::{
+    FaceId, Mode, QueryTarget, QueryableInfoType, Region, Request, Response, Zid,
+};
 use zq_key::{Key, KeyError, is_key};
 use zq_naming::naming::Naming;
 use zq_naming::said::Said;
@@ -62,15 +66,15 @@ impl Model for Gateway {
     ghost Value = { State };
 
     ghost view = { λ g. record {
-        core = record {
-            config = g.config;
-            faces = g.faces.entries;
-            next_face = g.next_face;
-            hats = g.hats;
-            tables = g.tables;
-            queries = g.queries;
-        };
-        names = g.names;
+      core = record {
+        config = g.config;
+        faces = g.faces.entries;
+        next_face = g.next_face;
+        hats = g.hats;
+        tables = g.tables;
+        queries = g.queries;
+      };
+      names = g.names;
     } };
 
     ghost invariant = { λ g. AreBelow g.next_face g.faces.entries × AreBelow g.next_face g.names };
@@ -89,7 +93,12 @@ impl Gateway {
             next_face: counters.faces,
             hats: hats::first_hats(alloc, config)?,
             tables: RegionMap::new(alloc),
-            queries: Queries::new(alloc, counters.requests, counters.replies, counters.request_ids),
+            queries: Queries::new(
+                alloc,
+                counters.requests,
+                counters.replies,
+                counters.request_ids,
+            ),
             names: Naming::new(alloc),
         })
     }
@@ -145,6 +154,127 @@ impl Gateway {
             Call::SetNetwork { .. } => unreachable!(),
             Call::SetNodeIds { .. } => unreachable!(),
         }
+    }
+
+    /// A face is opened.
+    pub fn open_face(&mut self, opening: &Opening) -> Result<Step, OutOfMemory>
+        ensures step { IfOk result (λ t. t ≡ step self.old (call.Open opening.now)) }
+        ensures after { OnOk result (self.new ≡ after self.old (call.Open opening.now)) }
+        ensures err { OnErr result (self.new ≡ self.old) }
+    {
+        self.open(opening)
+    }
+
+    /// A face is closed (upstream's `Primitives::send_close`).
+    pub fn send_close(&mut self, face: FaceId) -> Result<Step, OutOfMemory>
+        ensures step { IfOk result (λ t. t ≡ step self.old (call.Close face)) }
+        ensures after { OnOk result (self.new ≡ after self.old (call.Close face)) }
+        ensures err { OnErr result (self.new ≡ self.old) }
+    {
+        self.close(face)
+    }
+
+    /// A request of a face at a moment (upstream's `Primitives::send_request`).
+    pub fn send_request(
+        &mut self,
+        face: FaceId,
+        msg: &Request,
+        now: u64,
+    ) -> Result<Step, OutOfMemory>
+        ensures step { IfOk result (λ t. t ≡ step self.old (call.Request face msg.now now)) }
+        ensures after { OnOk result (self.new ≡ after self.old (call.Request face msg.now now)) }
+        ensures err { OnErr result (self.new ≡ self.old) }
+    {
+        let said = self.names.said(face, &msg.wire)?;
+        self.request(face, &said, msg, now)
+    }
+
+    /// The same (upstream's `Face::route_query`).
+    pub fn route_query(
+        &mut self,
+        face: FaceId,
+        msg: &Request,
+        now: u64,
+    ) -> Result<Step, OutOfMemory>
+        ensures step { IfOk result (λ t. t ≡ step self.old (call.Request face msg.now now)) }
+        ensures after { OnOk result (self.new ≡ after self.old (call.Request face msg.now now)) }
+        ensures err { OnErr result (self.new ≡ self.old) }
+    {
+        self.send_request(face, msg, now)
+    }
+
+    /// A reply of a target (upstream's `Primitives::send_response`).
+    pub fn send_response(&mut self, face: FaceId, msg: &Response) -> Result<Step, OutOfMemory>
+        ensures step { IfOk result (λ t. t ≡ step self.old (call.Response face msg.now)) }
+        ensures after { OnOk result (self.new ≡ after self.old (call.Response face msg.now)) }
+        ensures err { OnErr result (self.new ≡ self.old) }
+    {
+        let said = self.names.said(face, &msg.wire)?;
+        self.reply(face, &said, msg)
+    }
+
+    /// A moment has come, in milliseconds: queries whose deadlines have come end.
+    pub fn poll(&mut self, now: u64) -> Result<Step, OutOfMemory>
+        ensures step { IfOk result (λ t. t ≡ step self.old (call.Poll now)) }
+        ensures after { OnOk result (self.new ≡ after self.old (call.Poll now)) }
+        ensures err { OnErr result (self.new ≡ self.old) }
+    {
+        self.pass(now)
+    }
+
+    /// The gateways of a region are listed.
+    pub fn set_gateways(&mut self, region: Region, table: &Gateways) -> Result<Step, OutOfMemory>
+        ensures step { IfOk result (λ t. t ≡ step self.old (call.SetGateways region table.now)) }
+        ensures after { OnOk result (self.new ≡ after self.old (call.SetGateways region table.now)) }
+        ensures err { OnErr result (self.new ≡ self.old) }
+    {
+        self.list_gateways(region, table)
+    }
+
+    /// A target ends a query (upstream's `Primitives::send_response_final`); the final to the asker
+    /// comes of it, or none. It takes no memory.
+    #[tactic(auto, using(crate::proofs::Writing::finals_written))]
+    pub fn send_response_final(&mut self, face: FaceId, rid: u32) -> Result<Option<Handed>, Refusal>
+        ensures handed { IfOk result (λ o. step self.old (call.ResponseFinal face rid) ≡ done (cons_option o [])) }
+        ensures refused { IfErr result (λ r. step self.old (call.ResponseFinal face rid) ≡ refused r) }
+        ensures after { self.new ≡ after self.old (call.ResponseFinal face rid) }
+    {
+        if !self.is_open(face) {
+            return Err(Refusal::UnknownFace);
+        }
+        match self.queries.last(face, rid) {
+            Ok(Some(last)) => Ok(Some(written_final(last))),
+            Ok(None) => Ok(None),
+            Err(_) => Err(Refusal::QueryNotFound),
+        }
+    }
+
+    /// A reply was sent; the final to the asker comes of it, or none. It takes no memory.
+    #[tactic(auto, using(crate::proofs::Writing::finals_written))]
+    pub fn sent(&mut self, reply: u64) -> Result<Option<Handed>, Refusal>
+        ensures handed { IfOk result (λ o. step self.old (call.Sent reply) ≡ done (cons_option o [])) }
+        ensures refused { IfErr result (λ r. step self.old (call.Sent reply) ≡ refused r) }
+        ensures after { self.new ≡ after self.old (call.Sent reply) }
+    {
+        match self.queries.sent(reply) {
+            Ok(Some(last)) => Ok(Some(written_final(last))),
+            Ok(None) => Ok(None),
+            Err(_) => Err(Refusal::NotInFlight),
+        }
+    }
+
+    /// The gateway's own id.
+    pub fn zid(&self) -> Zid
+        ensures { result ≡ self.now.core.config.zid }
+    {
+        self.config.zid()
+    }
+
+    /// The mode of the entry North.
+    pub fn north(&self) -> Mode
+        ensures { result ≡ north_of self.now.core.config.entries }
+    {
+        self.config.north()
     }
 
     fn refused(&self, refusal: Refusal) -> Step
@@ -281,7 +411,13 @@ impl Gateway {
             return Ok(self.refused(Refusal::NoFreeId));
         }
         let face = FaceId(self.next_face);
-        take_seat(&mut self.names, &mut self.faces, &mut self.hats, face, asked)?;
+        take_seat(
+            &mut self.names,
+            &mut self.faces,
+            &mut self.hats,
+            face,
+            asked,
+        )?;
         self.next_face += 1;
         Ok(Step {
             outcome: Outcome::Opened(face),
@@ -440,7 +576,7 @@ impl Gateway {
 
     // A moment has come: entries whose deadlines have come are let go.
     #[tactic(auto, using(crate::proofs::Writing::polled))]
-    fn poll(&mut self, now: u64) -> Result<Step, OutOfMemory>
+    fn pass(&mut self, now: u64) -> Result<Step, OutOfMemory>
         ensures step { IfOk result (λ t. t ≡ answer self.old (passing now)) }
         ensures after { OnOk result (self.new ≡ follow self.old (passing now)) }
         ensures err { OnErr result (self.new ≡ self.old) }
@@ -502,7 +638,7 @@ impl Gateway {
     }
 
     // The gateways of a region are listed.
-    fn set_gateways(&mut self, region: Region, table: &Gateways) -> Result<Step, OutOfMemory>
+    fn list_gateways(&mut self, region: Region, table: &Gateways) -> Result<Step, OutOfMemory>
         ensures step { IfOk result (λ t. t ≡ answer self.old (listing region table.now)) }
         ensures after { OnOk result (self.new ≡ follow self.old (listing region table.now)) }
         ensures err { OnErr result (self.new ≡ self.old) }
@@ -514,123 +650,4 @@ impl Gateway {
         hats::put_table(&mut self.tables, region, copy)?;
         Ok(self.done())
     }
-}
-
-fn remaps(id: u16, text: &str, standing: Option<&Text>) -> bool
-    ensures { result ≡ remaps id text.now (option_copied standing.entry) }
-{
-    if id == 0 {
-        return true;
-    }
-    match standing {
-        Some(other) => other.as_str() != text,
-        None => false,
-    }
-}
-
-// A face joins the open ones, those that have numbers, and its region's. Each of them is as before
-// where no memory is found.
-fn take_seat(
-    names: &mut Naming,
-    faces: &mut BTreeMap<u32, OpenFace>,
-    hats: &mut RegionMap<Hat>,
-    face: FaceId,
-    opening: &Opening,
-) -> Result<(), OutOfMemory>
-    requires named { at face.0 names.old ≡ None }
-    requires absent { at face.0 faces.old.entries ≡ None }
-    ensures names { OnOk result (names.new ≡ insert_entry nat_cmp names.old face.0 no_names) }
-    ensures faces { OnOk result (faces.new.entries ≡ insert_entry nat_cmp faces.old.entries face.0 (opened opening.now)) }
-    ensures hats { OnOk result (hats.new ≡ change_hat opening.now.region (joined (seat face.0 opening.now)) hats.old) }
-    ensures no_names { OnErr result (names.new ≡ names.old) }
-    ensures no_faces { OnErr result (faces.new.entries ≡ faces.old.entries) }
-    ensures no_hats { OnErr result (hats.new ≡ hats.old) }
-{
-    names.open(face)?;
-    let open = OpenFace {
-        region: opening.region,
-        zid: opening.zid,
-        mode: opening.mode,
-        remote_bound: opening.remote_bound,
-    };
-    match faces.insert(face.0, open) {
-        Ok(_) => {}
-        Err(_) => {
-            names.close(face);
-            return Err(OutOfMemory);
-        }
-    }
-    let seat = FaceRecord {
-        face,
-        zid: opening.zid,
-        mode: opening.mode,
-        remote_bound: opening.remote_bound,
-    };
-    match hats::join(hats, opening.region, seat) {
-        Ok(()) => Ok(()),
-        Err(_) => {
-            let _ = faces.remove(&face.0);
-            names.close(face);
-            Err(OutOfMemory)
-        }
-    }
-}
-
-fn is_unscoped(said: &Said) -> bool
-    ensures { result ≡ is_unscoped said.now }
-{
-    matches!(said, Said::Unscoped)
-}
-
-fn says_key_or_nothing(said: &Said) -> bool
-    ensures { result ≡ says_key_or_nothing said.now }
-{
-    match said {
-        Said::Unscoped => false,
-        Said::Empty => true,
-        Said::Full(text) => is_key(text.as_str()),
-    }
-}
-
-fn full_text(said: &Said) -> &str
-    ensures { result.now ≡ full_text said.now }
-{
-    match said {
-        Said::Unscoped => "",
-        Said::Empty => "",
-        Said::Full(text) => text.as_str(),
-    }
-}
-
-fn says_key(said: &Said) -> bool
-    ensures { result ≡ says_key said.now }
-{
-    match said {
-        Said::Unscoped => false,
-        Said::Empty => false,
-        Said::Full(text) => is_key(text.as_str()),
-    }
-}
-
-// The faces of offers.
-fn targets_of(alloc: Global, offers: &[QueryTargetQabl]) -> Result<Vec<FaceId>, AllocError>
-    ensures { IfOk result (λ v. v.items ≡ map target_of offers.now) }
-{
-    offers.iter().map(|offer| offer.face).collect(alloc)
-}
-
-// No number is left for the request, or no id at a target.
-fn lacks_number(queries: &Queries, targets: &[FaceId]) -> bool
-    ensures { result ≡ lacks_number targets.now queries.now }
-{
-    if queries.next_number() == u64::MAX {
-        return true;
-    }
-    any_full(queries, targets)
-}
-
-fn any_full(queries: &Queries, targets: &[FaceId]) -> bool
-    ensures { result ≡ list_any (is_full queries.now) targets.now }
-{
-    targets.iter().any(|face| queries.next_id(*face).is_none())
 }

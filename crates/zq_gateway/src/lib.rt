@@ -1,11 +1,21 @@
 //! The gateway: calls in, steps out.
+//!
+//! - `config`: what a gateway is made with
+//! - `call`: what it is asked, and what it answers
+//! - `gateway`: each call is one event
+//! - `replay`: whole runs, with what they promise of each request, reply and final
+//! - `face`, `hats`, `select`, `handed`, `read`, `parts`: the parts of a call
 #![tactic(auto)]
 
 pub mod call;
 pub mod config;
 pub mod face;
-mod handed;
 pub mod gateway;
-pub mod hats;
+mod handed;
+mod hats;
+mod parts;
+mod read;
 pub mod replay;
 mod select;
+#[cfg(test)]
+mod tests;

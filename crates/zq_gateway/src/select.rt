@@ -21,7 +21,6 @@ use zq_route::gateways::Gateways;
 use zq_route::selection::compute_final_route;
 use zq_tables::RegionMap;
 
-
 /// The id of an open face.
 pub fn zid_of(faces: &BTreeMap<u32, OpenFace>, face: FaceId) -> Option<Zid>
     ensures { result ≡ zid_of face.0 faces.now.entries }

@@ -61,10 +61,7 @@ fn copy_entry(alloc: Global, entry: &GatewayEntry) -> Result<GatewayEntry, OutOf
     })
 }
 
-fn copy_entries(
-    alloc: Global,
-    entries: &[GatewayEntry],
-) -> Result<GatewayEntryList, OutOfMemory>
+fn copy_entries(alloc: Global, entries: &[GatewayEntry]) -> Result<GatewayEntryList, OutOfMemory>
     ensures { IfOk result (λ l. l ≡ entries.now) }
 {
     let mut copies = Items::new(alloc);

@@ -12,6 +12,7 @@ take_seat-requires-clause-absent c = below_absent c.self.inside.next_face c.self
 
 pub invariant_of-self-2 : goal.invariant_of-self-2
 invariant_of-self-2 c =
-    let i = c.self.inside in
-    (rw c.in_ok-take_seat.ensures.faces (below_insert i.next_face i.faces.entries (opened c.args.asked.now) c.self.invariant.0),
-    rw c.in_ok-take_seat.ensures.names (below_insert i.next_face i.names no_names c.self.invariant.1))
+    let i = c.self.inside in (
+      rw c.in_ok-take_seat.ensures.faces (below_insert i.next_face i.faces.entries (opened c.args.asked.now) c.self.invariant.0),
+      rw c.in_ok-take_seat.ensures.names (below_insert i.next_face i.names no_names c.self.invariant.1),
+    )

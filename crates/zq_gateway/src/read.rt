@@ -1,0 +1,61 @@
+//! What is asked of an expression that was read.
+ghost use Rattle.std.specs.Prelude.{◌≡◌, option_copied};
+ghost use Rattle.zq_gateway.specs.Deciding.{remaps};
+ghost use Rattle.zq_gateway.specs.Selecting.{full_text, is_unscoped, says_key, says_key_or_nothing};
+
+use zq_key::is_key;
+use zq_key::text::Text;
+use zq_naming::said::Said;
+
+/// Whether the face can not declare the number for the text: it is 0 or stands for another one.
+pub fn remaps(id: u16, text: &str, standing: Option<&Text>) -> bool
+    ensures { result ≡ remaps id text.now (option_copied standing.entry) }
+{
+    if id == 0 {
+        return true;
+    }
+    match standing {
+        Some(other) => other.as_str() != text,
+        None => false,
+    }
+}
+
+/// Whether the number of the expression stands for nothing.
+pub fn is_unscoped(said: &Said) -> bool
+    ensures { result ≡ is_unscoped said.now }
+{
+    matches!(said, Said::Unscoped)
+}
+
+/// Whether the full text is a key, or there is none to be one.
+pub fn says_key_or_nothing(said: &Said) -> bool
+    ensures { result ≡ says_key_or_nothing said.now }
+{
+    match said {
+        Said::Unscoped => false,
+        Said::Empty => true,
+        Said::Full(text) => is_key(text.as_str()),
+    }
+}
+
+/// The full text, empty where there is none.
+pub fn full_text(said: &Said) -> &str
+    ensures { result.now ≡ full_text said.now }
+{
+    match said {
+        Said::Unscoped => "",
+        Said::Empty => "",
+        Said::Full(text) => text.as_str(),
+    }
+}
+
+/// Whether the full text is a key.
+pub fn says_key(said: &Said) -> bool
+    ensures { result ≡ says_key said.now }
+{
+    match said {
+        Said::Unscoped => false,
+        Said::Empty => false,
+        Said::Full(text) => is_key(text.as_str()),
+    }
+}
