@@ -1,5 +1,5 @@
 -- Lists of entries where a key is not there.
-use Rattle.std.proofs.Common.{◌≡◌, ℕ, Bool, true, false, cond, List, [], ◌∷◌, Option, Some, None, refl, ap, ◌∙◌}
+use Rattle.std.proofs.Common.{◌≡◌, Bool, true, false, cond, List, [], ◌∷◌, Some, None, refl, ap}
 use Rattle.std.specs.Map.{lookup, remove_entry}
 
 -- taking out what is not there changes nothing

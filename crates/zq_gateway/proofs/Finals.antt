@@ -1,14 +1,13 @@
 -- A final comes in exactly one call: what a call hands of them, and what is still to come, is what was to come.
-use Rattle.std.proofs.Common.{◌≡◌, ℕ, ◌+◌, ◌<◌, ◌≤◌, ◌^◌, Bool, true, false, cond, not, List, [], ◌∷◌, ◌++◌, map, length, Option, Some, None, refl, sym, ap, ◌∙◌, arith, true≢false, subst, eqb-true, length-append, IsSome}
-use Rattle.std.specs.List.{filter, list_any, sum_by}
-use Rattle.std.specs.Prelude.{◌&&◌, ◌||◌, ◌==◌, nat_lt}
+use Rattle.std.proofs.Common.{◌≡◌, ℕ, ◌+◌, ◌<◌, Bool, true, false, cond, not, List, [], ◌∷◌, ◌++◌, map, length, Option, Some, None, refl, sym, ap, ◌∙◌, arith, true≢false, subst, eqb-true, length-append}
+use Rattle.std.specs.List.{filter}
+use Rattle.std.specs.Prelude.{◌&&◌, ◌||◌, ◌==◌}
 use Rattle.std.specs.Option.{is_some}
 use Rattle.std.specs.Ordering.{nat_cmp}
 use Rattle.std.specs.List.Sorted.{IsStrictlySortedBy}
-use Rattle.std.specs.Map.{keys_of, lookup, remove_entry}
+use Rattle.std.specs.Map.{keys_of, remove_entry}
 use Rattle.std.specs.BTreeMap.{is_at, insert_entry}
-use Rattle.std.specs.BTreeSet.{insert_key}
-use Rattle.std.proofs.lemmas.Bool.{and_parts, not-true, false≢true, eqb-false}
+use Rattle.std.proofs.lemmas.Bool.{false≢true, eqb-false}
 use Rattle.std.proofs.lemmas.Cmp.{nat_cmp_total}
 use Rattle.std.proofs.lemmas.Map.Lookups.{exact_unsigned}
 use Rattle.zq_key.proofs.Naturals.{map-append}
@@ -19,18 +18,16 @@ use Rattle.zq_hat.specs.declared.types.QueryTargetQabl.{QueryTargetQabl}
 use Rattle.zq_query.specs.declared.records.Final.{Final}
 use Rattle.zq_query.specs.declared.records.ReplyTo.{ReplyTo}
 use Rattle.zq_query.specs.declared.records.Timeout.{Timeout}
-use Rattle.zq_query.specs.Records.{QueryState, Record, any_over, is_closed, is_entry, letting_go, landing, next_reply, after_reply, after_put, is_none_left}
-use Rattle.zq_query.specs.Asking.{after_ask}
-use Rattle.zq_query.specs.Closing.{closed_with, closing_finals, after_close, finals_after, finals_landed}
-use Rattle.zq_query.specs.Polling.{timeouts, timing_out, after_poll, has_number_for}
-use Rattle.zq_query.specs.Balance.{owed_by, finals_owed, finals_under}
+use Rattle.zq_query.specs.Records.{QueryState, any_over, is_closed, is_entry, next_reply, after_reply, after_put, is_none_left}
+use Rattle.zq_query.specs.Closing.{closing_finals, after_close, finals_after, finals_landed}
+use Rattle.zq_query.specs.Polling.{timeouts, after_poll, has_number_for}
+use Rattle.zq_query.specs.Balance.{finals_under}
 use Rattle.zq_query.proofs.Keys.{kept, same_key, sorted_out}
 use Rattle.zq_query.proofs.Sorted.{sorted_in, aside}
 use Rattle.zq_query.proofs.Lists.{has_put}
 use Rattle.zq_query.proofs.TimingOut.{rest_stays}
 use Rattle.zq_query.proofs.Balance.{letting_balance, landing_balance, closing_balance, reply_balance, poll_balance, ask_balance, letting_none_over, landing_none_over, reply_none_over, close_none_over, poll_none_over, ask_none_over}
 use Rattle.zq_naming.specs.Naming.{NamingState}
-use Rattle.zq_naming.specs.declared.said.Said.{Said}
 use Rattle.zq_gateway.specs.declared.call.Call.{Call}
 use Rattle.zq_gateway.specs.declared.call.Handed.{Handed}
 use Rattle.zq_gateway.specs.declared.call.Refusal.{Refusal}
@@ -39,10 +36,10 @@ use Rattle.zq_gateway.specs.Configs.{Settings}
 use Rattle.zq_gateway.specs.State.{State, Core, at, is_open, opening_state}
 use Rattle.zq_gateway.specs.Selecting.{select, full_text, target_of}
 use Rattle.zq_gateway.specs.TextCalls.{TextCall, opening, closing, naming, unnaming, declaring, withdrawing, asking, replying, ending, reporting, passing, listing, unbuilt, read}
-use Rattle.zq_gateway.specs.Deciding.{Cause, causes, first_of, refusal_of, refused, granted, answered, decide, is_accepted, accepted, after_replied, deadline, handed_final, handed_request, handed_requests, handed_replies, handed_timeouts, opened, passing_finals, replied}
-use Rattle.zq_gateway.specs.Machine.{written, write, follow, accepted_state, step, after, state_after, sent_final, sent_reply, sent_replies, sent_timeout}
-use Rattle.zq_gateway.specs.Headline.{ends, finals_of, to_come, FinalPromise}
-use Rattle.zq_gateway.proofs.Writing.{finals_written, replies_written, timeouts_written}
+use Rattle.zq_gateway.specs.Deciding.{causes, refusal_of, granted, answered, is_accepted, accepted, after_replied, deadline, handed_final, handed_request, handed_requests, handed_replies, handed_timeouts, opened, passing_finals, replied}
+use Rattle.zq_gateway.specs.Machine.{written, write, follow, accepted_state, after, state_after, sent_final, sent_reply, sent_timeout}
+use Rattle.zq_gateway.specs.Headline.{ends, to_come, FinalPromise}
+use Rattle.zq_gateway.proofs.Writing.{replies_written, timeouts_written}
 use Rattle.zq_gateway.proofs.Promises.{all_passed, granted_is_accepted}
 
 -- ---- what holds between two calls: open faces and closed ones are apart, and no record is over

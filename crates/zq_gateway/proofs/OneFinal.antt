@@ -1,12 +1,12 @@
 -- A run hands one final of a request at most.
-use Rattle.std.proofs.Common.{◌≡◌, ℕ, ◌+◌, ◌<◌, ◌≤◌, Bool, true, false, cond, not, List, [], ◌∷◌, length, Option, Some, None, refl, sym, ap, ◌∙◌, arith, true≢false}
+use Rattle.std.proofs.Common.{◌≡◌, ℕ, ◌+◌, ◌≤◌, Bool, true, false, cond, not, List, [], ◌∷◌, length, Option, Some, None, refl, sym, ap, ◌∙◌, arith, true≢false}
 use Rattle.std.specs.List.{filter}
-use Rattle.std.specs.Prelude.{◌&&◌, ◌||◌, ◌==◌, nat_lt}
+use Rattle.std.specs.Prelude.{if◌then◌else◌, ◌&&◌, ◌||◌, ◌==◌, nat_lt}
 use Rattle.std.specs.Option.{is_some}
 use Rattle.std.proofs.lemmas.Cmp.{nat_cmp_total}
 use Rattle.std.proofs.lemmas.Map.Lookups.{exact_unsigned}
 use Rattle.zq_query.specs.declared.records.ReplyTo.{ReplyTo}
-use Rattle.zq_query.specs.Records.{QueryState, Record, is_closed, next_reply, after_reply, after_put}
+use Rattle.zq_query.specs.Records.{QueryState, Record, is_closed, next_reply}
 use Rattle.zq_query.specs.Balance.{owed_by}
 use Rattle.zq_query.proofs.Lists.{has_put}
 use Rattle.zq_gateway.specs.declared.call.Call.{Call}
@@ -14,8 +14,8 @@ use Rattle.zq_gateway.specs.Configs.{Settings}
 use Rattle.zq_gateway.specs.State.{State, Core, opening_state}
 use Rattle.zq_gateway.specs.TextCalls.{TextCall, opening, closing, naming, unnaming, declaring, withdrawing, asking, replying, ending, reporting, passing, listing, unbuilt, read}
 use Rattle.zq_gateway.specs.Deciding.{decide, is_accepted, accepted, after_replied}
-use Rattle.zq_gateway.specs.Machine.{follow, accepted_state, step, after, steps_from, state_after}
-use Rattle.zq_gateway.specs.Headline.{finals_of, finals_over, to_come}
+use Rattle.zq_gateway.specs.Machine.{follow, accepted_state, after, steps_from, state_after}
+use Rattle.zq_gateway.specs.Headline.{finals_over, to_come}
 use Rattle.zq_gateway.proofs.Finals.{IsSound, put_closed, timing_closed, final_promise, follow_sound, opening_sound}
 
 -- ---- a face that was closed stays so
@@ -75,9 +75,9 @@ run_balance n (c ∷ cs) s i =
 pub one_final : (config : Settings) (cs : List Call) (n : ℕ) → finals_over n (steps_from (opening_state config) cs) ≤ 1
 one_final config cs n =
     let all = run_balance n cs (opening_state config) (opening_sound config) in
-    let first = by (nat_lt n 0) in
+    let first = by (nat_lt n (opening_state config).core.queries.requests) in
     omega (arith, all, first)
   where
-    by : (b : Bool) → cond b 0 1 ≤ 1
+    by : (b : Bool) → (if b then 0 else 1) ≤ 1
     by true = omega arith
     by false = omega arith

@@ -1,13 +1,12 @@
 -- What each call of a run promises of requests, replies and refusals.
-use Rattle.std.proofs.Common.{◌≡◌, ℕ, ◌+◌, ◌<◌, ◌^◌, Bool, true, false, cond, not, List, [], ◌∷◌, ◌++◌, map, length, Option, Some, None, refl, sym, ap, ◌∙◌, arith, true≢false, subst}
+use Rattle.std.proofs.Common.{◌≡◌, ℕ, ◌+◌, ◌<◌, ◌^◌, Bool, true, false, cond, not, List, [], ◌∷◌, ◌++◌, map, length, Option, Some, None, refl, ap, ◌∙◌, arith, true≢false}
 use Rattle.std.specs.List.{filter, list_any}
-use Rattle.std.specs.Prelude.{find, ◌&&◌, ◌||◌, ◌==◌, unwrap_or}
-use Rattle.std.specs.Option.{is_some, option_map_or}
-use Rattle.std.proofs.lemmas.Bool.{and_parts, not-true, false≢true}
+use Rattle.std.specs.Prelude.{◌||◌, ◌==◌, unwrap_or}
+use Rattle.std.specs.Option.{is_some}
+use Rattle.std.proofs.lemmas.Bool.{false≢true}
 use Rattle.zq_key.proofs.Naturals.{map-append}
 use Rattle.zq_key.specs.Key.{is_key, is_chunk}
 use Rattle.zq_key.specs.declared.message.FaceId.{FaceId}
-use Rattle.zq_key.specs.declared.message.Message.TheVariants as message
 use Rattle.zq_key.specs.declared.message.Request.{Request}
 use Rattle.zq_key.specs.declared.message.QueryTarget.{QueryTarget}
 use Rattle.zq_key.specs.declared.message.Response.{Response}
@@ -17,10 +16,10 @@ use Rattle.zq_query.specs.declared.records.ReplyTo.{ReplyTo}
 use Rattle.zq_query.specs.declared.records.Timeout.{Timeout}
 use Rattle.zq_query.specs.Closing.{closing_finals, finals_after, finals_landed}
 use Rattle.zq_query.specs.Records.{QueryState, is_entry, is_pending, next_reply, next_id}
-use Rattle.zq_query.specs.Asking.{given_id, is_full, lacks_number}
+use Rattle.zq_query.specs.Asking.{given_id, is_full}
 use Rattle.zq_query.specs.Polling.{timeouts, has_number_for}
 use Rattle.zq_query.proofs.Ids.{next_id_is_new}
-use Rattle.zq_naming.specs.Naming.{NamingState, best, face_naming, read_by}
+use Rattle.zq_naming.specs.Naming.{NamingState, best, face_naming}
 use Rattle.zq_naming.specs.declared.said.Said.{Said}
 use Rattle.zq_naming.specs.declared.said.Said.TheVariants as said
 use Rattle.zq_naming.proofs.Reading.{best-reads}
@@ -29,14 +28,13 @@ use Rattle.zq_gateway.specs.declared.call.Call.TheVariants as call
 use Rattle.zq_gateway.specs.declared.call.Handed.{Handed}
 use Rattle.zq_gateway.specs.declared.call.Outcome.TheVariants as outcome
 use Rattle.zq_gateway.specs.declared.call.Refusal.{Refusal}
-use Rattle.zq_gateway.specs.declared.call.Step.{Step}
 use Rattle.zq_gateway.specs.declared.face.OpenFace.{OpenFace}
 use Rattle.zq_gateway.specs.State.{State, Core, at}
-use Rattle.zq_gateway.specs.Selecting.{select, select_for, full_text, says_key, target_of}
+use Rattle.zq_gateway.specs.Selecting.{select, select_for, full_text, target_of}
 use Rattle.zq_gateway.specs.TextCalls.{TextCall, opening, closing, naming, unnaming, declaring, withdrawing, asking, replying, ending, reporting, passing, listing, unbuilt, read, said as said_by_face}
-use Rattle.zq_gateway.specs.Deciding.{passing_finals, Cause, first_of, causes, refusal_of, refused, granted, answered, decide, is_accepted, targets, handed_final, handed_request, handed_requests, handed_replies, handed_timeouts, replied}
-use Rattle.zq_gateway.specs.Machine.{written, write, answer, follow, accepted_state, step, after, sent_final, sent_reply, sent_replies, sent_timeout}
-use Rattle.zq_gateway.specs.Headline.{IsHandedOn, HandsOn, HandsEach, HandsRequest, RequestPromise, HandsReply, ReplyPromise, RefusesBy, asks, replies_to}
+use Rattle.zq_gateway.specs.Deciding.{passing_finals, Cause, first_of, causes, refusal_of, granted, answered, is_accepted, targets, handed_final, handed_request, handed_requests, handed_replies, handed_timeouts, replied}
+use Rattle.zq_gateway.specs.Machine.{written, write, answer, accepted_state, step, sent_final, sent_reply, sent_timeout}
+use Rattle.zq_gateway.specs.Headline.{HandsOn, HandsEach, HandsRequest, RequestPromise, HandsReply, ReplyPromise, RefusesBy, asks, replies_to}
 use Rattle.zq_gateway.proofs.Writing.{finals_written, replies_written, timeouts_written}
 use Rattle.zq_gateway.proofs.Replies.{next-pending}
 

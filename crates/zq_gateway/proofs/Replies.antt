@@ -1,12 +1,12 @@
 -- Where a reply goes, and whether a number is left for it.
-use Rattle.std.proofs.Common.{◌≡◌, ℕ, ◌+◌, ◌<◌, ◌^◌, ◌==◌, ◌&&◌, ◌||◌, Bool, true, false, not, cond, List, [], ◌∷◌, Option, Some, None, refl, sym, ap, ◌∙◌, arith, true≢false, ne_eqb}
+use Rattle.std.proofs.Common.{◌≡◌, ℕ, ◌+◌, ◌<◌, ◌^◌, ◌==◌, ◌&&◌, ◌||◌, Bool, true, false, not, cond, List, [], ◌∷◌, Option, Some, None, refl, sym, ap, ◌∙◌, arith, ne_eqb}
 use Rattle.std.specs.List.{find}
 use Rattle.std.specs.List.{list_any}
 use Rattle.std.specs.Option.{is_some, option_map, option_map_or, IsSome}
 use Rattle.zq_key.specs.declared.message.FaceId.{FaceId}
 use Rattle.zq_query.specs.declared.records.Final.{Final}
 use Rattle.zq_query.specs.declared.records.ReplyTo.{ReplyTo}
-use Rattle.zq_query.specs.Records.{Record, QueryState, is_pending, has_entry, owner, final_of, next_reply, reply_to, needs_number, is_closed}
+use Rattle.zq_query.specs.Records.{QueryState, is_pending, has_entry, owner, final_of, next_reply, reply_to, is_closed}
 use Rattle.zq_gateway.specs.Deciding.{lacks_reply_number}
 
 any-found : {X Y Z : Type 0} (p : X → Bool) (f : X → Y) (g : Y → Z) (x : X) (xs : List X) (b : Bool) → is_some (option_map g (option_map f (find p xs))) ≡ list_any p xs → is_some (option_map g (option_map f (cond b (Some x) (find p xs)))) ≡ (b || list_any p xs)

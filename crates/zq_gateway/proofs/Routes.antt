@@ -1,7 +1,7 @@
 -- Routes over the regions: each face stands once.
 use Rattle.std.proofs.Common.{◌≡◌, ℕ, Bool, true, false, cond, not, List, [], ◌∷◌, ◌++◌, map, refl, sym, ap, ◌∙◌, true≢false, ne_eqb, eq-eqb}
 use Rattle.std.specs.List.{filter, list_any}
-use Rattle.std.specs.Prelude.{fold, ◌&&◌, ◌||◌, ◌==◌}
+use Rattle.std.specs.Prelude.{fold, ◌||◌, ◌==◌}
 use Rattle.std.proofs.lemmas.Bool.{and_parts, not-true}
 use Rattle.std.specs.Map.{keys_of, values_of}
 use Rattle.zq_key.specs.declared.message.FaceId.{FaceId}
@@ -12,7 +12,7 @@ use Rattle.zq_hat.specs.State.{HatState}
 use Rattle.zq_hat.specs.Offers.{offers_of}
 use Rattle.zq_query.specs.Asking.{are_distinct, face_numbers}
 use Rattle.zq_route.specs.declared.gateways.Gateways.{Gateways}
-use Rattle.zq_route.specs.Built.{has_face, is_face, with_first}
+use Rattle.zq_route.specs.Built.{has_face, with_first}
 use Rattle.zq_route.specs.Selection.{by_face, chosen, with_offers}
 use Rattle.zq_gateway.specs.declared.face.OpenFace.{OpenFace}
 use Rattle.zq_gateway.specs.Selecting.{passes, target_of, with_part}

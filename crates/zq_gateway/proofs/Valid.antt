@@ -1,5 +1,5 @@
 -- A valid configuration names regions alone.
-use Rattle.std.proofs.Common.{◌≡◌, ℕ, suc, zero, ◌<◌, Bool, true, false, cond, not, List, [], ◌∷◌, ◌++◌, Option, Some, None, length, get_or, refl, sym, ap, ◌∙◌, arith}
+use Rattle.std.proofs.Common.{◌≡◌, ℕ, suc, zero, ◌<◌, Bool, true, false, cond, not, List, [], ◌∷◌, ◌++◌, Option, Some, None, length, get_or, refl, arith}
 use Rattle.std.specs.Prelude.{nat_lt}
 use Rattle.zq_key.specs.declared.message.Region.TheVariants as region
 use Rattle.zq_tables.specs.Region.{region_index}

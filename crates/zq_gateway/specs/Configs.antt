@@ -1,5 +1,5 @@
 -- Configurations: which lists of entries make one, and what a gateway is made with.
-use Rattle.std.specs.Prelude.{◌≡◌, ℕ, ◌==◌, Bool, true, false, nat_lt, List, [], ◌∷◌, ◌++◌, map, Option, Some, None, if◌then◌else◌}
+use Rattle.std.specs.Prelude.{◌≡◌, ℕ, ◌==◌, Bool, true, false, nat_lt, List, [], ◌∷◌, ◌++◌, Option, Some, None, if◌then◌else◌}
 use Rattle.std.specs.List.{list_any}
 use Rattle.zq_key.specs.declared.message.Mode.{Mode}
 use Rattle.zq_key.specs.declared.message.Mode.TheVariants as mode

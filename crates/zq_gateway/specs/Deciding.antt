@@ -1,32 +1,28 @@
 -- What a call is answered, over texts: the first cause that refuses it, or what it hands and changes.
-use Rattle.std.specs.Prelude.{codes, ℕ, ◌+◌, ◌-◌, ◌^◌, ◌==◌, min, Bool, true, false, not, ◌&&◌, ◌||◌, List, [], ◌∷◌, ◌++◌, map, length, Option, Some, None, if◌then◌else◌, unwrap_or, option_to_list, is_none}
-use Rattle.std.specs.List.{filter, flat_map, list_any}
-use Rattle.std.specs.Option.{is_some, option_map, option_map_or}
+use Rattle.std.specs.Prelude.{codes, ℕ, ◌+◌, ◌-◌, ◌^◌, ◌==◌, min, Bool, true, false, not, ◌&&◌, ◌||◌, List, [], ◌∷◌, ◌++◌, map, Option, Some, None, if◌then◌else◌, unwrap_or, is_none}
+use Rattle.std.specs.List.{filter}
+use Rattle.std.specs.Option.{is_some}
 use Rattle.std.specs.Ordering.{nat_cmp}
 use Rattle.std.specs.BTreeMap.{is_at, insert_entry}
 use Rattle.std.specs.Map.{remove_entry}
 use Rattle.std.specs.Str.{bytes_eq}
-use Rattle.zq_key.specs.Key.{is_key}
 use Rattle.zq_key.specs.declared.message.FaceId.{FaceId}
-use Rattle.zq_key.specs.declared.message.Message.{Message}
 use Rattle.zq_key.specs.declared.message.Message.TheVariants as message
 use Rattle.zq_key.specs.declared.message.ReplyBody.TheVariants as body
-use Rattle.zq_key.specs.declared.message.Region.{Region}
 use Rattle.zq_key.specs.declared.message.Request.{Request}
 use Rattle.zq_key.specs.declared.message.Response.{Response}
 use Rattle.zq_tables.specs.RegionMap.{with_entry}
 use Rattle.zq_hat.specs.declared.types.FaceRecord.{FaceRecord}
 use Rattle.zq_hat.specs.declared.types.QueryTargetQabl.{QueryTargetQabl}
-use Rattle.zq_hat.specs.Kept.{clashes_at, declaration_at, registered, unregistered, with_face_opened, without_face}
+use Rattle.zq_hat.specs.Kept.{registered, unregistered, without_face}
 use Rattle.zq_query.specs.declared.records.Final.{Final}
 use Rattle.zq_query.specs.declared.records.ReplyTo.{ReplyTo}
 use Rattle.zq_query.specs.declared.records.Timeout.{Timeout}
-use Rattle.zq_query.specs.Records.{QueryState, is_pending, is_in_flight, is_entry, letting_go, over_after, landing, over_after_reply, final_if_open, next_reply, after_reply, needs_number}
+use Rattle.zq_query.specs.Records.{QueryState, is_pending, is_in_flight, is_entry, letting_go, landing, next_reply, after_reply, needs_number}
 use Rattle.zq_query.specs.Closing.{closing_finals, after_close, finals_after, finals_landed}
 use Rattle.zq_query.specs.Polling.{is_due, timing_out, timeouts, after_poll, lacks_replies, has_number_for}
 use Rattle.zq_query.specs.Asking.{lacks_number, given_id, after_ask}
 use Rattle.zq_naming.specs.declared.said.Said.{Said}
-use Rattle.zq_naming.specs.declared.said.Said.TheVariants as said
 use Rattle.zq_naming.specs.Naming.{NamingState, no_names, plain, with_name, without_name, change_naming}
 use Rattle.zq_gateway.specs.declared.call.Opening.{Opening}
 use Rattle.zq_gateway.specs.declared.call.Outcome.{Outcome}
@@ -36,7 +32,7 @@ use Rattle.zq_gateway.specs.declared.call.Refusal.TheVariants as refusal
 use Rattle.zq_gateway.specs.declared.call.Handed.{Handed}
 use Rattle.zq_gateway.specs.declared.call.Step.{Step}
 use Rattle.zq_gateway.specs.declared.face.OpenFace.{OpenFace}
-use Rattle.zq_gateway.specs.State.{Core, State, at, is_open, has_hat, hat_of, has_declared_in, clashes_in, joined, change_hat, change_hat_of}
+use Rattle.zq_gateway.specs.State.{Core, State, is_open, has_hat, hat_of, has_declared_in, clashes_in, joined, change_hat, change_hat_of}
 use Rattle.zq_gateway.specs.TextCalls.{TextCall, opening, closing, naming, unnaming, declaring, withdrawing, asking, replying, ending, reporting, passing, listing, unbuilt}
 use Rattle.zq_gateway.specs.Selecting.{select, target_of, zid_of, is_unscoped, says_key, says_key_or_nothing, full_text}
 

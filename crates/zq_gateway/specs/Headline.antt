@@ -1,6 +1,6 @@
 -- What each call of a run promises: of requests, of replies, of finals and of refusals, without the machine.
-use Rattle.std.specs.Prelude.{◌≡◌, ℕ, ◌+◌, ◌≤◌, ◌<◌, ◌==◌, Bool, true, false, not, ◌&&◌, List, [], ◌∷◌, ◌++◌, map, length, Option, Some, None, if◌then◌else◌, nat_lt}
-use Rattle.std.specs.List.{filter, list_any, AllByRecursion}
+use Rattle.std.specs.Prelude.{◌≡◌, ℕ, ◌+◌, ◌==◌, Bool, true, false, ◌&&◌, List, [], ◌∷◌, ◌++◌, map, length, Option, Some, None, if◌then◌else◌, nat_lt}
+use Rattle.std.specs.List.{filter, list_any}
 use Rattle.std.specs.Option.{option_map_or}
 use Rattle.zq_key.specs.declared.message.FaceId.{FaceId}
 use Rattle.zq_key.specs.declared.message.Message.{Message}
@@ -9,16 +9,14 @@ use Rattle.zq_key.specs.declared.message.Request.{Request}
 use Rattle.zq_key.specs.declared.message.Response.{Response}
 use Rattle.zq_hat.specs.declared.types.QueryTargetQabl.{QueryTargetQabl}
 use Rattle.zq_query.specs.declared.records.ReplyTo.{ReplyTo}
-use Rattle.zq_query.specs.Records.{QueryState, Record, is_pending, is_closed, any_over, next_reply}
+use Rattle.zq_query.specs.Records.{QueryState, is_pending, any_over, next_reply}
 use Rattle.zq_query.specs.Balance.{owed_by}
 use Rattle.zq_query.specs.Polling.{timeouts, has_number_for}
-use Rattle.zq_naming.specs.declared.said.Said.{Said}
 use Rattle.zq_naming.specs.declared.said.Said.TheVariants as said
 use Rattle.zq_naming.specs.Naming.{read_by, face_naming}
 use Rattle.zq_gateway.specs.declared.call.Call.{Call}
 use Rattle.zq_gateway.specs.declared.call.Call.TheVariants as call
 use Rattle.zq_gateway.specs.declared.call.Handed.{Handed}
-use Rattle.zq_gateway.specs.declared.call.Outcome.{Outcome}
 use Rattle.zq_gateway.specs.declared.call.Outcome.TheVariants as outcome
 use Rattle.zq_gateway.specs.declared.call.Refusal.{Refusal}
 use Rattle.zq_gateway.specs.declared.call.Step.{Step}

@@ -1,6 +1,6 @@
 -- One call of the gateway, and whole runs.
 use Rattle.std.specs.Option.{is_some}
-use Rattle.std.specs.Prelude.{ℕ, List, [], ◌∷◌, map, Option, Some, None, if◌then◌else◌}
+use Rattle.std.specs.Prelude.{ℕ, List, [], ◌∷◌, map, Some, if◌then◌else◌}
 use Rattle.zq_key.specs.declared.message.Message.{Message}
 use Rattle.zq_key.specs.declared.message.Message.TheVariants as message
 use Rattle.zq_key.specs.declared.message.Response.{Response}
@@ -13,7 +13,7 @@ use Rattle.zq_gateway.specs.declared.call.Call.{Call}
 use Rattle.zq_gateway.specs.declared.call.Handed.{Handed}
 use Rattle.zq_gateway.specs.declared.call.Step.{Step}
 use Rattle.zq_gateway.specs.Configs.{Settings}
-use Rattle.zq_gateway.specs.State.{Core, State, opening_state}
+use Rattle.zq_gateway.specs.State.{State, opening_state}
 use Rattle.zq_gateway.specs.TextCalls.{TextCall, read}
 use Rattle.zq_gateway.specs.Deciding.{handed_final, handed_reply, timed_out, decide, accepted, renamed, is_accepted}
 

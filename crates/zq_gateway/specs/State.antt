@@ -1,11 +1,10 @@
 -- What a gateway is seen as between two calls: lists.
-use Rattle.std.specs.Prelude.{ℕ, ◌+◌, ◌<◌, ◌==◌, Bool, true, false, ◌&&◌, not, List, [], ◌∷◌, fold, Option, Some, None, if◌then◌else◌, nat_lt}
+use Rattle.std.specs.Prelude.{ℕ, ◌<◌, Bool, true, false, not, List, [], fold, Option, Some, None, if◌then◌else◌, nat_lt}
 use Rattle.std.specs.Option.{is_some, option_map, option_map_or, option_and_then}
 use Rattle.std.specs.List.{All}
 use Rattle.std.specs.Map.{keys_of, lookup, set_value}
 use Rattle.std.specs.BTreeMap.{is_at}
 use Rattle.std.specs.Ordering.{nat_cmp}
-use Rattle.zq_key.specs.declared.message.FaceId.{FaceId}
 use Rattle.zq_key.specs.declared.message.Region.{Region}
 use Rattle.zq_key.specs.declared.message.Region.TheVariants as region
 use Rattle.zq_tables.specs.Region.{region_index}

@@ -1,5 +1,5 @@
 -- Calls with their expressions read: each is a text, nothing, or of no known number.
-use Rattle.std.specs.Prelude.{ℕ, List, Option, Some, None}
+use Rattle.std.specs.Prelude.{ℕ, List, Option}
 use Rattle.zq_key.specs.declared.message.FaceId.{FaceId}
 use Rattle.zq_key.specs.declared.message.QueryableInfoType.{QueryableInfoType}
 use Rattle.zq_key.specs.declared.message.Region.{Region}
@@ -7,7 +7,7 @@ use Rattle.zq_key.specs.declared.message.Request.{Request}
 use Rattle.zq_key.specs.declared.message.Response.{Response}
 use Rattle.zq_key.specs.declared.message.WireExpr.{WireExpr}
 use Rattle.zq_naming.specs.declared.said.Said.{Said}
-use Rattle.zq_naming.specs.Naming.{NamingState, said_of, text_at, face_naming}
+use Rattle.zq_naming.specs.Naming.{said_of, text_at, face_naming}
 use Rattle.zq_route.specs.declared.gateways.Gateways.{Gateways}
 use Rattle.zq_gateway.specs.declared.call.Opening.{Opening}
 use Rattle.zq_gateway.specs.declared.call.Call.{Call}

@@ -1,4 +1,4 @@
-use Rattle.std.proofs.Common.{◌≡◌, [], ap, arith}
+use Rattle.std.proofs.Common.{[], arith}
 use Rattle.zq_gateway.proofs.Valid.{regions_fit}
 use Rattle.zq_gateway.proofs.hats.first_hats.Goals as goal
 

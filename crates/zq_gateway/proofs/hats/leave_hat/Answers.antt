@@ -1,4 +1,4 @@
-use Rattle.std.proofs.Common.{◌≡◌, ◌∙◌, sym, ap, None, Option, Some, true, false, true≢false, refl}
+use Rattle.std.proofs.Common.{◌≡◌, ◌∙◌, sym, ap, None, Option, Some, false, true≢false, refl}
 use Rattle.std.specs.Option.{is_some}
 use Rattle.std.specs.BTreeMap.{is_at}
 use Rattle.std.specs.Ordering.{nat_cmp}

@@ -1,4 +1,3 @@
-use Rattle.std.proofs.Common.{◌≡◌}
 use Rattle.zq_gateway.specs.State.{State, opening_state}
 use Rattle.zq_gateway.specs.Machine.{state_after}
 use Rattle.zq_gateway.proofs.Promises.{request_promise, reply_promise, refusal_promise}

@@ -1,4 +1,3 @@
-use Rattle.std.proofs.Common.{◌≡◌}
 use Rattle.zq_gateway.proofs.Below.{below_remove}
 use Rattle.zq_gateway.proofs.gateway.Gateway.close.Goals as goal
 

@@ -1,4 +1,3 @@
-use Rattle.std.proofs.Common.{◌≡◌, sym}
 use Rattle.zq_naming.specs.Naming.{with_name}
 use Rattle.zq_gateway.proofs.Below.{below_change}
 use Rattle.zq_gateway.proofs.gateway.Gateway.declare_key.Goals as goal

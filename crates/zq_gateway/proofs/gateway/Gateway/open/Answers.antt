@@ -1,4 +1,3 @@
-use Rattle.std.proofs.Common.{◌≡◌, ◌+◌, sym, subst}
 use Rattle.zq_naming.specs.Naming.{no_names}
 use Rattle.zq_gateway.specs.Deciding.{opened}
 use Rattle.zq_gateway.proofs.Below.{below_absent, below_insert}

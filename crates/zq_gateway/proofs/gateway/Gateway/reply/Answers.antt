@@ -1,4 +1,4 @@
-use Rattle.std.proofs.Common.{◌≡◌, ◌∙◌, sym, ap, None, Some, Option, Err, true≢false, refl}
+use Rattle.std.proofs.Common.{◌≡◌, ◌∙◌, sym, ap, None, Err, true≢false}
 use Rattle.std.specs.Option.{is_some}
 use Rattle.zq_query.specs.Records.{next_reply}
 use Rattle.zq_gateway.proofs.Replies.{next-pending}

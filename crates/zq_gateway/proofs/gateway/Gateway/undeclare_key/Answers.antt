@@ -1,4 +1,3 @@
-use Rattle.std.proofs.Common.{◌≡◌, sym}
 use Rattle.zq_naming.specs.Naming.{without_name}
 use Rattle.zq_gateway.proofs.Below.{below_change}
 use Rattle.zq_gateway.proofs.gateway.Gateway.undeclare_key.Goals as goal

@@ -1,4 +1,4 @@
-use Rattle.std.proofs.Common.{◌≡◌, ℕ, [], fold}
+use Rattle.std.proofs.Common.{◌≡◌, [], fold}
 use Rattle.std.specs.Map.{values_of}
 use Rattle.zq_gateway.specs.Selecting.{with_part}
 use Rattle.zq_gateway.proofs.select.Asker.route.Given as goal
