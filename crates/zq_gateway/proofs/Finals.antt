@@ -39,11 +39,11 @@ use Rattle.zq_gateway.specs.Configs.{Settings}
 use Rattle.zq_gateway.specs.State.{State, Core, at, is_open, opening_state}
 use Rattle.zq_gateway.specs.Selecting.{select, full_text, target_of}
 use Rattle.zq_gateway.specs.TextCalls.{TextCall, opening, closing, naming, unnaming, declaring, withdrawing, asking, replying, ending, reporting, passing, listing, unbuilt, read}
-use Rattle.zq_gateway.specs.Deciding.{Cause, first_of, refusal_of, refused, granted, answered, decide, is_accepted, accepted, after_replied, deadline, handed_final, handed_request, handed_requests, handed_replies, handed_timeouts, opened, passing_finals, replied}
+use Rattle.zq_gateway.specs.Deciding.{Cause, causes, first_of, refusal_of, refused, granted, answered, decide, is_accepted, accepted, after_replied, deadline, handed_final, handed_request, handed_requests, handed_replies, handed_timeouts, opened, passing_finals, replied}
 use Rattle.zq_gateway.specs.Machine.{written, write, follow, accepted_state, step, after, state_after, sent_final, sent_reply, sent_replies, sent_timeout}
 use Rattle.zq_gateway.specs.Headline.{ends, finals_of, to_come, FinalPromise}
 use Rattle.zq_gateway.proofs.Writing.{finals_written, replies_written, timeouts_written}
-use Rattle.zq_gateway.proofs.Promises.{passed, granted_is_accepted}
+use Rattle.zq_gateway.proofs.Promises.{all_passed, granted_is_accepted}
 
 -- ---- what holds between two calls: open faces and closed ones are apart, and no record is over
 pub record Sound (faces : List (ℕ × OpenFace)) (next : ℕ) (q : QueryState) : Type 0 where
@@ -115,7 +115,7 @@ closed_sound faces next face q there s = record {
     away f false e k = s.apart f k.1
 
 -- ---- every call keeps it
-put_closed : (n : ℕ) (q : QueryState) (b : Bool) → (cond b (after_put n q) q).closed ≡ q.closed
+pub put_closed : (n : ℕ) (q : QueryState) (b : Bool) → (cond b (after_put n q) q).closed ≡ q.closed
 put_closed n q true = refl
 put_closed n q false = refl
 
@@ -123,7 +123,7 @@ replied_sound : (faces : List (ℕ × OpenFace)) (next : ℕ) (q : QueryState) (
 replied_sound faces next q None s = s
 replied_sound faces next q (Some to) s = same_closed faces next q (after_reply to q) s (put_closed to.number q (is_some to.reply)) (reply_none_over to q s.standing)
 
-timing_closed : (now : ℕ) (q : QueryState) → (after_poll now q).closed ≡ q.closed
+pub timing_closed : (now : ℕ) (q : QueryState) → (after_poll now q).closed ≡ q.closed
 timing_closed now q = ap (λ (z : QueryState). z.closed) (rest_stays (timeouts now q) q)
 
 is_there : (b : Bool) → not b ≡ false → b ≡ true
@@ -133,7 +133,7 @@ is_there false h = absurd (true≢false h)
 -- a call that nothing refuses is one of an open face, where it is one of a face
 granted_sound : (c : Core) (t : TextCall) → refusal_of c t ≡ None → Sound c.faces c.next_face c.queries → Sound (accepted c t).faces (accepted c t).next_face (accepted c t).queries
 granted_sound c (opening o) h s = opened_sound c.faces c.next_face c.queries (opened o) s
-granted_sound c (closing face) h s = closed_sound c.faces c.next_face face.0 c.queries (is_there _ (passed _ _ h).0) s
+granted_sound c (closing face) h s = closed_sound c.faces c.next_face face.0 c.queries (is_there (is_open face.0 c) (all_passed (causes c (closing face)) h).0) s
 granted_sound c (naming face id sd x) h s = s
 granted_sound c (unnaming face id x) h s = s
 granted_sound c (declaring face id sd i n) h s = s
@@ -150,7 +150,7 @@ granted_sound c unbuilt h s = s
 abbrev pub IsSound : State → Type 0
 IsSound s = Sound s.core.faces s.core.next_face s.core.queries
 
-follow_sound : (s : State) (t : TextCall) → IsSound s → IsSound (follow s t)
+pub follow_sound : (s : State) (t : TextCall) → IsSound s → IsSound (follow s t)
 follow_sound s t i = by (refusal_of s.core t) refl
   where
     taken : (b : Bool) → b ≡ true → refusal_of s.core t ≡ None → IsSound (cond b (accepted_state s t) s)
@@ -253,7 +253,7 @@ granted_balance n s (asking face sd r now) h i =
     let q = s.core.queries in
     let os = select s.core face sd r.target in
     let told = asked_count n s.names q face (full_text sd) r os in
-    let kept = ask_balance n face r.id r.qos (map target_of os) (deadline s.core r.timeout now) q (i.apart face.0 (is_there _ (passed _ _ h).0)) in
+    let kept = ask_balance n face r.id r.qos (map target_of os) (deadline s.core r.timeout now) q (i.apart face.0 (is_there (is_open face.0 s.core) (all_passed (causes s.core (asking face sd r now)) h).0)) in
     omega (arith, told, kept)
 granted_balance n s (replying face sd r) h i =
     let told = none_replied n s.names (full_text sd) r (next_reply face.0 r.rid s.core.queries) in

@@ -6,3 +6,4 @@ pub mod Routes
 pub mod Valid
 pub mod Promises
 pub mod Finals
+pub mod OneFinal

@@ -1,7 +1,7 @@
 -- What each call of a run promises of requests, replies and refusals.
 use Rattle.std.proofs.Common.{◌≡◌, ℕ, ◌+◌, ◌<◌, ◌^◌, Bool, true, false, cond, not, List, [], ◌∷◌, ◌++◌, map, length, Option, Some, None, refl, sym, ap, ◌∙◌, arith, true≢false, subst}
 use Rattle.std.specs.List.{filter, list_any}
-use Rattle.std.specs.Prelude.{find, ◌&&◌, ◌||◌, unwrap_or}
+use Rattle.std.specs.Prelude.{find, ◌&&◌, ◌||◌, ◌==◌, unwrap_or}
 use Rattle.std.specs.Option.{is_some, option_map_or}
 use Rattle.std.proofs.lemmas.Bool.{and_parts, not-true, false≢true}
 use Rattle.zq_key.proofs.Naturals.{map-append}
@@ -15,7 +15,8 @@ use Rattle.zq_hat.specs.declared.types.QueryTargetQabl.{QueryTargetQabl}
 use Rattle.zq_query.specs.declared.records.Final.{Final}
 use Rattle.zq_query.specs.declared.records.ReplyTo.{ReplyTo}
 use Rattle.zq_query.specs.declared.records.Timeout.{Timeout}
-use Rattle.zq_query.specs.Records.{QueryState, is_pending, next_reply, next_id}
+use Rattle.zq_query.specs.Closing.{closing_finals, finals_after, finals_landed}
+use Rattle.zq_query.specs.Records.{QueryState, is_entry, is_pending, next_reply, next_id}
 use Rattle.zq_query.specs.Asking.{given_id, is_full, lacks_number}
 use Rattle.zq_query.specs.Polling.{timeouts, has_number_for}
 use Rattle.zq_query.proofs.Ids.{next_id_is_new}
@@ -52,6 +53,14 @@ passed c cs h = by c.0 refl h
     by true e g = absurd (cc)
     by false e g = (e, g)
 
+abbrev pub AllPassed : List Cause → Type 0
+AllPassed [] = Unit {0}
+AllPassed (c ∷ cs) = (c.0 ≡ false) × AllPassed cs
+
+pub all_passed : (cs : List Cause) → first_of cs ≡ None → AllPassed cs
+all_passed [] h = tt
+all_passed (c ∷ cs) h = let p = passed c cs h in (p.0, all_passed cs p.1)
+
 -- ---- requests
 module _ (s : State) (text : List ℕ) (r : Request) (some : 0 < length text) where
   free : (o : QueryTargetQabl) (i : Option ℕ) → next_id s.core.queries o.face.0 ≡ i → not (is_some i) ≡ false → is_pending o.face.0 (unwrap_or i 0) s.core.queries.records ≡ false
@@ -83,11 +92,11 @@ selected_key : (c : Core) (asker : FaceId) (s : Said) (t : QueryTarget) (o : Opt
 selected_key c asker s t None x xs e = absurd (cc)
 selected_key c asker said.Unscoped t (Some f) x xs e = absurd (cc)
 selected_key c asker said.Empty t (Some f) x xs e = absurd (cc)
-selected_key c asker (said.Full text) t (Some f) x xs e = by (is_key text) refl e
+selected_key c asker (said.Full text) t (Some f) x xs e = by (is_key text) refl _ e
   where
-    by : (b : Bool) → is_key text ≡ b → {ys : List QueryTargetQabl} → cond b ys [] ≡ x ∷ xs → 0 < length text
-    by true k g = key_some text k
-    by false k g = absurd (cc)
+    by : (b : Bool) → is_key text ≡ b → (ys : List QueryTargetQabl) → cond b ys [] ≡ x ∷ xs → 0 < length text
+    by true k ys g = key_some text k
+    by false k ys g = absurd (cc)
 
 requests_handed : (s : State) (face : FaceId) (sd : Said) (r : Request) (os : List QueryTargetQabl) → select s.core face sd r.target ≡ os → list_any (is_full s.core.queries) (map target_of os) ≡ false
     → HandsRequest s face (full_text sd) r os (map (written s.names) (handed_requests s.core.queries face (full_text sd) r os))
@@ -96,9 +105,8 @@ requests_handed s face sd r (o ∷ os) e h = hands_each s (full_text sd) r (sele
 
 no_full : (s : State) (face : FaceId) (sd : Said) (r : Request) (now : ℕ) → refusal_of s.core (asking face sd r now) ≡ None → list_any (is_full s.core.queries) (targets s.core face sd r) ≡ false
 no_full s face sd r now h =
-    let p = passed _ _ h in
-    let q = passed _ _ p.1 in
-    second (s.core.queries.requests + 1 == 2 ^ 64) (list_any (is_full s.core.queries) (targets s.core face sd r)) q.0
+    let p = all_passed (causes s.core (asking face sd r now)) h in
+    second (s.core.queries.requests + 1 == 2 ^ 64) (list_any (is_full s.core.queries) (targets s.core face sd r)) p.1.0
   where
     second : (a b : Bool) → (a || b) ≡ false → b ≡ false
     second true b e = absurd (true≢false e)
@@ -173,17 +181,17 @@ granted_asks : (names : NamingState) (c : Core) (t : TextCall) → is_asking t �
 unfolding is_asking
 granted_asks names c (asking face s r now) h = absurd (true≢false h)
 granted_asks names c (opening o) h = refl
-granted_asks names c (closing face) h = no_finals_ask names _
+granted_asks names c (closing face) h = no_finals_ask names (closing_finals face.0 c.queries)
 granted_asks names c (naming face id s x) h = refl
 granted_asks names c (unnaming face id x) h = refl
 granted_asks names c (declaring face id s i n) h = refl
 granted_asks names c (withdrawing face id) h = refl
 granted_asks names c (replying face s r) h = no_replied_asks names (full_text s) r (next_reply face.0 r.rid c.queries)
-granted_asks names c (ending face rid) h = no_finals_ask names _
-granted_asks names c (reporting reply) h = no_finals_ask names _
+granted_asks names c (ending face rid) h = no_finals_ask names (finals_after (is_entry face.0 rid) c.queries.closed c.queries.records)
+granted_asks names c (reporting reply) h = no_finals_ask names (finals_landed reply c.queries.closed c.queries.records)
 granted_asks names c (passing now) h =
     ap (list_any asks) (map-append (written names) (handed_timeouts c.faces (timeouts now c.queries)) (map handed_final (passing_finals now c.queries)))
-    ∙ any_both asks _ _ (no_timeouts_ask names c.faces (timeouts now c.queries)) (no_finals_ask names (passing_finals now c.queries))
+    ∙ any_both asks (map (written names) (handed_timeouts c.faces (timeouts now c.queries))) (map (written names) (map handed_final (passing_finals now c.queries))) (no_timeouts_ask names c.faces (timeouts now c.queries)) (no_finals_ask names (passing_finals now c.queries))
 granted_asks names c (listing r t) h = refl
 granted_asks names c unbuilt h = refl
 
@@ -236,13 +244,13 @@ granted_replies names c (replying face s r) h = absurd (true≢false h)
 granted_replies names c (passing now) h = absurd (true≢false h)
 granted_replies names c (asking face s r now) h = no_asking_replies names c.queries face (full_text s) r (select c face s r.target)
 granted_replies names c (opening o) h = refl
-granted_replies names c (closing face) h = no_finals_reply names _
+granted_replies names c (closing face) h = no_finals_reply names (closing_finals face.0 c.queries)
 granted_replies names c (naming face id s x) h = refl
 granted_replies names c (unnaming face id x) h = refl
 granted_replies names c (declaring face id s i n) h = refl
 granted_replies names c (withdrawing face id) h = refl
-granted_replies names c (ending face rid) h = no_finals_reply names _
-granted_replies names c (reporting reply) h = no_finals_reply names _
+granted_replies names c (ending face rid) h = no_finals_reply names (finals_after (is_entry face.0 rid) c.queries.closed c.queries.records)
+granted_replies names c (reporting reply) h = no_finals_reply names (finals_landed reply c.queries.closed c.queries.records)
 granted_replies names c (listing r t) h = refl
 granted_replies names c unbuilt h = refl
 
@@ -295,10 +303,8 @@ pending_there (Some to) p e h text r = refl
 
 pub granted_is_accepted : (c : Core) (t : TextCall) → refusal_of c t ≡ None → is_accepted (granted c t).outcome ≡ true
 granted_is_accepted c (replying face s r) h =
-    let a = passed _ _ h in
-    let b = passed _ _ a.1 in
-    let d = passed _ _ b.1 in
-    pending_there (next_reply face.0 r.rid c.queries) (is_pending face.0 r.rid c.queries.records) (next-pending face.0 r.rid c.queries) d.0 (full_text s) r
+    let p = all_passed (causes c (replying face s r)) h in
+    pending_there (next_reply face.0 r.rid c.queries) (is_pending face.0 r.rid c.queries.records) (next-pending face.0 r.rid c.queries) p.1.1.0 (full_text s) r
 granted_is_accepted c (passing now) h = refl
 granted_is_accepted c (asking face s r now) h = refl
 granted_is_accepted c (opening o) h = refl

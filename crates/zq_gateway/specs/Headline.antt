@@ -1,5 +1,5 @@
 -- What each call of a run promises: of requests, of replies, of finals and of refusals, without the machine.
-use Rattle.std.specs.Prelude.{◌≡◌, ℕ, ◌+◌, ◌≤◌, ◌<◌, ◌==◌, Bool, true, false, not, ◌&&◌, List, [], ◌∷◌, ◌++◌, map, length, sum_by, Option, Some, None, if◌then◌else◌, nat_lt}
+use Rattle.std.specs.Prelude.{◌≡◌, ℕ, ◌+◌, ◌≤◌, ◌<◌, ◌==◌, Bool, true, false, not, ◌&&◌, List, [], ◌∷◌, ◌++◌, map, length, Option, Some, None, if◌then◌else◌, nat_lt}
 use Rattle.std.specs.List.{filter, list_any, AllByRecursion}
 use Rattle.std.specs.Option.{option_map_or}
 use Rattle.zq_key.specs.declared.message.FaceId.{FaceId}
@@ -126,7 +126,8 @@ finals_of n t = length (filter (ends n) t.handed)
 
 -- how many finals of the request a run hands
 abbrev pub finals_over : ℕ → List Step → ℕ
-finals_over n run = sum_by (finals_of n) run
+finals_over n [] = 0
+finals_over n (t ∷ ts) = finals_of n t + finals_over n ts
 
 -- the finals of the request that are still to come, of askers that `closed` does not have: one from before it is asked until its record goes
 abbrev pub to_come : List ℕ → ℕ → QueryState → ℕ

@@ -439,7 +439,7 @@ impl Gateway {
     }
 
     // A moment has come: entries whose deadlines have come are let go.
-    #[tactic(auto, using(crate::proofs::Writing::passing_written))]
+    #[tactic(auto, using(crate::proofs::Writing::polled))]
     fn poll(&mut self, now: u64) -> Result<Step, OutOfMemory>
         ensures step { IfOk result (λ t. t ≡ answer self.old (passing now)) }
         ensures after { OnOk result (self.new ≡ follow self.old (passing now)) }

@@ -1,10 +1,10 @@
 //! Whole runs.
-ghost use Rattle.std.specs.Prelude.{◌≡◌, ◌++◌, ◌∷◌, IfOk, List, true};
+ghost use Rattle.std.specs.Prelude.{◌≡◌, ◌≤◌, ◌++◌, ◌∷◌, IfOk, List, true, ℕ};
 ghost use Rattle.std.specs.List.{AllByRecursion};
 ghost use Rattle.zq_gateway.specs.Calls.{is_built};
 ghost use Rattle.zq_gateway.specs.Machine.{state_after, steps};
 ghost use Rattle.zq_gateway.specs.State.{opening_state};
-ghost use Rattle.zq_gateway.specs.Headline.{KeepsPromises};
+ghost use Rattle.zq_gateway.specs.Headline.{KeepsPromises, finals_over};
 ghost use Rattle.zq_gateway.specs.declared.call.Call.{Call};
 
 use crate::call::{Call, Replay};
@@ -19,6 +19,7 @@ pub fn replay(alloc: Global, config: &Config, calls: &[Call]) -> Result<Replay, 
     requires { AllByRecursion (λ c. is_built config.now c ≡ true) calls.now }
     ensures machine { IfOk result (λ r. r.steps ≡ steps config.now calls.now) }
     ensures promises { IfOk result (λ _. (before rest : List Call) (c : Call) → calls.now ≡ before ++ c ∷ rest → KeepsPromises (state_after (opening_state config.now) before) c) }
+    ensures one_final { IfOk result (λ _. (n : ℕ) → finals_over n (steps config.now calls.now) ≤ 1) }
 {
     let mut gateway = Gateway::new(alloc, config)?;
     let mut steps = Items::new(alloc);

@@ -2,6 +2,9 @@
 use Rattle.std.specs.Prelude.{ℕ, List, [], ◌++◌, Option, Some, None, codes}
 use Rattle.std.specs.List.{flat_map}
 use Rattle.std.specs.Fmt.{decimal}
+use Rattle.zq_key.specs.declared.message.FaceId.{FaceId}
+use Rattle.zq_key.specs.declared.message.Request.{Request}
+use Rattle.zq_key.specs.declared.message.Response.{Response}
 use Rattle.zq_key.specs.declared.message.Zid.{Zid}
 use Rattle.zq_key.specs.declared.message.QueryableInfoType.{QueryableInfoType}
 use Rattle.zq_key.specs.declared.message.ReplyBody.{ReplyBody}
@@ -51,29 +54,55 @@ abbrev pub by_words : Option Zid → List ℕ
 by_words None = []
 by_words (Some zid) = field (codes "by:" ++ zid_word zid)
 
+-- a name and a field
+abbrev pub first_words : List ℕ → List ℕ → List ℕ
+first_words name word = name ++ field word
+
+-- a name, a face and an id
+abbrev pub ids_words : List ℕ → FaceId → List ℕ → List ℕ
+ids_words name face id = name ++ field (face_word face) ++ field id
+
+-- the line of a declaration or of its end
+abbrev pub declaring_words : Call → List ℕ
+declaring_words (call.DeclareKeyExpr face id wire) = ids_words (codes "key") face (decimal id) ++ field (wire_word wire)
+declaring_words (call.UndeclareKeyExpr face id) = ids_words (codes "unkey") face (decimal id)
+declaring_words (call.DeclareQueryable face id wire info node) = ids_words (codes "queryable") face (decimal id) ++ field (wire_word wire) ++ info_words info ++ field (decimal node)
+declaring_words (call.UndeclareQueryable face id wire node) = ids_words (codes "unqueryable") face (decimal id) ++ field (option_word wire_word wire) ++ field (decimal node)
+declaring_words c = []
+
+-- the line of a request
+abbrev pub ask_words : FaceId → Request → ℕ → List ℕ
+ask_words face r now =
+    ids_words (codes "ask") face (decimal r.id) ++ field (wire_word r.wire) ++ field (target_word r.target) ++ field (option_word decimal r.timeout)
+    ++ field (decimal r.node) ++ field (decimal r.qos) ++ field (payload_word r.payload) ++ field (decimal now)
+
+-- the line of a reply
+abbrev pub reply_words : FaceId → Response → List ℕ
+reply_words face r = ids_words (codes "reply") face (decimal r.rid) ++ field (wire_word r.wire) ++ body_words r.payload ++ by_words r.responder
+
+-- the line of a request, of what answers it, or of a moment; else of a declaration
+abbrev pub asking_words : Call → List ℕ
+asking_words (call.Request face r now) = ask_words face r now
+asking_words (call.Response face r) = reply_words face r
+asking_words (call.ResponseFinal face rid) = ids_words (codes "final") face (decimal rid)
+asking_words (call.Sent reply) = first_words (codes "sent") (decimal reply)
+asking_words (call.Poll now) = first_words (codes "poll") (decimal now)
+asking_words c = declaring_words c
+
+-- the line of a region's table or of a face's; else of a request or a declaration
+abbrev pub table_words : Call → List ℕ
+table_words (call.SetGateways region table) = first_words (codes "gateways") (region_word region) ++ field (list_word 59 entry_word table.of) ++ field (all_word table.all)
+table_words (call.SetNetwork region net) =
+    first_words (codes "network") (region_word region) ++ field (zids_word net.nodes) ++ field (list_word 59 tree_word net.trees) ++ field (list_word 44 decimal net.distances)
+table_words (call.SetNodeIds face ids) = first_words (codes "nodes") (face_word face) ++ field (zids_word ids.ids)
+table_words c = asking_words c
+
 -- the line of a call
 abbrev pub call_words : Call → List ℕ
 call_words (call.Open o) = codes "open" ++ opening_words o
-call_words (call.Close face) = codes "close" ++ field (face_word face)
-call_words (call.DeclareKeyExpr face id wire) = codes "key" ++ field (face_word face) ++ field (decimal id) ++ field (wire_word wire)
-call_words (call.UndeclareKeyExpr face id) = codes "unkey" ++ field (face_word face) ++ field (decimal id)
-call_words (call.DeclareQueryable face id wire info node) =
-    codes "queryable" ++ field (face_word face) ++ field (decimal id) ++ field (wire_word wire) ++ info_words info ++ field (decimal node)
-call_words (call.UndeclareQueryable face id wire node) =
-    codes "unqueryable" ++ field (face_word face) ++ field (decimal id) ++ field (option_word wire_word wire) ++ field (decimal node)
+call_words (call.Close face) = first_words (codes "close") (face_word face)
 call_words (call.Interest face id keys wire) =
-    codes "interest" ++ field (face_word face) ++ field (decimal id) ++ field (option_word wire_word wire) ++ field (flag_word (codes "k") (codes "n") keys)
-call_words (call.InterestFinal face id) = codes "uninterest" ++ field (face_word face) ++ field (decimal id)
-call_words (call.FinalizeInterest face what set) = codes "finalize" ++ field (face_word face) ++ mark_words what ++ field (flag_word (codes "1") (codes "0") set)
-call_words (call.Request face r now) =
-    codes "ask" ++ field (face_word face) ++ field (decimal r.id) ++ field (wire_word r.wire) ++ field (target_word r.target)
-    ++ field (option_word decimal r.timeout) ++ field (decimal r.node) ++ field (decimal r.qos) ++ field (payload_word r.payload) ++ field (decimal now)
-call_words (call.Response face r) =
-    codes "reply" ++ field (face_word face) ++ field (decimal r.rid) ++ field (wire_word r.wire) ++ body_words r.payload ++ by_words r.responder
-call_words (call.ResponseFinal face rid) = codes "final" ++ field (face_word face) ++ field (decimal rid)
-call_words (call.Sent reply) = codes "sent" ++ field (decimal reply)
-call_words (call.Poll now) = codes "poll" ++ field (decimal now)
-call_words (call.SetGateways region table) = codes "gateways" ++ field (region_word region) ++ field (list_word 59 entry_word table.of) ++ field (all_word table.all)
-call_words (call.SetNetwork region net) =
-    codes "network" ++ field (region_word region) ++ field (zids_word net.nodes) ++ field (list_word 59 tree_word net.trees) ++ field (list_word 44 decimal net.distances)
-call_words (call.SetNodeIds face ids) = codes "nodes" ++ field (face_word face) ++ field (zids_word ids.ids)
+    ids_words (codes "interest") face (decimal id) ++ field (option_word wire_word wire) ++ field (flag_word (codes "k") (codes "n") keys)
+call_words (call.InterestFinal face id) = ids_words (codes "uninterest") face (decimal id)
+call_words (call.FinalizeInterest face what set) = first_words (codes "finalize") (face_word face) ++ mark_words what ++ field (flag_word (codes "1") (codes "0") set)
+call_words c = table_words c

@@ -3,14 +3,14 @@ ghost use Rattle.std.specs.Prelude.{◌≡◌, ◌++◌, IfOk, OnOk, Some, strin
 ghost use Rattle.std.specs.List.{flat_map};
 ghost use Rattle.zq_script.specs.Lines.{call_of};
 ghost use Rattle.zq_script.specs.Fits.{FitsCall};
-ghost use Rattle.zq_script.specs.CallLines.{deny_in, deny_out, opening_words, info_words, mark_words, body_words, by_words, call_words};
+ghost use Rattle.zq_script.specs.CallLines.{deny_in, deny_out, opening_words, info_words, mark_words, body_words, by_words, first_words, ids_words, declaring_words, ask_words, reply_words, asking_words, table_words, call_words};
 
 use std::alloc::{AllocError, Global};
 use std::fmt::Write;
 use zq_gateway::call::{Call, Opening};
 use zq_hat::types::FinalMark;
 use zq_key::memory::OutOfMemory;
-use zq_key::message::{QueryableInfoType, ReplyBody, Zid};
+use zq_key::message::{FaceId, QueryableInfoType, ReplyBody, Request, Response, Zid};
 use zq_key::text::{Bytes, Text};
 use zq_words::show::{Shown, push_field, push_flag};
 
@@ -108,30 +108,32 @@ fn push_by(out: &mut String, responder: &Option<Zid>) -> Result<(), AllocError>
     }
 }
 
-/// Writes a call as a line.
-pub fn push_call(out: &mut String, call: &Call) -> Result<(), AllocError>
-    ensures { OnOk result (string_bytes out.new ≡ string_bytes out.old ++ call_words call.now) }
+/// Writes the name of a call, and its one field or its first.
+fn push_first<T: Shown>(out: &mut String, name: &str, x: &T) -> Result<(), AllocError>
+    ensures { OnOk result (string_bytes out.new ≡ string_bytes out.old ++ first_words name.now (T.word x.now)) }
+{
+    out.push_str(name)?;
+    push_field(out, x)
+}
+
+/// Writes the name of a call, its face and its id.
+fn push_ids<T: Shown>(out: &mut String, name: &str, face: FaceId, id: &T) -> Result<(), AllocError>
+    ensures { OnOk result (string_bytes out.new ≡ string_bytes out.old ++ ids_words name.now face (T.word id.now)) }
+{
+    push_first(out, name, &face)?;
+    push_field(out, id)
+}
+
+/// Writes the line of a declaration or of its end, and nothing for another call.
+fn push_declaring(out: &mut String, call: &Call) -> Result<(), AllocError>
+    ensures { OnOk result (string_bytes out.new ≡ string_bytes out.old ++ declaring_words call.now) }
 {
     match call {
-        Call::Open(opening) => {
-            write!(out, "open")?;
-            push_opening(out, opening)
-        }
-        Call::Close { face } => {
-            write!(out, "close")?;
-            push_field(out, face)
-        }
         Call::DeclareKeyExpr { face, id, wire } => {
-            write!(out, "key")?;
-            push_field(out, face)?;
-            push_field(out, id)?;
+            push_ids(out, "key", *face, id)?;
             push_field(out, wire)
         }
-        Call::UndeclareKeyExpr { face, id } => {
-            write!(out, "unkey")?;
-            push_field(out, face)?;
-            push_field(out, id)
-        }
+        Call::UndeclareKeyExpr { face, id } => push_ids(out, "unkey", *face, id),
         Call::DeclareQueryable {
             face,
             id,
@@ -139,9 +141,7 @@ pub fn push_call(out: &mut String, call: &Call) -> Result<(), AllocError>
             info,
             node,
         } => {
-            write!(out, "queryable")?;
-            push_field(out, face)?;
-            push_field(out, id)?;
+            push_ids(out, "queryable", *face, id)?;
             push_field(out, wire)?;
             push_info(out, info)?;
             push_field(out, node)
@@ -152,86 +152,101 @@ pub fn push_call(out: &mut String, call: &Call) -> Result<(), AllocError>
             wire,
             node,
         } => {
-            write!(out, "unqueryable")?;
-            push_field(out, face)?;
-            push_field(out, id)?;
+            push_ids(out, "unqueryable", *face, id)?;
             push_field(out, wire)?;
             push_field(out, node)
         }
+        _ => Ok(()),
+    }
+}
+
+fn push_ask(out: &mut String, face: FaceId, request: &Request, now: u64) -> Result<(), AllocError>
+    ensures { OnOk result (string_bytes out.new ≡ string_bytes out.old ++ ask_words face request.now now) }
+{
+    push_ids(out, "ask", face, &request.id)?;
+    push_field(out, &request.wire)?;
+    push_field(out, &request.target)?;
+    push_field(out, &request.timeout)?;
+    push_field(out, &request.node)?;
+    push_field(out, &request.qos)?;
+    push_field(out, &request.payload)?;
+    push_field(out, &now)
+}
+
+fn push_reply(out: &mut String, face: FaceId, response: &Response) -> Result<(), AllocError>
+    ensures { OnOk result (string_bytes out.new ≡ string_bytes out.old ++ reply_words face response.now) }
+{
+    push_ids(out, "reply", face, &response.rid)?;
+    push_field(out, &response.wire)?;
+    push_body(out, &response.payload)?;
+    push_by(out, &response.responder)
+}
+
+/// Writes the line of a request, of what answers it, or of a moment; else of a declaration.
+fn push_asking(out: &mut String, call: &Call) -> Result<(), AllocError>
+    ensures { OnOk result (string_bytes out.new ≡ string_bytes out.old ++ asking_words call.now) }
+{
+    match call {
+        Call::Request { face, request, now } => push_ask(out, *face, request, *now),
+        Call::Response { face, response } => push_reply(out, *face, response),
+        Call::ResponseFinal { face, rid } => push_ids(out, "final", *face, rid),
+        Call::Sent { reply } => push_first(out, "sent", reply),
+        Call::Poll { now } => push_first(out, "poll", now),
+        _ => push_declaring(out, call),
+    }
+}
+
+/// Writes the line of a region's table or of a face's; else of a request or a declaration.
+fn push_table(out: &mut String, call: &Call) -> Result<(), AllocError>
+    ensures { OnOk result (string_bytes out.new ≡ string_bytes out.old ++ table_words call.now) }
+{
+    match call {
+        Call::SetGateways { region, table } => {
+            push_first(out, "gateways", region)?;
+            push_field(out, &table.of)?;
+            push_field(out, &table.all)
+        }
+        Call::SetNetwork { region, net } => {
+            push_first(out, "network", region)?;
+            push_field(out, &net.nodes)?;
+            push_field(out, &net.trees)?;
+            push_field(out, &net.distances)
+        }
+        Call::SetNodeIds { face, ids } => {
+            push_first(out, "nodes", face)?;
+            push_field(out, &ids.ids)
+        }
+        _ => push_asking(out, call),
+    }
+}
+
+/// Writes a call as a line.
+pub fn push_call(out: &mut String, call: &Call) -> Result<(), AllocError>
+    ensures { OnOk result (string_bytes out.new ≡ string_bytes out.old ++ call_words call.now) }
+{
+    match call {
+        Call::Open(opening) => {
+            write!(out, "open")?;
+            push_opening(out, opening)
+        }
+        Call::Close { face } => push_first(out, "close", face),
         Call::Interest {
             face,
             id,
             keys,
             wire,
         } => {
-            write!(out, "interest")?;
-            push_field(out, face)?;
-            push_field(out, id)?;
+            push_ids(out, "interest", *face, id)?;
             push_field(out, wire)?;
             push_flag(out, "k", "n", *keys)
         }
-        Call::InterestFinal { face, id } => {
-            write!(out, "uninterest")?;
-            push_field(out, face)?;
-            push_field(out, id)
-        }
+        Call::InterestFinal { face, id } => push_ids(out, "uninterest", *face, id),
         Call::FinalizeInterest { face, mark, set } => {
-            write!(out, "finalize")?;
-            push_field(out, face)?;
+            push_first(out, "finalize", face)?;
             push_mark(out, mark)?;
             push_flag(out, "1", "0", *set)
         }
-        Call::Request { face, request, now } => {
-            write!(out, "ask")?;
-            push_field(out, face)?;
-            push_field(out, &request.id)?;
-            push_field(out, &request.wire)?;
-            push_field(out, &request.target)?;
-            push_field(out, &request.timeout)?;
-            push_field(out, &request.node)?;
-            push_field(out, &request.qos)?;
-            push_field(out, &request.payload)?;
-            push_field(out, now)
-        }
-        Call::Response { face, response } => {
-            write!(out, "reply")?;
-            push_field(out, face)?;
-            push_field(out, &response.rid)?;
-            push_field(out, &response.wire)?;
-            push_body(out, &response.payload)?;
-            push_by(out, &response.responder)
-        }
-        Call::ResponseFinal { face, rid } => {
-            write!(out, "final")?;
-            push_field(out, face)?;
-            push_field(out, rid)
-        }
-        Call::Sent { reply } => {
-            write!(out, "sent")?;
-            push_field(out, reply)
-        }
-        Call::Poll { now } => {
-            write!(out, "poll")?;
-            push_field(out, now)
-        }
-        Call::SetGateways { region, table } => {
-            write!(out, "gateways")?;
-            push_field(out, region)?;
-            push_field(out, &table.of)?;
-            push_field(out, &table.all)
-        }
-        Call::SetNetwork { region, net } => {
-            write!(out, "network")?;
-            push_field(out, region)?;
-            push_field(out, &net.nodes)?;
-            push_field(out, &net.trees)?;
-            push_field(out, &net.distances)
-        }
-        Call::SetNodeIds { face, ids } => {
-            write!(out, "nodes")?;
-            push_field(out, face)?;
-            push_field(out, &ids.ids)
-        }
+        _ => push_table(out, call),
     }
 }
 

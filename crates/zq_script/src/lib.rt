@@ -16,6 +16,8 @@ pub mod calls;
 mod head;
 pub mod lines;
 pub mod refusal;
+#[cfg(test)]
+mod rows;
 pub mod run;
 mod same;
 pub mod script;

@@ -1,0 +1,365 @@
+//! Worked scripts, each with the print that is wanted.
+use crate::run::{Status, run};
+use crate::{MemorySink, MemorySource};
+use std::alloc::Global;
+use std::test::Fail;
+use zq_key::memory::OutOfMemory;
+use zq_key::text::{Bytes, Text};
+
+/// What a script tells of, its lines, its print, and how its run ends.
+const ROWS: [(&str, &str, &str, Status); 19] = [
+    (
+        "one query",
+        "config 1 10000 north:client local\n\
+         open local 10 client north -\n\
+         open local 11 client north -\n\
+         queryable 0 1 0:s:k c 0 0\n\
+         ask 1 7 0:s:k all - 0 0 hi 0\n\
+         reply 0 1 0:s:k ok yo\n\
+         final 0 1\n\
+         sent 0\n",
+        "= opened 0\n\
+         = opened 1\n\
+         = done\n\
+         = asked 0\n\
+         > 0 0 - request 1 0:s:k all - 0 0 hi\n\
+         = replied 0\n\
+         > 1 0 0 response 7 0:s:k 0 ok yo -\n\
+         = done\n\
+         = done\n\
+         > 1 0 - final 7 0\n",
+        Status::Done,
+    ),
+    ("nothing", "", "bad line 1\n", Status::Script),
+    (
+        "a configuration alone",
+        "config 1 10000 north:client local\n",
+        "",
+        Status::Done,
+    ),
+    (
+        "an unknown number",
+        "config 1 10000 north:client local\n\
+         open local 10 client north -\n\
+         open local 11 client north -\n\
+         ask 1 7 9:s:k all - 0 0 hi 0\n",
+        "= opened 0\n\
+         = opened 1\n\
+         = asked 0\n\
+         > 1 0 - final 7 0\n",
+        Status::Done,
+    ),
+    (
+        "two targets",
+        "config 1 10000 north:client local\n\
+         open local 10 client north -\n\
+         open local 11 client north -\n\
+         open local 12 client north -\n\
+         queryable 0 1 0:s:k p 0 0\n\
+         queryable 1 1 0:s:k p 0 0\n\
+         ask 2 7 0:s:k all - 0 0 - 0\n\
+         final 0 1\n\
+         final 1 1\n",
+        "= opened 0\n\
+         = opened 1\n\
+         = opened 2\n\
+         = done\n\
+         = done\n\
+         = asked 0\n\
+         > 0 0 - request 1 0:s:k all - 0 0 -\n\
+         > 1 0 - request 1 0:s:k all - 0 0 -\n\
+         = done\n\
+         = done\n\
+         > 2 0 - final 7 0\n",
+        Status::Done,
+    ),
+    (
+        "the best one, then the other",
+        "config 1 10000 north:client local\n\
+         open local 10 client north -\n\
+         open local 11 client north -\n\
+         open local 12 client north -\n\
+         queryable 0 1 0:s:k c 0 0\n\
+         queryable 1 1 0:s:k p 0 0\n\
+         ask 2 7 0:s:k best - 0 0 - 0\n\
+         unqueryable 0 1 - 0\n\
+         ask 2 8 0:s:k best - 0 0 - 0\n",
+        "= opened 0\n\
+         = opened 1\n\
+         = opened 2\n\
+         = done\n\
+         = done\n\
+         = asked 0\n\
+         > 0 0 - request 1 0:s:k best - 0 0 -\n\
+         = done\n\
+         = asked 1\n\
+         > 1 1 - request 1 0:s:k best - 0 0 -\n",
+        Status::Done,
+    ),
+    (
+        "too late",
+        "config 1 10000 north:client local\n\
+         open local 10 client north -\n\
+         open local 11 client north -\n\
+         queryable 0 1 0:s:k c 0 0\n\
+         ask 1 7 0:s:k all 5 0 0 - 10\n\
+         poll 14\n\
+         poll 15\n\
+         poll 99\n\
+         sent 0\n",
+        "= opened 0\n\
+         = opened 1\n\
+         = done\n\
+         = asked 0\n\
+         > 0 0 - request 1 0:s:k all 5 0 0 -\n\
+         = done\n\
+         = done\n\
+         > 1 0 0 response 7 0:s:- 0 err Timeout 10\n\
+         = done\n\
+         = done\n\
+         > 1 0 - final 7 0\n",
+        Status::Done,
+    ),
+    (
+        "the last moment",
+        "config 1 10000 north:client local\n\
+         open local 10 client north -\n\
+         open local 11 client north -\n\
+         queryable 0 1 0:s:k c 0 0\n\
+         ask 1 7 0:s:k all 18446744073709551615 0 0 - 1\n\
+         poll 18446744073709551614\n\
+         poll 18446744073709551615\n",
+        "= opened 0\n\
+         = opened 1\n\
+         = done\n\
+         = asked 0\n\
+         > 0 0 - request 1 0:s:k all 18446744073709551615 0 0 -\n\
+         = done\n\
+         = done\n\
+         > 1 0 0 response 7 0:s:- 0 err Timeout 10\n",
+        Status::Done,
+    ),
+    (
+        "the target closes",
+        "config 1 10000 north:client local\n\
+         open local 10 client north -\n\
+         open local 11 client north -\n\
+         queryable 0 1 0:s:k c 0 0\n\
+         ask 1 7 0:s:k all - 0 0 hi 0\n\
+         close 0\n",
+        "= opened 0\n\
+         = opened 1\n\
+         = done\n\
+         = asked 0\n\
+         > 0 0 - request 1 0:s:k all - 0 0 hi\n\
+         = done\n\
+         > 1 0 - final 7 0\n",
+        Status::Done,
+    ),
+    (
+        "the asker closes",
+        "config 1 10000 north:client local\n\
+         open local 10 client north -\n\
+         open local 11 client north -\n\
+         queryable 0 1 0:s:k c 0 0\n\
+         ask 1 7 0:s:k all - 0 0 hi 0\n\
+         close 1\n\
+         reply 0 1 0:s:k ok yo\n\
+         final 0 1\n",
+        "= opened 0\n\
+         = opened 1\n\
+         = done\n\
+         = asked 0\n\
+         > 0 0 - request 1 0:s:k all - 0 0 hi\n\
+         = done\n\
+         = replied -\n\
+         = done\n",
+        Status::Done,
+    ),
+    (
+        "one id twice",
+        "config 1 10000 north:client local\n\
+         open local 10 client north -\n\
+         open local 11 client north -\n\
+         queryable 0 1 0:s:k c 0 0\n\
+         ask 1 7 0:s:k all - 0 0 - 0\n\
+         ask 1 7 0:s:k all - 0 0 - 0\n\
+         final 0 1\n\
+         final 0 2\n",
+        "= opened 0\n\
+         = opened 1\n\
+         = done\n\
+         = asked 0\n\
+         > 0 0 - request 1 0:s:k all - 0 0 -\n\
+         = asked 1\n\
+         > 0 1 - request 2 0:s:k all - 0 0 -\n\
+         = done\n\
+         > 1 0 - final 7 0\n\
+         = done\n\
+         > 1 1 - final 7 0\n",
+        Status::Done,
+    ),
+    (
+        "ids go round",
+        "config 1 10000 north:client local\n\
+         start 0 0 0 0 4294967295\n\
+         open local 10 client north -\n\
+         open local 11 client north -\n\
+         queryable 0 1 0:s:k c 0 0\n\
+         ask 1 7 0:s:k all - 0 0 - 0\n\
+         ask 1 7 0:s:k all - 0 0 - 0\n\
+         ask 1 7 0:s:k all - 0 0 - 0\n",
+        "= opened 0\n\
+         = opened 1\n\
+         = done\n\
+         = asked 0\n\
+         > 0 0 - request 0 0:s:k all - 0 0 -\n\
+         = asked 1\n\
+         > 0 1 - request 1 0:s:k all - 0 0 -\n\
+         = asked 2\n\
+         > 0 2 - request 2 0:s:k all - 0 0 -\n",
+        Status::Done,
+    ),
+    (
+        "no face number left",
+        "config 1 10000 north:client local\n\
+         start 4294967295 0 0 0 0\n\
+         open local 10 client north -\n\
+         poll 0\n",
+        "= refused NoFreeId\n\
+         = done\n",
+        Status::Done,
+    ),
+    (
+        "two declarations of one key",
+        "config 1 10000 north:client south:0:client\n\
+         open south:0:client 20 client north -\n\
+         key 0 5 0:s:k\n\
+         queryable 0 1 5:s:- p 0 0\n\
+         queryable 0 2 0:s:k p 0 0\n\
+         unqueryable 0 1 - 0\n\
+         open south:0:client 21 client north -\n\
+         ask 1 1 0:s:k best - 0 0 - 0\n",
+        "= opened 0\n\
+         = done\n\
+         = done\n\
+         = done\n\
+         = done\n\
+         = opened 1\n\
+         = asked 0\n\
+         > 0 0 - request 1 5:r:- best - 0 0 -\n",
+        Status::Done,
+    ),
+    (
+        "longer characters",
+        "config 1 10000 north:client local\n\
+         open local 10 client north -\n\
+         open local 11 client north -\n\
+         key 0 1 0:s:%C8%B2/a\n\
+         queryable 0 1 1:s:/%F0%9F%98%80 p 0 0\n\
+         ask 1 1 0:s:%C8%B2/a/%F0%9F%98%80 all - 0 0 - 0\n",
+        "= opened 0\n\
+         = opened 1\n\
+         = done\n\
+         = done\n\
+         = asked 0\n\
+         > 0 0 - request 1 1:r:/%F0%9F%98%80 all - 0 0 -\n",
+        Status::Done,
+    ),
+    (
+        "numbers of keys",
+        "config 1 10000 north:client local\n\
+         open local 10 client north -\n\
+         open local 11 client north -\n\
+         key 0 0 0:s:k\n\
+         key 0 5 0:s:k\n\
+         key 0 5 0:s:m\n\
+         key 0 5 0:s:k\n\
+         unkey 0 5\n\
+         unkey 0 5\n",
+        "= opened 0\n\
+         = opened 1\n\
+         = refused Remapped\n\
+         = done\n\
+         = refused Remapped\n\
+         = done\n\
+         = done\n\
+         = refused UnknownId\n",
+        Status::Done,
+    ),
+    (
+        "the best number",
+        "config 1 10000 north:client local\n\
+         open local 10 client north -\n\
+         open local 11 client north -\n\
+         key 0 11 0:s:test/queryable/reply\n\
+         key 1 12 0:s:test/queryable\n\
+         queryable 0 0 11:s:/** c 1 0\n\
+         ask 1 1 0:s:test/queryable/reply/* all - 0 0 - 0\n\
+         reply 0 1 11:s:/1 ok -\n\
+         unkey 1 12\n\
+         reply 0 1 11:s:/1 ok -\n",
+        "= opened 0\n\
+         = opened 1\n\
+         = done\n\
+         = done\n\
+         = done\n\
+         = asked 0\n\
+         > 0 0 - request 1 11:r:/* all - 0 0 -\n\
+         = replied 0\n\
+         > 1 0 0 response 1 0:s:test/queryable/reply/1 0 ok - -\n\
+         = done\n\
+         = replied 1\n\
+         > 1 0 1 response 1 0:s:test/queryable/reply/1 0 ok - -\n",
+        Status::Done,
+    ),
+    (
+        "refusals in order",
+        "config 1 10000 north:client local\n\
+         open local 10 client north -\n\
+         open local 11 client north -\n\
+         queryable 0 1 0:s:k c 0 0\n\
+         ask 1 7 0:s:k all - 0 0 hi 0\n\
+         reply 0 99 5:s:k ok -\n\
+         reply 0 99 0:s:a//b ok -\n\
+         reply 0 1 0:s:a//b ok -\n",
+        "= opened 0\n\
+         = opened 1\n\
+         = done\n\
+         = asked 0\n\
+         > 0 0 - request 1 0:s:k all - 0 0 hi\n\
+         = refused UnknownScope\n\
+         = refused QueryNotFound\n\
+         = refused InvalidKeyExpr\n",
+        Status::Done,
+    ),
+    (
+        "a form that is not built",
+        "config 1 10000 north:client local\n\
+         open local 10 client north -\n\
+         open local 11 client north -\n\
+         interest 0 1 - n\n",
+        "bad line 4\n",
+        Status::Script,
+    ),
+];
+
+fn print_of(alloc: Global, script: &str) -> Result<(Status, MemorySink), OutOfMemory> {
+    let words = vec![in alloc; Text::new(alloc, "replay")?]?;
+    let bytes = Bytes::new(alloc, script.as_bytes())?;
+    let mut source = MemorySource::new(bytes, Vec::new(alloc), 4096);
+    let mut sink = MemorySink::new(alloc, 4096, Vec::new(alloc), 4096)?;
+    let status = run(alloc, words.as_slice(), &mut source, &mut sink);
+    Ok((status, sink))
+}
+
+#[test]
+fn rows(rt: HostRuntime) -> Result<(), Fail> {
+    let alloc = rt.alloc();
+    for (name, script, print, status) in ROWS {
+        let (ended, sink) = print_of(alloc, script)?;
+        assert_eq!(rt; ended, status, "{name}");
+        assert_eq!(rt; sink.taken(), print.as_bytes(), "{name}");
+    }
+    Ok(())
+}
