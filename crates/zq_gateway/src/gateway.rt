@@ -213,7 +213,7 @@ impl Gateway {
         self.reply(face, &said, msg)
     }
 
-    /// A moment has come, in milliseconds: queries whose deadlines have come end.
+    /// A moment has come, in milliseconds: each entry whose deadline has come is let go, with an error reply.
     pub fn poll(&mut self, now: u64) -> Result<Step, OutOfMemory>
         ensures step { IfOk result (λ t. t ≡ step self.old (call.Poll now)) }
         ensures after { OnOk result (self.new ≡ after self.old (call.Poll now)) }
