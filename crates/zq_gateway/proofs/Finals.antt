@@ -37,8 +37,8 @@ use Rattle.zq_gateway.specs.State.{State, Core, at, is_open, opening_state}
 use Rattle.zq_gateway.specs.Selecting.{select, full_text, target_of}
 use Rattle.zq_gateway.specs.TextCalls.{TextCall, opening, closing, naming, unnaming, declaring, withdrawing, asking, replying, ending, reporting, passing, listing, unbuilt, read}
 use Rattle.zq_gateway.specs.Deciding.{causes, refusal_of, granted, answered, is_accepted, accepted, after_replied, deadline, handed_final, handed_request, handed_requests, handed_replies, handed_timeouts, opened, passing_finals, replied}
-use Rattle.zq_gateway.specs.Machine.{written, write, follow, accepted_state, after, state_after, sent_final, sent_reply, sent_timeout}
-use Rattle.zq_gateway.specs.Headline.{ends, to_come, FinalPromise}
+use Rattle.zq_gateway.specs.Machine.{written, write, follow, accepted_state, after, state_after, sent_final, sent_reply, sent_timeout, step}
+use Rattle.zq_gateway.specs.Headline.{ends, finals_of, to_come}
 use Rattle.zq_gateway.proofs.Writing.{replies_written, timeouts_written}
 use Rattle.zq_gateway.proofs.Promises.{all_passed, granted_is_accepted}
 
@@ -290,8 +290,8 @@ follow_balance n s t None e i = by (is_accepted (granted s.core t).outcome) (gra
     by true g = granted_balance n s t e i
     by false g = absurd (false≢true g)
 
-pub final_promise : (n : ℕ) (s : State) (c : Call) → IsSound s → FinalPromise n s c
-final_promise n s c i = record {
-  balance = follow_balance n s (read s c) (refusal_of s.core (read s c)) refl i;
-  standing = (follow_sound s (read s c) i).standing;
-}
+pub call_balance : (n : ℕ) (s : State) (c : Call) → IsSound s → finals_of n (step s c) + to_come (after s c).core.queries.closed n (after s c).core.queries ≡ to_come (after s c).core.queries.closed n s.core.queries
+call_balance n s c i = follow_balance n s (read s c) (refusal_of s.core (read s c)) refl i
+
+pub call_standing : (s : State) (c : Call) → IsSound s → any_over (after s c).core.queries.records ≡ false
+call_standing s c i = (follow_sound s (read s c) i).standing

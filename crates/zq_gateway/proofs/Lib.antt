@@ -7,3 +7,4 @@ pub mod Valid
 pub mod Promises
 pub mod Finals
 pub mod OneFinal
+pub mod Silent

@@ -16,7 +16,7 @@ use Rattle.zq_gateway.specs.TextCalls.{TextCall, opening, closing, naming, unnam
 use Rattle.zq_gateway.specs.Deciding.{decide, is_accepted, accepted, after_replied}
 use Rattle.zq_gateway.specs.Machine.{follow, accepted_state, after, steps_from, state_after}
 use Rattle.zq_gateway.specs.Headline.{finals_over, to_come}
-use Rattle.zq_gateway.proofs.Finals.{IsSound, put_closed, timing_closed, final_promise, follow_sound, opening_sound}
+use Rattle.zq_gateway.proofs.Finals.{IsSound, put_closed, timing_closed, call_balance, follow_sound, opening_sound}
 
 -- ---- a face that was closed stays so
 or_false : (b c : Bool) → (b || c) ≡ false → c ≡ false
@@ -27,7 +27,7 @@ replied_grows : (q : QueryState) (o : Option ReplyTo) (f : ℕ) → is_closed (a
 replied_grows q None f h = h
 replied_grows q (Some to) f h = ap (λ l. is_closed l f) (sym (put_closed to.number q (is_some to.reply))) ∙ h
 
-granted_grows : (c : Core) (t : TextCall) (f : ℕ) → is_closed (accepted c t).queries.closed f ≡ false → is_closed c.queries.closed f ≡ false
+pub granted_grows : (c : Core) (t : TextCall) (f : ℕ) → is_closed (accepted c t).queries.closed f ≡ false → is_closed c.queries.closed f ≡ false
 granted_grows c (opening o) f h = h
 granted_grows c (closing face) f h = or_false _ _ (sym (has_put nat_cmp_total exact_unsigned f face.0 c.queries.closed) ∙ h)
 granted_grows c (naming face id sd x) f h = h
@@ -50,7 +50,7 @@ follow_grows s t f h = by (is_accepted (decide s.core t).outcome) h
     by false g = g
 
 -- ---- with more faces closed fewer finals are owed
-owed_less : (old new : List ℕ) (n : ℕ) → ((f : ℕ) → is_closed new f ≡ false → is_closed old f ≡ false) → (rs : List Record) → owed_by new n rs ≤ owed_by old n rs
+pub owed_less : (old new : List ℕ) (n : ℕ) → ((f : ℕ) → is_closed new f ≡ false → is_closed old f ≡ false) → (rs : List Record) → owed_by new n rs ≤ owed_by old n rs
 owed_less old new n grows [] = omega arith
 owed_less old new n grows (r ∷ rs) = by (r.number == n) (is_closed new r.asker.0) (is_closed old r.asker.0) (grows r.asker.0) (owed_less old new n grows rs)
   where
@@ -64,20 +64,23 @@ owed_less old new n grows (r ∷ rs) = by (r.number == n) (is_closed new r.asker
     by true false false k l = omega (arith, l)
 
 -- what a run hands of them, and what is still to come after it, is no more than what was to come
-run_balance : (n : ℕ) (cs : List Call) (s : State) → IsSound s → finals_over n (steps_from s cs) + to_come (state_after s cs).core.queries.closed n (state_after s cs).core.queries ≤ to_come s.core.queries.closed n s.core.queries
+pub run_balance : (n : ℕ) (cs : List Call) (s : State) → IsSound s → finals_over n (steps_from s cs) + to_come (state_after s cs).core.queries.closed n (state_after s cs).core.queries ≤ to_come s.core.queries.closed n s.core.queries
 run_balance n [] s i = omega arith
 run_balance n (c ∷ cs) s i =
     let rest = run_balance n cs (after s c) (follow_sound s (read s c) i) in
-    let now = (final_promise n s c i).balance in
+    let now = call_balance n s c i in
     let less = owed_less s.core.queries.closed (after s c).core.queries.closed n (follow_grows s (read s c)) s.core.queries.records in
     omega (arith, rest, now, less)
 
-pub one_final : (config : Settings) (cs : List Call) (n : ℕ) → finals_over n (steps_from (opening_state config) cs) ≤ 1
-one_final config cs n =
-    let all = run_balance n cs (opening_state config) (opening_sound config) in
-    let first = by (nat_lt n (opening_state config).core.queries.requests) in
-    omega (arith, all, first)
+pub one_at_first : (config : Settings) (n : ℕ) → to_come (opening_state config).core.queries.closed n (opening_state config).core.queries ≤ 1
+one_at_first config n = let first = by (nat_lt n (opening_state config).core.queries.requests) in omega (arith, first)
   where
     by : (b : Bool) → (if b then 0 else 1) ≤ 1
     by true = omega arith
     by false = omega arith
+
+pub one_final : (config : Settings) (cs : List Call) (n : ℕ) → finals_over n (steps_from (opening_state config) cs) ≤ 1
+one_final config cs n =
+    let all = run_balance n cs (opening_state config) (opening_sound config) in
+    let first = one_at_first config n in
+    omega (arith, all, first)

@@ -131,9 +131,10 @@ finals_over n (t ∷ ts) = finals_of n t + finals_over n ts
 abbrev pub to_come : List ℕ → ℕ → QueryState → ℕ
 to_come closed n q = owed_by closed n q.records + (if nat_lt n q.requests then 0 else 1)
 
--- a final comes in exactly the call that takes the record of an open asker out, and each record that stands has an entry pending or a reply in flight
+-- a final comes in exactly the call that takes the record of an open asker out; a request with none to come is handed nothing more; and each record that stands has an entry pending or a reply in flight
 pub record FinalPromise (n : ℕ) (s : State) (c : Call) : Type 0 where
   pub balance : finals_of n (step s c) + to_come (after s c).core.queries.closed n (after s c).core.queries ≡ to_come (after s c).core.queries.closed n s.core.queries
+  pub silent : to_come s.core.queries.closed n s.core.queries ≡ 0 → list_any (is_of n) (step s c).handed ≡ false
   pub standing : any_over (after s c).core.queries.records ≡ false
 
 -- ---- refusals

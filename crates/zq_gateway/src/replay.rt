@@ -1,10 +1,10 @@
 //! Whole runs.
-ghost use Rattle.std.specs.Prelude.{◌≡◌, ◌≤◌, ◌++◌, ◌∷◌, IfOk, List, true, ℕ};
-ghost use Rattle.std.specs.List.{AllByRecursion};
+ghost use Rattle.std.specs.Prelude.{◌≡◌, ◌≤◌, ◌++◌, ◌∷◌, IfOk, List, false, true, ℕ};
+ghost use Rattle.std.specs.List.{AllByRecursion, list_any};
 ghost use Rattle.zq_gateway.specs.Calls.{is_built};
-ghost use Rattle.zq_gateway.specs.Machine.{state_after, steps};
+ghost use Rattle.zq_gateway.specs.Machine.{state_after, step, steps};
 ghost use Rattle.zq_gateway.specs.State.{opening_state};
-ghost use Rattle.zq_gateway.specs.Headline.{KeepsPromises, finals_over};
+ghost use Rattle.zq_gateway.specs.Headline.{KeepsPromises, finals_over, is_of};
 ghost use Rattle.zq_gateway.specs.declared.call.Call.{Call};
 
 use crate::call::{Call, Replay};
@@ -20,6 +20,7 @@ pub fn replay(alloc: Global, config: &Config, calls: &[Call]) -> Result<Replay, 
     ensures machine { IfOk result (λ r. r.steps ≡ steps config.now calls.now) }
     ensures promises { IfOk result (λ _. (before rest : List Call) (c : Call) → calls.now ≡ before ++ c ∷ rest → KeepsPromises (state_after (opening_state config.now) before) c) }
     ensures one_final { IfOk result (λ _. (n : ℕ) → finals_over n (steps config.now calls.now) ≤ 1) }
+    ensures nothing_after { IfOk result (λ _. (n : ℕ) (before rest : List Call) (c : Call) → calls.now ≡ before ++ c ∷ rest → finals_over n (steps config.now before) ≡ 1 → list_any (is_of n) (step (state_after (opening_state config.now) before) c).handed ≡ false) }
 {
     let mut gateway = Gateway::new(alloc, config)?;
     let mut steps = Items::new(alloc);
