@@ -1,5 +1,5 @@
 -- A request of which no final is to come is handed nothing.
-use Rattle.std.proofs.Common.{◌≡◌, ℕ, ◌+◌, ◌<◌, ◌≤◌, Bool, true, false, cond, not, List, [], ◌∷◌, ◌++◌, map, length, Option, Some, None, refl, sym, ap, ◌∙◌, arith, true≢false, eqb-true}
+use Rattle.std.proofs.Common.{◌≡◌, ℕ, ◌+◌, ◌≤◌, Bool, true, false, cond, not, List, [], ◌∷◌, ◌++◌, map, length, Option, Some, None, refl, sym, ap, ◌∙◌, arith, true≢false, eqb-true}
 use Rattle.std.specs.List.{filter, list_any, find, fold, cons_option}
 use Rattle.std.specs.Prelude.{if◌then◌else◌, ◌&&◌, ◌||◌, ◌==◌, nat_lt, unwrap_or}
 use Rattle.std.specs.Option.{is_some, option_map}
@@ -11,13 +11,12 @@ use Rattle.zq_key.specs.declared.message.Request.{Request}
 use Rattle.zq_key.specs.declared.message.Response.{Response}
 use Rattle.zq_hat.specs.declared.types.QueryTargetQabl.{QueryTargetQabl}
 use Rattle.zq_query.specs.declared.records.Final.{Final}
-use Rattle.zq_query.specs.declared.records.ReplyTo.{ReplyTo}
 use Rattle.zq_query.specs.declared.records.Timeout.{Timeout}
 use Rattle.zq_query.specs.Tables.{Due}
-use Rattle.zq_query.specs.Records.{QueryState, Record, final_of, has_entry, has_number, is_closed, is_entry, next_reply, owner, reply_to, request}
+use Rattle.zq_query.specs.Records.{QueryState, Record, final_of, has_entry, has_number, is_closed, is_entry, owner, reply_to, request}
 use Rattle.zq_query.proofs.Balance.{closing_balance, landing_balance, letting_balance, poll_balance}
 use Rattle.zq_query.specs.Closing.{after_close, closing_finals, finals_after, finals_landed}
-use Rattle.zq_query.specs.Polling.{dues_at, has_number_for, numbers_in, timed_out, timeouts, timeouts_of, with_timeout}
+use Rattle.zq_query.specs.Polling.{dues_at, has_number_for, numbers_in, timed_out, timeouts, with_timeout}
 use Rattle.zq_query.specs.Balance.{finals_under, owed_by}
 use Rattle.zq_naming.specs.Naming.{NamingState}
 use Rattle.zq_gateway.specs.declared.call.Call.{Call}
@@ -25,13 +24,13 @@ use Rattle.zq_gateway.specs.declared.call.Handed.{Handed}
 use Rattle.zq_gateway.specs.declared.call.Refusal.{Refusal}
 use Rattle.zq_gateway.specs.declared.face.OpenFace.{OpenFace}
 use Rattle.zq_gateway.specs.Configs.{Settings}
-use Rattle.zq_gateway.specs.State.{State, Core, opening_state}
+use Rattle.zq_gateway.specs.State.{State, opening_state}
 use Rattle.zq_gateway.specs.Selecting.{full_text, select}
 use Rattle.zq_gateway.specs.TextCalls.{TextCall, opening, closing, naming, unnaming, declaring, withdrawing, asking, replying, ending, reporting, passing, listing, unbuilt, read}
 use Rattle.zq_gateway.specs.Deciding.{answered, granted, handed_final, handed_replies, handed_request, handed_requests, handed_timeouts, passing_finals, refusal_of, replied}
-use Rattle.zq_gateway.specs.Machine.{after, answer, sent_final, sent_reply, sent_timeout, state_after, step, steps_from, write, written}
+use Rattle.zq_gateway.specs.Machine.{sent_timeout, state_after, step, steps_from, written}
 use Rattle.zq_gateway.specs.Headline.{FinalPromise, finals_over, is_of, to_come}
-use Rattle.zq_gateway.proofs.Writing.{replies_written, timeouts_written}
+use Rattle.zq_gateway.proofs.Writing.{timeouts_written}
 use Rattle.zq_gateway.proofs.Finals.{IsSound, call_balance, call_standing, opening_sound}
 use Rattle.zq_gateway.proofs.OneFinal.{granted_grows, one_at_first, owed_less, run_balance}
 
