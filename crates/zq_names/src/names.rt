@@ -53,9 +53,10 @@ fn joined(alloc: Global, head: &str, tail: &str) -> Result<String, OutOfMemory>
 }
 
 impl Names {
-    /// A table of the root alone.
+    /// A table of the root alone, which is not held.
     pub fn new(alloc: Global) -> Result<Names, OutOfMemory>
-        ensures { IfOk result (λ ns. texts ns ≡ [] ∷ []) }
+        ensures root { IfOk result (λ ns. texts ns ≡ [] ∷ []) }
+        ensures unheld { IfOk result (λ ns. map (λ e. e.holds) ns ≡ 0 ∷ []) }
     {
         let mut nodes = Slab::new(alloc);
         let mut order = Vec::new(alloc);
