@@ -1,1 +1,9 @@
 pub mod Reading
+pub mod Entries
+pub mod Choice
+pub mod Made
+pub mod Holds
+pub mod Faces
+pub mod GivenUp
+pub mod Declared
+pub mod Emptied

@@ -9,6 +9,7 @@ use Rattle.std.specs.BTreeMap.{is_at, insert_entry}
 use Rattle.zq_key.specs.declared.message.Mapping.{Mapping}
 use Rattle.zq_key.specs.declared.message.Mapping.TheVariants as mapping
 use Rattle.zq_key.specs.declared.message.WireExpr.{WireExpr}
+use Rattle.zq_tables.specs.FaceTexts.{FaceTexts}
 use Rattle.zq_naming.specs.declared.said.Said.{Said}
 use Rattle.zq_naming.specs.declared.said.Said.TheVariants as said
 
@@ -17,9 +18,8 @@ abbrev pub Names : Type 0
 Names = List (ℕ × List ℕ)
 
 -- the numbers that a face declared, and those that the gateway declared to it
-pub record FaceNaming : Type 0 where
-  pub theirs : Names
-  pub ours : Names
+abbrev pub FaceNaming : Type 0
+FaceNaming = FaceTexts
 
 -- the open faces, each with its numbers, by face number
 abbrev pub NamingState : Type 0
