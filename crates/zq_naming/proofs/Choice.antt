@@ -16,7 +16,8 @@ use Rattle.zq_key.specs.declared.message.Mapping.{Mapping}
 use Rattle.zq_key.specs.declared.message.Mapping.TheVariants.{Sender, Receiver}
 use Rattle.zq_tables.specs.FaceIds.{of_id}
 use Rattle.zq_tables.specs.FaceTexts as face
-use Rattle.zq_naming.specs.Naming.{FaceNaming, Names, names_text, is_text, text_at, least_name, tagged, known, cut_at, or_else, best_before, best_part, best, numbered, plain, no_names, sent_side, said_of}
+use Rattle.zq_tables.specs.FaceTexts.{or_else}
+use Rattle.zq_naming.specs.Naming.{FaceNaming, Names, names_text, is_text, text_at, least_name, tagged, known, cut_at, best_before, best_part, best, numbered, plain, no_names, sent_side, said_of}
 use Rattle.zq_naming.specs.declared.said.Said.TheVariants as said
 use Rattle.zq_naming.specs.Holding.{Rises}
 
@@ -44,7 +45,7 @@ least_same es text r = least_among es es 1 text (omega arith) r (λ j le. refl)
 -- ---- parts of a text
 
 module _ (n : FaceNaming) (theirs : Rises 1 n.theirs) (ours : Rises 1 n.ours) where
-  joined_same : (a b : Option ℕ) → or_else (tagged Receiver a) (tagged Sender b) ≡ face.or_else (option_map (λ i. (i, Receiver)) a) (option_map (λ i. (i, Sender)) b)
+  joined_same : (a b : Option ℕ) → or_else (tagged Receiver a) (tagged Sender b) ≡ or_else (option_map (λ i. (i, Receiver)) a) (option_map (λ i. (i, Sender)) b)
   joined_same None None = refl
   joined_same None (Some j) = refl
   joined_same (Some i) b = refl
@@ -59,31 +60,22 @@ module _ (n : FaceNaming) (theirs : Rises 1 n.theirs) (ours : Rises 1 n.ours) wh
   at_same : (text : List ℕ) (k : ℕ) → cut_at k (known n (take k text)) ≡ face.known_at n text k
   at_same text k = cut_same k (known n (take k text)) ∙ ap (option_map (λ (x : ℕ × Mapping). (x.0, x.1, k))) (known_same (take k text))
 
-  either_same : (a b : Option (ℕ × Mapping × ℕ)) → or_else a b ≡ face.or_else a b
-  either_same None b = refl
-  either_same (Some x) b = refl
-
   before_same : (text : List ℕ) (k : ℕ) → best_before n text k ≡ face.best_to n text k
   before_same text zero = refl
   before_same text (suc k) = by (eqb (get_or text k 0) 47) (before_same text k)
     where
       by : (b : Bool) → best_before n text k ≡ face.best_to n text k
-          → cond b (or_else (cut_at k (known n (take k text))) (best_before n text k)) (best_before n text k) ≡ cond b (face.or_else (face.known_at n text k) (face.best_to n text k)) (face.best_to n text k)
-      by true rest = rw (at_same text k, rest) (either_same (face.known_at n text k) (face.best_to n text k))
+          → cond b (or_else (cut_at k (known n (take k text))) (best_before n text k)) (best_before n text k) ≡ cond b (or_else (face.known_at n text k) (face.best_to n text k)) (face.best_to n text k)
+      by true rest = rw (at_same text k, rest) refl
       by false rest = rest
-
-  key_same : (o : Option (ℕ × Mapping × ℕ)) (text : List ℕ) → numbered text o ≡ face.key_from o text
-  key_same None text = refl
-  key_same (Some p) text = refl
 
   pub best_same : (text : List ℕ) → best n text ≡ face.best_key n text
   best_same text =
       let whole : cut_at (length text) (known n text) ≡ face.known_at n text (length text) = ap (λ t. cut_at (length text) (known n t)) (sym (take-length text)) ∙ at_same text (length text) in
       let parts : best_part n text ≡ face.best_part n text =
       ap (λ a. or_else a (best_before n text (length text))) whole
-      ∙ ap (λ b. or_else (face.known_at n text (length text)) b) (before_same text (length text))
-      ∙ either_same (face.known_at n text (length text)) (face.best_to n text (length text)) in
-      key_same (best_part n text) text ∙ ap (λ o. face.key_from o text) parts
+      ∙ ap (λ b. or_else (face.known_at n text (length text)) b) (before_same text (length text)) in
+      ap (λ o. face.key_from o text) parts
 
 -- the same of an answer
 pub answer_best : (n : FaceNaming) (text text' : List ℕ) (r : Result WireExpr OutOfMemory) → Rises 1 n.theirs → Rises 1 n.ours → text' ≡ text → IfOk r (λ w. w ≡ face.best_key n text') → IfOk r (λ w. w ≡ best n text)

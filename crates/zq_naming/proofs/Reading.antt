@@ -13,7 +13,8 @@ use Rattle.zq_key.specs.declared.message.WireExpr.{WireExpr}
 use Rattle.zq_key.specs.declared.memory.OutOfMemory.{OutOfMemory}
 use Rattle.zq_naming.specs.declared.said.Said.{Said}
 use Rattle.zq_naming.specs.declared.said.Said.TheVariants as said
-use Rattle.zq_naming.specs.Naming.{Names, FaceNaming, handed_side, read_by, said_under, said_plainly, is_text, text_at, names_text, least_name, known, tagged, or_else, cut_at, best_before, best_part, best, plain, numbered}
+use Rattle.zq_tables.specs.FaceTexts.{or_else}
+use Rattle.zq_naming.specs.Naming.{Names, FaceNaming, handed_side, read_by, said_under, said_plainly, is_text, text_at, names_text, least_name, known, tagged, cut_at, best_before, best_part, best, plain, numbered}
 
 find-passes : {X : Type 0} (p : X → Bool) (xs : List X) (x : X) → find p xs ≡ Some x → p x ≡ true
 find-passes p [] x h = absurd (cc)

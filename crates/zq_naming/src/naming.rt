@@ -146,10 +146,10 @@ impl Naming {
         ensures err { OnErr result (self.new ≡ self.old) }
     {
         let _open = self.faces.len();
-        let wire = plain(self.alloc, text)?;
         if is_settled(&self.faces, face.0, id) {
             return Ok(());
         }
+        let wire = plain(self.alloc, text)?;
         let node = declare_at(
             self.alloc,
             &mut self.names,
