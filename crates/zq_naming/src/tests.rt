@@ -1,6 +1,7 @@
 use crate::naming::Naming;
 use crate::said::Said;
 use std::test::Fail;
+use zq_key::is_key;
 use zq_key::memory::OutOfMemory;
 use zq_key::message::{FaceId, Mapping, WireExpr};
 use zq_key::text::Text;
@@ -14,6 +15,25 @@ fn is_best(names: &Naming, face: FaceId, text: &str, scope: u16, suffix: &str) -
     match names.best(face, text) {
         Ok(wire) => wire.scope == scope && wire.suffix.as_str() == suffix,
         Err(_) => false,
+    }
+}
+
+// Whether the face can declare the number for the text, and does.
+fn declares(names: &mut Naming, face: FaceId, id: u16, text: &str) -> bool {
+    if id == 0 {
+        return false;
+    }
+    if !is_key(text) {
+        return false;
+    }
+    match names.standing(face, id) {
+        None => names.declare(face, id, text).is_ok(),
+        Some(other) => {
+            if other != text {
+                return false;
+            }
+            names.declare(face, id, text).is_ok()
+        }
     }
 }
 
@@ -31,7 +51,7 @@ fn best_keys(rt: HostRuntime) {
         panic!(rt; "no memory");
     };
     for (id, text) in [(7, "a"), (5, "a/b"), (9, "a/b/c/d"), (6, "a/b"), (2, "x/*")] {
-        assert!(rt; names.declare(FACE, id, text).is_ok());
+        assert!(rt; declares(&mut names, FACE, id, text));
     }
     for (text, scope, suffix) in [
         ("a", 7, ""),
@@ -57,7 +77,7 @@ fn given_up(rt: HostRuntime) {
         panic!(rt; "no memory");
     };
     for (id, text) in [(7, "a"), (5, "a/b"), (6, "a/b"), (9, "a/b/c")] {
-        assert!(rt; names.declare(FACE, id, text).is_ok());
+        assert!(rt; declares(&mut names, FACE, id, text));
     }
     names.undeclare(FACE, 5);
     assert!(rt; is_best(&names, FACE, "a/b", 6, ""));
@@ -67,8 +87,9 @@ fn given_up(rt: HostRuntime) {
     assert!(rt; is_best(&names, FACE, "a/b/c", 9, ""));
     names.undeclare(FACE, 9);
     assert!(rt; is_best(&names, FACE, "a/b/c", 7, "/b/c"));
-    assert!(rt; names.declare(FACE, 5, "a/b/c").is_ok());
-    assert!(rt; names.declare(FACE, 5, "a/b/c").is_ok());
+    assert!(rt; declares(&mut names, FACE, 5, "a/b/c"));
+    assert!(rt; declares(&mut names, FACE, 5, "a/b/c"));
+    assert!(rt; !declares(&mut names, FACE, 5, "a/b"));
     names.undeclare(FACE, 5);
     assert!(rt; is_best(&names, FACE, "a/b/c", 7, "/b/c"));
 }
@@ -80,7 +101,7 @@ fn closed(rt: HostRuntime) {
         panic!(rt; "no memory");
     };
     for (face, id, text) in [(FACE, 7, "a/b"), (FACE, 8, "c"), (OTHER, 4, "a/b")] {
-        assert!(rt; names.declare(face, id, text).is_ok());
+        assert!(rt; declares(&mut names, face, id, text));
     }
     names.close(FACE);
     assert!(rt; is_best(&names, FACE, "a/b", 0, "a/b"));
@@ -95,7 +116,7 @@ fn said(rt: HostRuntime) {
     let Ok(mut names) = two_faces(alloc) else {
         panic!(rt; "no memory");
     };
-    assert!(rt; names.declare(FACE, 7, "a").is_ok());
+    assert!(rt; declares(&mut names, FACE, 7, "a"));
     for (scope, suffix, full) in [(7, "/b", "a/b"), (0, "c", "c")] {
         let Ok(suffix) = Text::new(alloc, suffix) else {
             panic!(rt; "no memory");
