@@ -1,7 +1,7 @@
 -- The best key by numbers is the one that the ids of a face choose.
-use Rattle.std.proofs.Common.{◌≡◌, ◌≢◌, ℕ, zero, suc, ◌<◌, ◌≤◌, Bool, true, false, cond, eqb, List, [], ◌∷◌, length, take, get_or, Option, Some, None, refl, sym, ap, ◌∙◌, arith, Result, Ok, Err, IfOk}
-use Rattle.std.specs.Prelude.{find, not, ◌&&◌, ◌==◌, option_map, slice_index}
-use Rattle.std.specs.declared.cmp.Ordering.TheVariants.{Less, Equal, Greater}
+use Rattle.std.proofs.Common.{◌≡◌, ℕ, zero, suc, ◌<◌, ◌≤◌, Bool, true, false, cond, eqb, List, [], ◌∷◌, length, take, get_or, Option, Some, None, refl, sym, ap, ◌∙◌, arith, Result, Ok, Err, IfOk}
+use Rattle.std.specs.Prelude.{find, option_map}
+use Rattle.std.specs.declared.cmp.Ordering.TheVariants.{Greater}
 use Rattle.std.specs.Ordering.{nat_cmp, is_eq}
 use Rattle.std.specs.Cmp.{nat_cmp_is}
 use Rattle.std.specs.BTreeMap.{is_at}
@@ -17,7 +17,7 @@ use Rattle.zq_key.specs.declared.message.Mapping.TheVariants.{Sender, Receiver}
 use Rattle.zq_tables.specs.FaceIds.{of_id}
 use Rattle.zq_tables.specs.FaceTexts as face
 use Rattle.zq_tables.specs.FaceTexts.{or_else}
-use Rattle.zq_naming.specs.Naming.{FaceNaming, Names, names_text, is_text, text_at, least_name, tagged, known, cut_at, best_before, best_part, best, numbered, plain, no_names, sent_side, said_of}
+use Rattle.zq_naming.specs.Naming.{FaceNaming, Names, names_text, text_at, least_name, tagged, known, cut_at, best_before, best_part, best, numbered, plain, no_names, sent_side, said_of}
 use Rattle.zq_naming.specs.declared.said.Said.TheVariants as said
 use Rattle.zq_naming.specs.Holding.{Rises}
 

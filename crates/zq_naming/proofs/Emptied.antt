@@ -1,30 +1,27 @@
 -- A face without numbers comes, goes, or is left.
-use Rattle.std.proofs.Common.{◌≡◌, ◌≢◌, ℕ, ◌+◌, ◌-◌, ◌*◌, ◌^◌, ◌<◌, ◌≤◌, Bool, true, false, cond, eqb, List, [], ◌∷◌, ◌++◌, length, map, Option, Some, None, IfSome, refl, sym, ap, subst, ◌∙◌, arith, zero, suc, inl, inr, ◌⊎◌, unwrap_or}
+use Rattle.std.proofs.Common.{◌≡◌, ℕ, ◌<◌, Bool, true, false, cond, eqb, List, [], ◌∷◌, length, map, Option, Some, None, refl, sym, ap, subst, ◌∙◌, arith, unwrap_or}
 use Rattle.std.specs.Prelude.{option_map, slice_get}
 use Rattle.std.specs.Option.{is_some}
-use Rattle.std.specs.List.{All, Contains}
+use Rattle.std.specs.List.{All}
 use Rattle.std.specs.List.Sorted.{IsStrictlySortedBy}
-use Rattle.std.specs.Map.{lookup, remove_entry, set_value, values_of, keys_of}
+use Rattle.std.specs.Map.{remove_entry, set_value, values_of, keys_of}
 use Rattle.std.specs.BTreeMap.{is_at, insert_entry}
 use Rattle.std.specs.Ordering.{nat_cmp, is_eq}
 use Rattle.std.proofs.lemmas.Cmp.{nat_cmp_total, tied_itself}
-use Rattle.std.proofs.lemmas.Bool.{cases_eq, false≢true}
+use Rattle.std.proofs.lemmas.Bool.{false≢true}
 use Rattle.std.proofs.lemmas.Option.{none-some, same_Some}
 use Rattle.std.proofs.lemmas.List.Elements.{All-nil}
 use Rattle.std.proofs.lemmas.Map.Made.{lookup-map_values, keys_of-map_values}
 use Rattle.std.proofs.lemmas.Map.Steps.{set_value_same}
-use Rattle.std.proofs.lemmas.Map.Views.{All-values-set_value, All-values-insert_entry, All-map-remove_entry}
-use Rattle.zq_names.specs.Names.{NameEntry, ids, entry_at, with_hold, without_hold}
-use Rattle.zq_names.specs.Keeping.{AllStay, NoneCome, ChangesAt}
-use Rattle.zq_tables.specs.FaceIds.{FaceIds, of_id, with_id, without_id}
-use Rattle.zq_tables.specs.FaceTexts.{FaceTexts, id_texts, texts_of}
-use Rattle.zq_naming.specs.Naming.{FaceNaming, NamingState, Names, no_names, naming_at, face_naming, text_at, with_name, without_name, put_naming, change_naming}
-use Rattle.zq_naming.specs.Holding.{Faces, IsFace, IsHeld, Rises, Numbers, Declares, weigh, hold_of, side_holds, face_holds, holds_by, ids_at, node_in, node_at, first_in, settled_in, is_settled, without_number, put_ids, change_ids, texts_by}
-use Rattle.zq_naming.proofs.Entries.{Rises-with_id, Rises-without_id, Rises-shown, weigh-with_id, weigh-removed, weigh-set, removed_absent, removed_set, set_twice, lookup_set, insert_there, with_same, shown-with_id, shown-removed, shown-set}
-use Rattle.zq_naming.proofs.Holds.{hold_itself, hold_other, few_holds, holds_at, face_at, same_side, same_texts}
-use Rattle.zq_naming.proofs.Faces.{naming_at-texts, naming_there, naming_closed, face_there, face_closed, change_there, change_closed, change_idle, set_texts, changed_text}
-use Rattle.std.proofs.lemmas.Bool.Decides.{nat_tests}
-use Rattle.std.specs.Prelude.{OnOk}
+use Rattle.std.proofs.lemmas.Map.Views.{All-values-insert_entry, All-map-remove_entry}
+use Rattle.zq_names.specs.Names.{NameEntry, entry_at}
+use Rattle.zq_tables.specs.FaceIds.{FaceIds, without_id}
+use Rattle.zq_tables.specs.FaceTexts.{id_texts, texts_of}
+use Rattle.zq_naming.specs.Naming.{FaceNaming, NamingState, Names, no_names, naming_at, face_naming, text_at, without_name, put_naming, change_naming}
+use Rattle.zq_naming.specs.Holding.{Faces, IsFace, IsHeld, Rises, face_holds, holds_by, ids_at, node_in, node_at, first_in, texts_by}
+use Rattle.zq_naming.proofs.Entries.{weigh-with_id, weigh-removed, removed_absent, removed_set, set_twice, lookup_set, insert_there, shown-with_id, shown-removed}
+use Rattle.zq_naming.proofs.Holds.{face_at}
+use Rattle.zq_naming.proofs.Faces.{naming_at-texts, face_there, face_closed, change_closed, change_idle}
 
 -- ---- before any call
 

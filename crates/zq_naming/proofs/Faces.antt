@@ -1,25 +1,21 @@
 -- A face in the list of texts, and the texts after one entry of the names changed.
-use Rattle.std.proofs.Common.{◌≡◌, ◌≢◌, ℕ, ◌+◌, ◌-◌, ◌*◌, ◌^◌, ◌<◌, ◌≤◌, Bool, true, false, cond, eqb, List, [], ◌∷◌, ◌++◌, length, map, Option, Some, None, IfSome, refl, sym, ap, subst, ◌∙◌, arith, zero, suc, inl, inr, ◌⊎◌, unwrap_or}
-use Rattle.std.specs.Prelude.{option_map, slice_get}
-use Rattle.std.specs.Option.{is_some}
-use Rattle.std.specs.List.{All, Contains}
-use Rattle.std.specs.List.Sorted.{IsStrictlySortedBy}
-use Rattle.std.specs.Map.{lookup, remove_entry, set_value, values_of, keys_of}
-use Rattle.std.specs.BTreeMap.{is_at, insert_entry}
+use Rattle.std.proofs.Common.{◌≡◌, ℕ, List, Option, Some, None, refl, sym, ap, subst, ◌∙◌, inl, inr, unwrap_or}
+use Rattle.std.specs.Prelude.{option_map}
+use Rattle.std.specs.List.{Contains}
+use Rattle.std.specs.Map.{set_value}
+use Rattle.std.specs.BTreeMap.{is_at}
 use Rattle.std.specs.Ordering.{nat_cmp}
-use Rattle.std.proofs.lemmas.Bool.{cases_eq, false≢true}
-use Rattle.std.proofs.lemmas.Option.{none-some, same_Some}
-use Rattle.std.proofs.lemmas.List.Elements.{All-nil}
-use Rattle.std.proofs.lemmas.Map.Made.{lookup-map_values, keys_of-map_values}
+use Rattle.std.proofs.lemmas.Bool.{cases_eq}
+use Rattle.std.proofs.lemmas.Option.{none-some}
+use Rattle.std.proofs.lemmas.Map.Made.{lookup-map_values}
 use Rattle.std.proofs.lemmas.Map.Steps.{set_value_same}
-use Rattle.std.proofs.lemmas.Map.Views.{All-values-set_value, All-values-insert_entry, All-map-remove_entry}
-use Rattle.zq_names.specs.Names.{NameEntry, ids, entry_at, with_hold, without_hold}
-use Rattle.zq_names.specs.Keeping.{AllStay, NoneCome, ChangesAt}
-use Rattle.zq_tables.specs.FaceIds.{FaceIds, of_id, with_id, without_id}
-use Rattle.zq_tables.specs.FaceTexts.{FaceTexts, id_texts, texts_of}
-use Rattle.zq_naming.specs.Naming.{FaceNaming, NamingState, Names, no_names, naming_at, face_naming, text_at, with_name, without_name, put_naming, change_naming}
-use Rattle.zq_naming.specs.Holding.{Faces, IsFace, IsHeld, Rises, Numbers, Declares, weigh, hold_of, side_holds, face_holds, holds_by, ids_at, node_in, node_at, first_in, settled_in, is_settled, without_number, put_ids, change_ids, texts_by}
-use Rattle.zq_naming.proofs.Entries.{Rises-with_id, Rises-without_id, Rises-shown, weigh-with_id, weigh-removed, weigh-set, removed_absent, removed_set, set_twice, lookup_set, insert_there, with_same, shown-with_id, shown-removed, shown-set}
+use Rattle.zq_names.specs.Names.{NameEntry, ids, entry_at}
+use Rattle.zq_names.specs.Keeping.{ChangesAt}
+use Rattle.zq_tables.specs.FaceIds.{FaceIds, of_id}
+use Rattle.zq_tables.specs.FaceTexts.{texts_of}
+use Rattle.zq_naming.specs.Naming.{FaceNaming, no_names, naming_at, face_naming, text_at, put_naming, change_naming}
+use Rattle.zq_naming.specs.Holding.{Faces, IsHeld, ids_at, node_in, node_at, texts_by}
+use Rattle.zq_naming.proofs.Entries.{shown-set}
 use Rattle.zq_naming.proofs.Holds.{live_at}
 use Rattle.zq_tables.proofs.FaceLemmas.{live_node}
 

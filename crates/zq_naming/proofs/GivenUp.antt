@@ -1,27 +1,20 @@
 -- A number is given up: each number that is left holds its node.
-use Rattle.std.proofs.Common.{◌≡◌, ◌≢◌, ℕ, ◌+◌, ◌-◌, ◌*◌, ◌^◌, ◌<◌, ◌≤◌, Bool, true, false, cond, eqb, List, [], ◌∷◌, ◌++◌, length, map, Option, Some, None, IfSome, refl, sym, ap, subst, ◌∙◌, arith, zero, suc, inl, inr, ◌⊎◌, unwrap_or}
-use Rattle.std.specs.Prelude.{option_map, slice_get}
-use Rattle.std.specs.Option.{is_some}
+use Rattle.std.proofs.Common.{◌≡◌, ℕ, ◌+◌, ◌-◌, ◌<◌, List, Some, refl, sym, ap, subst, ◌∙◌, arith, inl, inr}
 use Rattle.std.specs.List.{All, Contains}
-use Rattle.std.specs.List.Sorted.{IsStrictlySortedBy}
-use Rattle.std.specs.Map.{lookup, remove_entry, set_value, values_of, keys_of}
-use Rattle.std.specs.BTreeMap.{is_at, insert_entry}
+use Rattle.std.specs.Map.{set_value, values_of}
+use Rattle.std.specs.BTreeMap.{is_at}
 use Rattle.std.specs.Ordering.{nat_cmp}
-use Rattle.std.proofs.lemmas.Bool.{cases_eq, false≢true}
-use Rattle.std.proofs.lemmas.Option.{none-some, same_Some}
-use Rattle.std.proofs.lemmas.List.Elements.{All-nil}
-use Rattle.std.proofs.lemmas.Map.Made.{lookup-map_values, keys_of-map_values}
-use Rattle.std.proofs.lemmas.Map.Steps.{set_value_same}
-use Rattle.std.proofs.lemmas.Map.Views.{All-values-set_value, All-values-insert_entry, All-map-remove_entry}
-use Rattle.zq_names.specs.Names.{NameEntry, ids, entry_at, with_hold, without_hold}
-use Rattle.zq_names.specs.Keeping.{AllStay, NoneCome, ChangesAt}
-use Rattle.zq_tables.specs.FaceIds.{FaceIds, of_id, with_id, without_id}
-use Rattle.zq_tables.specs.FaceTexts.{FaceTexts, id_texts, texts_of}
-use Rattle.zq_naming.specs.Naming.{FaceNaming, NamingState, Names, no_names, naming_at, face_naming, text_at, with_name, without_name, put_naming, change_naming}
-use Rattle.zq_naming.specs.Holding.{Faces, IsFace, IsHeld, Rises, Numbers, Declares, weigh, hold_of, side_holds, face_holds, holds_by, ids_at, node_in, node_at, first_in, settled_in, is_settled, without_number, put_ids, change_ids, texts_by}
-use Rattle.zq_naming.proofs.Entries.{Rises-with_id, Rises-without_id, Rises-shown, weigh-with_id, weigh-removed, weigh-set, removed_absent, removed_set, set_twice, lookup_set, insert_there, with_same, shown-with_id, shown-removed, shown-set}
-use Rattle.zq_naming.proofs.Holds.{hold_itself, hold_other, few_holds, holds_at, face_at, same_side, same_texts}
-use Rattle.zq_naming.proofs.Faces.{naming_at-texts, naming_there, naming_closed, face_there, face_closed, change_there, change_closed, change_idle, set_texts, changed_text, node_is}
+use Rattle.std.proofs.lemmas.Bool.{cases_eq}
+use Rattle.std.proofs.lemmas.Map.Views.{All-values-set_value}
+use Rattle.zq_names.specs.Names.{NameEntry, ids, entry_at, without_hold}
+use Rattle.zq_names.specs.Keeping.{NoneCome, ChangesAt}
+use Rattle.zq_tables.specs.FaceIds.{FaceIds, of_id}
+use Rattle.zq_tables.specs.FaceTexts.{id_texts, texts_of}
+use Rattle.zq_naming.specs.Naming.{Names, without_name, change_naming}
+use Rattle.zq_naming.specs.Holding.{Faces, IsFace, IsHeld, hold_of, face_holds, holds_by, ids_at, node_at, without_number, put_ids, change_ids, texts_by}
+use Rattle.zq_naming.proofs.Entries.{Rises-without_id, weigh-removed, weigh-set, shown-removed}
+use Rattle.zq_naming.proofs.Holds.{hold_itself, hold_other, holds_at, face_at, same_texts}
+use Rattle.zq_naming.proofs.Faces.{set_texts, changed_text, node_is}
 
 unheld_holds : (names names1 : List NameEntry) (n i : ℕ) → ChangesAt names names1 n without_hold → 0 < (entry_at names n).holds → (entry_at names1 i).holds + hold_of i n ≡ (entry_at names i).holds
 unheld_holds names names1 n i changes some = elim (cases_eq i n) [

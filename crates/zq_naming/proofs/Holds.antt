@@ -1,17 +1,16 @@
 -- What it follows from that each number holds its node.
-use Rattle.std.proofs.Common.{◌≡◌, ◌≢◌, ℕ, ◌+◌, ◌*◌, ◌^◌, ◌<◌, ◌≤◌, Bool, true, false, cond, eqb, List, [], ◌∷◌, length, map, Option, Some, None, refl, sym, ap, subst, ◌∙◌, arith, zero, suc, inl, inr}
+use Rattle.std.proofs.Common.{◌≡◌, ◌≢◌, ℕ, ◌*◌, ◌<◌, ◌≤◌, Bool, true, false, cond, eqb, List, [], ◌∷◌, length, Some, refl, ap, subst, ◌∙◌, arith}
 use Rattle.std.specs.List.{All, Contains}
-use Rattle.std.specs.Map.{lookup, remove_entry, values_of}
+use Rattle.std.specs.Map.{values_of}
 use Rattle.std.specs.BTreeMap.{is_at}
 use Rattle.std.specs.Ordering.{nat_cmp}
-use Rattle.std.proofs.lemmas.Bool.{cases_eq}
 use Rattle.std.proofs.lemmas.Bool.Decides.{nat_tests}
 use Rattle.std.proofs.lemmas.Option.{none-some, same_Some}
 use Rattle.std.proofs.lemmas.List.Elements.{All-head, All-tail, All-cons, All-nil}
 use Rattle.zq_names.specs.Names.{NameEntry, ids, entry_at}
-use Rattle.zq_tables.specs.FaceIds.{FaceIds, AreLiveIds, AreLive, of_id}
+use Rattle.zq_tables.specs.FaceIds.{FaceIds, AreLiveIds, AreLive}
 use Rattle.zq_tables.specs.FaceTexts.{FaceTexts, id_texts, texts_of}
-use Rattle.zq_naming.specs.Holding.{Faces, IsFace, IsHeld, Rises, weigh, hold_of, side_holds, face_holds, holds_by, ids_at, texts_by}
+use Rattle.zq_naming.specs.Holding.{Faces, IsFace, IsHeld, hold_of, side_holds, face_holds, holds_by, ids_at, texts_by}
 use Rattle.zq_naming.proofs.Entries.{Rises-length, weigh-removed}
 
 pub hold_itself : (n : ℕ) → hold_of n n ≡ 1

@@ -3,13 +3,13 @@ use Rattle.std.specs.Prelude.{◌≡◌, ℕ, suc, ◌+◌, ◌<◌, ◌≤◌, 
 use Rattle.std.specs.Option.{is_some}
 use Rattle.std.specs.List.{All, Contains}
 use Rattle.std.specs.Ordering.{nat_cmp}
-use Rattle.std.specs.Map.{lookup, set_value, keys_of, values_of}
+use Rattle.std.specs.Map.{lookup, set_value, values_of}
 use Rattle.std.specs.BTreeMap.{is_at}
 use Rattle.zq_names.specs.Names.{NameEntry, ids, entry_at}
 use Rattle.zq_names.specs.Keeping.{AllStay}
 use Rattle.zq_tables.specs.FaceIds.{FaceIds, of_id, with_id, without_id}
 use Rattle.zq_tables.specs.FaceTexts.{texts_of}
-use Rattle.zq_naming.specs.Naming.{FaceNaming, NamingState}
+use Rattle.zq_naming.specs.Naming.{NamingState}
 
 -- the open faces, each with its numbers and the nodes that they stand for
 abbrev pub Faces : Type 0

@@ -1,7 +1,7 @@
-use Rattle.std.proofs.Common.{◌≡◌, ◌≤◌, ◌∙◌, ◌++◌, ℕ, List, [], ap, sym, subst, arith, IfOk}
+use Rattle.std.proofs.Common.{◌≡◌, ◌∙◌, ◌++◌, ℕ, List, [], ap, sym, subst, arith, IfOk}
 use Rattle.zq_names.specs.Names.{entry_at}
-use Rattle.zq_tables.specs.FaceTexts.{texts_of, id_texts}
-use Rattle.zq_naming.specs.Naming.{FaceNaming, face_naming, best, no_names, plain}
+use Rattle.zq_tables.specs.FaceTexts.{texts_of}
+use Rattle.zq_naming.specs.Naming.{FaceNaming, face_naming, best}
 use Rattle.zq_naming.specs.Holding.{Rises}
 use Rattle.zq_naming.proofs.Entries.{Rises-shown}
 use Rattle.zq_naming.proofs.Holds.{live_at, face_at}

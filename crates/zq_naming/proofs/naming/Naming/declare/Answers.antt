@@ -1,4 +1,4 @@
-use Rattle.std.proofs.Common.{◌≡◌, ◌∙◌, ◌<◌, ◌^◌, ℕ, List, length, ap, sym, subst, false, true, IfSome, arith}
+use Rattle.std.proofs.Common.{◌≡◌, ◌∙◌, ◌<◌, ◌^◌, ℕ, List, length, ap, sym, subst, false, IfSome, arith}
 use Rattle.zq_naming.specs.Naming.{NamingState, face_naming, text_at, change_naming, with_name}
 use Rattle.zq_naming.specs.Holding.{texts_by, is_settled}
 use Rattle.zq_naming.proofs.Declared.{room, declared, declared_texts, settled_texts}

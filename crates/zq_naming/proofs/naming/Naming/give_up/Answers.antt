@@ -1,4 +1,4 @@
-use Rattle.std.proofs.Common.{◌≡◌, ◌∙◌, ◌<◌, length, ap, sym, subst, ℕ}
+use Rattle.std.proofs.Common.{◌∙◌, ◌<◌, length, ap, sym, subst}
 use Rattle.zq_naming.specs.Naming.{NamingState, face_naming, without_name}
 use Rattle.zq_naming.proofs.Emptied.{emptied, emptied_more, emptied_idle, fewer}
 use Rattle.zq_naming.proofs.naming.Naming.give_up.Goals as goal

@@ -1,4 +1,3 @@
-use Rattle.std.proofs.Common.{◌≡◌}
 use Rattle.zq_naming.proofs.Emptied.{held_none}
 use Rattle.zq_naming.proofs.naming.Naming.new.Goals as goal
 

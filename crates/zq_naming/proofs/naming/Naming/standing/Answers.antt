@@ -1,4 +1,4 @@
-use Rattle.std.proofs.Common.{◌≡◌, ◌∙◌, ℕ, List, Option, Some, None, ap, sym}
+use Rattle.std.proofs.Common.{◌∙◌, ℕ, Some, ap, sym}
 use Rattle.std.specs.Prelude.{option_map}
 use Rattle.zq_names.specs.Names.{entry_at}
 use Rattle.zq_naming.specs.Naming.{NamingState, face_naming, text_at}
