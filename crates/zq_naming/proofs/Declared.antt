@@ -10,7 +10,7 @@ use Rattle.std.proofs.lemmas.Bool.{cases_eq, false≢true}
 use Rattle.std.proofs.lemmas.Option.{same_Some}
 use Rattle.std.proofs.lemmas.Map.Made.{lookup-map_values}
 use Rattle.std.proofs.lemmas.Map.Views.{All-values-set_value}
-use Rattle.zq_names.specs.Names.{NameEntry, ids, entry_at, with_hold}
+use Rattle.zq_names.specs.Names.{NameEntry, ids, entry_at, with_hold, change_at}
 use Rattle.zq_names.specs.Keeping.{ChangesAt}
 use Rattle.zq_tables.specs.FaceIds.{FaceIds, of_id, with_id}
 use Rattle.zq_tables.specs.FaceTexts.{id_texts, texts_of}
@@ -23,6 +23,7 @@ use Rattle.zq_key.specs.declared.message.WireExpr.{WireExpr}
 use Rattle.zq_tables.specs.FaceTexts.{full_of}
 use Rattle.zq_tables.specs.Registering.{Maps, Registers}
 use Rattle.zq_tables.proofs.IdLemmas.{of_id-with_id}
+use Rattle.zq_naming.proofs.Lean.{lean_held}
 use Rattle.zq_naming.proofs.Made.{fresh_made}
 
 pub none_from : {X : Type 0} (o : Option X) → is_some o ≡ false → o ≡ None
@@ -54,6 +55,7 @@ numbers_of names names' old new i r t maps is =
       text = maps.named.text;
       kept = maps.kept;
       fresh = fresh_made names names' maps.r t maps.made;
+      lean = maps.lean;
       mapped = ap (λ l. record { theirs = l; ours = new.ours }) maps.mapped ∙ ap (λ l. record { theirs = with_id old.theirs i maps.r.0; ours = l }) maps.ours;
     })
 
@@ -83,7 +85,7 @@ module _ (names names1 : List NameEntry) (faces faces' : Faces) (face id r : ℕ
   pub room : length faces < 2 ^ 63 → (entry_at names1 r).holds + 1 < 2 ^ 128
   room few = omega (arith, few, counted_made r declares.numbers.live, few_holds r faces held.sides)
 
-  module _ (names2 : List NameEntry) (changes : ChangesAt names1 names2 r with_hold) (positive : 0 < id) (small : id < 65536) where
+  module _ (names2 : List NameEntry) (changes : ChangesAt names1 names2 r with_hold) (all : names2 ≡ change_at names1 r with_hold) (positive : 0 < id) (small : id < 65536) where
     count : (i : ℕ) → holds_by i faces' ≡ holds_by i faces + hold_of i r
     count i =
         let all = weigh-set (face_holds i) (is_at (nat_cmp face)) faces declares.was declares.is declares.at in
@@ -123,6 +125,7 @@ module _ (names names1 : List NameEntry) (faces faces' : Faces) (face id r : ℕ
           live = λ i some. subst (C i) (sym changes.live) (live_made i some);
           counted = λ i has. omega (arith, held_holds i, counted_made i (subst (C i) changes.live has), count i);
           sides = let A : Faces → Type 0 = λ (fs : Faces). All IsFace (values_of fs) in subst A (sym declares.put) (All-values-set_value (is_at (nat_cmp face)) IsFace faces declares.is held.sides is_face);
+          lean = lean_held names1 names2 r all (declares.numbers.lean held.lean);
         }
 
     same_text : (i : ℕ) → 0 < holds_by i faces → (entry_at names2 i).text ≡ (entry_at names i).text

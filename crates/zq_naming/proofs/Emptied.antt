@@ -14,13 +14,14 @@ use Rattle.std.proofs.lemmas.List.Elements.{All-nil}
 use Rattle.std.proofs.lemmas.Map.Made.{lookup-map_values, keys_of-map_values}
 use Rattle.std.proofs.lemmas.Map.Steps.{set_value_same}
 use Rattle.std.proofs.lemmas.Map.Views.{All-values-insert_entry, All-map-remove_entry}
-use Rattle.zq_names.specs.Names.{NameEntry, entry_at}
+use Rattle.zq_names.specs.Names.{NameEntry, entry_at, texts}
 use Rattle.zq_tables.specs.FaceIds.{FaceIds, without_id}
 use Rattle.zq_tables.specs.FaceTexts.{id_texts, texts_of}
 use Rattle.zq_naming.specs.Naming.{FaceNaming, NamingState, Names, no_names, naming_at, face_naming, text_at, without_name, put_naming, change_naming}
 use Rattle.zq_naming.specs.Holding.{Faces, IsFace, IsHeld, Rises, face_holds, holds_by, ids_at, node_in, node_at, first_in, texts_by}
 use Rattle.zq_naming.proofs.Entries.{weigh-with_id, weigh-removed, removed_absent, removed_set, set_twice, lookup_set, insert_there, shown-with_id, shown-removed}
 use Rattle.zq_naming.proofs.Holds.{face_at}
+use Rattle.zq_naming.proofs.Lean.{root_lean}
 use Rattle.zq_naming.proofs.Faces.{naming_at-texts, face_there, face_closed, change_closed, change_idle}
 
 -- ---- before any call
@@ -37,11 +38,12 @@ all_unheld (e ∷ []) i is = by (eqb e.id i)
     by false = refl
 all_unheld (e ∷ d ∷ es) i is = absurd (omega (arith, ap length is))
 
-pub held_none : (ns : List NameEntry) → map (λ (e : NameEntry). e.holds) ns ≡ 0 ∷ [] → IsHeld ns []
-held_none ns is = record {
+pub held_none : (ns : List NameEntry) → texts ns ≡ [] ∷ [] → map (λ (e : NameEntry). e.holds) ns ≡ 0 ∷ [] → IsHeld ns []
+held_none ns root is = record {
   live = λ i some. absurd (omega arith);
   counted = λ i has. all_unheld ns i is;
   sides = All-nil IsFace;
+  lean = root_lean ns root;
 }
 
 -- ---- as many holds, and all faces as they were or without numbers
@@ -51,6 +53,7 @@ same_held names faces faces' held same sides = record {
   live = λ i some. held.live i (omega (arith, some, same i));
   counted = λ i has. held.counted i has ∙ sym (same i);
   sides = sides;
+  lean = held.lean;
 }
 
 none_held : (i : ℕ) (f : FaceIds) → f.theirs ≡ [] → f.ours ≡ [] → face_holds i f ≡ 0

@@ -6,7 +6,8 @@ use Rattle.std.specs.BTreeMap.{is_at}
 use Rattle.std.specs.Ordering.{nat_cmp}
 use Rattle.std.proofs.lemmas.Bool.{cases_eq}
 use Rattle.std.proofs.lemmas.Map.Views.{All-values-set_value}
-use Rattle.zq_names.specs.Names.{NameEntry, ids, entry_at, without_hold}
+use Rattle.zq_names.specs.Names.{NameEntry, ids, entry_at, without_hold, change_at}
+use Rattle.zq_names.specs.Idle.{IdleAt, NoneIdle}
 use Rattle.zq_names.specs.Keeping.{NoneCome, ChangesAt}
 use Rattle.zq_tables.specs.FaceIds.{FaceIds, of_id}
 use Rattle.zq_tables.specs.FaceTexts.{id_texts, texts_of}
@@ -14,6 +15,7 @@ use Rattle.zq_naming.specs.Naming.{Names, without_name, change_naming}
 use Rattle.zq_naming.specs.Holding.{Faces, IsFace, IsHeld, hold_of, face_holds, holds_by, ids_at, node_at, without_number, put_ids, change_ids, texts_by}
 use Rattle.zq_naming.proofs.Entries.{Rises-without_id, weigh-removed, weigh-set, shown-removed}
 use Rattle.zq_naming.proofs.Holds.{hold_itself, hold_other, holds_at, face_at, same_texts}
+use Rattle.zq_naming.proofs.Lean.{lean_unheld}
 use Rattle.zq_naming.proofs.Faces.{set_texts, changed_text, node_is}
 
 unheld_holds : (names names1 : List NameEntry) (n i : ℕ) → ChangesAt names names1 n without_hold → 0 < (entry_at names n).holds → (entry_at names1 i).holds + hold_of i n ≡ (entry_at names i).holds
@@ -42,8 +44,10 @@ pub record GivesUp (names names1 names2 : List NameEntry) (faces faces' : Faces)
   pub held : IsHeld names faces
   pub node : node_at face id faces ≡ Some n
   pub unheld : ChangesAt names names1 n without_hold
+  pub all : names1 ≡ change_at names n without_hold
   pub stays : (i : ℕ) → Contains (ids names1) i → 0 < (entry_at names1 i).holds → Contains (ids names2) i
   pub kept : NoneCome names1 names2
+  pub lean : IdleAt names1 n → NoneIdle names2
   pub put : faces' ≡ change_ids face (without_number id) faces
 
 module _ (names names1 names2 : List NameEntry) (faces faces' : Faces) (face id n : ℕ) (g : GivesUp names names1 names2 faces faces' face id n) where
@@ -94,6 +98,7 @@ module _ (names names1 names2 : List NameEntry) (faces faces' : Faces) (face id 
         let C : List ℕ → Type 0 = λ (is : List ℕ). Contains is i in
         kept.1.holds ∙ holds_then i (subst C g.unheld.live kept.0);
     sides = let A : Faces → Type 0 = λ (fs : Faces). All IsFace (values_of fs) in subst A (sym put_there) (All-values-set_value (is_at (nat_cmp face)) IsFace faces (without_number id was) g.held.sides is_face);
+    lean = g.lean (lean_unheld names names1 n g.all g.held.lean);
   }
 
   pub given_up_texts : texts_by names2 faces' ≡ change_naming face (without_name id) (texts_by names faces)

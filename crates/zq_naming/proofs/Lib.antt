@@ -3,6 +3,7 @@ pub mod Entries
 pub mod Choice
 pub mod Made
 pub mod Holds
+pub mod Lean
 pub mod Faces
 pub mod GivenUp
 pub mod Declared

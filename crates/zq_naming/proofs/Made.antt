@@ -1,29 +1,13 @@
 -- The names after a text was made: what is new is not held.
-use Rattle.std.proofs.Common.{◌≡◌, ◌≢◌, ℕ, Bool, true, false, cond, eqb, List, [], ◌∷◌, refl, ap, subst, ◌∙◌, arith, zero, suc, inl, inr, ◌⊎◌}
+use Rattle.std.proofs.Common.{◌≡◌, ℕ, Bool, true, false, cond, eqb, List, [], ◌∷◌, refl, ap, subst, ◌∙◌, arith, zero, suc, inl, inr, ◌⊎◌}
 use Rattle.std.specs.List.{Contains}
-use Rattle.std.proofs.lemmas.Bool.{cases_eq}
-use Rattle.std.proofs.lemmas.Bool.Decides.{nat_tests}
 use Rattle.zq_names.specs.declared.node.ResourceId.{ResourceId}
 use Rattle.zq_names.specs.Names.{NameEntry, Makes, ids, entry_at, with_context, change_at}
 use Rattle.zq_names.proofs.KeepingLemmas.{ChangesAt-change_at}
+use Rattle.zq_names.proofs.Idling.{entry_there}
 
 more : {X : Type 0} (x : X) (xs : List X) (y : X) → Contains xs y → Contains (x ∷ xs) y
 more x xs y (k, lt, is) = (suc k, omega arith, is)
-
--- the entry of a live number is there, and has the number
-entry_there : (ns : List NameEntry) (i : ℕ) → Contains (ids ns) i → Contains ns (entry_at ns i) × ((entry_at ns i).id ≡ i)
-entry_there [] i (k, lt, is) = absurd (omega arith)
-entry_there (e ∷ es) i has = elim (cases_eq e.id i) [
-  | inl same ↦ let here : eqb e.id i ≡ true = grind (arith, nat_tests) in rw here ((zero, omega arith, refl), same)
-  | inr differ ↦
-      let other : eqb e.id i ≡ false = grind (arith, nat_tests) in
-      let rest = entry_there es i (tail has differ) in
-      rw other (more e es (entry_at es i) rest.0, rest.1)
-]
-  where
-    tail : Contains (e.id ∷ ids es) i → e.id ≢ i → Contains (ids es) i
-    tail (zero, lt, same) differ = absurd (differ same)
-    tail (suc k, lt, same) differ = (k, omega arith, same)
 
 id_among : (ns : List NameEntry) (e : NameEntry) → Contains ns e → Contains (ids ns) e.id
 id_among [] e (k, lt, is) = absurd (omega arith)

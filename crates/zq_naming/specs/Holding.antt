@@ -7,6 +7,7 @@ use Rattle.std.specs.Map.{lookup, set_value, values_of}
 use Rattle.std.specs.BTreeMap.{is_at}
 use Rattle.zq_names.specs.Names.{NameEntry, ids, entry_at}
 use Rattle.zq_names.specs.Keeping.{AllStay}
+use Rattle.zq_names.specs.Idle.{IdleAt, NoneIdle}
 use Rattle.zq_tables.specs.FaceIds.{FaceIds, of_id, with_id, without_id}
 use Rattle.zq_tables.specs.FaceTexts.{texts_of}
 use Rattle.zq_naming.specs.Naming.{NamingState}
@@ -85,11 +86,12 @@ pub record IsFace (f : FaceIds) : Type 0 where
   pub theirs : Rises 1 f.theirs
   pub ours : f.ours ≡ []
 
--- each node of a number is live, and each node is held once for each number that stands for it
+-- each node of a number is live, each node is held once for each number that stands for it, and none is there for nothing
 pub record IsHeld (names : List NameEntry) (faces : Faces) : Type 0 where
   pub live : (i : ℕ) → 0 < holds_by i faces → Contains (ids names) i
   pub counted : (i : ℕ) → Contains (ids names) i → (entry_at names i).holds ≡ holds_by i faces
   pub sides : All IsFace (values_of faces)
+  pub lean : NoneIdle names
 
 -- the text t was made, and its node r stands under the number; what is new of the names isn't held
 pub record Numbers (names names' : List NameEntry) (old new : FaceIds) (id : ℕ) (t : List ℕ) (r : ℕ) : Type 0 where
@@ -97,6 +99,7 @@ pub record Numbers (names names' : List NameEntry) (old new : FaceIds) (id : ℕ
   pub text : (entry_at names' r).text ≡ t
   pub kept : AllStay names names'
   pub fresh : (i : ℕ) → Contains (ids names') i → Contains (ids names) i ⊎ ((entry_at names' i).holds ≡ 0)
+  pub lean : NoneIdle names → IdleAt names' r
   pub mapped : new ≡ record old { theirs = with_id old.theirs id r }
 
 -- the same at an open face

@@ -23,7 +23,7 @@ pub invariant_of-self-2 : goal.invariant_of-self-2
 invariant_of-self-2 c =
     let new : is_settled c.args.face.0 c.args.id c.self.inside.faces.entries ≡ false = sym c.is_settled.ensures ∙ c.if-is_settled.false in
     declared c.self.inside.names c.declare_at.new.names c.self.inside.faces.entries c.declare_at.new.faces.entries c.args.face.0 c.args.id c.in_ok-node.node.0 c.in_ok-wire.wire.suffix c.self.invariant new c.in_ok-node.ensures.ok
-    c.hold.new.self c.hold.ensures.entries c.requires.number (omega arith)
+    c.hold.new.self c.hold.ensures.entries c.hold.ensures.all c.requires.number (omega arith)
 
 pub returns-clause-ok : goal.returns-clause-ok
 returns-clause-ok c =
@@ -32,6 +32,6 @@ returns-clause-ok c =
     let new : is_settled face id c.self.inside.faces.entries ≡ false = sym c.is_settled.ensures ∙ c.if-is_settled.false in
     let text : c.in_ok-wire.wire.suffix ≡ c.args.text.now = ap (λ w. w.suffix) c.in_ok-wire.ensures in
     declared_texts c.self.inside.names c.declare_at.new.names c.self.inside.faces.entries c.declare_at.new.faces.entries face id c.in_ok-node.node.0 c.in_ok-wire.wire.suffix c.self.invariant new c.in_ok-node.ensures.ok
-    c.hold.new.self c.hold.ensures.entries c.requires.number (omega arith)
+    c.hold.new.self c.hold.ensures.entries c.hold.ensures.all c.requires.number (omega arith)
     ∙ ap (λ (t : List ℕ). change_naming face (with_name id t) (texts_by c.self.inside.names c.self.inside.faces.entries)) text
     ∙ ap (change_naming face (with_name id c.args.text.now)) c.self.view_is

@@ -1,6 +1,6 @@
 use Rattle.std.proofs.Common.{◌≡◌, ◌∙◌, ◌<◌, ℕ, List, ap, sym, subst}
 use Rattle.std.specs.List.{Contains}
-use Rattle.zq_names.specs.Names.{NameEntry, ids, entry_at, without_hold}
+use Rattle.zq_names.specs.Names.{NameEntry, ids, entry_at, without_hold, change_at}
 use Rattle.zq_names.specs.Keeping.{ChangesAt}
 use Rattle.zq_naming.specs.Naming.{NamingState, change_naming, without_name}
 use Rattle.zq_naming.proofs.Faces.{node_live}
@@ -36,8 +36,10 @@ gives_up c =
       held = c.self.invariant;
       node = sym c.in-Some.ensures;
       unheld = subst U c.undeclare_at.ensures.names c.unhold.ensures.entries;
+      all = c.unhold.ensures.all ∙ ap (λ (ns : List NameEntry). change_at ns c.in-Some.node.0 without_hold) c.undeclare_at.ensures.names;
       stays = c.clean.ensures.held;
       kept = c.clean.ensures.kept;
+      lean = c.clean.ensures.lean;
       put = c.undeclare_at.ensures.faces;
     }
 
