@@ -175,6 +175,14 @@ pub run_sound : (cs : List Call) (s : State) → IsSound s → IsSound (state_af
 run_sound [] s i = i
 run_sound (c ∷ cs) s i = run_sound cs (after s c) (follow_sound s (read s c) i)
 
+filter-append : {X : Type 0} (p : X → Bool) (xs ys : List X) → filter p (xs ++ ys) ≡ filter p xs ++ filter p ys
+filter-append p [] ys = refl
+filter-append p (x ∷ xs) ys = by (p x) (filter-append p xs ys)
+  where
+    by : (b : Bool) → filter p (xs ++ ys) ≡ filter p xs ++ filter p ys → cond b (x ∷ filter p (xs ++ ys)) (filter p (xs ++ ys)) ≡ cond b (x ∷ filter p xs) (filter p xs) ++ filter p ys
+    by true e = ap (λ l. x ∷ l) e
+    by false e = e
+
 -- ---- how many finals messages are
 module _ (n : ℕ) (names : NamingState) where
   abbrev count : List Handed → ℕ
@@ -199,11 +207,11 @@ module _ (n : ℕ) (names : NamingState) where
       by true = refl
       by false = refl
 
-  none_replied : (text : List ℕ) (r : Response) (o : Option ReplyTo) → count (map (written names) (replied text r o).handed) ≡ 0
+  pub none_replied : (text : List ℕ) (r : Response) (o : Option ReplyTo) → count (map (written names) (replied text r o).handed) ≡ 0
   none_replied text r None = refl
   none_replied text r (Some to) = none_replies text r to
 
-  none_timeouts : (faces : List (ℕ × OpenFace)) (ts : List Timeout) → count (map (written names) (handed_timeouts faces ts)) ≡ 0
+  pub none_timeouts : (faces : List (ℕ × OpenFace)) (ts : List Timeout) → count (map (written names) (handed_timeouts faces ts)) ≡ 0
   none_timeouts faces ts = ap count (timeouts_written names faces ts) ∙ none (filter has_number_for ts)
     where
       none : (us : List Timeout) → count (map (sent_timeout faces) us) ≡ 0
@@ -211,7 +219,7 @@ module _ (n : ℕ) (names : NamingState) where
       none (u ∷ us) = none us
 
   -- with no offer the one message is the final
-  asked_count : (q : QueryState) (face : FaceId) (text : List ℕ) (r : Request) (os : List QueryTargetQabl) → count (map (written names) (handed_requests q face text r os)) ≡ cond (is_none_left (map target_of os) && (q.requests == n)) 1 0
+  pub asked_count : (q : QueryState) (face : FaceId) (text : List ℕ) (r : Request) (os : List QueryTargetQabl) → count (map (written names) (handed_requests q face text r os)) ≡ cond (is_none_left (map target_of os) && (q.requests == n)) 1 0
   asked_count q face text r [] = by (q.requests == n)
     where
       by : (b : Bool) → length (cond b (sent_final (record { number = q.requests; asker = face; id = r.id; qos = r.qos }) ∷ []) []) ≡ cond b 1 0
@@ -219,13 +227,15 @@ module _ (n : ℕ) (names : NamingState) where
       by false = refl
   asked_count q face text r (o ∷ os) = none_requests q text r (o ∷ os)
 
-filter-append : {X : Type 0} (p : X → Bool) (xs ys : List X) → filter p (xs ++ ys) ≡ filter p xs ++ filter p ys
-filter-append p [] ys = refl
-filter-append p (x ∷ xs) ys = by (p x) (filter-append p xs ys)
-  where
-    by : (b : Bool) → filter p (xs ++ ys) ≡ filter p xs ++ filter p ys → cond b (x ∷ filter p (xs ++ ys)) (filter p (xs ++ ys)) ≡ cond b (x ∷ filter p xs) (filter p xs) ++ filter p ys
-    by true e = ap (λ l. x ∷ l) e
-    by false e = e
+  pub passed_count : (faces : List (ℕ × OpenFace)) (ts : List Timeout) (fs : List Final) → count (map (written names) (handed_timeouts faces ts ++ map handed_final fs)) ≡ finals_under n fs
+  passed_count faces ts fs =
+      let none = none_timeouts faces ts in
+      let told = finals_counted fs in
+      let both : count (map (written names) (handed_timeouts faces ts ++ map handed_final fs)) ≡ count (map (written names) (handed_timeouts faces ts)) + count (map (written names) (map handed_final fs)) =
+      ap count (map-append (written names) (handed_timeouts faces ts) (map handed_final fs))
+      ∙ ap length (filter-append (ends n) (map (written names) (handed_timeouts faces ts)) (map (written names) (map handed_final fs)))
+      ∙ length-append (filter (ends n) (map (written names) (handed_timeouts faces ts))) _ in
+      omega (arith, none, told, both)
 
 -- ---- the balance of a call that nothing refuses
 abbrev Balanced : ℕ → State → TextCall → Type 0
@@ -268,15 +278,10 @@ granted_balance n s (reporting reply) h i =
     omega (arith, told, kept)
 granted_balance n s (passing now) h i =
     let q = s.core.queries in
-    let told = finals_counted n s.names (passing_finals now q) in
-    let none = none_timeouts n s.names s.core.faces (timeouts now q) in
+    let told = passed_count n s.names s.core.faces (timeouts now q) (passing_finals now q) in
     let kept = poll_balance now n q in
     let same = ap (λ l. to_come l n q) (timing_closed now q) in
-    let both : length (filter (ends n) (map (written s.names) (handed_timeouts s.core.faces (timeouts now q) ++ map handed_final (passing_finals now q)))) ≡ length (filter (ends n) (map (written s.names) (handed_timeouts s.core.faces (timeouts now q)))) + length (filter (ends n) (map (written s.names) (map handed_final (passing_finals now q)))) =
-    ap (λ l. length (filter (ends n) l)) (map-append (written s.names) (handed_timeouts s.core.faces (timeouts now q)) (map handed_final (passing_finals now q)))
-    ∙ ap length (filter-append (ends n) (map (written s.names) (handed_timeouts s.core.faces (timeouts now q))) (map (written s.names) (map handed_final (passing_finals now q))))
-    ∙ length-append (filter (ends n) (map (written s.names) (handed_timeouts s.core.faces (timeouts now q)))) _ in
-    omega (arith, told, none, kept, same, both)
+    omega (arith, told, kept, same)
 granted_balance n s (listing r t) h i = omega arith
 granted_balance n s unbuilt h i = omega arith
 

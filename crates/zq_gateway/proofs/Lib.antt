@@ -8,3 +8,7 @@ pub mod Promises
 pub mod Finals
 pub mod OneFinal
 pub mod Silent
+pub mod Waiting
+pub mod Waits
+pub mod Settled
+pub mod Kept

@@ -29,7 +29,8 @@ use Rattle.zq_gateway.specs.Selecting.{full_text, select}
 use Rattle.zq_gateway.specs.TextCalls.{TextCall, opening, closing, naming, unnaming, declaring, withdrawing, asking, replying, ending, reporting, passing, listing, unbuilt, read}
 use Rattle.zq_gateway.specs.Deciding.{answered, granted, handed_final, handed_replies, handed_request, handed_requests, handed_timeouts, passing_finals, refusal_of, replied}
 use Rattle.zq_gateway.specs.Machine.{sent_timeout, state_after, step, steps_from, written}
-use Rattle.zq_gateway.specs.Headline.{FinalPromise, finals_over, is_of, to_come}
+use Rattle.zq_gateway.specs.Waiting.{is_of}
+use Rattle.zq_gateway.specs.Headline.{finals_over, to_come}
 use Rattle.zq_gateway.proofs.Writing.{timeouts_written}
 use Rattle.zq_gateway.proofs.Finals.{IsSound, call_balance, call_standing, opening_sound}
 use Rattle.zq_gateway.proofs.OneFinal.{granted_grows, one_at_first, owed_less, run_balance}
@@ -191,15 +192,12 @@ granted_silent n s (passing now) none =
 granted_silent n s (listing r t) none = refl
 granted_silent n s unbuilt none = refl
 
-silent : (n : ℕ) (s : State) (c : Call) → to_come s.core.queries.closed n s.core.queries ≡ 0 → list_any (is_of n) (step s c).handed ≡ false
+pub silent : (n : ℕ) (s : State) (c : Call) → to_come s.core.queries.closed n s.core.queries ≡ 0 → list_any (is_of n) (step s c).handed ≡ false
 silent n s c none = by (refusal_of s.core (read s c))
   where
     by : (o : Option Refusal) → list_any (is_of n) (map (written s.names) (answered o (granted s.core (read s c))).handed) ≡ false
     by (Some r) = refl
     by None = granted_silent n s (read s c) none
-
-pub final_promise : (n : ℕ) (s : State) (c : Call) → IsSound s → FinalPromise n s c
-final_promise n s c i = record { balance = call_balance n s c i; silent = silent n s c; standing = call_standing s c i }
 
 -- and after its final it is handed nothing
 pub nothing_after : (config : Settings) (before : List Call) (c : Call) (n : ℕ) → finals_over n (steps_from (opening_state config) before) ≡ 1 → list_any (is_of n) (step (state_after (opening_state config) before) c).handed ≡ false

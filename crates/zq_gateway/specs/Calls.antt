@@ -1,11 +1,16 @@
 -- Kinds of calls.
-use Rattle.std.specs.Prelude.{ℕ, Bool, true, false, not, ◌&&◌, ◌||◌, List, [], ◌∷◌, Option, Some, None}
+use Rattle.std.specs.Prelude.{ℕ, Bool, true, false, not, ◌&&◌, ◌||◌, ◌==◌, if◌then◌else◌, List, [], ◌∷◌, Option, Some, None}
 use Rattle.zq_key.specs.declared.message.Bound.{Bound}
 use Rattle.zq_key.specs.declared.message.Bound.TheVariants as bound
 use Rattle.zq_key.specs.declared.message.Mode.{Mode}
 use Rattle.zq_key.specs.declared.message.Mode.TheVariants as mode
 use Rattle.zq_key.specs.declared.message.Region.{Region}
 use Rattle.zq_key.specs.declared.message.Region.TheVariants as region
+use Rattle.zq_key.specs.declared.message.Declare.{Declare}
+use Rattle.zq_key.specs.declared.message.DeclareBody.{DeclareBody}
+use Rattle.zq_key.specs.declared.message.DeclareBody.TheVariants as body
+use Rattle.zq_key.specs.declared.message.FaceId.{FaceId}
+use Rattle.zq_hat.specs.declared.types.FinalMark.TheVariants as mark
 use Rattle.zq_gateway.specs.declared.call.Opening.{Opening}
 use Rattle.zq_gateway.specs.declared.call.Call.{Call}
 use Rattle.zq_gateway.specs.declared.call.Call.TheVariants as call
@@ -52,3 +57,18 @@ is_built config (call.FinalizeInterest face mark set) = false
 is_built config (call.SetNetwork r net) = false
 is_built config (call.SetNodeIds face ids) = false
 is_built config c = true
+
+abbrev pub finalizing : FaceId → Option ℕ → Option Call
+finalizing face None = None
+finalizing face (Some interest) = if interest == 0 then Some (call.FinalizeInterest face mark.Initial true) else None
+
+abbrev pub declaring_call : FaceId → ℕ → Option ℕ → DeclareBody → Option Call
+declaring_call face node interest (body.DeclareKeyExpr id wire) = Some (call.DeclareKeyExpr face id wire)
+declaring_call face node interest (body.UndeclareKeyExpr id) = Some (call.UndeclareKeyExpr face id)
+declaring_call face node interest (body.DeclareQueryable id wire info) = Some (call.DeclareQueryable face id wire info node)
+declaring_call face node interest (body.UndeclareQueryable id wire) = Some (call.UndeclareQueryable face id wire node)
+declaring_call face node interest body.DeclareFinal = finalizing face interest
+
+-- the call that a face's declaration makes; the end of declarations makes one where they answer the interest 0, which every face has from its opening
+abbrev pub declared_call : FaceId → Declare → Option Call
+declared_call face d = declaring_call face d.node d.interest d.body

@@ -1,5 +1,5 @@
 -- What each call of a run promises: of requests, of replies, of finals and of refusals, without the machine.
-use Rattle.std.specs.Prelude.{◌≡◌, ℕ, ◌+◌, ◌==◌, Bool, true, false, ◌&&◌, List, [], ◌∷◌, ◌++◌, map, length, Option, Some, None, if◌then◌else◌, nat_lt}
+use Rattle.std.specs.Prelude.{◌≡◌, ℕ, ◌+◌, ◌==◌, ◌<◌, ◌≤◌, Bool, true, false, ◌&&◌, List, [], ◌∷◌, ◌++◌, map, length, Option, Some, None, if◌then◌else◌, nat_lt}
 use Rattle.std.specs.List.{filter, list_any}
 use Rattle.std.specs.Option.{option_map_or}
 use Rattle.zq_key.specs.declared.message.FaceId.{FaceId}
@@ -20,11 +20,13 @@ use Rattle.zq_gateway.specs.declared.call.Handed.{Handed}
 use Rattle.zq_gateway.specs.declared.call.Outcome.TheVariants as outcome
 use Rattle.zq_gateway.specs.declared.call.Refusal.{Refusal}
 use Rattle.zq_gateway.specs.declared.call.Step.{Step}
-use Rattle.zq_gateway.specs.State.{State}
+use Rattle.zq_gateway.specs.Configs.{Settings}
+use Rattle.zq_gateway.specs.State.{State, opening_state}
 use Rattle.zq_gateway.specs.Selecting.{select, full_text}
 use Rattle.zq_gateway.specs.TextCalls.{read, said as said_by_face}
 use Rattle.zq_gateway.specs.Deciding.{passing_finals, refused, refusal_of, is_accepted}
-use Rattle.zq_gateway.specs.Machine.{step, after, sent_final, sent_replies, sent_timeout}
+use Rattle.zq_gateway.specs.Waiting.{Waits, IsSettled, ends_entry, lands, until, is_of}
+use Rattle.zq_gateway.specs.Machine.{step, steps, after, state_after, sent_final, sent_replies, sent_timeout}
 
 -- ---- requests
 
@@ -111,10 +113,6 @@ is_final (message.Interest i) = false
 is_final (message.InterestFinal i) = false
 is_final (message.Declare d) = false
 
--- the message is of the request of that number
-abbrev pub is_of : ℕ → Handed → Bool
-is_of n h = option_map_or (λ m. m == n) h.number false
-
 abbrev pub ends : ℕ → Handed → Bool
 ends n h = is_final h.message && is_of n h
 
@@ -131,9 +129,10 @@ finals_over n (t ∷ ts) = finals_of n t + finals_over n ts
 abbrev pub to_come : List ℕ → ℕ → QueryState → ℕ
 to_come closed n q = owed_by closed n q.records + (if nat_lt n q.requests then 0 else 1)
 
--- a final comes in exactly the call that takes the record of an open asker out; a request with none to come is handed nothing more; and each record that stands has an entry pending or a reply in flight
+-- a final comes in exactly the call that takes the record of an open asker out; it leaves nothing of the request pending and no reply in flight; a request with none to come is handed nothing more; and each record that stands has an entry pending or a reply in flight
 pub record FinalPromise (n : ℕ) (s : State) (c : Call) : Type 0 where
   pub balance : finals_of n (step s c) + to_come (after s c).core.queries.closed n (after s c).core.queries ≡ to_come (after s c).core.queries.closed n s.core.queries
+  pub settled : 0 < finals_of n (step s c) → IsSettled n (after s c).core.queries
   pub silent : to_come s.core.queries.closed n s.core.queries ≡ 0 → list_any (is_of n) (step s c).handed ≡ false
   pub standing : any_over (after s c).core.queries.records ≡ false
 
@@ -148,5 +147,12 @@ RefusesBy None s c = is_accepted (step s c).outcome ≡ true
 pub record KeepsPromises (s : State) (c : Call) : Type 0 where
   pub requests : RequestPromise s c (step s c)
   pub replies : ReplyPromise s c (step s c)
+  pub waits : is_accepted (step s c).outcome ≡ true → Waits (ends_entry c) (lands c) (until s c) s.core.queries.records (after s c).core.queries.records (step s c).handed
   pub finals : (n : ℕ) → FinalPromise n s c
   pub refusals : RefusesBy (refusal_of s.core (read s c)) s c
+
+-- ---- and of a whole run: each of its calls keeps them; it hands one final of a request at most, and nothing of the request afterwards
+pub record RunPromise (config : Settings) (calls : List Call) : Type 0 where
+  pub each : (before rest : List Call) (c : Call) → calls ≡ before ++ c ∷ rest → KeepsPromises (state_after (opening_state config) before) c
+  pub one_final : (n : ℕ) → finals_over n (steps config calls) ≤ 1
+  pub nothing_after : (n : ℕ) (before rest : List Call) (c : Call) → calls ≡ before ++ c ∷ rest → finals_over n (steps config before) ≡ 1 → list_any (is_of n) (step (state_after (opening_state config) before) c).handed ≡ false

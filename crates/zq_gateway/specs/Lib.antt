@@ -5,4 +5,5 @@ pub mod TextCalls
 pub mod Selecting
 pub mod Deciding
 pub mod Machine
+pub mod Waiting
 pub mod Headline

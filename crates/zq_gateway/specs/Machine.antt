@@ -1,6 +1,6 @@
 -- One call of the gateway, and whole runs.
 use Rattle.std.specs.Option.{is_some}
-use Rattle.std.specs.Prelude.{ℕ, List, [], ◌∷◌, map, Some, if◌then◌else◌}
+use Rattle.std.specs.Prelude.{ℕ, List, [], ◌∷◌, map, Option, Some, None, if◌then◌else◌}
 use Rattle.zq_key.specs.declared.message.Message.{Message}
 use Rattle.zq_key.specs.declared.message.Message.TheVariants as message
 use Rattle.zq_key.specs.declared.message.Response.{Response}
@@ -15,7 +15,7 @@ use Rattle.zq_gateway.specs.declared.call.Step.{Step}
 use Rattle.zq_gateway.specs.Configs.{Settings}
 use Rattle.zq_gateway.specs.State.{State, opening_state}
 use Rattle.zq_gateway.specs.TextCalls.{TextCall, read}
-use Rattle.zq_gateway.specs.Deciding.{handed_final, handed_reply, timed_out, decide, accepted, renamed, is_accepted}
+use Rattle.zq_gateway.specs.Deciding.{done, handed_final, handed_reply, timed_out, decide, accepted, renamed, is_accepted}
 
 -- a request is written with the best number that its receiver knows; all else is written whole
 abbrev pub written_message : FaceNaming → Message → Message
@@ -81,3 +81,12 @@ steps config calls = steps_from (opening_state config) calls
 abbrev pub state_after : State → List Call → State
 state_after s [] = s
 state_after s (c ∷ cs) = state_after (after s c) cs
+
+-- the answer to a call that may be none, and the state after it
+abbrev pub step_of : State → Option Call → Step
+step_of s None = done []
+step_of s (Some c) = step s c
+
+abbrev pub after_of : State → Option Call → State
+after_of s None = s
+after_of s (Some c) = after s c

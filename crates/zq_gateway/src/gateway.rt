@@ -1,5 +1,5 @@
 //! The gateway: each call is one event.
-ghost use Rattle.std.specs.Prelude.{IfErr, ◌≡◌, ◌<◌, ◌+◌, ◌^◌, [], Some, None, true, false, IfOk, OnOk, OnErr, option_copied, option_map, map, option_to_list};
+ghost use Rattle.std.specs.Prelude.{IfErr, IfSome, ◌≡◌, ◌<◌, ◌+◌, ◌^◌, [], Some, None, true, false, IfOk, OnOk, OnErr, option_copied, option_map, map, option_to_list};
 ghost use Rattle.std.specs.BTreeMap.{insert_entry};
 ghost use Rattle.std.specs.Option.{IsSome};
 ghost use Rattle.std.specs.Ordering.{nat_cmp};
@@ -9,10 +9,10 @@ ghost use Rattle.zq_query.specs.Records.{next_reply};
 ghost use Rattle.zq_query.specs.Asking.{are_distinct, face_numbers, is_full, lacks_number};
 ghost use Rattle.zq_naming.specs.Naming.{is_text};
 ghost use Rattle.zq_gateway.specs.declared.call.Call.TheVariants as call;
-ghost use Rattle.zq_gateway.specs.Calls.{is_built};
+ghost use Rattle.zq_gateway.specs.Calls.{declared_call, declaring_call, is_built};
 ghost use Rattle.zq_gateway.specs.Deciding.{done, granted, lacks_reply_number, opened, refused, remaps, seat};
 ghost use Rattle.zq_gateway.specs.Selecting.{full_text, is_unscoped, says_key, says_key_or_nothing, select_for, target_of};
-ghost use Rattle.zq_gateway.specs.Machine.{accepted_state, after, answer, follow, step, write};
+ghost use Rattle.zq_gateway.specs.Machine.{accepted_state, after, after_of, answer, follow, step, step_of, write};
 ghost use Rattle.zq_gateway.specs.State.{at, change_hat, face_region, is_open, joined, opening_state};
 ghost use Rattle.zq_naming.specs.Naming.{face_naming, no_names, text_at};
 ghost use Rattle.zq_gateway.specs.TextCalls.{asking, closing, declaring, ending, listing, naming, opening, passing, replying, reporting, unnaming, withdrawing};
@@ -36,7 +36,8 @@ use zq_hat::types::{HatRefusal, QueryTargetQabl};
 use zq_key::items::Items;
 use zq_key::memory::OutOfMemory;
 use zq_key::message::{
-    FaceId, Mode, QueryTarget, QueryableInfoType, Region, Request, Response, Zid,
+    Declare, DeclareBody, FaceId, Mode, QueryTarget, QueryableInfoType, Region, Request, Response,
+    WireExpr, Zid,
 };
 use zq_key::{Key, KeyError, is_key};
 use zq_naming::naming::Naming;
@@ -115,10 +116,7 @@ impl Gateway {
         match call {
             Call::Open(asked) => self.open(asked),
             Call::Close { face } => self.close(*face),
-            Call::DeclareKeyExpr { face, id, wire } => {
-                let said = self.names.said(*face, wire)?;
-                self.declare_key(*face, *id, &said)
-            }
+            Call::DeclareKeyExpr { face, id, wire } => self.name_key(*face, *id, wire),
             Call::UndeclareKeyExpr { face, id } => self.undeclare_key(*face, *id),
             Call::DeclareQueryable {
                 face,
@@ -126,10 +124,7 @@ impl Gateway {
                 wire,
                 info,
                 node,
-            } => {
-                let said = self.names.said(*face, wire)?;
-                self.declare_queryable(*face, *id, &said, *info, *node)
-            }
+            } => self.register(*face, *id, wire, *info, *node),
             Call::UndeclareQueryable {
                 face,
                 id,
@@ -211,6 +206,18 @@ impl Gateway {
     {
         let said = self.names.said(face, &msg.wire)?;
         self.reply(face, &said, msg)
+    }
+
+    /// A declaration of a face, of a number or of a queryable, or that one is given up (upstream's
+    /// `Primitives::send_declare`). The end of a face's declarations changes nothing here; its form
+    /// for the first interest is yet to come.
+    pub fn send_declare(&mut self, face: FaceId, msg: &Declare) -> Result<Step, OutOfMemory>
+        requires { IfSome (declared_call face msg.now) (λ c. is_built self.old.core.config c ≡ true) }
+        ensures step { IfOk result (λ t. t ≡ step_of self.old (declared_call face msg.now)) }
+        ensures after { OnOk result (self.new ≡ after_of self.old (declared_call face msg.now)) }
+        ensures err { OnErr result (self.new ≡ self.old) }
+    {
+        self.declare(face, msg.node, msg.interest, &msg.body)
     }
 
     /// A moment has come, in milliseconds: each entry whose deadline has come is let go, with an error reply.
@@ -635,6 +642,62 @@ impl Gateway {
         }
         self.names.undeclare(face, id);
         Ok(self.done())
+    }
+
+    // A number that a face declares, with its expression read.
+    fn name_key(&mut self, face: FaceId, id: u16, wire: &WireExpr) -> Result<Step, OutOfMemory>
+        ensures step { IfOk result (λ t. t ≡ step self.old (call.DeclareKeyExpr face id wire.now)) }
+        ensures after { OnOk result (self.new ≡ after self.old (call.DeclareKeyExpr face id wire.now)) }
+        ensures err { OnErr result (self.new ≡ self.old) }
+    {
+        let said = self.names.said(face, wire)?;
+        self.declare_key(face, id, &said)
+    }
+
+    // A queryable that a face declares, with its expression read.
+    fn register(
+        &mut self,
+        face: FaceId,
+        id: u32,
+        wire: &WireExpr,
+        info: QueryableInfoType,
+        node: u16,
+    ) -> Result<Step, OutOfMemory>
+        ensures step { IfOk result (λ t. t ≡ step self.old (call.DeclareQueryable face id wire.now info node)) }
+        ensures after { OnOk result (self.new ≡ after self.old (call.DeclareQueryable face id wire.now info node)) }
+        ensures err { OnErr result (self.new ≡ self.old) }
+    {
+        let said = self.names.said(face, wire)?;
+        self.declare_queryable(face, id, &said, info, node)
+    }
+
+    // A declaration, by its kind.
+    fn declare(
+        &mut self,
+        face: FaceId,
+        node: u16,
+        interest: Option<u32>,
+        body: &DeclareBody,
+    ) -> Result<Step, OutOfMemory>
+        requires { IfSome (declaring_call face node interest body.now) (λ c. is_built self.old.core.config c ≡ true) }
+        ensures step { IfOk result (λ t. t ≡ step_of self.old (declaring_call face node interest body.now)) }
+        ensures after { OnOk result (self.new ≡ after_of self.old (declaring_call face node interest body.now)) }
+        ensures err { OnErr result (self.new ≡ self.old) }
+    {
+        match body {
+            DeclareBody::DeclareKeyExpr { id, wire } => self.name_key(face, *id, wire),
+            DeclareBody::UndeclareKeyExpr { id } => self.undeclare_key(face, *id),
+            DeclareBody::DeclareQueryable { id, wire, info } => {
+                self.register(face, *id, wire, *info, node)
+            }
+            DeclareBody::UndeclareQueryable { id, wire: _ } => {
+                self.undeclare_queryable(face, *id, node)
+            }
+            DeclareBody::DeclareFinal => match interest {
+                Some(0) => unreachable!(),
+                _ => Ok(self.done()),
+            },
+        }
     }
 
     // The gateways of a region are listed.

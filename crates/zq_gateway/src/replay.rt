@@ -1,11 +1,9 @@
 //! Whole runs.
-ghost use Rattle.std.specs.Prelude.{◌≡◌, ◌≤◌, ◌++◌, ◌∷◌, IfOk, List, false, true, ℕ};
-ghost use Rattle.std.specs.List.{AllByRecursion, list_any};
+ghost use Rattle.std.specs.Prelude.{◌≡◌, IfOk, true};
+ghost use Rattle.std.specs.List.{AllByRecursion};
 ghost use Rattle.zq_gateway.specs.Calls.{is_built};
-ghost use Rattle.zq_gateway.specs.Machine.{state_after, step, steps};
-ghost use Rattle.zq_gateway.specs.State.{opening_state};
-ghost use Rattle.zq_gateway.specs.Headline.{KeepsPromises, finals_over, is_of};
-ghost use Rattle.zq_gateway.specs.declared.call.Call.{Call};
+ghost use Rattle.zq_gateway.specs.Machine.{steps};
+ghost use Rattle.zq_gateway.specs.Headline.{RunPromise};
 
 use crate::call::{Call, Replay};
 use crate::config::Config;
@@ -14,13 +12,12 @@ use std::alloc::Global;
 use zq_key::items::Items;
 use zq_key::memory::OutOfMemory;
 
-/// The steps of a new gateway for calls, one after another.
+/// The steps of a new gateway for calls, one after another; and what each run of them promises.
+#[tactic(auto, using(crate::proofs::Kept::headline))]
 pub fn replay(alloc: Global, config: &Config, calls: &[Call]) -> Result<Replay, OutOfMemory>
     requires { AllByRecursion (λ c. is_built config.now c ≡ true) calls.now }
     ensures machine { IfOk result (λ r. r.steps ≡ steps config.now calls.now) }
-    ensures promises { IfOk result (λ _. (before rest : List Call) (c : Call) → calls.now ≡ before ++ c ∷ rest → KeepsPromises (state_after (opening_state config.now) before) c) }
-    ensures one_final { IfOk result (λ _. (n : ℕ) → finals_over n (steps config.now calls.now) ≤ 1) }
-    ensures nothing_after { IfOk result (λ _. (n : ℕ) (before rest : List Call) (c : Call) → calls.now ≡ before ++ c ∷ rest → finals_over n (steps config.now before) ≡ 1 → list_any (is_of n) (step (state_after (opening_state config.now) before) c).handed ≡ false) }
+    ensures headline { IfOk result (λ _. RunPromise config.now calls.now) }
 {
     let mut gateway = Gateway::new(alloc, config)?;
     let mut steps = Items::new(alloc);

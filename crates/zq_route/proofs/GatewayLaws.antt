@@ -1,9 +1,11 @@
 -- Of the gateways of one list, none carries what one of them asked, and else the greatest alone.
-use Rattle.std.proofs.Common.{◌≡◌, ◌∙◌, sym, ap, refl, subst, arith, ℕ, ◌≤◌, Bool, true, false, List, [], ◌∷◌, Some, eqb-true, true≢false, ◌⊎◌, inl, inr, fold, ◌↔◌}
+use Rattle.std.proofs.Common.{◌≡◌, ◌∙◌, sym, ap, refl, subst, arith, ℕ, ◌≤◌, ◌<◌, length, cond, Option, Bool, true, false, List, [], ◌∷◌, Some, eqb-true, true≢false, ◌⊎◌, inl, inr, fold, ◌↔◌}
 use Rattle.std.specs.Prelude.{not, ◌&&◌, ◌||◌, ◌==◌, max}
 use Rattle.std.specs.Cmp.{nat_eq_equiv, second_so}
 use Rattle.zq_key.specs.declared.message.Zid.{Zid}
-use Rattle.zq_route.specs.Filter.{is_zid, has_zid, greatest, carries, IsGreatest}
+use Rattle.zq_route.specs.declared.filter.InterRegionFilter.{InterRegionFilter}
+use Rattle.zq_route.specs.declared.gateways.Gateways.{Gateways}
+use Rattle.zq_route.specs.Filter.{is_zid, has_zid, greatest, carries, gateways_of, passes_between, Decide, IsGreatest}
 
 abbrev step : ℕ → Zid → ℕ
 step m z = max m z.0
@@ -32,7 +34,7 @@ attained m (z ∷ zs) zid e = cases (is_zid zid z) refl (attained (max m z.0) zs
     cases false here (inl is) = inl (larger here is)
     cases false here (inr there) = inr there
 
-pub listed_fails : (z : Zid) (zs : List Zid) (src own : Zid) → has_zid src (z ∷ zs) ≡ true → carries (Some (z ∷ zs)) (Some src) own ≡ false
+listed_fails : (z : Zid) (zs : List Zid) (src own : Zid) → has_zid src (z ∷ zs) ≡ true → carries (Some (z ∷ zs)) (Some src) own ≡ false
 listed_fails z zs src own e = ap (λ b. not b && (greatest (z ∷ zs) == own.0)) e
 
 passes : (z : Zid) (zs : List Zid) (src own : Zid) → has_zid src (z ∷ zs) ≡ false → greatest (z ∷ zs) ≡ own.0 → carries (Some (z ∷ zs)) (Some src) own ≡ true
@@ -61,6 +63,19 @@ greatest_is z zs own g =
     let high = above_all 0 (z ∷ zs) own g.member in
     omega (arith, low, high)
 
-pub only_greatest : (z : Zid) (zs : List Zid) (src own : Zid) → has_zid src (z ∷ zs) ≡ false → (carries (Some (z ∷ zs)) (Some src) own ≡ true) ↔ IsGreatest own (z ∷ zs)
+only_greatest : (z : Zid) (zs : List Zid) (src own : Zid) → has_zid src (z ∷ zs) ≡ false → (carries (Some (z ∷ zs)) (Some src) own ≡ true) ↔ IsGreatest own (z ∷ zs)
 only_greatest z zs src own e =
     ((λ c. greatest_from z zs own (eqb-true _ _ (second_so _ _ c))), (λ g. passes z zs src own e (greatest_is z zs own g)))
+
+-- where a list decides
+decided : (f : InterRegionFilter) (tables : List (ℕ × Gateways)) (own src : Zid) (zids : List Zid) → Decide f tables src zids → passes_between f tables own ≡ carries (Some zids) (Some src) own
+decided f tables own src zids d =
+    ap (λ b. cond b true (carries (gateways_of f tables) f.src_zid own)) d.bounds ∙ (λ j. carries (d.list j) (d.source j) own)
+
+pub listed_source : (f : InterRegionFilter) (tables : List (ℕ × Gateways)) (own src : Zid) (zids : List Zid) → Decide f tables src zids → has_zid src zids ≡ true → passes_between f tables own ≡ false
+listed_source f tables own src [] d h = absurd (true≢false (sym h))
+listed_source f tables own src (z ∷ zs) d h = decided f tables own src (z ∷ zs) d ∙ listed_fails z zs src own h
+
+pub greatest_alone : (f : InterRegionFilter) (tables : List (ℕ × Gateways)) (own src : Zid) (zids : List Zid) → Decide f tables src zids → has_zid src zids ≡ false → (passes_between f tables own ≡ true) ↔ IsGreatest own zids
+greatest_alone f tables own src [] d h = let s = d.some in absurd (omega (arith, s))
+greatest_alone f tables own src (z ∷ zs) d h = subst (λ b. (b ≡ true) ↔ IsGreatest own (z ∷ zs)) (sym (decided f tables own src (z ∷ zs) d)) (only_greatest z zs src own h)

@@ -1,5 +1,5 @@
 -- Which gateway carries a request between regions.
-use Rattle.std.specs.Prelude.{ℕ, ◌≡◌, ◌≤◌, Bool, true, false, not, cond, ◌&&◌, ◌==◌, List, [], ◌∷◌, Option, Some, None, max, fold, find, option_map, if◌then◌else◌}
+use Rattle.std.specs.Prelude.{ℕ, ◌≡◌, ◌≤◌, ◌<◌, length, Bool, true, false, not, cond, ◌&&◌, ◌==◌, List, [], ◌∷◌, Option, Some, None, max, fold, find, option_map, if◌then◌else◌}
 use Rattle.std.specs.List.{list_any}
 use Rattle.std.specs.Option.{option_and_then}
 use Rattle.zq_key.specs.declared.message.Region.{Region}
@@ -62,3 +62,10 @@ passes_between f tables own = if same_bound f.src f.dst then true else carries (
 pub record IsGreatest (own : Zid) (zids : List Zid) : Type 0 where
   pub member : has_zid own zids ≡ true
   pub above : (zid : Zid) → has_zid zid zids ≡ true → zid.0 ≤ own.0
+
+-- between regions of different bounds, about a source that is known, the gateways of a list that is not empty decide
+pub record Decide (f : InterRegionFilter) (tables : List (ℕ × Gateways)) (src : Zid) (zids : List Zid) : Type 0 where
+  pub bounds : same_bound f.src f.dst ≡ false
+  pub source : f.src_zid ≡ Some src
+  pub list : gateways_of f tables ≡ Some zids
+  pub some : 0 < length zids

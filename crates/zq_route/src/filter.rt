@@ -1,9 +1,10 @@
 //! Which gateway carries a request between regions.
-ghost use Rattle.std.specs.Prelude.{◌≡◌, fold, find, option_map, max};
+ghost use Rattle.std.specs.Prelude.{◌≡◌, ◌↔◌, List, true, false, fold, find, option_map, max};
 ghost use Rattle.std.specs.Option.{option_copied, option_and_then};
 ghost use Rattle.zq_tables.specs.Region.{HasIndex};
 ghost use Rattle.zq_tables.specs.RegionMap.{value_at};
-ghost use Rattle.zq_route.specs.Filter.{is_north, is_zid, is_node, listed, gateways_of, greatest, has_zid, carries, passes_between};
+ghost use Rattle.zq_route.specs.Filter.{is_north, is_zid, is_node, listed, gateways_of, greatest, has_zid, carries, passes_between, Decide, IsGreatest};
+ghost use Rattle.zq_key.specs.declared.message.Zid.{Zid};
 
 use crate::gateways::{GatewayEntry, Gateways};
 use zq_hat::types::ZidList;
@@ -110,11 +111,8 @@ impl InterRegionFilter {
         }
     }
 
-    /// Whether the gateway `own` is the one to carry the request. Between regions of equal bounds
-    /// each is. Otherwise a table gives a list: where it has none or an empty one, or the source is
-    /// not known, each is; a source in the list is carried by none; any other source is carried by
-    /// the greatest id of the list alone. Takes no memory.
-    pub fn resolve(&self, tables: &RegionMap<Gateways>, own: Zid) -> bool
+    // The bounds first, then the list.
+    fn passes_between(&self, tables: &RegionMap<Gateways>, own: Zid) -> bool
         requires src { HasIndex self.now.src }
         requires dst { HasIndex self.now.dst }
         ensures { result ≡ passes_between self.now tables.now own }
@@ -123,5 +121,19 @@ impl InterRegionFilter {
             return true;
         }
         carries(self.gateways(tables), self.src_zid, own)
+    }
+
+    /// Whether the gateway `own` is the one to carry the request. Between regions of equal bounds
+    /// each is. Otherwise a table gives a list: where it has none or an empty one, or the source is
+    /// not known, each is; a source in the list is carried by none; any other source is carried by
+    /// the greatest id of the list alone. Takes no memory.
+    pub fn resolve(&self, tables: &RegionMap<Gateways>, own: Zid) -> bool
+        requires src { HasIndex self.now.src }
+        requires dst { HasIndex self.now.dst }
+        ensures passes { result ≡ passes_between self.now tables.now own }
+        ensures listed { (src : Zid) (zids : List Zid) → Decide self.now tables.now src zids → has_zid src zids ≡ true → result ≡ false }
+        ensures greatest { (src : Zid) (zids : List Zid) → Decide self.now tables.now src zids → has_zid src zids ≡ false → (result ≡ true) ↔ IsGreatest own zids }
+    {
+        self.passes_between(tables, own)
     }
 }
