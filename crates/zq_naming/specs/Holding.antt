@@ -20,9 +20,11 @@ Faces = List (ℕ × FaceIds)
 abbrev pub texts_by : List NameEntry → Faces → NamingState
 texts_by names faces = map (λ p. (p.0, texts_of names p.1)) faces
 
+-- the numbers of an open face
 abbrev pub ids_at : ℕ → Faces → Option FaceIds
 ids_at face faces = lookup (is_at (nat_cmp face)) faces
 
+-- the node of a number among those that a face declared
 abbrev pub node_in : ℕ → Option FaceIds → Option ℕ
 node_in id None = None
 node_in id (Some f) = of_id f.theirs id
@@ -31,11 +33,12 @@ node_in id (Some f) = of_id f.theirs id
 abbrev pub node_at : ℕ → ℕ → Faces → Option ℕ
 node_at face id faces = node_in id (ids_at face faces)
 
--- the least number that the face declared
+-- the numbers that a face declared, none where it isn't open
 abbrev pub first_in : Option FaceIds → List (ℕ × ℕ)
 first_in None = []
 first_in (Some f) = f.theirs
 
+-- there is no face, or it declared the number
 abbrev pub settled_in : ℕ → Option FaceIds → Bool
 settled_in id None = true
 settled_in id (Some f) = is_some (of_id f.theirs id)
@@ -44,9 +47,11 @@ settled_in id (Some f) = is_some (of_id f.theirs id)
 abbrev pub is_settled : ℕ → ℕ → Faces → Bool
 is_settled face id faces = settled_in id (ids_at face faces)
 
+-- the face gives a number up
 abbrev pub without_number : ℕ → FaceIds → FaceIds
 without_number id f = record f { theirs = without_id f.theirs id }
 
+-- the change of a face that was looked up
 abbrev pub put_ids : ℕ → (FaceIds → FaceIds) → Faces → Option FaceIds → Faces
 put_ids face f faces None = faces
 put_ids face f faces (Some n) = set_value (is_at (nat_cmp face)) faces (f n)
@@ -66,9 +71,11 @@ weigh f (e ∷ es) = f e.1 + weigh f es
 abbrev pub hold_of : ℕ → ℕ → ℕ
 hold_of i n = if n == i then 1 else 0
 
+-- how many numbers of a side stand for the node i
 abbrev pub side_holds : ℕ → List (ℕ × ℕ) → ℕ
 side_holds i es = weigh (hold_of i) es
 
+-- how many numbers of a face stand for the node i
 abbrev pub face_holds : ℕ → FaceIds → ℕ
 face_holds i f = side_holds i f.theirs + side_holds i f.ours
 

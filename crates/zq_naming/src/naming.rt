@@ -55,6 +55,7 @@ impl Naming {
         ensures ok { OnOk result (self.new ≡ insert_entry nat_cmp self.old face.0 no_names) }
         ensures err { OnErr result (self.new ≡ self.old) }
     {
+        // the faces stand in order, so that a face that is open stays at its place
         let _open = self.faces.len();
         if self.faces.contains_key(&face.0) {
             self.give_up(face);
@@ -145,6 +146,7 @@ impl Naming {
         ensures ok { OnOk result (self.new ≡ change_naming face.0 (with_name id text.now) self.old) }
         ensures err { OnErr result (self.new ≡ self.old) }
     {
+        // so many faces at most bound how often a node is held
         let _open = self.faces.len();
         if is_settled(&self.faces, face.0, id) {
             return Ok(());
