@@ -100,7 +100,7 @@ impl Gateway {
                 counters.replies,
                 counters.request_ids,
             ),
-            names: Naming::new(alloc),
+            names: Naming::new(alloc)?,
         })
     }
 

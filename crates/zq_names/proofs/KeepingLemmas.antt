@@ -172,7 +172,7 @@ gone_once (i ∷ is) (suc at) lt once (suc k, in_range, e) = gone_once is at (om
 stays_there : (is : List ℕ) (at j : ℕ) → at < length is → Contains is j → j ≢ get_or is at 0 → Contains (remove is at) j
 stays_there is at j lt (k, in_k, e) differ = Contains-remove is at k j lt in_k (λ same. differ (sym e ∙ ap (λ q. get_or is q j) same ∙ get_or_default is at j 0 lt)) e
 
-entry_at-place : (ns : List NameEntry) (at : ℕ) (d : NameEntry) → at < length ns → Once (ids ns) → entry_at ns (get_or ns at d).id ≡ get_or ns at d
+pub entry_at-place : (ns : List NameEntry) (at : ℕ) (d : NameEntry) → at < length ns → Once (ids ns) → entry_at ns (get_or ns at d).id ≡ get_or ns at d
 entry_at-place [] at d lt once = absurd (omega arith)
 entry_at-place (e ∷ es) zero d lt once = let same : eqb e.id e.id ≡ true = grind (arith, nat_tests) in rw same
 entry_at-place (e ∷ es) (suc at) d lt once =

@@ -16,3 +16,4 @@ pub mod Fronts
 pub mod Copies
 pub mod KeepingLemmas
 pub mod ClosingLemmas
+pub mod Idling

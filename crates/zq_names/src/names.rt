@@ -6,6 +6,7 @@ ghost use Rattle.zq_key.specs.Key.{is_key as key_of};
 ghost use Rattle.zq_names.specs.Names.{IsLive, entry_at, entry_of, change_at, with_hold, without_hold, with_context, texts, HasText, Makes, Cleans, ids};
 ghost use Rattle.zq_names.specs.Closing.{Closes};
 ghost use Rattle.zq_names.specs.Keeping.{AllStay, ChangesAt, NoneCome};
+ghost use Rattle.zq_names.specs.Idle.{IdleAt, NoneIdle};
 ghost use Rattle.zq_names.specs.Texts.{last_part, nonwild};
 ghost use Rattle.zq_names.specs.Matching.{number, is_match};
 
@@ -53,9 +54,10 @@ fn joined(alloc: Global, head: &str, tail: &str) -> Result<String, OutOfMemory>
 }
 
 impl Names {
-    /// A table of the root alone.
+    /// A table of the root alone, which is not held.
     pub fn new(alloc: Global) -> Result<Names, OutOfMemory>
-        ensures { IfOk result (λ ns. texts ns ≡ [] ∷ []) }
+        ensures root { IfOk result (λ ns. texts ns ≡ [] ∷ []) }
+        ensures unheld { IfOk result (λ ns. map (λ e. e.holds) ns ≡ 0 ∷ []) }
     {
         let mut nodes = Slab::new(alloc);
         let mut order = Vec::new(alloc);
@@ -232,6 +234,7 @@ impl Names {
         ensures made { IfOk result (λ r. Makes self.old self.new r ((entry_at self.old from.0).text ++ suffix.now)) }
         ensures named { IfOk result (λ r. HasText self.new r ((entry_at self.old from.0).text ++ suffix.now)) }
         ensures kept { OnOk result (AllStay self.old self.new) }
+        ensures lean { IfOk result (λ r. NoneIdle self.old → IdleAt self.new r.0) }
         ensures key { OnOk result (key_of ((entry_at self.old from.0).text ++ suffix.now) ≡ true) }
         ensures invalid { result ≡ Err NameRefusal.InvalidKeyExpr → key_of ((entry_at self.old from.0).text ++ suffix.now) ≡ false }
         ensures only { IfErr result (λ e. key_of ((entry_at self.old from.0).text ++ suffix.now) ≡ true → e ≡ NameRefusal.OutOfMemory) }
@@ -253,6 +256,7 @@ impl Names {
         ensures cleans { Cleans self.old (entry_at self.old r.0).text self.new }
         ensures held { (i : ℕ) → Contains (ids self.old) i → 0 < (entry_at self.old i).holds → Contains (ids self.new) i }
         ensures kept { NoneCome self.old self.new }
+        ensures lean { IdleAt self.old r.0 → NoneIdle self.new }
     {
         let place = place_of(&self.nodes, &self.order, r.0 as usize);
         clean_from(&mut self.nodes, &mut self.order, place);

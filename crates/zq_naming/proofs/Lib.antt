@@ -1,1 +1,10 @@
 pub mod Reading
+pub mod Entries
+pub mod Choice
+pub mod Made
+pub mod Holds
+pub mod Lean
+pub mod Faces
+pub mod GivenUp
+pub mod Declared
+pub mod Emptied

@@ -1,7 +1,6 @@
 -- What is written for a text is read as that text.
-use Rattle.std.proofs.Common.{◌≡◌, ℕ, zero, suc, ◌<◌, Bool, true, false, cond, List, [], ◌∷◌, ◌++◌, length, take, drop, Option, Some, None, refl, sym, ap, ◌∙◌, arith, Result, Ok, Err, IfOk, subst}
-use Rattle.std.specs.Prelude.{find, not, ◌&&◌, ◌==◌, slice_index}
-use Rattle.std.specs.Str.{bytes_eq}
+use Rattle.std.proofs.Common.{◌≡◌, ℕ, zero, suc, ◌<◌, Bool, true, false, cond, List, [], ◌∷◌, length, take, Option, Some, None, refl, sym, ap, ◌∙◌, arith, Result, Ok, Err, IfOk, subst}
+use Rattle.std.specs.Prelude.{find, not, ◌==◌, slice_index}
 use Rattle.std.specs.Map.{keys_of}
 use Rattle.std.proofs.lemmas.Bool.{false≢true, and_parts, not-true}
 use Rattle.std.proofs.lemmas.Slice.Eq.{bytes_eq-Decides}
@@ -11,9 +10,9 @@ use Rattle.zq_key.specs.declared.message.Mapping.{Mapping}
 use Rattle.zq_key.specs.declared.message.Mapping.TheVariants as mapping
 use Rattle.zq_key.specs.declared.message.WireExpr.{WireExpr}
 use Rattle.zq_key.specs.declared.memory.OutOfMemory.{OutOfMemory}
-use Rattle.zq_naming.specs.declared.said.Said.{Said}
 use Rattle.zq_naming.specs.declared.said.Said.TheVariants as said
-use Rattle.zq_naming.specs.Naming.{Names, FaceNaming, handed_side, read_by, said_under, said_plainly, is_text, text_at, names_text, least_name, known, tagged, or_else, cut_at, best_before, best_part, best, plain, numbered}
+use Rattle.zq_tables.specs.FaceTexts.{or_else}
+use Rattle.zq_naming.specs.Naming.{FaceNaming, handed_side, read_by, said_plainly, is_text, text_at, names_text, least_name, known, tagged, cut_at, best_before, best_part, best, numbered}
 
 find-passes : {X : Type 0} (p : X → Bool) (xs : List X) (x : X) → find p xs ≡ Some x → p x ≡ true
 find-passes p [] x h = absurd (cc)

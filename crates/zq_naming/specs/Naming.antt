@@ -1,6 +1,5 @@
 -- What each open face and the gateway call keys by number, and what expressions say by it.
-use Rattle.std.specs.Prelude.{◌≡◌, ℕ, ◌+◌, ◌==◌, Bool, true, false, not, ◌&&◌, List, [], ◌∷◌, ◌++◌, take, drop, length, zero, suc, find, Option, Some, None, if◌then◌else◌, unwrap_or}
-use Rattle.std.specs.Option.{option_map}
+use Rattle.std.specs.Prelude.{ℕ, ◌==◌, Bool, false, not, ◌&&◌, List, [], ◌∷◌, ◌++◌, take, length, zero, suc, find, Option, Some, None, if◌then◌else◌, unwrap_or}
 use Rattle.std.specs.Prelude.{slice_index}
 use Rattle.std.specs.Str.{bytes_eq}
 use Rattle.std.specs.Ordering.{nat_cmp}
@@ -9,6 +8,7 @@ use Rattle.std.specs.BTreeMap.{is_at, insert_entry}
 use Rattle.zq_key.specs.declared.message.Mapping.{Mapping}
 use Rattle.zq_key.specs.declared.message.Mapping.TheVariants as mapping
 use Rattle.zq_key.specs.declared.message.WireExpr.{WireExpr}
+use Rattle.zq_tables.specs.FaceTexts.{FaceTexts, or_else, whole, key_from}
 use Rattle.zq_naming.specs.declared.said.Said.{Said}
 use Rattle.zq_naming.specs.declared.said.Said.TheVariants as said
 
@@ -17,9 +17,8 @@ abbrev pub Names : Type 0
 Names = List (ℕ × List ℕ)
 
 -- the numbers that a face declared, and those that the gateway declared to it
-pub record FaceNaming : Type 0 where
-  pub theirs : Names
-  pub ours : Names
+abbrev pub FaceNaming : Type 0
+FaceNaming = FaceTexts
 
 -- the open faces, each with its numbers, by face number
 abbrev pub NamingState : Type 0
@@ -101,15 +100,11 @@ least_name text names = find (names_text names text) (keys_of names)
 
 -- a text under no number
 abbrev pub plain : List ℕ → WireExpr
-plain text = record { scope = 0; mapping = mapping.Sender; suffix = text }
+plain text = whole text
 
 abbrev pub tagged : Mapping → Option ℕ → Option (ℕ × Mapping)
 tagged side None = None
 tagged side (Some id) = Some (id, side)
-
-abbrev pub or_else : {X : Type 0} → Option X → Option X → Option X
-or_else None other = other
-or_else (Some x) other = Some x
 
 -- the number of a text in what the face is handed, the face's own before the gateway's
 abbrev pub known : FaceNaming → List ℕ → Option (ℕ × Mapping)
@@ -131,8 +126,7 @@ abbrev pub best_part : FaceNaming → List ℕ → Option (ℕ × Mapping × ℕ
 best_part n text = or_else (cut_at (length text) (known n text)) (best_before n text (length text))
 
 abbrev pub numbered : List ℕ → Option (ℕ × Mapping × ℕ) → WireExpr
-numbered text None = plain text
-numbered text (Some p) = record { scope = p.0; mapping = p.1; suffix = drop p.2 text }
+numbered text part = key_from part text
 
 -- the text as it is handed to the face: by the longest numbered part of whole chunks, else whole
 abbrev pub best : FaceNaming → List ℕ → WireExpr

@@ -1,54 +1,122 @@
 use crate::naming::Naming;
 use crate::said::Said;
 use std::test::Fail;
+use zq_key::is_key;
+use zq_key::memory::OutOfMemory;
 use zq_key::message::{FaceId, Mapping, WireExpr};
 use zq_key::text::Text;
 
-// Each call once, with ample memory: a face declares two nested keys, the longer one is used, and
-// what is used is given up.
+const FACE: FaceId = FaceId(3);
+
+const OTHER: FaceId = FaceId(5);
+
+// Whether the text is handed to the face under the scope, with the suffix.
+fn is_best(names: &Naming, face: FaceId, text: &str, scope: u16, suffix: &str) -> bool {
+    match names.best(face, text) {
+        Ok(wire) => wire.scope == scope && wire.suffix.as_str() == suffix,
+        Err(_) => false,
+    }
+}
+
+// Whether the face can declare the number for the text, and does.
+fn declares(names: &mut Naming, face: FaceId, id: u16, text: &str) -> bool {
+    if id == 0 {
+        return false;
+    }
+    if !is_key(text) {
+        return false;
+    }
+    match names.standing(face, id) {
+        None => names.declare(face, id, text).is_ok(),
+        Some(other) => {
+            if other != text {
+                return false;
+            }
+            names.declare(face, id, text).is_ok()
+        }
+    }
+}
+
+fn two_faces(alloc: std::alloc::Global) -> Result<Naming, OutOfMemory> {
+    let mut names = Naming::new(alloc)?;
+    names.open(FACE)?;
+    names.open(OTHER)?;
+    Ok(names)
+}
+
+// Numbers on nested texts: the longest part of whole chunks, and the least of several numbers.
 #[test]
 fn best_keys(rt: HostRuntime) {
-    let alloc = rt.alloc();
-    let mut names = Naming::new(alloc);
-    let face = FaceId(3);
-    assert!(rt; names.open(face).is_ok());
-    assert!(rt; names.declare(face, 7, "a").is_ok());
-    assert!(rt; names.declare(face, 5, "a/b").is_ok());
-    assert!(rt;
-        matches!(
-            names.best(face, "a/b/c"),
-            Ok(WireExpr {
-                scope: 5,
-                mapping: Mapping::Receiver,
-                ..
-            })
-        )
-    );
-    assert!(rt;
-        matches!(
-            names.best(face, "a/bc"),
-            Ok(WireExpr {
-                scope: 7,
-                mapping: Mapping::Receiver,
-                ..
-            })
-        )
-    );
-    assert!(rt; matches!(names.best(face, "ab"), Ok(WireExpr { scope: 0, .. })));
-    assert!(rt; names.standing(face, 5).is_some());
-    names.undeclare(face, 5);
-    assert!(rt; matches!(names.best(face, "a/b"), Ok(WireExpr { scope: 7, .. })));
-    names.close(face);
-    assert!(rt; matches!(names.best(face, "a"), Ok(WireExpr { scope: 0, .. })));
+    let Ok(mut names) = two_faces(rt.alloc()) else {
+        panic!(rt; "no memory");
+    };
+    for (id, text) in [(7, "a"), (5, "a/b"), (9, "a/b/c/d"), (6, "a/b"), (2, "x/*")] {
+        assert!(rt; declares(&mut names, FACE, id, text));
+    }
+    for (text, scope, suffix) in [
+        ("a", 7, ""),
+        ("a/b", 5, ""),
+        ("a/b/c", 5, "/c"),
+        ("a/b/c/d", 9, ""),
+        ("a/b/c/d/e", 9, "/e"),
+        ("a/bc", 7, "/bc"),
+        ("ab", 0, "ab"),
+        ("x/*", 2, ""),
+        ("x/y", 0, "x/y"),
+    ] {
+        assert!(rt; is_best(&names, FACE, text, scope, suffix), "{text}");
+        assert!(rt; is_best(&names, OTHER, text, 0, text), "{text}");
+    }
+}
+
+// A number that is given up is no key, and leaves the other numbers of its text and of the texts
+// above and below it.
+#[test]
+fn given_up(rt: HostRuntime) {
+    let Ok(mut names) = two_faces(rt.alloc()) else {
+        panic!(rt; "no memory");
+    };
+    for (id, text) in [(7, "a"), (5, "a/b"), (6, "a/b"), (9, "a/b/c")] {
+        assert!(rt; declares(&mut names, FACE, id, text));
+    }
+    names.undeclare(FACE, 5);
+    assert!(rt; is_best(&names, FACE, "a/b", 6, ""));
+    names.undeclare(FACE, 6);
+    assert!(rt; names.standing(FACE, 6).is_none());
+    assert!(rt; is_best(&names, FACE, "a/b", 7, "/b"));
+    assert!(rt; is_best(&names, FACE, "a/b/c", 9, ""));
+    names.undeclare(FACE, 9);
+    assert!(rt; is_best(&names, FACE, "a/b/c", 7, "/b/c"));
+    assert!(rt; declares(&mut names, FACE, 5, "a/b/c"));
+    assert!(rt; declares(&mut names, FACE, 5, "a/b/c"));
+    assert!(rt; !declares(&mut names, FACE, 5, "a/b"));
+    names.undeclare(FACE, 5);
+    assert!(rt; is_best(&names, FACE, "a/b/c", 7, "/b/c"));
+}
+
+// A face that closes gives up its own numbers, and not those of another face for the same text.
+#[test]
+fn closed(rt: HostRuntime) {
+    let Ok(mut names) = two_faces(rt.alloc()) else {
+        panic!(rt; "no memory");
+    };
+    for (face, id, text) in [(FACE, 7, "a/b"), (FACE, 8, "c"), (OTHER, 4, "a/b")] {
+        assert!(rt; declares(&mut names, face, id, text));
+    }
+    names.close(FACE);
+    assert!(rt; is_best(&names, FACE, "a/b", 0, "a/b"));
+    assert!(rt; is_best(&names, OTHER, "a/b/c", 4, "/c"));
+    assert!(rt; names.open(OTHER).is_ok());
+    assert!(rt; is_best(&names, OTHER, "a/b/c", 0, "a/b/c"));
 }
 
 #[test]
 fn said(rt: HostRuntime) {
     let alloc = rt.alloc();
-    let mut names = Naming::new(alloc);
-    let face = FaceId(3);
-    assert!(rt; names.open(face).is_ok());
-    assert!(rt; names.declare(face, 7, "a").is_ok());
+    let Ok(mut names) = two_faces(alloc) else {
+        panic!(rt; "no memory");
+    };
+    assert!(rt; declares(&mut names, FACE, 7, "a"));
     for (scope, suffix, full) in [(7, "/b", "a/b"), (0, "c", "c")] {
         let Ok(suffix) = Text::new(alloc, suffix) else {
             panic!(rt; "no memory");
@@ -58,9 +126,10 @@ fn said(rt: HostRuntime) {
             mapping: Mapping::Sender,
             suffix,
         };
-        match names.said(face, &wire) {
+        match names.said(FACE, &wire) {
             Ok(Said::Full(text)) => assert!(rt; text.as_str() == full),
             _ => panic!(rt; "{full}"),
         }
+        assert!(rt; (scope == 0) != matches!(names.said(OTHER, &wire), Ok(Said::Unscoped)));
     }
 }

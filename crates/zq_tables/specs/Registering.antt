@@ -4,6 +4,7 @@ use Rattle.zq_key.specs.declared.message.WireExpr.{WireExpr}
 use Rattle.zq_names.specs.declared.node.ResourceId.{ResourceId}
 use Rattle.zq_names.specs.Names.{NameEntry, Makes, HasText}
 use Rattle.zq_names.specs.Keeping.{AllStay}
+use Rattle.zq_names.specs.Idle.{IdleAt, NoneIdle}
 use Rattle.zq_tables.specs.FaceIds.{FaceIds, of_id, with_id, AreLive}
 use Rattle.zq_tables.specs.FaceTexts.{texts_of, full_of, registered}
 
@@ -13,6 +14,7 @@ pub record Maps (names names' : List NameEntry) (old new : FaceIds) (i : ℕ) (t
   pub made : Makes names names' r t
   pub named : HasText names' r t
   pub kept : AllStay names names'
+  pub lean : NoneIdle names → IdleAt names' r.0
   pub mapped : new.theirs ≡ with_id old.theirs i r.0
   pub ours : new.ours ≡ old.ours
 

@@ -1,5 +1,6 @@
 //! The ids of one face.
-ghost use Rattle.std.specs.Prelude.{◌≡◌, ◌+◌, ◌<◌, ◌≤◌, ◌++◌, [], None, Some, Err, IfOk, IfErr, IfSome, IfNone, OnOk, OnErr, MatchOption, option_map, is_some, true, false};
+ghost use Rattle.std.specs.Prelude.{◌≡◌, ◌+◌, ◌<◌, ◌≤◌, ◌++◌, [], None, Some, Err, IfOk, IfErr, IfSome, IfNone, OnOk, OnErr, MatchOption, option_map, is_some, true, false, slice_get};
+ghost use Rattle.std.specs.Map.{keys_of};
 ghost use Rattle.std.specs.Str.{IsCharBoundary};
 ghost use Rattle.std.specs.List.{Contains};
 ghost use Rattle.zq_key.specs.Key.{is_key as key_of};
@@ -79,6 +80,13 @@ impl FaceNames {
             Some(node) => Some(ResourceId(node)),
             None => None,
         }
+    }
+
+    /// The least id that the face declared.
+    pub fn first_id(&self) -> Option<u16>
+        ensures { result ≡ slice_get (keys_of self.now.theirs) 0 }
+    {
+        self.theirs.keys().next().copied()
     }
 
     fn is_used(&self, id: u16) -> bool

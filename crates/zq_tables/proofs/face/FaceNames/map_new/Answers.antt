@@ -29,6 +29,7 @@ returns-in-Ok-clause-ok c =
       made = c.in-Ok.ensures.made;
       named = c.in-Ok.ensures.named;
       kept = c.in-Ok.ensures.kept;
+      lean = c.in-Ok.ensures.lean;
       mapped = c.fill_place.ensures ∙ ap (λ (l : List (ℕ × ℕ)). with_id l c.args.id c.in-Ok.r.0) c.in_ok-hold_place.ensures.ok ∙ with_id-twice es c.args.id 0 c.in-Ok.r.0 ∙ ap (λ (f : FaceIds). with_id f.theirs c.args.id c.in-Ok.r.0) old;
       ours = ap (λ (f : FaceIds). f.ours) old;
     }
