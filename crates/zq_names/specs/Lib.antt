@@ -5,3 +5,4 @@ pub mod Forgetting
 pub mod Copying
 pub mod Keeping
 pub mod Closing
+pub mod Linking
