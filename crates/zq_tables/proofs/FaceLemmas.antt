@@ -1,15 +1,15 @@
 -- The ids of a face as texts.
-use Rattle.std.proofs.Common.{◌≡◌, ◌≢◌, ℕ, ◌+◌, ◌-◌, ◌<◌, ◌≤◌, Bool, true, false, cond, eqb, List, [], ◌∷◌, ◌++◌, length, map, take, drop, get_or, find, Option, Some, None, IfSome, IfNone, option_map, Result, Ok, Err, IfOk, refl, sym, ap, subst, ◌∙◌, arith, zero, suc, inl, inr, ◌⊎◌}
+use Rattle.std.proofs.Common.{◌≡◌, ◌≢◌, ℕ, ◌+◌, ◌<◌, Bool, true, false, cond, eqb, List, [], ◌∷◌, ◌++◌, length, take, get_or, find, Option, Some, None, IfSome, IfNone, option_map, Result, Ok, Err, IfOk, refl, sym, ap, subst, ◌∙◌, arith, zero, suc, inl, inr, ◌⊎◌}
 use Rattle.std.specs.declared.cmp.Ordering.{Ordering}
 use Rattle.std.specs.declared.cmp.Ordering.TheVariants.{Less, Equal, Greater}
 use Rattle.std.specs.Ordering.{nat_cmp, match_ordering, is_eq}
 use Rattle.std.specs.Option.{is_some}
 use Rattle.std.specs.Str.{bytes_eq}
-use Rattle.std.specs.BTreeMap.{insert_entry, is_at}
-use Rattle.std.specs.Map.{lookup, keys_of}
+use Rattle.std.specs.BTreeMap.{is_at}
+use Rattle.std.specs.Map.{keys_of}
 use Rattle.std.specs.List.{All, Contains}
 use Rattle.std.specs.List.Sorted.{IsStrictlySortedBy}
-use Rattle.std.proofs.lemmas.Bool.{false≢true, false_from_ne_true, cases_eq}
+use Rattle.std.proofs.lemmas.Bool.{false_from_ne_true, cases_eq}
 use Rattle.std.proofs.lemmas.Bool.Decides.{nat_tests}
 use Rattle.std.proofs.lemmas.Slice.Eq.{bytes_eq-Decides}
 use Rattle.std.proofs.lemmas.Cmp.{ranked, nat_cmp_total, tied_itself}
@@ -27,7 +27,7 @@ use Rattle.zq_names.specs.Keeping.{AllStay}
 use Rattle.zq_names.specs.Texts.{nonwild}
 use Rattle.zq_tables.specs.FaceIds.{FaceIds, of_id, with_id, side, is_used, free_from, next_id, AreLiveIds, AreLive, least_id}
 use Rattle.zq_tables.proofs.IdLemmas.{free_from-used, free_from-free, free_from-none}
-use Rattle.zq_tables.specs.FaceTexts.{FaceTexts, id_texts, theirs_texts, ours_texts, texts_of, part_choice, known_choice, new_choice, with_new, with_declared, text_side, full_of, swapped, read_by, id_of, or_else, known, known_at, best_to, best_part, key_from, best_key, registered, added, text_refusal, register_refusal}
+use Rattle.zq_tables.specs.FaceTexts.{FaceTexts, id_texts, theirs_texts, ours_texts, texts_of, part_choice, known_choice, new_choice, with_new, with_declared, text_side, full_of, swapped, read_by, id_of, or_else, known, known_at, best_to, best_part, key_from, best_key, registered, text_refusal, register_refusal}
 use Rattle.zq_key.specs.Key.{is_key}
 use Rattle.zq_names.specs.declared.refusal.NameRefusal.TheVariants.{Remapped}
 
