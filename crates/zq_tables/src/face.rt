@@ -110,6 +110,7 @@ impl FaceNames {
         ensures reason { IfErr result (λ e. e ≡ NameRefusal.UnknownId) }
         ensures refused { OnErr result (self.new ≡ self.old) }
         ensures names { _names.new ≡ _names.old }
+        ensures live { AreLive _names.old self.old → AreLive _names.new self.new }
     {
         if !self.theirs.remove(id) {
             return Err(NameRefusal::UnknownId);
