@@ -1,18 +1,18 @@
 -- The run of what lies below a text, and what is left of it.
-use Rattle.std.proofs.Common.{◌≡◌, ◌≢◌, ℕ, ◌+◌, ◌-◌, ◌<◌, ◌≤◌, List, [], ◌∷◌, ◌++◌, length, map, take, drop, get_or, subst, sym, ap, ◌∙◌, refl, arith, suc, zero, inl, inr, Option, Some}
+use Rattle.std.proofs.Common.{◌≡◌, ℕ, ◌+◌, ◌<◌, ◌≤◌, List, [], ◌∷◌, ◌++◌, length, get_or, subst, sym, ap, ◌∙◌, refl, arith, inl, inr}
 use Rattle.std.specs.declared.cmp.Ordering.{Ordering}
 use Rattle.std.specs.declared.cmp.Ordering.TheVariants.{Less, Equal, Greater}
 use Rattle.std.specs.Ordering.{nat_cmp, ordering_then}
-use Rattle.std.specs.List.{Contains, remove, slice_get}
+use Rattle.std.specs.List.{Contains, remove}
 use Rattle.std.specs.List.Sorted.{IsStrictlySortedBy}
 use Rattle.std.proofs.lemmas.Bool.{cases_lt, cases_eq}
 use Rattle.std.proofs.lemmas.Cmp.{ranked}
 use Rattle.std.proofs.lemmas.Option.{get_or_from_slice_get}
-use Rattle.std.proofs.lemmas.List.{append_assoc, length-append, get_or_default, length-map}
+use Rattle.std.proofs.lemmas.List.{append_assoc, length-append, get_or_default}
 use Rattle.std.proofs.lemmas.List.Edits.{length-remove, get_or-remove_below, get_or-remove_above}
 use Rattle.std.proofs.lemmas.Map.Keys.{Less-from_sorted}
 use Rattle.zq_names.specs.Texts.{text_cmp, IsBelow}
-use Rattle.zq_names.specs.Names.{NameEntry, IsNames, IsPlaceOf, SplitsAt, ids, texts, text_at, removed_at, entry_of}
+use Rattle.zq_names.specs.Names.{NameEntry, IsNames, IsPlaceOf, SplitsAt, ids, texts, text_at, removed_at}
 use Rattle.zq_names.specs.Keeping.{NoneCome}
 use Rattle.zq_names.proofs.KeepingLemmas.{Once, once_removed_at, none_come-removed_at, NoneCome-more, NoneCome-same}
 use Rattle.zq_names.specs.Closing.{LiesBelow, IsRun, ClosesBelow, TakesOwn, Closes}

@@ -13,7 +13,9 @@ pub mod Pruning
 pub mod Forgetting
 pub mod Fresh
 pub mod Fronts
+pub mod Same
 pub mod Copies
+pub mod LinkLemmas
 pub mod KeepingLemmas
 pub mod ClosingLemmas
 pub mod Idling

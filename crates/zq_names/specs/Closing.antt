@@ -1,8 +1,7 @@
 -- How all nodes below a text are taken out.
-use Rattle.std.specs.Prelude.{◌≡◌, ℕ, ◌<◌, ◌≤◌, List, [], ◌∷◌, length, ◌⊎◌}
-use Rattle.std.specs.List.{Contains}
+use Rattle.std.specs.Prelude.{◌≡◌, ℕ, ◌<◌, ◌≤◌, List, [], ◌∷◌, length}
 use Rattle.zq_names.specs.Texts.{IsBelow}
-use Rattle.zq_names.specs.Names.{NameEntry, IsPlaceOf, texts, text_at, removed_at}
+use Rattle.zq_names.specs.Names.{NameEntry, IsPlaceOf, text_at, removed_at}
 
 -- s lies below t; every text but the root's lies below the root
 abbrev pub LiesBelow : List ℕ → List ℕ → Type 0

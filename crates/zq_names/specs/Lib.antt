@@ -6,3 +6,4 @@ pub mod Copying
 pub mod Keeping
 pub mod Closing
 pub mod Idle
+pub mod Linking

@@ -6,6 +6,7 @@
 //! - `edit`: how nodes come and go
 //! - `close`: how all nodes below a text go
 //! - `forget`: how a number leaves the matches of other nodes
+//! - `linking`: how a node gets its matches, and each of them gets it
 //! - `matching`: the nodes whose texts meet a key, without a test of every node
 //! - `names`: `Names`, which callers use
 #![tactic(auto)]
@@ -13,6 +14,7 @@
 mod close;
 mod edit;
 mod forget;
+mod linking;
 mod matching;
 pub mod names;
 pub mod node;

@@ -1,17 +1,19 @@
 //! The table of names.
 ghost use Rattle.std.specs.Prelude.{◌≡◌, ◌≢◌, ℕ, ◌+◌, ◌<◌, ◌^◌, ◌++◌, ◌↔◌, [], ◌∷◌, IsTrue, IfOk, IfErr, IfSome, IfNone, OnOk, OnErr, Err, true, false, length, drop, map, filter};
-ghost use Rattle.std.specs.List.{Contains};
+ghost use Rattle.std.specs.List.{All, Contains};
 ghost use Rattle.std.specs.String.{string_bytes};
 ghost use Rattle.zq_key.specs.Key.{is_key as key_of};
-ghost use Rattle.zq_names.specs.Names.{IsLive, entry_at, entry_of, change_at, with_hold, without_hold, with_context, texts, HasText, Makes, Cleans, ids};
+ghost use Rattle.zq_names.specs.Names.{IsLive, entry_at, entry_of, change_at, with_hold, without_hold, with_context, texts, HasText, Adds, Makes, Cleans, ids};
 ghost use Rattle.zq_names.specs.Closing.{Closes};
+ghost use Rattle.zq_names.specs.Linking.{HasContext, matched};
 ghost use Rattle.zq_names.specs.Keeping.{AllStay, ChangesAt, NoneCome};
 ghost use Rattle.zq_names.specs.Idle.{IdleAt, NoneIdle};
-ghost use Rattle.zq_names.specs.Texts.{last_part, nonwild};
+ghost use Rattle.zq_names.specs.Texts.{heads, last_part, nonwild};
 ghost use Rattle.zq_names.specs.Matching.{number, is_match};
 
 use crate::close::close_at;
 use crate::edit::{add_text, clean_from};
+use crate::linking::link;
 use crate::matching::matches_of;
 use crate::node::{Node, ResourceId, ResourceList};
 use crate::order::{cut_before_star, last_slash, place_of, search};
@@ -224,7 +226,24 @@ impl Names {
         self.get_resource(from, suffix)
     }
 
+    // The node of the node's text followed by the suffix, where that is a key and has one.
+    fn get_key(&self, from: ResourceId, suffix: &str) -> Option<ResourceId>
+        requires { IsLive self.now from }
+        ensures named { IfSome result (λ r. HasText self.now r ((entry_at self.now from.0).text ++ suffix.now)) }
+        ensures adds { IfSome result (λ _. Adds self.now self.now (heads ((entry_at self.now from.0).text ++ suffix.now))) }
+        ensures key { IfSome result (λ _. key_of ((entry_at self.now from.0).text ++ suffix.now) ≡ true) }
+    {
+        let r = self.get_resource(from, suffix)?;
+        let _table = &self.order;
+        match self.keyexpr(r) {
+            Some(_) => Some(r),
+            None => None,
+        }
+    }
+
     /// The node of the node's text followed by the suffix, made with the parts that end before a `/`, and given a context.
+    ///
+    /// No memory is taken where the node is there.
     pub fn make_resource(
         &mut self,
         from: ResourceId,
@@ -240,6 +259,10 @@ impl Names {
         ensures only { IfErr result (λ e. key_of ((entry_at self.old from.0).text ++ suffix.now) ≡ true → e ≡ NameRefusal.OutOfMemory) }
         ensures refused { OnErr result (self.new ≡ self.old) }
     {
+        if let Some(r) = self.get_key(from, suffix) {
+            self.upgrade_resource(r);
+            return Ok(r);
+        }
         let text = joined(self.alloc, self.expr(from), suffix)?;
         if !is_key(text.as_str()) {
             return Err(NameRefusal::InvalidKeyExpr);
@@ -279,6 +302,24 @@ impl Names {
     {
         let node = &self.nodes[r.0 as usize];
         &node.matches
+    }
+
+    /// Makes the list the node's matches, and puts the node among the matches of each other member that lacks it.
+    ///
+    /// (`Resource::match_resource`)
+    pub fn match_resource(
+        &mut self,
+        r: ResourceId,
+        matches: ResourceList,
+    ) -> Result<(), OutOfMemory>
+        requires node { HasContext self.old r }
+        requires members { All (HasContext self.old) matches }
+        ensures ok { OnOk result (self.new ≡ map (matched r matches) self.old) }
+        ensures kept { OnOk result (AllStay self.old self.new) }
+        ensures err { OnErr result (self.new ≡ self.old) }
+    {
+        link(self.alloc, &mut self.nodes, r, matches.into_vec())?;
+        Ok(())
     }
 
     /// The nodes with a context whose texts the key meets, by text.

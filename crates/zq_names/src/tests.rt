@@ -1,5 +1,7 @@
-use crate::{NameRefusal, Names, ResourceId};
+use crate::{NameRefusal, Names, ResourceId, ResourceList};
+use std::alloc::Global;
 use std::test::Fail;
+use zq_key::memory::OutOfMemory;
 use zq_key::{intersects, is_key};
 
 const KEYS: [&str; 13] = [
@@ -72,5 +74,66 @@ fn texts_come_and_go(rt: HostRuntime) -> Result<(), Fail> {
     );
     let refused = names.make_resource(names.root(), "a//b");
     assert_eq!(rt; matches!(refused, Err(NameRefusal::InvalidKeyExpr)), true);
+    Ok(())
+}
+
+// Makes b the one match of a.
+fn meet(
+    alloc: Global,
+    names: &mut Names,
+    a: ResourceId,
+    b: ResourceId,
+) -> Result<bool, OutOfMemory> {
+    if !names.is_live(a) {
+        return Ok(false);
+    }
+    if !names.is_live(b) {
+        return Ok(false);
+    }
+    if !names.has_context(a) {
+        return Ok(false);
+    }
+    if !names.has_context(b) {
+        return Ok(false);
+    }
+    let mut list = ResourceList::new(alloc);
+    list.push(b)?;
+    names.match_resource(a, list)?;
+    Ok(true)
+}
+
+fn matches_of(names: &Names, r: ResourceId, other: ResourceId) -> usize {
+    if !names.is_live(r) {
+        return 0;
+    }
+    let mut count = 0;
+    for m in names.matches(r) {
+        if m.0 == other.0 && count < 9 {
+            count += 1;
+        }
+    }
+    count
+}
+
+#[test]
+fn matches_go_both_ways(rt: HostRuntime) -> Result<(), Fail> {
+    let alloc = rt.alloc();
+    let mut names = Names::new(alloc)?;
+    let star = names.make_resource(names.root(), "a/*")?;
+    let b = names.make_resource(names.root(), "a/b")?;
+    let c = names.make_resource(names.root(), "a/c")?;
+    assert_eq!(rt; meet(alloc, &mut names, star, b)?, true);
+    assert_eq!(rt; meet(alloc, &mut names, star, b)?, true);
+    assert_eq!(rt; matches_of(&names, star, b), 1);
+    assert_eq!(rt; matches_of(&names, b, star), 1);
+    assert_eq!(rt; meet(alloc, &mut names, star, c)?, true);
+    assert_eq!(rt; matches_of(&names, star, b), 0);
+    assert_eq!(rt; matches_of(&names, b, star), 1);
+    assert_eq!(rt; matches_of(&names, c, star), 1);
+    if names.is_live(star) {
+        names.close(star);
+    }
+    assert_eq!(rt; matches_of(&names, b, star), 0);
+    assert_eq!(rt; matches_of(&names, c, star), 0);
     Ok(())
 }

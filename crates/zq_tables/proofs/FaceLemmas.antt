@@ -1,15 +1,15 @@
 -- The ids of a face as texts.
-use Rattle.std.proofs.Common.{◌≡◌, ◌≢◌, ℕ, ◌+◌, ◌-◌, ◌<◌, ◌≤◌, Bool, true, false, cond, eqb, List, [], ◌∷◌, ◌++◌, length, map, take, drop, get_or, find, Option, Some, None, IfSome, IfNone, option_map, Result, Ok, Err, IfOk, refl, sym, ap, subst, ◌∙◌, arith, zero, suc, inl, inr, ◌⊎◌}
+use Rattle.std.proofs.Common.{◌≡◌, ◌≢◌, ℕ, ◌+◌, ◌<◌, Bool, true, false, cond, eqb, List, [], ◌∷◌, ◌++◌, length, take, get_or, find, Option, Some, None, IfSome, IfNone, option_map, Result, Ok, Err, IfOk, refl, sym, ap, subst, ◌∙◌, arith, zero, suc, inl, inr, ◌⊎◌}
 use Rattle.std.specs.declared.cmp.Ordering.{Ordering}
 use Rattle.std.specs.declared.cmp.Ordering.TheVariants.{Less, Equal, Greater}
 use Rattle.std.specs.Ordering.{nat_cmp, match_ordering, is_eq}
 use Rattle.std.specs.Option.{is_some}
 use Rattle.std.specs.Str.{bytes_eq}
-use Rattle.std.specs.BTreeMap.{insert_entry, is_at}
-use Rattle.std.specs.Map.{lookup, keys_of}
+use Rattle.std.specs.BTreeMap.{is_at}
+use Rattle.std.specs.Map.{keys_of}
 use Rattle.std.specs.List.{All, Contains}
 use Rattle.std.specs.List.Sorted.{IsStrictlySortedBy}
-use Rattle.std.proofs.lemmas.Bool.{false≢true, false_from_ne_true, cases_eq}
+use Rattle.std.proofs.lemmas.Bool.{false_from_ne_true, cases_eq}
 use Rattle.std.proofs.lemmas.Bool.Decides.{nat_tests}
 use Rattle.std.proofs.lemmas.Slice.Eq.{bytes_eq-Decides}
 use Rattle.std.proofs.lemmas.Cmp.{ranked, nat_cmp_total, tied_itself}
@@ -25,9 +25,9 @@ use Rattle.zq_names.specs.declared.node.ResourceId.{ResourceId}
 use Rattle.zq_names.specs.Names.{NameEntry, IsLive, HasText, ids, texts, entry_at}
 use Rattle.zq_names.specs.Keeping.{AllStay}
 use Rattle.zq_names.specs.Texts.{nonwild}
-use Rattle.zq_tables.specs.FaceIds.{FaceIds, of_id, with_id, side, is_used, free_from, next_id, AreLiveIds, AreLive, least_id}
+use Rattle.zq_tables.specs.FaceIds.{FaceIds, of_id, with_id, without_id, side, is_used, free_from, next_id, AreLiveIds, AreLive, least_id}
 use Rattle.zq_tables.proofs.IdLemmas.{free_from-used, free_from-free, free_from-none}
-use Rattle.zq_tables.specs.FaceTexts.{FaceTexts, id_texts, theirs_texts, ours_texts, texts_of, part_choice, known_choice, new_choice, with_new, with_declared, text_side, full_of, swapped, read_by, id_of, or_else, known, known_at, best_to, best_part, key_from, best_key, registered, added, text_refusal, register_refusal}
+use Rattle.zq_tables.specs.FaceTexts.{FaceTexts, id_texts, theirs_texts, ours_texts, texts_of, part_choice, known_choice, new_choice, with_new, with_declared, text_side, full_of, swapped, read_by, id_of, or_else, known, known_at, best_to, best_part, key_from, best_key, registered, text_refusal, register_refusal}
 use Rattle.zq_key.specs.Key.{is_key}
 use Rattle.zq_names.specs.declared.refusal.NameRefusal.TheVariants.{Remapped}
 
@@ -366,3 +366,16 @@ declared_texts names face node t (Some i) named = rw (id_texts-with_id names fac
 pub declared_live : (names : List NameEntry) (face : FaceIds) (node : ℕ) (declared : Option ℕ) → AreLive names face → Contains (ids names) node → AreLive names (with_new face node declared)
 declared_live names face node None live has = live
 declared_live names face node (Some i) live has = record { theirs = live.theirs; ours = AreLiveIds-with_id names face.ours i node live.ours has }
+
+-- ---- an id less
+
+AreLiveIds-without_id : (names : List NameEntry) (es : List (ℕ × ℕ)) (i : ℕ) → AreLiveIds names es → AreLiveIds names (without_id es i)
+AreLiveIds-without_id names [] i live = live
+AreLiveIds-without_id names (e ∷ es) i live = by (is_at (nat_cmp i) e.0) (All-tail (λ (p : ℕ × ℕ). Contains (ids names) p.1) e es live) (AreLiveIds-without_id names es i)
+  where
+    by : (b : Bool) → AreLiveIds names es → (AreLiveIds names es → AreLiveIds names (without_id es i)) → AreLiveIds names (cond b es (e ∷ without_id es i))
+    by true rest later = rest
+    by false rest later = All-cons (λ (p : ℕ × ℕ). Contains (ids names) p.1) e (without_id es i) (All-head (λ (p : ℕ × ℕ). Contains (ids names) p.1) e es live) (later rest)
+
+pub AreLive-without_theirs : (names : List NameEntry) (face : FaceIds) (i : ℕ) → AreLive names face → AreLive names (record face { theirs = without_id face.theirs i })
+AreLive-without_theirs names face i live = record { theirs = AreLiveIds-without_id names face.theirs i live.theirs; ours = live.ours }

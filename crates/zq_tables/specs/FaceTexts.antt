@@ -8,7 +8,7 @@ use Rattle.zq_key.specs.declared.message.Mapping.TheVariants.{Sender, Receiver}
 use Rattle.zq_names.specs.Names.{NameEntry, entry_at}
 use Rattle.zq_names.specs.Texts.{nonwild}
 use Rattle.zq_names.specs.declared.refusal.NameRefusal.{NameRefusal}
-use Rattle.zq_names.specs.declared.refusal.NameRefusal.TheVariants.{UnknownScope, InvalidKeyExpr, Remapped, UnknownId, OutOfMemory}
+use Rattle.zq_names.specs.declared.refusal.NameRefusal.TheVariants.{UnknownScope, InvalidKeyExpr, Remapped, OutOfMemory}
 use Rattle.zq_tables.specs.FaceIds.{FaceIds, of_id, with_id, next_id}
 use Rattle.zq_tables.specs.declared.decl.DeclKey.{DeclKey}
 

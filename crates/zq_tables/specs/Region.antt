@@ -1,5 +1,5 @@
 -- Regions and their indices.
-use Rattle.std.specs.Prelude.{◌≡◌, ℕ, ◌+◌, ◌-◌, ◌*◌, ◌/◌, ◌%◌, ◌≤◌, nat_eq, if◌then◌else◌, ◌==◌}
+use Rattle.std.specs.Prelude.{ℕ, ◌+◌, ◌-◌, ◌*◌, ◌/◌, ◌%◌, ◌≤◌, if◌then◌else◌, ◌==◌}
 use Rattle.zq_key.specs.declared.message.Mode.{Mode}
 use Rattle.zq_key.specs.declared.message.Mode.TheVariants.{Router, Peer, Client}
 use Rattle.zq_key.specs.declared.message.Region.{Region}

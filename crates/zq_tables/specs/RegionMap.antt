@@ -1,8 +1,8 @@
 -- What a contract sees of a `RegionMap`: its entries, an index with a value, by rising index.
-use Rattle.std.specs.Prelude.{◌≡◌, ℕ, ◌<◌, ◌≤◌, Bool, not, ◌==◌, List, [], Option, map, fold, filter}
+use Rattle.std.specs.Prelude.{◌≡◌, ℕ, ◌<◌, not, ◌==◌, List, [], Option, fold, filter}
 use Rattle.std.specs.List.{All, AllZip}
 use Rattle.std.specs.Ordering.{nat_cmp}
-use Rattle.std.specs.Map.{lookup, set_value, keys_of}
+use Rattle.std.specs.Map.{lookup, keys_of}
 use Rattle.std.specs.BTreeMap.{is_at, insert_entry}
 use denote.Ref.{Bor}
 use Rattle.zq_key.specs.declared.message.Region.{Region}

@@ -1,12 +1,10 @@
 //! The choice of an id for a text.
 ghost use Rattle.std.specs.Prelude.{◌≡◌, ◌++◌, IfOk, IfSome};
 ghost use Rattle.std.specs.Str.{IsCharBoundary};
-ghost use Rattle.zq_tables.specs.FaceIds.{least_id as least_of};
 ghost use Rattle.zq_tables.specs.FaceTexts.{key_from, whole_key as whole_of};
 
 use crate::decl::DeclKey;
 use std::alloc::Global;
-use std::collections::BTreeMap;
 use zq_key::memory::OutOfMemory;
 use zq_key::message::{Mapping, WireExpr};
 use zq_key::text::Text;
@@ -16,18 +14,6 @@ pub(crate) fn joined(alloc: Global, head: &str, tail: &str) -> Result<Text, OutO
     ensures { IfOk result (λ t. t ≡ head.now ++ tail.now) }
 {
     Text::joined(alloc, head, tail, "")
-}
-
-// The least id of the node.
-pub(crate) fn least_id(ids: &BTreeMap<u16, u64>, node: u64) -> Option<u16>
-    ensures { result ≡ least_of ids.now.entries node }
-{
-    for (id, other) in ids {
-        if *other == node {
-            return Some(*id);
-        }
-    }
-    None
 }
 
 // The expression of a text whose first bytes are known, or of the whole text.

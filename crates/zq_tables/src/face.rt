@@ -9,10 +9,10 @@ ghost use Rattle.zq_tables.specs.FaceIds.{of_id, with_id, without_id, side, sent
 ghost use Rattle.zq_tables.specs.Registering.{Maps, Registers};
 ghost use Rattle.zq_tables.specs.FaceTexts.{texts_of, full_of, read_by, known as known_of, part_choice, declared_ids, best_part as part_of, best_key, declared_key, with_declared, registered, register_refusal, IsReason};
 
-use crate::choice::{expression, joined, least_id, whole_key};
+use crate::choice::{expression, joined, whole_key};
 use crate::decl::DeclKey;
+use crate::ids::Ids;
 use std::alloc::Global;
-use std::collections::BTreeMap;
 use std::marker::Model;
 use zq_key::is_key;
 use zq_key::memory::OutOfMemory;
@@ -25,8 +25,8 @@ use zq_names::{NameRefusal, Names, ResourceId};
 /// (`FaceState::remote_mappings` and `FaceState::local_mappings`)
 #[derive(Drop)]
 pub struct FaceNames {
-    theirs: BTreeMap<u16, u64>,
-    ours: BTreeMap<u16, u64>,
+    theirs: Ids,
+    ours: Ids,
     // each id from 1 on below this one is in use
     free: u16,
 }
@@ -36,9 +36,9 @@ impl Model for FaceNames {
 
     ghost Value = { FaceIds };
 
-    ghost view = { λ s. record { theirs = s.theirs.entries; ours = s.ours.entries } };
+    ghost view = { λ s. record { theirs = s.theirs; ours = s.ours } };
 
-    ghost invariant = { λ s. IsFace s.theirs.entries s.ours.entries s.free };
+    ghost invariant = { λ s. IsFace s.theirs s.ours s.free };
 }
 
 impl FaceNames {
@@ -48,8 +48,8 @@ impl FaceNames {
         ensures ours { result.ours ≡ [] }
     {
         FaceNames {
-            theirs: BTreeMap::new(alloc),
-            ours: BTreeMap::new(alloc),
+            theirs: Ids::new(alloc),
+            ours: Ids::new(alloc),
             free: 1,
         }
     }
@@ -59,8 +59,8 @@ impl FaceNames {
         ensures { option_map (λ r. r.0) result ≡ of_id (side self.now mapping) scope }
     {
         let found = match mapping {
-            Mapping::Sender => self.theirs.get(&scope).copied(),
-            Mapping::Receiver => self.ours.get(&scope).copied(),
+            Mapping::Sender => self.theirs.get(scope),
+            Mapping::Receiver => self.ours.get(scope),
         };
         match found {
             Some(node) => Some(ResourceId(node)),
@@ -73,8 +73,8 @@ impl FaceNames {
         ensures { option_map (λ r. r.0) result ≡ of_id (sent_side self.now mapping) scope }
     {
         let found = match mapping {
-            Mapping::Sender => self.ours.get(&scope).copied(),
-            Mapping::Receiver => self.theirs.get(&scope).copied(),
+            Mapping::Sender => self.ours.get(scope),
+            Mapping::Receiver => self.theirs.get(scope),
         };
         match found {
             Some(node) => Some(ResourceId(node)),
@@ -92,10 +92,10 @@ impl FaceNames {
     fn is_used(&self, id: u16) -> bool
         ensures { result ≡ used_of self.now.theirs self.now.ours id }
     {
-        if self.theirs.contains_key(&id) {
+        if self.theirs.contains(id) {
             return true;
         }
-        self.ours.contains_key(&id)
+        self.ours.contains(id)
     }
 
     /// The least id from 1 on that neither side uses. (`FaceState::get_next_local_id`)
@@ -118,14 +118,13 @@ impl FaceNames {
         ensures reason { IfErr result (λ e. e ≡ NameRefusal.UnknownId) }
         ensures refused { OnErr result (self.new ≡ self.old) }
         ensures names { _names.new ≡ _names.old }
+        ensures live { AreLive _names.old self.old → AreLive _names.new self.new }
     {
-        match self.theirs.remove(&id) {
-            Some(_) => {
-                self.free = self.free.min(id);
-                Ok(())
-            }
-            None => Err(NameRefusal::UnknownId),
+        if !self.theirs.remove(id) {
+            return Err(NameRefusal::UnknownId);
         }
+        self.free = self.free.min(id);
+        Ok(())
     }
 
     // The node of an expression's scope.
@@ -207,14 +206,14 @@ impl FaceNames {
         ensures err { OnErr result ((self.new ≡ self.old) × (names.new ≡ names.old)) }
         ensures only { IfErr result (λ e. key_of ((entry_at names.old from.0).text ++ suffix.now) ≡ true → e ≡ NameRefusal.OutOfMemory) }
     {
-        hold_place(&mut self.theirs, id)?;
+        self.theirs.put(id, 0)?;
         match names.make_resource(from, suffix) {
             Ok(r) => {
-                fill_place(&mut self.theirs, id, r.0);
+                self.theirs.change(id, r.0);
                 Ok(())
             }
             Err(refusal) => {
-                self.theirs.remove(&id);
+                self.theirs.remove(id);
                 Err(refusal)
             }
         }
@@ -228,10 +227,10 @@ impl FaceNames {
         let Some(node) = names.get_resource(names.root(), text) else {
             return None;
         };
-        if let Some(id) = least_id(&self.theirs, node.0) {
+        if let Some(id) = self.theirs.least_id(node.0) {
             return Some((id, Mapping::Receiver));
         }
-        if let Some(id) = least_id(&self.ours, node.0) {
+        if let Some(id) = self.ours.least_id(node.0) {
             return Some((id, Mapping::Sender));
         }
         None
@@ -283,7 +282,7 @@ impl FaceNames {
         ensures ok { OnOk result (self.new ≡ record self.old { ours = with_id self.old.ours id node.0 }) }
         ensures err { OnErr result (self.new ≡ self.old) }
     {
-        put_id(&mut self.ours, id, node.0)?;
+        self.ours.put(id, node.0)?;
         self.free = id;
         Ok(())
     }
@@ -371,46 +370,9 @@ impl FaceNames {
         ensures { IfOk result (λ f. f ≡ self.now) }
     {
         Ok(FaceNames {
-            theirs: copy_ids(alloc, &self.theirs)?,
-            ours: copy_ids(alloc, &self.ours)?,
+            theirs: self.theirs.copy(alloc)?,
+            ours: self.ours.copy(alloc)?,
             free: self.free,
         })
     }
-}
-
-// Lets an id stand for a node.
-fn put_id(ids: &mut BTreeMap<u16, u64>, id: u16, node: u64) -> Result<(), OutOfMemory>
-    ensures ok { OnOk result (ids.new.entries ≡ with_id ids.old.entries id node) }
-    ensures err { OnErr result (ids.new.entries ≡ ids.old.entries) }
-{
-    match ids.insert(id, node) {
-        Ok(_) => Ok(()),
-        Err(_) => Err(OutOfMemory),
-    }
-}
-
-fn copy_ids(_alloc: Global, ids: &BTreeMap<u16, u64>) -> Result<BTreeMap<u16, u64>, OutOfMemory>
-    ensures { IfOk result (λ copy. copy.entries ≡ ids.now.entries) }
-{
-    Ok(ids.clone()?)
-}
-
-// Puts the id in with no node yet.
-fn hold_place(ids: &mut BTreeMap<u16, u64>, id: u16) -> Result<(), NameRefusal>
-    ensures ok { OnOk result (ids.new.entries ≡ with_id ids.old.entries id 0) }
-    ensures err { OnErr result (ids.new.entries ≡ ids.old.entries) }
-    ensures only { IfErr result (λ e. e ≡ NameRefusal.OutOfMemory) }
-{
-    match ids.insert(id, 0) {
-        Ok(_) => Ok(()),
-        Err(_) => Err(NameRefusal::OutOfMemory),
-    }
-}
-
-// Gives an id that is there its node.
-fn fill_place(ids: &mut BTreeMap<u16, u64>, id: u16, node: u64)
-    requires { is_some (of_id ids.old.entries id) ≡ true }
-    ensures { ids.new.entries ≡ with_id ids.old.entries id node }
-{
-    let _ = ids.insert(id, node);
 }

@@ -1,7 +1,7 @@
-use Rattle.std.proofs.Common.{◌≡◌, ◌<◌, ℕ, List, length, sym, ap, subst, ◌∙◌, arith}
-use Rattle.zq_names.specs.Names.{NameEntry, rows, text_at}
+use Rattle.std.proofs.Common.{arith}
+use Rattle.zq_names.specs.Names.{rows, text_at}
 use Rattle.zq_names.proofs.Rows.{length-rows}
-use Rattle.zq_names.proofs.ClosingLemmas.{lonely-own, own-root, own-taken, past_root_text}
+use Rattle.zq_names.proofs.ClosingLemmas.{lonely-own, own-taken, past_root_text}
 use Rattle.zq_names.proofs.close.close_at.Goals as goal
 
 pub remove_at-text-requires-clause-lonely : goal.remove_at-text-requires-clause-lonely

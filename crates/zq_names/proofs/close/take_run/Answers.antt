@@ -1,4 +1,4 @@
-use Rattle.std.proofs.Common.{◌≡◌, ◌<◌, ◌≤◌, ◌+◌, ◌-◌, ℕ, List, length, sym, ap, subst, ◌∙◌, arith}
+use Rattle.std.proofs.Common.{◌≡◌, ◌≤◌, ◌+◌, ◌-◌, ℕ, List, sym, subst, arith}
 use Rattle.zq_names.specs.Names.{NameEntry, rows, text_at}
 use Rattle.zq_names.specs.Closing.{IsRun, ClosesBelow}
 use Rattle.zq_names.specs.Closing.ClosesBelow.{more}

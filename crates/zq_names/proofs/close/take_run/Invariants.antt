@@ -1,4 +1,4 @@
-use Rattle.std.proofs.Common.{◌≤◌, List}
+use Rattle.std.proofs.Common.{List}
 use Rattle.zq_names.specs.Names.{NameEntry, IsSound, rows, text_at}
 use Rattle.zq_names.specs.Closing.{IsRun, ClosesBelow}
 use Rattle.zq_names.proofs.close.take_run.Given as goal

@@ -1,7 +1,6 @@
 use Rattle.std.proofs.Common.{◌≡◌, ℕ, List, Option, sym, ap, subst, ◌∙◌}
 use Rattle.zq_names.specs.declared.node.Node.{Node}
-use Rattle.zq_names.specs.Names.{NameEntry, IsTable, ids, rows, row, text_at, entry_at}
-use Rattle.zq_names.specs.Closing.{Closes}
+use Rattle.zq_names.specs.Names.{NameEntry, IsTable, ids, rows, text_at, entry_at}
 use Rattle.zq_names.proofs.Table.{in_order, entry_at-rows}
 use Rattle.zq_names.proofs.KeepingLemmas.{Once, once_in_table}
 use Rattle.zq_names.proofs.ClosingLemmas.{none_come-closes}

@@ -1,4 +1,4 @@
-use Rattle.std.proofs.Common.{◌≡◌, sym, ap, ◌∙◌}
+use Rattle.std.proofs.Common.{sym, ap, ◌∙◌}
 use Rattle.zq_names.specs.Names.{NameEntry}
 use Rattle.zq_names.proofs.Table.{has_node, entry_is}
 use Rattle.zq_names.proofs.names.Names.matches.Goals as goal

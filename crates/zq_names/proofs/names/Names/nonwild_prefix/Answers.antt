@@ -1,10 +1,10 @@
-use Rattle.std.proofs.Common.{◌≡◌, ℕ, ◌<◌, ◌++◌, ◌∷◌, ◌+◌, List, Option, Some, None, IfNone, length, take, drop, get_or, sym, ap, subst, ◌∙◌, arith}
+use Rattle.std.proofs.Common.{◌≡◌, ℕ, ◌<◌, ◌++◌, List, Option, Some, None, IfNone, length, take, get_or, sym, ap, subst, ◌∙◌, arith}
 use Rattle.std.specs.List.{Contains}
-use Rattle.std.proofs.lemmas.List.{take-append-drop, drop_more}
 use Rattle.zq_names.specs.Texts.{IsBelow}
 use Rattle.zq_names.specs.Names.{NameEntry, IsTable, rows, row, texts, ids, entry_at}
 use Rattle.std.proofs.lemmas.Grind.{common_steps}
 use Rattle.zq_names.proofs.Adding.{Contains-map}
+use Rattle.zq_names.proofs.Heads.{below_from_cut}
 use Rattle.zq_names.proofs.Table.{in_order, entry_at-rows}
 use Rattle.zq_names.proofs.names.Names.nonwild_prefix.Goals as goal
 
@@ -15,7 +15,7 @@ cut_is_there nodes order ns i k t view table live same lt slash =
     let entry : t ≡ (row nodes i).text = same ∙ ap (λ (v : List NameEntry). (entry_at v i).text) (sym view) ∙ ap (λ (e : NameEntry). e.text) (entry_at-rows nodes order i has) in
     let C : List ℕ → Type 0 = λ (u : List ℕ). Contains (texts (rows nodes order)) u in
     let there : Contains (texts (rows nodes order)) t = subst C (sym entry) (Contains-map (λ (e : NameEntry). e.text) (rows nodes order) (row nodes i) (Contains-map (row nodes) order i has)) in
-    let below : IsBelow (take k t) t = (drop (k + 1) t, sym (take-append-drop k t) ∙ ap (λ (r : List ℕ). take k t ++ r) (drop_more t k 0 lt ∙ ap (λ (b : ℕ). b ∷ drop (k + 1) t) slash)) in
+    let below : IsBelow (take k t) t = below_from_cut t k lt slash in
     let V : List NameEntry → Type 0 = λ (v : List NameEntry). Contains (texts v) (take k t) in
     subst V view (table.names.closed (take k t) t there below)
 

@@ -1,4 +1,4 @@
-use Rattle.std.proofs.Common.{◌≡◌, ℕ, sym, ap, subst, ◌∙◌}
+use Rattle.std.proofs.Common.{sym, ap, subst, ◌∙◌}
 use Rattle.zq_names.specs.Names.{entry_at}
 use Rattle.zq_tables.specs.FaceIds.{FaceIds, AreLive}
 use Rattle.zq_tables.specs.FaceTexts.{texts_of, declared_ids}

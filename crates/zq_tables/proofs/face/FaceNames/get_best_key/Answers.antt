@@ -1,9 +1,4 @@
-use Rattle.std.proofs.Common.{◌≡◌, ◌++◌, ℕ, List, sym, ap, subst, ◌∙◌, IfOk, rules}
-use Rattle.std.specs.List.Sorted.{IsStrictlySortedBy}
-use Rattle.std.specs.List.{All}
-use Rattle.std.specs.Ordering.{nat_cmp}
-use Rattle.std.specs.Map.{keys_of}
-use Rattle.std.proofs.lemmas.Grind.{common_steps}
+use Rattle.std.proofs.Common.{◌≡◌, ◌++◌, subst, IfOk, rules}
 use Rattle.zq_key.specs.declared.message.WireExpr.{WireExpr}
 use Rattle.zq_names.specs.Names.{entry_at}
 use Rattle.zq_tables.specs.FaceIds.{FaceIds}
@@ -17,7 +12,7 @@ returns-clause-reads c =
     let face = c.args.self.now in
     let t = (entry_at names c.args.r.0).text ++ c.args.suffix.now in
     let F : FaceIds → Type 0 = λ (f : FaceIds). Fine (texts_of names f) in
-    let inside : FaceIds = record { theirs = c.self.inside.theirs.entries; ours = c.self.inside.ours.entries } in
-    let fine : Fine (texts_of names face) = subst F c.self.view_is (Fine-texts names inside c.len-theirs.ensures.ordered c.len-ours.ensures.ordered c.self.invariant.theirs_positive c.self.invariant.ours_positive) in
+    let inside : FaceIds = record { theirs = c.self.inside.theirs; ours = c.self.inside.ours } in
+    let fine : Fine (texts_of names face) = subst F c.self.view_is (Fine-texts names inside c.len-theirs.ensures c.len-ours.ensures c.self.invariant.theirs_positive c.self.invariant.ours_positive) in
     let best : IfOk c.expression.result (λ (w : WireExpr). w ≡ best_key (texts_of names face) t) = search rules in
     reads_ok c.expression.result (texts_of names face) t fine best

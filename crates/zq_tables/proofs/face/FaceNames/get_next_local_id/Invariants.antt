@@ -1,4 +1,4 @@
-use Rattle.std.proofs.Common.{◌≡◌, ◌-◌, ◌<◌, ◌≤◌}
+use Rattle.std.proofs.Common.{◌≡◌, ◌-◌}
 use Rattle.zq_tables.specs.FaceIds.{free_from}
 use Rattle.zq_tables.proofs.face.FaceNames.get_next_local_id.Given as goal
 

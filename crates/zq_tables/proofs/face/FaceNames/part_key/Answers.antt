@@ -1,5 +1,4 @@
-use Rattle.std.proofs.Common.{◌≡◌, ℕ, List, Bool, true, Option, None, Some, sym, ap, ◌∙◌}
-use Rattle.zq_key.specs.declared.message.Mapping.{Mapping}
+use Rattle.std.proofs.Common.{◌≡◌, ℕ, List, Bool, true, Option, None, Some, sym}
 use Rattle.zq_names.specs.Names.{NameEntry}
 use Rattle.zq_tables.specs.FaceIds.{FaceIds, next_id}
 use Rattle.zq_tables.specs.FaceTexts.{texts_of, known, part_choice, new_choice}

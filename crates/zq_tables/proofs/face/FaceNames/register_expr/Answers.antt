@@ -1,12 +1,12 @@
-use Rattle.std.proofs.Common.{◌≡◌, ◌++◌, ◌∙◌, ap, sym, refl, subst, List, ℕ, Bool, true, false, eqb, arith, Option, Some, None, Result, Ok, Err, OnOk}
+use Rattle.std.proofs.Common.{◌≡◌, ◌++◌, ◌∙◌, ap, sym, refl, subst, List, ℕ, true, false, eqb, arith, Some, None, Result, Ok, Err, OnOk}
 use Rattle.std.specs.Str.{bytes_eq}
 use Rattle.std.proofs.lemmas.Bool.Decides.{nat_tests}
 use Rattle.zq_key.specs.Key.{is_key}
 use Rattle.zq_names.specs.Names.{entry_at}
 use Rattle.zq_tables.specs.FaceIds.{FaceIds, of_id, AreLive}
-use Rattle.zq_tables.specs.FaceTexts.{texts_of, full_of, register_refusal}
+use Rattle.zq_tables.specs.FaceTexts.{texts_of, full_of}
 use Rattle.zq_tables.specs.Registering.{Maps, Registers}
-use Rattle.zq_tables.proofs.FaceLemmas.{live_node, mapped_texts, mapped_live, same_texts, refusal-new, refusal-same, refusal-other, text_absent, text_there, no_mapping}
+use Rattle.zq_tables.proofs.FaceLemmas.{live_node, mapped_texts, mapped_live, same_texts, refusal-new, refusal-same, refusal-other, text_absent, text_there}
 use Rattle.zq_tables.proofs.face.FaceNames.register_expr.Goals as goal
 
 both_parts : {a b x y : List ℕ} → a ≡ x → b ≡ y → a ++ b ≡ x ++ y

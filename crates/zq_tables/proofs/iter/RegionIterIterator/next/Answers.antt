@@ -1,4 +1,4 @@
-use Rattle.std.proofs.Common.{ℕ, ◌<◌, ap}
+use Rattle.std.proofs.Common.{◌<◌, ap}
 use Rattle.std.specs.Map.{keys_of}
 use Rattle.zq_tables.proofs.Small.{All-rest}
 use Rattle.zq_tables.proofs.iter.RegionIterIterator.next.Goals as goal

@@ -1,5 +1,4 @@
-use Rattle.std.proofs.Common.{ℕ, ◌<◌, ap}
-use Rattle.std.specs.Map.{keys_of}
+use Rattle.std.proofs.Common.{◌<◌}
 use Rattle.zq_tables.proofs.Small.{All-rest}
 use Rattle.zq_tables.proofs.iter.RegionsIterator.next.Goals as goal
 

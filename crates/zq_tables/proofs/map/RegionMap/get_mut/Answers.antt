@@ -1,4 +1,4 @@
-use Rattle.std.proofs.Common.{◌≡◌, ◌<◌, ℕ, List, subst, sym, ap}
+use Rattle.std.proofs.Common.{◌<◌, ℕ, List, subst, sym, ap}
 use Rattle.std.specs.List.{All}
 use Rattle.std.specs.BTreeMap.{keys}
 use Rattle.zq_tables.proofs.map.RegionMap.get_mut.Goals as goal

@@ -1,7 +1,6 @@
-use Rattle.std.proofs.Common.{ℕ, map, sym, subst, ap, ◌∙◌}
+use Rattle.std.proofs.Common.{ℕ, sym}
 use Rattle.std.proofs.lemmas.List.{map-id}
 use Rattle.std.proofs.lemmas.Map.Iter.{iter_end}
-use Rattle.zq_tables.specs.RegionMap.{MapsEach}
 use Rattle.zq_tables.proofs.Ends.{turn_parts, MapsEach-push, AreIndices-MapsEach}
 use Rattle.zq_tables.proofs.map.RegionMap.map.Goals as goal
 

@@ -1,9 +1,8 @@
-use Rattle.std.proofs.Common.{ℕ, refl, map, sym, subst, ap, ◌∙◌}
+use Rattle.std.proofs.Common.{refl}
 use Rattle.std.specs.Map.Iter.{deref_pair}
 use Rattle.std.specs.Fn.{FnReturnsAt}
 use Rattle.std.proofs.lemmas.List.{map_push}
 use Rattle.std.proofs.lemmas.Map.Iter.{iter_end}
-use Rattle.zq_tables.specs.RegionMap.{MapsEach}
 use Rattle.zq_tables.proofs.Ends.{turn_parts, MapsEach-push, AreIndices-MapsEach}
 use Rattle.zq_tables.proofs.map.RegionMap.map_ref.Goals as goal
 

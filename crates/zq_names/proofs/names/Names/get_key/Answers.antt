@@ -1,0 +1,15 @@
+use Rattle.std.proofs.Common.{◌++◌, ℕ, List, subst}
+use Rattle.std.specs.List.{Contains}
+use Rattle.zq_names.specs.Texts.{IsBelow}
+use Rattle.zq_names.specs.Names.{NameEntry, texts, entry_at}
+use Rattle.zq_names.proofs.Adding.{Adds-heads, Contains-text}
+use Rattle.zq_names.proofs.names.Names.get_key.Goals as goal
+
+pub returns-in-Some-clause-adds : goal.returns-in-Some-clause-adds
+returns-in-Some-clause-adds c =
+    let ns = c.args.self.now in
+    let t = (entry_at ns c.args.from.0).text ++ c.args.suffix.now in
+    let named = c.in_ok-r.ensures.found in
+    let H : List ℕ → Type 0 = Contains (texts ns) in
+    let K : List NameEntry → Type 0 = λ (v : List NameEntry). (s u : List ℕ) → Contains (texts v) u → IsBelow s u → Contains (texts v) s in
+    Adds-heads ns t (subst K c.self.view_is c.self.invariant.table.names.closed) (subst H named.text (Contains-text ns c.in_ok-r.r.0 named.live))
