@@ -72,3 +72,18 @@ declaring_call face node interest body.DeclareFinal = finalizing face interest
 -- the call that a face's declaration makes; the end of declarations makes one where they answer the interest 0, which every face has from its opening
 abbrev pub declared_call : FaceId → Declare → Option Call
 declared_call face d = declaring_call face d.node d.interest d.body
+
+abbrev pub is_zero : Option ℕ → Bool
+is_zero None = false
+is_zero (Some n) = n == 0
+
+abbrev pub is_end : DeclareBody → Bool
+is_end (body.DeclareKeyExpr id wire) = false
+is_end (body.UndeclareKeyExpr id) = false
+is_end (body.DeclareQueryable id wire info) = false
+is_end (body.UndeclareQueryable id wire) = false
+is_end body.DeclareFinal = true
+
+-- the end of the declarations that answer the interest 0; its form is yet to come
+abbrev pub ends_first : Option ℕ → DeclareBody → Bool
+ends_first interest b = is_zero interest && is_end b

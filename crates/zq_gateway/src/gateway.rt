@@ -1,5 +1,5 @@
 //! The gateway: each call is one event.
-ghost use Rattle.std.specs.Prelude.{IfErr, IfSome, ◌≡◌, ◌<◌, ◌+◌, ◌^◌, [], Some, None, true, false, IfOk, OnOk, OnErr, option_copied, option_map, map, option_to_list};
+ghost use Rattle.std.specs.Prelude.{IfErr, ◌≡◌, ◌<◌, ◌+◌, ◌^◌, [], Some, None, true, false, IfOk, OnOk, OnErr, option_copied, option_map, map, option_to_list};
 ghost use Rattle.std.specs.BTreeMap.{insert_entry};
 ghost use Rattle.std.specs.Option.{IsSome};
 ghost use Rattle.std.specs.Ordering.{nat_cmp};
@@ -9,7 +9,7 @@ ghost use Rattle.zq_query.specs.Records.{next_reply};
 ghost use Rattle.zq_query.specs.Asking.{are_distinct, face_numbers, is_full, lacks_number};
 ghost use Rattle.zq_naming.specs.Naming.{is_text};
 ghost use Rattle.zq_gateway.specs.declared.call.Call.TheVariants as call;
-ghost use Rattle.zq_gateway.specs.Calls.{declared_call, declaring_call, is_built};
+ghost use Rattle.zq_gateway.specs.Calls.{declared_call, declaring_call, ends_first, is_built};
 ghost use Rattle.zq_gateway.specs.Deciding.{done, granted, lacks_reply_number, opened, refused, remaps, seat};
 ghost use Rattle.zq_gateway.specs.Selecting.{full_text, is_unscoped, says_key, says_key_or_nothing, select_for, target_of};
 ghost use Rattle.zq_gateway.specs.Machine.{accepted_state, after, after_of, answer, follow, step, step_of, write};
@@ -212,7 +212,7 @@ impl Gateway {
     /// `Primitives::send_declare`). The end of a face's declarations changes nothing here; its form
     /// for the first interest is yet to come.
     pub fn send_declare(&mut self, face: FaceId, msg: &Declare) -> Result<Step, OutOfMemory>
-        requires { IfSome (declared_call face msg.now) (λ c. is_built self.old.core.config c ≡ true) }
+        requires { ends_first msg.now.interest msg.now.body ≡ false }
         ensures step { IfOk result (λ t. t ≡ step_of self.old (declared_call face msg.now)) }
         ensures after { OnOk result (self.new ≡ after_of self.old (declared_call face msg.now)) }
         ensures err { OnErr result (self.new ≡ self.old) }
@@ -679,7 +679,7 @@ impl Gateway {
         interest: Option<u32>,
         body: &DeclareBody,
     ) -> Result<Step, OutOfMemory>
-        requires { IfSome (declaring_call face node interest body.now) (λ c. is_built self.old.core.config c ≡ true) }
+        requires { ends_first interest body.now ≡ false }
         ensures step { IfOk result (λ t. t ≡ step_of self.old (declaring_call face node interest body.now)) }
         ensures after { OnOk result (self.new ≡ after_of self.old (declaring_call face node interest body.now)) }
         ensures err { OnErr result (self.new ≡ self.old) }

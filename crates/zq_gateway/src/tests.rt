@@ -1,4 +1,7 @@
-use crate::call::{Handed, Opening, Outcome, Refusal};
+ghost use Rattle.std.specs.Prelude.{◌≡◌, IfOk, false};
+ghost use Rattle.zq_gateway.specs.Calls.{ends_first};
+
+use crate::call::{Handed, Opening, Outcome, Refusal, Step};
 use crate::config::{BadConfig, Config, ConfigRefusal, Counters, Entry};
 use crate::gateway::Gateway;
 use std::alloc::Global;
@@ -85,7 +88,9 @@ fn local(alloc: Global, zid: u128) -> Opening {
     }
 }
 
-fn declaration(body: DeclareBody) -> Declare {
+fn declaration(body: DeclareBody) -> Declare
+    ensures { ends_first result.interest result.body ≡ false }
+{
     Declare {
         interest: None,
         node: 0,
@@ -93,7 +98,9 @@ fn declaration(body: DeclareBody) -> Declare {
     }
 }
 
-fn queryable(alloc: Global, id: u32, text: &str) -> Result<Declare, OutOfMemory> {
+fn queryable(alloc: Global, id: u32, text: &str) -> Result<Declare, OutOfMemory>
+    ensures { IfOk result (λ d. ends_first d.interest d.body ≡ false) }
+{
     Ok(declaration(DeclareBody::DeclareQueryable {
         id,
         wire: plain(alloc, text)?,
@@ -126,16 +133,16 @@ fn response(alloc: Global, rid: u32) -> Result<Response, OutOfMemory> {
     })
 }
 
-fn pair(alloc: Global) -> Result<Option<Gateway>, OutOfMemory> {
+fn pair(alloc: Global) -> Result<Gateway, OutOfMemory> {
     let entries = [Entry::North(Mode::Client), Entry::Local];
     match Config::new(alloc, Zid(1), entries.as_slice(), 10_000, FIRST) {
         Ok(config) => {
             let mut gateway = Gateway::new(alloc, &config)?;
             gateway.open_face(&local(alloc, 10))?;
             gateway.open_face(&local(alloc, 11))?;
-            Ok(Some(gateway))
+            Ok(gateway)
         }
-        Err(_) => Ok(None),
+        Err(_) => Err(OutOfMemory),
     }
 }
 
@@ -146,83 +153,107 @@ fn is_final(handed: &Option<Handed>, asker: FaceId) -> bool {
     }
 }
 
-// Each method once, with ample memory.
+fn outcome(step: Result<Step, OutOfMemory>) -> Option<Outcome> {
+    match step {
+        Ok(step) => Some(step.outcome),
+        Err(_) => None,
+    }
+}
+
+// A declaration that ample memory is given for.
+fn declares(gateway: &mut Gateway, declared: &Declare) -> Option<Outcome>
+    requires { ends_first declared.now.interest declared.now.body ≡ false }
+{
+    outcome(gateway.send_declare(FaceId(0), declared))
+}
+
 #[test]
-fn methods(rt: HostRuntime) -> Result<(), Fail> {
+fn declarations(rt: HostRuntime) -> Result<(), Fail> {
     let alloc = rt.alloc();
-    let target = FaceId(0);
-    let asker = FaceId(1);
-    let Some(mut gateway) = pair(alloc)? else {
-        assert!(rt; false);
-        return Ok(());
-    };
-    let number = declaration(DeclareBody::DeclareKeyExpr {
-        id: 1,
-        wire: plain(alloc, "k")?,
-    });
-    assert_eq!(rt;
-        gateway.send_declare(target, &number)?.outcome,
-        Outcome::Done
-    );
+    let mut gateway = pair(alloc)?;
+    let wire = plain(alloc, "k")?;
+    let number = declaration(DeclareBody::DeclareKeyExpr { id: 1, wire });
+    assert!(rt; declares(&mut gateway, &number) == Some(Outcome::Done));
     let declared = queryable(alloc, 1, "k")?;
-    assert_eq!(rt;
-        gateway.send_declare(target, &declared)?.outcome,
-        Outcome::Done
-    );
-    let asked = gateway.send_request(asker, &request(alloc, 7, 5)?, 0)?;
-    assert_eq!(rt; asked.outcome, Outcome::Asked(0));
-    match asked.handed.as_slice() {
+    assert!(rt; declares(&mut gateway, &declared) == Some(Outcome::Done));
+    let withdrawn = declaration(DeclareBody::UndeclareQueryable { id: 1, wire: None });
+    assert!(rt; declares(&mut gateway, &withdrawn) == Some(Outcome::Done));
+    let given_up = declaration(DeclareBody::UndeclareKeyExpr { id: 1 });
+    assert!(rt; declares(&mut gateway, &given_up) == Some(Outcome::Done));
+    let unknown = Outcome::Refused(Refusal::UnknownId);
+    assert!(rt; declares(&mut gateway, &given_up) == Some(unknown));
+    let ended = declaration(DeclareBody::DeclareFinal);
+    assert!(rt; declares(&mut gateway, &ended) == Some(Outcome::Done));
+    Ok(())
+}
+
+fn is_asked(step: &Step, target: FaceId, id: u32) -> bool {
+    match step.handed.as_slice() {
         [handed] => match &handed.message {
-            Message::Request(sent) => assert!(rt;
-                handed.to == target && sent.id == 1 && sent.wire.scope == 1
-            ),
-            _ => assert!(rt; false),
+            Message::Request(sent) => handed.to == target && sent.id == id,
+            _ => false,
         },
-        _ => assert!(rt; false),
+        _ => false,
     }
-    let replied = gateway.send_response(target, &response(alloc, 1)?)?;
-    assert_eq!(rt; replied.outcome, Outcome::Replied(Some(0)));
-    assert!(rt; matches!(gateway.send_response_final(target, 1), Ok(None)));
-    match gateway.sent(0) {
-        Ok(last) => assert!(rt; is_final(&last, asker)),
-        Err(_) => assert!(rt; false),
+}
+
+// Whether the call hands a final to the asker; none where it is refused.
+fn hands_final(last: Result<Option<Handed>, Refusal>) -> Option<bool> {
+    match last {
+        Ok(handed) => Some(is_final(&handed, FaceId(1))),
+        Err(_) => None,
     }
-    assert!(rt; matches!(gateway.sent(0), Err(Refusal::NotInFlight)));
-    assert_eq!(rt;
-        gateway
-            .route_query(asker, &request(alloc, 8, 5)?, 0)?
-            .outcome,
-        Outcome::Asked(1)
-    );
+}
+
+fn asks(gateway: &mut Gateway, alloc: Global) -> Result<Step, OutOfMemory> {
+    let asked = request(alloc, 7, 5)?;
+    gateway.send_request(FaceId(1), &asked, 0)
+}
+
+fn replies(gateway: &mut Gateway, alloc: Global) -> Result<Step, OutOfMemory> {
+    let reply = response(alloc, 1)?;
+    gateway.send_response(FaceId(0), &reply)
+}
+
+// A pair of faces of which the second has asked the first.
+fn asked(alloc: Global) -> Result<Gateway, OutOfMemory> {
+    let mut gateway = pair(alloc)?;
+    let declared = queryable(alloc, 1, "k")?;
+    gateway.send_declare(FaceId(0), &declared)?;
+    asks(&mut gateway, alloc)?;
+    Ok(gateway)
+}
+
+#[test]
+fn a_query_and_its_reply(rt: HostRuntime) -> Result<(), Fail> {
+    let alloc = rt.alloc();
+    let mut gateway = asked(alloc)?;
+    let replied = outcome(replies(&mut gateway, alloc));
+    assert!(rt; replied == Some(Outcome::Replied(Some(0))));
+    let ended = hands_final(gateway.send_response_final(FaceId(0), 1));
+    assert!(rt; ended == Some(false));
+    let first = hands_final(gateway.sent(0));
+    assert!(rt; first == Some(true));
+    let again = hands_final(gateway.sent(0));
+    assert!(rt; again.is_none());
+    Ok(())
+}
+
+#[test]
+fn time_and_closing(rt: HostRuntime) -> Result<(), Fail> {
+    let alloc = rt.alloc();
+    let mut gateway = pair(alloc)?;
+    gateway.send_declare(FaceId(0), &queryable(alloc, 1, "k")?)?;
+    let asked = gateway.route_query(FaceId(1), &request(alloc, 8, 5)?, 0)?;
+    assert!(rt; is_asked(&asked, FaceId(0), 1));
     assert_eq!(rt; gateway.poll(5)?.handed.len(), 1);
     let table = Gateways {
         of: Items::new(alloc),
         all: None,
     };
-    assert_eq!(rt;
-        gateway.set_gateways(Region::Local, &table)?.outcome,
-        Outcome::Done
-    );
-    let withdrawn = declaration(DeclareBody::UndeclareQueryable { id: 1, wire: None });
-    assert_eq!(rt;
-        gateway.send_declare(target, &withdrawn)?.outcome,
-        Outcome::Done
-    );
-    let given_up = declaration(DeclareBody::UndeclareKeyExpr { id: 1 });
-    assert_eq!(rt;
-        gateway.send_declare(target, &given_up)?.outcome,
-        Outcome::Done
-    );
-    assert_eq!(rt;
-        gateway.send_declare(target, &given_up)?.outcome,
-        Outcome::Refused(Refusal::UnknownId)
-    );
-    let ended = declaration(DeclareBody::DeclareFinal);
-    assert_eq!(rt;
-        gateway.send_declare(target, &ended)?.outcome,
-        Outcome::Done
-    );
-    assert_eq!(rt; gateway.send_close(target)?.outcome, Outcome::Done);
+    let listed = gateway.set_gateways(Region::Local, &table);
+    assert!(rt; outcome(listed) == Some(Outcome::Done));
+    assert!(rt; outcome(gateway.send_close(FaceId(0))) == Some(Outcome::Done));
     Ok(())
 }
 
@@ -231,10 +262,7 @@ fn methods(rt: HostRuntime) -> Result<(), Fail> {
 fn many_deadlines(rt: HostRuntime) -> Result<(), Fail> {
     let alloc = rt.alloc();
     let asker = FaceId(1);
-    let Some(mut gateway) = pair(alloc)? else {
-        assert!(rt; false);
-        return Ok(());
-    };
+    let mut gateway = pair(alloc)?;
     gateway.send_declare(FaceId(0), &queryable(alloc, 1, "k")?)?;
     for id in 0..100_000u32 {
         gateway.send_request(asker, &request(alloc, id, u64::from(id) + 1)?, 0)?;
