@@ -93,9 +93,6 @@ left ns at k lt in_k = elim (cases_lt k at) [
   }
 ]
   where
-    i : ℕ
-    i = (get_or ns at (entry_of 0 None)).id
-
     shown : texts (removed_at ns at) ≡ remove (texts ns) at
     shown = texts-removed_at ns at ∙ map-remove (λ (e : NameEntry). e.text) ns at
 

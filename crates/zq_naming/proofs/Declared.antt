@@ -62,9 +62,6 @@ numbers_of names names' old new i r t maps is =
 -- ---- the number was made
 
 module _ (names names1 : List NameEntry) (faces faces' : Faces) (face id r : ℕ) (t : List ℕ) (held : IsHeld names faces) (new : is_settled face id faces ≡ false) (declares : Declares names names1 faces faces' face id t r) where
-  was : FaceIds
-  was = declares.was
-
   absent : of_id declares.was.theirs id ≡ None
   absent = none_from (of_id declares.was.theirs id) (ap (settled_in id) (sym declares.at) ∙ new)
 

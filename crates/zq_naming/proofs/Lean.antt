@@ -15,14 +15,11 @@ root_lean ns root k lt idle =
     omega (arith, one, lt, idle.past_root)
 
 module _ (ns : List NameEntry) (i : ℕ) (f : NameEntry → NameEntry) (keeps_text : (e : NameEntry) → (f e).text ≡ e.text) (keeps_id : (e : NameEntry) → (f e).id ≡ e.id) where
-  new : List NameEntry
-  new = change_at ns i f
-
   same_texts : texts (change_at ns i f) ≡ texts ns
   same_texts = kept_field (λ e. e.text) f ns i keeps_text
 
-  same_length : length (change_at ns i f) ≡ length ns
-  same_length = length-map ns (λ (e : NameEntry). cond (eqb e.id i) (f e) e)
+  pub length_now : length (change_at ns i f) ≡ length ns
+  length_now = length-map ns (λ (e : NameEntry). cond (eqb e.id i) (f e) e)
 
   entry_now : (k : ℕ) → k < length ns → get_or (change_at ns i f) k (entry_of 0 None) ≡ cond (eqb (get_or ns k (entry_of 0 None)).id i) (f (get_or ns k (entry_of 0 None))) (get_or ns k (entry_of 0 None))
   entry_now k lt = get_or-map (λ (e : NameEntry). cond (eqb e.id i) (f e) e) ns k (entry_of 0 None) (entry_of 0 None) lt
@@ -44,8 +41,7 @@ module _ (ns : List NameEntry) (i : ℕ) (f : NameEntry → NameEntry) (keeps_te
 
   pub id_now : (k : ℕ) → k < length ns → (get_or (change_at ns i f) k (entry_of 0 None)).id ≡ (get_or ns k (entry_of 0 None)).id
   id_now k lt =
-      let e = get_or ns k (entry_of 0 None) in
-      ap (λ (x : NameEntry). x.id) (entry_now k lt) ∙ by (eqb e.id i)
+      ap (λ (x : NameEntry). x.id) (entry_now k lt) ∙ by (eqb (get_or ns k (entry_of 0 None)).id i)
     where
       by : (b : Bool) → (cond b (f (get_or ns k (entry_of 0 None))) (get_or ns k (entry_of 0 None))).id ≡ (get_or ns k (entry_of 0 None)).id
       by true = keeps_id (get_or ns k (entry_of 0 None))
@@ -56,8 +52,6 @@ module _ (ns : List NameEntry) (i : ℕ) (f : NameEntry → NameEntry) (keeps_te
       let e = get_or ns k (entry_of 0 None) in
       ap (λ (x : NameEntry). x.holds) (entry_now k lt ∙ ap (λ b. cond b (f e) e) here)
 
-  pub length_now : length (change_at ns i f) ≡ length ns
-  length_now = same_length
 
 -- what is held isn't idle
 pub lean_held : (names names' : List NameEntry) (r : ℕ) → names' ≡ change_at names r with_hold → IdleAt names r → NoneIdle names'
