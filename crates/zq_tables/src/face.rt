@@ -86,7 +86,7 @@ impl FaceNames {
     pub fn first_id(&self) -> Option<u16>
         ensures { result ≡ slice_get (keys_of self.now.theirs) 0 }
     {
-        self.theirs.keys().next().copied()
+        self.theirs.first()
     }
 
     fn is_used(&self, id: u16) -> bool

@@ -1,5 +1,5 @@
 //! The ids of one side of a face, with a way back from a node to its least id.
-ghost use Rattle.std.specs.Prelude.{◌≡◌, [], None, OnOk, OnErr, IfOk, is_some, option_map, true, false};
+ghost use Rattle.std.specs.Prelude.{◌≡◌, [], None, OnOk, OnErr, IfOk, is_some, option_map, slice_get, true, false};
 ghost use Rattle.std.specs.List.Sorted.{IsStrictlySortedBy};
 ghost use Rattle.std.specs.Map.{keys_of};
 ghost use Rattle.std.specs.Ordering.{nat_cmp};
@@ -58,6 +58,13 @@ impl Ids {
     {
         let _ids = self.nodes.len();
         least_of(&self.by_node, node)
+    }
+
+    // The least id.
+    pub(crate) fn first(&self) -> Option<u16>
+        ensures { result ≡ slice_get (keys_of self.now) 0 }
+    {
+        self.nodes.keys().next().copied()
     }
 
     // How many ids there are.
