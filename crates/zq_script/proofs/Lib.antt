@@ -4,3 +4,4 @@ pub mod Parts
 pub mod Built
 pub mod Given
 pub mod GivenLines
+pub mod Promised

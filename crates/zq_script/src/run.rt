@@ -3,6 +3,7 @@ ghost use Rattle.std.specs.Prelude.{◌≡◌, ◌≢◌, ◌↔◌, ◌≤◌, 
 ghost use Rattle.std.specs.Fmt.{decimal};
 ghost use Rattle.std.specs.Io.KnownBytes.{IsAtEnd};
 ghost use Rattle.std.specs.List.{AllByRecursion};
+ghost use Rattle.zq_gateway.specs.Headline.{RunPromise};
 ghost use Rattle.zq_words.specs.declared.transfer.TheConstants.{LIMIT};
 ghost use Rattle.zq_words.specs.Streams.{Rose};
 ghost use Rattle.zq_script.specs.Script.{lines_of, script_of, AllBuilt};
@@ -130,7 +131,8 @@ fn answer<K: Sink>(alloc: Global, bytes: &[u8], sink: &mut K) -> Status
 }
 
 /// Reads a script from the source, and gives the print of its steps to the sink, where the words
-/// are the one word `replay`.
+/// are the one word `replay`. The steps keep what each run promises.
+#[tactic(auto, using(crate::proofs::Promised::promised))]
 pub fn run<S: Source, K: Sink>(
     alloc: Global,
     words: &[Text],
@@ -145,6 +147,7 @@ pub fn run<S: Source, K: Sink>(
     ensures write { result ≡ Status.WriteFault → Rose (K.faults sink.old) (K.faults sink.new) }
     ensures unwritten { wrote result ≡ false → sink.new ≡ sink.old }
     ensures linked { result ≢ Status.LinkFault }
+    ensures headline { IfSome (S.left source.old) (λ input. IfOk (script_of 0 (lines_of input)) (λ s. RunPromise s.config (first_part s.parts))) }
 {
     if !is_command(words) {
         return Status::Words;

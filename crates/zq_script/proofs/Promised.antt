@@ -1,0 +1,16 @@
+-- Whatever the bytes are, the calls of their script keep what each run promises.
+use Rattle.std.proofs.Common.{ℕ, List, Option, Some, None}
+use Rattle.std.specs.Prelude.{Result, Ok, Err, IfOk, IfSome}
+use Rattle.zq_gateway.specs.Headline.{RunPromise}
+use Rattle.zq_gateway.proofs.Kept.{headline}
+use Rattle.zq_script.specs.declared.script.Script.{Script}
+use Rattle.zq_script.specs.Running.{first_part}
+use Rattle.zq_script.specs.Script.{lines_of, script_of}
+
+pub promised : (given : Option (List ℕ)) → IfSome given (λ input. IfOk (script_of 0 (lines_of input)) (λ s. RunPromise s.config (first_part s.parts)))
+promised None = tt
+promised (Some input) = by (script_of 0 (lines_of input))
+  where
+    by : (read : Result Script ℕ) → IfOk read (λ s. RunPromise s.config (first_part s.parts))
+    by (Ok s) = headline s.config (first_part s.parts)
+    by (Err n) = tt
