@@ -191,7 +191,7 @@ impl FaceNames {
         self.map_new(names, id, from, wire.suffix.as_str())
     }
 
-    // Lets a new id stand for the text, of which the node is made. Room for the id is taken first, under a number that is set later.
+    // Lets a new id stand for the text, of which the node is made. Room for the id is taken first, under the greatest number, which moves no pair of the others.
     fn map_new(
         &mut self,
         names: &mut Names,
@@ -206,7 +206,7 @@ impl FaceNames {
         ensures err { OnErr result ((self.new ≡ self.old) × (names.new ≡ names.old)) }
         ensures only { IfErr result (λ e. key_of ((entry_at names.old from.0).text ++ suffix.now) ≡ true → e ≡ NameRefusal.OutOfMemory) }
     {
-        self.theirs.put(id, 0)?;
+        self.theirs.put(id, u64::MAX)?;
         match names.make_resource(from, suffix) {
             Ok(r) => {
                 self.theirs.change(id, r.0);

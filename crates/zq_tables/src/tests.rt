@@ -1,5 +1,8 @@
 use crate::{FaceNames, NameRefusal, Names, RegionMap, index_to_region, region_to_index};
+use std::alloc::Global;
+use std::marker::Model;
 use std::test::Fail;
+use zq_key::memory::OutOfMemory;
 use zq_key::message::{Mapping, Mode, Region, WireExpr};
 use zq_key::text::Text;
 
@@ -56,5 +59,220 @@ fn best_keys(rt: HostRuntime) -> Result<(), Fail> {
         ),
         true
     );
+    Ok(())
+}
+
+// A face with its names, whose ids are live.
+#[derive(Drop)]
+struct Known {
+    names: Names,
+    face: FaceNames,
+}
+
+impl Model for Known {
+    ghost use Rattle.zq_tables.specs.FaceIds.{AreLive};
+
+    ghost Value = { Unit {0} };
+
+    ghost view = { λ _. tt };
+
+    ghost invariant = { λ s. AreLive s.names s.face };
+}
+
+impl Known {
+    // A face without ids, among names of one text and its parts.
+    fn new(alloc: Global, text: &str) -> Result<Known, NameRefusal> {
+        let mut names = Names::new(alloc)?;
+        names.make_resource(names.root(), text)?;
+        Ok(Known {
+            names,
+            face: FaceNames::new(alloc),
+        })
+    }
+
+    fn add(&mut self, text: &str) -> Result<(), NameRefusal> {
+        self.names.make_resource(self.names.root(), text)?;
+        Ok(())
+    }
+
+    fn register(&mut self, alloc: Global, id: u16, text: &str) -> Result<(), NameRefusal> {
+        let wire = WireExpr {
+            scope: 0,
+            mapping: Mapping::Sender,
+            suffix: Text::new(alloc, text)?,
+        };
+        self.face.register_expr(alloc, &mut self.names, id, &wire)
+    }
+
+    fn unregister(&mut self, id: u16) -> Result<(), NameRefusal> {
+        self.face.unregister_expr(&mut self.names, id)
+    }
+
+    // The new id under which a text is declared.
+    fn declare(&mut self, alloc: Global, text: &str) -> Result<Option<u16>, OutOfMemory> {
+        let Some(r) = self.names.get_resource(self.names.root(), text) else {
+            return Ok(None);
+        };
+        let key = self.face.decl_key(alloc, &mut self.names, r, false, true)?;
+        Ok(key.declared)
+    }
+
+    fn best_is(&self, alloc: Global, row: &Row<'_>) -> Result<bool, OutOfMemory> {
+        let Some(r) = self.names.get_resource(self.names.root(), row.at) else {
+            return Ok(false);
+        };
+        let best = self.face.get_best_key(alloc, &self.names, r, row.suffix)?;
+        Ok(
+            best.scope == row.scope
+                && best.mapping == row.mapping
+                && best.suffix.as_str() == row.rest,
+        )
+    }
+
+    // The first row that does not hold.
+    fn wrong_row(&self, alloc: Global, rows: &[Row<'_>]) -> Result<Option<usize>, OutOfMemory> {
+        for k in 0..rows.len() {
+            if !self.best_is(alloc, &rows[k])? {
+                return Ok(Some(k));
+            }
+        }
+        Ok(None)
+    }
+}
+
+// The best key of the text at a node with a suffix behind it.
+#[derive(Clone, Copy)]
+struct Row<'a> {
+    at: &'a str,
+    suffix: &'a str,
+    scope: u16,
+    mapping: Mapping,
+    rest: &'a str,
+}
+
+fn by_face<'a>(at: &'a str, suffix: &'a str, scope: u16, rest: &'a str) -> Row<'a> {
+    Row {
+        at,
+        suffix,
+        scope,
+        mapping: Mapping::Receiver,
+        rest,
+    }
+}
+
+fn by_gateway<'a>(at: &'a str, suffix: &'a str, scope: u16, rest: &'a str) -> Row<'a> {
+    Row {
+        at,
+        suffix,
+        scope,
+        mapping: Mapping::Sender,
+        rest,
+    }
+}
+
+// The rows of zenoh's own test of best keys at its first face, which named `a`.
+#[test]
+fn best_keys_of_one_id(rt: HostRuntime) -> Result<(), Fail> {
+    let alloc = rt.alloc();
+    let mut known = Known::new(alloc, "a/b/c")?;
+    known.register(alloc, 1, "a")?;
+    let rows = [
+        by_face("", "a", 1, ""),
+        by_face("", "a/b", 1, "/b"),
+        by_face("a", "", 1, ""),
+        by_face("a", "/b", 1, "/b"),
+        by_face("a/b", "", 1, "/b"),
+        by_gateway("", "e", 0, "e"),
+    ];
+    assert_eq!(rt; known.wrong_row(alloc, &rows)?, None);
+    Ok(())
+}
+
+// A face that named `a/b` by 2 and `a/b/c` by 3, as the second face of that test.
+fn nested(alloc: Global) -> Result<Known, NameRefusal> {
+    let mut known = Known::new(alloc, "a/d")?;
+    known.register(alloc, 2, "a/b")?;
+    known.register(alloc, 3, "a/b/c")?;
+    Ok(known)
+}
+
+#[test]
+fn best_keys_from_the_root(rt: HostRuntime) -> Result<(), Fail> {
+    let alloc = rt.alloc();
+    let known = nested(alloc)?;
+    let rows = [
+        by_gateway("", "a", 0, "a"),
+        by_face("", "a/b", 2, ""),
+        by_face("", "a/b/c", 3, ""),
+        by_face("", "a/b/c/d", 3, "/d"),
+        by_face("", "a/b/cd", 2, "/cd"),
+    ];
+    assert_eq!(rt; known.wrong_row(alloc, &rows)?, None);
+    Ok(())
+}
+
+#[test]
+fn best_keys_from_a_node(rt: HostRuntime) -> Result<(), Fail> {
+    let alloc = rt.alloc();
+    let known = nested(alloc)?;
+    let rows = [
+        by_gateway("a", "", 0, "a"),
+        by_face("a", "/b", 2, ""),
+        by_gateway("a", "/d", 0, "a/d"),
+        by_face("a/b", "", 2, ""),
+    ];
+    assert_eq!(rt; known.wrong_row(alloc, &rows)?, None);
+    Ok(())
+}
+
+#[test]
+fn best_keys_as_ids_go(rt: HostRuntime) -> Result<(), Fail> {
+    let alloc = rt.alloc();
+    let mut known = nested(alloc)?;
+    known.unregister(3)?;
+    let above = [by_face("a/b/c", "/d", 2, "/c/d")];
+    assert_eq!(rt; known.wrong_row(alloc, &above)?, None);
+    known.unregister(2)?;
+    let whole = [by_gateway("a/b/c", "/d", 0, "a/b/c/d")];
+    assert_eq!(rt; known.wrong_row(alloc, &whole)?, None);
+    Ok(())
+}
+
+// An id of the face goes before one of the gateway, and of several the least is taken.
+#[test]
+fn best_keys_of_both_sides(rt: HostRuntime) -> Result<(), Fail> {
+    let alloc = rt.alloc();
+    let mut known = Known::new(alloc, "x/y/**")?;
+    known.declare(alloc, "x/y/**")?;
+    let gateways = [by_gateway("x", "/y/z", 1, "/z")];
+    assert_eq!(rt; known.wrong_row(alloc, &gateways)?, None);
+    known.register(alloc, 9, "x/y")?;
+    let faces = [by_face("x", "/y/z", 9, "/z")];
+    assert_eq!(rt; known.wrong_row(alloc, &faces)?, None);
+    known.register(alloc, 5, "x/y")?;
+    let least = [by_face("x", "/y/z", 5, "/z")];
+    assert_eq!(rt; known.wrong_row(alloc, &least)?, None);
+    known.unregister(5)?;
+    assert_eq!(rt; known.wrong_row(alloc, &faces)?, None);
+    known.unregister(9)?;
+    assert_eq!(rt; known.wrong_row(alloc, &gateways)?, None);
+    Ok(())
+}
+
+// Each new id is the next one, up to the last.
+#[test]
+fn ids_until_none_is_free(rt: HostRuntime) -> Result<(), Fail> {
+    let alloc = rt.alloc();
+    let mut known = Known::new(alloc, "n")?;
+    let mut ids = 0;
+    for id in 1..=65535u16 {
+        let text = format!(in alloc; "n/{}", id as u32 + 100000)?;
+        known.add(text.as_str())?;
+        if known.declare(alloc, text.as_str())? == Some(id) {
+            ids = id;
+        }
+    }
+    assert_eq!(rt; ids, 65535);
+    assert_eq!(rt; known.declare(alloc, "n")?, None);
     Ok(())
 }
