@@ -52,7 +52,6 @@ module _ (ns : List NameEntry) (i : ℕ) (f : NameEntry → NameEntry) (keeps_te
       let e = get_or ns k (entry_of 0 None) in
       ap (λ (x : NameEntry). x.holds) (entry_now k lt ∙ ap (λ b. cond b (f e) e) here)
 
-
 -- what is held isn't idle
 pub lean_held : (names names' : List NameEntry) (r : ℕ) → names' ≡ change_at names r with_hold → IdleAt names r → NoneIdle names'
 lean_held names names' r is only =
