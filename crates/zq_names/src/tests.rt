@@ -115,25 +115,55 @@ fn matches_of(names: &Names, r: ResourceId, other: ResourceId) -> usize {
     count
 }
 
+fn met(alloc: Global, names: &mut Names, a: ResourceId, b: ResourceId) -> bool {
+    match meet(alloc, names, a, b) {
+        Ok(met) => met,
+        Err(_) => false,
+    }
+}
+
+// A wild key and two that it meets.
+#[derive(Clone, Copy)]
+struct Keys {
+    star: ResourceId,
+    b: ResourceId,
+    c: ResourceId,
+}
+
+fn make_keys(names: &mut Names) -> Result<Keys, NameRefusal> {
+    let star = names.make_resource(names.root(), "a/*")?;
+    let b = names.make_resource(names.root(), "a/b")?;
+    let c = names.make_resource(names.root(), "a/c")?;
+    Ok(Keys { star, b, c })
+}
+
+// How often the wild key has each among its matches, and each the wild key.
+fn counts(names: &Names, keys: Keys) -> [usize; 4] {
+    [
+        matches_of(names, keys.star, keys.b),
+        matches_of(names, keys.star, keys.c),
+        matches_of(names, keys.b, keys.star),
+        matches_of(names, keys.c, keys.star),
+    ]
+}
+
+fn close(names: &mut Names, r: ResourceId) {
+    if names.is_live(r) {
+        names.close(r);
+    }
+}
+
 #[test]
 fn matches_go_both_ways(rt: HostRuntime) -> Result<(), Fail> {
     let alloc = rt.alloc();
     let mut names = Names::new(alloc)?;
-    let star = names.make_resource(names.root(), "a/*")?;
-    let b = names.make_resource(names.root(), "a/b")?;
-    let c = names.make_resource(names.root(), "a/c")?;
-    assert_eq!(rt; meet(alloc, &mut names, star, b)?, true);
-    assert_eq!(rt; meet(alloc, &mut names, star, b)?, true);
-    assert_eq!(rt; matches_of(&names, star, b), 1);
-    assert_eq!(rt; matches_of(&names, b, star), 1);
-    assert_eq!(rt; meet(alloc, &mut names, star, c)?, true);
-    assert_eq!(rt; matches_of(&names, star, b), 0);
-    assert_eq!(rt; matches_of(&names, b, star), 1);
-    assert_eq!(rt; matches_of(&names, c, star), 1);
-    if names.is_live(star) {
-        names.close(star);
-    }
-    assert_eq!(rt; matches_of(&names, b, star), 0);
-    assert_eq!(rt; matches_of(&names, c, star), 0);
+    let keys = make_keys(&mut names)?;
+    assert!(rt; met(alloc, &mut names, keys.star, keys.b));
+    assert!(rt; met(alloc, &mut names, keys.star, keys.b));
+    assert!(rt; counts(&names, keys) == [1, 0, 1, 0]);
+    assert!(rt; met(alloc, &mut names, keys.star, keys.c));
+    assert!(rt; counts(&names, keys) == [0, 1, 1, 1]);
+    close(&mut names, keys.star);
+    assert!(rt; counts(&names, keys) == [0, 0, 0, 0]);
     Ok(())
 }
