@@ -1,6 +1,3 @@
-ghost use Rattle.std.specs.Prelude.{◌≡◌, IfOk, false};
-ghost use Rattle.zq_gateway.specs.Calls.{ends_first};
-
 use crate::call::{Handed, Opening, Outcome, Refusal, Step};
 use crate::config::{BadConfig, Config, ConfigRefusal, Counters, Entry};
 use crate::gateway::Gateway;
@@ -88,27 +85,41 @@ fn local(alloc: Global, zid: u128) -> Opening {
     }
 }
 
-fn declaration(body: DeclareBody) -> Declare
-    ensures { ends_first result.interest result.body ≡ false }
-{
-    Declare {
-        interest: None,
-        node: 0,
-        body,
+// The outcome of a step, and how many messages it hands; none where it found no memory.
+type Seen = Option<(Outcome, usize)>;
+
+fn seen(step: Result<Step, OutOfMemory>) -> Seen {
+    match step {
+        Ok(step) => Some((step.outcome, step.handed.len())),
+        Err(_) => None,
     }
 }
 
-fn queryable(alloc: Global, id: u32, text: &str) -> Result<Declare, OutOfMemory>
-    ensures { IfOk result (λ d. ends_first d.interest d.body ≡ false) }
-{
-    Ok(declaration(DeclareBody::DeclareQueryable {
-        id,
-        wire: plain(alloc, text)?,
-        info: QueryableInfoType {
-            complete: true,
-            distance: 0,
-        },
-    }))
+fn declares(gateway: &mut Gateway, body: DeclareBody) -> Seen {
+    let declared = Declare {
+        interest: None,
+        node: 0,
+        body,
+    };
+    seen(gateway.send_declare(FaceId(0), &declared))
+}
+
+fn names_key(gateway: &mut Gateway, alloc: Global) -> Seen {
+    let Ok(wire) = plain(alloc, "k") else {
+        return None;
+    };
+    declares(gateway, DeclareBody::DeclareKeyExpr { id: 1, wire })
+}
+
+fn registers(gateway: &mut Gateway, alloc: Global) -> Seen {
+    let Ok(wire) = plain(alloc, "k") else {
+        return None;
+    };
+    let info = QueryableInfoType {
+        complete: true,
+        distance: 0,
+    };
+    declares(gateway, DeclareBody::DeclareQueryable { id: 1, wire, info })
 }
 
 fn request(alloc: Global, id: u32, timeout: u64) -> Result<Request, OutOfMemory> {
@@ -123,9 +134,23 @@ fn request(alloc: Global, id: u32, timeout: u64) -> Result<Request, OutOfMemory>
     })
 }
 
-fn response(alloc: Global, rid: u32) -> Result<Response, OutOfMemory> {
+fn asks(gateway: &mut Gateway, alloc: Global, id: u32, timeout: u64) -> Seen {
+    let Ok(asked) = request(alloc, id, timeout) else {
+        return None;
+    };
+    seen(gateway.send_request(FaceId(1), &asked, 0))
+}
+
+fn routes(gateway: &mut Gateway, alloc: Global) -> Seen {
+    let Ok(asked) = request(alloc, 8, 5) else {
+        return None;
+    };
+    seen(gateway.route_query(FaceId(1), &asked, 0))
+}
+
+fn response(alloc: Global) -> Result<Response, OutOfMemory> {
     Ok(Response {
-        rid,
+        rid: 1,
         wire: plain(alloc, "k")?,
         qos: 0,
         payload: ReplyBody::Reply(Bytes::new(alloc, b"v".as_slice())?),
@@ -133,103 +158,87 @@ fn response(alloc: Global, rid: u32) -> Result<Response, OutOfMemory> {
     })
 }
 
-fn pair(alloc: Global) -> Result<Gateway, OutOfMemory> {
-    let entries = [Entry::North(Mode::Client), Entry::Local];
-    match Config::new(alloc, Zid(1), entries.as_slice(), 10_000, FIRST) {
-        Ok(config) => {
-            let mut gateway = Gateway::new(alloc, &config)?;
-            gateway.open_face(&local(alloc, 10))?;
-            gateway.open_face(&local(alloc, 11))?;
-            Ok(gateway)
-        }
-        Err(_) => Err(OutOfMemory),
-    }
+fn replies(gateway: &mut Gateway, alloc: Global) -> Seen {
+    let Ok(reply) = response(alloc) else {
+        return None;
+    };
+    seen(gateway.send_response(FaceId(0), &reply))
 }
 
-fn is_final(handed: &Option<Handed>, asker: FaceId) -> bool {
+fn lists(gateway: &mut Gateway, alloc: Global) -> Seen {
+    let table = Gateways {
+        of: Items::new(alloc),
+        all: None,
+    };
+    seen(gateway.set_gateways(Region::Local, &table))
+}
+
+fn opens(gateway: &mut Gateway, alloc: Global, zid: u128) -> Seen {
+    let opening = local(alloc, zid);
+    seen(gateway.open_face(&opening))
+}
+
+fn is_final(handed: &Option<Handed>) -> bool {
     match handed {
-        Some(handed) => handed.to == asker && matches!(handed.message, Message::ResponseFinal(_)),
+        Some(handed) => {
+            handed.to == FaceId(1) && matches!(handed.message, Message::ResponseFinal(_))
+        }
         None => false,
-    }
-}
-
-fn outcome(step: Result<Step, OutOfMemory>) -> Option<Outcome> {
-    match step {
-        Ok(step) => Some(step.outcome),
-        Err(_) => None,
-    }
-}
-
-// A declaration that ample memory is given for.
-fn declares(gateway: &mut Gateway, declared: &Declare) -> Option<Outcome>
-    requires { ends_first declared.now.interest declared.now.body ≡ false }
-{
-    outcome(gateway.send_declare(FaceId(0), declared))
-}
-
-#[test]
-fn declarations(rt: HostRuntime) -> Result<(), Fail> {
-    let alloc = rt.alloc();
-    let mut gateway = pair(alloc)?;
-    let wire = plain(alloc, "k")?;
-    let number = declaration(DeclareBody::DeclareKeyExpr { id: 1, wire });
-    assert!(rt; declares(&mut gateway, &number) == Some(Outcome::Done));
-    let declared = queryable(alloc, 1, "k")?;
-    assert!(rt; declares(&mut gateway, &declared) == Some(Outcome::Done));
-    let withdrawn = declaration(DeclareBody::UndeclareQueryable { id: 1, wire: None });
-    assert!(rt; declares(&mut gateway, &withdrawn) == Some(Outcome::Done));
-    let given_up = declaration(DeclareBody::UndeclareKeyExpr { id: 1 });
-    assert!(rt; declares(&mut gateway, &given_up) == Some(Outcome::Done));
-    let unknown = Outcome::Refused(Refusal::UnknownId);
-    assert!(rt; declares(&mut gateway, &given_up) == Some(unknown));
-    let ended = declaration(DeclareBody::DeclareFinal);
-    assert!(rt; declares(&mut gateway, &ended) == Some(Outcome::Done));
-    Ok(())
-}
-
-fn is_asked(step: &Step, target: FaceId, id: u32) -> bool {
-    match step.handed.as_slice() {
-        [handed] => match &handed.message {
-            Message::Request(sent) => handed.to == target && sent.id == id,
-            _ => false,
-        },
-        _ => false,
     }
 }
 
 // Whether the call hands a final to the asker; none where it is refused.
 fn hands_final(last: Result<Option<Handed>, Refusal>) -> Option<bool> {
     match last {
-        Ok(handed) => Some(is_final(&handed, FaceId(1))),
+        Ok(handed) => Some(is_final(&handed)),
         Err(_) => None,
     }
 }
 
-fn asks(gateway: &mut Gateway, alloc: Global) -> Result<Step, OutOfMemory> {
-    let asked = request(alloc, 7, 5)?;
-    gateway.send_request(FaceId(1), &asked, 0)
+fn empty(alloc: Global) -> Result<Gateway, OutOfMemory> {
+    let entries = [Entry::North(Mode::Client), Entry::Local];
+    match Config::new(alloc, Zid(1), entries.as_slice(), 10_000, FIRST) {
+        Ok(config) => Gateway::new(alloc, &config),
+        Err(_) => Err(OutOfMemory),
+    }
 }
 
-fn replies(gateway: &mut Gateway, alloc: Global) -> Result<Step, OutOfMemory> {
-    let reply = response(alloc, 1)?;
-    gateway.send_response(FaceId(0), &reply)
-}
-
-// A pair of faces of which the second has asked the first.
-fn asked(alloc: Global) -> Result<Gateway, OutOfMemory> {
-    let mut gateway = pair(alloc)?;
-    let declared = queryable(alloc, 1, "k")?;
-    gateway.send_declare(FaceId(0), &declared)?;
-    asks(&mut gateway, alloc)?;
+// A gateway with a face that answers and one that asks.
+fn pair(alloc: Global) -> Result<Gateway, OutOfMemory> {
+    let mut gateway = empty(alloc)?;
+    let _ = opens(&mut gateway, alloc, 10);
+    let _ = opens(&mut gateway, alloc, 11);
+    let _ = registers(&mut gateway, alloc);
     Ok(gateway)
+}
+
+#[test]
+fn declarations(rt: HostRuntime) -> Result<(), Fail> {
+    let alloc = rt.alloc();
+    let mut gateway = empty(alloc)?;
+    let opened = opens(&mut gateway, alloc, 10);
+    assert!(rt; opened == Some((Outcome::Opened(FaceId(0)), 0)));
+    let done = Some((Outcome::Done, 0));
+    assert!(rt; names_key(&mut gateway, alloc) == done);
+    assert!(rt; registers(&mut gateway, alloc) == done);
+    let withdrawn = DeclareBody::UndeclareQueryable { id: 1, wire: None };
+    assert!(rt; declares(&mut gateway, withdrawn) == done);
+    let given_up = declares(&mut gateway, DeclareBody::UndeclareKeyExpr { id: 1 });
+    assert!(rt; given_up == done);
+    let again = declares(&mut gateway, DeclareBody::UndeclareKeyExpr { id: 1 });
+    assert!(rt; again == Some((Outcome::Refused(Refusal::UnknownId), 0)));
+    assert!(rt; declares(&mut gateway, DeclareBody::DeclareFinal) == done);
+    Ok(())
 }
 
 #[test]
 fn a_query_and_its_reply(rt: HostRuntime) -> Result<(), Fail> {
     let alloc = rt.alloc();
-    let mut gateway = asked(alloc)?;
-    let replied = outcome(replies(&mut gateway, alloc));
-    assert!(rt; replied == Some(Outcome::Replied(Some(0))));
+    let mut gateway = pair(alloc)?;
+    let asked = asks(&mut gateway, alloc, 7, 5);
+    assert!(rt; asked == Some((Outcome::Asked(0), 1)));
+    let replied = replies(&mut gateway, alloc);
+    assert!(rt; replied == Some((Outcome::Replied(Some(0)), 1)));
     let ended = hands_final(gateway.send_response_final(FaceId(0), 1));
     assert!(rt; ended == Some(false));
     let first = hands_final(gateway.sent(0));
@@ -243,17 +252,11 @@ fn a_query_and_its_reply(rt: HostRuntime) -> Result<(), Fail> {
 fn time_and_closing(rt: HostRuntime) -> Result<(), Fail> {
     let alloc = rt.alloc();
     let mut gateway = pair(alloc)?;
-    gateway.send_declare(FaceId(0), &queryable(alloc, 1, "k")?)?;
-    let asked = gateway.route_query(FaceId(1), &request(alloc, 8, 5)?, 0)?;
-    assert!(rt; is_asked(&asked, FaceId(0), 1));
-    assert_eq!(rt; gateway.poll(5)?.handed.len(), 1);
-    let table = Gateways {
-        of: Items::new(alloc),
-        all: None,
-    };
-    let listed = gateway.set_gateways(Region::Local, &table);
-    assert!(rt; outcome(listed) == Some(Outcome::Done));
-    assert!(rt; outcome(gateway.send_close(FaceId(0))) == Some(Outcome::Done));
+    let asked = routes(&mut gateway, alloc);
+    assert!(rt; asked == Some((Outcome::Asked(0), 1)));
+    assert!(rt; seen(gateway.poll(5)) == Some((Outcome::Done, 1)));
+    assert!(rt; lists(&mut gateway, alloc) == Some((Outcome::Done, 0)));
+    assert!(rt; seen(gateway.send_close(FaceId(0))) == Some((Outcome::Done, 0)));
     Ok(())
 }
 
@@ -261,18 +264,13 @@ fn time_and_closing(rt: HostRuntime) -> Result<(), Fail> {
 #[test]
 fn many_deadlines(rt: HostRuntime) -> Result<(), Fail> {
     let alloc = rt.alloc();
-    let asker = FaceId(1);
     let mut gateway = pair(alloc)?;
-    gateway.send_declare(FaceId(0), &queryable(alloc, 1, "k")?)?;
     for id in 0..100_000u32 {
-        gateway.send_request(asker, &request(alloc, id, u64::from(id) + 1)?, 0)?;
+        let _ = asks(&mut gateway, alloc, id, u64::from(id) + 1);
     }
     for reply in 0..100_000u64 {
-        assert_eq!(rt; gateway.poll(reply + 1)?.handed.len(), 1);
-        match gateway.sent(reply) {
-            Ok(last) => assert!(rt; is_final(&last, asker)),
-            Err(_) => assert!(rt; false),
-        }
+        assert!(rt; seen(gateway.poll(reply + 1)) == Some((Outcome::Done, 1)));
+        assert!(rt; hands_final(gateway.sent(reply)) == Some(true));
     }
     Ok(())
 }

@@ -250,6 +250,21 @@ impl<'r, D> IndexMut<&'r Region> for RegionMap<D> {
     }
 }
 
+impl<D> IndexMut<Region> for RegionMap<D> {
+    ghost use Rattle.zq_tables.specs.RegionMapLends.{LendsValue};
+
+    fn index_mut(&mut self, r: Region) -> &mut D
+        requires { HasIndex r × IsSome (value_at self.old r) }
+        ensures* writes_back { sem 𝓛 (LendsValue D.row self.entry r result) }
+        ensures value { value_at self.old r ≡ Some result.now }
+    {
+        match self.get_mut(&r) {
+            Some(d) => d,
+            None => unreachable!(),
+        }
+    }
+}
+
 // Puts the value at the index.
 fn put<D: Drop>(entries: &mut BTreeMap<usize, D>, i: usize, d: D) -> Result<(), OutOfMemory>
     ensures { OnOk result (entries.new.entries ≡ insert_entry nat_cmp entries.old.entries i d) }

@@ -2,6 +2,7 @@ use crate::{FaceNames, NameRefusal, Names, RegionMap, index_to_region, region_to
 use std::alloc::Global;
 use std::marker::Model;
 use std::test::Fail;
+use zq_key::is_key;
 use zq_key::memory::OutOfMemory;
 use zq_key::message::{Mapping, Mode, Region, WireExpr};
 use zq_key::text::Text;
@@ -127,6 +128,24 @@ impl Known {
                 && best.mapping == row.mapping
                 && best.suffix.as_str() == row.rest,
         )
+    }
+
+    // Whether a key meets the names that its row marks, and no other.
+    fn meets(&self, alloc: Global, key: &str, marks: &str) -> Result<bool, OutOfMemory> {
+        if !is_key(key) {
+            return Ok(false);
+        }
+        let found = self.names.get_matches(alloc, key)?;
+        for ((other, _), mark) in KEYS.iter().zip(marks.as_bytes()) {
+            let Some(r) = self.names.get_resource(self.names.root(), other) else {
+                return Ok(false);
+            };
+            let is_found = found.as_slice().iter().any(|m| m.0 == r.0);
+            if is_found != (*mark == b'x') {
+                return Ok(false);
+            }
+        }
+        Ok(true)
     }
 
     // The first row that does not hold.
@@ -274,5 +293,41 @@ fn ids_until_none_is_free(rt: HostRuntime) -> Result<(), Fail> {
     }
     assert_eq!(rt; ids, 65535);
     assert_eq!(rt; known.declare(alloc, "n")?, None);
+    Ok(())
+}
+
+// Keys, with an `x` in the place of each key that they meet.
+const KEYS: [(&str, &str); 13] = [
+    ("**", "xxxxxxxxxxxxx"),
+    ("a", "xx.x........."),
+    ("a/b", "x.x.xx......."),
+    ("*", "xx.x..xxxxx.."),
+    ("a/*", "x.x.xx......."),
+    ("a/b$*", "x.x.xx......."),
+    ("abc", "x..x..x.x...."),
+    ("xx", "x..x...x....."),
+    ("ab$*", "x..x..x.xxx.."),
+    ("abcd", "x..x....xxx.."),
+    ("ab$*cd", "x..x....xxx.."),
+    ("a/*/c", "x..........xx"),
+    ("a/b/c", "x..........xx"),
+];
+
+// The keys at one face, under ids from 1.
+fn numbered(alloc: Global) -> Result<Known, NameRefusal> {
+    let mut known = Known::new(alloc, "a")?;
+    for k in 0..KEYS.len() {
+        known.register(alloc, k as u16 + 1, KEYS[k].0)?;
+    }
+    Ok(known)
+}
+
+#[test]
+fn matches_of_numbered_keys(rt: HostRuntime) -> Result<(), Fail> {
+    let alloc = rt.alloc();
+    let known = numbered(alloc)?;
+    for (key, marks) in KEYS {
+        assert!(rt; known.meets(alloc, key, marks)?, "{key}");
+    }
     Ok(())
 }
