@@ -1,5 +1,5 @@
 -- Entries whose numbers are below the next one.
-use Rattle.std.proofs.Common.{◌≡◌, ℕ, suc, ◌+◌, ◌<◌, Bool, false, cond, List, [], ◌∷◌, Option, Some, None, refl, sym, ap, subst, ◌∙◌, arith}
+use Rattle.std.proofs.Common.{◌≡◌, ℕ, suc, ◌+◌, ◌<◌, Bool, false, cond, List, [], ◌∷◌, Option, Some, None, Result, Ok, Err, OnOk, OnErr, refl, sym, ap, subst, ◌∙◌, arith}
 use Rattle.std.specs.List.{All}
 use Rattle.std.specs.Map.{keys_of, remove_entry, set_value}
 use Rattle.std.specs.BTreeMap.{is_at, insert_entry}
@@ -9,7 +9,7 @@ use Rattle.std.specs.declared.cmp.Ordering.TheVariants.{Greater}
 use Rattle.std.proofs.lemmas.List.Elements.{All-weaker, All-nil}
 use Rattle.std.proofs.lemmas.Map.{keys-set_value}
 use Rattle.std.proofs.lemmas.Map.Views.{All-keys-insert_entry, All-map-remove_entry}
-use Rattle.zq_naming.specs.Naming.{FaceNaming, NamingState, change_naming, put_naming, naming_at}
+use Rattle.zq_naming.specs.Naming.{FaceKeys, NamingState, change_naming, put_naming, naming_at}
 use Rattle.zq_gateway.specs.State.{AreBelow, at}
 
 module _ {X : Type 0} where
@@ -25,12 +25,17 @@ module _ {X : Type 0} where
   pub below_set : (n : ℕ) (test : ℕ → Bool) (es : List (ℕ × X)) (v : X) → AreBelow n es → AreBelow n (set_value test es v)
   below_set n test es v b = record { each = subst (All (λ k. k < n)) (sym (keys-set_value test es v)) b.each }
 
-pub below_change : (n face : ℕ) (f : FaceNaming → FaceNaming) (s : NamingState) → AreBelow n s → AreBelow n (change_naming face f s)
+pub below_change : (n face : ℕ) (f : FaceKeys → FaceKeys) (s : NamingState) → AreBelow n s → AreBelow n (change_naming face f s)
 below_change n face f s b = by (naming_at face s)
   where
-    by : (o : Option FaceNaming) → AreBelow n (put_naming face f s o)
+    by : (o : Option FaceKeys) → AreBelow n (put_naming face f s o)
     by None = b
     by (Some m) = below_set n (is_at (nat_cmp face)) s (f m) b
+
+-- a change that was made, or not
+pub below_changed : {X E : Type 0} (r : Result X E) (n face : ℕ) (f : FaceKeys → FaceKeys) (s s' : NamingState) → OnOk r (s' ≡ change_naming face f s) → OnErr r (s' ≡ s) → AreBelow n s → AreBelow n s'
+below_changed (Ok x) n face f s s' ok err b = let B : NamingState → Type 0 = AreBelow n in subst B (sym ok) (below_change n face f s b)
+below_changed (Err e) n face f s s' ok err b = let B : NamingState → Type 0 = AreBelow n in subst B (sym err) b
 
 not_at : (n k : ℕ) → k < n → is_at (nat_cmp n) k ≡ false
 not_at n k l = ap is_eq (sym (nat_cmp_is n k Greater l))

@@ -12,3 +12,4 @@ pub mod Waiting
 pub mod Waits
 pub mod Settled
 pub mod Kept
+pub mod Queryables

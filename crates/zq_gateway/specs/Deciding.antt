@@ -1,11 +1,10 @@
 -- What a call is answered, over texts: the first cause that refuses it, or what it hands and changes.
-use Rattle.std.specs.Prelude.{codes, ℕ, ◌+◌, ◌-◌, ◌^◌, ◌==◌, min, Bool, true, false, not, ◌&&◌, ◌||◌, List, [], ◌∷◌, ◌++◌, map, Option, Some, None, if◌then◌else◌, unwrap_or, is_none}
+use Rattle.std.specs.Prelude.{codes, ℕ, ◌+◌, ◌-◌, ◌^◌, ◌==◌, min, Bool, true, false, not, ◌&&◌, List, [], ◌∷◌, ◌++◌, map, Option, Some, None, if◌then◌else◌, unwrap_or, is_none}
 use Rattle.std.specs.List.{filter}
 use Rattle.std.specs.Option.{is_some}
 use Rattle.std.specs.Ordering.{nat_cmp}
 use Rattle.std.specs.BTreeMap.{is_at, insert_entry}
 use Rattle.std.specs.Map.{remove_entry}
-use Rattle.std.specs.Str.{bytes_eq}
 use Rattle.zq_key.specs.declared.message.FaceId.{FaceId}
 use Rattle.zq_key.specs.declared.message.Message.TheVariants as message
 use Rattle.zq_key.specs.declared.message.ReplyBody.TheVariants as body
@@ -23,7 +22,7 @@ use Rattle.zq_query.specs.Closing.{closing_finals, after_close, finals_after, fi
 use Rattle.zq_query.specs.Polling.{is_due, timing_out, timeouts, after_poll, lacks_replies, has_number_for}
 use Rattle.zq_query.specs.Asking.{lacks_number, given_id, after_ask}
 use Rattle.zq_naming.specs.declared.said.Said.{Said}
-use Rattle.zq_naming.specs.Naming.{NamingState, no_names, plain, with_name, without_name, change_naming}
+use Rattle.zq_naming.specs.Naming.{NamingState, no_keys, plain, remaps, with_name, without_name, with_queryable, without_queryable, change_naming}
 use Rattle.zq_gateway.specs.declared.call.Opening.{Opening}
 use Rattle.zq_gateway.specs.declared.call.Outcome.{Outcome}
 use Rattle.zq_gateway.specs.declared.call.Outcome.TheVariants as outcome
@@ -46,14 +45,6 @@ Cause = Bool × Refusal
 abbrev pub first_of : List Cause → Option Refusal
 first_of [] = None
 first_of (c ∷ cs) = if c.0 then Some c.1 else first_of cs
-
-abbrev pub is_other : List ℕ → Option (List ℕ) → Bool
-is_other text None = false
-is_other text (Some t) = not (bytes_eq t text)
-
--- the number 0, and one that stands for another text, can't be declared
-abbrev pub remaps : ℕ → List ℕ → Option (List ℕ) → Bool
-remaps id text standing = (id == 0) || is_other text standing
 
 -- the id stands for another key at the face
 abbrev pub clashes : FaceId → ℕ → List ℕ → Core → Bool
@@ -260,18 +251,20 @@ accepted c (passing now) = with_queries c (after_poll now c.queries)
 accepted c (listing r table) = record c { tables = with_entry c.tables r table }
 accepted c unbuilt = c
 
--- a new face has no numbers yet
+-- nothing stands for a key at a new face yet
 abbrev pub with_numbers : State → NamingState
-with_numbers s = insert_entry nat_cmp s.names s.core.next_face no_names
+with_numbers s = insert_entry nat_cmp s.names s.core.next_face no_keys
 
--- a face joins the open ones, with no numbers yet
+-- a face joins the open ones, with nothing that stands for a key yet
 abbrev pub seated : Opening → State → State
 seated o s = record { core = with_open o s.core; names = with_numbers s }
 
--- the numbers after a call that was accepted
+-- what stands for keys after a call that was accepted
 abbrev pub renamed : State → TextCall → NamingState
 renamed s (opening o) = with_numbers s
 renamed s (closing face) = remove_entry (is_at (nat_cmp face.0)) s.names
 renamed s (naming face id said standing) = change_naming face.0 (with_name id (full_text said)) s.names
 renamed s (unnaming face id standing) = change_naming face.0 (without_name id) s.names
+renamed s (declaring face id said info node) = change_naming face.0 (with_queryable id (full_text said)) s.names
+renamed s (withdrawing face id) = change_naming face.0 (without_queryable id) s.names
 renamed s c = s.names

@@ -7,3 +7,4 @@ pub mod Deciding
 pub mod Machine
 pub mod Waiting
 pub mod Headline
+pub mod Undoing

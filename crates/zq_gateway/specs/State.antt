@@ -28,7 +28,7 @@ pub record Core : Type 0 where
   pub tables : List (ℕ × Gateways)
   pub queries : QueryState
 
--- a gateway: what decides, and what faces and the gateway call keys by number
+-- a gateway: what decides, and what stands for keys at each face
 pub record State : Type 0 where
   pub core : Core
   pub names : NamingState

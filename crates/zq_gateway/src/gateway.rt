@@ -10,11 +10,11 @@ ghost use Rattle.zq_query.specs.Asking.{are_distinct, face_numbers, is_full, lac
 ghost use Rattle.zq_naming.specs.Naming.{is_text};
 ghost use Rattle.zq_gateway.specs.declared.call.Call.TheVariants as call;
 ghost use Rattle.zq_gateway.specs.Calls.{declared_call, declaring_call, ends_first, is_built};
-ghost use Rattle.zq_gateway.specs.Deciding.{done, granted, lacks_reply_number, opened, refused, remaps, seat};
+ghost use Rattle.zq_gateway.specs.Deciding.{done, granted, lacks_reply_number, opened, refused, seat};
 ghost use Rattle.zq_gateway.specs.Selecting.{full_text, is_unscoped, says_key, says_key_or_nothing, select_for, target_of};
 ghost use Rattle.zq_gateway.specs.Machine.{accepted_state, after, after_of, answer, follow, step, step_of, write};
 ghost use Rattle.zq_gateway.specs.State.{at, change_hat, face_region, is_open, joined, opening_state};
-ghost use Rattle.zq_naming.specs.Naming.{face_naming, no_names, text_at};
+ghost use Rattle.zq_naming.specs.Naming.{face_naming, text_at};
 ghost use Rattle.zq_gateway.specs.TextCalls.{asking, closing, declaring, ending, listing, naming, opening, passing, replying, reporting, unnaming, withdrawing};
 
 use crate::call::{Call, Handed, Opening, Outcome, Refusal, Step};
@@ -25,8 +25,8 @@ use crate::handed::{
     written_timeouts,
 };
 use crate::hats;
-use crate::parts::{lacks_number, take_seat, targets_of};
-use crate::read::{full_text, is_unscoped, remaps, says_key, says_key_or_nothing};
+use crate::parts::{lacks_number, take_back, take_seat, targets_of};
+use crate::read::{full_text, is_unscoped, says_key, says_key_or_nothing};
 use crate::select::Asker;
 use std::alloc::Global;
 use std::collections::BTreeMap;
@@ -39,13 +39,13 @@ use zq_key::message::{
     Declare, DeclareBody, FaceId, Mode, QueryTarget, QueryableInfoType, Region, Request, Response,
     WireExpr, Zid,
 };
-use zq_key::{Key, KeyError, is_key};
+use zq_key::{Key, KeyError};
 use zq_naming::naming::Naming;
 use zq_naming::said::Said;
 use zq_query::queries::Queries;
 use zq_query::records::{AskRefusal, PollRefusal, ReplyRefusal, ReplyTo};
 use zq_route::gateways::Gateways;
-use zq_tables::RegionMap;
+use zq_tables::{NameRefusal, RegionMap};
 
 /// What carries queries between faces (upstream's `Tables` with its faces): the open faces, a hat
 /// for each region, the gateways that were listed, the open queries, and the numbers of keys.
@@ -343,10 +343,17 @@ impl Gateway {
             Err(KeyError::Invalid) => return Ok(self.refused(Refusal::InvalidKeyExpr)),
             Err(KeyError::OutOfMemory) => return Err(OutOfMemory),
         };
+        let fresh = self.names.hold_queryable(face, id, &key)?;
         match hats::register(&mut self.hats, region, face, id, &key, node, info) {
             Ok(()) => Ok(self.done()),
-            Err(HatRefusal::IdInUse) => Ok(self.refused(Refusal::IdInUse)),
-            Err(HatRefusal::OutOfMemory) => Err(OutOfMemory),
+            Err(HatRefusal::IdInUse) => {
+                take_back(&mut self.names, face, id, fresh);
+                Ok(self.refused(Refusal::IdInUse))
+            }
+            Err(HatRefusal::OutOfMemory) => {
+                take_back(&mut self.names, face, id, fresh);
+                Err(OutOfMemory)
+            }
             Err(HatRefusal::UnknownId) => unreachable!(),
         }
     }
@@ -361,7 +368,10 @@ impl Gateway {
             return Ok(self.refused(Refusal::UnknownFace));
         };
         match hats::withdraw(&mut self.hats, region, face, id, node) {
-            Ok(()) => Ok(self.done()),
+            Ok(()) => {
+                self.names.release_queryable(face, id);
+                Ok(self.done())
+            }
             Err(HatRefusal::UnknownId) => Ok(self.refused(Refusal::UnknownId)),
             Err(HatRefusal::OutOfMemory) => Err(OutOfMemory),
             Err(HatRefusal::IdInUse) => unreachable!(),
@@ -618,14 +628,14 @@ impl Gateway {
             Said::Empty => return Ok(self.refused(Refusal::InvalidKeyExpr)),
             Said::Full(text) => text,
         };
-        if !is_key(text.as_str()) {
-            return Ok(self.refused(Refusal::InvalidKeyExpr));
+        match self.names.declare(face, id, text.as_str()) {
+            Ok(()) => Ok(self.done()),
+            Err(NameRefusal::InvalidKeyExpr) => Ok(self.refused(Refusal::InvalidKeyExpr)),
+            Err(NameRefusal::Remapped) => Ok(self.refused(Refusal::Remapped)),
+            Err(NameRefusal::OutOfMemory) => Err(OutOfMemory),
+            Err(NameRefusal::UnknownScope) => unreachable!(),
+            Err(NameRefusal::UnknownId) => unreachable!(),
         }
-        if remaps(id, text.as_str(), self.names.standing(face, id)) {
-            return Ok(self.refused(Refusal::Remapped));
-        }
-        self.names.declare(face, id, text.as_str())?;
-        Ok(self.done())
     }
 
     // The face gives a number up.

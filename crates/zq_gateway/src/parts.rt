@@ -3,11 +3,12 @@ ghost use Rattle.std.specs.Prelude.{◌≡◌, None, IfOk, OnOk, OnErr, map};
 ghost use Rattle.std.specs.BTreeMap.{insert_entry};
 ghost use Rattle.std.specs.List.{list_any};
 ghost use Rattle.std.specs.Ordering.{nat_cmp};
-ghost use Rattle.zq_naming.specs.Naming.{no_names};
+ghost use Rattle.zq_naming.specs.Naming.{no_keys};
 ghost use Rattle.zq_query.specs.Asking.{is_full, lacks_number};
 ghost use Rattle.zq_gateway.specs.Deciding.{opened, seat};
 ghost use Rattle.zq_gateway.specs.Selecting.{target_of};
 ghost use Rattle.zq_gateway.specs.State.{at, change_hat, joined};
+ghost use Rattle.zq_gateway.specs.Undoing.{taken_back};
 
 use crate::call::Opening;
 use crate::face::OpenFace;
@@ -33,7 +34,7 @@ pub fn take_seat(
 ) -> Result<(), OutOfMemory>
     requires named { at face.0 names.old ≡ None }
     requires absent { at face.0 faces.old.entries ≡ None }
-    ensures names { OnOk result (names.new ≡ insert_entry nat_cmp names.old face.0 no_names) }
+    ensures names { OnOk result (names.new ≡ insert_entry nat_cmp names.old face.0 no_keys) }
     ensures faces { OnOk result (faces.new.entries ≡ insert_entry nat_cmp faces.old.entries face.0 (opened opening.now)) }
     ensures hats { OnOk result (hats.new ≡ change_hat opening.now.region (joined (seat face.0 opening.now)) hats.old) }
     ensures no_names { OnErr result (names.new ≡ names.old) }
@@ -67,6 +68,15 @@ pub fn take_seat(
             names.close(face);
             Err(OutOfMemory)
         }
+    }
+}
+
+/// A queryable that was held afresh is let go again.
+pub fn take_back(names: &mut Naming, face: FaceId, id: u32, fresh: bool)
+    ensures { names.new ≡ taken_back face.0 id fresh names.old }
+{
+    if fresh {
+        names.release_queryable(face, id);
     }
 }
 

@@ -1,23 +1,9 @@
 //! What is asked of an expression that was read.
-ghost use Rattle.std.specs.Prelude.{◌≡◌, option_copied};
-ghost use Rattle.zq_gateway.specs.Deciding.{remaps};
+ghost use Rattle.std.specs.Prelude.{◌≡◌};
 ghost use Rattle.zq_gateway.specs.Selecting.{full_text, is_unscoped, says_key, says_key_or_nothing};
 
 use zq_key::is_key;
 use zq_naming::said::Said;
-
-/// Whether the face can not declare the number for the text: it is 0 or stands for another one.
-pub fn remaps(id: u16, text: &str, standing: Option<&str>) -> bool
-    ensures { result ≡ remaps id text.now (option_copied standing.entry) }
-{
-    if id == 0 {
-        return true;
-    }
-    match standing {
-        Some(other) => other != text,
-        None => false,
-    }
-}
 
 /// Whether the number of the expression stands for nothing.
 pub fn is_unscoped(said: &Said) -> bool

@@ -25,7 +25,7 @@ use Rattle.zq_naming.specs.Holding.{Rises}
 later : (i : ℕ) (t : List ℕ) (es : Names) (j : ℕ) → i < j → of_id ((i, t) ∷ es) j ≡ of_id es j
 later i t es j lt = let apart : is_at (nat_cmp j) i ≡ false = ap is_eq (sym (nat_cmp_is j i Greater lt)) in rw apart
 
-least_among : (all es : Names) (first : ℕ) (text : List ℕ) → 0 < first → Rises first es → ((j : ℕ) → first ≤ j → of_id all j ≡ of_id es j) → find (names_text all text) (keys_of es) ≡ face.id_of es text
+least_among : (all es : Names) (first : ℕ) (text : List ℕ) → 0 < first → Rises 65536 first es → ((j : ℕ) → first ≤ j → of_id all j ≡ of_id es j) → find (names_text all text) (keys_of es) ≡ face.id_of es text
 least_among all [] first text positive r same = refl
 least_among all (e ∷ es) first text positive r same =
     let some : eqb e.0 0 ≡ false = let le = r.0 in grind (arith, nat_tests) in
@@ -39,12 +39,12 @@ least_among all (e ∷ es) first text positive r same =
     by true rest = refl
     by false rest = rest
 
-least_same : (es : Names) (text : List ℕ) → Rises 1 es → least_name text es ≡ face.id_of es text
+least_same : (es : Names) (text : List ℕ) → Rises 65536 1 es → least_name text es ≡ face.id_of es text
 least_same es text r = least_among es es 1 text (omega arith) r (λ j le. refl)
 
 -- ---- parts of a text
 
-module _ (n : FaceNaming) (theirs : Rises 1 n.theirs) (ours : Rises 1 n.ours) where
+module _ (n : FaceNaming) (theirs : Rises 65536 1 n.theirs) (ours : Rises 65536 1 n.ours) where
   joined_same : (a b : Option ℕ) → or_else (tagged Receiver a) (tagged Sender b) ≡ or_else (option_map (λ i. (i, Receiver)) a) (option_map (λ i. (i, Sender)) b)
   joined_same None None = refl
   joined_same None (Some j) = refl
@@ -78,7 +78,7 @@ module _ (n : FaceNaming) (theirs : Rises 1 n.theirs) (ours : Rises 1 n.ours) wh
       ap (λ o. face.key_from o text) parts
 
 -- the same of an answer
-pub answer_best : (n : FaceNaming) (text text' : List ℕ) (r : Result WireExpr OutOfMemory) → Rises 1 n.theirs → Rises 1 n.ours → text' ≡ text → IfOk r (λ w. w ≡ face.best_key n text') → IfOk r (λ w. w ≡ best n text)
+pub answer_best : (n : FaceNaming) (text text' : List ℕ) (r : Result WireExpr OutOfMemory) → Rises 65536 1 n.theirs → Rises 65536 1 n.ours → text' ≡ text → IfOk r (λ w. w ≡ face.best_key n text') → IfOk r (λ w. w ≡ best n text)
 answer_best n text text' (Ok w) theirs ours same is = is ∙ ap (face.best_key n) same ∙ sym (best_same n theirs ours text)
 answer_best n text text' (Err e) theirs ours same is = tt
 

@@ -1,5 +1,5 @@
 -- A face without numbers comes, goes, or is left.
-use Rattle.std.proofs.Common.{◌≡◌, ℕ, ◌<◌, Bool, true, false, cond, eqb, List, [], ◌∷◌, length, map, Option, Some, None, refl, sym, ap, subst, ◌∙◌, arith, unwrap_or}
+use Rattle.std.proofs.Common.{◌≡◌, ℕ, ◌<◌, Bool, true, false, cond, eqb, List, [], ◌∷◌, length, map, Option, Some, None, IfNone, refl, sym, ap, subst, ◌∙◌, arith, unwrap_or}
 use Rattle.std.specs.Prelude.{option_map, slice_get}
 use Rattle.std.specs.Option.{is_some}
 use Rattle.std.specs.List.{All}
@@ -15,14 +15,14 @@ use Rattle.std.proofs.lemmas.Map.Made.{lookup-map_values, keys_of-map_values}
 use Rattle.std.proofs.lemmas.Map.Steps.{set_value_same}
 use Rattle.std.proofs.lemmas.Map.Views.{All-values-insert_entry, All-map-remove_entry}
 use Rattle.zq_names.specs.Names.{NameEntry, entry_at, texts}
-use Rattle.zq_tables.specs.FaceIds.{FaceIds, without_id}
+use Rattle.zq_tables.specs.FaceIds.{of_id, without_id}
 use Rattle.zq_tables.specs.FaceTexts.{id_texts, texts_of}
-use Rattle.zq_naming.specs.Naming.{FaceNaming, NamingState, Names, no_names, naming_at, face_naming, text_at, without_name, put_naming, change_naming}
-use Rattle.zq_naming.specs.Holding.{Faces, IsFace, IsHeld, Rises, face_holds, holds_by, ids_at, node_in, node_at, first_in, texts_by}
+use Rattle.zq_naming.specs.Naming.{FaceKeys, NamingState, Names, no_keys, no_names, naming_at, face_keys, face_naming, face_queryables, text_at, with_theirs, without_name, without_queryable, put_naming, change_naming}
+use Rattle.zq_naming.specs.Holding.{FaceHolds, Faces, IsFace, IsHeld, Rises, face_holds, holds_by, ids_at, node_at, numbers_in, queryables_in, keys_of_face, texts_by}
 use Rattle.zq_naming.proofs.Entries.{weigh-with_id, weigh-removed, removed_absent, removed_set, set_twice, lookup_set, insert_there, shown-with_id, shown-removed}
 use Rattle.zq_naming.proofs.Holds.{face_at}
 use Rattle.zq_naming.proofs.Lean.{root_lean}
-use Rattle.zq_naming.proofs.Faces.{naming_at-texts, face_there, face_closed, change_closed, change_idle}
+use Rattle.zq_naming.proofs.Faces.{naming_at-texts, keys_there, face_there, face_closed, numbers_texts, queryables_texts, change_closed, change_idle}
 
 -- ---- before any call
 
@@ -56,135 +56,178 @@ same_held names faces faces' held same sides = record {
   lean = held.lean;
 }
 
-none_held : (i : ℕ) (f : FaceIds) → f.theirs ≡ [] → f.ours ≡ [] → face_holds i f ≡ 0
-none_held i f theirs ours = rw (theirs, ours) refl
+-- nothing stands for a node at the face
+record IsBare (f : FaceHolds) : Type 0 where
+  theirs : f.numbers.theirs ≡ []
+  ours : f.numbers.ours ≡ []
+  queryables : f.queryables ≡ []
+
+none_held : (i : ℕ) (f : FaceHolds) → IsBare f → face_holds i f ≡ 0
+none_held i f bare = rw (bare.theirs, bare.ours, bare.queryables) refl
 
 -- ---- a face comes
 
-module _ (names : List NameEntry) (faces faces' : Faces) (face : ℕ) (f : FaceIds) (theirs : f.theirs ≡ []) (ours : f.ours ≡ []) (put : faces' ≡ insert_entry nat_cmp faces face f) where
+module _ (names : List NameEntry) (faces faces' : Faces) (face : ℕ) (f : FaceHolds) (theirs : f.numbers.theirs ≡ []) (ours : f.numbers.ours ≡ []) (queryables : f.queryables ≡ []) (put : faces' ≡ insert_entry nat_cmp faces face f) where
+  bare : IsBare f
+  bare = record { theirs = theirs; ours = ours; queryables = queryables }
+
   is_face : IsFace f
-  is_face = let R : List (ℕ × ℕ) → Type 0 = Rises 1 in record { theirs = subst R (sym theirs) (omega arith); ours = ours }
+  is_face =
+      let R : List (ℕ × ℕ) → Type 0 = Rises 65536 1 in
+      let Q : List (ℕ × ℕ) → Type 0 = Rises 4294967296 0 in
+      record { theirs = subst R (sym theirs) (omega arith); ours = ours; queryables = subst Q (sym queryables) (omega arith) }
 
   pub opened : IsHeld names faces → ids_at face faces ≡ None → IsHeld names faces'
   opened held absent = same_held names faces faces' held
-      (λ i. omega (arith, ap (holds_by i) put, weigh-with_id (face_holds i) faces face f absent, none_held i f theirs ours))
+      (λ i. omega (arith, ap (holds_by i) put, weigh-with_id (face_holds i) faces face f absent, none_held i f bare))
       (let A : Faces → Type 0 = λ (fs : Faces). All IsFace (values_of fs) in subst A (sym put) (All-values-insert_entry nat_cmp face f IsFace faces held.sides is_face))
 
-  pub opened_texts : texts_by names faces' ≡ insert_entry nat_cmp (texts_by names faces) face no_names
+  pub opened_texts : texts_by names faces' ≡ insert_entry nat_cmp (texts_by names faces) face no_keys
   opened_texts =
-      let none : texts_of names f ≡ no_names = rw (theirs, ours) refl in
-      ap (texts_by names) put ∙ shown-with_id (texts_of names) faces face f ∙ ap (insert_entry nat_cmp (texts_by names faces) face) none
+      let none : keys_of_face names f ≡ no_keys = rw (theirs, ours, queryables) refl in
+      ap (texts_by names) put ∙ shown-with_id (keys_of_face names) faces face f ∙ ap (insert_entry nat_cmp (texts_by names faces) face) none
 
--- ---- a face is left without numbers
+-- ---- a face is left without numbers, or without queryables
 
 map_none : (names : List NameEntry) (es : List (ℕ × ℕ)) → id_texts names es ≡ [] → es ≡ []
 map_none names [] is = refl
 map_none names (e ∷ es) is = absurd (omega (arith, ap length is))
 
-abbrev pub emptied : NamingState → ℕ → NamingState
-emptied s face = change_naming face (λ _. no_names) s
+module _ (face : ℕ) (h : FaceKeys → FaceKeys) where
+  abbrev pub changed : NamingState → NamingState
+  changed s = change_naming face h s
 
-pub emptied_face : (s : NamingState) (face : ℕ) → face_naming face (emptied s face) ≡ no_names
+  -- a change that leaves the face as it is
+  pub changed_idle : (s : NamingState) → h (face_keys face s) ≡ face_keys face s → changed s ≡ s
+  changed_idle s none = by (naming_at face s) refl none
+    where
+      by : (o : Option FaceKeys) → naming_at face s ≡ o → h (unwrap_or o no_keys) ≡ unwrap_or o no_keys → put_naming face h s o ≡ s
+      by None is same = refl
+      by (Some n) is same = ap (set_value (is_at (nat_cmp face)) s) same ∙ set_value_same (is_at (nat_cmp face)) s n is
+
+  pub changed_removed : (s : NamingState) → remove_entry (is_at (nat_cmp face)) (changed s) ≡ remove_entry (is_at (nat_cmp face)) s
+  changed_removed s = by (naming_at face s)
+    where
+      by : (o : Option FaceKeys) → remove_entry (is_at (nat_cmp face)) (put_naming face h s o) ≡ remove_entry (is_at (nat_cmp face)) s
+      by None = refl
+      by (Some n) = removed_set (is_at (nat_cmp face)) s (h n)
+
+-- one change after another
+pub changed_twice : (face : ℕ) (g h k : FaceKeys → FaceKeys) → ((n : FaceKeys) → h (g n) ≡ k n) → (s : NamingState) → changed face h (changed face g s) ≡ changed face k s
+changed_twice face g h k same s = by (naming_at face s) refl
+  where
+    by : (o : Option FaceKeys) → naming_at face s ≡ o → changed face h (put_naming face g s o) ≡ put_naming face k s o
+    by None is = ap (put_naming face h s) is
+    by (Some n) is =
+        ap (put_naming face h (set_value (is_at (nat_cmp face)) s (g n))) (lookup_set (is_at (nat_cmp face)) s n (g n) is)
+        ∙ set_twice (is_at (nat_cmp face)) s (g n) (h (g n))
+        ∙ ap (set_value (is_at (nat_cmp face)) s) (same n)
+
+-- a change that comes to nothing before the next
+pub changed_more : (face : ℕ) (h : FaceKeys → FaceKeys) (s : NamingState) (g : FaceKeys → FaceKeys) → ((n : FaceKeys) → h (g n) ≡ h n) → changed face h (change_naming face g s) ≡ changed face h s
+changed_more face h s g same = changed_twice face g h h same s
+
+-- a change that is taken back
+pub changed_back : (face : ℕ) (g h : FaceKeys → FaceKeys) (s : NamingState) → h (g (face_keys face s)) ≡ face_keys face s → changed face h (changed face g s) ≡ s
+changed_back face g h s back = by (naming_at face s) refl back
+  where
+    by : (o : Option FaceKeys) → naming_at face s ≡ o → h (g (unwrap_or o no_keys)) ≡ unwrap_or o no_keys → changed face h (put_naming face g s o) ≡ s
+    by None is same = ap (put_naming face h s) is
+    by (Some n) is same =
+        ap (put_naming face h (set_value (is_at (nat_cmp face)) s (g n))) (lookup_set (is_at (nat_cmp face)) s n (g n) is)
+        ∙ set_twice (is_at (nat_cmp face)) s (g n) (h (g n))
+        ∙ ap (set_value (is_at (nat_cmp face)) s) same
+        ∙ set_value_same (is_at (nat_cmp face)) s n is
+
+abbrev pub emptied : NamingState → ℕ → NamingState
+emptied s face = change_naming face (λ _. no_keys) s
+
+pub emptied_face : (s : NamingState) (face : ℕ) → face_keys face (emptied s face) ≡ no_keys
 emptied_face s face = by (naming_at face s) refl
   where
-    by : (o : Option FaceNaming) → naming_at face s ≡ o → face_naming face (put_naming face (λ _. no_names) s o) ≡ no_names
-    by None is = ap (λ (p : Option FaceNaming). unwrap_or p no_names) is
-    by (Some n) is = ap (λ (p : Option FaceNaming). unwrap_or p no_names) (lookup_set (is_at (nat_cmp face)) s n no_names is)
+    by : (o : Option FaceKeys) → naming_at face s ≡ o → face_keys face (put_naming face (λ _. no_keys) s o) ≡ no_keys
+    by None is = ap (λ (p : Option FaceKeys). unwrap_or p no_keys) is
+    by (Some n) is = ap (λ (p : Option FaceKeys). unwrap_or p no_keys) (lookup_set (is_at (nat_cmp face)) s n no_keys is)
 
-pub emptied_removed : (s : NamingState) (face : ℕ) → remove_entry (is_at (nat_cmp face)) (emptied s face) ≡ remove_entry (is_at (nat_cmp face)) s
-emptied_removed s face = by (naming_at face s)
-  where
-    by : (o : Option FaceNaming) → remove_entry (is_at (nat_cmp face)) (put_naming face (λ _. no_names) s o) ≡ remove_entry (is_at (nat_cmp face)) s
-    by None = refl
-    by (Some n) = removed_set (is_at (nat_cmp face)) s no_names
-
--- one number less before all are given up
-pub emptied_more : (s : NamingState) (face : ℕ) (g : FaceNaming → FaceNaming) → emptied (change_naming face g s) face ≡ emptied s face
-emptied_more s face g = by (naming_at face s) refl
-  where
-    by : (o : Option FaceNaming) → naming_at face s ≡ o → emptied (put_naming face g s o) face ≡ put_naming face (λ _. no_names) s o
-    by None is = ap (put_naming face (λ _. no_names) s) is
-    by (Some n) is = ap (put_naming face (λ _. no_names) (set_value (is_at (nat_cmp face)) s (g n))) (lookup_set (is_at (nat_cmp face)) s n (g n) is) ∙ set_twice (is_at (nat_cmp face)) s (g n) no_names
-
-pub emptied_idle : (s : NamingState) (face : ℕ) → face_naming face s ≡ no_names → emptied s face ≡ s
-emptied_idle s face none = by (naming_at face s) refl none
-  where
-    by : (o : Option FaceNaming) → naming_at face s ≡ o → unwrap_or o no_names ≡ no_names → put_naming face (λ _. no_names) s o ≡ s
-    by None is same = refl
-    by (Some n) is same = set_value_same (is_at (nat_cmp face)) s no_names (is ∙ ap Some same)
-
--- what an open face is left with is an entry without numbers
-pub emptied_put : (s : NamingState) (face : ℕ) → IsStrictlySortedBy nat_cmp (keys_of s) → is_some (naming_at face s) ≡ true → emptied s face ≡ insert_entry nat_cmp s face no_names
+-- what an open face is left with is an entry without keys
+pub emptied_put : (s : NamingState) (face : ℕ) → IsStrictlySortedBy nat_cmp (keys_of s) → is_some (naming_at face s) ≡ true → emptied s face ≡ insert_entry nat_cmp s face no_keys
 emptied_put s face sorted some = by (naming_at face s) refl some
   where
-    by : (o : Option FaceNaming) → naming_at face s ≡ o → is_some o ≡ true → put_naming face (λ _. no_names) s o ≡ insert_entry nat_cmp s face no_names
+    by : (o : Option FaceKeys) → naming_at face s ≡ o → is_some o ≡ true → put_naming face (λ _. no_keys) s o ≡ insert_entry nat_cmp s face no_keys
     by None is no_face = absurd (false≢true no_face)
-    by (Some n) is yes_face = sym (insert_there s face n no_names sorted is)
+    by (Some n) is yes_face = sym (insert_there s face n no_keys sorted is)
 
 pub keys_texts : (names : List NameEntry) (faces : Faces) → keys_of (texts_by names faces) ≡ keys_of faces
-keys_texts names faces = keys_of-map_values (texts_of names) faces
+keys_texts names faces = keys_of-map_values (keys_of_face names) faces
 
-some_map : {X Y : Type 0} (f : X → Y) (o : Option X) → is_some (option_map f o) ≡ is_some o
+pub some_map : {X Y : Type 0} (f : X → Y) (o : Option X) → is_some (option_map f o) ≡ is_some o
 some_map f None = refl
 some_map f (Some x) = refl
 
 pub open_naming : (names : List NameEntry) (faces : Faces) (face : ℕ) → is_some (naming_at face (texts_by names faces)) ≡ is_some (ids_at face faces)
-open_naming names faces face = ap is_some (naming_at-texts names faces face) ∙ some_map (texts_of names) (ids_at face faces)
+open_naming names faces face = ap is_some (naming_at-texts names faces face) ∙ some_map (keys_of_face names) (ids_at face faces)
 
 -- ---- a face goes
 
-pub closed : (names : List NameEntry) (faces faces' : Faces) (face : ℕ) → IsHeld names faces → face_naming face (texts_by names faces) ≡ no_names → faces' ≡ remove_entry (is_at (nat_cmp face)) faces → IsHeld names faces'
+pub closed : (names : List NameEntry) (faces faces' : Faces) (face : ℕ) → IsHeld names faces → face_keys face (texts_by names faces) ≡ no_keys → faces' ≡ remove_entry (is_at (nat_cmp face)) faces → IsHeld names faces'
 closed names faces faces' face held none put =
     same_held names faces faces' held (λ i. ap (holds_by i) put ∙ by i (ids_at face faces) refl)
-    (let A : Faces → Type 0 = λ (fs : Faces). All IsFace (values_of fs) in subst A (sym put) (All-map-remove_entry (is_at (nat_cmp face)) (λ (e : ℕ × FaceIds). e.1) IsFace faces held.sides))
+    (let A : Faces → Type 0 = λ (fs : Faces). All IsFace (values_of fs) in subst A (sym put) (All-map-remove_entry (is_at (nat_cmp face)) (λ (e : ℕ × FaceHolds). e.1) IsFace faces held.sides))
   where
-    by : (i : ℕ) (o : Option FaceIds) → ids_at face faces ≡ o → holds_by i (remove_entry (is_at (nat_cmp face)) faces) ≡ holds_by i faces
+    by : (i : ℕ) (o : Option FaceHolds) → ids_at face faces ≡ o → holds_by i (remove_entry (is_at (nat_cmp face)) faces) ≡ holds_by i faces
     by i None at = ap (holds_by i) (removed_absent (is_at (nat_cmp face)) faces at)
     by i (Some f) at =
-        let is = sym (face_there names faces face f at) ∙ none in
-        let theirs = map_none names f.theirs (ap (λ (n : FaceNaming). n.theirs) is) in
-        let ours = map_none names f.ours (ap (λ (n : FaceNaming). n.ours) is) in
-        omega (arith, weigh-removed (face_holds i) (is_at (nat_cmp face)) faces f at, none_held i f theirs ours)
+        let is = sym (keys_there names faces face f at) ∙ none in
+        let bare : IsBare f = record {
+          theirs = map_none names f.numbers.theirs (ap (λ (n : FaceKeys). n.numbers.theirs) is);
+          ours = map_none names f.numbers.ours (ap (λ (n : FaceKeys). n.numbers.ours) is);
+          queryables = map_none names f.queryables (ap (λ (n : FaceKeys). n.queryables) is);
+        } in
+        omega (arith, weigh-removed (face_holds i) (is_at (nat_cmp face)) faces f at, none_held i f bare)
 
 pub closed_texts : (names : List NameEntry) (faces faces' : Faces) (face : ℕ) → faces' ≡ remove_entry (is_at (nat_cmp face)) faces → texts_by names faces' ≡ remove_entry (is_at (nat_cmp face)) (texts_by names faces)
-closed_texts names faces faces' face put = ap (texts_by names) put ∙ shown-removed (texts_of names) (is_at (nat_cmp face)) faces
+closed_texts names faces faces' face put = ap (texts_by names) put ∙ shown-removed (keys_of_face names) (is_at (nat_cmp face)) faces
 
--- ---- the first number
+-- ---- the first id
 
 keys_id_texts : (names : List NameEntry) (es : List (ℕ × ℕ)) → keys_of (id_texts names es) ≡ keys_of es
 keys_id_texts names es = keys_of-map_values (λ (k : ℕ). (entry_at names k).text) es
 
-pub first_same : (names : List NameEntry) (faces : Faces) (face : ℕ) → slice_get (keys_of (first_in (ids_at face faces))) 0 ≡ slice_get (keys_of (face_naming face (texts_by names faces)).theirs) 0
-first_same names faces face = by (ids_at face faces) refl
-  where
-    by : (o : Option FaceIds) → ids_at face faces ≡ o → slice_get (keys_of (first_in o)) 0 ≡ slice_get (keys_of (face_naming face (texts_by names faces)).theirs) 0
-    by None at = ap (λ (n : FaceNaming). slice_get (keys_of n.theirs) 0) (sym (face_closed names faces face at))
-    by (Some f) at = ap (λ (l : List ℕ). slice_get l 0) (sym (keys_id_texts names f.theirs)) ∙ ap (λ (n : FaceNaming). slice_get (keys_of n.theirs) 0) (sym (face_there names faces face f at))
+pub first_same : (names : List NameEntry) (faces : Faces) (face : ℕ) → slice_get (keys_of (numbers_in (ids_at face faces))) 0 ≡ slice_get (keys_of (face_naming face (texts_by names faces)).theirs) 0
+first_same names faces face = ap (λ (l : List ℕ). slice_get l 0) (sym (keys_id_texts names (numbers_in (ids_at face faces))) ∙ ap keys_of (numbers_texts names faces face))
 
-no_first : {X : Type 0} (es : List (ℕ × X)) → slice_get (keys_of es) 0 ≡ None → es ≡ []
+pub first_queryable_same : (names : List NameEntry) (faces : Faces) (face : ℕ) → slice_get (keys_of (queryables_in (ids_at face faces))) 0 ≡ slice_get (keys_of (face_queryables face (texts_by names faces))) 0
+first_queryable_same names faces face = ap (λ (l : List ℕ). slice_get l 0) (sym (keys_id_texts names (queryables_in (ids_at face faces))) ∙ ap keys_of (queryables_texts names faces face))
+
+-- what holds where a first id is none
+pub none_then : {P : Type 0} (o x : Option ℕ) → o ≡ x → (None ≡ x → P) → IfNone o P
+none_then None x is then = then is
+none_then (Some i) x is then = tt
+
+pub no_first : {X : Type 0} (es : List (ℕ × X)) → slice_get (keys_of es) 0 ≡ None → es ≡ []
 no_first [] is = refl
 no_first (e ∷ es) is = absurd (none-some e.0 (sym is))
 
-pub first_none : (names : List NameEntry) (faces : Faces) (face : ℕ) → IsHeld names faces → None ≡ slice_get (keys_of (first_in (ids_at face faces))) 0 → face_naming face (texts_by names faces) ≡ no_names
+pub first_none : (names : List NameEntry) (faces : Faces) (face : ℕ) → IsHeld names faces → None ≡ slice_get (keys_of (numbers_in (ids_at face faces))) 0 → face_naming face (texts_by names faces) ≡ no_names
 first_none names faces face held is = by (ids_at face faces) refl is
   where
-    by : (o : Option FaceIds) → ids_at face faces ≡ o → None ≡ slice_get (keys_of (first_in o)) 0 → face_naming face (texts_by names faces) ≡ no_names
+    by : (o : Option FaceHolds) → ids_at face faces ≡ o → None ≡ slice_get (keys_of (numbers_in o)) 0 → face_naming face (texts_by names faces) ≡ no_names
     by None at none = face_closed names faces face at
     by (Some f) at none =
-        let theirs = no_first f.theirs (sym none) in
+        let theirs = no_first f.numbers.theirs (sym none) in
         let ours = (face_at faces face f held.sides at).ours in
         face_there names faces face f at ∙ rw (theirs, ours) refl
 
 pub undeclared_idle : (names : List NameEntry) (faces : Faces) (face id : ℕ) → node_at face id faces ≡ None → texts_by names faces ≡ change_naming face (without_name id) (texts_by names faces)
 undeclared_idle names faces face id none = by (ids_at face faces) refl none
   where
-    by : (o : Option FaceIds) → ids_at face faces ≡ o → node_in id o ≡ None → texts_by names faces ≡ change_naming face (without_name id) (texts_by names faces)
+    by : (o : Option FaceHolds) → ids_at face faces ≡ o → of_id (numbers_in o) id ≡ None → texts_by names faces ≡ change_naming face (without_name id) (texts_by names faces)
     by None at absent = sym (change_closed names faces face (without_name id) at)
     by (Some f) at absent =
-        let no_text : text_at id (id_texts names f.theirs) ≡ None = lookup-map_values (λ (k : ℕ). (entry_at names k).text) (is_at (nat_cmp id)) f.theirs ∙ ap (option_map (λ (k : ℕ). (entry_at names k).text)) absent in
-        sym (change_idle names faces face f (without_name id) at (ap (λ (l : Names). record { theirs = l; ours = id_texts names f.ours }) (removed_absent (is_at (nat_cmp id)) (id_texts names f.theirs) no_text)))
+        let no_text : text_at id (id_texts names f.numbers.theirs) ≡ None = lookup-map_values (λ (k : ℕ). (entry_at names k).text) (is_at (nat_cmp id)) f.numbers.theirs ∙ ap (option_map (λ (k : ℕ). (entry_at names k).text)) absent in
+        sym (change_idle names faces face f (without_name id) at (ap (with_theirs (keys_of_face names f)) (removed_absent (is_at (nat_cmp id)) (id_texts names f.numbers.theirs) no_text)))
 
--- ---- one number less
+-- ---- one id less
 
 fewer_left : {X : Type 0} (es : List (ℕ × X)) (id : ℕ) → Some id ≡ slice_get (keys_of es) 0 → length (without_id es id) < length es
 fewer_left [] id is = absurd (none-some id (sym is))
@@ -193,13 +236,15 @@ fewer_left (e ∷ es) id is =
     let here : is_at (nat_cmp id) e.0 ≡ true = ap (is_at (nat_cmp id)) (sym same) ∙ ap is_eq (tied_itself nat_cmp_total id) in
     rw here (omega arith)
 
-pub fewer : (s : NamingState) (face id : ℕ) → Some id ≡ slice_get (keys_of (face_naming face s).theirs) 0 → length (face_naming face (change_naming face (without_name id) s)).theirs < length (face_naming face s).theirs
-fewer s face id is = by (naming_at face s) refl
-  where
-    by : (o : Option FaceNaming) → naming_at face s ≡ o → length (face_naming face (put_naming face (without_name id) s o)).theirs < length (face_naming face s).theirs
-    by None at = absurd (none-some id (sym (is ∙ ap (λ (p : Option FaceNaming). slice_get (keys_of (unwrap_or p no_names).theirs) 0) at)))
-    by (Some n) at =
-        let was : (face_naming face s).theirs ≡ n.theirs = ap (λ (p : Option FaceNaming). (unwrap_or p no_names).theirs) at in
-        let now : (face_naming face (set_value (is_at (nat_cmp face)) s (without_name id n))).theirs ≡ without_id n.theirs id = ap (λ (p : Option FaceNaming). (unwrap_or p no_names).theirs) (lookup_set (is_at (nat_cmp face)) s n (without_name id n) at) in
-        let less = fewer_left n.theirs id (is ∙ ap (λ (l : Names). slice_get (keys_of l) 0) was) in
-        omega (arith, ap length was, ap length now, less)
+-- a side of a face has an id less
+module _ (side : FaceKeys → Names) (none : side no_keys ≡ []) (id : ℕ) (g : FaceKeys → FaceKeys) (less : (n : FaceKeys) → side (g n) ≡ without_id (side n) id) where
+  pub fewer : (s : NamingState) (face : ℕ) → Some id ≡ slice_get (keys_of (side (face_keys face s))) 0 → length (side (face_keys face (change_naming face g s))) < length (side (face_keys face s))
+  fewer s face is = by (naming_at face s) refl
+    where
+      by : (o : Option FaceKeys) → naming_at face s ≡ o → length (side (face_keys face (put_naming face g s o))) < length (side (face_keys face s))
+      by None at = absurd (none-some id (sym (is ∙ ap (λ (p : Option FaceKeys). slice_get (keys_of (side (unwrap_or p no_keys))) 0) at ∙ ap (λ (l : Names). slice_get (keys_of l) 0) none)))
+      by (Some n) at =
+          let was : side (face_keys face s) ≡ side n = ap (λ (p : Option FaceKeys). side (unwrap_or p no_keys)) at in
+          let now : side (face_keys face (set_value (is_at (nat_cmp face)) s (g n))) ≡ without_id (side n) id = ap (λ (p : Option FaceKeys). side (unwrap_or p no_keys)) (lookup_set (is_at (nat_cmp face)) s n (g n) at) ∙ less n in
+          let smaller = fewer_left (side n) id (is ∙ ap (λ (l : Names). slice_get (keys_of l) 0) was) in
+          omega (arith, ap length was, ap length now, smaller)

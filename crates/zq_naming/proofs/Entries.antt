@@ -18,30 +18,30 @@ use Rattle.zq_naming.specs.Holding.{Rises, weigh}
 -- ---- numbers that rise
 
 module _ {X : Type 0} where
-  pub Rises-weaker : (a b : ℕ) (es : List (ℕ × X)) → b ≤ a → Rises a es → Rises b es
-  Rises-weaker a b [] le r = omega (arith, r)
-  Rises-weaker a b (e ∷ es) le r = (omega (arith, r.0), r.1)
+  pub Rises-weaker : (limit a b : ℕ) (es : List (ℕ × X)) → b ≤ a → Rises limit a es → Rises limit b es
+  Rises-weaker limit a b [] le r = omega (arith, r)
+  Rises-weaker limit a b (e ∷ es) le r = (omega (arith, r.0), r.1)
 
-  pub Rises-with_id : (first i : ℕ) (x : X) (es : List (ℕ × X)) → first ≤ i → i < 65536 → Rises first es → Rises first (with_id es i x)
-  Rises-with_id first i x [] le lt r = (le, omega arith)
-  Rises-with_id first i x (e ∷ es) le lt r = by (nat_cmp i e.0) refl (λ above. Rises-with_id (suc e.0) i x es above lt r.1)
+  pub Rises-with_id : (limit first i : ℕ) (x : X) (es : List (ℕ × X)) → first ≤ i → i < limit → Rises limit first es → Rises limit first (with_id es i x)
+  Rises-with_id limit first i x [] le lt r = (le, omega (arith, lt))
+  Rises-with_id limit first i x (e ∷ es) le lt r = by (nat_cmp i e.0) refl (λ above. Rises-with_id limit (suc e.0) i x es above lt r.1)
     where
-      by : (o : Ordering) → nat_cmp i e.0 ≡ o → (suc e.0 ≤ i → Rises (suc e.0) (with_id es i x)) → Rises first (match_ordering o ((i, x) ∷ e ∷ es) ((e.0, x) ∷ es) (e ∷ with_id es i x))
+      by : (o : Ordering) → nat_cmp i e.0 ≡ o → (suc e.0 ≤ i → Rises limit (suc e.0) (with_id es i x)) → Rises limit first (match_ordering o ((i, x) ∷ e ∷ es) ((e.0, x) ∷ es) (e ∷ with_id es i x))
       by Less is later = let below : i < e.0 = ranked i e.0 Less (sym is) in (le, (omega (arith, below), r.1))
       by Equal is later = (r.0, r.1)
       by Greater is later = let above : e.0 < i = ranked i e.0 Greater (sym is) in (r.0, later (omega (arith, above)))
 
-  pub Rises-without_id : (first i : ℕ) (es : List (ℕ × X)) → Rises first es → Rises first (without_id es i)
-  Rises-without_id first i [] r = r
-  Rises-without_id first i (e ∷ es) r = by (is_at (nat_cmp i) e.0) (Rises-without_id (suc e.0) i es r.1)
+  pub Rises-without_id : (limit first i : ℕ) (es : List (ℕ × X)) → Rises limit first es → Rises limit first (without_id es i)
+  Rises-without_id limit first i [] r = r
+  Rises-without_id limit first i (e ∷ es) r = by (is_at (nat_cmp i) e.0) (Rises-without_id limit (suc e.0) i es r.1)
     where
-      by : (b : Bool) → Rises (suc e.0) (without_id es i) → Rises first (cond b es (e ∷ without_id es i))
-      by true later = Rises-weaker (suc e.0) first es (omega (arith, r.0)) r.1
+      by : (b : Bool) → Rises limit (suc e.0) (without_id es i) → Rises limit first (cond b es (e ∷ without_id es i))
+      by true later = Rises-weaker limit (suc e.0) first es (omega (arith, r.0)) r.1
       by false later = (r.0, later)
 
-  pub Rises-length : (first : ℕ) (es : List (ℕ × X)) → Rises first es → length es + first ≤ 65536
-  Rises-length first [] r = omega (arith, r)
-  Rises-length first (e ∷ es) r = omega (arith, r.0, Rises-length (suc e.0) es r.1)
+  pub Rises-length : (limit first : ℕ) (es : List (ℕ × X)) → Rises limit first es → length es + first ≤ limit
+  Rises-length limit first [] r = omega (arith, r)
+  Rises-length limit first (e ∷ es) r = omega (arith, r.0, Rises-length limit (suc e.0) es r.1)
 
   -- ---- what entries weigh
 
@@ -118,22 +118,22 @@ module _ {X : Type 0} where
       by Equal o_is here later = refl
       by Greater o_is here later = ap (λ l. e ∷ l) (later here)
 
-  pub below_all : (first i : ℕ) (es : List (ℕ × X)) → Rises first es → i < first → of_id es i ≡ None
-  below_all first i [] r lt = refl
-  below_all first i (e ∷ es) r lt =
+  pub below_all : (limit first i : ℕ) (es : List (ℕ × X)) → Rises limit first es → i < first → of_id es i ≡ None
+  below_all limit first i [] r lt = refl
+  below_all limit first i (e ∷ es) r lt =
       let apart : is_at (nat_cmp i) e.0 ≡ false = ap is_eq (sym (nat_cmp_is i e.0 Less (omega (arith, r.0)))) in
-      rw apart (below_all (suc e.0) i es r.1 (omega (arith, r.0)))
+      rw apart (below_all limit (suc e.0) i es r.1 (omega (arith, r.0)))
 
   -- an entry that has the value already
-  pub with_same : (first i : ℕ) (x : X) (es : List (ℕ × X)) → Rises first es → of_id es i ≡ Some x → with_id es i x ≡ es
-  with_same first i x [] r is = absurd (none-some x is)
-  with_same first i x (e ∷ es) r is = by (nat_cmp i e.0) refl is (with_same (suc e.0) i x es r.1)
+  pub with_same : (limit first i : ℕ) (x : X) (es : List (ℕ × X)) → Rises limit first es → of_id es i ≡ Some x → with_id es i x ≡ es
+  with_same limit first i x [] r is = absurd (none-some x is)
+  with_same limit first i x (e ∷ es) r is = by (nat_cmp i e.0) refl is (with_same limit (suc e.0) i x es r.1)
     where
       by : (o : Ordering) → nat_cmp i e.0 ≡ o → cond (is_eq o) (Some e.1) (of_id es i) ≡ Some x → (of_id es i ≡ Some x → with_id es i x ≡ es)
           → match_ordering o ((i, x) ∷ e ∷ es) ((e.0, x) ∷ es) (e ∷ with_id es i x) ≡ e ∷ es
       by Less o_is here later =
           let below : i < e.0 = ranked i e.0 Less (sym o_is) in
-          absurd (none-some x (sym (below_all (suc e.0) i es r.1 (omega (arith, below))) ∙ here))
+          absurd (none-some x (sym (below_all limit (suc e.0) i es r.1 (omega (arith, below))) ∙ here))
       by Equal o_is here later = ap (λ v. (e.0, v) ∷ es) (sym (same_Some _ _ here))
       by Greater o_is here later = ap (λ l. e ∷ l) (later here)
 
@@ -169,6 +169,6 @@ module _ {X Y : Type 0} (g : X → Y) where
       by true later = refl
       by false later = ap (λ l. (e.0, g e.1) ∷ l) later
 
-  pub Rises-shown : (first : ℕ) (es : List (ℕ × X)) → Rises first es → Rises first (shown es)
-  Rises-shown first [] r = r
-  Rises-shown first (e ∷ es) r = (r.0, Rises-shown (suc e.0) es r.1)
+  pub Rises-shown : (limit first : ℕ) (es : List (ℕ × X)) → Rises limit first es → Rises limit first (shown es)
+  Rises-shown limit first [] r = r
+  Rises-shown limit first (e ∷ es) r = (r.0, Rises-shown limit (suc e.0) es r.1)

@@ -5,6 +5,7 @@ pub mod Made
 pub mod Holds
 pub mod Lean
 pub mod Faces
-pub mod GivenUp
+pub mod Letting
 pub mod Declared
+pub mod Queryables
 pub mod Emptied

@@ -1,13 +1,16 @@
--- What each open face and the gateway call keys by number, and what expressions say by it.
-use Rattle.std.specs.Prelude.{ℕ, ◌==◌, Bool, false, not, ◌&&◌, List, [], ◌∷◌, ◌++◌, take, length, zero, suc, find, Option, Some, None, if◌then◌else◌, unwrap_or}
+-- What stands for keys at each open face, by number or by a queryable's id, and what expressions say by it.
+use Rattle.std.specs.Prelude.{ℕ, ◌==◌, Bool, false, not, ◌&&◌, ◌||◌, is_some, List, [], ◌∷◌, ◌++◌, take, length, zero, suc, find, Option, Some, None, if◌then◌else◌, unwrap_or}
 use Rattle.std.specs.Prelude.{slice_index}
 use Rattle.std.specs.Str.{bytes_eq}
 use Rattle.std.specs.Ordering.{nat_cmp}
 use Rattle.std.specs.Map.{keys_of, lookup, remove_entry, set_value}
 use Rattle.std.specs.BTreeMap.{is_at, insert_entry}
+use Rattle.zq_key.specs.Key.{is_key}
 use Rattle.zq_key.specs.declared.message.Mapping.{Mapping}
 use Rattle.zq_key.specs.declared.message.Mapping.TheVariants as mapping
 use Rattle.zq_key.specs.declared.message.WireExpr.{WireExpr}
+use Rattle.zq_names.specs.declared.refusal.NameRefusal.{NameRefusal}
+use Rattle.zq_names.specs.declared.refusal.NameRefusal.TheVariants as refusal
 use Rattle.zq_tables.specs.FaceTexts.{FaceTexts, or_else, whole, key_from}
 use Rattle.zq_naming.specs.declared.said.Said.{Said}
 use Rattle.zq_naming.specs.declared.said.Said.TheVariants as said
@@ -20,19 +23,36 @@ Names = List (ℕ × List ℕ)
 abbrev pub FaceNaming : Type 0
 FaceNaming = FaceTexts
 
--- the open faces, each with its numbers, by face number
+-- what stands for keys at a face: its numbers, and the ids of its queryables
+pub record FaceKeys : Type 0 where
+  pub numbers : FaceNaming
+  pub queryables : Names
+
+-- the open faces, each with what stands for keys there, by face number
 abbrev pub NamingState : Type 0
-NamingState = List (ℕ × FaceNaming)
+NamingState = List (ℕ × FaceKeys)
 
 abbrev pub no_names : FaceNaming
 no_names = record { theirs = []; ours = [] }
 
-abbrev pub naming_at : ℕ → NamingState → Option FaceNaming
+-- nothing stands for a key
+abbrev pub no_keys : FaceKeys
+no_keys = record { numbers = no_names; queryables = [] }
+
+abbrev pub naming_at : ℕ → NamingState → Option FaceKeys
 naming_at face s = lookup (is_at (nat_cmp face)) s
 
--- the numbers of a face that isn't open are none
+-- what stands for keys at a face, nothing where it isn't open
+abbrev pub face_keys : ℕ → NamingState → FaceKeys
+face_keys face s = unwrap_or (naming_at face s) no_keys
+
+-- the numbers of a face
 abbrev pub face_naming : ℕ → NamingState → FaceNaming
-face_naming face s = unwrap_or (naming_at face s) no_names
+face_naming face s = (face_keys face s).numbers
+
+-- the ids of a face's queryables, with their keys
+abbrev pub face_queryables : ℕ → NamingState → Names
+face_queryables face s = (face_keys face s).queryables
 
 -- the text of a number
 abbrev pub text_at : ℕ → Names → Option (List ℕ)
@@ -70,21 +90,56 @@ said_of n w = said_by (sent_side n) w
 abbrev pub read_by : FaceNaming → WireExpr → Said
 read_by n w = said_by (handed_side n) w
 
+abbrev pub with_theirs : FaceKeys → Names → FaceKeys
+with_theirs n names = record n { numbers = record n.numbers { theirs = names } }
+
 -- the face declares a number
-abbrev pub with_name : ℕ → List ℕ → FaceNaming → FaceNaming
-with_name id text n = record n { theirs = insert_entry nat_cmp n.theirs id text }
+abbrev pub with_name : ℕ → List ℕ → FaceKeys → FaceKeys
+with_name id text n = with_theirs n (insert_entry nat_cmp n.numbers.theirs id text)
 
 -- the face gives a number up
-abbrev pub without_name : ℕ → FaceNaming → FaceNaming
-without_name id n = record n { theirs = remove_entry (is_at (nat_cmp id)) n.theirs }
+abbrev pub without_name : ℕ → FaceKeys → FaceKeys
+without_name id n = with_theirs n (remove_entry (is_at (nat_cmp id)) n.numbers.theirs)
 
-abbrev pub put_naming : ℕ → (FaceNaming → FaceNaming) → NamingState → Option FaceNaming → NamingState
+-- the face gives up its numbers
+abbrev pub without_numbers : FaceKeys → FaceKeys
+without_numbers n = record n { numbers = no_names }
+
+-- the face withdraws its queryables
+abbrev pub without_queryables : FaceKeys → FaceKeys
+without_queryables n = record n { queryables = [] }
+
+-- the id stands for the text, if it stood for none
+abbrev pub first_stays : ℕ → List ℕ → Names → Names
+first_stays id text names = if is_some (text_at id names) then names else insert_entry nat_cmp names id text
+
+-- the face declares a queryable; one of that id keeps its key
+abbrev pub with_queryable : ℕ → List ℕ → FaceKeys → FaceKeys
+with_queryable id text n = record n { queryables = first_stays id text n.queryables }
+
+-- the face withdraws a queryable
+abbrev pub without_queryable : ℕ → FaceKeys → FaceKeys
+without_queryable id n = record n { queryables = remove_entry (is_at (nat_cmp id)) n.queryables }
+
+abbrev pub put_naming : ℕ → (FaceKeys → FaceKeys) → NamingState → Option FaceKeys → NamingState
 put_naming face f s None = s
 put_naming face f s (Some n) = set_value (is_at (nat_cmp face)) s (f n)
 
--- the numbers of an open face are changed
-abbrev pub change_naming : ℕ → (FaceNaming → FaceNaming) → NamingState → NamingState
+-- what stands for keys at an open face is changed
+abbrev pub change_naming : ℕ → (FaceKeys → FaceKeys) → NamingState → NamingState
 change_naming face f s = put_naming face f s (naming_at face s)
+
+abbrev pub is_other : List ℕ → Option (List ℕ) → Bool
+is_other text None = false
+is_other text (Some t) = not (bytes_eq t text)
+
+-- the number 0, and one that stands for another text, can't be declared
+abbrev pub remaps : ℕ → List ℕ → Option (List ℕ) → Bool
+remaps id text standing = (id == 0) || is_other text standing
+
+-- why a number can't be declared for a text, if it can't
+abbrev pub declare_refusal : ℕ → List ℕ → FaceNaming → Option NameRefusal
+declare_refusal id text n = if is_key text then (if remaps id text (text_at id n.theirs) then Some refusal.Remapped else None) else Some refusal.InvalidKeyExpr
 
 abbrev pub is_text : List ℕ → Option (List ℕ) → Bool
 is_text text None = false

@@ -1,11 +1,12 @@
 //! The numbers of the faces as nodes of the names.
-ghost use Rattle.std.specs.Prelude.{◌≡◌, ◌≢◌, ◌<◌, [], None, Some, IfOk, OnOk, OnErr, option_map, false, slice_get};
+ghost use Rattle.std.specs.Prelude.{◌≡◌, ◌≢◌, IfOk, OnOk, OnErr, option_copied, option_map, false, slice_get};
 ghost use Rattle.std.specs.Map.{keys_of};
-ghost use Rattle.zq_tables.specs.FaceIds.{AreLive, of_id};
+ghost use Rattle.zq_tables.specs.FaceIds.{AreLive};
 ghost use Rattle.zq_tables.specs.FaceTexts.{texts_of};
-ghost use Rattle.zq_naming.specs.Naming.{plain as plain_of, said_of, said_plainly as plainly_of};
-ghost use Rattle.zq_naming.specs.Holding.{Declares, IsHeld, Numbers, change_ids, first_in, ids_at, is_settled as settled_of, node_at as node_of, without_number};
+ghost use Rattle.zq_naming.specs.Naming.{plain as plain_of, remaps as remaps_of, said_of, said_plainly as plainly_of};
+ghost use Rattle.zq_naming.specs.Holding.{Declares, IsHeld, change_ids, ids_at, node_at as node_of, number_settled, numbers_in, without_number};
 
+use crate::face::FaceNodes;
 use crate::said::Said;
 use std::alloc::Global;
 use std::collections::BTreeMap;
@@ -16,7 +17,20 @@ use zq_names::{Names, ResourceId};
 use zq_tables::FaceNames;
 
 // The open faces, by number.
-pub(crate) type Faces = BTreeMap<u32, FaceNames>;
+pub(crate) type Faces = BTreeMap<u32, FaceNodes>;
+
+// Whether the face can not declare the number for the text: it is 0 or stands for another one.
+pub(crate) fn remaps(id: u16, text: &str, standing: Option<&str>) -> bool
+    ensures { result ≡ remaps_of id text.now (option_copied standing.entry) }
+{
+    if id == 0 {
+        return true;
+    }
+    match standing {
+        Some(other) => other != text,
+        None => false,
+    }
+}
 
 // A text under no number.
 pub(crate) fn plain(alloc: Global, text: &str) -> Result<WireExpr, OutOfMemory>
@@ -61,36 +75,29 @@ pub(crate) fn node_at(faces: &Faces, face: u32, id: u16) -> Option<ResourceId>
     ensures { option_map (λ r. r.0) result ≡ node_of face id faces.now.entries }
 {
     match faces.get(&face) {
-        Some(numbers) => numbers.get_mapping(id, Mapping::Sender),
+        Some(nodes) => nodes.number(id),
         None => None,
     }
 }
 
 // The least number that the face declared.
-pub(crate) fn first_at(faces: &Faces, face: u32) -> Option<u16>
-    ensures { result ≡ slice_get (keys_of (first_in (ids_at face faces.now.entries))) 0 }
+pub(crate) fn first_number(faces: &Faces, face: u32) -> Option<u16>
+    ensures { result ≡ slice_get (keys_of (numbers_in (ids_at face faces.now.entries))) 0 }
 {
     match faces.get(&face) {
-        Some(numbers) => numbers.first_id(),
+        Some(nodes) => nodes.first_number(),
         None => None,
     }
 }
 
 // Whether the face is closed, or its number stands for something.
 pub(crate) fn is_settled(faces: &Faces, face: u32, id: u16) -> bool
-    ensures { result ≡ settled_of face id faces.now.entries }
+    ensures { result ≡ number_settled face id faces.now.entries }
 {
     match faces.get(&face) {
-        Some(numbers) => numbers.get_mapping(id, Mapping::Sender).is_some(),
+        Some(nodes) => nodes.number(id).is_some(),
         None => true,
     }
-}
-
-fn undeclare(names: &mut Names, numbers: &mut FaceNames, id: u16)
-    ensures names { names.new ≡ names.old }
-    ensures ids { numbers.new ≡ without_number id numbers.old }
-{
-    let _ = numbers.unregister_expr(names, id);
 }
 
 // The face gives a number up, whose node stays as it is.
@@ -99,31 +106,8 @@ pub(crate) fn undeclare_at(names: &mut Names, faces: &mut Faces, face: u32, id: 
     ensures faces { faces.new.entries ≡ change_ids face (without_number id) faces.old.entries }
 {
     match faces.get_mut(&face) {
-        Some(numbers) => undeclare(names, numbers, id),
+        Some(nodes) => nodes.undeclare(names, id),
         None => {}
-    }
-}
-
-fn declare(
-    alloc: Global,
-    names: &mut Names,
-    numbers: &mut FaceNames,
-    id: u16,
-    wire: &WireExpr,
-) -> Result<ResourceId, OutOfMemory>
-    requires live { AreLive names.old numbers.old }
-    requires new { of_id numbers.old.theirs id ≡ None }
-    requires whole { wire.now.scope ≡ 0 }
-    ensures ok { IfOk result (λ r. Numbers names.old names.new numbers.old numbers.new id wire.now.suffix r.0) }
-    ensures names { OnErr result (names.new ≡ names.old) }
-    ensures numbers { OnErr result (numbers.new ≡ numbers.old) }
-{
-    if let Err(_) = numbers.register_expr(alloc, names, id, wire) {
-        return Err(OutOfMemory);
-    }
-    match numbers.get_mapping(id, Mapping::Sender) {
-        Some(node) => Ok(node),
-        None => unreachable!(),
     }
 }
 
@@ -137,14 +121,14 @@ pub(crate) fn declare_at(
     wire: &WireExpr,
 ) -> Result<ResourceId, OutOfMemory>
     requires held { IsHeld names.old faces.old.entries }
-    requires new { settled_of face id faces.old.entries ≡ false }
+    requires new { number_settled face id faces.old.entries ≡ false }
     requires whole { wire.now.scope ≡ 0 }
     ensures ok { IfOk result (λ r. Declares names.old names.new faces.old.entries faces.new.entries face id wire.now.suffix r.0) }
     ensures names { OnErr result (names.new ≡ names.old) }
     ensures faces { OnErr result (faces.new.entries ≡ faces.old.entries) }
 {
     match faces.get_mut(&face) {
-        Some(numbers) => declare(alloc, names, numbers, id, wire),
+        Some(nodes) => nodes.declare(alloc, names, id, wire),
         None => unreachable!(),
     }
 }

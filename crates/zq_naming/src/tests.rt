@@ -1,10 +1,11 @@
 use crate::naming::Naming;
 use crate::said::Said;
 use std::test::Fail;
-use zq_key::is_key;
+use zq_key::Key;
 use zq_key::memory::OutOfMemory;
 use zq_key::message::{FaceId, Mapping, WireExpr};
 use zq_key::text::Text;
+use zq_names::NameRefusal;
 
 const FACE: FaceId = FaceId(3);
 
@@ -18,23 +19,14 @@ fn is_best(names: &Naming, face: FaceId, text: &str, scope: u16, suffix: &str) -
     }
 }
 
-// Whether the face can declare the number for the text, and does.
+// Whether the face declares the number for the text.
 fn declares(names: &mut Naming, face: FaceId, id: u16, text: &str) -> bool {
-    if id == 0 {
-        return false;
-    }
-    if !is_key(text) {
-        return false;
-    }
-    match names.standing(face, id) {
-        None => names.declare(face, id, text).is_ok(),
-        Some(other) => {
-            if other != text {
-                return false;
-            }
-            names.declare(face, id, text).is_ok()
-        }
-    }
+    names.declare(face, id, text).is_ok()
+}
+
+// Whether the face declares a queryable of an id that held nothing before.
+fn holds(names: &mut Naming, face: FaceId, id: u32, key: &Key) -> bool {
+    matches!(names.hold_queryable(face, id, key), Ok(true))
 }
 
 fn two_faces(alloc: std::alloc::Global) -> Result<Naming, OutOfMemory> {
@@ -132,4 +124,47 @@ fn said(rt: HostRuntime) {
         }
         assert!(rt; (scope == 0) != matches!(names.said(OTHER, &wire), Ok(Said::Unscoped)));
     }
+}
+
+// What can't be declared, and why.
+#[test]
+fn refused(rt: HostRuntime) {
+    let Ok(mut names) = two_faces(rt.alloc()) else {
+        panic!(rt; "no memory");
+    };
+    assert!(rt; declares(&mut names, FACE, 7, "a"));
+    for (id, text, refusal) in [
+        (0, "a//b", NameRefusal::InvalidKeyExpr),
+        (7, "", NameRefusal::InvalidKeyExpr),
+        (0, "a", NameRefusal::Remapped),
+        (7, "b", NameRefusal::Remapped),
+    ] {
+        assert!(rt; names.declare(FACE, id, text) == Err(refusal), "{text}");
+    }
+    assert!(rt; is_best(&names, FACE, "a", 7, ""));
+}
+
+// A queryable holds its node from its declaration on, whatever numbers stand for the same text,
+// until it is withdrawn or its face closes.
+#[test]
+fn queryables(rt: HostRuntime) {
+    let alloc = rt.alloc();
+    let Ok(mut names) = two_faces(alloc) else {
+        panic!(rt; "no memory");
+    };
+    let (Ok(key), Ok(other)) = (Key::new(alloc, "a/b"), Key::new(alloc, "c")) else {
+        panic!(rt; "no memory");
+    };
+    assert!(rt; holds(&mut names, FACE, 1, &key));
+    assert!(rt; !holds(&mut names, FACE, 1, &other));
+    assert!(rt; holds(&mut names, OTHER, 1, &key));
+    assert!(rt; declares(&mut names, FACE, 7, "a/b"));
+    names.release_queryable(FACE, 1);
+    assert!(rt; !names.holds_queryable(FACE, 1));
+    assert!(rt; is_best(&names, FACE, "a/b", 7, ""));
+    names.undeclare(FACE, 7);
+    assert!(rt; names.holds_queryable(OTHER, 1));
+    names.close(OTHER);
+    assert!(rt; holds(&mut names, OTHER, 1, &key));
+    assert!(rt; !names.holds_queryable(OTHER, 1));
 }

@@ -1,4 +1,4 @@
-use Rattle.zq_naming.specs.Naming.{no_names}
+use Rattle.zq_naming.specs.Naming.{no_keys}
 use Rattle.zq_gateway.specs.Deciding.{opened}
 use Rattle.zq_gateway.proofs.Below.{below_absent, below_insert}
 use Rattle.zq_gateway.proofs.gateway.Gateway.open.Goals as goal
@@ -13,5 +13,5 @@ pub invariant_of-self-2 : goal.invariant_of-self-2
 invariant_of-self-2 c =
     let i = c.self.inside in (
       rw c.in_ok-take_seat.ensures.faces (below_insert i.next_face i.faces.entries (opened c.args.asked.now) c.self.invariant.0),
-      rw c.in_ok-take_seat.ensures.names (below_insert i.next_face i.names no_names c.self.invariant.1),
+      rw c.in_ok-take_seat.ensures.names (below_insert i.next_face i.names no_keys c.self.invariant.1),
     )

@@ -1,6 +1,7 @@
 use Rattle.std.proofs.Common.{◌≡◌, ◌∙◌, ◌++◌, ℕ, List, [], ap, sym, subst, arith, IfOk}
 use Rattle.zq_names.specs.Names.{entry_at}
-use Rattle.zq_tables.specs.FaceTexts.{texts_of}
+use Rattle.zq_tables.specs.FaceIds.{FaceIds, AreLive}
+use Rattle.zq_tables.specs.FaceTexts.{best_key, texts_of}
 use Rattle.zq_naming.specs.Naming.{FaceNaming, face_naming, best}
 use Rattle.zq_naming.specs.Holding.{Rises}
 use Rattle.zq_naming.proofs.Entries.{Rises-shown}
@@ -10,24 +11,28 @@ use Rattle.zq_naming.proofs.Choice.{answer_best, best_none}
 use Rattle.zq_naming.proofs.naming.Naming.best_of.Goals as goal
 
 pub get_best_key-requires-clause-ids : goal.get_best_key-requires-clause-ids
-get_best_key-requires-clause-ids c = live_at c.self.inside.names c.self.inside.faces.entries c.args.face.0 c.in-Some.numbers.now c.self.invariant (sym c.in-Some.ensures.value)
+get_best_key-requires-clause-ids c =
+    let L : FaceIds → Type 0 = AreLive c.self.inside.names in
+    subst L (sym c.numbers.ensures) (live_at c.self.inside.names c.self.inside.faces.entries c.args.face.0 c.in-Some.nodes.now c.self.invariant (sym c.in-Some.ensures.value))
 
 pub returns-in-Some : goal.returns-in-Some
 returns-in-Some c =
     let face = c.args.face.0 in
     let names = c.self.inside.names in
     let faces = c.self.inside.faces.entries in
-    let numbers = c.in-Some.numbers.now in
+    let nodes = c.in-Some.nodes.now in
+    let numbers = nodes.numbers in
     let text = c.args.text.now in
     let at = sym c.in-Some.ensures.value in
-    let is = face_at faces face numbers c.self.invariant.sides at in
+    let is = face_at faces face nodes c.self.invariant.sides at in
     let g = λ (k : ℕ). (entry_at names k).text in
-    let R : List (ℕ × ℕ) → Type 0 = Rises 1 in
+    let R : List (ℕ × ℕ) → Type 0 = Rises 65536 1 in
     let few : R [] = omega arith in
     let S : FaceNaming → Type 0 = λ (n : FaceNaming). IfOk c.get_best_key.result (λ w. w ≡ best n text) in
-    let root : (entry_at names c.root.result.0).text ++ text ≡ text = ap (λ (t : List ℕ). t ++ text) c.root.ensures.text in
-    subst S (sym (face_there names faces face numbers at) ∙ ap (face_naming face) c.self.view_is)
-    (answer_best (texts_of names numbers) text _ c.get_best_key.result (Rises-shown g 1 numbers.theirs is.theirs) (Rises-shown g 1 numbers.ours (subst R (sym is.ours) few)) root c.get_best_key.ensures.best)
+    let root : (entry_at names c.root-root.result.0).text ++ text ≡ text = ap (λ (t : List ℕ). t ++ text) c.root-root.ensures.text in
+    let B : FaceIds → Type 0 = λ (f : FaceIds). IfOk c.get_best_key.result (λ w. w ≡ best_key (texts_of names f) ((entry_at names c.root-root.result.0).text ++ text)) in
+    subst S (sym (face_there names faces face nodes at) ∙ ap (face_naming face) c.self.view_is)
+    (answer_best (texts_of names numbers) text _ c.get_best_key.result (Rises-shown g 65536 1 numbers.theirs is.theirs) (Rises-shown g 65536 1 numbers.ours (subst R (sym is.ours) few)) root (subst B c.numbers.ensures c.get_best_key.ensures.best))
 
 pub returns-in-None : goal.returns-in-None
 returns-in-None c =

@@ -1,22 +1,18 @@
-use Rattle.std.proofs.Common.{◌≡◌, ◌∙◌, ap, sym, ℕ, Option, None, Some, IfNone}
+use Rattle.std.proofs.Common.{◌∙◌, ap, sym}
 use Rattle.std.specs.Prelude.{slice_get}
 use Rattle.std.specs.Map.{keys_of}
 use Rattle.zq_naming.specs.Naming.{NamingState, face_naming}
-use Rattle.zq_naming.proofs.Emptied.{first_same, first_none}
+use Rattle.zq_naming.proofs.Emptied.{first_same, first_none, none_then}
 use Rattle.zq_naming.proofs.naming.Naming.first_number.Goals as goal
-
-none_then : {P : Type 0} (o x : Option ℕ) → o ≡ x → (None ≡ x → P) → IfNone o P
-none_then None x is then = then is
-none_then (Some i) x is then = tt
 
 pub returns-clause-first : goal.returns-clause-first
 returns-clause-first c =
     let face = c.args.face.0 in
-    c.first_at.ensures
+    c.first_number.ensures
     ∙ first_same c.self.inside.names c.self.inside.faces.entries face
     ∙ ap (λ (s : NamingState). slice_get (keys_of (face_naming face s).theirs) 0) c.self.view_is
 
 pub returns-clause-none : goal.returns-clause-none
 returns-clause-none c =
     let face = c.args.face.0 in
-    none_then c.first_at.result _ c.first_at.ensures (λ is. ap (face_naming face) (sym c.self.view_is) ∙ first_none c.self.inside.names c.self.inside.faces.entries face c.self.invariant is)
+    none_then c.first_number.result _ c.first_number.ensures (λ is. ap (face_naming face) (sym c.self.view_is) ∙ first_none c.self.inside.names c.self.inside.faces.entries face c.self.invariant is)

@@ -4,7 +4,7 @@ use Rattle.std.specs.Ordering.{nat_cmp}
 use Rattle.std.specs.Map.{keys_of}
 use Rattle.std.specs.BTreeMap.{insert_entry}
 use Rattle.std.specs.List.Sorted.{IsStrictlySortedBy}
-use Rattle.zq_naming.specs.Naming.{NamingState, no_names, naming_at}
+use Rattle.zq_naming.specs.Naming.{NamingState, no_keys, naming_at}
 use Rattle.zq_naming.proofs.Declared.{none_from}
 use Rattle.zq_naming.proofs.Emptied.{emptied_put, keys_texts, opened, opened_texts, open_naming}
 use Rattle.zq_naming.proofs.naming.Naming.open.Goals as goal
@@ -22,10 +22,10 @@ returns-then-contains_key-clause-ok c =
 
 pub invariant_of-self : goal.invariant_of-self
 invariant_of-self c =
-    opened c.self.inside.names c.self.inside.faces.entries c.insert.new.self.entries c.args.face.0 c.new.result c.new.ensures.theirs c.new.ensures.ours c.in-Ok.ensures.entries c.self.invariant
+    opened c.self.inside.names c.self.inside.faces.entries c.insert.new.self.entries c.args.face.0 c.new.result c.new.ensures.theirs c.new.ensures.ours c.new.ensures.queryables c.in-Ok.ensures.entries c.self.invariant
     (none_from _ (sym c.contains_key.ensures ∙ c.if-contains_key.false))
 
 pub returns-in-Ok-clause-ok : goal.returns-in-Ok-clause-ok
 returns-in-Ok-clause-ok c =
-    opened_texts c.self.inside.names c.self.inside.faces.entries c.insert.new.self.entries c.args.face.0 c.new.result c.new.ensures.theirs c.new.ensures.ours c.in-Ok.ensures.entries
-    ∙ ap (λ (s : NamingState). insert_entry nat_cmp s c.args.face.0 no_names) c.self.view_is
+    opened_texts c.self.inside.names c.self.inside.faces.entries c.insert.new.self.entries c.args.face.0 c.new.result c.new.ensures.theirs c.new.ensures.ours c.new.ensures.queryables c.in-Ok.ensures.entries
+    ∙ ap (λ (s : NamingState). insert_entry nat_cmp s c.args.face.0 no_keys) c.self.view_is

@@ -1,0 +1,36 @@
+-- A queryable that was held and is let go again leaves all as it was.
+use Rattle.std.proofs.Common.{◌≡◌, ℕ, Bool, true, false, cond, List, Option, Some, None, refl, sym, ap, ◌∙◌}
+use Rattle.std.specs.Option.{is_some, is_none}
+use Rattle.std.specs.Ordering.{nat_cmp}
+use Rattle.std.specs.BTreeMap.{is_at, insert_entry}
+use Rattle.std.specs.Map.{remove_entry}
+use Rattle.std.proofs.lemmas.Bool.{false≢true}
+use Rattle.std.proofs.lemmas.Cmp.{nat_cmp_total}
+use Rattle.std.proofs.lemmas.Map.Lookups.{exact_unsigned}
+use Rattle.zq_naming.specs.Naming.{FaceKeys, Names, NamingState, change_naming, face_keys, face_queryables, first_stays, text_at, with_queryable, without_queryable}
+use Rattle.zq_naming.proofs.Emptied.{changed_back, changed_idle}
+use Rattle.zq_query.proofs.Owing.{undone}
+use Rattle.zq_gateway.specs.Undoing.{taken_back}
+
+absent_of : {X : Type 0} (o : Option X) → true ≡ is_none o → o ≡ None
+absent_of None is = refl
+absent_of (Some x) is = absurd (false≢true (sym is))
+
+present_of : {X : Type 0} (o : Option X) → false ≡ is_none o → is_some o ≡ true
+present_of None is = absurd (false≢true is)
+present_of (Some x) is = refl
+
+-- the first text under an id is taken out again
+first_out : (id : ℕ) (t : List ℕ) (es : Names) → text_at id es ≡ None → remove_entry (is_at (nat_cmp id)) (first_stays id t es) ≡ es
+first_out id t es absent =
+    let none : is_some (text_at id es) ≡ false = ap is_some absent in
+    rw none (undone nat_cmp_total exact_unsigned es id t absent)
+
+pub put_back : (face id : ℕ) (t : List ℕ) (fresh : Bool) (s : NamingState) → fresh ≡ is_none (text_at id (face_queryables face s)) → taken_back face id fresh (change_naming face (with_queryable id t) s) ≡ s
+put_back face id t true s is =
+    changed_back face (with_queryable id t) (without_queryable id) s
+    (ap (λ (l : Names). record (face_keys face s) { queryables = l }) (first_out id t (face_queryables face s) (absent_of _ is)))
+put_back face id t false s is =
+    let there : is_some (text_at id (face_queryables face s)) ≡ true = present_of _ is in
+    let stays : first_stays id t (face_queryables face s) ≡ face_queryables face s = rw there refl in
+    changed_idle face (with_queryable id t) s (ap (λ (l : Names). record (face_keys face s) { queryables = l }) stays)
