@@ -5,3 +5,4 @@ pub mod Built
 pub mod Given
 pub mod GivenLines
 pub mod Promised
+pub mod StepsBack

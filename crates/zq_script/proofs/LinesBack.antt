@@ -1,5 +1,5 @@
 -- A written call reads back.
-use Rattle.std.proofs.Common.{◌≡◌, ℕ, ◌≤◌, List, [], ◌∷◌, ◌++◌, Option, Some, None, refl, ap, ◌∙◌, sym, arith, length, Bool, true, false, append_assoc}
+use Rattle.std.proofs.Common.{◌≡◌, ℕ, ◌≤◌, ◌<◌, ◌^◌, List, [], ◌∷◌, ◌++◌, Option, Some, None, refl, ap, ◌∙◌, sym, arith, length, Bool, true, false, append_assoc}
 use Rattle.std.proofs.lemmas.List.{append-nil}
 use Rattle.std.specs.Prelude.{codes, map, filter}
 use Rattle.std.specs.Str.{bytes_eq}
@@ -73,10 +73,10 @@ poll_back : (n : ℕ) → n ≤ most_64 → poll_of (field (decimal n)) ≡ Some
 unfolding poll_of
 poll_back n f = then_last _ (number_reads most_64 n f (omega arith)) refl
 
-c_reads : (b : Bool) → Reads (flag_of (codes "c") (codes "p")) (flag_word (codes "c") (codes "p") b) b
+pub c_reads : (b : Bool) → Reads (flag_of (codes "c") (codes "p")) (flag_word (codes "c") (codes "p") b) b
 c_reads b = flag_reads (codes "c") (codes "p") b (record { whole = refl; some = omega arith; value = refl }) (record { whole = refl; some = omega arith; value = refl })
 
-k_reads : (b : Bool) → Reads (flag_of (codes "k") (codes "n")) (flag_word (codes "k") (codes "n") b) b
+pub k_reads : (b : Bool) → Reads (flag_of (codes "k") (codes "n")) (flag_word (codes "k") (codes "n") b) b
 k_reads b = flag_reads (codes "k") (codes "n") b (record { whole = refl; some = omega arith; value = refl }) (record { whole = refl; some = omega arith; value = refl })
 
 set_reads : (b : Bool) → Reads (flag_of (codes "1") (codes "0")) (flag_word (codes "1") (codes "0") b) b
@@ -86,7 +86,7 @@ set_reads b = flag_reads (codes "1") (codes "0") b (record { whole = refl; some 
 pub on : {X Y : Type 0} {o : Option X} {x : X} {y : Y} (f : X → Option Y) → o ≡ Some x → f x ≡ Some y → (o >>= f) ≡ Some y
 on f e k = rw e k
 
-info_back : (info : QueryableInfoType) (rest : List ℕ) → info.distance ≤ most_16 → Ends rest → info_at (info_words info ++ rest) ≡ Some (info, rest)
+pub info_back : (info : QueryableInfoType) (rest : List ℕ) → info.distance ≤ most_16 → Ends rest → info_at (info_words info ++ rest) ≡ Some (info, rest)
 unfolding info_at
 info_back info rest f e = ap info_at (append_assoc (field (flag_word (codes "c") (codes "p") info.complete)) (field (decimal info.distance)) rest) ∙ then _ (c_reads info.complete) refl (then _ (number_reads most_16 info.distance f (omega arith)) e refl)
 
@@ -100,7 +100,7 @@ wires : (o : Option WireExpr) → FitsOption FitsWire o → OptionReads wire_of 
 wires None f = tt
 wires (Some w) f = wire_reads w f
 
-option_wire : (o : Option WireExpr) → FitsOption FitsWire o → Reads (option_of wire_of) (option_word wire_word o) o
+pub option_wire : (o : Option WireExpr) → FitsOption FitsWire o → Reads (option_of wire_of) (option_word wire_word o) o
 unfolding wire_of
 option_wire o f = option_reads wire_of wire_word o refl (wires o f)
 
@@ -115,19 +115,19 @@ unfolding interest_of
 interest_back face id keys wire f g = then _ (face_reads face f.face) refl (then _ (number_reads most_32 id f.id (omega arith)) refl (then _ (option_wire wire g) refl (then_last _ (k_reads keys) refl)))
 
 -- words that are joined from the left, joined from the right
-nest3 : (n a b c : List ℕ) → ((n ++ a) ++ b) ++ c ≡ n ++ (a ++ (b ++ c))
+pub nest3 : (n a b c : List ℕ) → ((n ++ a) ++ b) ++ c ≡ n ++ (a ++ (b ++ c))
 nest3 n a b c = append_assoc (n ++ a) b c ∙ append_assoc n a (b ++ c)
 
-nest4 : (n a b c d : List ℕ) → (((n ++ a) ++ b) ++ c) ++ d ≡ n ++ (a ++ (b ++ (c ++ (d))))
+pub nest4 : (n a b c d : List ℕ) → (((n ++ a) ++ b) ++ c) ++ d ≡ n ++ (a ++ (b ++ (c ++ (d))))
 nest4 n a b c d = nest3 (n ++ a) b c d ∙ append_assoc n a (b ++ (c ++ (d)))
 
-nest5 : (n a b c d e : List ℕ) → ((((n ++ a) ++ b) ++ c) ++ d) ++ e ≡ n ++ (a ++ (b ++ (c ++ (d ++ (e)))))
+pub nest5 : (n a b c d e : List ℕ) → ((((n ++ a) ++ b) ++ c) ++ d) ++ e ≡ n ++ (a ++ (b ++ (c ++ (d ++ (e)))))
 nest5 n a b c d e = nest4 (n ++ a) b c d e ∙ append_assoc n a (b ++ (c ++ (d ++ (e))))
 
-nest6 : (n a b c d e f : List ℕ) → (((((n ++ a) ++ b) ++ c) ++ d) ++ e) ++ f ≡ n ++ (a ++ (b ++ (c ++ (d ++ (e ++ (f))))))
+pub nest6 : (n a b c d e f : List ℕ) → (((((n ++ a) ++ b) ++ c) ++ d) ++ e) ++ f ≡ n ++ (a ++ (b ++ (c ++ (d ++ (e ++ (f))))))
 nest6 n a b c d e f = nest5 (n ++ a) b c d e f ∙ append_assoc n a (b ++ (c ++ (d ++ (e ++ (f)))))
 
-nest7 : (n a b c d e f g : List ℕ) → ((((((n ++ a) ++ b) ++ c) ++ d) ++ e) ++ f) ++ g ≡ n ++ (a ++ (b ++ (c ++ (d ++ (e ++ (f ++ (g)))))))
+pub nest7 : (n a b c d e f g : List ℕ) → ((((((n ++ a) ++ b) ++ c) ++ d) ++ e) ++ f) ++ g ≡ n ++ (a ++ (b ++ (c ++ (d ++ (e ++ (f ++ (g)))))))
 nest7 n a b c d e f g = nest6 (n ++ a) b c d e f g ∙ append_assoc n a (b ++ (c ++ (d ++ (e ++ (f ++ (g))))))
 
 nest8 : (n a b c d e f g h : List ℕ) → (((((((n ++ a) ++ b) ++ c) ++ d) ++ e) ++ f) ++ g) ++ h ≡ n ++ (a ++ (b ++ (c ++ (d ++ (e ++ (f ++ (g ++ (h))))))))
@@ -136,17 +136,20 @@ nest8 n a b c d e f g h = nest7 (n ++ a) b c d e f g h ∙ append_assoc n a (b +
 nest9 : (n a b c d e f g h i : List ℕ) → ((((((((n ++ a) ++ b) ++ c) ++ d) ++ e) ++ f) ++ g) ++ h) ++ i ≡ n ++ (a ++ (b ++ (c ++ (d ++ (e ++ (f ++ (g ++ (h ++ (i)))))))))
 nest9 n a b c d e f g h i = nest8 (n ++ a) b c d e f g h i ∙ append_assoc n a (b ++ (c ++ (d ++ (e ++ (f ++ (g ++ (h ++ (i))))))))
 
-bytes_reads : (bytes : List ℕ) → IsBytes bytes → Reads bytes_of (payload_word bytes) bytes
+pub bytes_reads : (bytes : List ℕ) → IsBytes bytes → Reads bytes_of (payload_word bytes) bytes
 bytes_reads bytes f = record { whole = payload_lacks 32 bytes (omega arith) space_escaped; some = payload_some bytes; value = ap Some (payload_back bytes f) }
 
-timeouts : (o : Option ℕ) → FitsOption (λ n. n ≤ most_64) o → OptionReads (number most_64) decimal o
-timeouts None f = tt
-timeouts (Some n) f = number_reads most_64 n f (omega arith)
+numbers : (most : ℕ) (o : Option ℕ) → most < 10 ^ 64 → FitsOption (λ n. n ≤ most) o → OptionReads (number most) decimal o
+numbers most None l f = tt
+numbers most (Some n) l f = number_reads most n f l
 
-manner_back : (r : Request) (rest : List ℕ) → FitsRequest r → Ends rest → manner_at (field (target_word r.target) ++ (field (option_word decimal r.timeout) ++ (field (decimal r.node) ++ (field (decimal r.qos) ++ rest)))) ≡ Some (r.target, r.timeout, r.node, r.qos, rest)
+pub option_number : (most : ℕ) (o : Option ℕ) → most < 10 ^ 64 → FitsOption (λ n. n ≤ most) o → Reads (option_of (number most)) (option_word decimal o) o
+option_number most o l f = option_reads (number most) decimal o refl (numbers most o l f)
+
+pub manner_back : (r : Request) (rest : List ℕ) → FitsRequest r → Ends rest → manner_at (field (target_word r.target) ++ (field (option_word decimal r.timeout) ++ (field (decimal r.node) ++ (field (decimal r.qos) ++ rest)))) ≡ Some (r.target, r.timeout, r.node, r.qos, rest)
 unfolding manner_at
 manner_back r rest f e =
-    then _ (target_reads r.target) refl (then _ (option_reads (number most_64) decimal r.timeout refl (timeouts r.timeout f.timeout)) refl
+    then _ (target_reads r.target) refl (then _ (option_number most_64 r.timeout (omega arith) f.timeout) refl
     (then _ (number_reads most_16 r.node f.node (omega arith)) refl (then _ (number_reads most_8 r.qos f.qos (omega arith)) e refl)))
 
 ask_back : (face : FaceId) (r : Request) (now : ℕ) → FitsFace face → FitsRequest r → now ≤ most_64
@@ -181,12 +184,12 @@ ok_body = record { whole = refl; some = omega arith; value = refl }
 err_body : Reads (flag_of (codes "ok") (codes "err")) (codes "err") false
 err_body = record { whole = refl; some = omega arith; value = refl }
 
-body_back : (b : ReplyBody) (rest : List ℕ) → FitsBody b → Ends rest → body_at (body_words b ++ rest) ≡ Some (b, rest)
+pub body_back : (b : ReplyBody) (rest : List ℕ) → FitsBody b → Ends rest → body_at (body_words b ++ rest) ≡ Some (b, rest)
 unfolding body_at
 body_back (body.Reply payload) rest f e = ap body_at (append_assoc (field (codes "ok")) (field (payload_word payload)) rest) ∙ then _ ok_body refl (then _ (bytes_reads payload f) e refl)
 body_back (body.Err payload) rest f e = ap body_at (append_assoc (field (codes "err")) (field (payload_word payload)) rest) ∙ then _ err_body refl (then _ (bytes_reads payload f) e refl)
 
-body_ends : (b : ReplyBody) (rest : List ℕ) → Ends (body_words b ++ rest)
+pub body_ends : (b : ReplyBody) (rest : List ℕ) → Ends (body_words b ++ rest)
 body_ends (body.Reply payload) rest = refl
 body_ends (body.Err payload) rest = refl
 
@@ -317,7 +320,7 @@ name_by t false f e = refl
 name_differs : (t : List ℕ) → IsNamespace t → bytes_eq (payload_word t) (codes "-") ≡ false
 name_differs t f = let b = bytes_eq (payload_word t) (codes "-") in name_by t b f refl
 
-option_plain : {X : Type 0} (read : List ℕ → Option X) (w : List ℕ) (x : X) → bytes_eq w (codes "-") ≡ false → read w ≡ Some x → option_of read w ≡ Some (Some x)
+pub option_plain : {X : Type 0} (read : List ℕ → Option X) (w : List ℕ) (x : X) → bytes_eq w (codes "-") ≡ false → read w ≡ Some x → option_of read w ≡ Some (Some x)
 option_plain read w x e f = rw (e, f) refl
 
 name_reads : (o : Option (List ℕ)) → FitsOption IsNamespace o → Reads (option_of text_of) (option_word payload_word o) o

@@ -6,7 +6,7 @@
 //! - `script`: a whole script: its head, and its calls in parts.
 //! - `refusal`: why bytes are no script.
 //! - `same`: whether what leaves is what was handed.
-//! - `steps`: how messages and steps are printed.
+//! - `steps`: how messages and steps are printed, which read back as those.
 //! - `run`: reads a script from a source, and gives the print of its steps to a sink.
 //!
 //! Words and streams stand in `zq_words`; what users of scripts need of them is passed on here.

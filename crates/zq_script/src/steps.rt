@@ -1,8 +1,11 @@
 //! How messages and steps are printed.
-ghost use Rattle.std.specs.Prelude.{◌≡◌, ◌++◌, ◌∷◌, [], IfOk, OnOk, string_bytes};
+ghost use Rattle.std.specs.Prelude.{◌≡◌, ◌++◌, ◌∷◌, [], IfOk, OnOk, Some, string_bytes};
 ghost use Rattle.std.specs.Fmt.{decimal};
+ghost use Rattle.std.specs.List.{AllByRecursion};
 ghost use Rattle.zq_words.specs.Words.{field, option_word};
 ghost use Rattle.zq_script.specs.Steps.{request_words, response_words, interest_words, declare_words, message_words, refusal_name, outcome_words, leaving_words, handed_words, step_words, steps_words};
+ghost use Rattle.zq_script.specs.StepsRead.{message_of, steps_of};
+ghost use Rattle.zq_script.specs.StepsFit.{FitsMessage, FitsStep};
 
 use crate::calls::{push_body, push_info};
 use crate::same::same_message;
@@ -112,9 +115,11 @@ fn push_message(out: &mut String, message: &Message) -> Result<(), AllocError>
     }
 }
 
-/// The words of a message.
+/// The words of a message, which are read back as that message.
+#[tactic(auto, using(crate::proofs::StepsBack::message_back))]
 pub fn print_message(alloc: Global, message: &Message) -> Result<Bytes, OutOfMemory>
-    ensures { IfOk result (λ b. b ≡ message_words message.now) }
+    ensures words { IfOk result (λ b. b ≡ message_words message.now) }
+    ensures back { IfOk result (λ b. FitsMessage message.now → message_of b ≡ Some message.now) }
 {
     let mut out = String::new(alloc);
     push_message(&mut out, message)?;
@@ -198,9 +203,10 @@ fn push_step(out: &mut String, step: &Step) -> Result<(), AllocError>
     Ok(())
 }
 
-/// The print of steps, one step after the other.
+/// The print of steps, one step after the other, which is read back as those steps.
 pub fn print_steps(alloc: Global, steps: &[Step]) -> Result<Bytes, OutOfMemory>
-    ensures { IfOk result (λ b. b ≡ steps_words steps.now) }
+    ensures words { IfOk result (λ b. b ≡ steps_words steps.now) }
+    ensures back { IfOk result (λ b. AllByRecursion FitsStep steps.now → steps_of b ≡ Some steps.now) }
 {
     let mut out = String::new(alloc);
     for step in steps {
