@@ -1,5 +1,5 @@
 -- What a line says fits.
-use Rattle.std.proofs.Common.{ℕ, ◌≤◌, ◌<◌, List, [], ◌∷◌, Option, Some, refl, Bool, true, false, cond}
+use Rattle.std.proofs.Common.{ℕ, ◌≤◌, ◌<◌, List, [], ◌∷◌, Option, Some, arith, Bool, true, false, cond}
 use Rattle.std.proofs.lemmas.List.Elements.{All-tail, All-drop}
 use Rattle.std.specs.Str.{bytes_eq}
 use Rattle.std.specs.List.{AllByRecursion}
@@ -120,7 +120,7 @@ unfolding reply_of
 reply_given bytes a =
     bind (field_given face_given bytes a) (λ face p. bind (field_given (number_given most_32) face.1 p.rest) (λ id q. bind (field_given wire_given id.1 q.rest) (λ wire r.
     bind (body_given wire.1 r.rest) (λ payload s. bind (responder_given payload.1 s.rest) (λ responder u.
-    one (p.value, record { rid = q.value; wire = r.value; qos = refl; payload = s.value; responder = u }))))))
+    one (p.value, record { rid = q.value; wire = r.value; qos = omega arith; payload = s.value; responder = u }))))))
 
 final_given : (bytes : List ℕ) → IsBytes bytes → Given FitsCall (final_of bytes)
 unfolding final_of

@@ -25,7 +25,7 @@ use Rattle.zq_gateway.specs.declared.call.Call.{Call}
 use Rattle.zq_gateway.specs.declared.call.Call.TheVariants as call
 use Rattle.zq_words.specs.Words.{◌>>=◌, field, lacks, bytes_of, number, read_at, text_of, payload_of, payload_word, list_word, option_of, option_word}
 use Rattle.zq_words.specs.Values.{most_8, most_16, most_32, most_64, flag_of, flag_word, face_word, zid_word, wire_of, wire_word, target_word, region_word, mode_word, bound_word, zids_word, entry_word, tree_word, all_word}
-use Rattle.zq_script.specs.Lines.{deny_of, denies_of, at_entry, at_exit, deny_text, opening_of, close_of, key_of, unkey_of, info_at, queryable_of, unqueryable_of, interest_of, uninterest_of, mark_by, mark_at, finalize_of, manner_at, ask_of, body_at, by_of, responder_of, reply_of, final_of, sent_of, poll_of, gateways_of, network_of, nodes_of, call_by, other_by, call_of}
+use Rattle.zq_script.specs.Lines.{deny_of, denies_of, at_entry, at_exit, deny_text, opening_of, close_of, key_of, unkey_of, info_at, queryable_of, unqueryable_of, interest_of, uninterest_of, mark_by, mark_at, finalize_of, manner_at, ask_of, body_at, by_of, responder_of, reply_of, final_of, sent_of, poll_of, gateways_of, network_of, nodes_of, call_by, other_by, by_first, call_of}
 use Rattle.zq_script.specs.CallLines.{deny_in, deny_out, denies_words, info_words, mark_words, body_words, by_words, call_words}
 use Rattle.zq_words.specs.Fits.{IsText, IsBytes, FitsFace, FitsZid, FitsWire, FitsOption, FitsRegion}
 use Rattle.zq_script.specs.Fits.{IsNamespace, FitsOpening, FitsIds, FitsRequest, FitsResponse, FitsBody, FitsMark, FitsGateways, FitsNetwork, FitsCall}
@@ -42,8 +42,9 @@ pub flag_reads : (first other : List ℕ) (b : Bool) → Reads (flag_of first ot
 flag_reads first other true r s = r
 flag_reads first other false r s = s
 
-pub head_back : (name rest : List ℕ) → lacks 32 name ≡ true → call_of (name ++ 32 ∷ rest) ≡ call_by name (32 ∷ rest)
-head_back name rest e = rw (len_stop 32 name rest e, take_front name (32 ∷ rest), drop_front name (32 ∷ rest)) refl
+-- the first word of a line
+pub first_back : {X : Type 0} (read : List ℕ → List ℕ → Option X) (name rest : List ℕ) → lacks 32 name ≡ true → by_first read (name ++ 32 ∷ rest) ≡ read name (32 ∷ rest)
+first_back read name rest e = rw (len_stop 32 name rest e, take_front name (32 ∷ rest), drop_front name (32 ∷ rest)) refl
 
 final_back : (face : FaceId) (rid : ℕ) → FitsIds face rid most_32 → final_of (field (face_word face) ++ field (decimal rid)) ≡ Some (call.ResponseFinal face rid)
 unfolding final_of
@@ -211,12 +212,12 @@ by_ends (Some zid) = refl
 zero_qos : (face : FaceId) (r : Response) → r.qos ≡ 0 → Some (call.Response face (record { rid = r.rid; wire = r.wire; qos = 0; payload = r.payload; responder = r.responder })) ≡ Some (call.Response face r)
 zero_qos face r e = ap (λ (q : ℕ). Some (call.Response face (record { rid = r.rid; wire = r.wire; qos = q; payload = r.payload; responder = r.responder }))) (sym e)
 
-reply_back : (face : FaceId) (r : Response) → FitsFace face → FitsResponse r
+reply_back : (face : FaceId) (r : Response) → FitsFace face → FitsResponse 0 r
     → reply_of (field (face_word face) ++ (field (decimal r.rid) ++ (field (wire_word r.wire) ++ (body_words r.payload ++ by_words r.responder)))) ≡ Some (call.Response face r)
 unfolding reply_of
 reply_back face r f g =
     then _ (face_reads face f) refl (then _ (number_reads most_32 r.rid g.rid (omega arith)) refl (then _ (wire_reads r.wire g.wire) (body_ends r.payload _)
-    (on _ (body_back r.payload _ g.payload (by_ends r.responder)) (on _ (responder_back r.responder g.responder) (zero_qos face r g.qos)))))
+    (on _ (body_back r.payload _ g.payload (by_ends r.responder)) (on _ (responder_back r.responder g.responder) (zero_qos face r (omega (arith, g.qos)))))))
 
 gateways_back : (r : Region) (t : Gateways) → FitsRegion r → FitsGateways t → gateways_of (field (region_word r) ++ (field (list_word 59 entry_word t.of) ++ field (all_word t.all))) ≡ Some (call.SetGateways r t)
 unfolding gateways_of
@@ -347,20 +348,20 @@ pub call_back : (c : Call) → FitsCall c → call_of (call_words c) ≡ Some c
 unfolding call_by other_by
 call_back (call.Open o) f =
     ap (λ x. call_of (codes "open" ++ x)) (nest5 (field (region_word o.region)) (field (zid_word o.zid)) (field (mode_word o.mode)) (field (bound_word o.remote_bound)) (field (option_word payload_word o.namespace)) (denies_words o.entry_deny o.exit_deny))
-    ∙ head_back (codes "open") _ refl ∙ opening_back o f
-call_back (call.Close face) f = head_back (codes "close") _ refl ∙ close_back face f
-call_back (call.DeclareKeyExpr face id wire) f = ap call_of (nest3 (codes "key") (field (face_word face)) (field (decimal id)) (field (wire_word wire))) ∙ head_back (codes "key") _ refl ∙ key_back face id wire f.0 f.1
-call_back (call.UndeclareKeyExpr face id) f = ap call_of (append_assoc (codes "unkey") (field (face_word face)) (field (decimal id))) ∙ head_back (codes "unkey") _ refl ∙ unkey_back face id f
-call_back (call.DeclareQueryable face id wire info node) f = ap call_of (nest5 (codes "queryable") (field (face_word face)) (field (decimal id)) (field (wire_word wire)) (info_words info) (field (decimal node))) ∙ head_back (codes "queryable") _ refl ∙ queryable_back face id wire info node f.0 f.1 f.2 f.3
-call_back (call.UndeclareQueryable face id wire node) f = ap call_of (nest4 (codes "unqueryable") (field (face_word face)) (field (decimal id)) (field (option_word wire_word wire)) (field (decimal node))) ∙ head_back (codes "unqueryable") _ refl ∙ unqueryable_back face id wire node f.0 f.1 f.2
-call_back (call.Interest face id keys wire) f = ap call_of (nest4 (codes "interest") (field (face_word face)) (field (decimal id)) (field (option_word wire_word wire)) (field (flag_word (codes "k") (codes "n") keys))) ∙ head_back (codes "interest") _ refl ∙ interest_back face id keys wire f.0 f.1
-call_back (call.InterestFinal face id) f = ap call_of (append_assoc (codes "uninterest") (field (face_word face)) (field (decimal id))) ∙ head_back (codes "uninterest") _ refl ∙ uninterest_back face id f
-call_back (call.FinalizeInterest face what set) f = ap call_of (nest3 (codes "finalize") (field (face_word face)) (mark_words what) (field (flag_word (codes "1") (codes "0") set))) ∙ head_back (codes "finalize") _ refl ∙ finalize_back face what set f.0 f.1
-call_back (call.Request face r now) f = ap call_of (nest9 (codes "ask") (field (face_word face)) (field (decimal r.id)) (field (wire_word r.wire)) (field (target_word r.target)) (field (option_word decimal r.timeout)) (field (decimal r.node)) (field (decimal r.qos)) (field (payload_word r.payload)) (field (decimal now))) ∙ head_back (codes "ask") _ refl ∙ ask_back face r now f.0 f.1 f.2
-call_back (call.Response face r) f = ap call_of (nest5 (codes "reply") (field (face_word face)) (field (decimal r.rid)) (field (wire_word r.wire)) (body_words r.payload) (by_words r.responder)) ∙ head_back (codes "reply") _ refl ∙ reply_back face r f.0 f.1
-call_back (call.ResponseFinal face rid) f = ap call_of (append_assoc (codes "final") (field (face_word face)) (field (decimal rid))) ∙ head_back (codes "final") _ refl ∙ final_back face rid f
-call_back (call.Sent n) f = head_back (codes "sent") _ refl ∙ sent_back n f
-call_back (call.Poll n) f = head_back (codes "poll") _ refl ∙ poll_back n f
-call_back (call.SetGateways r t) f = ap call_of (nest3 (codes "gateways") (field (region_word r)) (field (list_word 59 entry_word t.of)) (field (all_word t.all))) ∙ head_back (codes "gateways") _ refl ∙ gateways_back r t f.0 f.1
-call_back (call.SetNetwork r t) f = ap call_of (nest4 (codes "network") (field (region_word r)) (field (zids_word t.nodes)) (field (list_word 59 tree_word t.trees)) (field (list_word 44 decimal t.distances))) ∙ head_back (codes "network") _ refl ∙ network_back r t f.0 f.1
-call_back (call.SetNodeIds face t) f = ap call_of (append_assoc (codes "nodes") (field (face_word face)) (field (zids_word t.ids))) ∙ head_back (codes "nodes") _ refl ∙ nodes_back face t f.0 f.1
+    ∙ first_back call_by (codes "open") _ refl ∙ opening_back o f
+call_back (call.Close face) f = first_back call_by (codes "close") _ refl ∙ close_back face f
+call_back (call.DeclareKeyExpr face id wire) f = ap call_of (nest3 (codes "key") (field (face_word face)) (field (decimal id)) (field (wire_word wire))) ∙ first_back call_by (codes "key") _ refl ∙ key_back face id wire f.0 f.1
+call_back (call.UndeclareKeyExpr face id) f = ap call_of (append_assoc (codes "unkey") (field (face_word face)) (field (decimal id))) ∙ first_back call_by (codes "unkey") _ refl ∙ unkey_back face id f
+call_back (call.DeclareQueryable face id wire info node) f = ap call_of (nest5 (codes "queryable") (field (face_word face)) (field (decimal id)) (field (wire_word wire)) (info_words info) (field (decimal node))) ∙ first_back call_by (codes "queryable") _ refl ∙ queryable_back face id wire info node f.0 f.1 f.2 f.3
+call_back (call.UndeclareQueryable face id wire node) f = ap call_of (nest4 (codes "unqueryable") (field (face_word face)) (field (decimal id)) (field (option_word wire_word wire)) (field (decimal node))) ∙ first_back call_by (codes "unqueryable") _ refl ∙ unqueryable_back face id wire node f.0 f.1 f.2
+call_back (call.Interest face id keys wire) f = ap call_of (nest4 (codes "interest") (field (face_word face)) (field (decimal id)) (field (option_word wire_word wire)) (field (flag_word (codes "k") (codes "n") keys))) ∙ first_back call_by (codes "interest") _ refl ∙ interest_back face id keys wire f.0 f.1
+call_back (call.InterestFinal face id) f = ap call_of (append_assoc (codes "uninterest") (field (face_word face)) (field (decimal id))) ∙ first_back call_by (codes "uninterest") _ refl ∙ uninterest_back face id f
+call_back (call.FinalizeInterest face what set) f = ap call_of (nest3 (codes "finalize") (field (face_word face)) (mark_words what) (field (flag_word (codes "1") (codes "0") set))) ∙ first_back call_by (codes "finalize") _ refl ∙ finalize_back face what set f.0 f.1
+call_back (call.Request face r now) f = ap call_of (nest9 (codes "ask") (field (face_word face)) (field (decimal r.id)) (field (wire_word r.wire)) (field (target_word r.target)) (field (option_word decimal r.timeout)) (field (decimal r.node)) (field (decimal r.qos)) (field (payload_word r.payload)) (field (decimal now))) ∙ first_back call_by (codes "ask") _ refl ∙ ask_back face r now f.0 f.1 f.2
+call_back (call.Response face r) f = ap call_of (nest5 (codes "reply") (field (face_word face)) (field (decimal r.rid)) (field (wire_word r.wire)) (body_words r.payload) (by_words r.responder)) ∙ first_back call_by (codes "reply") _ refl ∙ reply_back face r f.0 f.1
+call_back (call.ResponseFinal face rid) f = ap call_of (append_assoc (codes "final") (field (face_word face)) (field (decimal rid))) ∙ first_back call_by (codes "final") _ refl ∙ final_back face rid f
+call_back (call.Sent n) f = first_back call_by (codes "sent") _ refl ∙ sent_back n f
+call_back (call.Poll n) f = first_back call_by (codes "poll") _ refl ∙ poll_back n f
+call_back (call.SetGateways r t) f = ap call_of (nest3 (codes "gateways") (field (region_word r)) (field (list_word 59 entry_word t.of)) (field (all_word t.all))) ∙ first_back call_by (codes "gateways") _ refl ∙ gateways_back r t f.0 f.1
+call_back (call.SetNetwork r t) f = ap call_of (nest4 (codes "network") (field (region_word r)) (field (zids_word t.nodes)) (field (list_word 59 tree_word t.trees)) (field (list_word 44 decimal t.distances))) ∙ first_back call_by (codes "network") _ refl ∙ network_back r t f.0 f.1
+call_back (call.SetNodeIds face t) f = ap call_of (append_assoc (codes "nodes") (field (face_word face)) (field (zids_word t.ids))) ∙ first_back call_by (codes "nodes") _ refl ∙ nodes_back face t f.0 f.1

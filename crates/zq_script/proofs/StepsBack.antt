@@ -1,5 +1,5 @@
 -- A printed step is read back.
-use Rattle.std.proofs.Common.{◌≡◌, ℕ, ◌≤◌, List, [], ◌∷◌, ◌++◌, Option, Some, None, refl, ap, ◌∙◌, sym, arith, length, Bool, true, false, cond, append_assoc}
+use Rattle.std.proofs.Common.{◌≡◌, ℕ, ◌≤◌, List, [], ◌∷◌, ◌++◌, Option, Some, None, refl, ap, ◌∙◌, sym, arith, Bool, true, false, cond, append_assoc}
 use Rattle.std.specs.Prelude.{codes}
 use Rattle.std.specs.Fmt.{decimal}
 use Rattle.std.specs.List.{AllByRecursion, flat_map}
@@ -26,30 +26,27 @@ use Rattle.zq_gateway.specs.declared.call.Refusal.{Refusal}
 use Rattle.zq_gateway.specs.declared.call.Refusal.TheVariants as refusal
 use Rattle.zq_gateway.specs.declared.call.Handed.{Handed}
 use Rattle.zq_gateway.specs.declared.call.Step.{Step}
-use Rattle.zq_words.specs.Words.{◌>>=◌, field, lacks, number, payload_word, option_of, option_word}
+use Rattle.zq_words.specs.Words.{◌>>=◌, field, lacks, payload_word, option_of, option_word}
 use Rattle.zq_words.specs.Values.{most_8, most_16, most_32, most_64, flag_word, zid_of, zid_word, mapping_word, target_word, wire_word}
 use Rattle.zq_words.specs.Fits.{FitsZid, FitsWire, FitsOption}
-use Rattle.zq_words.proofs.Back.{lacks_append, len_stop, take_front, drop_front, cut_back, Ends, Reads, then, number_reads, decimal_lacks, payload_is_word}
+use Rattle.zq_words.proofs.Back.{lacks_append, cut_back, Reads, then, number_reads, decimal_lacks, payload_is_word}
 use Rattle.zq_words.proofs.Lists.{not_name, OptionReads, option_reads}
 use Rattle.zq_words.proofs.ValuesBack.{face_reads, zid_reads, wire_reads}
 use Rattle.zq_script.specs.CallLines.{info_words, body_words}
-use Rattle.zq_script.specs.Fits.{FitsRequest}
+use Rattle.zq_script.specs.Fits.{FitsRequest, FitsResponse}
 use Rattle.zq_script.specs.Same.{same_message}
+use Rattle.zq_script.specs.Lines.{by_first}
 use Rattle.zq_script.specs.Script.{lines_of}
 use Rattle.zq_script.specs.Steps.{request_words, response_words, interest_words, declare_words, message_words, refusal_name, outcome_words, leaving_words, handed_words, step_words, steps_words}
-use Rattle.zq_script.specs.StepsRead.{by_first, last_at, request_of, response_of, final_of, interest_of, uninterest_of, declared, key_of, unkey_of, queryable_of, unqueryable_of, declfinal_of, message_by, message_of, refusal_of, outcome_by, outcome_of, leaves_by, handed_of, Told, answered, told_by, told_of, steps_of}
-use Rattle.zq_script.specs.StepsFit.{FitsReply, FitsFinal, FitsInterest, FitsDeclare, FitsMessage, FitsOutcome, FitsHanded, FitsStep}
-use Rattle.zq_script.proofs.LinesBack.{then_last, on, c_reads, k_reads, info_back, option_wire, option_number, option_plain, bytes_reads, manner_back, body_back, body_ends, nest3, nest4, nest5, nest6, nest7}
+use Rattle.zq_script.specs.StepsRead.{last_at, request_of, response_of, final_of, interest_of, uninterest_of, declared, key_of, unkey_of, queryable_of, unqueryable_of, declfinal_of, message_by, message_of, refusal_of, outcome_by, outcome_of, leaves_by, handed_of, Told, answered, told_by, told_of, steps_of}
+use Rattle.zq_script.specs.StepsFit.{FitsFinal, FitsInterest, FitsDeclare, FitsMessage, FitsOutcome, FitsHanded, FitsStep}
+use Rattle.zq_script.proofs.LinesBack.{then_last, first_back, on, k_reads, info_back, option_wire, option_number, option_plain, bytes_reads, manner_back, body_back, body_ends, nest3, nest5, nest7}
 use Rattle.zq_script.proofs.Parts.{lines_cut}
 use Rattle.zq_script.proofs.Sameness.{message_same}
 
 -- the last word of a line
 last_back : {X Y : Type 0} {read : List ℕ → Option X} {w : List ℕ} {x : X} {y : Y} (f : X → Option Y) → Reads read w x → f x ≡ Some y → (last_at read (32 ∷ w) >>= f) ≡ Some y
 last_back f r k = on f (then_last _ r refl) k
-
--- the first word of a line
-first_back : {X : Type 0} (read : List ℕ → List ℕ → Option X) (name rest : List ℕ) → lacks 32 name ≡ true → by_first read (name ++ 32 ∷ rest) ≡ read name (32 ∷ rest)
-first_back read name rest e = rw (len_stop 32 name rest e, take_front name (32 ∷ rest), drop_front name (32 ∷ rest)) refl
 
 -- messages
 request_back : (r : Request) → FitsRequest r
@@ -62,7 +59,7 @@ responder : (o : Option Zid) → FitsOption FitsZid o → OptionReads zid_of zid
 responder None f = tt
 responder (Some zid) f = zid_reads zid f
 
-response_back : (r : Response) → FitsReply r
+response_back : (r : Response) → FitsResponse most_8 r
     → response_of (field (decimal r.rid) ++ (field (wire_word r.wire) ++ (field (decimal r.qos) ++ (body_words r.payload ++ field (option_word zid_word r.responder))))) ≡ Some (message.Response r)
 unfolding response_of
 response_back r f =
@@ -234,7 +231,7 @@ request_flat r f =
     all_flat (codes "request") (field (decimal r.id) ∷ field (wire_word r.wire) ∷ field (target_word r.target) ∷ field (option_word decimal r.timeout) ∷ field (decimal r.node) ∷ field (decimal r.qos) ∷ field (payload_word r.payload) ∷ []) refl
     (decimal_lacks 10 r.id (omega (arith, f.id)) refl, (wire_flat r.wire f.wire, (target_flat r.target, (numbers_flat r.timeout f.timeout, (decimal_lacks 10 r.node (omega (arith, f.node)) refl, (decimal_lacks 10 r.qos (omega (arith, f.qos)) refl, (payload_flat r.payload, tt)))))))
 
-response_flat : (r : Response) → FitsReply r → Flat (response_words r)
+response_flat : (r : Response) → FitsResponse most_8 r → Flat (response_words r)
 unfolding joined
 response_flat r f =
     all_flat (codes "response") (field (decimal r.rid) ∷ field (wire_word r.wire) ∷ field (decimal r.qos) ∷ body_words r.payload ∷ field (option_word zid_word r.responder) ∷ []) refl

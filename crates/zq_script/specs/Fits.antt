@@ -1,5 +1,5 @@
 -- The calls that a line can say: numbers within their fields, and texts that are UTF-8.
-use Rattle.std.specs.Prelude.{◌≡◌, ℕ, ◌≤◌, ◌<◌, List, length, ⊤}
+use Rattle.std.specs.Prelude.{ℕ, ◌≤◌, ◌<◌, List, length, ⊤}
 use Rattle.std.specs.List.{AllByRecursion}
 use Rattle.zq_key.specs.declared.message.FaceId.{FaceId}
 use Rattle.zq_key.specs.declared.message.ReplyBody.{ReplyBody}
@@ -48,11 +48,11 @@ pub record FitsRequest (r : Request) : Type 0 where
   pub qos : r.qos ≤ most_8
   pub payload : IsBytes r.payload
 
--- a reply, whose line has no quality byte
-pub record FitsResponse (r : Response) : Type 0 where
+-- a reply, its quality byte at most this
+pub record FitsResponse (most : ℕ) (r : Response) : Type 0 where
   pub rid : r.rid ≤ most_32
   pub wire : FitsWire r.wire
-  pub qos : r.qos ≡ 0
+  pub qos : r.qos ≤ most
   pub payload : FitsBody r.payload
   pub responder : FitsOption FitsZid r.responder
 
@@ -72,7 +72,7 @@ pub record FitsIds (f : FaceId) (n most : ℕ) : Type 0 where
   pub face : FitsFace f
   pub id : n ≤ most
 
--- a call that a line can say
+-- a call that a line can say; the line of a reply has no quality byte
 abbrev pub FitsCall : Call → Type 0
 FitsCall (call.Open o) = FitsOpening o
 FitsCall (call.Close face) = FitsFace face
@@ -84,7 +84,7 @@ FitsCall (call.Interest face id keys wire) = FitsIds face id most_32 × FitsOpti
 FitsCall (call.InterestFinal face id) = FitsIds face id most_32
 FitsCall (call.FinalizeInterest face what set) = FitsFace face × FitsMark what
 FitsCall (call.Request face r now) = FitsFace face × FitsRequest r × (now ≤ most_64)
-FitsCall (call.Response face r) = FitsFace face × FitsResponse r
+FitsCall (call.Response face r) = FitsFace face × FitsResponse 0 r
 FitsCall (call.ResponseFinal face rid) = FitsIds face rid most_32
 FitsCall (call.Sent reply) = reply ≤ most_64
 FitsCall (call.Poll now) = now ≤ most_64

@@ -264,6 +264,10 @@ call_by head bytes =
     else (if bytes_eq head (codes "finalize") then finalize_of bytes
     else other_by head bytes))))))))
 
+-- by the first word, and by what follows it
+abbrev pub by_first : {X : Type 0} → (List ℕ → List ℕ → Option X) → List ℕ → Option X
+by_first read line = read (take (len_to 32 line) line) (drop (len_to 32 line) line)
+
 -- the call that a line says
 abbrev pub call_of : List ℕ → Option Call
-call_of line = call_by (take (len_to 32 line) line) (drop (len_to 32 line) line)
+call_of line = by_first call_by line

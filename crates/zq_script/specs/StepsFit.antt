@@ -1,7 +1,6 @@
 -- The steps that a print can say: numbers within their fields, texts that are UTF-8, and in a declaration no field that its line doesn't show.
 use Rattle.std.specs.Prelude.{◌≡◌, ℕ, ◌≤◌, Option, None, ⊤}
 use Rattle.std.specs.List.{AllByRecursion}
-use Rattle.zq_key.specs.declared.message.Response.{Response}
 use Rattle.zq_key.specs.declared.message.ResponseFinal.{ResponseFinal}
 use Rattle.zq_key.specs.declared.message.Interest.{Interest}
 use Rattle.zq_key.specs.declared.message.DeclareBody.{DeclareBody}
@@ -13,16 +12,8 @@ use Rattle.zq_gateway.specs.declared.call.Outcome.TheVariants as outcome
 use Rattle.zq_gateway.specs.declared.call.Handed.{Handed}
 use Rattle.zq_gateway.specs.declared.call.Step.{Step}
 use Rattle.zq_words.specs.Values.{most_8, most_16, most_32, most_64}
-use Rattle.zq_words.specs.Fits.{FitsFace, FitsZid, FitsWire, FitsOption}
-use Rattle.zq_script.specs.Fits.{FitsRequest, FitsBody}
-
--- a reply, with its quality byte
-pub record FitsReply (r : Response) : Type 0 where
-  pub rid : r.rid ≤ most_32
-  pub wire : FitsWire r.wire
-  pub qos : r.qos ≤ most_8
-  pub payload : FitsBody r.payload
-  pub responder : FitsOption FitsZid r.responder
+use Rattle.zq_words.specs.Fits.{FitsFace, FitsWire, FitsOption}
+use Rattle.zq_script.specs.Fits.{FitsRequest, FitsResponse}
 
 -- a final
 pub record FitsFinal (f : ResponseFinal) : Type 0 where
@@ -46,7 +37,7 @@ FitsDeclare interest node body.DeclareFinal = FitsOption (λ n. n ≤ most_32) i
 -- a message whose words say all of it
 abbrev pub FitsMessage : Message → Type 0
 FitsMessage (message.Request r) = FitsRequest r
-FitsMessage (message.Response r) = FitsReply r
+FitsMessage (message.Response r) = FitsResponse most_8 r
 FitsMessage (message.ResponseFinal f) = FitsFinal f
 FitsMessage (message.Declare d) = FitsDeclare d.interest d.node d.body
 FitsMessage (message.Interest i) = FitsInterest i

@@ -1,5 +1,5 @@
 -- How a print of steps is read: by its lines, and each line by its words.
-use Rattle.std.specs.Prelude.{ℕ, Bool, true, false, ◌==◌, List, [], ◌∷◌, Option, Some, None, if◌then◌else◌, drop, take, codes}
+use Rattle.std.specs.Prelude.{ℕ, ◌==◌, List, [], ◌∷◌, Option, Some, None, if◌then◌else◌, codes}
 use Rattle.std.specs.Str.{bytes_eq}
 use Rattle.zq_key.specs.declared.message.DeclareBody.{DeclareBody}
 use Rattle.zq_key.specs.declared.message.DeclareBody.TheVariants as body
@@ -11,14 +11,10 @@ use Rattle.zq_gateway.specs.declared.call.Refusal.{Refusal}
 use Rattle.zq_gateway.specs.declared.call.Refusal.TheVariants as refusal
 use Rattle.zq_gateway.specs.declared.call.Handed.{Handed}
 use Rattle.zq_gateway.specs.declared.call.Step.{Step}
-use Rattle.zq_words.specs.Words.{◌>>=◌, len_to, number, read_at, at_end, bytes_of, option_of}
+use Rattle.zq_words.specs.Words.{◌>>=◌, number, read_at, at_end, bytes_of, option_of}
 use Rattle.zq_words.specs.Values.{most_8, most_16, most_32, most_64, flag_of, face_of, zid_of, wire_of}
-use Rattle.zq_script.specs.Lines.{info_at, manner_at, body_at}
+use Rattle.zq_script.specs.Lines.{info_at, manner_at, body_at, by_first}
 use Rattle.zq_script.specs.Script.{lines_of}
-
--- by the first word, and by what follows it
-abbrev pub by_first : {X : Type 0} → (List ℕ → List ℕ → Option X) → List ℕ → Option X
-by_first read line = read (take (len_to 32 line) line) (drop (len_to 32 line) line)
 
 -- a space, and then the whole rest of the line
 abbrev pub rest_at : {X : Type 0} → (List ℕ → Option X) → List ℕ → Option X

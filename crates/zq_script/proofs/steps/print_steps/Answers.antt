@@ -1,4 +1,4 @@
-use Rattle.std.proofs.Common.{◌≡◌, arith, rules}
+use Rattle.std.proofs.Common.{◌≡◌, arith}
 use Rattle.std.proofs.lemmas.Grind.{common_steps}
 use Rattle.zq_script.specs.Steps.{steps_words}
 use Rattle.zq_script.proofs.StepsBack.{steps_back}
