@@ -19,9 +19,10 @@ use Rattle.zq_key.specs.declared.message.Declare.{Declare}
 use Rattle.zq_key.specs.declared.message.Message.{Message}
 use Rattle.zq_key.specs.declared.message.Message.TheVariants as message
 use Rattle.std.specs.Bool.{Decides}
+use Rattle.std.specs.Option.{option_eq}
 use Rattle.std.proofs.lemmas.Bool.Decides.{Decides-and, Decides-like, Decides-eqb}
 use Rattle.std.proofs.lemmas.Slice.Eq.{bytes_eq-Decides}
-use Rattle.zq_script.specs.Same.{same_number, same_flag, same_option, same_zid, same_mapping, same_target, same_reply, same_wire, same_info, same_request, same_response, same_final, same_interest, same_body, same_declare, same_message}
+use Rattle.zq_script.specs.Same.{same_number, same_flag, same_zid, same_mapping, same_target, same_reply, same_wire, same_info, same_request, same_response, same_final, same_interest, same_body, same_declare, same_message}
 
 -- two that differ in kind
 other : {X : Type 0} {a b : X} → (a ≡ b → ⊥) → Decides false (a ≡ b)
@@ -36,7 +37,7 @@ flag_same true false = other (λ e. cc)
 flag_same false true = other (λ e. cc)
 flag_same false false = (λ e. refl, λ e. refl)
 
-option_same : {X : Type 0} (same : X → X → Bool) → ((x y : X) → Decides (same x y) (x ≡ y)) → (a b : Option X) → Decides (same_option same a b) (a ≡ b)
+option_same : {X : Type 0} (same : X → X → Bool) → ((x y : X) → Decides (same x y) (x ≡ y)) → (a b : Option X) → Decides (option_eq same a b) (a ≡ b)
 option_same same d None None = (λ e. refl, λ e. refl)
 option_same same d None (Some y) = other (λ e. cc)
 option_same same d (Some x) None = other (λ e. cc)

@@ -1,5 +1,6 @@
 -- Whether two messages are the same.
 use Rattle.std.specs.Prelude.{ℕ, Bool, true, false, not, ◌&&◌, ◌==◌, Option, Some, None}
+use Rattle.std.specs.Option.{option_eq}
 use Rattle.std.specs.Str.{bytes_eq}
 use Rattle.zq_key.specs.declared.message.Zid.{Zid}
 use Rattle.zq_key.specs.declared.message.Mapping.{Mapping}
@@ -28,13 +29,6 @@ same_number m n = m == n
 abbrev pub same_flag : Bool → Bool → Bool
 same_flag true b = b
 same_flag false b = not b
-
--- both are none, or both are there and the same
-abbrev pub same_option : {X : Type 0} → (X → X → Bool) → Option X → Option X → Bool
-same_option same None None = true
-same_option same None (Some y) = false
-same_option same (Some x) None = false
-same_option same (Some x) (Some y) = same x y
 
 -- one id
 abbrev pub same_zid : Zid → Zid → Bool
@@ -74,11 +68,11 @@ same_info a b = same_flag a.complete b.complete && a.distance == b.distance
 
 -- each field is the same
 abbrev pub same_request : Request → Request → Bool
-same_request a b = a.id == b.id && same_wire a.wire b.wire && same_target a.target b.target && same_option same_number a.timeout b.timeout && a.node == b.node && a.qos == b.qos && bytes_eq a.payload b.payload
+same_request a b = a.id == b.id && same_wire a.wire b.wire && same_target a.target b.target && option_eq same_number a.timeout b.timeout && a.node == b.node && a.qos == b.qos && bytes_eq a.payload b.payload
 
 -- each field is the same
 abbrev pub same_response : Response → Response → Bool
-same_response a b = a.rid == b.rid && same_wire a.wire b.wire && a.qos == b.qos && same_reply a.payload b.payload && same_option same_zid a.responder b.responder
+same_response a b = a.rid == b.rid && same_wire a.wire b.wire && a.qos == b.qos && same_reply a.payload b.payload && option_eq same_zid a.responder b.responder
 
 -- each field is the same
 abbrev pub same_final : ResponseFinal → ResponseFinal → Bool
@@ -86,7 +80,7 @@ same_final a b = a.rid == b.rid && a.qos == b.qos
 
 -- each field is the same
 abbrev pub same_interest : Interest → Interest → Bool
-same_interest a b = a.id == b.id && same_flag a.keys b.keys && same_option same_wire a.wire b.wire
+same_interest a b = a.id == b.id && same_flag a.keys b.keys && option_eq same_wire a.wire b.wire
 
 -- the same declaration
 abbrev pub same_body : DeclareBody → DeclareBody → Bool
@@ -108,7 +102,7 @@ same_body (body.DeclareQueryable id wire info) body.DeclareFinal = false
 same_body (body.UndeclareQueryable id wire) (body.DeclareKeyExpr id2 wire2) = false
 same_body (body.UndeclareQueryable id wire) (body.UndeclareKeyExpr id2) = false
 same_body (body.UndeclareQueryable id wire) (body.DeclareQueryable id2 wire2 info2) = false
-same_body (body.UndeclareQueryable id wire) (body.UndeclareQueryable id2 wire2) = id == id2 && same_option same_wire wire wire2
+same_body (body.UndeclareQueryable id wire) (body.UndeclareQueryable id2 wire2) = id == id2 && option_eq same_wire wire wire2
 same_body (body.UndeclareQueryable id wire) body.DeclareFinal = false
 same_body body.DeclareFinal (body.DeclareKeyExpr id2 wire2) = false
 same_body body.DeclareFinal (body.UndeclareKeyExpr id2) = false
@@ -118,7 +112,7 @@ same_body body.DeclareFinal body.DeclareFinal = true
 
 -- each field is the same
 abbrev pub same_declare : Declare → Declare → Bool
-same_declare a b = same_option same_number a.interest b.interest && a.node == b.node && same_body a.body b.body
+same_declare a b = option_eq same_number a.interest b.interest && a.node == b.node && same_body a.body b.body
 
 -- the same message
 abbrev pub same_message : Message → Message → Bool

@@ -1,10 +1,11 @@
 //! Whether two messages are the same.
 ghost use Rattle.std.specs.Prelude.{◌≡◌, Decides};
-ghost use Rattle.zq_script.specs.Same.{same_mapping, same_target, same_wire, same_info, same_zid, same_option, same_number, same_reply, same_request, same_response, same_interest, same_body, same_declare, same_message};
+ghost use Rattle.std.specs.Option.{option_eq};
+ghost use Rattle.zq_script.specs.Same.{same_mapping, same_target, same_wire, same_info, same_reply, same_request, same_response, same_interest, same_body, same_declare, same_message};
 
 use zq_key::message::{
     Declare, DeclareBody, Interest, Mapping, Message, QueryTarget, QueryableInfoType, ReplyBody,
-    Request, Response, WireExpr, Zid,
+    Request, Response, WireExpr,
 };
 
 fn same_mapping(a: Mapping, b: Mapping) -> bool
@@ -36,41 +37,11 @@ fn same_wire(a: &WireExpr, b: &WireExpr) -> bool
 }
 
 fn same_option_wire(a: &Option<WireExpr>, b: &Option<WireExpr>) -> bool
-    ensures { result ≡ same_option same_wire a.now b.now }
+    ensures { result ≡ option_eq same_wire a.now b.now }
 {
     match (a, b) {
         (None, None) => true,
         (Some(a), Some(b)) => same_wire(a, b),
-        _ => false,
-    }
-}
-
-fn same_timeout(a: Option<u64>, b: Option<u64>) -> bool
-    ensures { result ≡ same_option same_number a b }
-{
-    match (a, b) {
-        (None, None) => true,
-        (Some(a), Some(b)) => a == b,
-        _ => false,
-    }
-}
-
-fn same_interest_id(a: Option<u32>, b: Option<u32>) -> bool
-    ensures { result ≡ same_option same_number a b }
-{
-    match (a, b) {
-        (None, None) => true,
-        (Some(a), Some(b)) => a == b,
-        _ => false,
-    }
-}
-
-fn same_responder(a: Option<Zid>, b: Option<Zid>) -> bool
-    ensures { result ≡ same_option same_zid a b }
-{
-    match (a, b) {
-        (None, None) => true,
-        (Some(a), Some(b)) => a.0 == b.0,
         _ => false,
     }
 }
@@ -87,7 +58,7 @@ fn same_request(a: &Request, b: &Request) -> bool
     a.id == b.id
         && same_wire(&a.wire, &b.wire)
         && same_target(a.target, b.target)
-        && same_timeout(a.timeout, b.timeout)
+        && a.timeout == b.timeout
         && a.node == b.node
         && a.qos == b.qos
         && a.payload.as_slice() == b.payload.as_slice()
@@ -110,7 +81,7 @@ fn same_response(a: &Response, b: &Response) -> bool
         && same_wire(&a.wire, &b.wire)
         && a.qos == b.qos
         && same_reply(&a.payload, &b.payload)
-        && same_responder(a.responder, b.responder)
+        && a.responder == b.responder
 }
 
 fn same_interest(a: &Interest, b: &Interest) -> bool
@@ -155,7 +126,7 @@ fn same_body(a: &DeclareBody, b: &DeclareBody) -> bool
 fn same_declare(a: &Declare, b: &Declare) -> bool
     ensures { result ≡ same_declare a.now b.now }
 {
-    same_interest_id(a.interest, b.interest) && a.node == b.node && same_body(&a.body, &b.body)
+    a.interest == b.interest && a.node == b.node && same_body(&a.body, &b.body)
 }
 
 fn same_kind(a: &Message, b: &Message) -> bool
