@@ -11,7 +11,7 @@ use Rattle.zq_words.specs.Words.{len_to, pieces}
 use Rattle.zq_words.specs.Values.{most_8, most_16, most_32, most_64, mode_of, bound_of, target_of, flag_of}
 use Rattle.zq_words.specs.Fits.{IsBytes, IsText, FitsZid, FitsOption}
 use Rattle.zq_script.specs.declared.lines.Deny.{Deny}
-use Rattle.zq_script.specs.Lines.{deny_side, deny_of, denies_of, at_entry, at_exit, deny_text, opening_of, close_of, key_of, unkey_of, info_at, queryable_of, unqueryable_of, interest_of, uninterest_of, mark_by, mark_at, finalize_of, manner_at, ask_of, body_by, body_at, by_of, responder_of, reply_of, final_of, sent_of, poll_of, gateways_of, network_of, nodes_of, call_by, other_by, call_of}
+use Rattle.zq_script.specs.Lines.{deny_side, deny_of, denies_of, at_side, deny_text, opening_of, close_of, key_of, unkey_of, info_at, queryable_of, unqueryable_of, interest_of, uninterest_of, mark_by, mark_at, finalize_of, manner_at, ask_of, body_by, body_at, by_of, responder_of, reply_of, final_of, sent_of, poll_of, gateways_of, network_of, nodes_of, call_by, other_by, call_of}
 use Rattle.zq_script.specs.Fits.{FitsMark, FitsBody, FitsCall}
 use Rattle.zq_script.proofs.Given.{Given, no_one, one, bind, either, FieldFits, field_given, some_given, free_given, any_given, end_given, number_given, face_given, zid_given, bytes_given, text_given, cut_given, behind_given, wire_given, option_given, region_given, name_given, pieces_bytes, each_given, list_given, zids_given, entry_given, all_given, tree_given}
 
@@ -177,7 +177,7 @@ unfolding opening_of
 opening_given bytes a =
     bind (field_given region_given bytes a) (λ region p. bind (field_given zid_given region.1 p.rest) (λ zid q. bind (free_given mode_of zid.1 q.rest) (λ strategy r.
     bind (free_given bound_of strategy.1 r.rest) (λ remote s. bind (some_given name_given remote.1 s.rest) (λ namespace u. bind (denies_given namespace.1 u.rest) (λ denies v.
-    one (record { region = p.value; zid = q.value; namespace = u.value; entry_deny = side_fits at_entry denies v; exit_deny = side_fits at_exit denies v })))))))
+    one (record { region = p.value; zid = q.value; namespace = u.value; entry_deny = side_fits (at_side true) denies v; exit_deny = side_fits (at_side false) denies v })))))))
 
 -- the call of a line
 other_given : (head bytes : List ℕ) → IsBytes bytes → Given FitsCall (other_by head bytes)

@@ -25,8 +25,8 @@ use Rattle.zq_gateway.specs.declared.call.Call.{Call}
 use Rattle.zq_gateway.specs.declared.call.Call.TheVariants as call
 use Rattle.zq_words.specs.Words.{◌>>=◌, field, lacks, bytes_of, number, read_at, text_of, payload_of, payload_word, list_word, option_of, option_word}
 use Rattle.zq_words.specs.Values.{most_8, most_16, most_32, most_64, flag_of, flag_word, face_word, zid_word, wire_of, wire_word, target_word, region_word, mode_word, bound_word, zids_word, entry_word, tree_word, all_word}
-use Rattle.zq_script.specs.Lines.{deny_of, denies_of, at_entry, at_exit, deny_text, opening_of, close_of, key_of, unkey_of, info_at, queryable_of, unqueryable_of, interest_of, uninterest_of, mark_by, mark_at, finalize_of, manner_at, ask_of, body_at, by_of, responder_of, reply_of, final_of, sent_of, poll_of, gateways_of, network_of, nodes_of, call_by, other_by, by_first, call_of}
-use Rattle.zq_script.specs.CallLines.{deny_in, deny_out, denies_words, info_words, mark_words, body_words, by_words, call_words}
+use Rattle.zq_script.specs.Lines.{deny_of, denies_of, at_side, deny_text, opening_of, close_of, key_of, unkey_of, info_at, queryable_of, unqueryable_of, interest_of, uninterest_of, mark_by, mark_at, finalize_of, manner_at, ask_of, body_at, by_of, responder_of, reply_of, final_of, sent_of, poll_of, gateways_of, network_of, nodes_of, call_by, other_by, by_first, call_of}
+use Rattle.zq_script.specs.CallLines.{deny_item, denies_words, info_words, mark_words, body_words, by_words, call_words}
 use Rattle.zq_words.specs.Fits.{IsText, IsBytes, FitsFace, FitsZid, FitsWire, FitsOption, FitsRegion}
 use Rattle.zq_script.specs.Fits.{IsNamespace, FitsOpening, FitsIds, FitsRequest, FitsResponse, FitsBody, FitsMark, FitsGateways, FitsNetwork, FitsCall}
 use Rattle.zq_words.proofs.Back.{lacks_append, len_stop, take_front, drop_front, Ends, Reads, then, read_back, number_reads, text_reads, text_back, same_bytes, payload_back, payload_lacks, payload_some, space_escaped}
@@ -246,15 +246,15 @@ deny_word d = flag_word (codes "in") (codes "out") d.entry ++ 58 ∷ payload_wor
 deny_field : Deny → List ℕ
 deny_field d = 32 ∷ deny_word d
 
-words_exits : (ts : List (List ℕ)) → flat_map deny_out ts ≡ flat_map deny_field (exits ts)
+words_exits : (ts : List (List ℕ)) → flat_map (deny_item (codes "out:")) ts ≡ flat_map deny_field (exits ts)
 unfolding exits deny_field deny_word
 words_exits [] = refl
-words_exits (t ∷ ts) = ap (λ x. deny_out t ++ x) (words_exits ts)
+words_exits (t ∷ ts) = ap (λ x. deny_item (codes "out:") t ++ x) (words_exits ts)
 
 words_entries : (ts ex : List (List ℕ)) → denies_words ts ex ≡ flat_map deny_field (entries ts ex)
 unfolding entries deny_field deny_word
 words_entries [] ex = words_exits ex
-words_entries (t ∷ ts) ex = append_assoc (deny_in t) (flat_map deny_in ts) (flat_map deny_out ex) ∙ ap (λ x. deny_in t ++ x) (words_entries ts ex)
+words_entries (t ∷ ts) ex = append_assoc (deny_item (codes "in:") t) (flat_map (deny_item (codes "in:")) ts) (flat_map (deny_item (codes "out:")) ex) ∙ ap (λ x. deny_item (codes "in:") t ++ x) (words_entries ts ex)
 
 deny_lacks : (name t : List ℕ) → lacks 32 name ≡ true → lacks 32 (name ++ payload_word t) ≡ true
 deny_lacks name t e = lacks_append 32 name (payload_word t) e (payload_lacks 32 t (omega arith) space_escaped)
@@ -286,22 +286,22 @@ denies_read (d ∷ ds) a = each_back 32 deny_of deny_word d ds a
 denies_back : (ts ex : List (List ℕ)) → AllByRecursion IsText ts → AllByRecursion IsText ex → denies_of (denies_words ts ex) ≡ Some (entries ts ex)
 denies_back ts ex a b = ap denies_of (words_entries ts ex) ∙ denies_read (entries ts ex) (entry_pieces ts ex a b)
 
-none_at_entry : (ts : List (List ℕ)) → map deny_text (filter at_entry (exits ts)) ≡ []
+none_at_entry : (ts : List (List ℕ)) → map deny_text (filter (at_side true) (exits ts)) ≡ []
 unfolding exits
 none_at_entry [] = refl
 none_at_entry (t ∷ ts) = none_at_entry ts
 
-all_at_exit : (ts : List (List ℕ)) → map deny_text (filter at_exit (exits ts)) ≡ ts
+all_at_exit : (ts : List (List ℕ)) → map deny_text (filter (at_side false) (exits ts)) ≡ ts
 unfolding exits
 all_at_exit [] = refl
 all_at_exit (t ∷ ts) = ap (λ x. t ∷ x) (all_at_exit ts)
 
-entry_part : (ts ex : List (List ℕ)) → map deny_text (filter at_entry (entries ts ex)) ≡ ts
+entry_part : (ts ex : List (List ℕ)) → map deny_text (filter (at_side true) (entries ts ex)) ≡ ts
 unfolding entries
 entry_part [] ex = none_at_entry ex
 entry_part (t ∷ ts) ex = ap (λ x. t ∷ x) (entry_part ts ex)
 
-exit_part : (ts ex : List (List ℕ)) → map deny_text (filter at_exit (entries ts ex)) ≡ ex
+exit_part : (ts ex : List (List ℕ)) → map deny_text (filter (at_side false) (entries ts ex)) ≡ ex
 unfolding entries
 exit_part [] ex = all_at_exit ex
 exit_part (t ∷ ts) ex = exit_part ts ex

@@ -17,17 +17,13 @@ use Rattle.zq_gateway.specs.declared.call.Call.TheVariants as call
 use Rattle.zq_words.specs.Words.{field, payload_word, list_word, option_word}
 use Rattle.zq_words.specs.Values.{flag_word, face_word, zid_word, mode_word, bound_word, target_word, region_word, wire_word, zids_word, entry_word, all_word, tree_word}
 
--- an item of the list of what may not come in
-abbrev pub deny_in : List ℕ → List ℕ
-deny_in text = field (codes "in:" ++ payload_word text)
-
--- an item of the list of what may not go out
-abbrev pub deny_out : List ℕ → List ℕ
-deny_out text = field (codes "out:" ++ payload_word text)
+-- an item of a list of what may not come in, or of what may not go out: behind the name of the side
+abbrev pub deny_item : List ℕ → List ℕ → List ℕ
+deny_item side text = field (side ++ payload_word text)
 
 -- the entries of both lists
 abbrev pub denies_words : List (List ℕ) → List (List ℕ) → List ℕ
-denies_words entry exit = flat_map deny_in entry ++ flat_map deny_out exit
+denies_words entry exit = flat_map (deny_item (codes "in:")) entry ++ flat_map (deny_item (codes "out:")) exit
 
 -- the words of an opening
 abbrev pub opening_words : Opening → List ℕ

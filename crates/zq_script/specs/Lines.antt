@@ -31,13 +31,10 @@ abbrev pub denies_of : List ℕ → Option (List Deny)
 denies_of [] = Some []
 denies_of (b ∷ bytes) = if b == 32 then read_each deny_of (pieces 32 bytes) else None
 
--- the item is of what may not come in
-abbrev pub at_entry : Deny → Bool
-at_entry d = d.entry
-
--- the item is of what may not go out
-abbrev pub at_exit : Deny → Bool
-at_exit d = not d.entry
+-- the item is of this side: of what may not come in, or of what may not go out
+abbrev pub at_side : Bool → Deny → Bool
+at_side true d = d.entry
+at_side false d = not d.entry
 
 -- the text of the item
 abbrev pub deny_text : Deny → List ℕ
@@ -52,7 +49,7 @@ opening_of bytes = do
   remote ← read_at bound_of strategy.1
   namespace ← read_at (option_of text_of) remote.1
   denies ← denies_of namespace.1
-  Some (call.Open (record { region = region.0; zid = zid.0; mode = strategy.0; remote_bound = remote.0; namespace = namespace.0; entry_deny = map deny_text (filter at_entry denies); exit_deny = map deny_text (filter at_exit denies) }))
+  Some (call.Open (record { region = region.0; zid = zid.0; mode = strategy.0; remote_bound = remote.0; namespace = namespace.0; entry_deny = map deny_text (filter (at_side true) denies); exit_deny = map deny_text (filter (at_side false) denies) }))
 
 -- `close F`
 unfoldable pub close_of : List ℕ → Option Call

@@ -3,7 +3,7 @@ ghost use Rattle.std.specs.Prelude.{◌≡◌, ◌++◌, IfOk, OnOk, Some, strin
 ghost use Rattle.std.specs.List.{flat_map};
 ghost use Rattle.zq_script.specs.Lines.{call_of};
 ghost use Rattle.zq_script.specs.Fits.{FitsCall};
-ghost use Rattle.zq_script.specs.CallLines.{deny_in, deny_out, opening_words, info_words, mark_words, body_words, by_words, first_words, ids_words, declaring_words, ask_words, reply_words, asking_words, table_words, call_words};
+ghost use Rattle.zq_script.specs.CallLines.{deny_item, opening_words, info_words, mark_words, body_words, by_words, first_words, ids_words, declaring_words, ask_words, reply_words, asking_words, table_words, call_words};
 
 use std::alloc::{AllocError, Global};
 use std::fmt::Write;
@@ -14,36 +14,19 @@ use zq_key::message::{FaceId, QueryableInfoType, ReplyBody, Request, Response, Z
 use zq_key::text::{Bytes, Text};
 use zq_words::show::{Shown, push_field, push_flag};
 
-/// Writes an entry of the list of what may not come in.
-fn push_deny_in(out: &mut String, text: &Text) -> Result<(), AllocError>
-    ensures { OnOk result (string_bytes out.new ≡ string_bytes out.old ++ deny_in text.now) }
+/// Writes an item of a deny list, behind the name of its side.
+fn push_deny(out: &mut String, side: &str, text: &Text) -> Result<(), AllocError>
+    ensures { OnOk result (string_bytes out.new ≡ string_bytes out.old ++ deny_item side.now text.now) }
 {
-    write!(out, " in:")?;
+    write!(out, " {side}")?;
     text.show(out)
 }
 
-fn push_denies_in(out: &mut String, texts: &[Text]) -> Result<(), AllocError>
-    ensures { OnOk result (string_bytes out.new ≡ string_bytes out.old ++ flat_map deny_in texts.now) }
+fn push_denies(out: &mut String, side: &str, texts: &[Text]) -> Result<(), AllocError>
+    ensures { OnOk result (string_bytes out.new ≡ string_bytes out.old ++ flat_map (deny_item side.now) texts.now) }
 {
     for text in texts {
-        push_deny_in(out, text)?;
-    }
-    Ok(())
-}
-
-/// Writes an entry of the list of what may not go out.
-fn push_deny_out(out: &mut String, text: &Text) -> Result<(), AllocError>
-    ensures { OnOk result (string_bytes out.new ≡ string_bytes out.old ++ deny_out text.now) }
-{
-    write!(out, " out:")?;
-    text.show(out)
-}
-
-fn push_denies_out(out: &mut String, texts: &[Text]) -> Result<(), AllocError>
-    ensures { OnOk result (string_bytes out.new ≡ string_bytes out.old ++ flat_map deny_out texts.now) }
-{
-    for text in texts {
-        push_deny_out(out, text)?;
+        push_deny(out, side, text)?;
     }
     Ok(())
 }
@@ -56,8 +39,8 @@ fn push_opening(out: &mut String, opening: &Opening) -> Result<(), AllocError>
     push_field(out, &opening.mode)?;
     push_field(out, &opening.remote_bound)?;
     push_field(out, &opening.namespace)?;
-    push_denies_in(out, opening.entry_deny.as_slice())?;
-    push_denies_out(out, opening.exit_deny.as_slice())
+    push_denies(out, "in:", opening.entry_deny.as_slice())?;
+    push_denies(out, "out:", opening.exit_deny.as_slice())
 }
 
 /// Writes c or p, and a distance.

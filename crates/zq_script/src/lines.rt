@@ -2,7 +2,7 @@
 ghost use Rattle.std.specs.Prelude.{◌≡◌, IfOk, map, filter, take, length};
 ghost use Rattle.std.specs.Option.{option_map};
 ghost use Rattle.zq_words.specs.Words.{read_at, read_each, pieces};
-ghost use Rattle.zq_script.specs.Lines.{deny_of, denies_of, at_entry, at_exit, deny_text, opening_of, close_of, key_of, unkey_of, info_at, queryable_of, unqueryable_of, interest_of, uninterest_of, mark_by, mark_at, finalize_of, manner_at, ask_of, body_by, body_at, by_of, responder_of, reply_of, final_of, sent_of, poll_of, gateways_of, network_of, nodes_of, call_by, other_by, call_of};
+ghost use Rattle.zq_script.specs.Lines.{deny_of, denies_of, at_side, deny_text, opening_of, close_of, key_of, unkey_of, info_at, queryable_of, unqueryable_of, interest_of, uninterest_of, mark_by, mark_at, finalize_of, manner_at, ask_of, body_by, body_at, by_of, responder_of, reply_of, final_of, sent_of, poll_of, gateways_of, network_of, nodes_of, call_by, other_by, call_of};
 
 use std::alloc::Global;
 use zq_gateway::call::{Call, Opening};
@@ -54,26 +54,13 @@ fn denies_of(alloc: Global, bytes: &[u8]) -> Result<Option<Items<Deny>>, OutOfMe
     }
 }
 
-/// The texts of these entries, in order.
-fn entry_texts(alloc: Global, denies: &[Deny]) -> Result<TextList, OutOfMemory>
-    ensures { IfOk result (λ t. t ≡ map deny_text (filter at_entry denies.now)) }
+/// The texts of the items of this side, in order.
+fn texts_at(alloc: Global, entry: bool, denies: &[Deny]) -> Result<TextList, OutOfMemory>
+    ensures { IfOk result (λ t. t ≡ map deny_text (filter (at_side entry) denies.now)) }
 {
     let mut texts = Items::new(alloc);
     'denies: for deny in denies {
-        if deny.entry {
-            texts.push(deny.text.copy(alloc)?)?;
-        }
-    }
-    Ok(texts)
-}
-
-/// The texts of these entries, in order.
-fn exit_texts(alloc: Global, denies: &[Deny]) -> Result<TextList, OutOfMemory>
-    ensures { IfOk result (λ t. t ≡ map deny_text (filter at_exit denies.now)) }
-{
-    let mut texts = Items::new(alloc);
-    'denies: for deny in denies {
-        if !deny.entry {
+        if deny.entry == entry {
             texts.push(deny.text.copy(alloc)?)?;
         }
     }
@@ -108,8 +95,8 @@ fn opening_of(alloc: Global, bytes: &[u8]) -> Result<Option<Call>, OutOfMemory>
         mode,
         remote_bound,
         namespace,
-        entry_deny: entry_texts(alloc, denies.as_slice())?,
-        exit_deny: exit_texts(alloc, denies.as_slice())?,
+        entry_deny: texts_at(alloc, true, denies.as_slice())?,
+        exit_deny: texts_at(alloc, false, denies.as_slice())?,
     })))
 }
 
