@@ -1,13 +1,13 @@
 -- A queryable that was held and is let go again leaves all as it was.
-use Rattle.std.proofs.Common.{◌≡◌, ℕ, Bool, true, false, cond, List, Option, Some, None, refl, sym, ap, ◌∙◌}
+use Rattle.std.proofs.Common.{◌≡◌, ℕ, Bool, true, false, List, Option, Some, None, refl, sym, ap}
 use Rattle.std.specs.Option.{is_some, is_none}
 use Rattle.std.specs.Ordering.{nat_cmp}
-use Rattle.std.specs.BTreeMap.{is_at, insert_entry}
+use Rattle.std.specs.BTreeMap.{is_at}
 use Rattle.std.specs.Map.{remove_entry}
 use Rattle.std.proofs.lemmas.Bool.{false≢true}
 use Rattle.std.proofs.lemmas.Cmp.{nat_cmp_total}
 use Rattle.std.proofs.lemmas.Map.Lookups.{exact_unsigned}
-use Rattle.zq_naming.specs.Naming.{FaceKeys, Names, NamingState, change_naming, face_keys, face_queryables, first_stays, text_at, with_queryable, without_queryable}
+use Rattle.zq_naming.specs.Naming.{Names, NamingState, change_naming, face_keys, face_queryables, first_stays, text_at, with_queryable, without_queryable}
 use Rattle.zq_naming.proofs.Emptied.{changed_back, changed_idle}
 use Rattle.zq_query.proofs.Owing.{undone}
 use Rattle.zq_gateway.specs.Undoing.{taken_back}

@@ -1,5 +1,5 @@
 -- A final comes where nothing of its request is left: each number stands once.
-use Rattle.std.proofs.Common.{◌≡◌, ℕ, ◌+◌, ◌<◌, ◌≤◌, zero, suc, Bool, true, false, cond, not, List, [], ◌∷◌, ◌++◌, map, length, Option, Some, None, refl, sym, ap, ◌∙◌, arith, true≢false}
+use Rattle.std.proofs.Common.{◌≡◌, ℕ, ◌+◌, ◌<◌, ◌≤◌, Bool, true, false, cond, List, [], ◌∷◌, map, length, Option, Some, None, refl, ap, ◌∙◌, arith}
 use Rattle.std.specs.List.{filter, list_any}
 use Rattle.std.specs.Prelude.{◌&&◌, ◌||◌, ◌==◌, nat_lt}
 use Rattle.std.specs.Option.{is_some}
@@ -7,7 +7,7 @@ use Rattle.std.proofs.lemmas.Bool.{false≢true}
 use Rattle.zq_query.specs.declared.records.Final.{Final}
 use Rattle.zq_query.specs.declared.records.ReplyTo.{ReplyTo}
 use Rattle.zq_query.specs.declared.records.Timeout.{Timeout}
-use Rattle.zq_query.specs.Records.{QueryState, Record, Pending, after_put, ending_after, ending_landed, has_reply, is_closed, is_entry, is_none_left, landing, letting_go, next_reply, flies}
+use Rattle.zq_query.specs.Records.{QueryState, Record, Pending, after_put, ending_after, ending_landed, has_reply, is_entry, is_none_left, landing, letting_go, next_reply}
 use Rattle.zq_query.specs.Closing.{at_face, closing_finals, finals_after, finals_landed, has_open_asker}
 use Rattle.zq_query.specs.Polling.{after_timeout, is_due, timeouts, timing_out}
 use Rattle.zq_query.specs.Balance.{finals_under, owed_by}
@@ -18,9 +18,9 @@ use Rattle.zq_gateway.specs.Configs.{Settings}
 use Rattle.zq_gateway.specs.State.{State, opening_state}
 use Rattle.zq_gateway.specs.Selecting.{full_text, select, target_of}
 use Rattle.zq_gateway.specs.TextCalls.{TextCall, opening, closing, naming, unnaming, declaring, withdrawing, asking, replying, ending, reporting, passing, listing, unbuilt, read}
-use Rattle.zq_gateway.specs.Deciding.{refusal_of, granted, answered, is_accepted, accepted, after_replied, deadline, handed_final, handed_timeouts, passing_finals}
+use Rattle.zq_gateway.specs.Deciding.{refusal_of, granted, answered, is_accepted, accepted, after_replied, deadline, passing_finals}
 use Rattle.zq_gateway.specs.Machine.{written, write, accepted_state, after, state_after, step}
-use Rattle.zq_gateway.specs.Waiting.{IsSettled, is_same, owes, waits}
+use Rattle.zq_gateway.specs.Waiting.{IsSettled, is_same, waits}
 use Rattle.zq_gateway.specs.Headline.{FinalPromise, ends, finals_of, to_come}
 use Rattle.zq_gateway.proofs.Finals.{IsSound, asked_count, call_balance, call_standing, finals_counted, none_replied, passed_count}
 use Rattle.zq_gateway.proofs.OneFinal.{one_at_first}

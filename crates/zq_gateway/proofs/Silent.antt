@@ -32,7 +32,7 @@ use Rattle.zq_gateway.specs.Machine.{sent_timeout, state_after, step, steps_from
 use Rattle.zq_gateway.specs.Waiting.{is_of}
 use Rattle.zq_gateway.specs.Headline.{finals_over, to_come}
 use Rattle.zq_gateway.proofs.Writing.{timeouts_written}
-use Rattle.zq_gateway.proofs.Finals.{IsSound, call_balance, call_standing, opening_sound}
+use Rattle.zq_gateway.proofs.Finals.{opening_sound}
 use Rattle.zq_gateway.proofs.OneFinal.{granted_grows, one_at_first, owed_less, run_balance}
 
 -- ---- a request that is found, and whose asker is open, is owed a final

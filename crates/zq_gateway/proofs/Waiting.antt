@@ -8,7 +8,6 @@ use Rattle.std.specs.declared.cmp.Ordering.TheVariants.{Less, Equal, Greater}
 use Rattle.std.specs.Ordering.{nat_cmp, match_ordering, ordering_then}
 use Rattle.std.specs.BTreeSet.{insert_key}
 use Rattle.std.proofs.lemmas.Bool.{false≢true, and_parts}
-use Rattle.std.proofs.lemmas.List.Folds.{list_any-append}
 use Rattle.std.proofs.lemmas.Map.Lookups.{exact_unsigned}
 use Rattle.zq_key.specs.declared.message.FaceId.{FaceId}
 use Rattle.zq_query.specs.declared.records.Final.{Final}
@@ -16,10 +15,9 @@ use Rattle.zq_query.specs.declared.records.Timeout.{Timeout}
 use Rattle.zq_query.specs.Records.{QueryState, Record, Pending, is_closed, is_left, is_none_left, is_over, is_reply, has_reply, has_number, flies, insert_pending, landing, letting_go, putting, request, with_reply, without, without_reply, after_put}
 use Rattle.zq_query.specs.Tables.{Due}
 use Rattle.zq_query.specs.Asking.{asked_records, entries_at, entry_at}
-use Rattle.zq_query.specs.Polling.{after_timeout, has_number_for, numbers_in, timed_out, timeouts, timeouts_of, timing_out, with_timeout, dues_at}
+use Rattle.zq_query.specs.Polling.{after_timeout, has_number_for, numbers_in, timed_out, timeouts, timing_out, with_timeout, dues_at}
 use Rattle.zq_query.proofs.Keys.{place_exact}
 use Rattle.zq_query.proofs.Putting.{found_there}
-use Rattle.zq_query.proofs.TimingOut.{numbers_both}
 use Rattle.zq_gateway.specs.Waiting.{is_same, owes, waits}
 
 -- ---- of truth values

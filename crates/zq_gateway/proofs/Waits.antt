@@ -1,5 +1,5 @@
 -- What each call of a run takes out of what requests wait for, and puts in.
-use Rattle.std.proofs.Common.{◌≡◌, ℕ, Bool, true, false, cond, not, List, [], ◌∷◌, ◌++◌, map, Option, Some, None, refl, sym, ap, ◌∙◌, true≢false}
+use Rattle.std.proofs.Common.{◌≡◌, ℕ, Bool, true, false, cond, not, List, [], ◌∷◌, ◌++◌, map, Option, Some, None, refl, sym, ap, ◌∙◌}
 use Rattle.std.specs.List.{filter, list_any}
 use Rattle.std.specs.Prelude.{◌&&◌, ◌||◌, ◌==◌}
 use Rattle.std.specs.Option.{is_some, option_map, option_map_or}
@@ -13,15 +13,14 @@ use Rattle.zq_hat.specs.declared.types.QueryTargetQabl.{QueryTargetQabl}
 use Rattle.zq_query.specs.declared.records.Final.{Final}
 use Rattle.zq_query.specs.declared.records.ReplyTo.{ReplyTo}
 use Rattle.zq_query.specs.declared.records.Timeout.{Timeout}
-use Rattle.zq_query.specs.Records.{QueryState, Record, Pending, after_put, after_reply, flies, has_reply, is_closed, is_entry, is_reply, letting_go, next_reply, owner, reply_to, has_number}
-use Rattle.zq_query.specs.Asking.{asked_records, entry_at, given_place}
+use Rattle.zq_query.specs.Records.{QueryState, Record, Pending, after_put, flies, has_reply, is_closed, is_entry, is_reply, letting_go, next_reply, owner, reply_to, has_number}
+use Rattle.zq_query.specs.Asking.{asked_records, given_place}
 use Rattle.zq_query.specs.Closing.{at_face, closing_finals, finals_after, finals_landed}
 use Rattle.zq_query.specs.Polling.{is_due, timeouts, timing_out, has_number_for}
-use Rattle.zq_query.proofs.Putting.{owner_there, some_from_map}
+use Rattle.zq_query.proofs.Putting.{owner_there}
 use Rattle.zq_naming.specs.Naming.{NamingState}
 use Rattle.zq_gateway.specs.declared.call.Call.{Call}
 use Rattle.zq_gateway.specs.declared.call.Call.TheVariants as call
-use Rattle.zq_gateway.specs.declared.call.Handed.{Handed}
 use Rattle.zq_gateway.specs.declared.call.Refusal.{Refusal}
 use Rattle.zq_gateway.specs.declared.face.OpenFace.{OpenFace}
 use Rattle.zq_gateway.specs.State.{State, Core}
@@ -29,10 +28,9 @@ use Rattle.zq_gateway.specs.Selecting.{select, full_text, target_of}
 use Rattle.zq_gateway.specs.TextCalls.{TextCall, opening, closing, naming, unnaming, declaring, withdrawing, asking, replying, ending, reporting, passing, listing, unbuilt, read}
 use Rattle.zq_gateway.specs.Deciding.{refusal_of, granted, answered, is_accepted, accepted, after_replied, deadline, handed_final, handed_request, handed_requests, handed_replies, handed_timeouts, passing_finals, replied}
 use Rattle.zq_gateway.specs.Machine.{written, write, accepted_state, step, after, sent_reply, sent_timeout}
-use Rattle.zq_gateway.specs.Waiting.{Waits, carries, ends_entry, gives, is_same, lands, owes, until, waits}
-use Rattle.zq_gateway.proofs.Waiting.{and_false, and_true, or_false, asked, owes_let, owes_landed, owes_timing, owes_after_put, owes_asked, flies_let, flies_landed, flies_put, flies_timing, flies_asked, says, new, timeouts_fit}
+use Rattle.zq_gateway.specs.Waiting.{Waits, carries, ends_entry, gives, lands, owes, until, waits}
+use Rattle.zq_gateway.proofs.Waiting.{and_false, and_true, or_false, asked, owes_let, owes_landed, owes_timing, owes_after_put, owes_asked, flies_let, flies_landed, flies_put, flies_timing, flies_asked, says, timeouts_fit}
 use Rattle.zq_gateway.proofs.Writing.{replies_written, timeouts_written}
-use Rattle.zq_gateway.proofs.Promises.{granted_is_accepted}
 
 -- ---- what a call with its expressions read ends
 ended : TextCall → Pending → Bool

@@ -1,6 +1,9 @@
 //! The command: replays a script from standard input to standard output.
 #![tactic(auto)]
 
+ghost use Rattle.std.specs.Prelude.{◌≡◌};
+ghost use Rattle.zq_main.specs.Words.{asked_of};
+
 use std::alloc::Global;
 use std::process::ExitCode;
 use std::rt::Env;
@@ -29,7 +32,9 @@ enum Asked {
     Run,
 }
 
-fn read_words(words: &[Text]) -> Asked {
+fn read_words(words: &[Text]) -> Asked
+    ensures { result ≡ asked_of words.now }
+{
     match words {
         [word] => match word.as_str() {
             "--help" => Asked::Help,

@@ -14,10 +14,10 @@ use Rattle.zq_names.specs.Names.{NameEntry, ids, entry_at, with_hold, change_at}
 use Rattle.zq_names.specs.Keeping.{ChangesAt}
 use Rattle.zq_tables.specs.FaceIds.{FaceIds, of_id, with_id}
 use Rattle.zq_tables.specs.FaceTexts.{id_texts, texts_of, full_of}
-use Rattle.zq_naming.specs.Naming.{FaceKeys, FaceNaming, Names, face_naming, text_at, with_name, with_theirs, change_naming}
+use Rattle.zq_naming.specs.Naming.{FaceNaming, Names, face_naming, text_at, with_name, with_theirs, change_naming}
 use Rattle.zq_naming.specs.Holding.{FaceHolds, Faces, IsFace, IsHeld, Numbers, Declares, hold_of, face_holds, holds_by, ids_at, is_settled, numbers_in, number_settled, keys_of_face, texts_by}
 use Rattle.zq_naming.proofs.Entries.{Rises-with_id, Rises-shown, weigh-with_id, weigh-set, with_same, shown-with_id}
-use Rattle.zq_naming.proofs.Holds.{hold_itself, hold_other, few_holds, holds_at, face_at, same_face, same_texts}
+use Rattle.zq_naming.proofs.Holds.{hold_itself, hold_other, few_holds, face_at, same_texts}
 use Rattle.zq_naming.proofs.Faces.{face_there, change_closed, change_idle, set_texts, changed_text}
 use Rattle.zq_key.specs.declared.message.WireExpr.{WireExpr}
 use Rattle.zq_tables.specs.Registering.{Maps, Registers}

@@ -8,8 +8,8 @@ use Rattle.std.proofs.lemmas.Bool.Decides.{nat_tests}
 use Rattle.std.proofs.lemmas.Option.{none-some, same_Some}
 use Rattle.std.proofs.lemmas.List.Elements.{All-head, All-tail, All-cons, All-nil}
 use Rattle.zq_names.specs.Names.{NameEntry, ids, entry_at}
-use Rattle.zq_tables.specs.FaceIds.{FaceIds, AreLiveIds, AreLive}
-use Rattle.zq_tables.specs.FaceTexts.{id_texts, texts_of}
+use Rattle.zq_tables.specs.FaceIds.{AreLiveIds, AreLive}
+use Rattle.zq_tables.specs.FaceTexts.{id_texts}
 use Rattle.zq_naming.specs.Naming.{FaceKeys}
 use Rattle.zq_naming.specs.Holding.{FaceHolds, Faces, IsFace, IsHeld, hold_of, side_holds, face_holds, holds_by, ids_at, keys_of_face, texts_by}
 use Rattle.zq_naming.proofs.Entries.{Rises-length, weigh-removed}

@@ -1,6 +1,5 @@
 -- Holds are taken and let go, and ids are put in place and taken out, on either side of a face.
-use Rattle.std.proofs.Common.{◌≡◌, ℕ, ◌+◌, ◌-◌, ◌^◌, ◌<◌, ◌≤◌, true, false, List, length, Option, Some, None, refl, sym, ap, subst, ◌∙◌, arith, zero, suc, inl, inr, ◌⊎◌}
-use Rattle.std.specs.Option.{is_some}
+use Rattle.std.proofs.Common.{◌≡◌, ℕ, ◌+◌, ◌-◌, ◌^◌, ◌<◌, List, length, Some, refl, sym, ap, subst, ◌∙◌, arith, zero, suc, inl, inr}
 use Rattle.std.specs.List.{All, Contains}
 use Rattle.std.specs.Map.{set_value, values_of}
 use Rattle.std.specs.BTreeMap.{is_at}
@@ -11,12 +10,11 @@ use Rattle.zq_names.specs.declared.node.ResourceId.{ResourceId}
 use Rattle.zq_names.specs.Names.{NameEntry, Makes, HasText, ids, entry_at, with_hold, without_hold, change_at}
 use Rattle.zq_names.specs.Idle.{IdleAt, NoneIdle}
 use Rattle.zq_names.specs.Keeping.{AllStay, NoneCome, ChangesAt}
-use Rattle.zq_tables.specs.FaceIds.{of_id, with_id}
-use Rattle.zq_tables.specs.FaceTexts.{id_texts}
-use Rattle.zq_naming.specs.Naming.{FaceKeys, Names, first_stays, text_at, with_queryable, with_theirs, without_name, without_queryable, change_naming}
-use Rattle.zq_naming.specs.Holding.{FaceHolds, Faces, InHand, IsFace, IsHeld, LetsGo, TakesHold, hold_of, face_holds, holds_by, ids_at, is_settled, node_at, queryable_at, queryable_settled, queryables_in, put_ids, change_ids, keys_of_face, texts_by, with_hold_at, without_hold_at, without_number}
-use Rattle.zq_naming.proofs.Entries.{Rises-with_id, Rises-without_id, weigh-removed, weigh-set, weigh-with_id, shown-removed, shown-with_id}
-use Rattle.zq_naming.proofs.Faces.{change_closed, change_idle, set_texts, changed_text, node_is, queryable_is}
+use Rattle.zq_tables.specs.FaceIds.{of_id}
+use Rattle.zq_naming.specs.Naming.{Names, with_theirs, without_name, without_queryable, change_naming}
+use Rattle.zq_naming.specs.Holding.{FaceHolds, Faces, InHand, IsFace, IsHeld, LetsGo, TakesHold, hold_of, face_holds, holds_by, ids_at, node_at, queryable_at, put_ids, change_ids, keys_of_face, texts_by, without_hold_at, without_number}
+use Rattle.zq_naming.proofs.Entries.{Rises-without_id, weigh-removed, weigh-set, shown-removed}
+use Rattle.zq_naming.proofs.Faces.{set_texts, changed_text, node_is, queryable_is}
 use Rattle.zq_naming.proofs.Holds.{hold_itself, hold_other, few_holds, face_at, same_texts}
 use Rattle.zq_naming.proofs.Lean.{lean_held, lean_unheld}
 use Rattle.zq_naming.proofs.Made.{fresh_made}

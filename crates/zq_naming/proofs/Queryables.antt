@@ -12,7 +12,7 @@ use Rattle.std.proofs.lemmas.Map.Views.{All-values-set_value}
 use Rattle.zq_names.specs.Names.{NameEntry, entry_at}
 use Rattle.zq_tables.specs.FaceIds.{of_id, with_id}
 use Rattle.zq_tables.specs.FaceTexts.{id_texts}
-use Rattle.zq_naming.specs.Naming.{FaceKeys, Names, first_stays, text_at, with_queryable, without_queryable, change_naming}
+use Rattle.zq_naming.specs.Naming.{Names, first_stays, text_at, with_queryable, without_queryable, change_naming}
 use Rattle.zq_naming.specs.Holding.{FaceHolds, Faces, InHand, IsFace, IsHeld, hold_of, face_holds, holds_by, ids_at, is_settled, queryable_at, queryable_settled, queryables_in, put_ids, change_ids, keys_of_face, texts_by, with_hold_at}
 use Rattle.zq_naming.proofs.Entries.{Rises-with_id, removed_absent, weigh-set, weigh-with_id, shown-with_id}
 use Rattle.zq_naming.proofs.Faces.{change_closed, change_idle, set_texts}

@@ -1,0 +1,15 @@
+-- What the words of the command ask for.
+use Rattle.std.specs.Prelude.{ℕ, List, [], ◌∷◌, codes, if◌then◌else◌}
+use Rattle.std.specs.Str.{bytes_eq}
+use Rattle.zq_main.specs.declared.Asked.{Asked}
+use Rattle.zq_main.specs.declared.Asked.TheVariants.{Help, Version, Run}
+
+-- one word that asks for a text, or words for a run
+abbrev pub asked_by : List ℕ → Asked
+asked_by word = if bytes_eq word (codes "--help") then Help else (if bytes_eq word (codes "--version") then Version else Run)
+
+-- `--help` alone and `--version` alone; all else is for a run
+abbrev pub asked_of : List (List ℕ) → Asked
+asked_of [] = Run
+asked_of (word ∷ []) = asked_by word
+asked_of (word ∷ other ∷ words) = Run
