@@ -35,7 +35,7 @@ use Rattle.zq_gateway.specs.declared.face.OpenFace.{OpenFace}
 use Rattle.zq_gateway.specs.Configs.{Settings}
 use Rattle.zq_gateway.specs.State.{State, Core, at, is_open, opening_state}
 use Rattle.zq_gateway.specs.Selecting.{select, full_text, target_of}
-use Rattle.zq_gateway.specs.TextCalls.{TextCall, opening, closing, naming, unnaming, declaring, withdrawing, asking, replying, ending, reporting, passing, listing, unbuilt, read}
+use Rattle.zq_gateway.specs.TextCalls.{TextCall, opening, closing, naming, unnaming, declaring, withdrawing, asking, replying, ending, reporting, passing, listing, finalizing, unbuilt, read}
 use Rattle.zq_gateway.specs.Deciding.{causes, refusal_of, granted, answered, is_accepted, accepted, after_replied, deadline, handed_final, handed_request, handed_requests, handed_replies, handed_timeouts, opened, passing_finals, replied}
 use Rattle.zq_gateway.specs.Machine.{written, write, follow, accepted_state, after, state_after, sent_final, sent_reply, sent_timeout, step}
 use Rattle.zq_gateway.specs.Headline.{ends, finals_of, to_come}
@@ -142,6 +142,7 @@ granted_sound c (ending face rid) h s = same_closed c.faces c.next_face c.querie
 granted_sound c (reporting reply) h s = same_closed c.faces c.next_face c.queries _ s refl (landing_none_over reply c.queries.records)
 granted_sound c (passing now) h s = same_closed c.faces c.next_face c.queries _ s (timing_closed now c.queries) (poll_none_over now c.queries)
 granted_sound c (listing r t) h s = s
+granted_sound c (finalizing face m set) h s = s
 granted_sound c unbuilt h s = s
 
 abbrev pub IsSound : State → Type 0
@@ -283,6 +284,7 @@ granted_balance n s (passing now) h i =
     let same = ap (λ l. to_come l n q) (timing_closed now q) in
     omega (arith, told, kept, same)
 granted_balance n s (listing r t) h i = omega arith
+granted_balance n s (finalizing face m set) h i = omega arith
 granted_balance n s unbuilt h i = omega arith
 
 follow_balance : (n : ℕ) (s : State) (t : TextCall) (o : Option Refusal) → refusal_of s.core t ≡ o → IsSound s →

@@ -1,6 +1,7 @@
 pub mod Entries
 pub mod Writing
 pub mod Below
+pub mod Lent
 pub mod Replies
 pub mod Routes
 pub mod Valid

@@ -12,7 +12,7 @@ use Rattle.zq_query.proofs.Lists.{has_put}
 use Rattle.zq_gateway.specs.declared.call.Call.{Call}
 use Rattle.zq_gateway.specs.Configs.{Settings}
 use Rattle.zq_gateway.specs.State.{State, Core, opening_state}
-use Rattle.zq_gateway.specs.TextCalls.{TextCall, opening, closing, naming, unnaming, declaring, withdrawing, asking, replying, ending, reporting, passing, listing, unbuilt, read}
+use Rattle.zq_gateway.specs.TextCalls.{TextCall, opening, closing, naming, unnaming, declaring, withdrawing, asking, replying, ending, reporting, passing, listing, finalizing, unbuilt, read}
 use Rattle.zq_gateway.specs.Deciding.{decide, is_accepted, accepted, after_replied}
 use Rattle.zq_gateway.specs.Machine.{follow, accepted_state, after, steps_from, state_after}
 use Rattle.zq_gateway.specs.Headline.{finals_over, to_come}
@@ -40,6 +40,7 @@ granted_grows c (ending face rid) f h = h
 granted_grows c (reporting reply) f h = h
 granted_grows c (passing now) f h = ap (λ l. is_closed l f) (sym (timing_closed now c.queries)) ∙ h
 granted_grows c (listing r t) f h = h
+granted_grows c (finalizing face m set) f h = h
 granted_grows c unbuilt f h = h
 
 follow_grows : (s : State) (t : TextCall) (f : ℕ) → is_closed (follow s t).core.queries.closed f ≡ false → is_closed s.core.queries.closed f ≡ false

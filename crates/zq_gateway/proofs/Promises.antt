@@ -31,7 +31,7 @@ use Rattle.zq_gateway.specs.declared.call.Refusal.{Refusal}
 use Rattle.zq_gateway.specs.declared.face.OpenFace.{OpenFace}
 use Rattle.zq_gateway.specs.State.{State, Core, at}
 use Rattle.zq_gateway.specs.Selecting.{select, select_for, full_text, target_of}
-use Rattle.zq_gateway.specs.TextCalls.{TextCall, opening, closing, naming, unnaming, declaring, withdrawing, asking, replying, ending, reporting, passing, listing, unbuilt, read, said as said_by_face}
+use Rattle.zq_gateway.specs.TextCalls.{TextCall, opening, closing, naming, unnaming, declaring, withdrawing, asking, replying, ending, reporting, passing, listing, finalizing, unbuilt, read, said as said_by_face}
 use Rattle.zq_gateway.specs.Deciding.{passing_finals, Cause, first_of, causes, refusal_of, granted, answered, is_accepted, targets, handed_final, handed_request, handed_requests, handed_replies, handed_timeouts, replied}
 use Rattle.zq_gateway.specs.Machine.{written, write, answer, accepted_state, step, sent_final, sent_reply, sent_timeout}
 use Rattle.zq_gateway.specs.Headline.{HandsOn, HandsEach, HandsRequest, RequestPromise, HandsReply, ReplyPromise, RefusesBy, asks, replies_to}
@@ -182,6 +182,7 @@ is_asking (ending face rid) = false
 is_asking (reporting reply) = false
 is_asking (passing now) = false
 is_asking (listing r t) = false
+is_asking (finalizing face m set) = false
 is_asking unbuilt = false
 
 granted_asks : (names : NamingState) (c : Core) (t : TextCall) → is_asking t ≡ false → list_any asks (map (written names) (granted c t).handed) ≡ false
@@ -200,6 +201,7 @@ granted_asks names c (passing now) h =
     ap (list_any asks) (map-append (written names) (handed_timeouts c.faces (timeouts now c.queries)) (map handed_final (passing_finals now c.queries)))
     ∙ any_both asks (map (written names) (handed_timeouts c.faces (timeouts now c.queries))) (map (written names) (map handed_final (passing_finals now c.queries))) (no_timeouts_ask names c.faces (timeouts now c.queries)) (no_finals_ask names (passing_finals now c.queries))
 granted_asks names c (listing r t) h = refl
+granted_asks names c (finalizing face m set) h = refl
 granted_asks names c unbuilt h = refl
 
 quiet_asks : (s : State) (t : TextCall) → is_asking t ≡ false → list_any asks (answer s t).handed ≡ false
@@ -225,7 +227,7 @@ request_promise s (call.Poll now) = quiet_asks s (passing now) refl
 request_promise s (call.SetGateways r t) = quiet_asks s (listing r t) refl
 request_promise s (call.Interest face id keys wire) = quiet_asks s unbuilt refl
 request_promise s (call.InterestFinal face id) = quiet_asks s unbuilt refl
-request_promise s (call.FinalizeInterest face mark set) = quiet_asks s unbuilt refl
+request_promise s (call.FinalizeInterest face mark set) = quiet_asks s (finalizing face mark set) refl
 request_promise s (call.SetNetwork r net) = quiet_asks s unbuilt refl
 request_promise s (call.SetNodeIds face ids) = quiet_asks s unbuilt refl
 
@@ -243,6 +245,7 @@ is_replying (withdrawing face id) = false
 is_replying (ending face rid) = false
 is_replying (reporting reply) = false
 is_replying (listing r t) = false
+is_replying (finalizing face m set) = false
 is_replying unbuilt = false
 
 granted_replies : (names : NamingState) (c : Core) (t : TextCall) → is_replying t ≡ false → list_any replies_to (map (written names) (granted c t).handed) ≡ false
@@ -259,6 +262,7 @@ granted_replies names c (withdrawing face id) h = refl
 granted_replies names c (ending face rid) h = no_finals_reply names (finals_after (is_entry face.0 rid) c.queries.closed c.queries.records)
 granted_replies names c (reporting reply) h = no_finals_reply names (finals_landed reply c.queries.closed c.queries.records)
 granted_replies names c (listing r t) h = refl
+granted_replies names c (finalizing face m set) h = refl
 granted_replies names c unbuilt h = refl
 
 quiet_replies : (s : State) (t : TextCall) → is_replying t ≡ false → list_any replies_to (answer s t).handed ≡ false
@@ -299,7 +303,7 @@ reply_promise s (call.Sent reply) = quiet_replies s (reporting reply) refl
 reply_promise s (call.SetGateways r t) = quiet_replies s (listing r t) refl
 reply_promise s (call.Interest face id keys wire) = quiet_replies s unbuilt refl
 reply_promise s (call.InterestFinal face id) = quiet_replies s unbuilt refl
-reply_promise s (call.FinalizeInterest face mark set) = quiet_replies s unbuilt refl
+reply_promise s (call.FinalizeInterest face mark set) = quiet_replies s (finalizing face mark set) refl
 reply_promise s (call.SetNetwork r net) = quiet_replies s unbuilt refl
 reply_promise s (call.SetNodeIds face ids) = quiet_replies s unbuilt refl
 
@@ -323,6 +327,7 @@ granted_is_accepted c (withdrawing face id) h = refl
 granted_is_accepted c (ending face rid) h = refl
 granted_is_accepted c (reporting reply) h = refl
 granted_is_accepted c (listing r t) h = refl
+granted_is_accepted c (finalizing face m set) h = refl
 granted_is_accepted c unbuilt h = refl
 
 pub refusal_promise : (s : State) (c : Call) → RefusesBy (refusal_of s.core (read s c)) s c

@@ -17,7 +17,7 @@ use Rattle.zq_gateway.specs.declared.call.Refusal.{Refusal}
 use Rattle.zq_gateway.specs.Configs.{Settings}
 use Rattle.zq_gateway.specs.State.{State, opening_state}
 use Rattle.zq_gateway.specs.Selecting.{full_text, select, target_of}
-use Rattle.zq_gateway.specs.TextCalls.{TextCall, opening, closing, naming, unnaming, declaring, withdrawing, asking, replying, ending, reporting, passing, listing, unbuilt, read}
+use Rattle.zq_gateway.specs.TextCalls.{TextCall, opening, closing, naming, unnaming, declaring, withdrawing, asking, replying, ending, reporting, passing, listing, finalizing, unbuilt, read}
 use Rattle.zq_gateway.specs.Deciding.{refusal_of, granted, answered, is_accepted, accepted, after_replied, deadline, passing_finals}
 use Rattle.zq_gateway.specs.Machine.{written, write, accepted_state, after, state_after, step}
 use Rattle.zq_gateway.specs.Waiting.{IsSettled, is_same, waits}
@@ -110,6 +110,7 @@ granted_numbers n s (passing now) =
     let same = timing_numbers n (timeouts now q) q in
     omega (arith, told, kept, same)
 granted_numbers n s (listing r t) = omega arith
+granted_numbers n s (finalizing face m set) = omega arith
 granted_numbers n s unbuilt = omega arith
 
 follow_numbers : (n : ℕ) (s : State) (t : TextCall) (o : Option Refusal) → refusal_of s.core t ≡ o →

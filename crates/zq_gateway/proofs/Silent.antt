@@ -26,7 +26,7 @@ use Rattle.zq_gateway.specs.declared.face.OpenFace.{OpenFace}
 use Rattle.zq_gateway.specs.Configs.{Settings}
 use Rattle.zq_gateway.specs.State.{State, opening_state}
 use Rattle.zq_gateway.specs.Selecting.{full_text, select}
-use Rattle.zq_gateway.specs.TextCalls.{TextCall, opening, closing, naming, unnaming, declaring, withdrawing, asking, replying, ending, reporting, passing, listing, unbuilt, read}
+use Rattle.zq_gateway.specs.TextCalls.{TextCall, opening, closing, naming, unnaming, declaring, withdrawing, asking, replying, ending, reporting, passing, listing, finalizing, unbuilt, read}
 use Rattle.zq_gateway.specs.Deciding.{answered, granted, handed_final, handed_replies, handed_request, handed_requests, handed_timeouts, passing_finals, refusal_of, replied}
 use Rattle.zq_gateway.specs.Machine.{sent_timeout, state_after, step, steps_from, written}
 use Rattle.zq_gateway.specs.Waiting.{is_of}
@@ -190,6 +190,7 @@ granted_silent n s (passing now) none =
     ∙ ap (λ b. b || list_any (is_of n) (map (written s.names) (map handed_final (passing_finals now q)))) late
     ∙ ended
 granted_silent n s (listing r t) none = refl
+granted_silent n s (finalizing face m set) none = refl
 granted_silent n s unbuilt none = refl
 
 pub silent : (n : ℕ) (s : State) (c : Call) → to_come s.core.queries.closed n s.core.queries ≡ 0 → list_any (is_of n) (step s c).handed ≡ false

@@ -25,7 +25,7 @@ use Rattle.zq_gateway.specs.declared.call.Refusal.{Refusal}
 use Rattle.zq_gateway.specs.declared.face.OpenFace.{OpenFace}
 use Rattle.zq_gateway.specs.State.{State, Core}
 use Rattle.zq_gateway.specs.Selecting.{select, full_text, target_of}
-use Rattle.zq_gateway.specs.TextCalls.{TextCall, opening, closing, naming, unnaming, declaring, withdrawing, asking, replying, ending, reporting, passing, listing, unbuilt, read}
+use Rattle.zq_gateway.specs.TextCalls.{TextCall, opening, closing, naming, unnaming, declaring, withdrawing, asking, replying, ending, reporting, passing, listing, finalizing, unbuilt, read}
 use Rattle.zq_gateway.specs.Deciding.{refusal_of, granted, answered, is_accepted, accepted, after_replied, deadline, handed_final, handed_request, handed_requests, handed_replies, handed_timeouts, passing_finals, replied}
 use Rattle.zq_gateway.specs.Machine.{written, write, accepted_state, step, after, sent_reply, sent_timeout}
 use Rattle.zq_gateway.specs.Waiting.{Waits, carries, ends_entry, gives, lands, owes, until, waits}
@@ -46,6 +46,7 @@ ended (asking face s r now) e = false
 ended (replying face s r) e = false
 ended (reporting reply) e = false
 ended (listing r t) e = false
+ended (finalizing face m set) e = false
 ended unbuilt e = false
 
 landed : TextCall → ℕ → Bool
@@ -61,6 +62,7 @@ landed (replying face s r) k = false
 landed (ending face rid) k = false
 landed (passing now) k = false
 landed (listing r t) k = false
+landed (finalizing face m set) k = false
 landed unbuilt k = false
 
 moment_of : Core → TextCall → ℕ
@@ -76,6 +78,7 @@ moment_of c (ending face rid) = 0
 moment_of c (reporting reply) = 0
 moment_of c (passing now) = 0
 moment_of c (listing r t) = 0
+moment_of c (finalizing face m set) = 0
 moment_of c unbuilt = 0
 
 -- ---- messages that give no entry, or carry no reply
@@ -239,6 +242,7 @@ granted_waits s (unnaming face id x) = quiet 0 s.core.queries.records
 granted_waits s (declaring face id sd i n) = quiet 0 s.core.queries.records
 granted_waits s (withdrawing face id) = quiet 0 s.core.queries.records
 granted_waits s (listing r t) = quiet 0 s.core.queries.records
+granted_waits s (finalizing face m set) = quiet 0 s.core.queries.records
 granted_waits s unbuilt = quiet 0 s.core.queries.records
 granted_waits s (closing face) = let_go 0 s (at_face face.0) (closing_finals face.0 s.core.queries)
 granted_waits s (ending face rid) = let_go 0 s (is_entry face.0 rid) (finals_after (is_entry face.0 rid) s.core.queries.closed s.core.queries.records)
@@ -295,6 +299,6 @@ call_waits s (call.Poll now) = followed s (passing now)
 call_waits s (call.SetGateways r table) = followed s (listing r table)
 call_waits s (call.Interest face id keys wire) = followed s unbuilt
 call_waits s (call.InterestFinal face id) = followed s unbuilt
-call_waits s (call.FinalizeInterest face mark set) = followed s unbuilt
+call_waits s (call.FinalizeInterest face mark set) = followed s (finalizing face mark set)
 call_waits s (call.SetNetwork r net) = followed s unbuilt
 call_waits s (call.SetNodeIds face ids) = followed s unbuilt

@@ -10,10 +10,14 @@ use Rattle.zq_key.specs.declared.message.Message.TheVariants as message
 use Rattle.zq_key.specs.declared.message.ReplyBody.TheVariants as body
 use Rattle.zq_key.specs.declared.message.Request.{Request}
 use Rattle.zq_key.specs.declared.message.Response.{Response}
+use Rattle.zq_key.specs.Key.{is_key}
 use Rattle.zq_tables.specs.RegionMap.{with_entry}
 use Rattle.zq_hat.specs.declared.types.FaceRecord.{FaceRecord}
 use Rattle.zq_hat.specs.declared.types.QueryTargetQabl.{QueryTargetQabl}
+use Rattle.zq_hat.specs.declared.types.FinalMark.{FinalMark}
+use Rattle.zq_hat.specs.declared.types.FinalMark.TheVariants as mark
 use Rattle.zq_hat.specs.Kept.{registered, unregistered, without_face}
+use Rattle.zq_hat.specs.Marks.{finalized}
 use Rattle.zq_query.specs.declared.records.Final.{Final}
 use Rattle.zq_query.specs.declared.records.ReplyTo.{ReplyTo}
 use Rattle.zq_query.specs.declared.records.Timeout.{Timeout}
@@ -31,8 +35,8 @@ use Rattle.zq_gateway.specs.declared.call.Refusal.TheVariants as refusal
 use Rattle.zq_gateway.specs.declared.call.Handed.{Handed}
 use Rattle.zq_gateway.specs.declared.call.Step.{Step}
 use Rattle.zq_gateway.specs.declared.face.OpenFace.{OpenFace}
-use Rattle.zq_gateway.specs.State.{Core, State, is_open, has_hat, hat_of, has_declared_in, clashes_in, joined, change_hat, change_hat_of}
-use Rattle.zq_gateway.specs.TextCalls.{TextCall, opening, closing, naming, unnaming, declaring, withdrawing, asking, replying, ending, reporting, passing, listing, unbuilt}
+use Rattle.zq_gateway.specs.State.{Core, State, is_open, has_hat, is_full_region, hat_of, has_declared_in, clashes_in, joined, change_hat, change_hat_of}
+use Rattle.zq_gateway.specs.TextCalls.{TextCall, opening, closing, naming, unnaming, declaring, withdrawing, asking, replying, ending, reporting, passing, listing, finalizing, unbuilt}
 use Rattle.zq_gateway.specs.Selecting.{select, target_of, zid_of, is_unscoped, says_key, says_key_or_nothing, full_text}
 
 -- ---- causes of a refusal
@@ -66,12 +70,17 @@ targets c asker s r = map target_of (select c asker s r.target)
 abbrev pub lacks_reply_number : FaceId → ℕ → QueryState → Bool
 lacks_reply_number face rid q = needs_number face.0 rid q && (q.replies + 1 == 2 ^ 64)
 
+-- a mark of a key has a key
+abbrev pub marks_key : FinalMark → Bool
+marks_key mark.Initial = true
+marks_key (mark.Key text) = is_key text
+
 abbrev pub unknown_face : FaceId → Core → Cause
 unknown_face face c = (not (is_open face.0 c), refusal.UnknownFace)
 
 -- what may refuse a call, in order
 abbrev pub causes : Core → TextCall → List Cause
-causes c (opening o) = (not (has_hat o.region c), refusal.UnknownRegion) ∷ (lacks_face_number c, refusal.NoFreeId) ∷ []
+causes c (opening o) = (not (has_hat o.region c), refusal.UnknownRegion) ∷ (is_full_region o.region c, refusal.UpstreamInUse) ∷ (lacks_face_number c, refusal.NoFreeId) ∷ []
 causes c (closing face) = unknown_face face c ∷ []
 causes c (naming face id s standing) =
     unknown_face face c ∷ (is_unscoped s, refusal.UnknownScope) ∷ (not (says_key s), refusal.InvalidKeyExpr)
@@ -89,6 +98,7 @@ causes c (ending face rid) = unknown_face face c ∷ (not (is_pending face.0 rid
 causes c (reporting reply) = (not (is_in_flight reply c.queries.records), refusal.NotInFlight) ∷ []
 causes c (passing now) = (lacks_replies (timeouts now c.queries) c.queries, refusal.NoFreeId) ∷ []
 causes c (listing r table) = (not (has_hat r c), refusal.UnknownRegion) ∷ []
+causes c (finalizing face mark set) = unknown_face face c ∷ (not (marks_key mark), refusal.InvalidKeyExpr) ∷ []
 causes c unbuilt = []
 
 -- the refusal of a call, if some cause of it holds
@@ -188,6 +198,7 @@ granted c (ending face rid) = done (map handed_final (finals_after (is_entry fac
 granted c (reporting reply) = done (map handed_final (finals_landed reply c.queries.closed c.queries.records))
 granted c (passing now) = done (handed_timeouts c.faces (timeouts now c.queries) ++ map handed_final (passing_finals now c.queries))
 granted c (listing r table) = done []
+granted c (finalizing face mark set) = done []
 granted c unbuilt = done []
 
 abbrev pub answered : Option Refusal → Step → Step
@@ -249,6 +260,7 @@ accepted c (ending face rid) = with_queries c (record c.queries { records = lett
 accepted c (reporting reply) = with_queries c (record c.queries { records = landing reply c.queries.records })
 accepted c (passing now) = with_queries c (after_poll now c.queries)
 accepted c (listing r table) = record c { tables = with_entry c.tables r table }
+accepted c (finalizing face mark set) = change_hat_of face.0 (finalized face.0 mark set) c
 accepted c unbuilt = c
 
 -- nothing stands for a key at a new face yet

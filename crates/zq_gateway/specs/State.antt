@@ -11,7 +11,7 @@ use Rattle.zq_tables.specs.Region.{region_index}
 use Rattle.zq_tables.specs.RegionMap.{value_at, with_entry}
 use Rattle.zq_hat.specs.State.{HatState}
 use Rattle.zq_hat.specs.declared.types.FaceRecord.{FaceRecord}
-use Rattle.zq_hat.specs.Kept.{clashes_at, declaration_at, has_face, new_hat, with_face_opened}
+use Rattle.zq_hat.specs.Kept.{clashes_at, declaration_at, has_face, is_full, new_hat, with_face_opened}
 use Rattle.zq_query.specs.Records.{QueryState}
 use Rattle.zq_naming.specs.Naming.{NamingState}
 use Rattle.zq_route.specs.declared.gateways.Gateways.{Gateways}
@@ -73,6 +73,10 @@ hat_at r hats = if is_region r then value_at hats r else None
 -- the region is one of the gateway's
 abbrev pub has_hat : Region → Core → Bool
 has_hat r c = is_some (hat_at r c.hats)
+
+-- the region takes no further face
+abbrev pub is_full_region : Region → Core → Bool
+is_full_region r c = option_map_or is_full (hat_at r c.hats) false
 
 -- the hat that a face belongs to
 abbrev pub hat_of : ℕ → Core → Option HatState

@@ -1,11 +1,12 @@
 -- Calls with their expressions read: each is a text, nothing, or of no known number.
-use Rattle.std.specs.Prelude.{ℕ, List, Option}
+use Rattle.std.specs.Prelude.{ℕ, Bool, List, Option}
 use Rattle.zq_key.specs.declared.message.FaceId.{FaceId}
 use Rattle.zq_key.specs.declared.message.QueryableInfoType.{QueryableInfoType}
 use Rattle.zq_key.specs.declared.message.Region.{Region}
 use Rattle.zq_key.specs.declared.message.Request.{Request}
 use Rattle.zq_key.specs.declared.message.Response.{Response}
 use Rattle.zq_key.specs.declared.message.WireExpr.{WireExpr}
+use Rattle.zq_hat.specs.declared.types.FinalMark.{FinalMark}
 use Rattle.zq_naming.specs.declared.said.Said.{Said}
 use Rattle.zq_naming.specs.Naming.{said_of, text_at, face_naming}
 use Rattle.zq_route.specs.declared.gateways.Gateways.{Gateways}
@@ -28,6 +29,7 @@ pub data TextCall : Type 0 where
   reporting : ℕ → TextCall
   passing : ℕ → TextCall
   listing : Region → Gateways → TextCall
+  finalizing : FaceId → FinalMark → Bool → TextCall
   unbuilt : TextCall
 
 -- what an expression says that the face sends
@@ -52,8 +54,8 @@ read s (call.ResponseFinal face rid) = ending face rid
 read s (call.Sent reply) = reporting reply
 read s (call.Poll now) = passing now
 read s (call.SetGateways r table) = listing r table
+read s (call.FinalizeInterest face mark set) = finalizing face mark set
 read s (call.Interest face id keys wire) = unbuilt
 read s (call.InterestFinal face id) = unbuilt
-read s (call.FinalizeInterest face mark set) = unbuilt
 read s (call.SetNetwork r net) = unbuilt
 read s (call.SetNodeIds face ids) = unbuilt

@@ -1,9 +1,10 @@
 //! What a gateway is asked, and what it answers.
 ghost use Rattle.std.specs.Prelude.{◌≡◌};
-ghost use Rattle.zq_gateway.specs.Calls.{has_none, is_absent, is_broker, is_built, is_client, is_north, is_plain_opening, is_sent};
+ghost use Rattle.zq_gateway.specs.Calls.{has_none, is_absent, is_built, is_plain_opening, is_sent, is_served, strategy_in};
 
 use crate::config::Config;
-use zq_hat::types::{FinalMark, Network, NodeIds};
+use zq_hat::strategy::strategy_of;
+use zq_hat::types::{FinalMark, Network, NodeIds, Strategy};
 use zq_key::items::Items;
 use zq_key::message::{
     Bound, FaceId, Message, Mode, QueryableInfoType, Region, Request, Response, TextList, WireExpr,
@@ -109,10 +110,10 @@ impl Call {
         matches!(self, Call::Sent { .. })
     }
 
-    /// Whether the gateway answers calls of this form today. Faces are opened in regions that keep
-    /// them as a broker does, as clients without namespace and deny lists, and in regions that the
-    /// configuration lacks, where they are refused; interests, their finals, networks and node
-    /// tables are yet to come.
+    /// Whether the gateway answers calls of this form today. Faces are opened in all regions but
+    /// those of routers, without namespace and deny lists, and in regions that the configuration
+    /// lacks, where they are refused; interests, their finals, networks and node tables are yet to
+    /// come.
     pub fn is_built(&self, config: &Config) -> bool
         ensures { result ≡ is_built config.now self.now }
     {
@@ -121,11 +122,10 @@ impl Call {
                 if !config.has_region(opening.region) {
                     return true;
                 }
-                is_broker(opening.region) && opening.is_plain()
+                is_served(config, opening.region) && opening.is_plain()
             }
             Call::Interest { .. } => false,
             Call::InterestFinal { .. } => false,
-            Call::FinalizeInterest { .. } => false,
             Call::SetNetwork { .. } => false,
             Call::SetNodeIds { .. } => false,
             _ => true,
@@ -137,21 +137,18 @@ impl Opening {
     fn is_plain(&self) -> bool
         ensures { result ≡ is_plain_opening self.now }
     {
-        matches!(self.mode, Mode::Client)
-            && matches!(self.remote_bound, Bound::North)
-            && self.namespace.is_none()
-            && self.entry_deny.is_empty()
-            && self.exit_deny.is_empty()
+        self.namespace.is_none() && self.entry_deny.is_empty() && self.exit_deny.is_empty()
     }
 }
 
-fn is_broker(region: Region) -> bool
-    ensures { result ≡ is_broker region }
+fn is_served(config: &Config, region: Region) -> bool
+    ensures { result ≡ is_served (strategy_in config.now region) }
 {
-    match region {
-        Region::North => false,
-        Region::Local => true,
-        Region::South { id: _, mode } => matches!(mode, Mode::Client),
+    match strategy_of(region, config.north()) {
+        Strategy::Broker => true,
+        Strategy::Client => true,
+        Strategy::Peer => true,
+        Strategy::Router => false,
     }
 }
 

@@ -9,13 +9,13 @@ ghost use Rattle.zq_query.specs.Records.{next_reply};
 ghost use Rattle.zq_query.specs.Asking.{are_distinct, face_numbers, is_full, lacks_number};
 ghost use Rattle.zq_naming.specs.Naming.{is_text};
 ghost use Rattle.zq_gateway.specs.declared.call.Call.TheVariants as call;
-ghost use Rattle.zq_gateway.specs.Calls.{declared_call, declaring_call, ends_first, is_built};
+ghost use Rattle.zq_gateway.specs.Calls.{declared_call, declaring_call, is_built};
 ghost use Rattle.zq_gateway.specs.Deciding.{done, granted, lacks_reply_number, opened, refused, seat};
 ghost use Rattle.zq_gateway.specs.Selecting.{full_text, is_unscoped, says_key, says_key_or_nothing, select_for, target_of};
 ghost use Rattle.zq_gateway.specs.Machine.{accepted_state, after, after_of, answer, follow, step, step_of, write};
 ghost use Rattle.zq_gateway.specs.State.{at, change_hat, face_region, is_open, joined, opening_state};
 ghost use Rattle.zq_naming.specs.Naming.{face_naming, text_at};
-ghost use Rattle.zq_gateway.specs.TextCalls.{asking, closing, declaring, ending, listing, naming, opening, passing, replying, reporting, unnaming, withdrawing};
+ghost use Rattle.zq_gateway.specs.TextCalls.{asking, closing, declaring, ending, finalizing, listing, naming, opening, passing, replying, reporting, unnaming, withdrawing};
 
 use crate::call::{Call, Handed, Opening, Outcome, Refusal, Step};
 use crate::config::Config;
@@ -26,13 +26,13 @@ use crate::handed::{
 };
 use crate::hats;
 use crate::parts::{lacks_number, take_back, take_seat, targets_of};
-use crate::read::{full_text, is_unscoped, says_key, says_key_or_nothing};
+use crate::read::{full_text, is_unscoped, marks_key, says_key, says_key_or_nothing};
 use crate::select::Asker;
 use std::alloc::Global;
 use std::collections::BTreeMap;
 use std::marker::Model;
 use zq_hat::hat::Hat;
-use zq_hat::types::{HatRefusal, QueryTargetQabl};
+use zq_hat::types::{FinalMark, HatRefusal, QueryTargetQabl};
 use zq_key::items::Items;
 use zq_key::memory::OutOfMemory;
 use zq_key::message::{
@@ -143,9 +143,9 @@ impl Gateway {
             Call::Sent { reply } => self.report(*reply),
             Call::Poll { now } => self.poll(*now),
             Call::SetGateways { region, table } => self.set_gateways(*region, table),
+            Call::FinalizeInterest { face, mark, set } => self.finalize(*face, mark, *set),
             Call::Interest { .. } => unreachable!(),
             Call::InterestFinal { .. } => unreachable!(),
-            Call::FinalizeInterest { .. } => unreachable!(),
             Call::SetNetwork { .. } => unreachable!(),
             Call::SetNodeIds { .. } => unreachable!(),
         }
@@ -209,15 +209,30 @@ impl Gateway {
     }
 
     /// A declaration of a face, of a number or of a queryable, or that one is given up (upstream's
-    /// `Primitives::send_declare`). The end of a face's declarations changes nothing here; its form
-    /// for the first interest is yet to come.
+    /// `Primitives::send_declare`). The end of declarations that answers the interest 0, which every
+    /// face has from its opening, sets the face's initial mark; any other changes nothing.
     pub fn send_declare(&mut self, face: FaceId, msg: &Declare) -> Result<Step, OutOfMemory>
-        requires { ends_first msg.now.interest msg.now.body ≡ false }
         ensures step { IfOk result (λ t. t ≡ step_of self.old (declared_call face msg.now)) }
         ensures after { OnOk result (self.new ≡ after_of self.old (declared_call face msg.now)) }
         ensures err { OnErr result (self.new ≡ self.old) }
     {
         self.declare(face, msg.node, msg.interest, &msg.body)
+    }
+
+    /// A mark of a face is set or unset: that all which it had to declare has come, at its opening
+    /// or on a key. It decides what the face is offered without a declaration (upstream learns it
+    /// from the finals of interests).
+    pub fn finalize_local_interest(
+        &mut self,
+        face: FaceId,
+        mark: &FinalMark,
+        set: bool,
+    ) -> Result<Step, OutOfMemory>
+        ensures step { IfOk result (λ t. t ≡ step self.old (call.FinalizeInterest face mark.now set)) }
+        ensures after { OnOk result (self.new ≡ after self.old (call.FinalizeInterest face mark.now set)) }
+        ensures err { OnErr result (self.new ≡ self.old) }
+    {
+        self.finalize(face, mark, set)
     }
 
     /// A moment has come, in milliseconds: each entry whose deadline has come is let go, with an error reply.
@@ -423,6 +438,9 @@ impl Gateway {
     {
         if hats::hat_at(&self.hats, asked.region).is_none() {
             return Ok(self.refused(Refusal::UnknownRegion));
+        }
+        if hats::is_full(&self.hats, asked.region) {
+            return Ok(self.refused(Refusal::UpstreamInUse));
         }
         if self.next_face == u32::MAX {
             return Ok(self.refused(Refusal::NoFreeId));
@@ -689,7 +707,6 @@ impl Gateway {
         interest: Option<u32>,
         body: &DeclareBody,
     ) -> Result<Step, OutOfMemory>
-        requires { ends_first interest body.now ≡ false }
         ensures step { IfOk result (λ t. t ≡ step_of self.old (declaring_call face node interest body.now)) }
         ensures after { OnOk result (self.new ≡ after_of self.old (declaring_call face node interest body.now)) }
         ensures err { OnErr result (self.new ≡ self.old) }
@@ -704,10 +721,26 @@ impl Gateway {
                 self.undeclare_queryable(face, *id, node)
             }
             DeclareBody::DeclareFinal => match interest {
-                Some(0) => unreachable!(),
+                Some(0) => self.finalize(face, &FinalMark::Initial, true),
                 _ => Ok(self.done()),
             },
         }
+    }
+
+    // A mark of a face is set or unset.
+    fn finalize(&mut self, face: FaceId, mark: &FinalMark, set: bool) -> Result<Step, OutOfMemory>
+        ensures step { IfOk result (λ t. t ≡ answer self.old (finalizing face mark.now set)) }
+        ensures after { OnOk result (self.new ≡ follow self.old (finalizing face mark.now set)) }
+        ensures err { OnErr result (self.new ≡ self.old) }
+    {
+        let Some(region) = self.region_of(face) else {
+            return Ok(self.refused(Refusal::UnknownFace));
+        };
+        if !marks_key(mark) {
+            return Ok(self.refused(Refusal::InvalidKeyExpr));
+        }
+        hats::mark(&mut self.hats, region, face, mark, set)?;
+        Ok(self.done())
     }
 
     // The gateways of a region are listed.

@@ -1,7 +1,8 @@
 //! The hats of the regions.
 ghost use Rattle.std.specs.Prelude.{◌≡◌, true, false, Some, None, IfOk, OnOk, OnErr, IsErrOf, ◌↔◌, option_copied, is_none};
 ghost use Rattle.std.specs.Option.{is_some, option_map_or};
-ghost use Rattle.zq_hat.specs.Kept.{clashes_at, declaration_at, registered, unregistered, without_face};
+ghost use Rattle.zq_hat.specs.Kept.{clashes_at, declaration_at, is_full, registered, unregistered, without_face};
+ghost use Rattle.zq_hat.specs.Marks.{finalized};
 ghost use Rattle.zq_tables.specs.RegionMap.{with_entry};
 ghost use Rattle.zq_gateway.specs.Configs.{region_of};
 ghost use Rattle.zq_gateway.specs.State.{first_hats, with_hat, change_hat, clashes_in, has_declared_in, hat_at, is_region, joined};
@@ -9,7 +10,7 @@ ghost use Rattle.zq_gateway.specs.State.{first_hats, with_hat, change_hat, clash
 use crate::config::{Config, Entry, SOUTH_IDS};
 use std::alloc::Global;
 use zq_hat::hat::Hat;
-use zq_hat::types::{FaceRecord, HatRefusal};
+use zq_hat::types::{FaceRecord, FinalMark, HatRefusal};
 use zq_key::Key;
 use zq_key::memory::OutOfMemory;
 use zq_key::message::{FaceId, QueryableInfoType, Region};
@@ -35,6 +36,16 @@ pub fn hat_at(hats: &RegionMap<Hat>, region: Region) -> Option<&Hat>
         return None;
     }
     hats.get(&region)
+}
+
+/// Whether the region takes no further face.
+pub fn is_full(hats: &RegionMap<Hat>, region: Region) -> bool
+    ensures { result ≡ option_map_or is_full (hat_at region hats.now) false }
+{
+    match hat_at(hats, region) {
+        Some(hat) => hat.is_full(),
+        None => false,
+    }
 }
 
 /// A face joins its region's hat.
@@ -160,6 +171,36 @@ fn withdraw_in(hat: &mut Hat, face: FaceId, id: u32, node: u16) -> Result<(), Ha
         Ok(_) => Ok(()),
         Err(refusal) => Err(refusal),
     }
+}
+
+/// A mark of a face is set or unset.
+pub fn mark(
+    hats: &mut RegionMap<Hat>,
+    region: Region,
+    face: FaceId,
+    mark: &FinalMark,
+    set: bool,
+) -> Result<(), OutOfMemory>
+    ensures ok { OnOk result (hats.new ≡ change_hat region (finalized face.0 mark.now set) hats.old) }
+    ensures err { OnErr result (hats.new ≡ hats.old) }
+{
+    if !is_region(region) {
+        return Ok(());
+    }
+    match hats.get_mut(&region) {
+        Some(hat) => mark_in(hat, face, mark, set),
+        None => Ok(()),
+    }
+}
+
+fn mark_in(hat: &mut Hat, face: FaceId, mark: &FinalMark, set: bool) -> Result<(), OutOfMemory>
+    ensures ok { OnOk result (hat.new ≡ finalized face.0 mark.now set hat.old) }
+    ensures err { OnErr result (hat.new ≡ hat.old) }
+{
+    if !hat.has_face(face) {
+        return Ok(());
+    }
+    hat.finalize_local_interest(face, mark, set)
 }
 
 /// The gateways of a region are put in place.

@@ -1,7 +1,9 @@
 //! What is asked of an expression that was read.
 ghost use Rattle.std.specs.Prelude.{◌≡◌};
+ghost use Rattle.zq_gateway.specs.Deciding.{marks_key};
 ghost use Rattle.zq_gateway.specs.Selecting.{full_text, is_unscoped, says_key, says_key_or_nothing};
 
+use zq_hat::types::FinalMark;
 use zq_key::is_key;
 use zq_naming::said::Said;
 
@@ -20,6 +22,16 @@ pub fn says_key_or_nothing(said: &Said) -> bool
         Said::Unscoped => false,
         Said::Empty => true,
         Said::Full(text) => is_key(text.as_str()),
+    }
+}
+
+/// Whether a mark of a key has a key.
+pub fn marks_key(mark: &FinalMark) -> bool
+    ensures { result ≡ marks_key mark.now }
+{
+    match mark {
+        FinalMark::Initial => true,
+        FinalMark::Key(text) => is_key(text.as_str()),
     }
 }
 

@@ -3,6 +3,7 @@ use crate::config::{BadConfig, Config, ConfigRefusal, Counters, Entry};
 use crate::gateway::Gateway;
 use std::alloc::Global;
 use std::test::Fail;
+use zq_hat::types::FinalMark;
 use zq_key::items::Items;
 use zq_key::memory::OutOfMemory;
 use zq_key::message::{
@@ -257,6 +258,24 @@ fn time_and_closing(rt: HostRuntime) -> Result<(), Fail> {
     assert!(rt; seen(gateway.poll(5)) == Some((Outcome::Done, 1)));
     assert!(rt; lists(&mut gateway, alloc) == Some((Outcome::Done, 0)));
     assert!(rt; seen(gateway.send_close(FaceId(0))) == Some((Outcome::Done, 0)));
+    Ok(())
+}
+
+#[test]
+fn marks(rt: HostRuntime) -> Result<(), Fail> {
+    let alloc = rt.alloc();
+    let mut gateway = pair(alloc)?;
+    let done = Some((Outcome::Done, 0));
+    let mark = FinalMark::Initial;
+    assert!(rt; seen(gateway.finalize_local_interest(FaceId(0), &mark, true)) == done);
+    let unknown = seen(gateway.finalize_local_interest(FaceId(9), &mark, true));
+    assert!(rt; unknown == Some((Outcome::Refused(Refusal::UnknownFace), 0)));
+    let ended = Declare {
+        interest: Some(0),
+        node: 0,
+        body: DeclareBody::DeclareFinal,
+    };
+    assert!(rt; seen(gateway.send_declare(FaceId(0), &ended)) == done);
     Ok(())
 }
 

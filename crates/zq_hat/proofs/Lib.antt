@@ -10,5 +10,6 @@ pub mod IndexKeys
 pub mod Tied
 pub mod Keeping
 pub mod Turns
+pub mod Marking
 pub mod OfferLaws
 pub mod OffersMoved

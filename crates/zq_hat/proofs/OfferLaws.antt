@@ -1,6 +1,6 @@
 -- Every offer of a hat is of one of its faces, and of its region.
 use Rattle.std.proofs.Common.{◌≡◌, ap, refl, ℕ, zero, suc, Bool, true, false, cond, List, [], ◌∷◌, ◌++◌, Some, None, Option, fold, take, drop}
-use Rattle.std.specs.Prelude.{◌-◌, length}
+use Rattle.std.specs.Prelude.{◌-◌, ◌&&◌, not, length}
 use Rattle.std.specs.Option.{is_some}
 use Rattle.std.specs.declared.cmp.Ordering.{Ordering}
 use Rattle.std.specs.Ordering.{nat_cmp, is_lt}
@@ -16,8 +16,8 @@ use Rattle.zq_hat.specs.declared.types.QueryTargetQabl.{QueryTargetQabl}
 use Rattle.zq_hat.specs.declared.types.Strategy.{Strategy}
 use Rattle.zq_hat.specs.declared.types.Strategy.TheVariants as strategy
 use Rattle.zq_hat.specs.Kept.{at_id, has_face, info, declared_keys}
-use Rattle.zq_hat.specs.Offers.{place, sorted, offer_cmp, offer_of, offer_list, offers_on, offers_for, offers_by, offers_of}
-use Rattle.zq_hat.specs.Regions.{strategy_at}
+use Rattle.zq_hat.specs.Offers.{place, sorted, offer_cmp, offer_of, offer_list, offers_on, offers_for, declared_offers, bare_offer, bare_on, bare_offers, may_have, offers_by, offers_of}
+use Rattle.zq_hat.specs.Regions.{is_north, same_region, strategy_at}
 use Rattle.zq_hat.specs.State.{FaceState, HatState}
 use Rattle.zq_hat.proofs.Sorted.{at_itself}
 
@@ -64,11 +64,28 @@ module _ (P : QueryTargetQabl → Type 0) (region : Region) (q : List ℕ) where
   declared_all fs [] all = tt
   declared_all fs (k ∷ ks) all = all_joined P (offers_for region fs q k) (flat_map (offers_for region fs q) ks) (key_offers fs k (intersects k q) all) (declared_all fs ks all)
 
-  strategy_all : (s : Strategy) (src : Region) (fs : List (ℕ × FaceState)) → AllByRecursion (λ f. (k : List ℕ) (i : QueryableInfoType) → P (offer_of region q k f.0 i)) fs → AllByRecursion P (offers_by s region src fs q)
-  strategy_all strategy.Broker src fs all = declared_all fs (declared_keys fs) all
-  strategy_all strategy.Client src fs all = tt
-  strategy_all strategy.Peer src fs all = tt
-  strategy_all strategy.Router src fs all = tt
+  one_bare : (f : ℕ × FaceState) (b : Bool) → P (bare_offer region q f.0) → AllByRecursion P (cond b (bare_offer region q f.0 ∷ []) [])
+  one_bare f true has = (has, tt)
+  one_bare f false has = tt
+
+  bare_all : (s : Strategy) (fs : List (ℕ × FaceState)) → AllByRecursion (λ f. P (bare_offer region q f.0)) fs → AllByRecursion P (flat_map (bare_on s region q) fs)
+  bare_all s [] all = tt
+  bare_all s (f ∷ fs) all = all_joined P (bare_on s region q f) (flat_map (bare_on s region q) fs) (one_bare f (may_have s q f.1) all.0) (bare_all s fs all.1)
+
+  some_bare : (s : Strategy) (fs : List (ℕ × FaceState)) (b : Bool) → AllByRecursion (λ f. P (bare_offer region q f.0)) fs → AllByRecursion P (cond b (flat_map (bare_on s region q) fs) [])
+  some_bare s fs true all = bare_all s fs all
+  some_bare s fs false all = tt
+
+  module _ (fs : List (ℕ × FaceState)) (all : AllByRecursion (λ f. (k : List ℕ) (i : QueryableInfoType) → P (offer_of region q k f.0 i)) fs) (bare : AllByRecursion (λ f. P (bare_offer region q f.0)) fs) where
+    beside_all : (s : Strategy) (src : Region) (b : Bool) → AllByRecursion P (cond b [] (declared_offers region fs q ++ bare_offers s region src fs q))
+    beside_all s src true = tt
+    beside_all s src false = all_joined P (declared_offers region fs q) (bare_offers s region src fs q) (declared_all fs (declared_keys fs) all) (some_bare s fs (is_north region && not (is_north src)) bare)
+
+    strategy_all : (s : Strategy) (src : Region) → AllByRecursion P (offers_by s region src fs q)
+    strategy_all strategy.Broker src = declared_all fs (declared_keys fs) all
+    strategy_all strategy.Client src = beside_all strategy.Client src (same_region src region)
+    strategy_all strategy.Peer src = beside_all strategy.Peer src (same_region src region)
+    strategy_all strategy.Router src = tt
 
 -- each face of a list is found there
 found_by : (n : ℕ) (f : ℕ × FaceState) (fs : List (ℕ × FaceState)) (b : Bool) → is_some (at_id n fs) ≡ true → is_some (cond b (Some f.1) (at_id n fs)) ≡ true
@@ -87,6 +104,14 @@ each_has : (all fs : List (ℕ × FaceState)) (region : Region) (q : List ℕ) �
 each_has all [] region q found = tt
 each_has all (f ∷ fs) region q found = ((λ k i. found.0), each_has all fs region q found.1)
 
+each_bare : (all fs : List (ℕ × FaceState)) (region : Region) (q : List ℕ) → AllByRecursion (λ g. is_some (at_id g.0 all) ≡ true) fs → AllByRecursion (λ f. is_some (at_id (bare_offer region q f.0).face.0 all) ≡ true) fs
+each_bare all [] region q found = tt
+each_bare all (f ∷ fs) region q found = (found.0, each_bare all fs region q found.1)
+
+bare_region : (fs : List (ℕ × FaceState)) (region : Region) (q : List ℕ) → AllByRecursion (λ f. (bare_offer region q f.0).region ≡ region) fs
+bare_region [] region q = tt
+bare_region (f ∷ fs) region q = (refl, bare_region fs region q)
+
 each_region : (fs : List (ℕ × FaceState)) (region : Region) (q : List ℕ) → AllByRecursion (λ f. (k : List ℕ) (i : QueryableInfoType) → (offer_of region q k f.0 i).region ≡ region) fs
 each_region [] region q = tt
 each_region (f ∷ fs) region q = ((λ k i. refl), each_region fs region q)
@@ -95,10 +120,10 @@ pub offers_of_faces : (s : HatState) (src : Region) (q : List ℕ) → All (λ o
 offers_of_faces s src q =
     all_from (λ o. has_face o.face.0 s ≡ true) (offers_of s src q)
     (all_sorted (λ o. has_face o.face.0 s ≡ true) offer_cmp (offers_by (strategy_at s) s.region src s.faces q)
-    (strategy_all (λ o. has_face o.face.0 s ≡ true) s.region q (strategy_at s) src s.faces (each_has s.faces s.faces s.region q (all_found s.faces))))
+    (strategy_all (λ o. has_face o.face.0 s ≡ true) s.region q s.faces (each_has s.faces s.faces s.region q (all_found s.faces)) (each_bare s.faces s.faces s.region q (all_found s.faces)) (strategy_at s) src))
 
 pub offers_of_region : (s : HatState) (src : Region) (q : List ℕ) → All (λ o. o.region ≡ s.region) (offers_of s src q)
 offers_of_region s src q =
     all_from (λ o. o.region ≡ s.region) (offers_of s src q)
     (all_sorted (λ o. o.region ≡ s.region) offer_cmp (offers_by (strategy_at s) s.region src s.faces q)
-    (strategy_all (λ o. o.region ≡ s.region) s.region q (strategy_at s) src s.faces (each_region s.faces s.region q)))
+    (strategy_all (λ o. o.region ≡ s.region) s.region q s.faces (each_region s.faces s.region q) (bare_region s.faces s.region q) (strategy_at s) src))

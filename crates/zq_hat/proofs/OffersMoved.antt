@@ -1,10 +1,11 @@
 -- A hat whose texts are moved offers for the moved key what it offered, moved.
 use Rattle.std.proofs.Common.{◌≡◌, ◌∙◌, sym, ap, refl, ℕ, Bool, true, false, cond, List, [], ◌∷◌, ◌++◌, Some, None, Option, fold, map, take, drop, length}
-use Rattle.std.specs.Prelude.{◌-◌, ◌&&◌, reverse}
+use Rattle.std.specs.Prelude.{◌-◌, ◌&&◌, ◌||◌, not, reverse}
 use Rattle.std.specs.declared.cmp.Ordering.{Ordering}
 use Rattle.std.specs.declared.cmp.Ordering.TheVariants.{Less, Equal, Greater}
-use Rattle.std.specs.Ordering.{nat_cmp, is_lt, match_ordering, ordering_then}
-use Rattle.std.specs.List.{flat_map, suffix_len, prefix_len}
+use Rattle.std.specs.Ordering.{nat_cmp, is_lt, is_eq, match_ordering, ordering_then}
+use Rattle.std.specs.List.{flat_map, list_any, suffix_len, prefix_len}
+use Rattle.std.specs.BTreeMap.{is_at}
 use Rattle.std.specs.BTreeSet.{insert_key}
 use Rattle.std.proofs.lemmas.List.{take-map, drop-map, length-map, reverse-append}
 use Rattle.zq_key.proofs.Naturals.{map-append, fold-map, fold-moved, flat_map-map}
@@ -17,8 +18,8 @@ use Rattle.zq_hat.specs.declared.types.Strategy.{Strategy}
 use Rattle.zq_hat.specs.declared.types.Strategy.TheVariants as strategy
 use Rattle.zq_hat.specs.Infos.{joined}
 use Rattle.zq_hat.specs.Kept.{text_cmp, with_declared, info, with_key, with_keys, declared_keys}
-use Rattle.zq_hat.specs.Offers.{place, sorted, offer_cmp, distance, offer_list, offers_on, offers_for, declared_offers, offers_by, offers_of}
-use Rattle.zq_hat.specs.Regions.{is_local, strategy_at}
+use Rattle.zq_hat.specs.Offers.{place, sorted, offer_cmp, distance, offer_list, offers_on, offers_for, declared_offers, bare_offer, bare_on, bare_offers, may_have, offers_by, offers_of}
+use Rattle.zq_hat.specs.Regions.{is_local, is_north, is_south, same_region, strategy_at}
 use Rattle.zq_hat.specs.State.{FaceState, HatState}
 use Rattle.zq_hat.specs.Moved.{Keeps, move_declared, move_face, move_hat, move_offer}
 
@@ -99,10 +100,38 @@ module _ (φ : List ℕ → List ℕ) (keeps : Keeps φ) where
       ap (flat_map (offers_for region (map (move_face φ) faces) (φ q))) (keys_moved faces)
       ∙ flat_map-map φ (move_offer φ) (offers_for region (map (move_face φ) faces) (φ q)) (offers_for region faces q) (for_moved region faces q) (declared_keys faces)
 
+  finalized_moved : (q : List ℕ) (keys : List (List ℕ)) → list_any (is_at (text_cmp (φ q))) (map φ keys) ≡ list_any (is_at (text_cmp q)) keys
+  finalized_moved q [] = refl
+  finalized_moved q (k ∷ ks) = λ i. is_eq (keeps.order q k i) || finalized_moved q ks i
+
+  may_moved : (s : Strategy) (q : List ℕ) (f : ℕ × FaceState) → may_have s (φ q) (move_face φ f).1 ≡ may_have s q f.1
+  may_moved strategy.Broker q f = refl
+  may_moved strategy.Client q f = ap not (finalized_moved q f.1.finalized)
+  may_moved strategy.Peer q f = ap (λ b. cond (is_south f.1.remote_bound) (not b) (not f.1.initial)) (finalized_moved q f.1.finalized)
+  may_moved strategy.Router q f = refl
+
+  bare_by : (region : Region) (q : List ℕ) (n : ℕ) (b : Bool) → cond b (bare_offer region (φ q) n ∷ []) [] ≡ map (move_offer φ) (cond b (bare_offer region q n ∷ []) [])
+  bare_by region q n true = refl
+  bare_by region q n false = refl
+
+  bare_moved : (s : Strategy) (region : Region) (q : List ℕ) (f : ℕ × FaceState) → bare_on s region (φ q) (move_face φ f) ≡ map (move_offer φ) (bare_on s region q f)
+  bare_moved s region q f = ap (λ b. cond b (bare_offer region (φ q) f.0 ∷ []) []) (may_moved s q f) ∙ bare_by region q f.0 (may_have s q f.1)
+
+  bares_by : (s : Strategy) (region : Region) (faces : List (ℕ × FaceState)) (q : List ℕ) (b : Bool) → cond b (flat_map (bare_on s region (φ q)) (map (move_face φ) faces)) [] ≡ map (move_offer φ) (cond b (flat_map (bare_on s region q) faces) [])
+  bares_by s region faces q true = flat_map-map (move_face φ) (move_offer φ) (bare_on s region (φ q)) (bare_on s region q) (bare_moved s region q) faces
+  bares_by s region faces q false = refl
+
+  beside_moved : (s : Strategy) (region src : Region) (faces : List (ℕ × FaceState)) (q : List ℕ) (b : Bool)
+      → cond b [] (declared_offers region (map (move_face φ) faces) (φ q) ++ bare_offers s region src (map (move_face φ) faces) (φ q)) ≡ map (move_offer φ) (cond b [] (declared_offers region faces q ++ bare_offers s region src faces q))
+  beside_moved s region src faces q true = refl
+  beside_moved s region src faces q false =
+      (λ i. all_moved region faces q i ++ bares_by s region faces q (is_north region && not (is_north src)) i)
+      ∙ sym (map-append (move_offer φ) (declared_offers region faces q) (bare_offers s region src faces q))
+
   by_moved : (s : Strategy) (region src : Region) (faces : List (ℕ × FaceState)) (q : List ℕ) → offers_by s region src (map (move_face φ) faces) (φ q) ≡ map (move_offer φ) (offers_by s region src faces q)
   by_moved strategy.Broker region src faces q = all_moved region faces q
-  by_moved strategy.Client region src faces q = refl
-  by_moved strategy.Peer region src faces q = refl
+  by_moved strategy.Client region src faces q = beside_moved strategy.Client region src faces q (same_region src region)
+  by_moved strategy.Peer region src faces q = beside_moved strategy.Peer region src faces q (same_region src region)
   by_moved strategy.Router region src faces q = refl
 
   order_moved : (a b : QueryTargetQabl) → offer_cmp (move_offer φ a) (move_offer φ b) ≡ offer_cmp a b

@@ -1,5 +1,5 @@
 -- What faces declared, the merges of it, and what a declaration, a withdrawal and a closing change.
-use Rattle.std.specs.Prelude.{ℕ, Bool, false, not, List, [], map, fold, if◌then◌else◌, Option, Some, None, is_some}
+use Rattle.std.specs.Prelude.{ℕ, Bool, true, false, not, ◌&&◌, ◌∷◌, List, [], map, fold, if◌then◌else◌, Option, Some, None, is_some}
 use Rattle.std.specs.Option.{option_map_or, option_and_then}
 use Rattle.std.specs.Map.{lookup, remove_entry, set_value}
 use Rattle.std.specs.BTreeMap.{insert_entry, is_at}
@@ -17,6 +17,7 @@ use Rattle.zq_hat.specs.declared.types.Declaration.{Declaration}
 use Rattle.zq_hat.specs.declared.types.UnregisterEntityResult.{UnregisterEntityResult}
 use Rattle.zq_hat.specs.declared.types.UnregisterEntityResult.TheVariants as result
 use Rattle.zq_hat.specs.Infos.{joined, same_info}
+use Rattle.zq_hat.specs.Regions.{is_upstream, strategy_at}
 use Rattle.zq_hat.specs.State.{FaceState, HatState}
 
 -- texts in the order of their bytes
@@ -66,6 +67,10 @@ declared_keys faces = fold with_keys [] faces
 -- the face of the number
 abbrev pub face_at : ℕ → HatState → Option FaceState
 face_at number s = at_id number s.faces
+
+abbrev pub has_any : {X : Type 0} → List X → Bool
+has_any [] = false
+has_any (x ∷ xs) = true
 
 -- whether the hat has the face of the number
 abbrev pub has_face : ℕ → HatState → Bool
@@ -119,11 +124,15 @@ unregister_result old new d = changed d.key (region_info d.key old.faces) (regio
 
 -- a face that has declared nothing and was told nothing
 abbrev pub new_face : FaceRecord → ℕ → FaceState
-new_face opened told_start = record { zid = opened.zid; mode = opened.mode; remote_bound = opened.remote_bound; declared = []; interests = []; last_told = told_start; marks = []; nodes = record { ids = [] } }
+new_face opened told_start = record { zid = opened.zid; mode = opened.mode; remote_bound = opened.remote_bound; declared = []; interests = []; last_told = told_start; initial = false; finalized = []; nodes = record { ids = [] } }
 
 -- a hat without faces
 abbrev pub new_hat : Region → Mode → Zid → ℕ → HatState
 new_hat region north_mode own told_start = record { region = region; north_mode = north_mode; own = own; told_start = told_start; faces = []; told = []; entries = []; owned = []; network = record { nodes = []; trees = []; distances = [] } }
+
+-- a client region has its face, and takes no other
+abbrev pub is_full : HatState → Bool
+is_full s = is_upstream (strategy_at s) && has_any s.faces
 
 -- the hat with the face
 abbrev pub with_face_opened : FaceRecord → HatState → HatState

@@ -1,5 +1,5 @@
 -- What a region offers for the key of a request.
-use Rattle.std.specs.Prelude.{ℕ, ◌-◌, ◌&&◌, List, [], ◌∷◌, fold, length, Option, Some, None, if◌then◌else◌}
+use Rattle.std.specs.Prelude.{ℕ, ◌-◌, Bool, false, not, ◌&&◌, List, [], ◌∷◌, ◌++◌, fold, length, Option, Some, None, if◌then◌else◌}
 use Rattle.std.specs.List.{flat_map, suffix_len, insert}
 use Rattle.std.specs.Option.{option_map_or}
 use Rattle.std.specs.declared.cmp.Ordering.{Ordering}
@@ -11,7 +11,8 @@ use Rattle.zq_hat.specs.declared.types.QueryTargetQabl.{QueryTargetQabl}
 use Rattle.zq_hat.specs.declared.types.Strategy.{Strategy}
 use Rattle.zq_hat.specs.declared.types.Strategy.TheVariants as strategy
 use Rattle.zq_hat.specs.Kept.{text_cmp, info, declared_keys}
-use Rattle.zq_hat.specs.Regions.{is_local, strategy_at}
+use Rattle.zq_hat.specs.Marks.{is_finalized}
+use Rattle.zq_hat.specs.Regions.{is_local, is_north, is_south, same_region, strategy_at}
 use Rattle.zq_hat.specs.State.{FaceState, HatState}
 
 -- x is put before the greater elements that end the list
@@ -55,11 +56,34 @@ offers_for region faces q key = if intersects key q then flat_map (offers_on reg
 abbrev pub declared_offers : Region → List (ℕ × FaceState) → List ℕ → List QueryTargetQabl
 declared_offers region faces q = flat_map (offers_for region faces q) (declared_keys faces)
 
--- what a strategy offers to an asker of region src; those of clients, peers and routers are not built yet
+-- an offer without information: whether the face has a queryable on the key is not known
+abbrev pub bare_offer : Region → List ℕ → ℕ → QueryTargetQabl
+bare_offer region q number = record { face = record { 0 = number }; info = None; key = q; region = region; node = 0 }
+
+-- the face may have a queryable on the key that it has not declared: in a client region, and in one of peers where its remote is south-bound, as long as the key is not marked; else as long as not all that it had to declare at its opening has come
+abbrev pub may_have : Strategy → List ℕ → FaceState → Bool
+may_have strategy.Broker q f = false
+may_have strategy.Client q f = not (is_finalized q f)
+may_have strategy.Peer q f = if is_south f.remote_bound then not (is_finalized q f) else not f.initial
+may_have strategy.Router q f = false
+
+-- the offer without information of a face that may have more
+abbrev pub bare_on : Strategy → Region → List ℕ → ℕ × FaceState → List QueryTargetQabl
+bare_on strategy region q f = if may_have strategy q f.1 then bare_offer region q f.0 ∷ [] else []
+
+-- in North, for south-bound askers, the faces that may have more are offered, too
+abbrev pub bare_offers : Strategy → Region → Region → List (ℕ × FaceState) → List ℕ → List QueryTargetQabl
+bare_offers strategy region src faces q = if is_north region && not (is_north src) then flat_map (bare_on strategy region q) faces else []
+
+-- what is offered to askers of other regions; a region of clients or peers offers nothing to its own
+abbrev pub offers_beside : Strategy → Region → Region → List (ℕ × FaceState) → List ℕ → List QueryTargetQabl
+offers_beside strategy region src faces q = if same_region src region then [] else declared_offers region faces q ++ bare_offers strategy region src faces q
+
+-- what a strategy offers to an asker of region src; that of routers is not built yet
 abbrev pub offers_by : Strategy → Region → Region → List (ℕ × FaceState) → List ℕ → List QueryTargetQabl
 offers_by strategy.Broker region src faces q = declared_offers region faces q
-offers_by strategy.Client region src faces q = []
-offers_by strategy.Peer region src faces q = []
+offers_by strategy.Client region src faces q = offers_beside strategy.Client region src faces q
+offers_by strategy.Peer region src faces q = offers_beside strategy.Peer region src faces q
 offers_by strategy.Router region src faces q = []
 
 -- the offers of the hat to an asker of region src for key q, in order

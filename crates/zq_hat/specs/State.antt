@@ -1,5 +1,5 @@
 -- What a hat is seen as: the lists that its calls left.
-use Rattle.std.specs.Prelude.{ℕ, List}
+use Rattle.std.specs.Prelude.{ℕ, Bool, List}
 use Rattle.zq_key.specs.declared.message.QueryableInfoType.{QueryableInfoType}
 use Rattle.zq_key.specs.declared.message.Region.{Region}
 use Rattle.zq_key.specs.declared.message.Mode.{Mode}
@@ -8,11 +8,10 @@ use Rattle.zq_key.specs.declared.message.Zid.{Zid}
 use Rattle.zq_hat.specs.declared.types.Declaration.{Declaration}
 use Rattle.zq_hat.specs.declared.types.InterestEntry.{InterestEntry}
 use Rattle.zq_hat.specs.declared.types.ToldEntry.{ToldEntry}
-use Rattle.zq_hat.specs.declared.types.FinalMark.{FinalMark}
 use Rattle.zq_hat.specs.declared.types.NodeIds.{NodeIds}
 use Rattle.zq_hat.specs.declared.types.Network.{Network}
 
--- a face of a hat: who it is; what it declared and asks to hear, by id; the id that it was told last; its marks and node table
+-- a face of a hat: who it is; what it declared and asks to hear, by id; the id that it was told last; whether all that it had to declare at its opening has come; the keys, in order, on which all has come; its node table
 pub record FaceState : Type 0 where
   pub zid : Zid
   pub mode : Mode
@@ -20,7 +19,8 @@ pub record FaceState : Type 0 where
   pub declared : List (ℕ × Declaration)
   pub interests : List (ℕ × InterestEntry)
   pub last_told : ℕ
-  pub marks : List FinalMark
+  pub initial : Bool
+  pub finalized : List (List ℕ)
   pub nodes : NodeIds
 
 -- a hat: its faces, by number; told has for each key the faces that were told of it, entries has for each key the routers' informations, owned what the gateway's own tree was told

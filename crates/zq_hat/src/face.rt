@@ -1,11 +1,16 @@
 //! One face of a hat.
 ghost use Rattle.std.specs.Prelude.{◌≡◌, OnOk, OnErr, IfOk, map, None};
 ghost use Rattle.std.specs.Option.{option_copied, option_map};
-ghost use Rattle.zq_hat.specs.Kept.{declaration, declare, withdraw, new_face, key_of};
+ghost use Rattle.std.specs.BTreeMap.{is_at};
+ghost use Rattle.std.specs.BTreeSet.{insert_key};
+ghost use Rattle.std.specs.Set.{remove_key};
+ghost use Rattle.std.specs.String.{string_bytes};
+ghost use Rattle.zq_hat.specs.Kept.{declaration, declare, withdraw, new_face, key_of, text_cmp};
+ghost use Rattle.zq_hat.specs.Marks.{is_finalized, marked};
 
-use crate::types::{Declaration, FaceRecord};
+use crate::types::{Declaration, FaceRecord, FinalMark};
 use std::alloc::Global;
-use std::collections::BTreeMap;
+use std::collections::{BTreeMap, BTreeSet};
 use std::marker::Model;
 use zq_key::Key;
 use zq_key::items::Items;
@@ -21,10 +26,13 @@ pub struct HatFace {
     remote_bound: Bound,
     declared: BTreeMap<u32, Declaration>,
     last_told: u32,
+    initial: bool,
+    finalized: BTreeSet<String>,
 }
 
 impl Model for HatFace {
-    ghost use Rattle.std.specs.Prelude.{[]};
+    ghost use Rattle.std.specs.Prelude.{[], map};
+    ghost use Rattle.std.specs.String.{string_bytes};
     ghost use Rattle.zq_hat.specs.State.{FaceState};
 
     ghost Value = { FaceState };
@@ -36,7 +44,8 @@ impl Model for HatFace {
       declared = f.declared.entries;
       interests = [];
       last_told = f.last_told;
-      marks = [];
+      initial = f.initial;
+      finalized = map string_bytes f.finalized.keys;
       nodes = record { ids = [] };
     } };
 }
@@ -67,6 +76,25 @@ fn copy_declared(
     Ok(made)
 }
 
+/// The text joins the others.
+#[tactic(auto, using(crate::proofs::Texts::texts_put))]
+fn put_text(texts: &mut BTreeSet<String>, alloc: Global, text: &str) -> Result<(), OutOfMemory>
+    ensures ok { OnOk result (map string_bytes texts.new.keys ≡ insert_key text_cmp (map string_bytes texts.old.keys) text.now) }
+    ensures err { OnErr result (texts.new.keys ≡ texts.old.keys) }
+{
+    match texts.insert(String::from_str(alloc, text)?) {
+        Ok(_) => Ok(()),
+        Err(_) => Err(OutOfMemory),
+    }
+}
+
+/// The text leaves the others.
+fn take_text(texts: &mut BTreeSet<String>, text: &str)
+    ensures { map string_bytes texts.new.keys ≡ remove_key (is_at (text_cmp text.now)) (map string_bytes texts.old.keys) }
+{
+    let _ = texts.remove(text);
+}
+
 impl HatFace {
     /// A face that has declared nothing and was told nothing.
     pub fn new(alloc: Global, opened: FaceRecord, told_start: u32) -> HatFace
@@ -78,10 +106,13 @@ impl HatFace {
             remote_bound: opened.remote_bound,
             declared: BTreeMap::new(alloc),
             last_told: told_start,
+            initial: false,
+            finalized: BTreeSet::new(alloc),
         }
     }
 
     /// An equal face.
+    #[tactic(auto, using(crate::proofs::Texts::texts_same))]
     pub fn copy(&self, alloc: Global) -> Result<HatFace, OutOfMemory>
         ensures { IfOk result (λ f. f ≡ self.now) }
     {
@@ -91,7 +122,51 @@ impl HatFace {
             remote_bound: self.remote_bound,
             declared: copy_declared(&self.declared, alloc)?,
             last_told: self.last_told,
+            initial: self.initial,
+            finalized: self.finalized.clone()?,
         })
+    }
+
+    /// Which way the remote lies.
+    pub fn remote_bound(&self) -> Bound
+        ensures { result ≡ self.now.remote_bound }
+    {
+        self.remote_bound
+    }
+
+    /// Whether all that the face had to declare at its opening has come.
+    pub fn is_initial(&self) -> bool
+        ensures { result ≡ self.now.initial }
+    {
+        self.initial
+    }
+
+    /// Whether all that the face had to declare on the key has come.
+    #[tactic(auto, using(crate::proofs::Texts::texts_any))]
+    pub fn is_finalized(&self, key: &str) -> bool
+        ensures { result ≡ is_finalized key.now self.now }
+    {
+        self.finalized.contains(key)
+    }
+
+    /// Sets or unsets a mark.
+    pub fn mark(&mut self, alloc: Global, mark: &FinalMark, set: bool) -> Result<(), OutOfMemory>
+        ensures ok { OnOk result (self.new ≡ marked mark.now set self.old) }
+        ensures err { OnErr result (self.new ≡ self.old) }
+    {
+        match mark {
+            FinalMark::Initial => {
+                self.initial = set;
+                Ok(())
+            }
+            FinalMark::Key(key) => {
+                if set {
+                    return put_text(&mut self.finalized, alloc, key.as_str());
+                }
+                take_text(&mut self.finalized, key.as_str());
+                Ok(())
+            }
+        }
     }
 
     /// Copies of the keys that the face declared.

@@ -4,19 +4,21 @@ ghost use Rattle.std.specs.Map.{set_value};
 ghost use Rattle.std.specs.BTreeMap.{is_at};
 ghost use Rattle.std.specs.Ordering.{nat_cmp};
 ghost use Rattle.zq_key.specs.Key.{is_key};
-ghost use Rattle.zq_hat.specs.Kept.{new_hat, with_face_opened, without_face, keys_of_face, has_face, clashes_at, declaration_at, registered, unregistered, unregister_result, region_info, changed, at_id, face_at, declare, withdraw, declaration};
+ghost use Rattle.zq_hat.specs.Kept.{new_hat, with_face_opened, without_face, keys_of_face, has_face, clashes_at, declaration_at, has_any, is_full, registered, unregistered, unregister_result, region_info, changed, at_id, face_at, declare, withdraw, declaration};
 ghost use Rattle.zq_hat.specs.Holders.{without_declared};
 ghost use Rattle.zq_hat.specs.State.{FaceState};
-ghost use Rattle.zq_hat.specs.Offers.{offers_of};
+ghost use Rattle.zq_hat.specs.Marks.{finalized, marked};
+ghost use Rattle.zq_hat.specs.Offers.{declared_offers, offer_cmp, offers_beside, offers_of, sorted};
 ghost use Rattle.zq_hat.specs.Regions.{strategy_at};
 
 use crate::face::HatFace;
 use crate::holders::KeyHolders;
 use crate::info::same_info;
 use crate::offers;
-use crate::strategy::strategy_of;
+use crate::strategy::{same_region, strategy_of};
 use crate::types::{
-    Declaration, FaceRecord, HatRefusal, OfferList, Strategy, UnregisterEntityResult,
+    Declaration, FaceRecord, FinalMark, HatRefusal, OfferList, QueryTargetQabl, Strategy,
+    UnregisterEntityResult,
 };
 use std::alloc::Global;
 use std::collections::BTreeMap;
@@ -97,6 +99,28 @@ fn withdraw(faces: &mut BTreeMap<u32, HatFace>, face: FaceId, id: u32)
     }
 }
 
+/// A mark of the face is set or unset.
+#[tactic(auto, using(std::proofs::lemmas::Map::Steps::set_value_same))]
+fn set_mark(
+    faces: &mut BTreeMap<u32, HatFace>,
+    alloc: Global,
+    face: FaceId,
+    mark: &FinalMark,
+    set: bool,
+) -> Result<(), OutOfMemory>
+    requires { is_some (at_id face.0 faces.old.entries) ≡ true }
+    ensures ok { OnOk result ((f : FaceState) → at_id face.0 faces.old.entries ≡ Some f → faces.new.entries ≡ set_value (is_at (nat_cmp face.0)) faces.old.entries (marked mark.now set f)) }
+    ensures err { OnErr result (faces.new.entries ≡ faces.old.entries) }
+{
+    match faces.get_mut(&face.0) {
+        Some(found) => match found.mark(alloc, mark, set) {
+            Ok(()) => Ok(()),
+            Err(error) => Err(error),
+        },
+        None => unreachable!(),
+    }
+}
+
 /// The index without what the face declared.
 fn forget(index: &mut KeyHolders, number: u32, declared: &BTreeMap<u32, Declaration>)
     ensures { index.new ≡ fold (without_declared number) index.old declared.now.entries }
@@ -124,6 +148,12 @@ fn changed(
             }
         }
     }
+}
+
+fn has_any(faces: &BTreeMap<u32, HatFace>) -> bool
+    ensures { result ≡ has_any faces.now.entries }
+{
+    !faces.is_empty()
 }
 
 /// Equal faces.
@@ -182,6 +212,13 @@ impl Hat {
         ensures { result ≡ has_face face.0 self.now }
     {
         self.faces.contains_key(&face.0)
+    }
+
+    /// Whether the hat takes no further face: a client region has one.
+    pub fn is_full(&self) -> bool
+        ensures { result ≡ is_full self.now }
+    {
+        self.strategy() == Strategy::Client && has_any(&self.faces)
     }
 
     fn face(&self, face: FaceId) -> &HatFace
@@ -328,11 +365,60 @@ impl Hat {
         ensures { IfOk result (λ o. o ≡ offers_of self.now src.now key.now) }
     {
         match self.strategy() {
-            Strategy::Broker => offers::declared_offers(self.alloc, self.region, &self.index, key),
-            Strategy::Client => Ok(Items::new(self.alloc)),
-            Strategy::Peer => Ok(Items::new(self.alloc)),
+            Strategy::Broker => Ok(Items::from_vec(self.declared_offers(key)?)),
+            Strategy::Client => self.offers_beside(Strategy::Client, *src, key),
+            Strategy::Peer => self.offers_beside(Strategy::Peer, *src, key),
             Strategy::Router => Ok(Items::new(self.alloc)),
         }
+    }
+
+    /// The offers by declarations, in order.
+    fn declared_offers(&self, key: &str) -> Result<Vec<QueryTargetQabl>, OutOfMemory>
+        requires { IsTrue (is_key key.now) }
+        ensures { IfOk result (λ o. o.items ≡ sorted offer_cmp (declared_offers self.now.region self.now.faces key.now)) }
+    {
+        offers::declared_offers(self.alloc, self.region, &self.index, key)
+    }
+
+    /// The offers to askers of other regions.
+    fn offers_beside(
+        &self,
+        strategy: Strategy,
+        src: Region,
+        key: &str,
+    ) -> Result<OfferList, OutOfMemory>
+        requires { IsTrue (is_key key.now) }
+        ensures { IfOk result (λ o. o ≡ sorted offer_cmp (offers_beside strategy self.now.region src self.now.faces key.now)) }
+    {
+        if same_region(src, self.region) {
+            return Ok(Items::new(self.alloc));
+        }
+        let mut offers = self.declared_offers(key)?;
+        offers::add_bare_offers(
+            &mut offers,
+            self.alloc,
+            strategy,
+            self.region,
+            src,
+            &self.faces,
+            key,
+        )?;
+        Ok(Items::from_vec(offers))
+    }
+
+    /// Sets or unsets a mark of the face: that all which it had to declare has come, at its opening
+    /// or on a key.
+    pub fn finalize_local_interest(
+        &mut self,
+        face: FaceId,
+        mark: &FinalMark,
+        set: bool,
+    ) -> Result<(), OutOfMemory>
+        requires { has_face face.0 self.old ≡ true }
+        ensures ok { OnOk result (self.new ≡ finalized face.0 mark.now set self.old) }
+        ensures err { OnErr result (self.new ≡ self.old) }
+    {
+        set_mark(&mut self.faces, self.alloc, face, mark, set)
     }
 
     /// Takes the face out, with what it declared. Takes no memory.

@@ -5,18 +5,19 @@ ghost use Rattle.std.specs.Option.{option_to_list};
 ghost use Rattle.std.specs.Ordering.{is_lt};
 ghost use Rattle.zq_key.specs.Key.{is_key};
 ghost use Rattle.zq_hat.specs.Kept.{text_cmp};
-ghost use Rattle.zq_hat.specs.Offers.{offer_cmp, place, sorted, distance};
+ghost use Rattle.zq_hat.specs.Offers.{bare_offers, bare_on, may_have, offer_cmp, place, sorted, distance};
 ghost use Rattle.zq_hat.specs.Holders.{Holdings, IsKeyed, groups_from, group_offer, holder_offers, texts_of};
 
+use crate::face::HatFace;
 use crate::holders::{Holders, KeyHolders};
 use crate::info::merge_qabl_infos;
-use crate::types::{OfferList, QueryTargetQabl};
+use crate::strategy::is_north;
+use crate::types::{QueryTargetQabl, Strategy};
 use std::alloc::Global;
 use std::cmp::Ordering;
 use std::collections::BTreeMap;
-use zq_key::items::Items;
 use zq_key::memory::OutOfMemory;
-use zq_key::message::{FaceId, QueryableInfoType, Region};
+use zq_key::message::{Bound, FaceId, QueryableInfoType, Region};
 use zq_key::text::Text;
 use zq_key::{includes, intersects};
 
@@ -247,10 +248,86 @@ pub fn declared_offers(
     region: Region,
     index: &KeyHolders,
     q: &str,
-) -> Result<OfferList, OutOfMemory>
+) -> Result<Vec<QueryTargetQabl>, OutOfMemory>
     requires keys { AllByRecursion IsKeyed index.now }
     requires asked { IsTrue (is_key q.now) }
-    ensures { IfOk result (λ o. o ≡ sorted offer_cmp (flat_map (holder_offers region q.now) index.now)) }
+    ensures { IfOk result (λ o. o.items ≡ sorted offer_cmp (flat_map (holder_offers region q.now) index.now)) }
 {
-    Ok(Items::from_vec(offers_on_keys(alloc, region, index.keys(), q)?))
+    offers_on_keys(alloc, region, index.keys(), q)
+}
+
+/// Whether the face may have a queryable on the key that it has not declared.
+fn may_have(strategy: Strategy, face: &HatFace, q: &str) -> bool
+    ensures { result ≡ may_have strategy q.now face.now }
+{
+    match strategy {
+        Strategy::Broker => false,
+        Strategy::Client => !face.is_finalized(q),
+        Strategy::Peer => match face.remote_bound() {
+            Bound::South => !face.is_finalized(q),
+            Bound::North => !face.is_initial(),
+        },
+        Strategy::Router => false,
+    }
+}
+
+/// Adds an offer without information of a face that may have more.
+fn add_bare(
+    offers: &mut Vec<QueryTargetQabl>,
+    alloc: Global,
+    strategy: Strategy,
+    region: Region,
+    number: u32,
+    face: &HatFace,
+    q: &str,
+) -> Result<(), OutOfMemory>
+    ensures { OnOk result (offers.new.items ≡ fold (place offer_cmp) offers.old.items (bare_on strategy region q.now (number, face.now))) }
+{
+    if !may_have(strategy, face, q) {
+        return Ok(());
+    }
+    let bare = QueryTargetQabl {
+        face: FaceId(number),
+        info: None,
+        key: Text::new(alloc, q)?,
+        region,
+        node: 0,
+    };
+    put(offers, bare)
+}
+
+/// Adds the offers without information of the faces that may have more.
+#[tactic(auto, using(crate::proofs::Folds::fold_joined))]
+fn add_bares(
+    offers: &mut Vec<QueryTargetQabl>,
+    alloc: Global,
+    strategy: Strategy,
+    region: Region,
+    faces: &BTreeMap<u32, HatFace>,
+    q: &str,
+) -> Result<(), OutOfMemory>
+    ensures { OnOk result (offers.new.items ≡ fold (place offer_cmp) offers.old.items (flat_map (bare_on strategy region q.now) faces.now.entries)) }
+{
+    for (number, face) in faces {
+        add_bare(offers, alloc, strategy, region, *number, face, q)?;
+    }
+    Ok(())
+}
+
+/// Adds, in North and for south-bound askers, the offers without information.
+pub fn add_bare_offers(
+    offers: &mut Vec<QueryTargetQabl>,
+    alloc: Global,
+    strategy: Strategy,
+    region: Region,
+    src: Region,
+    faces: &BTreeMap<u32, HatFace>,
+    q: &str,
+) -> Result<(), OutOfMemory>
+    ensures { OnOk result (offers.new.items ≡ fold (place offer_cmp) offers.old.items (bare_offers strategy region src faces.now.entries q.now)) }
+{
+    if !is_north(region) || is_north(src) {
+        return Ok(());
+    }
+    add_bares(offers, alloc, strategy, region, faces, q)
 }

@@ -1,6 +1,6 @@
 //! How a region keeps and offers queryables.
 ghost use Rattle.std.specs.Prelude.{◌≡◌};
-ghost use Rattle.zq_hat.specs.Regions.{strategy_of, by_mode};
+ghost use Rattle.zq_hat.specs.Regions.{strategy_of, by_mode, is_north, same_mode, same_region};
 
 use crate::types::Strategy;
 use zq_key::message::{Mode, Region};
@@ -13,6 +13,20 @@ fn by_mode(mode: Mode, client: Strategy) -> Strategy
         Mode::Peer => Strategy::Peer,
         Mode::Client => client,
     }
+}
+
+/// Whether a region is north-bound.
+pub fn is_north(region: Region) -> bool
+    ensures { result ≡ is_north region }
+{
+    matches!(region, Region::North)
+}
+
+/// Whether two regions are the same.
+pub fn same_region(a: Region, b: Region) -> bool
+    ensures { result ≡ same_region a b }
+{
+    a == b
 }
 
 /// The strategy of a region: North has that of its mode, Local is a broker, and South is a broker

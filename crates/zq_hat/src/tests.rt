@@ -1,9 +1,10 @@
 use crate::hat::Hat;
 use crate::info::merge_qabl_infos;
-use crate::types::{FaceRecord, HatRefusal, UnregisterEntityResult};
+use crate::types::{FaceRecord, FinalMark, HatRefusal, UnregisterEntityResult};
 use std::alloc::Global;
 use zq_key::Key;
 use zq_key::message::{Bound, FaceId, Mode, QueryableInfoType, Region, Zid};
+use zq_key::text::Text;
 
 fn information(complete: bool, distance: u16) -> QueryableInfoType {
     QueryableInfoType { complete, distance }
@@ -134,4 +135,66 @@ fn withdrawals(rt: HostRuntime) {
     assert_eq!(rt; hat.remote_queryables_of("k"), Some(information(false, 0)));
     assert_eq!(rt; close(&mut hat, 1), Some(2));
     assert_eq!(rt; first_offer(&hat, "k"), None);
+}
+
+/// How many offers an asker of the region finds on the key.
+fn offered(hat: &Hat, src: Region, text: &str) -> Option<usize> {
+    if !zq_key::is_key(text) {
+        return None;
+    }
+    match hat.compute_query_route(&src, text, Some(0)) {
+        Ok(offers) => Some(offers.len()),
+        Err(_) => None,
+    }
+}
+
+/// Sets or unsets a mark of face 0.
+fn mark(hat: &mut Hat, mark: &FinalMark, set: bool) -> bool {
+    let face = FaceId(0);
+    if !hat.has_face(face) {
+        return false;
+    }
+    hat.finalize_local_interest(face, mark, set).is_ok()
+}
+
+/// The region North of that mode with face 0, whose remote is north-bound.
+fn north(alloc: Global, mode: Mode) -> Option<Hat> {
+    let mut hat = Hat::new(alloc, Region::North, mode, Zid(1), 0);
+    if !open(&mut hat, 0) {
+        return None;
+    }
+    Some(hat)
+}
+
+// A peer is offered without a declaration until all that it had at its opening has come.
+#[test]
+fn peers(rt: HostRuntime) {
+    let Some(mut hat) = north(rt.alloc(), Mode::Peer) else {
+        return assert!(rt; false);
+    };
+    assert_eq!(rt; offered(&hat, Region::Local, "k"), Some(1));
+    assert_eq!(rt; offered(&hat, Region::North, "k"), Some(0));
+    assert!(rt; mark(&mut hat, &FinalMark::Initial, true));
+    assert_eq!(rt; offered(&hat, Region::Local, "k"), Some(0));
+    assert!(rt; mark(&mut hat, &FinalMark::Initial, false));
+    assert_eq!(rt; offered(&hat, Region::Local, "k"), Some(1));
+}
+
+// A client region has one face, which is offered on a key until the key is marked.
+#[test]
+fn upstream(rt: HostRuntime) {
+    let alloc = rt.alloc();
+    let Some(mut hat) = north(alloc, Mode::Client) else {
+        return assert!(rt; false);
+    };
+    let Ok(text) = Text::new(alloc, "k") else {
+        return assert!(rt; false);
+    };
+    assert!(rt; hat.is_full());
+    let key = FinalMark::Key(text);
+    assert!(rt; mark(&mut hat, &key, true));
+    assert_eq!(rt; offered(&hat, Region::Local, "k"), Some(0));
+    assert_eq!(rt; offered(&hat, Region::Local, "m"), Some(1));
+    assert!(rt; mark(&mut hat, &key, false));
+    assert_eq!(rt; offered(&hat, Region::Local, "k"), Some(1));
 }

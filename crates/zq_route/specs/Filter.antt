@@ -3,18 +3,12 @@ use Rattle.std.specs.Prelude.{ℕ, ◌≡◌, ◌≤◌, ◌<◌, length, Bool, 
 use Rattle.std.specs.List.{list_any}
 use Rattle.std.specs.Option.{option_and_then}
 use Rattle.zq_key.specs.declared.message.Region.{Region}
-use Rattle.zq_key.specs.declared.message.Region.TheVariants as region
 use Rattle.zq_key.specs.declared.message.Zid.{Zid}
+use Rattle.zq_hat.specs.Regions.{is_north}
 use Rattle.zq_tables.specs.RegionMap.{value_at}
 use Rattle.zq_route.specs.declared.gateways.GatewayEntry.{GatewayEntry}
 use Rattle.zq_route.specs.declared.gateways.Gateways.{Gateways}
 use Rattle.zq_route.specs.declared.filter.InterRegionFilter.{InterRegionFilter}
-
--- whether a region is north-bound
-abbrev pub is_north : Region → Bool
-is_north region.North = true
-is_north region.Local = false
-is_north (region.South id mode) = false
 
 -- whether two regions are of equal bounds
 abbrev pub same_bound : Region → Region → Bool

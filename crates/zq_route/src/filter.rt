@@ -3,10 +3,11 @@ ghost use Rattle.std.specs.Prelude.{◌≡◌, ◌↔◌, List, true, false, fol
 ghost use Rattle.std.specs.Option.{option_copied, option_and_then};
 ghost use Rattle.zq_tables.specs.Region.{HasIndex};
 ghost use Rattle.zq_tables.specs.RegionMap.{value_at};
-ghost use Rattle.zq_route.specs.Filter.{is_north, is_zid, is_node, listed, gateways_of, greatest, has_zid, carries, passes_between, Decide, IsGreatest};
+ghost use Rattle.zq_route.specs.Filter.{is_zid, is_node, listed, gateways_of, greatest, has_zid, carries, passes_between, Decide, IsGreatest};
 ghost use Rattle.zq_key.specs.declared.message.Zid.{Zid};
 
 use crate::gateways::{GatewayEntry, Gateways};
+use zq_hat::strategy::is_north;
 use zq_hat::types::ZidList;
 use zq_key::message::{Region, Zid};
 use zq_tables::map::RegionMap;
@@ -20,12 +21,6 @@ pub struct InterRegionFilter {
     pub src_zid: Option<Zid>,
     pub fwd_zid: Option<Zid>,
     pub dst_zid: Option<Zid>,
-}
-
-fn is_north(region: Region) -> bool
-    ensures { result ≡ is_north region }
-{
-    matches!(region, Region::North)
 }
 
 fn is_zid(a: Zid, b: Zid) -> bool

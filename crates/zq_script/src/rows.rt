@@ -7,7 +7,7 @@ use zq_key::memory::OutOfMemory;
 use zq_key::text::{Bytes, Text};
 
 /// What a script tells of, its lines, its print, and how its run ends.
-const ROWS: [(&str, &str, &str, Status); 19] = [
+const ROWS: [(&str, &str, &str, Status); 22] = [
     (
         "one query",
         "config 1 10000 north:client local\n\
@@ -331,6 +331,65 @@ const ROWS: [(&str, &str, &str, Status); 19] = [
          = refused UnknownScope\n\
          = refused QueryNotFound\n\
          = refused InvalidKeyExpr\n",
+        Status::Done,
+    ),
+    (
+        "a list of gateways on the way to North",
+        "config 2 10000 north:client south:0:client\n\
+         open south:0:client 10 client north -\n\
+         open north 99 router south -\n\
+         gateways south:0:client 10=2,3 none\n\
+         ask 0 1 0:s:k all - 0 0 - 0\n\
+         gateways south:0:client 10=1,2 none\n\
+         ask 0 2 0:s:k all - 0 0 - 0\n",
+        "= opened 0\n\
+         = opened 1\n\
+         = done\n\
+         = asked 0\n\
+         > 0 0 - final 1 0\n\
+         = done\n\
+         = asked 1\n\
+         > 1 1 - request 1 0:s:k all - 0 0 -\n",
+        Status::Done,
+    ),
+    (
+        "peers that may have more",
+        "config 1 10000 north:peer local\n\
+         open north 50 peer north -\n\
+         open north 51 peer north -\n\
+         open local 10 client north -\n\
+         ask 2 1 0:s:k best - 0 0 - 0\n\
+         finalize 0 initial 1\n\
+         ask 2 2 0:s:k best - 0 0 - 0\n\
+         finalize 1 initial 1\n\
+         ask 2 3 0:s:k best - 0 0 - 0\n",
+        "= opened 0\n\
+         = opened 1\n\
+         = opened 2\n\
+         = asked 0\n\
+         > 0 0 - request 1 0:s:k best - 0 0 -\n\
+         > 1 0 - request 1 0:s:k best - 0 0 -\n\
+         = done\n\
+         = asked 1\n\
+         > 1 1 - request 2 0:s:k best - 0 0 -\n\
+         = done\n\
+         = asked 2\n\
+         > 2 2 - final 3 0\n",
+        Status::Done,
+    ),
+    (
+        "one face towards the upstream",
+        "config 1 10000 north:client local\n\
+         open north 99 router south -\n\
+         open north 98 router south -\n\
+         finalize 0 key a//b 1\n\
+         close 0\n\
+         open north 98 router south -\n",
+        "= opened 0\n\
+         = refused UpstreamInUse\n\
+         = refused InvalidKeyExpr\n\
+         = done\n\
+         = opened 1\n",
         Status::Done,
     ),
     (

@@ -1,0 +1,11 @@
+use Rattle.std.specs.Ordering.{nat_cmp}
+use Rattle.std.specs.BTreeMap.{is_at}
+use Rattle.zq_tables.specs.Region.{region_index}
+use Rattle.zq_gateway.proofs.Lent.{kept_back}
+use Rattle.zq_gateway.proofs.hats.mark.Goals as goal
+
+pub returns-in-Some-clause-err : goal.returns-in-Some-clause-err
+returns-in-Some-clause-err c =
+    let hat = c.in-Some.hat.now in
+    let lent = c.get_mut.follows in
+    kept_back c.mark_in.result (is_at (nat_cmp (region_index c.args.region))) c.args.hats.now hat c.mark_in.new.hat lent.lender (lent.holds hat) c.in-Some.ensures.value c.mark_in.ensures.err
