@@ -14,3 +14,8 @@ pub mod Waits
 pub mod Settled
 pub mod Kept
 pub mod Queryables
+pub mod EntriesMoved
+pub mod HatsMoved
+pub mod SelectionMoved
+pub mod CausesMoved
+pub mod DecidingMoved

@@ -8,3 +8,4 @@ pub mod Machine
 pub mod Waiting
 pub mod Headline
 pub mod Undoing
+pub mod Moved
