@@ -2,6 +2,7 @@
 use Rattle.std.proofs.Common.{◌≡◌, ◌∙◌, refl, ap, ℕ, false, not, List, [], ◌∷◌, Option, Some, None}
 use Rattle.std.specs.Prelude.{◌==◌, ◌||◌, option_map}
 use Rattle.zq_key.specs.declared.message.FaceId.{FaceId}
+use Rattle.zq_hat.specs.declared.types.FinalMark.TheVariants as mark
 use Rattle.zq_hat.specs.Moved.{Keeps}
 use Rattle.zq_naming.specs.declared.said.Said.TheVariants as said
 use Rattle.zq_naming.specs.Naming.{remaps}
@@ -9,10 +10,10 @@ use Rattle.zq_query.specs.Asking.{lacks_number}
 use Rattle.zq_query.specs.Records.{is_pending}
 use Rattle.zq_gateway.specs.declared.call.Refusal.TheVariants as refusal
 use Rattle.zq_gateway.specs.State.{Core, hat_of, has_declared_in, clashes_in}
-use Rattle.zq_gateway.specs.TextCalls.{TextCall, opening, closing, naming, unnaming, declaring, withdrawing, asking, replying, ending, reporting, passing, listing, unbuilt}
+use Rattle.zq_gateway.specs.TextCalls.{TextCall, opening, closing, naming, unnaming, declaring, withdrawing, asking, replying, ending, reporting, passing, listing, finalizing, unbuilt}
 use Rattle.zq_gateway.specs.Deciding.{first_of, clashes, has_declared, lacks_face_number, lacks_reply_number, unknown_face, refusal_of}
 use Rattle.zq_gateway.specs.Moved.{move_core, move_text}
-use Rattle.zq_gateway.proofs.HatsMoved.{declared_moved, clashes_moved, has_moved, own_found}
+use Rattle.zq_gateway.proofs.HatsMoved.{declared_moved, clashes_moved, has_moved, full_moved, own_found}
 use Rattle.zq_gateway.proofs.SelectionMoved.{targets_moved}
 
 module _ (φ : List ℕ → List ℕ) (keeps : Keeps φ) (c : Core) where
@@ -27,7 +28,7 @@ module _ (φ : List ℕ → List ℕ) (keeps : Keeps φ) (c : Core) where
   known_moved face id = ap (has_declared_in face.0 id) (own_found φ c face.0) ∙ declared_moved φ face.0 id (hat_of face.0 c)
 
   pub refused_alike : (t : TextCall) → refusal_of (move_core φ c) (move_text φ t) ≡ refusal_of c t
-  refused_alike (opening o) = ap (λ b. first_of ((not b, refusal.UnknownRegion) ∷ (lacks_face_number c, refusal.NoFreeId) ∷ [])) (has_moved φ c o.region)
+  refused_alike (opening o) = λ j. first_of ((not (has_moved φ c o.region j), refusal.UnknownRegion) ∷ (full_moved φ c o.region j, refusal.UpstreamInUse) ∷ (lacks_face_number c, refusal.NoFreeId) ∷ [])
   refused_alike (closing face) = refl
   refused_alike (naming face id said.Unscoped standing) = refl
   refused_alike (naming face id said.Empty standing) = refl
@@ -50,4 +51,6 @@ module _ (φ : List ℕ → List ℕ) (keeps : Keeps φ) (c : Core) where
   refused_alike (reporting reply) = refl
   refused_alike (passing now) = refl
   refused_alike (listing r table) = ap (λ b. first_of ((not b, refusal.UnknownRegion) ∷ [])) (has_moved φ c r)
+  refused_alike (finalizing face mark.Initial set) = refl
+  refused_alike (finalizing face (mark.Key key) set) = ap (λ b. first_of (unknown_face face c ∷ (not b, refusal.InvalidKeyExpr) ∷ [])) (keeps.key key)
   refused_alike unbuilt = refl

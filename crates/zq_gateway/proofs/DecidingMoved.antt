@@ -13,7 +13,8 @@ use Rattle.zq_key.specs.declared.message.Request.{Request}
 use Rattle.zq_key.specs.declared.message.Response.{Response}
 use Rattle.zq_hat.specs.declared.types.QueryTargetQabl.{QueryTargetQabl}
 use Rattle.zq_hat.specs.Kept.{registered, unregistered, without_face}
-use Rattle.zq_hat.specs.Moved.{Keeps, move_offer}
+use Rattle.zq_hat.specs.Marks.{finalized}
+use Rattle.zq_hat.specs.Moved.{Keeps, move_mark, move_offer}
 use Rattle.zq_query.specs.declared.records.Final.{Final}
 use Rattle.zq_query.specs.declared.records.ReplyTo.{ReplyTo}
 use Rattle.zq_query.specs.declared.records.Timeout.{Timeout}
@@ -30,10 +31,10 @@ use Rattle.zq_gateway.specs.declared.call.Step.{Step}
 use Rattle.zq_gateway.specs.declared.face.OpenFace.{OpenFace}
 use Rattle.zq_gateway.specs.State.{Core, at, is_open, joined}
 use Rattle.zq_gateway.specs.Selecting.{select_for, select}
-use Rattle.zq_gateway.specs.TextCalls.{TextCall, opening, closing, naming, unnaming, declaring, withdrawing, asking, replying, ending, reporting, passing, listing, unbuilt}
+use Rattle.zq_gateway.specs.TextCalls.{TextCall, opening, closing, naming, unnaming, declaring, withdrawing, asking, replying, ending, reporting, passing, listing, finalizing, unbuilt}
 use Rattle.zq_gateway.specs.Deciding.{refusal_of, handed_final, handed_request, handed_requests, handed_reply, timed_out, handed_timeouts, passing_finals, replied, done, granted, answered, decide, is_accepted, deadline, with_queries, with_open, seat, accepted}
 use Rattle.zq_gateway.specs.Moved.{move_said, move_text, move_core, move_suffix, move_handed, move_step, after_text, DecidesAlike}
-use Rattle.zq_gateway.proofs.HatsMoved.{registered_moved, unregistered_moved, left_moved, joined_moved, hat_changed, own_changed}
+use Rattle.zq_gateway.proofs.HatsMoved.{finalized_moved, registered_moved, unregistered_moved, left_moved, joined_moved, hat_changed, own_changed}
 use Rattle.zq_gateway.proofs.SelectionMoved.{select_moved, targets_moved}
 use Rattle.zq_gateway.proofs.CausesMoved.{refused_alike}
 
@@ -119,6 +120,7 @@ module _ (φ : List ℕ → List ℕ) where
     granted_moved (reporting reply) e = ap done (finals_moved (finals_landed reply c.queries.closed c.queries.records))
     granted_moved (passing now) e = ap done (passing_moved c.faces (timeouts now c.queries) (passing_finals now c.queries))
     granted_moved (listing r table) e = refl
+    granted_moved (finalizing face m set) e = refl
     granted_moved unbuilt e = refl
 
     answer_by : (t : TextCall) (o : Option Refusal) → refusal_of c t ≡ o → answered o (granted (move_core φ c) (move_text φ t)) ≡ move_step φ (answered o (granted c t))
@@ -149,6 +151,7 @@ module _ (φ : List ℕ → List ℕ) where
     accepted_moved (reporting reply) e = refl
     accepted_moved (passing now) e = refl
     accepted_moved (listing r table) e = refl
+    accepted_moved (finalizing face m set) e = own_changed φ c (finalized face.0 (move_mark φ m) set) (finalized face.0 m set) (finalized_moved φ keeps face.0 m set) face.0
     accepted_moved unbuilt e = refl
 
     change_by : (t : TextCall) → refusal_of c t ≡ None → (b : Bool) → cond b (accepted (move_core φ c) (move_text φ t)) (move_core φ c) ≡ move_core φ (cond b (accepted c t) c)

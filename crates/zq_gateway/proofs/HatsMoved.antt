@@ -1,5 +1,6 @@
 -- What a gateway asks of a hat and changes in it moves with the hat's texts.
-use Rattle.std.proofs.Common.{◌≡◌, ◌∙◌, refl, ap, ℕ, Bool, true, false, cond, not, List, map, Option, Some, None}
+use Rattle.std.proofs.Common.{◌≡◌, ◌∙◌, refl, ap, ℕ, Bool, true, false, cond, not, List, [], ◌∷◌, map, Option, Some, None}
+use Rattle.std.specs.Prelude.{◌&&◌}
 use Rattle.std.specs.Option.{option_map, option_map_or, option_and_then, is_some}
 use Rattle.std.specs.Ordering.{nat_cmp}
 use Rattle.std.specs.Map.{set_value}
@@ -11,11 +12,16 @@ use Rattle.zq_tables.specs.Region.{region_index}
 use Rattle.zq_tables.specs.RegionMap.{value_at}
 use Rattle.zq_hat.specs.declared.types.Declaration.{Declaration}
 use Rattle.zq_hat.specs.declared.types.FaceRecord.{FaceRecord}
-use Rattle.zq_hat.specs.Kept.{face_at, has_face, change_face, declare, withdraw, registered, unregistered, declaration, declaration_at, is_apart, new_face, with_face_opened, without_face}
-use Rattle.zq_hat.specs.Moved.{Keeps, move_declared, move_face, move_hat}
+use Rattle.zq_hat.specs.declared.types.FinalMark.{FinalMark}
+use Rattle.zq_hat.specs.declared.types.FinalMark.TheVariants as mark
+use Rattle.zq_hat.specs.Kept.{face_at, has_any, has_face, is_full, change_face, declare, withdraw, registered, unregistered, declaration, declaration_at, is_apart, new_face, with_face_opened, without_face}
+use Rattle.zq_hat.specs.Marks.{finalized, marked}
+use Rattle.zq_hat.specs.Moved.{Keeps, move_declared, move_face, move_hat, move_mark}
+use Rattle.zq_hat.specs.Regions.{is_upstream, strategy_at}
+use Rattle.zq_hat.proofs.OffersMoved.{key_moved, key_left}
 use Rattle.zq_hat.specs.State.{FaceState, HatState}
 use Rattle.zq_gateway.specs.declared.face.OpenFace.{OpenFace}
-use Rattle.zq_gateway.specs.State.{Core, at, is_region, hat_at, has_hat, hat_of, put_hat, change_hat, change_hat_of, joined, has_declared_in, clashes_in}
+use Rattle.zq_gateway.specs.State.{Core, at, is_region, hat_at, has_hat, hat_of, is_full_region, put_hat, change_hat, change_hat_of, joined, has_declared_in, clashes_in}
 use Rattle.zq_gateway.specs.Moved.{move_region, move_core}
 use Rattle.zq_gateway.proofs.EntriesMoved.{is_some-map, insert-map, remove-map, set-map, change-map}
 
@@ -51,6 +57,14 @@ module _ (φ : List ℕ → List ℕ) where
     clashes_moved n id key None = refl
     clashes_moved n id key (Some s) = ap (λ o. option_map_or (is_apart (φ key)) o false) (declaration_found n id s) ∙ apart_by key (declaration_at n id s)
 
+  any_moved : (faces : List (ℕ × FaceState)) → has_any (map (move_face φ) faces) ≡ has_any faces
+  any_moved [] = refl
+  any_moved (f ∷ fs) = refl
+
+  full_by : (h : Option HatState) → option_map_or is_full (option_map (move_hat φ) h) false ≡ option_map_or is_full h false
+  full_by None = refl
+  full_by (Some s) = ap (λ b. is_upstream (strategy_at s) && b) (any_moved s.faces)
+
   -- ---- changes
   face_changed : (n : ℕ) (g h : FaceState → FaceState) → ((f : FaceState) → g (moved_face f) ≡ moved_face (h f)) → (s : HatState) → change_face n g (move_hat φ s) ≡ move_hat φ (change_face n h s)
   face_changed n g h same s = ap (λ l. record (move_hat φ s) { faces = l }) (change-map moved_face (is_at (nat_cmp n)) g h same s.faces)
@@ -60,6 +74,15 @@ module _ (φ : List ℕ → List ℕ) where
 
   withdraw_moved : (id : ℕ) (f : FaceState) → withdraw id (moved_face f) ≡ moved_face (withdraw id f)
   withdraw_moved id f = ap (λ l. record (moved_face f) { declared = l }) (remove-map moved_declaration (is_at (nat_cmp id)) f.declared)
+
+  module _ (keeps : Keeps φ) where
+    mark_moved : (m : FinalMark) (set : Bool) (f : FaceState) → marked (move_mark φ m) set (moved_face f) ≡ moved_face (marked m set f)
+    mark_moved mark.Initial set f = refl
+    mark_moved (mark.Key key) true f = ap (λ l. record (moved_face f) { finalized = l }) (key_moved φ keeps f.finalized key)
+    mark_moved (mark.Key key) false f = ap (λ l. record (moved_face f) { finalized = l }) (key_left φ keeps f.finalized key)
+
+    pub finalized_moved : (n : ℕ) (m : FinalMark) (set : Bool) (s : HatState) → finalized n (move_mark φ m) set (move_hat φ s) ≡ move_hat φ (finalized n m set s)
+    finalized_moved n m set s = face_changed n (marked (move_mark φ m) set) (marked m set) (mark_moved m set) s
 
   pub registered_moved : (n id : ℕ) (key : List ℕ) (i : QueryableInfoType) (s : HatState) → registered n id (φ key) i (move_hat φ s) ≡ move_hat φ (registered n id key i s)
   registered_moved n id key i s = face_changed n (declare id (φ key) i) (declare id key i) (declare_moved id key i) s
@@ -101,6 +124,9 @@ module _ (φ : List ℕ → List ℕ) where
   module _ (c : Core) where
     pub has_moved : (r : Region) → has_hat r (move_core φ c) ≡ has_hat r c
     has_moved r = ap is_some (hat_found c.hats r) ∙ is_some-map (move_hat φ) (hat_at r c.hats)
+
+    pub full_moved : (r : Region) → is_full_region r (move_core φ c) ≡ is_full_region r c
+    full_moved r = ap (λ o. option_map_or is_full o false) (hat_found c.hats r) ∙ full_by (hat_at r c.hats)
 
     own_by : (o : Option OpenFace) → option_and_then (λ (o : OpenFace). hat_at o.region (map (move_region φ) c.hats)) o ≡ option_map (move_hat φ) (option_and_then (λ (o : OpenFace). hat_at o.region c.hats) o)
     own_by None = refl

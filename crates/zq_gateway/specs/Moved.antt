@@ -6,13 +6,13 @@ use Rattle.zq_key.specs.declared.message.Message.{Message}
 use Rattle.zq_key.specs.declared.message.Message.TheVariants as message
 use Rattle.zq_key.specs.declared.message.WireExpr.{WireExpr}
 use Rattle.zq_hat.specs.State.{HatState}
-use Rattle.zq_hat.specs.Moved.{move_hat}
+use Rattle.zq_hat.specs.Moved.{move_hat, move_mark}
 use Rattle.zq_naming.specs.declared.said.Said.{Said}
 use Rattle.zq_naming.specs.declared.said.Said.TheVariants as said
 use Rattle.zq_gateway.specs.declared.call.Handed.{Handed}
 use Rattle.zq_gateway.specs.declared.call.Step.{Step}
 use Rattle.zq_gateway.specs.State.{Core}
-use Rattle.zq_gateway.specs.TextCalls.{TextCall, naming, unnaming, declaring, asking, replying}
+use Rattle.zq_gateway.specs.TextCalls.{TextCall, naming, unnaming, declaring, asking, replying, finalizing}
 use Rattle.zq_gateway.specs.Deciding.{decide, accepted, is_accepted}
 
 module _ (φ : List ℕ → List ℕ) where
@@ -22,13 +22,14 @@ module _ (φ : List ℕ → List ℕ) where
   move_said said.Empty = said.Empty
   move_said (said.Full text) = said.Full (φ text)
 
-  -- a call with the texts of its expressions and of its numbers moved; of a request and a reply all else stays, with the expression that was read
+  -- a call with the texts of its expressions, of its numbers and of its mark moved; of a request and a reply all else stays, with the expression that was read
   abbrev pub move_text : TextCall → TextCall
   move_text (naming face id s standing) = naming face id (move_said s) (option_map φ standing)
   move_text (unnaming face id standing) = unnaming face id (option_map φ standing)
   move_text (declaring face id s info node) = declaring face id (move_said s) info node
   move_text (asking face s r now) = asking face (move_said s) r now
   move_text (replying face s r) = replying face (move_said s) r
+  move_text (finalizing face m set) = finalizing face (move_mark φ m) set
   move_text t = t
 
   -- a region's hat with its texts moved

@@ -6,6 +6,7 @@ use Rattle.std.specs.declared.cmp.Ordering.TheVariants.{Less, Equal, Greater}
 use Rattle.std.specs.Ordering.{nat_cmp, is_lt, is_eq, match_ordering, ordering_then}
 use Rattle.std.specs.List.{flat_map, list_any, suffix_len, prefix_len}
 use Rattle.std.specs.BTreeMap.{is_at}
+use Rattle.std.specs.Set.{remove_key}
 use Rattle.std.specs.BTreeSet.{insert_key}
 use Rattle.std.proofs.lemmas.List.{take-map, drop-map, length-map, reverse-append}
 use Rattle.zq_key.proofs.Naturals.{map-append, fold-map, fold-moved, flat_map-map}
@@ -60,11 +61,22 @@ module _ (φ : List ℕ → List ℕ) (keeps : Keeps φ) where
   key_by k x xs Equal ih = refl
   key_by k x xs Greater ih = ap (λ l. φ x ∷ l) ih
 
-  key_moved : (xs : List (List ℕ)) (k : List ℕ) → insert_key text_cmp (map φ xs) (φ k) ≡ map φ (insert_key text_cmp xs k)
+  pub key_moved : (xs : List (List ℕ)) (k : List ℕ) → insert_key text_cmp (map φ xs) (φ k) ≡ map φ (insert_key text_cmp xs k)
   key_moved [] k = refl
   key_moved (x ∷ xs) k =
       ap (λ r. match_ordering r (φ k ∷ φ x ∷ map φ xs) (φ x ∷ map φ xs) (φ x ∷ insert_key text_cmp (map φ xs) (φ k))) (keeps.order k x)
       ∙ key_by k x xs (text_cmp k x) (key_moved xs k)
+
+  left_by : (k : List ℕ) (xs : List (List ℕ)) (b : Bool) → remove_key (is_at (text_cmp (φ k))) (map φ xs) ≡ map φ (remove_key (is_at (text_cmp k)) xs)
+      → (x : List ℕ) → cond b (map φ xs) (φ x ∷ remove_key (is_at (text_cmp (φ k))) (map φ xs)) ≡ map φ (cond b xs (x ∷ remove_key (is_at (text_cmp k)) xs))
+  left_by k xs true ih x = refl
+  left_by k xs false ih x = ap (λ l. φ x ∷ l) ih
+
+  pub key_left : (xs : List (List ℕ)) (k : List ℕ) → remove_key (is_at (text_cmp (φ k))) (map φ xs) ≡ map φ (remove_key (is_at (text_cmp k)) xs)
+  key_left [] k = refl
+  key_left (x ∷ xs) k =
+      ap (λ r. cond (is_eq r) (map φ xs) (φ x ∷ remove_key (is_at (text_cmp (φ k))) (map φ xs))) (keeps.order k x)
+      ∙ left_by k xs (is_at (text_cmp k) x) (key_left xs k) x
 
   face_keys_moved : (ks : List (List ℕ)) (f : ℕ × FaceState) → with_keys (map φ ks) (move_face φ f) ≡ map φ (with_keys ks f)
   face_keys_moved ks f = fold-moved (move_declared φ) (map φ) with_key with_key (λ l d. key_moved l d.1.key) ks f.1.declared

@@ -4,6 +4,8 @@ use Rattle.std.specs.Str.{bytes_eq}
 use Rattle.zq_key.specs.Key.{is_key, intersects, includes}
 use Rattle.zq_hat.specs.declared.types.Declaration.{Declaration}
 use Rattle.zq_hat.specs.declared.types.InterestEntry.{InterestEntry}
+use Rattle.zq_hat.specs.declared.types.FinalMark.{FinalMark}
+use Rattle.zq_hat.specs.declared.types.FinalMark.TheVariants as mark
 use Rattle.zq_hat.specs.declared.types.QueryTargetQabl.{QueryTargetQabl}
 use Rattle.zq_hat.specs.Kept.{text_cmp}
 use Rattle.zq_hat.specs.State.{FaceState, HatState}
@@ -24,6 +26,11 @@ module _ (φ : List ℕ → List ℕ) where
   -- an interest with its key moved
   abbrev pub move_interest : ℕ × InterestEntry → ℕ × InterestEntry
   move_interest i = (i.0, record i.1 { key = option_map φ i.1.key })
+
+  -- a mark with its key moved
+  abbrev pub move_mark : FinalMark → FinalMark
+  move_mark mark.Initial = mark.Initial
+  move_mark (mark.Key key) = mark.Key (φ key)
 
   -- a face with its texts moved
   abbrev pub move_face : ℕ × FaceState → ℕ × FaceState
