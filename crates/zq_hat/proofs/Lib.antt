@@ -11,5 +11,6 @@ pub mod Tied
 pub mod Keeping
 pub mod Turns
 pub mod Marking
+pub mod Skipping
 pub mod OfferLaws
 pub mod OffersMoved

@@ -4,5 +4,6 @@ pub mod Regions
 pub mod Kept
 pub mod Marks
 pub mod Offers
+pub mod Skipping
 pub mod Holders
 pub mod Moved

@@ -1,11 +1,13 @@
 //! What a region offers for the key of a request.
-ghost use Rattle.std.specs.Prelude.{◌≡◌, ◌<◌, ◌≤◌, ◌-◌, ◌∷◌, ℕ, IfOk, OnOk, Some, None, fold, map, length, true, false, slice_index_or, IsTrue};
+ghost use Rattle.std.specs.Prelude.{◌≡◌, ◌<◌, ◌≤◌, ◌-◌, ◌∷◌, ℕ, IfOk, IfSome, OnOk, Some, None, fold, map, length, true, false, slice_index_or, IsTrue};
 ghost use Rattle.std.specs.List.{AllByRecursion, flat_map, suffix_len};
 ghost use Rattle.std.specs.Option.{option_to_list};
 ghost use Rattle.std.specs.Ordering.{is_lt};
+ghost use Rattle.std.specs.String.{string_bytes};
 ghost use Rattle.zq_key.specs.Key.{is_key};
 ghost use Rattle.zq_hat.specs.Kept.{text_cmp};
 ghost use Rattle.zq_hat.specs.Offers.{bare_offers, bare_on, may_have, offer_cmp, place, sorted, distance};
+ghost use Rattle.zq_hat.specs.Skipping.{Skips};
 ghost use Rattle.zq_hat.specs.Holders.{Holdings, IsKeyed, groups_from, group_offer, holder_offers, texts_of};
 
 use crate::face::HatFace;
@@ -16,10 +18,12 @@ use crate::types::{QueryTargetQabl, Strategy};
 use std::alloc::Global;
 use std::cmp::Ordering;
 use std::collections::BTreeMap;
+use std::ops::RangeFull;
 use zq_key::memory::OutOfMemory;
 use zq_key::message::{Bound, FaceId, QueryableInfoType, Region};
 use zq_key::text::Text;
 use zq_key::{includes, intersects};
+use zq_names::matching::apart;
 
 /// A face's number, and what it declared on a key, merged.
 type Group = (u32, QueryableInfoType);
@@ -223,7 +227,26 @@ fn add_key_offers(
     }
 }
 
-/// The offers by declarations, in order.
+/// Where the first bytes of the key already show that it does not meet the request's, a text after
+/// all the keys that begin with these bytes.
+fn after_run(alloc: Global, key: &str, q: &str) -> Result<Option<String>, OutOfMemory>
+    ensures { IfOk result (λ o. IfSome o (λ bound. Skips q.now key.now (string_bytes bound))) }
+{
+    let Some(k) = apart(key.as_bytes(), q.as_bytes()) else {
+        return Ok(None);
+    };
+    let byte = key.as_bytes()[k];
+    if byte >= 127 {
+        return Ok(None);
+    }
+    let mut bound = String::from_str(alloc, &key[..k])?;
+    bound.push((byte + 1) as char)?;
+    Ok(Some(bound))
+}
+
+/// The offers by declarations, in order. Keys that begin with bytes with which no key that meets the
+/// request's begins are passed over by one search, so that a plain key is not tested against every
+/// plain key that was declared.
 #[tactic(auto, using(crate::proofs::Folds::fold_joined))]
 fn offers_on_keys(
     alloc: Global,
@@ -236,8 +259,12 @@ fn offers_on_keys(
     ensures { IfOk result (λ o. o.items ≡ sorted offer_cmp (flat_map (holder_offers region q.now) (texts_of keys.now.entries))) }
 {
     let mut offers = Vec::new(alloc);
-    for (key, holders) in keys {
-        add_key_offers(&mut offers, alloc, region, key.as_str(), holders, q)?;
+    let mut rest = keys.range::<RangeFull>(..);
+    while let Some((key, holders)) = rest.next() {
+        match after_run(alloc, key.as_str(), q)? {
+            Some(bound) => rest = keys.range(&bound..),
+            None => add_key_offers(&mut offers, alloc, region, key.as_str(), holders, q)?,
+        }
     }
     Ok(offers)
 }

@@ -15,7 +15,7 @@ mod close;
 mod edit;
 mod forget;
 mod linking;
-mod matching;
+pub mod matching;
 pub mod names;
 pub mod node;
 mod order;

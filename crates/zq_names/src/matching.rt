@@ -21,8 +21,9 @@ fn may_be_wild(byte: u8) -> bool
     byte == b'*' || byte == b'$'
 }
 
-// The place of the first byte that shows that the text, and any that begins like it up to there, doesn't meet the key.
-fn apart(text: &[u8], key: &[u8]) -> Option<usize>
+/// The place of the first byte that shows that the text, and any that begins like it up to there,
+/// doesn't meet the key. None says nothing.
+pub fn apart(text: &[u8], key: &[u8]) -> Option<usize>
     ensures { IfSome result (IsApartAt text.now key.now) }
 {
     for k in 0..text.len() {

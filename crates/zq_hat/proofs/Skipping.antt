@@ -1,0 +1,171 @@
+-- Declared keys that are passed over: none of them meets the request's key.
+use Rattle.std.proofs.Common.{◌≡◌, ◌≢◌, ◌∙◌, sym, ap, subst, refl, ℕ, ◌+◌, Bool, true, false, cond, List, [], ◌∷◌, ◌++◌, take, drop, get_or, append_assoc, length}
+use Rattle.std.specs.Prelude.{◌&&◌, String}
+use Rattle.std.specs.declared.alloc.Global.{Global}
+use Rattle.std.specs.declared.cmp.Ordering.{Ordering}
+use Rattle.std.specs.declared.cmp.Ordering.TheVariants.{Less, Equal, Greater}
+use Rattle.std.specs.declared.ops.Bound.TheVariants.{Included, Unbounded}
+use Rattle.std.specs.Ordering.{is_le, is_eq, ordering_reverse}
+use Rattle.std.specs.Cmp.Lexicographic.{bytes_decides}
+use Rattle.std.specs.List.{AllByRecursion, flat_map}
+use Rattle.std.specs.List.Sorted.{IsStrictlySortedBy}
+use Rattle.std.specs.Map.{keys_of}
+use Rattle.std.specs.BTreeMap.Range.{entries_between, range_contains}
+use Rattle.std.specs.String.{string_bytes, string_cmp}
+use Rattle.std.proofs.lemmas.Bool.{false≢true}
+use Rattle.std.proofs.lemmas.Cmp.{nat_list_cmp_total}
+use Rattle.std.proofs.lemmas.Map.Keys.{sorted_head, sorted_tail}
+use Rattle.std.proofs.lemmas.Map.Text.{is_eq-slice_cmp}
+use Rattle.std.proofs.lemmas.List.{drop_more, take_more, take-append-drop}
+use Rattle.zq_key.specs.Key.{intersects}
+use Rattle.zq_names.specs.Matching.{is_apart, IsApartAt}
+use Rattle.zq_names.proofs.Apart.{is_apart-longer, apart_misses}
+use Rattle.zq_names.proofs.Pruning.{Begins, squeezed_run, run_is_less}
+use Rattle.zq_names.proofs.TextOrder.{not_below_itself}
+use Rattle.zq_hat.specs.Kept.{text_cmp}
+use Rattle.zq_hat.specs.Holders.{texts_of}
+use Rattle.zq_hat.specs.Skipping.{Skips}
+
+-- ---- a run of texts that begin alike
+
+pub run_skipped : (t q bound : List ℕ) (k b : ℕ) → IsApartAt t q k → get_or t k 0 ≡ b → bound ≡ take k t ++ (b + 1) ∷ [] → Skips q t bound
+run_skipped t q bound k b apart is cut =
+    let p = take k t in
+    let rest = drop (k + 1) t in
+    let whole : t ≡ p ++ b ∷ rest = sym (take-append-drop k t) ∙ ap (λ l. p ++ l) (drop_more t k 0 apart.in_range) ∙ ap (λ x. p ++ x ∷ rest) is in
+    let front : take (k + 1) t ≡ p ++ b ∷ [] = take_more t k 0 apart.in_range ∙ ap (λ x. p ++ x ∷ []) is in
+    let dead : (more : List ℕ) → intersects (p ++ b ∷ more) q ≡ false = λ more.
+    let longer : is_apart (p ++ b ∷ more) q ≡ true =
+    ap (λ x. is_apart x q) (sym (append_assoc p (b ∷ []) more))
+    ∙ is_apart-longer (p ++ b ∷ []) more q (ap (λ x. is_apart x q) (sym front) ∙ apart.apart) in
+    apart_misses (p ++ b ∷ more) q longer in
+    record {
+      after = (λ i. text_cmp (whole i) (cut i)) ∙ run_is_less p rest b;
+      none = λ x above below.
+          let begins : Begins p b x = squeezed_run p x rest b (λ less. above (ap (text_cmp x) whole ∙ less)) (ap (text_cmp x) (sym cut) ∙ below) in
+          ap (λ y. intersects y q) begins.1 ∙ dead begins.0;
+    }
+
+-- ---- entries in order, from a bound on
+
+abbrev pub from_bound : {X : Type 0} → String Global → List (String Global × X) → List (String Global × X)
+from_bound bound es = entries_between string_cmp (Included bound) Unbounded es
+
+abbrev is_from : String Global → String Global → Bool
+is_from bound k = range_contains string_cmp (Included bound) Unbounded k
+
+from_less : (bound k : String Global) → string_cmp k bound ≡ Less → is_from bound k ≡ false
+from_less bound k less = ap (λ r. is_le r && true) (nat_list_cmp_total.antisymm (string_bytes bound) (string_bytes k) ∙ ap ordering_reverse less)
+
+below_from : (bound k : String Global) → is_from bound k ≡ false → string_cmp k bound ≡ Less
+below_from bound k not_from = by (string_cmp bound k) refl not_from
+  where
+    by : (r : Ordering) → string_cmp bound k ≡ r → (is_le r && true) ≡ false → string_cmp k bound ≡ Less
+    by Less is e = absurd (false≢true (sym e))
+    by Equal is e = absurd (false≢true (sym e))
+    by Greater is e = nat_list_cmp_total.antisymm (string_bytes k) (string_bytes bound) ∙ ap ordering_reverse is
+
+-- entries passed over, and those from the bound on
+pub record IsSplit {X A : Type 0} (f : List ℕ × X → List A) (es new : List (String Global × X)) : Type 0 where
+  pub over : List (String Global × X)
+  pub whole : es ≡ over ++ new
+  pub nothing : flat_map f (texts_of over) ≡ []
+
+above_less : {X : Type 0} (bound k : String Global) (es : List (String Global × X)) → AllByRecursion (λ x. string_cmp k x ≡ Less) (keys_of es) → is_from bound k ≡ true → from_bound bound es ≡ es
+above_less bound k [] all from = refl
+above_less bound k (e ∷ es) all from = ap (λ b. cond b (e ∷ from_bound bound es) (from_bound bound es)) (from_above bound k e.0 (string_cmp bound k) refl from all.0) ∙ ap (λ l. e ∷ l) (above_less bound k es all.1 from)
+  where
+    from_above : (bound k x : String Global) (r : Ordering) → string_cmp bound k ≡ r → is_from bound k ≡ true → string_cmp k x ≡ Less → is_from bound x ≡ true
+    from_above bound k x Less is from less = ap (λ r. is_le r && true) (nat_list_cmp_total.trans (string_bytes bound) (string_bytes k) (string_bytes x) is less)
+    from_above bound k x Equal is from less =
+        let same : string_bytes bound ≡ string_bytes k = (bytes_decides (string_bytes bound) (string_bytes k)).0 (sym (is_eq-slice_cmp (string_bytes bound) (string_bytes k)) ∙ ap is_eq is) in
+        ap (λ r. is_le r && true) (ap (λ b. text_cmp b (string_bytes x)) same ∙ less)
+    from_above bound k x Greater is from less = absurd (false≢true (sym (ap (λ r. is_le r && true) is) ∙ from))
+
+module _ {X A : Type 0} (f : List ℕ × X → List A) (bound : String Global) where
+  abbrev Dead : List ℕ → Type 0
+  Dead key = (t : List ℕ) → text_cmp t key ≢ Less → text_cmp t (string_bytes bound) ≡ Less → (x : X) → f (t, x) ≡ []
+
+  later : (k x : String Global) → string_cmp k x ≡ Less → Dead (string_bytes k) → Dead (string_bytes x)
+  later k x less dead t above below v = dead t (λ before. above (nat_list_cmp_total.trans t (string_bytes k) (string_bytes x) before less)) below v
+
+  not_before : (k x : String Global) → string_cmp k x ≡ Less → text_cmp (string_bytes x) (string_bytes k) ≢ Less
+  not_before k x less back = not_below_itself (string_bytes k) (nat_list_cmp_total.trans (string_bytes k) (string_bytes x) (string_bytes k) less back)
+
+  -- of the entries after a key, those before the bound give nothing, and the others are those from the bound on
+  pub run_split : (k : String Global) (es : List (String Global × X)) → IsStrictlySortedBy string_cmp (k ∷ keys_of es) → Dead (string_bytes k) → IsSplit f es (from_bound bound es)
+  run_split k [] s dead = record { over = []; whole = refl; nothing = refl }
+  run_split k (e ∷ es) s dead =
+      let above = sorted_head string_cmp k (keys_of (e ∷ es)) s in
+      let rest = sorted_tail string_cmp k (keys_of (e ∷ es)) s in
+      by (is_from bound e.0) refl above.0 rest (run_split e.0 es rest (later k e.0 above.0 dead))
+    where
+      by : (b : Bool) → is_from bound e.0 ≡ b → string_cmp k e.0 ≡ Less → IsStrictlySortedBy string_cmp (e.0 ∷ keys_of es) → IsSplit f es (from_bound bound es) → IsSplit f (e ∷ es) (cond b (e ∷ from_bound bound es) (from_bound bound es))
+      by true is less rest more = record { over = []; whole = ap (λ l. e ∷ l) (sym (above_less bound e.0 es (sorted_head string_cmp e.0 (keys_of es) rest) is)); nothing = refl }
+      by false is less rest more =
+          let before : string_cmp e.0 bound ≡ Less = below_from bound e.0 is in
+          record {
+            over = e ∷ more.over;
+            whole = ap (λ l. e ∷ l) more.whole;
+            nothing = λ i. dead (string_bytes e.0) (not_before k e.0 less) before e.1 i ++ more.nothing i;
+          }
+
+-- the list ends with these
+abbrev pub IsEnd : {X : Type 0} → List X → List X → Type 0
+IsEnd {X} xs ys = (front : List X) × (xs ≡ front ++ ys)
+
+pub unbounded : {X : Type 0} (es : List (String Global × X)) → entries_between string_cmp Unbounded Unbounded es ≡ es
+unbounded [] = refl
+unbounded (e ∷ es) = ap (λ l. e ∷ l) (unbounded es)
+
+sorted_end : {X : Type 0} (front es : List (String Global × X)) → IsStrictlySortedBy string_cmp (keys_of (front ++ es)) → IsStrictlySortedBy string_cmp (keys_of es)
+sorted_end [] es s = s
+sorted_end (x ∷ front) es s = sorted_end front es (sorted_tail string_cmp x.0 (keys_of (front ++ es)) s)
+
+below_middle : {X : Type 0} (k : String Global) (front : List (String Global × X)) (e : String Global × X) (rest : List (String Global × X)) → AllByRecursion (λ y. string_cmp k y ≡ Less) (keys_of (front ++ e ∷ rest)) → string_cmp k e.0 ≡ Less
+below_middle k [] e rest all = all.0
+below_middle k (x ∷ front) e rest all = below_middle k front e rest all.1
+
+module _ {X : Type 0} (bound : String Global) (e : String Global × X) (rest : List (String Global × X)) (less : string_cmp e.0 bound ≡ Less) where
+  -- what stands up to an entry before the bound is not from the bound on
+  dropped : (front : List (String Global × X)) → IsStrictlySortedBy string_cmp (keys_of (front ++ e ∷ rest)) → from_bound bound (front ++ e ∷ rest) ≡ from_bound bound rest
+  dropped [] s = ap (λ b. cond b (e ∷ from_bound bound rest) (from_bound bound rest)) (from_less bound e.0 less)
+  dropped (x ∷ front) s =
+      let all = sorted_head string_cmp x.0 (keys_of (front ++ e ∷ rest)) s in
+      let below : string_cmp x.0 bound ≡ Less = nat_list_cmp_total.trans (string_bytes x.0) (string_bytes e.0) (string_bytes bound) (below_middle x.0 front e rest all) less in
+      ap (λ b. cond b (x ∷ from_bound bound (front ++ e ∷ rest)) (from_bound bound (front ++ e ∷ rest))) (from_less bound x.0 below)
+      ∙ dropped front (sorted_tail string_cmp x.0 (keys_of (front ++ e ∷ rest)) s)
+
+-- the step of the walk: what is passed over gives nothing, and what is left is the end of the entries
+pub record IsPassed {X A : Type 0} (f : List ℕ × X → List A) (es rest new : List (String Global × X)) : Type 0 where
+  pub split : IsSplit f rest new
+  pub end : IsEnd es new
+
+module _ {X A : Type 0} (f : List ℕ × X → List A) (bound : String Global) (es front rest : List (String Global × X)) (e : String Global × X) where
+  pub passed : es ≡ front ++ e ∷ rest → IsStrictlySortedBy string_cmp (keys_of es) → string_cmp e.0 bound ≡ Less
+      → ((t : List ℕ) → text_cmp t (string_bytes e.0) ≢ Less → text_cmp t (string_bytes bound) ≡ Less → (x : X) → f (t, x) ≡ []) → IsPassed f es rest (from_bound bound es)
+  passed is s less dead =
+      let sorted : IsStrictlySortedBy string_cmp (keys_of (front ++ e ∷ rest)) = subst (λ l. IsStrictlySortedBy string_cmp (keys_of l)) is s in
+      let same : from_bound bound es ≡ from_bound bound rest = ap (from_bound bound) is ∙ dropped bound e rest less front sorted in
+      let split = run_split f bound e.0 rest (sorted_end front (e ∷ rest) sorted) dead in
+      record {
+        split = subst (IsSplit f rest) (sym same) split;
+        end = (front ++ e ∷ split.over, is ∙ ap (λ l. front ++ e ∷ l) (split.whole ∙ ap (λ l. split.over ++ l) (sym same)) ∙ sym (append_assoc front (e ∷ split.over) (from_bound bound es)));
+      }
+
+module _ {X A : Type 0} (f : List ℕ × X → List A) where
+  joined : (xs ys : List (String Global × X)) → flat_map f (texts_of (xs ++ ys)) ≡ flat_map f (texts_of xs) ++ flat_map f (texts_of ys)
+  joined [] ys = refl
+  joined (x ∷ xs) ys = ap (λ l. f (string_bytes x.0, x.1) ++ l) (joined xs ys) ∙ sym (append_assoc (f (string_bytes x.0, x.1)) (flat_map f (texts_of xs)) (flat_map f (texts_of ys)))
+
+  -- the walk loses nothing where the entry that it left gives nothing
+  pub nothing_lost : (es rest new : List (String Global × X)) (e : String Global × X) → IsPassed f es rest new → f (string_bytes e.0, e.1) ≡ [] → flat_map f (texts_of (e ∷ rest)) ≡ flat_map f (texts_of new)
+  nothing_lost es rest new e p none =
+      ap (λ l. l ++ flat_map f (texts_of rest)) none
+      ∙ ap (λ l. flat_map f (texts_of l)) p.split.whole
+      ∙ joined p.split.over new
+      ∙ ap (λ l. l ++ flat_map f (texts_of new)) p.split.nothing
+
+pub all_at_end : {X : Type 0} (P : List ℕ × X → Type 0) (xs ys : List (String Global × X)) → AllByRecursion P (texts_of (xs ++ ys)) → AllByRecursion P (texts_of ys)
+all_at_end P [] ys all = all
+all_at_end P (x ∷ xs) ys all = all_at_end P xs ys all.1
