@@ -15,3 +15,6 @@ pub mod Strips
 pub mod Behind
 pub mod ChangeLemmas
 pub mod Naturals
+pub mod Truth
+pub mod Lookups
+pub mod Sorted

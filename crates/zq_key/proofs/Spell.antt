@@ -160,7 +160,7 @@ meets-read (Some c ∷ a) (Some d ∷ b) h =
     let e = encode_same c d k.0 k.1 k.2 in
     rw (eq-eqb c d e.0, meets-read a b (k.3 e.1)) refl
 
-both : (b c : Bool) → (b ≡ true → c ≡ true) → (c ≡ true → b ≡ true) → b ≡ c
+pub both : (b c : Bool) → (b ≡ true → c ≡ true) → (c ≡ true → b ≡ true) → b ≡ c
 both true c f g = sym (f refl)
 both false true f g = g refl
 both false false f g = refl

@@ -1,5 +1,5 @@
 -- The same for the one-sided recursion.
-use Rattle.std.proofs.Common.{◌≡◌, ℕ, ◌==◌, Bool, true, false, ◌||◌, List, [], ◌∷◌, ◌++◌, Option, Some, None, ◌⊎◌, inl, inr, refl, sym, ◌∙◌, append-nil}
+use Rattle.std.proofs.Common.{◌≡◌, ℕ, ◌==◌, true, false, ◌||◌, List, [], ◌∷◌, ◌++◌, Option, Some, None, ◌⊎◌, inl, inr, refl, sym, ◌∙◌, append-nil}
 use Rattle.std.specs.List.{list_all}
 use Rattle.std.proofs.lemmas.Bool.{false≢true, or_cases, and_parts, or_left, or_right, eqb-true, eq-eqb}
 use Rattle.std.proofs.lemmas.Bool.Decides.{Decides-eqb}
@@ -8,7 +8,7 @@ use lib.Utf8.{encode}
 use Rattle.zq_key.specs.Match.{covers_by}
 use Rattle.zq_key.specs.Key.{parts_cover}
 use Rattle.zq_key.proofs.Spelling.{is_next, somes, spell}
-use Rattle.zq_key.proofs.Spell.{Word, word, lead_apart, both_cons}
+use Rattle.zq_key.proofs.Spell.{Word, word, lead_apart, both_cons, both}
 
 covers-drop : (p b : List (Option ℕ)) → parts_cover p b ≡ true → parts_cover (None ∷ p) b ≡ true
 unfolding covers_by
@@ -116,11 +116,6 @@ covers-read (Some c ∷ a) (Some d ∷ b) h =
     let k = covers-lockstep (encode c) (encode d) (spell a) (spell b) h in
     let e = encode_same c d k.0 k.1 k.2 in
     rw (eq-eqb c d e.0, covers-read a b (k.3 e.1)) refl
-
-both : (b c : Bool) → (b ≡ true → c ≡ true) → (c ≡ true → b ≡ true) → b ≡ c
-both true c f g = sym (f refl)
-both false true f g = g refl
-both false false f g = refl
 
 pub parts_cover-spell : (a b : List (Option ℕ)) → parts_cover (spell a) (spell b) ≡ parts_cover a b
 parts_cover-spell a b = both (parts_cover (spell a) (spell b)) (parts_cover a b) (covers-read a b) (covers-spelled a b)
