@@ -22,9 +22,8 @@ use Rattle.zq_query.specs.Records.{QueryState, any_over, is_closed, is_entry, ne
 use Rattle.zq_query.specs.Closing.{closing_finals, after_close, finals_after, finals_landed}
 use Rattle.zq_query.specs.Polling.{timeouts, after_poll, has_number_for}
 use Rattle.zq_query.specs.Balance.{finals_under}
-use Rattle.zq_query.proofs.Keys.{kept, same_key, sorted_out}
-use Rattle.zq_query.proofs.Sorted.{sorted_in, aside}
-use Rattle.zq_query.proofs.Lists.{has_put}
+use Rattle.zq_query.proofs.Keys.{kept}
+use Rattle.zq_query.proofs.Sorted.{aside}
 use Rattle.zq_query.proofs.TimingOut.{rest_stays}
 use Rattle.zq_query.proofs.Balance.{letting_balance, landing_balance, closing_balance, reply_balance, poll_balance, ask_balance, letting_none_over, landing_none_over, reply_none_over, close_none_over, poll_none_over, ask_none_over}
 use Rattle.zq_naming.specs.Naming.{NamingState}
@@ -41,6 +40,8 @@ use Rattle.zq_gateway.specs.Machine.{written, write, follow, accepted_state, aft
 use Rattle.zq_gateway.specs.Headline.{ends, finals_of, to_come}
 use Rattle.zq_gateway.proofs.Writing.{replies_written, timeouts_written}
 use Rattle.zq_gateway.proofs.Promises.{all_passed, granted_is_accepted}
+use Rattle.zq_key.proofs.Lookups.{same_key}
+use Rattle.zq_key.proofs.Sorted.{sorted_out, sorted_in, has_put}
 
 -- ---- what holds between two calls: open faces and closed ones are apart, and no record is over
 pub record Sound (faces : List (ℕ × OpenFace)) (next : ℕ) (q : QueryState) : Type 0 where
