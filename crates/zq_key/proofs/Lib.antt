@@ -8,6 +8,7 @@ pub mod Checks
 pub mod Lawful
 pub mod Spelling
 pub mod Spell
+pub mod SpellMeets
 pub mod SpellCovers
 pub mod Characters
 pub mod Plain
