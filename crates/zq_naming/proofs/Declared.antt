@@ -1,28 +1,20 @@
 -- A number is declared: it holds its node, as each other number does.
-use Rattle.std.proofs.Common.{◌≡◌, ℕ, ◌+◌, ◌^◌, ◌<◌, true, false, List, length, Option, Some, None, IfSome, refl, sym, ap, subst, ◌∙◌, arith, zero, suc, inl, inr}
-use Rattle.std.specs.Prelude.{option_map}
+use Rattle.std.proofs.Common.{◌≡◌, ℕ, ◌+◌, ◌^◌, ◌<◌, true, false, List, length, Option, Some, None, IfSome, refl, sym, ap, subst, ◌∙◌, arith}
 use Rattle.std.specs.Option.{is_some}
-use Rattle.std.specs.List.{All, Contains}
-use Rattle.std.specs.Map.{values_of}
-use Rattle.std.specs.BTreeMap.{is_at}
-use Rattle.std.specs.Ordering.{nat_cmp}
-use Rattle.std.proofs.lemmas.Bool.{cases_eq, false≢true}
+use Rattle.std.proofs.lemmas.Bool.{false≢true}
 use Rattle.std.proofs.lemmas.Option.{same_Some}
-use Rattle.std.proofs.lemmas.Map.Made.{lookup-map_values}
-use Rattle.std.proofs.lemmas.Map.Views.{All-values-set_value}
-use Rattle.zq_names.specs.Names.{NameEntry, ids, entry_at, with_hold, change_at}
+use Rattle.zq_names.specs.Names.{NameEntry, entry_at, with_hold, change_at}
 use Rattle.zq_names.specs.Keeping.{ChangesAt}
 use Rattle.zq_tables.specs.FaceIds.{FaceIds, of_id, with_id}
 use Rattle.zq_tables.specs.FaceTexts.{id_texts, texts_of, full_of}
 use Rattle.zq_naming.specs.Naming.{FaceNaming, Names, face_naming, text_at, with_name, with_theirs, change_naming}
-use Rattle.zq_naming.specs.Holding.{FaceHolds, Faces, IsFace, IsHeld, Numbers, Declares, hold_of, face_holds, holds_by, ids_at, is_settled, numbers_in, number_settled, keys_of_face, texts_by, TakesHold}
-use Rattle.zq_naming.proofs.Entries.{Rises-with_id, Rises-shown, weigh-with_id, weigh-set, with_same, shown-with_id}
-use Rattle.zq_naming.proofs.Holds.{hold_itself, hold_other, few_holds, face_at, same_texts}
+use Rattle.zq_naming.specs.Holding.{FaceHolds, Faces, IsFace, IsHeld, Numbers, Declares, hold_of, face_holds, ids_at, is_settled, numbers_in, number_settled, keys_of_face, texts_by, TakesHold}
+use Rattle.zq_naming.proofs.Entries.{Rises-with_id, Rises-shown, weigh-with_id, with_same, shown-with_id}
+use Rattle.zq_naming.proofs.Holds.{face_at}
 use Rattle.zq_naming.proofs.Faces.{face_there, change_idle, set_texts, shown_text}
 use Rattle.zq_key.specs.declared.message.WireExpr.{WireExpr}
 use Rattle.zq_tables.specs.Registering.{Maps, Registers}
 use Rattle.zq_tables.proofs.IdLemmas.{of_id-with_id}
-use Rattle.zq_naming.proofs.Lean.{lean_held}
 use Rattle.zq_naming.proofs.Made.{fresh_made}
 use Rattle.zq_naming.proofs.Letting.{made_room, takes, room_held, taken, taken_texts, placed}
 

@@ -11,13 +11,13 @@ use Rattle.std.proofs.lemmas.Cmp.{nat_cmp_total, tied_itself}
 use Rattle.std.proofs.lemmas.Bool.{false≢true}
 use Rattle.std.proofs.lemmas.Option.{none-some, same_Some}
 use Rattle.std.proofs.lemmas.List.Elements.{All-nil}
-use Rattle.std.proofs.lemmas.Map.Made.{lookup-map_values, keys_of-map_values}
+use Rattle.std.proofs.lemmas.Map.Made.{keys_of-map_values}
 use Rattle.std.proofs.lemmas.Map.Steps.{set_value_same}
 use Rattle.std.proofs.lemmas.Map.Views.{All-values-insert_entry, All-map-remove_entry}
 use Rattle.zq_names.specs.Names.{NameEntry, entry_at, texts}
 use Rattle.zq_tables.specs.FaceIds.{of_id, without_id}
 use Rattle.zq_tables.specs.FaceTexts.{id_texts}
-use Rattle.zq_naming.specs.Naming.{FaceKeys, NamingState, Names, no_keys, no_names, naming_at, face_keys, face_naming, face_queryables, text_at, with_theirs, without_name, put_naming, change_naming, without_queryable}
+use Rattle.zq_naming.specs.Naming.{FaceKeys, NamingState, Names, no_keys, no_names, naming_at, face_keys, face_naming, face_queryables, with_theirs, without_name, put_naming, change_naming, without_queryable}
 use Rattle.zq_naming.specs.Holding.{FaceHolds, Faces, IsFace, IsHeld, Rises, face_holds, holds_by, ids_at, node_at, numbers_in, queryables_in, keys_of_face, texts_by, queryable_at}
 use Rattle.zq_naming.proofs.Entries.{weigh-with_id, weigh-removed, removed_absent, removed_set, set_twice, lookup_set, insert_there, shown-with_id, shown-removed}
 use Rattle.zq_naming.proofs.Holds.{face_at}

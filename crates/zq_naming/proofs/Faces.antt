@@ -1,5 +1,5 @@
 -- A face in the list of texts, and the texts after one entry of the names changed.
-use Rattle.std.proofs.Common.{◌≡◌, ℕ, ◌≤◌, List, [], Option, Some, None, refl, sym, ap, subst, ◌∙◌, arith, inl, inr, unwrap_or}
+use Rattle.std.proofs.Common.{◌≡◌, ℕ, List, [], Option, Some, None, refl, sym, ap, subst, ◌∙◌, arith, inl, inr, unwrap_or}
 use Rattle.std.specs.Prelude.{option_map}
 use Rattle.std.specs.List.{Contains}
 use Rattle.std.specs.Map.{set_value}
@@ -14,7 +14,7 @@ use Rattle.zq_names.specs.Keeping.{ChangesAt}
 use Rattle.zq_tables.specs.FaceIds.{of_id}
 use Rattle.zq_tables.specs.FaceTexts.{id_texts, texts_of}
 use Rattle.zq_naming.specs.Naming.{FaceKeys, no_keys, no_names, naming_at, face_keys, face_naming, face_queryables, text_at, put_naming, change_naming}
-use Rattle.zq_naming.specs.Holding.{FaceHolds, Faces, IsHeld, hold_of, face_holds, side_holds, ids_at, keys_of_face, numbers_in, queryables_in, node_at, queryable_at, texts_by}
+use Rattle.zq_naming.specs.Holding.{FaceHolds, Faces, IsHeld, hold_of, ids_at, keys_of_face, numbers_in, queryables_in, node_at, queryable_at, texts_by}
 use Rattle.zq_naming.proofs.Entries.{shown-set, weigh-removed}
 use Rattle.zq_naming.proofs.Holds.{hold_itself, holds_at}
 

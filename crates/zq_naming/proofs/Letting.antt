@@ -6,8 +6,7 @@ use Rattle.std.specs.BTreeMap.{is_at}
 use Rattle.std.specs.Ordering.{nat_cmp}
 use Rattle.std.proofs.lemmas.Bool.{cases_eq}
 use Rattle.std.proofs.lemmas.Map.Views.{All-values-set_value}
-use Rattle.zq_names.specs.declared.node.ResourceId.{ResourceId}
-use Rattle.zq_names.specs.Names.{NameEntry, Makes, HasText, ids, entry_at, with_hold, without_hold, change_at}
+use Rattle.zq_names.specs.Names.{NameEntry, ids, entry_at, with_hold, without_hold, change_at}
 use Rattle.zq_names.specs.Idle.{IdleAt, NoneIdle}
 use Rattle.zq_names.specs.Keeping.{AllStay, NoneCome, ChangesAt}
 use Rattle.zq_tables.specs.FaceIds.{of_id}

@@ -1,19 +1,15 @@
 -- A queryable is declared: it holds its node; and one that is there stays as it is.
-use Rattle.std.proofs.Common.{◌≡◌, ℕ, ◌+◌, ◌<◌, true, false, List, Option, Some, None, refl, sym, ap, subst, ◌∙◌, arith}
-use Rattle.std.specs.Prelude.{option_map}
+use Rattle.std.proofs.Common.{◌≡◌, ℕ, ◌+◌, ◌<◌, true, false, List, Option, Some, None, refl, sym, ap, ◌∙◌, arith}
 use Rattle.std.specs.Option.{is_some}
-use Rattle.std.specs.List.{All}
-use Rattle.std.specs.Map.{remove_entry, set_value, values_of}
+use Rattle.std.specs.Map.{set_value}
 use Rattle.std.specs.BTreeMap.{is_at}
 use Rattle.std.specs.Ordering.{nat_cmp}
 use Rattle.std.proofs.lemmas.Bool.{false≢true}
-use Rattle.std.proofs.lemmas.Map.Made.{lookup-map_values}
-use Rattle.std.proofs.lemmas.Map.Views.{All-values-set_value}
 use Rattle.zq_names.specs.Names.{NameEntry, entry_at}
 use Rattle.zq_tables.specs.FaceIds.{of_id, with_id}
 use Rattle.zq_tables.specs.FaceTexts.{id_texts}
-use Rattle.zq_naming.specs.Naming.{Names, first_stays, text_at, with_queryable, without_queryable, change_naming}
-use Rattle.zq_naming.specs.Holding.{FaceHolds, Faces, InHand, IsFace, IsHeld, hold_of, face_holds, holds_by, ids_at, is_settled, queryable_at, queryable_settled, queryables_in, put_ids, change_ids, keys_of_face, texts_by, with_hold_at}
+use Rattle.zq_naming.specs.Naming.{Names, first_stays, text_at, with_queryable, change_naming}
+use Rattle.zq_naming.specs.Holding.{FaceHolds, Faces, InHand, IsFace, IsHeld, hold_of, face_holds, ids_at, is_settled, queryable_settled, queryables_in, put_ids, change_ids, keys_of_face, texts_by, with_hold_at}
 use Rattle.zq_naming.proofs.Entries.{Rises-with_id, weigh-with_id, shown-with_id}
 use Rattle.zq_naming.proofs.Faces.{change_idle, set_texts, shown_text}
 use Rattle.zq_naming.proofs.Holds.{face_at}
