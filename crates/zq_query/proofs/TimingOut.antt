@@ -1,5 +1,5 @@
 -- Timeouts: how many take a number, of which requests they are, and what is let go.
-use Rattle.std.proofs.Common.{◌≡◌, ℕ, ◌+◌, ◌<◌, ◌≤◌, ◌^◌, Bool, true, false, cond, List, [], ◌∷◌, ◌++◌, length, take, drop, ap, ◌∙◌, refl, arith, Some, None, Option, sym, true≢false}
+use Rattle.std.proofs.Common.{◌≡◌, ℕ, ◌+◌, ◌<◌, ◌≤◌, ◌^◌, Bool, true, false, cond, List, [], ◌∷◌, ◌++◌, length, take, drop, ap, ◌∙◌, refl, arith, Some, None, Option, sym}
 use Rattle.std.specs.Prelude.{fold, map, not, ◌||◌}
 use Rattle.std.proofs.lemmas.Bool.{ltb-true, lt-ltb, le-ltb, or_parts, or_from, not-false}
 use Rattle.std.proofs.lemmas.List.{length-append, take-append-drop}
