@@ -228,6 +228,11 @@ meets-tails w e a b z v stop la lb = by_heads (starts_wild w a) (starts_wild w b
 not_wild : {A : Type 0} (w f : A → Bool) (wf : (x : A) → w x ≡ true → f x ≡ false) (x : A) → f x ≡ true → w x ≡ false
 not_wild w f wf x h = false_from_ne_true (w x) (λ k. false≢true (sym (wf x k) ∙ h))
 
+-- parts that agree are both fixed, or neither
+differ : {A : Type 0} (f : A → Bool) (e : A → A → Bool) (ef : (x y : A) → e x y ≡ true → f x ≡ f y) (x y : A) (b : Bool) → f x ≡ b → f y ≡ not b → e x y ≡ false
+differ f e ef x y true h k = false_from_ne_true (e x y) (λ s. true≢false (sym h ∙ (ef x y s ∙ k)))
+differ f e ef x y false h k = false_from_ne_true (e x y) (λ s. false≢true (sym h ∙ (ef x y s ∙ k)))
+
 drop_only : (wy p g : Bool) → cond wy ((p && g) || false) false ≡ ((wy && p) && g)
 drop_only true true true = refl
 drop_only true true false = refl
@@ -257,22 +262,16 @@ meets-split {A = A} w f e wf ef (x ∷ a) (y ∷ b) = by_fixed (f x) (f y) refl 
     Splits : List A → List A → Type 0
     Splits a b = meets_by w f e a b ≡ (meets_by w never e (before_fixed f a) (before_fixed f b) && both_go_on e (meets_by w f e) (from_fixed f a) (from_fixed f b))
 
-    apart : f x ≡ true → f y ≡ false → e x y ≡ false
-    apart h k = false_from_ne_true (e x y) (λ s. true≢false (sym h ∙ (ef x y s ∙ k)))
-
-    apart_too : f x ≡ false → f y ≡ true → e x y ≡ false
-    apart_too h k = false_from_ne_true (e x y) (λ s. false≢true (sym h ∙ (ef x y s ∙ k)))
-
     by_fixed : (s t : Bool) → f x ≡ s → f y ≡ t → meets_by w f e a (y ∷ b) ≡ (meets_by w never e (before_fixed f a) (before_fixed f (y ∷ b)) && both_go_on e (meets_by w f e) (from_fixed f a) (from_fixed f (y ∷ b))) → meets_by w f e (x ∷ a) b ≡ (meets_by w never e (before_fixed f (x ∷ a)) (before_fixed f b) && both_go_on e (meets_by w f e) (from_fixed f (x ∷ a)) (from_fixed f b)) → meets_by w f e a b ≡ (meets_by w never e (before_fixed f a) (before_fixed f b) && both_go_on e (meets_by w f e) (from_fixed f a) (from_fixed f b)) → meets_by w f e (x ∷ a) (y ∷ b) ≡ (meets_by w never e (before_fixed f (x ∷ a)) (before_fixed f (y ∷ b)) && both_go_on e (meets_by w f e) (from_fixed f (x ∷ a)) (from_fixed f (y ∷ b)))
     by_fixed true true h k i1 i2 i3 = let wx = not_wild w f wf x h in let wy = not_wild w f wf y k in rw (h, k, wx, wy) refl
     by_fixed true false h k i1 i2 i3 =
         let wx = not_wild w f wf x h in
-        let exy = apart h k in
+        let exy = differ f e ef x y true h k in
         let j2 = rw h at i2 in
         rw (h, k, wx, exy, j2) (drop_only (w y) _ _)
     by_fixed false true h k i1 i2 i3 =
         let wy = not_wild w f wf y k in
-        let exy = apart_too h k in
+        let exy = differ f e ef x y false h k in
         let j1 = rw k at i1 in
         rw (h, k, wy, exy, j1) (drop_only (w x) _ _)
     by_fixed false false h k i1 i2 i3 =
@@ -303,21 +302,15 @@ covers-split w f e wf ef (x ∷ a) [] = by_fixed (f x) refl (covers-split w f e 
     by_fixed false h ih = rw (h, ih) (sym (and_assoc (w x) _ _))
 covers-split {A = A} w f e wf ef (x ∷ a) (y ∷ b) = by_fixed (f x) (f y) refl refl (covers-split w f e wf ef a (y ∷ b)) (covers-split w f e wf ef (x ∷ a) b) (covers-split w f e wf ef a b)
   where
-    apart : f x ≡ true → f y ≡ false → e x y ≡ false
-    apart h k = false_from_ne_true (e x y) (λ s. true≢false (sym h ∙ (ef x y s ∙ k)))
-
-    apart_too : f x ≡ false → f y ≡ true → e x y ≡ false
-    apart_too h k = false_from_ne_true (e x y) (λ s. false≢true (sym h ∙ (ef x y s ∙ k)))
-
     by_fixed : (s t : Bool) → f x ≡ s → f y ≡ t → covers_by w f e a (y ∷ b) ≡ (covers_by w never e (before_fixed f a) (before_fixed f (y ∷ b)) && both_go_on e (covers_by w f e) (from_fixed f a) (from_fixed f (y ∷ b))) → covers_by w f e (x ∷ a) b ≡ (covers_by w never e (before_fixed f (x ∷ a)) (before_fixed f b) && both_go_on e (covers_by w f e) (from_fixed f (x ∷ a)) (from_fixed f b)) → covers_by w f e a b ≡ (covers_by w never e (before_fixed f a) (before_fixed f b) && both_go_on e (covers_by w f e) (from_fixed f a) (from_fixed f b)) → covers_by w f e (x ∷ a) (y ∷ b) ≡ (covers_by w never e (before_fixed f (x ∷ a)) (before_fixed f (y ∷ b)) && both_go_on e (covers_by w f e) (from_fixed f (x ∷ a)) (from_fixed f (y ∷ b)))
     by_fixed true true h k i1 i2 i3 = let wx = not_wild w f wf x h in let wy = not_wild w f wf y k in rw (h, k, wx, wy) refl
     by_fixed true false h k i1 i2 i3 =
         let wx = not_wild w f wf x h in
-        let exy = apart h k in
+        let exy = differ f e ef x y true h k in
         rw (h, k, wx, exy) (never_both (w y) (covers_by w f e a b))
     by_fixed false true h k i1 i2 i3 =
         let wy = not_wild w f wf y k in
-        let exy = apart_too h k in
+        let exy = differ f e ef x y false h k in
         let j1 = rw k at i1 in
         rw (h, k, wy, exy, j1) (drop_only (w x) (covers_by w never e (before_fixed f a) []) (both_go_on e (covers_by w f e) (from_fixed f a) (y ∷ b)))
     by_fixed false false h k i1 i2 i3 =

@@ -1,7 +1,6 @@
 -- A number is declared: it holds its node, as each other number does.
 use Rattle.std.proofs.Common.{◌≡◌, ℕ, ◌+◌, ◌^◌, ◌<◌, true, false, List, length, Option, Some, None, IfSome, refl, sym, ap, subst, ◌∙◌, arith}
 use Rattle.std.specs.Option.{is_some}
-use Rattle.std.proofs.lemmas.Bool.{false≢true}
 use Rattle.std.proofs.lemmas.Option.{same_Some}
 use Rattle.zq_names.specs.Names.{NameEntry, entry_at, with_hold, change_at}
 use Rattle.zq_names.specs.Keeping.{ChangesAt}
@@ -17,14 +16,7 @@ use Rattle.zq_tables.specs.Registering.{Maps, Registers}
 use Rattle.zq_tables.proofs.IdLemmas.{of_id-with_id}
 use Rattle.zq_naming.proofs.Made.{fresh_made}
 use Rattle.zq_naming.proofs.Letting.{made_room, takes, room_held, taken, taken_texts, placed}
-
-pub none_from : {X : Type 0} (o : Option X) → is_some o ≡ false → o ≡ None
-none_from None is = refl
-none_from (Some x) is = absurd (false≢true (sym is))
-
-pub some_from : {X : Type 0} (o : Option X) → is_some o ≡ true → (x : X) × (o ≡ Some x)
-some_from None is = absurd (false≢true is)
-some_from (Some x) is = (x, refl)
+use Rattle.zq_key.proofs.Truth.{none_from, some_from}
 
 -- ---- what a registered id stands for
 

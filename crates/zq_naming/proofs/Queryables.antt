@@ -13,8 +13,8 @@ use Rattle.zq_naming.specs.Holding.{FaceHolds, Faces, InHand, IsFace, IsHeld, ho
 use Rattle.zq_naming.proofs.Entries.{Rises-with_id, weigh-with_id, shown-with_id}
 use Rattle.zq_naming.proofs.Faces.{change_idle, set_texts, shown_text}
 use Rattle.zq_naming.proofs.Holds.{face_at}
-use Rattle.zq_naming.proofs.Declared.{none_from, some_from}
 use Rattle.zq_naming.proofs.Letting.{placed}
+use Rattle.zq_key.proofs.Truth.{none_from, some_from}
 
 open_face : (id : ℕ) (o : Option FaceHolds) → is_settled o (queryables_in o) id ≡ false → (f : FaceHolds) × (o ≡ Some f) × (of_id f.queryables id ≡ None)
 open_face id None is = absurd (false≢true (sym is))

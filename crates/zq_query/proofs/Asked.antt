@@ -11,7 +11,7 @@ use Rattle.std.specs.Map.{keys_of}
 use Rattle.std.proofs.lemmas.Bool.{ltb-true, lt-ltb, le-ltb, or_parts, or_from}
 use Rattle.std.proofs.lemmas.List.{map-append, append-nil}
 use Rattle.std.proofs.lemmas.List.Elements.{filter-append}
-use Rattle.std.proofs.lemmas.List.Folds.{list_any-append}
+use Rattle.std.proofs.lemmas.List.Folds.{list_any-append, list_any_at}
 use Rattle.std.proofs.Math.Seq.{take-length}
 use Rattle.std.proofs.lemmas.Map.Lookups.{exact_unsigned}
 use Rattle.zq_key.specs.declared.message.FaceId.{FaceId}
@@ -23,7 +23,6 @@ use Rattle.zq_query.specs.Polling.{is_among}
 use Rattle.zq_query.specs.Tables.{Place, Due, records_of, record_of, at_number, IsTied, IsBelow}
 use Rattle.zq_query.proofs.Entries.{any_map, one_has}
 use Rattle.zq_query.proofs.Fusion.{all_fused}
-use Rattle.zq_query.proofs.Giving.{any_at}
 use Rattle.zq_query.proofs.Unchanged.{unchanged}
 use Rattle.zq_key.proofs.Lookups.{each_entry}
 
@@ -185,7 +184,7 @@ its_entry d p = λ j. nat_eq_equiv.refl p.0 j && nat_eq_equiv.refl p.1 j
 first_among : (d : ℕ) (ps : List (ℕ × ℕ)) (i : ℕ) → list_any (λ p. not (is_among ps (entry_at d p))) (take i ps) ≡ false
 first_among d ps i = among_by d ps (take i ps)
     (λ k l. let t = taken ps i k l in
-    ap (λ p. is_among ps (entry_at d p)) t.1 ∙ any_at (λ p. is_entry p.0 p.1 (entry_at d (get_or ps k (0, 0)))) ps k (0, 0) t.0 (its_entry d (get_or ps k (0, 0))))
+    ap (λ p. is_among ps (entry_at d p)) t.1 ∙ list_any_at (λ p. is_entry p.0 p.1 (entry_at d (get_or ps k (0, 0)))) ps k (0, 0) t.0 (its_entry d (get_or ps k (0, 0))))
 
 -- the new record is gone again
 pub taken_back : (rs : List Record) (n : ℕ) (asker : FaceId) (id qos d : ℕ) (ps : List (ℕ × ℕ)) (i : ℕ) → 0 < length (take i ps) → any_pending rs ps ≡ false → filter is_left rs ≡ rs

@@ -18,6 +18,7 @@ use Rattle.std.specs.BTreeSet.{insert_key}
 use Rattle.std.proofs.lemmas.List.Folds.{list_any-append}
 use Rattle.std.proofs.Math.Bool.{or-true, or-false, or_assoc}
 use Rattle.std.proofs.lemmas.List.Kept.{IsStrictlySortedBy-filter}
+use Rattle.std.proofs.lemmas.Map.Made.{is_some-lookup}
 use Rattle.zq_query.specs.declared.queries.Open.{Open}
 use Rattle.zq_query.specs.declared.queries.Owed.{Owed}
 use Rattle.zq_query.specs.Records.{Pending, is_entry, any_entry}
@@ -49,14 +50,6 @@ up_to now q Greater e l m = sym (le-ltb now q.0 (let less : q.0 < now = ranked n
 
 abbrev comes : ℕ → Due → Bool
 comes now q = not (nat_lt now q.0)
-
-key_found : {X : Type 0} (q : Due) (e : Due × X) (es : List (Due × X)) (b : Bool) → has_key due_cmp q (keys_of es) ≡ is_some (at_due q es) → (b || has_key due_cmp q (keys_of es)) ≡ is_some (cond b (Some e.1) (at_due q es))
-key_found q e es true ih = refl
-key_found q e es false ih = ih
-
-key_is : {X : Type 0} (q : Due) (es : List (Due × X)) → has_key due_cmp q (keys_of es) ≡ is_some (at_due q es)
-key_is q [] = refl
-key_is q (e ∷ es) = key_found q e es (is_at (due_cmp q) e.0) (key_is q es)
 
 -- ---- the list of the records' entries
 pub any_concat : {X : Type 0} (q : Due) (f : X → List Due) (xs : List X) → has_key due_cmp q (flat_map f xs) ≡ list_any (λ x. has_key due_cmp q (f x)) xs
@@ -169,7 +162,7 @@ module _ (heads : List (ℕ × Open)) (pending : List (Place × Owed)) (dues : L
   same_members : (q : Due) → has_key due_cmp q (filter (comes now) (keys_of dues)) ≡ has_key due_cmp q (dues_at now (records_of heads pending replies))
   same_members q =
       has_kept due_total due_exact (comes now) q (keys_of dues)
-      ∙ ap (λ b. comes now q && b) (key_is q dues)
+      ∙ ap (λ b. comes now q && b) (sym (is_some-lookup (is_at (due_cmp q)) dues))
       ∙ both_ways _ _
       (λ h. to_heads q (at_due q dues) (first_so _ _ h) refl (second_so _ _ h))
       (λ h. let t = from_heads q heads h in (λ j. t.0 j && t.1 j))

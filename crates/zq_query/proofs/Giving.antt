@@ -1,6 +1,6 @@
 -- The last ids given: what is given to distinct faces can be taken back.
 use Rattle.std.proofs.Common.{◌≡◌, ℕ, ◌+◌, ◌<◌, suc, zero, Bool, true, false, List, [], ◌∷◌, ◌++◌, length, take, get_or, map, ap, ◌∙◌, refl, arith, Some, None, Option, sym, true≢false, eqb-true}
-use Rattle.std.specs.Prelude.{not, ◌||◌, ◌==◌}
+use Rattle.std.specs.Prelude.{not, ◌==◌}
 use Rattle.std.proofs.lemmas.Bool.{eqb-false, or_parts}
 use Rattle.std.specs.Ordering.{nat_cmp}
 use Rattle.std.specs.Cmp.{nat_cmp_total, nat_eq_equiv, first_so, second_so}
@@ -12,7 +12,7 @@ use Rattle.std.proofs.lemmas.List.{take-map, get_or-map, take_more, map-append}
 use Rattle.std.proofs.lemmas.List.Sums.{fold_more}
 use Rattle.std.proofs.lemmas.Map.Entries.{length-keys_of}
 use Rattle.std.proofs.lemmas.Map.Lookups.{exact_unsigned}
-use Rattle.std.proofs.Math.Bool.{or-true}
+use Rattle.std.proofs.lemmas.List.Folds.{list_any_at}
 use Rattle.zq_query.specs.Tables.{at_number}
 use Rattle.zq_query.specs.Asking.{are_distinct, giving, restoring}
 use Rattle.zq_query.proofs.Sorted.{put_back, aside}
@@ -22,12 +22,6 @@ use Rattle.zq_key.proofs.Sorted.{sorted_in}
 -- one more
 pub map_more : {X Y : Type 0} (f : X → Y) (xs : List X) (i : ℕ) (d : X) → i < length xs → map f (take (i + 1) xs) ≡ map f (take i xs) ++ f (get_or xs i d) ∷ []
 map_more f xs i d l = ap (map f) (take_more xs i d l) ∙ map-append f (take i xs) (get_or xs i d ∷ [])
-
--- an element that passes
-pub any_at : {X : Type 0} (p : X → Bool) (xs : List X) (i : ℕ) (d : X) → i < length xs → p (get_or xs i d) ≡ true → list_any p xs ≡ true
-any_at p [] i d l h = absurd (omega (arith, l))
-any_at p (x ∷ xs) zero d l h = rw h refl
-any_at p (x ∷ xs) (suc i) d l h = ap (λ b. p x || b) (any_at p xs i d (omega (arith, l)) h) ∙ or-true (p x)
 
 -- and where none does
 pub none_at : {X : Type 0} (p : X → Bool) (xs : List X) (i : ℕ) (d : X) → i < length xs → list_any p xs ≡ false → p (get_or xs i d) ≡ false
@@ -45,7 +39,7 @@ distinct_before [] i l h = absurd (omega (arith, l))
 distinct_before (x ∷ xs) zero l h = refl
 distinct_before (x ∷ xs) (suc i) l h =
     let less : i < length xs = omega (arith, l) in
-    let miss : (x == get_or xs i 0) ≡ false = apart_by x (get_or xs i 0) xs _ refl (first_so _ _ h) (λ same. any_at (λ z. z == x) xs i 0 less (ap (λ z. z == x) (sym same) ∙ nat_eq_equiv.refl x)) in
+    let miss : (x == get_or xs i 0) ≡ false = apart_by x (get_or xs i 0) xs _ refl (first_so _ _ h) (λ same. list_any_at (λ z. z == x) xs i 0 less (ap (λ z. z == x) (sym same) ∙ nat_eq_equiv.refl x)) in
     rw miss (distinct_before xs i less (second_so _ _ h))
 
 -- no earlier place has the face

@@ -6,12 +6,12 @@ use Rattle.std.specs.List.{list_any, IsDistinct}
 use Rattle.std.specs.Option.{option_map_or}
 use Rattle.std.specs.Map.{keys_of, values_of}
 use Rattle.std.specs.Cmp.{nat_eq_equiv}
-use Rattle.std.proofs.lemmas.List.{append-nil}
+use Rattle.std.proofs.lemmas.List.{append-nil, map-append}
 use Rattle.std.proofs.lemmas.List.Elements.{filter_agree}
 use Rattle.std.proofs.lemmas.List.Folds.{list_any-append}
 use Rattle.std.proofs.lemmas.Map.Keys.{IsDistinct-push}
 use Rattle.std.proofs.Math.Bool.{or_assoc, or-false}
-use Rattle.zq_key.proofs.Naturals.{map-append, any-map}
+use Rattle.zq_key.proofs.Naturals.{any-map}
 use Rattle.zq_key.specs.declared.message.QueryTarget.{QueryTarget}
 use Rattle.zq_key.specs.declared.message.QueryTarget.TheVariants as target
 use Rattle.zq_hat.specs.declared.types.QueryTargetQabl.{QueryTargetQabl}
