@@ -1,7 +1,7 @@
 -- Routes over the regions: each face stands once.
 use Rattle.std.proofs.Common.{◌≡◌, ℕ, Bool, true, false, cond, not, List, [], ◌∷◌, ◌++◌, map, refl, sym, ap, ◌∙◌, true≢false, ne_eqb, eq-eqb}
 use Rattle.std.specs.List.{filter, list_any}
-use Rattle.std.specs.Prelude.{fold, ◌||◌, ◌==◌}
+use Rattle.std.specs.Prelude.{fold, ◌==◌}
 use Rattle.std.proofs.lemmas.Bool.{and_parts, not-true, or_parts}
 use Rattle.std.specs.Map.{keys_of, values_of}
 use Rattle.zq_key.specs.declared.message.FaceId.{FaceId}
