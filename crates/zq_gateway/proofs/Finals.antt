@@ -10,7 +10,8 @@ use Rattle.std.specs.BTreeMap.{is_at, insert_entry}
 use Rattle.std.proofs.lemmas.Bool.{false≢true, eqb-false}
 use Rattle.std.proofs.lemmas.Cmp.{nat_cmp_total}
 use Rattle.std.proofs.lemmas.Map.Lookups.{exact_unsigned}
-use Rattle.zq_key.proofs.Naturals.{map-append}
+use Rattle.std.proofs.lemmas.List.{map-append}
+use Rattle.std.proofs.lemmas.List.Elements.{filter-append}
 use Rattle.zq_key.specs.declared.message.FaceId.{FaceId}
 use Rattle.zq_key.specs.declared.message.Request.{Request}
 use Rattle.zq_key.specs.declared.message.Response.{Response}
@@ -22,9 +23,8 @@ use Rattle.zq_query.specs.Records.{QueryState, any_over, is_closed, is_entry, ne
 use Rattle.zq_query.specs.Closing.{closing_finals, after_close, finals_after, finals_landed}
 use Rattle.zq_query.specs.Polling.{timeouts, after_poll, has_number_for}
 use Rattle.zq_query.specs.Balance.{finals_under}
-use Rattle.zq_query.proofs.Keys.{kept, same_key, sorted_out}
-use Rattle.zq_query.proofs.Sorted.{sorted_in, aside}
-use Rattle.zq_query.proofs.Lists.{has_put}
+use Rattle.zq_query.proofs.Keys.{kept}
+use Rattle.zq_query.proofs.Sorted.{aside}
 use Rattle.zq_query.proofs.TimingOut.{rest_stays}
 use Rattle.zq_query.proofs.Balance.{letting_balance, landing_balance, closing_balance, reply_balance, poll_balance, ask_balance, letting_none_over, landing_none_over, reply_none_over, close_none_over, poll_none_over, ask_none_over}
 use Rattle.zq_naming.specs.Naming.{NamingState}
@@ -41,6 +41,8 @@ use Rattle.zq_gateway.specs.Machine.{written, write, follow, accepted_state, aft
 use Rattle.zq_gateway.specs.Headline.{ends, finals_of, to_come}
 use Rattle.zq_gateway.proofs.Writing.{replies_written, timeouts_written}
 use Rattle.zq_gateway.proofs.Promises.{all_passed, granted_is_accepted}
+use Rattle.zq_key.proofs.Lookups.{same_key}
+use Rattle.zq_key.proofs.Sorted.{sorted_out, sorted_in, has_put}
 
 -- ---- what holds between two calls: open faces and closed ones are apart, and no record is over
 pub record Sound (faces : List (ℕ × OpenFace)) (next : ℕ) (q : QueryState) : Type 0 where
@@ -175,14 +177,6 @@ opening_sound config = record {
 pub run_sound : (cs : List Call) (s : State) → IsSound s → IsSound (state_after s cs)
 run_sound [] s i = i
 run_sound (c ∷ cs) s i = run_sound cs (after s c) (follow_sound s (read s c) i)
-
-filter-append : {X : Type 0} (p : X → Bool) (xs ys : List X) → filter p (xs ++ ys) ≡ filter p xs ++ filter p ys
-filter-append p [] ys = refl
-filter-append p (x ∷ xs) ys = by (p x) (filter-append p xs ys)
-  where
-    by : (b : Bool) → filter p (xs ++ ys) ≡ filter p xs ++ filter p ys → cond b (x ∷ filter p (xs ++ ys)) (filter p (xs ++ ys)) ≡ cond b (x ∷ filter p xs) (filter p xs) ++ filter p ys
-    by true e = ap (λ l. x ∷ l) e
-    by false e = e
 
 -- ---- how many finals messages are
 module _ (n : ℕ) (names : NamingState) where

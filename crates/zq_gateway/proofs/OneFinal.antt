@@ -1,14 +1,14 @@
 -- A run hands one final of a request at most.
 use Rattle.std.proofs.Common.{◌≡◌, ℕ, ◌+◌, ◌≤◌, Bool, true, false, cond, not, List, [], ◌∷◌, length, Option, Some, None, refl, sym, ap, ◌∙◌, arith, true≢false}
 use Rattle.std.specs.List.{filter}
-use Rattle.std.specs.Prelude.{if◌then◌else◌, ◌&&◌, ◌||◌, ◌==◌, nat_lt}
+use Rattle.std.specs.Prelude.{if◌then◌else◌, ◌&&◌, ◌==◌, nat_lt}
 use Rattle.std.specs.Option.{is_some}
 use Rattle.std.proofs.lemmas.Cmp.{nat_cmp_total}
 use Rattle.std.proofs.lemmas.Map.Lookups.{exact_unsigned}
+use Rattle.std.proofs.lemmas.Bool.{or_parts}
 use Rattle.zq_query.specs.declared.records.ReplyTo.{ReplyTo}
 use Rattle.zq_query.specs.Records.{QueryState, Record, is_closed, next_reply}
 use Rattle.zq_query.specs.Balance.{owed_by}
-use Rattle.zq_query.proofs.Lists.{has_put}
 use Rattle.zq_gateway.specs.declared.call.Call.{Call}
 use Rattle.zq_gateway.specs.Configs.{Settings}
 use Rattle.zq_gateway.specs.State.{State, Core, opening_state}
@@ -17,19 +17,16 @@ use Rattle.zq_gateway.specs.Deciding.{decide, is_accepted, accepted, after_repli
 use Rattle.zq_gateway.specs.Machine.{follow, accepted_state, after, steps_from, state_after}
 use Rattle.zq_gateway.specs.Headline.{finals_over, to_come}
 use Rattle.zq_gateway.proofs.Finals.{IsSound, put_closed, timing_closed, call_balance, follow_sound, opening_sound}
+use Rattle.zq_key.proofs.Sorted.{has_put}
 
 -- ---- a face that was closed stays so
-or_false : (b c : Bool) → (b || c) ≡ false → c ≡ false
-or_false true c h = absurd (true≢false h)
-or_false false c h = h
-
 replied_grows : (q : QueryState) (o : Option ReplyTo) (f : ℕ) → is_closed (after_replied o q).closed f ≡ false → is_closed q.closed f ≡ false
 replied_grows q None f h = h
 replied_grows q (Some to) f h = ap (λ l. is_closed l f) (sym (put_closed to.number q (is_some to.reply))) ∙ h
 
 pub granted_grows : (c : Core) (t : TextCall) (f : ℕ) → is_closed (accepted c t).queries.closed f ≡ false → is_closed c.queries.closed f ≡ false
 granted_grows c (opening o) f h = h
-granted_grows c (closing face) f h = or_false _ _ (sym (has_put nat_cmp_total exact_unsigned f face.0 c.queries.closed) ∙ h)
+granted_grows c (closing face) f h = (or_parts _ _ (sym (has_put nat_cmp_total exact_unsigned f face.0 c.queries.closed) ∙ h)).1
 granted_grows c (naming face id sd x) f h = h
 granted_grows c (unnaming face id x) f h = h
 granted_grows c (declaring face id sd i n) f h = h

@@ -3,8 +3,8 @@ use Rattle.std.proofs.Common.{◌≡◌, ℕ, ◌+◌, ◌<◌, ◌^◌, Bool, t
 use Rattle.std.specs.List.{filter, list_any}
 use Rattle.std.specs.Prelude.{◌||◌, ◌==◌, unwrap_or}
 use Rattle.std.specs.Option.{is_some}
-use Rattle.std.proofs.lemmas.Bool.{false≢true}
-use Rattle.zq_key.proofs.Naturals.{map-append}
+use Rattle.std.proofs.lemmas.Bool.{false≢true, or_parts}
+use Rattle.std.proofs.lemmas.List.{map-append}
 use Rattle.zq_key.specs.Key.{is_key, is_chunk}
 use Rattle.zq_key.specs.declared.message.FaceId.{FaceId}
 use Rattle.zq_key.specs.declared.message.Request.{Request}
@@ -84,14 +84,10 @@ module _ (s : State) (text : List ℕ) (r : Request) (some : 0 < length text) wh
     );
   }
 
-  or_none : (a b : Bool) → (a || b) ≡ false → (a ≡ false) × (b ≡ false)
-  or_none true b e = absurd (true≢false e)
-  or_none false b e = (refl, e)
-
   hands_each : (os : List QueryTargetQabl) → list_any (is_full s.core.queries) (map target_of os) ≡ false → HandsEach s text r os (map (written s.names) (map (handed_request s.core.queries text r) os))
   hands_each [] h = tt
   hands_each (o ∷ os) h =
-      let p = or_none (is_full s.core.queries o.face) (list_any (is_full s.core.queries) (map target_of os)) h in
+      let p = or_parts (is_full s.core.queries o.face) (list_any (is_full s.core.queries) (map target_of os)) h in
       (hands o p.0, hands_each os p.1)
 
 -- what is selected is selected on a key

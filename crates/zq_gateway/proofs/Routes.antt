@@ -1,8 +1,8 @@
 -- Routes over the regions: each face stands once.
 use Rattle.std.proofs.Common.{◌≡◌, ℕ, Bool, true, false, cond, not, List, [], ◌∷◌, ◌++◌, map, refl, sym, ap, ◌∙◌, true≢false, ne_eqb, eq-eqb}
 use Rattle.std.specs.List.{filter, list_any}
-use Rattle.std.specs.Prelude.{fold, ◌||◌, ◌==◌}
-use Rattle.std.proofs.lemmas.Bool.{and_parts, not-true}
+use Rattle.std.specs.Prelude.{fold, ◌==◌}
+use Rattle.std.proofs.lemmas.Bool.{and_parts, not-true, or_parts}
 use Rattle.std.specs.Map.{keys_of, values_of}
 use Rattle.zq_key.specs.declared.message.FaceId.{FaceId}
 use Rattle.zq_key.specs.declared.message.QueryTarget.{QueryTarget}
@@ -33,14 +33,10 @@ faces_more (p ∷ r) o e =
     let tail : face_numbers (map target_of (values_of r)) ≡ keys_of r = cc in
     λ i. head i ∷ faces_more r o tail i
 
-or_first : (a b : Bool) → (a || b) ≡ false → (a ≡ false) × (b ≡ false)
-or_first true b e = absurd (true≢false e)
-or_first false b e = (refl, e)
-
 any_more : (n y : ℕ) (xs : List ℕ) → list_any (λ z. z == n) xs ≡ false → (y == n) ≡ false → list_any (λ z. z == n) (xs ++ y ∷ []) ≡ false
 any_more n y [] e h = rw h refl
 any_more n y (x ∷ xs) e h =
-    let p = or_first (x == n) (list_any (λ z. z == n) xs) e in
+    let p = or_parts (x == n) (list_any (λ z. z == n) xs) e in
     rw (p.0, any_more n y xs p.1 h) refl
 
 turned : (a b : ℕ) (c : Bool) → (a == b) ≡ c → c ≡ false → (b == a) ≡ false
@@ -50,7 +46,7 @@ distinct_more : (r : List (ℕ × QueryTargetQabl)) (n : ℕ) → are_distinct (
 distinct_more [] n e h = refl
 distinct_more (p ∷ r) n e h =
     let q = and_parts (not (list_any (λ y. y == p.0) (keys_of r))) (are_distinct (keys_of r)) e in
-    let k = or_first (n == p.0) (has_face n r) h in
+    let k = or_parts (n == p.0) (has_face n r) h in
     rw (any_more p.0 n (keys_of r) (not-true (list_any (λ y. y == p.0) (keys_of r)) q.0) k.0, distinct_more r n q.1 k.1) refl
 
 keys_more : (r : List (ℕ × QueryTargetQabl)) (o : QueryTargetQabl) → keys_of (r ++ by_face o ∷ []) ≡ keys_of r ++ o.face.0 ∷ []

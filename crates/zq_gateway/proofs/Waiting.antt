@@ -9,6 +9,7 @@ use Rattle.std.specs.Ordering.{nat_cmp, match_ordering, ordering_then}
 use Rattle.std.specs.BTreeSet.{insert_key}
 use Rattle.std.proofs.lemmas.Bool.{false≢true, and_parts}
 use Rattle.std.proofs.lemmas.Map.Lookups.{exact_unsigned}
+use Rattle.std.proofs.Math.Bool.{and-false, and-true, or-false, or_assoc, or_self_left, and_assoc, and-or_distrib_right}
 use Rattle.zq_key.specs.declared.message.FaceId.{FaceId}
 use Rattle.zq_query.specs.declared.records.Final.{Final}
 use Rattle.zq_query.specs.declared.records.Timeout.{Timeout}
@@ -19,48 +20,19 @@ use Rattle.zq_query.specs.Polling.{after_timeout, has_number_for, numbers_in, ti
 use Rattle.zq_query.proofs.Keys.{place_exact}
 use Rattle.zq_query.proofs.Putting.{found_there}
 use Rattle.zq_gateway.specs.Waiting.{is_same, owes, waits}
+use Rattle.zq_key.proofs.Truth.{or_swap}
 
 -- ---- of truth values
-pub and_false : (b : Bool) → (b && false) ≡ false
-and_false true = refl
-and_false false = refl
-
-pub and_true : (b : Bool) → (b && true) ≡ b
-and_true true = refl
-and_true false = refl
-
-pub or_false : (b : Bool) → (b || false) ≡ b
-or_false true = refl
-or_false false = refl
-
-or_same : (a b : Bool) → (a || b) ≡ (a || (a || b))
-or_same true b = refl
-or_same false b = refl
-
-or_swap : (a b c : Bool) → (a || (b || c)) ≡ (b || (a || c))
-or_swap true true c = refl
-or_swap true false c = refl
-or_swap false b c = refl
-
-or_next : (a b c : Bool) → ((a || b) || c) ≡ (a || (b || c))
-or_next true b c = refl
-or_next false b c = refl
-
-and_apart : (a b c : Bool) → ((a && c) || (b && c)) ≡ ((a || b) && c)
-and_apart true true true = refl
-and_apart true true false = refl
-and_apart true false c = or_false c
-and_apart false b c = refl
 
 dropped : (a b c : Bool) → (a && c) ≡ false → (b && c) ≡ ((a || b) && c)
 dropped true b true h = absurd (true≢false h)
-dropped true b false h = and_false b
+dropped true b false h = and-false b
 dropped false b c h = refl
 
 -- ---- elements that a test keeps, where it says the same of all that are looked for
 module _ {X : Type 0} (q p : X → Bool) (there : Bool) (alike : (x : X) → q x ≡ true → p x ≡ there) where
   pick : (a b l : Bool) → (a ≡ true → b ≡ there) → cond (not b) (a || (l && not there)) (l && not there) ≡ ((a || l) && not there)
-  pick true true l h = ap (λ (t : Bool). l && not t) (sym (h refl)) ∙ and_false l ∙ ap not (h refl)
+  pick true true l h = ap (λ (t : Bool). l && not t) (sym (h refl)) ∙ and-false l ∙ ap not (h refl)
   pick true false l h = ap not (h refl)
   pick false true l h = refl
   pick false false l h = refl
@@ -81,7 +53,7 @@ module _ (h : Record → Bool) (change : Record → Record) (stay : Bool) (keeps
   left_by : (r : Record) (rs : List Record) (b : Bool) → is_over (change r) ≡ b → list_any h (filter is_left (map change rs)) ≡ (list_any h rs && stay)
       → list_any h (cond (not b) (change r ∷ filter is_left (map change rs)) (filter is_left (map change rs))) ≡ ((h r || list_any h rs) && stay)
   left_by r rs true e ih = ih ∙ dropped (h r) (list_any h rs) stay (sym (keeps r) ∙ over (change r) e)
-  left_by r rs false e ih = (λ j. keeps r j || ih j) ∙ and_apart (h r) (list_any h rs) stay
+  left_by r rs false e ih = (λ j. keeps r j || ih j) ∙ sym (and-or_distrib_right (h r) (list_any h rs) stay)
 
   pub left : (rs : List Record) → list_any h (filter is_left (map change rs)) ≡ (list_any h rs && stay)
   left [] = refl
@@ -108,23 +80,19 @@ none_pending q (x ∷ xs) b h = absurd (false≢true h)
 
 none_flying : (q : ℕ → Bool) (xs : List ℕ) (b : Bool) → (b && is_none_left xs) ≡ true → list_any q xs ≡ false
 none_flying q [] b h = refl
-none_flying q (x ∷ xs) b h = absurd (false≢true (sym (and_false b) ∙ h))
-
-and_next : (a b c : Bool) → (a && (b && c)) ≡ ((a && b) && c)
-and_next true b c = refl
-and_next false b c = refl
+none_flying q (x ∷ xs) b h = absurd (false≢true (sym (and-false b) ∙ h))
 
 module _ (n : ℕ) (e : Pending) where
   over_waits : (r : Record) → is_over r ≡ true → waits n e r ≡ false
-  over_waits r h = ap (λ b. (r.number == n) && b) (none_pending (is_same e) r.pending (is_none_left r.in_flight) h) ∙ and_false (r.number == n)
+  over_waits r h = ap (λ b. (r.number == n) && b) (none_pending (is_same e) r.pending (is_none_left r.in_flight) h) ∙ and-false (r.number == n)
 
   pub owes_let : (p : Pending → Bool) (rs : List Record) → owes n e (letting_go p rs) ≡ (owes n e rs && not (p e))
   owes_let p rs = left (waits n e) (without p) (not (p e))
-      (λ r. ap (λ b. (r.number == n) && b) (picked (is_same e) p (p e) (λ x h. ap p (is_it e x h)) r.pending) ∙ and_next (r.number == n) (list_any (is_same e) r.pending) (not (p e)))
+      (λ r. ap (λ b. (r.number == n) && b) (picked (is_same e) p (p e) (λ x h. ap p (is_it e x h)) r.pending) ∙ sym (and_assoc (r.number == n) (list_any (is_same e) r.pending) (not (p e))))
       over_waits rs
 
   pub owes_landed : (reply : ℕ) (rs : List Record) → owes n e (landing reply rs) ≡ owes n e rs
-  owes_landed reply rs = left (waits n e) (without_reply reply) true (λ r. sym (and_true (waits n e r))) over_waits rs ∙ and_true (owes n e rs)
+  owes_landed reply rs = left (waits n e) (without_reply reply) true (λ r. sym (and-true (waits n e r))) over_waits rs ∙ and-true (owes n e rs)
 
   with_same : (reply m : ℕ) (r : Record) (b : Bool) → waits n e (cond b (record r { in_flight = insert_key nat_cmp r.in_flight reply }) r) ≡ waits n e r
   with_same reply m r true = refl
@@ -152,7 +120,7 @@ module _ (e : Pending) (moment : ℕ) where
   insert_by p x xs Equal g d ih =
       let place : ◌≡◌ {A = ℕ × ℕ} (p.face, p.id) (x.face, x.id) = place_exact (p.face, p.id) (x.face, x.id) g in
       let same : p ≡ x = λ j. record { face = (place j).0; id = (place j).1; deadline = d j } in
-      or_same (is_same e p) (list_any (is_same e) xs) ∙ ap (λ y. is_same e p || (is_same e y || list_any (is_same e) xs)) same
+      sym (or_self_left (is_same e p) (list_any (is_same e) xs)) ∙ ap (λ y. is_same e p || (is_same e y || list_any (is_same e) xs)) same
   insert_by p x xs Greater g d ih = ap (λ b. is_same e x || b) ih ∙ or_swap (is_same e x) (is_same e p) (list_any (is_same e) xs)
 
   abbrev AllUntil : List Pending → Type 0
@@ -177,14 +145,14 @@ module _ (e : Pending) (moment : ℕ) where
       entries_by places (insert_pending xs (entry_at moment p)) (still_until p xs all)
       ∙ ap (λ b. list_any asked places || b) (inserted p xs all)
       ∙ or_swap (list_any asked places) (asked p) (list_any (is_same e) xs)
-      ∙ sym (or_next (asked p) (list_any asked places) (list_any (is_same e) xs))
+      ∙ sym (or_assoc (asked p) (list_any asked places) (list_any (is_same e) xs))
 
   entries_are : (places : List (ℕ × ℕ)) → list_any (is_same e) (entries_at moment places) ≡ list_any asked places
-  entries_are places = entries_by places [] tt ∙ or_false (list_any asked places)
+  entries_are places = entries_by places [] tt ∙ or-false (list_any asked places)
 
   pub owes_asked : (n number : ℕ) (asker : FaceId) (id qos : ℕ) (places : List (ℕ × ℕ)) → owes n e (asked_records number asker id qos places moment) ≡ ((number == n) && list_any asked places)
-  owes_asked n number asker id qos [] = sym (and_false (number == n))
-  owes_asked n number asker id qos (p ∷ places) = or_false _ ∙ ap (λ b. (number == n) && b) (entries_are (p ∷ places))
+  owes_asked n number asker id qos [] = sym (and-false (number == n))
+  owes_asked n number asker id qos (p ∷ places) = or-false _ ∙ ap (λ b. (number == n) && b) (entries_are (p ∷ places))
 
 -- ---- replies in flight
 module _ (n k : ℕ) where
@@ -192,20 +160,20 @@ module _ (n k : ℕ) where
   flying r = (r.number == n) && has_reply k r
 
   over_flies : (r : Record) → is_over r ≡ true → flying r ≡ false
-  over_flies r h = ap (λ b. (r.number == n) && b) (none_flying (is_reply k) r.in_flight (is_none_left r.pending) h) ∙ and_false (r.number == n)
+  over_flies r h = ap (λ b. (r.number == n) && b) (none_flying (is_reply k) r.in_flight (is_none_left r.pending) h) ∙ and-false (r.number == n)
 
   pub flies_let : (p : Pending → Bool) (rs : List Record) → flies n k (letting_go p rs) ≡ flies n k rs
-  flies_let p rs = left flying (without p) true (λ r. sym (and_true (flying r))) over_flies rs ∙ and_true (flies n k rs)
+  flies_let p rs = left flying (without p) true (λ r. sym (and-true (flying r))) over_flies rs ∙ and-true (flies n k rs)
 
   pub flies_landed : (reply : ℕ) (rs : List Record) → flies n k (landing reply rs) ≡ (flies n k rs && not (is_reply reply k))
   flies_landed reply rs = left flying (without_reply reply) (not (is_reply reply k))
-      (λ r. ap (λ b. (r.number == n) && b) (picked (is_reply k) (is_reply reply) (is_reply reply k) (λ x h. ap (is_reply reply) (eqb-true x k h)) r.in_flight) ∙ and_next (r.number == n) (has_reply k r) (not (is_reply reply k)))
+      (λ r. ap (λ b. (r.number == n) && b) (picked (is_reply k) (is_reply reply) (is_reply reply k) (λ x h. ap (is_reply reply) (eqb-true x k h)) r.in_flight) ∙ sym (and_assoc (r.number == n) (has_reply k r) (not (is_reply reply k))))
       over_flies rs
 
   put_by : (reply x : ℕ) (xs : List ℕ) (o : Ordering) → nat_cmp reply x ≡ o → list_any (is_reply k) (insert_key nat_cmp xs reply) ≡ (is_reply k reply || list_any (is_reply k) xs)
       → list_any (is_reply k) (match_ordering o (reply ∷ x ∷ xs) (x ∷ xs) (x ∷ insert_key nat_cmp xs reply)) ≡ (is_reply k reply || (is_reply k x || list_any (is_reply k) xs))
   put_by reply x xs Less e ih = refl
-  put_by reply x xs Equal e ih = or_same (is_reply k x) (list_any (is_reply k) xs) ∙ ap (λ y. is_reply k y || (is_reply k x || list_any (is_reply k) xs)) (sym (exact_unsigned reply x e))
+  put_by reply x xs Equal e ih = sym (or_self_left (is_reply k x) (list_any (is_reply k) xs)) ∙ ap (λ y. is_reply k y || (is_reply k x || list_any (is_reply k) xs)) (sym (exact_unsigned reply x e))
   put_by reply x xs Greater e ih = ap (λ b. is_reply k x || b) ih ∙ or_swap (is_reply k x) (is_reply k reply) (list_any (is_reply k) xs)
 
   put_in : (reply : ℕ) (xs : List ℕ) → list_any (is_reply k) (insert_key nat_cmp xs reply) ≡ (is_reply k reply || list_any (is_reply k) xs)
@@ -215,7 +183,7 @@ module _ (n k : ℕ) where
   share : (a b c : Bool) → (a && (b || c)) ≡ ((a && c) || (a && b))
   share true true true = refl
   share true true false = refl
-  share true false c = sym (or_false c)
+  share true false c = sym (or-false c)
   share false b c = refl
 
   abbrev pub new : ℕ → ℕ → Bool
@@ -226,7 +194,7 @@ module _ (n k : ℕ) where
       ap (λ b. (r.number == n) && b) (put_in reply r.in_flight)
       ∙ share (r.number == n) (is_reply k reply) (has_reply k r)
       ∙ ap (λ x. flying r || ((x == n) && is_reply k reply)) (eqb-true r.number m e)
-  record_by reply m r false e = sym (or_false (flying r))
+  record_by reply m r false e = sym (or-false (flying r))
 
   mix : (a b l s u : Bool) → ((a || (b && u)) || (l || (s && u))) ≡ ((a || l) || ((b || s) && u))
   mix true b l s u = refl
@@ -234,7 +202,7 @@ module _ (n k : ℕ) where
   mix false true true s true = refl
   mix false true false s true = refl
   mix false true true s false = refl
-  mix false true false s false = and_false s
+  mix false true false s false = and-false s
 
   put_all : (reply m : ℕ) (rs : List Record) → flies n k (putting reply m rs) ≡ (flies n k rs || (list_any (has_number m) rs && new reply m))
   put_all reply m [] = refl
@@ -305,15 +273,15 @@ none_said k (Some x) h = absurd (true≢false h)
 
 flies_one : (n k : ℕ) (s : QueryState) (t : Timeout) (b : Bool) → is_some t.reply ≡ b → Fits s t → flies n k (cond b (after_put t.number s) s).records ≡ (flies n k s.records || says n k t)
 flies_one n k s t true e fits = flies_put n k s.replies t.number s.records fits.1 ∙ ap (λ (o : Option ℕ). flies n k s.records || ((t.number == n) && option_map_or (is_reply k) o false)) (sym (fits.0 e))
-flies_one n k s t false e fits = sym (or_false (flies n k s.records)) ∙ ap (λ b. flies n k s.records || b) (sym (and_false (t.number == n)) ∙ ap (λ b. (t.number == n) && b) (sym (none_said k t.reply e)))
+flies_one n k s t false e fits = sym (or-false (flies n k s.records)) ∙ ap (λ b. flies n k s.records || b) (sym (and-false (t.number == n)) ∙ ap (λ b. (t.number == n) && b) (sym (none_said k t.reply e)))
 
 pub flies_timing : (n k : ℕ) (ts : List Timeout) (s : QueryState) → AllFit s ts → flies n k (timing_out ts s).records ≡ (flies n k s.records || list_any (says n k) ts)
-flies_timing n k [] s all = sym (or_false (flies n k s.records))
+flies_timing n k [] s all = sym (or-false (flies n k s.records))
 flies_timing n k (t ∷ ts) s all =
     flies_timing n k ts (after_timeout s t) all.1
     ∙ ap (λ b. b || list_any (says n k) ts) (flies_one n k s t (is_some t.reply) refl all.0)
-    ∙ or_next (flies n k s.records) (says n k t) (list_any (says n k) ts)
+    ∙ or_assoc (flies n k s.records) (says n k t) (list_any (says n k) ts)
 
 pub flies_asked : (n k number : ℕ) (asker : FaceId) (id qos : ℕ) (places : List (ℕ × ℕ)) (moment : ℕ) → flies n k (asked_records number asker id qos places moment) ≡ false
 flies_asked n k number asker id qos [] moment = refl
-flies_asked n k number asker id qos (p ∷ places) moment = or_false _ ∙ and_false (number == n)
+flies_asked n k number asker id qos (p ∷ places) moment = or-false _ ∙ and-false (number == n)

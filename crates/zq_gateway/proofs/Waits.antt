@@ -5,7 +5,8 @@ use Rattle.std.specs.Prelude.{◌&&◌, ◌||◌, ◌==◌}
 use Rattle.std.specs.Option.{is_some, option_map, option_map_or}
 use Rattle.std.proofs.lemmas.Bool.{false≢true}
 use Rattle.std.proofs.lemmas.List.Folds.{list_any-append}
-use Rattle.zq_key.proofs.Naturals.{map-append}
+use Rattle.std.proofs.Math.Bool.{and-false, and-true, or-false}
+use Rattle.std.proofs.lemmas.List.{map-append}
 use Rattle.zq_key.specs.declared.message.FaceId.{FaceId}
 use Rattle.zq_key.specs.declared.message.Request.{Request}
 use Rattle.zq_key.specs.declared.message.Response.{Response}
@@ -29,7 +30,7 @@ use Rattle.zq_gateway.specs.TextCalls.{TextCall, opening, closing, naming, unnam
 use Rattle.zq_gateway.specs.Deciding.{refusal_of, granted, answered, is_accepted, accepted, after_replied, deadline, handed_final, handed_request, handed_requests, handed_replies, handed_timeouts, passing_finals, replied}
 use Rattle.zq_gateway.specs.Machine.{written, write, accepted_state, step, after, sent_reply, sent_timeout}
 use Rattle.zq_gateway.specs.Waiting.{Waits, carries, ends_entry, gives, lands, owes, until, waits}
-use Rattle.zq_gateway.proofs.Waiting.{and_false, and_true, or_false, asked, owes_let, owes_landed, owes_timing, owes_after_put, owes_asked, flies_let, flies_landed, flies_put, flies_timing, flies_asked, says, timeouts_fit}
+use Rattle.zq_gateway.proofs.Waiting.{asked, owes_let, owes_landed, owes_timing, owes_after_put, owes_asked, flies_let, flies_landed, flies_put, flies_timing, flies_asked, says, timeouts_fit}
 use Rattle.zq_gateway.proofs.Writing.{replies_written, timeouts_written}
 
 -- ---- what a call with its expressions read ends
@@ -85,18 +86,18 @@ moment_of c unbuilt = 0
 module _ (n : ℕ) (names : NamingState) where
   pub finals_give : (moment : ℕ) (e : Pending) (fs : List Final) → list_any (gives moment n e) (map (written names) (map handed_final fs)) ≡ false
   finals_give moment e [] = refl
-  finals_give moment e (f ∷ fs) = (λ j. and_false (f.number == n) j || finals_give moment e fs j)
+  finals_give moment e (f ∷ fs) = (λ j. and-false (f.number == n) j || finals_give moment e fs j)
 
   pub finals_carry : (k : ℕ) (fs : List Final) → list_any (carries n k) (map (written names) (map handed_final fs)) ≡ false
   finals_carry k [] = refl
-  finals_carry k (f ∷ fs) = (λ j. and_false (f.number == n) j || finals_carry k fs j)
+  finals_carry k (f ∷ fs) = (λ j. and-false (f.number == n) j || finals_carry k fs j)
 
   requests_carry : (k : ℕ) (q : QueryState) (text : List ℕ) (r : Request) (os : List QueryTargetQabl) → list_any (carries n k) (map (written names) (map (handed_request q text r) os)) ≡ false
   requests_carry k q text r [] = refl
-  requests_carry k q text r (o ∷ os) = (λ j. and_false (q.requests == n) j || requests_carry k q text r os j)
+  requests_carry k q text r (o ∷ os) = (λ j. and-false (q.requests == n) j || requests_carry k q text r os j)
 
   pub asked_carry : (k : ℕ) (q : QueryState) (face : FaceId) (text : List ℕ) (r : Request) (os : List QueryTargetQabl) → list_any (carries n k) (map (written names) (handed_requests q face text r os)) ≡ false
-  asked_carry k q face text r [] = or_false _ ∙ and_false (q.requests == n)
+  asked_carry k q face text r [] = or-false _ ∙ and-false (q.requests == n)
   asked_carry k q face text r (o ∷ os) = requests_carry k q text r (o ∷ os)
 
   share : (a b c : Bool) → ((a && b) || (a && c)) ≡ (a && (b || c))
@@ -104,20 +105,20 @@ module _ (n : ℕ) (names : NamingState) where
   share false b c = refl
 
   requests_give : (moment : ℕ) (e : Pending) (q : QueryState) (text : List ℕ) (r : Request) (os : List QueryTargetQabl) → list_any (gives moment n e) (map (written names) (map (handed_request q text r) os)) ≡ ((q.requests == n) && list_any (asked e moment) (map (given_place q) (map target_of os)))
-  requests_give moment e q text r [] = sym (and_false (q.requests == n))
+  requests_give moment e q text r [] = sym (and-false (q.requests == n))
   requests_give moment e q text r (o ∷ os) =
       ap (λ b. ((q.requests == n) && asked e moment (given_place q o.face)) || b) (requests_give moment e q text r os)
       ∙ share (q.requests == n) (asked e moment (given_place q o.face)) (list_any (asked e moment) (map (given_place q) (map target_of os)))
 
   pub asked_give : (moment : ℕ) (e : Pending) (q : QueryState) (face : FaceId) (text : List ℕ) (r : Request) (os : List QueryTargetQabl) → list_any (gives moment n e) (map (written names) (handed_requests q face text r os)) ≡ ((q.requests == n) && list_any (asked e moment) (map (given_place q) (map target_of os)))
-  asked_give moment e q face text r [] = or_false _
+  asked_give moment e q face text r [] = or-false _
   asked_give moment e q face text r (o ∷ os) = requests_give moment e q text r (o ∷ os)
 
   replies_give : (moment : ℕ) (e : Pending) (text : List ℕ) (r : Response) (to : ReplyTo) → list_any (gives moment n e) (map (written names) (handed_replies text r to)) ≡ false
   replies_give moment e text r to = ap (list_any (gives moment n e)) (replies_written names text r to) ∙ by (is_some to.reply)
     where
       by : (b : Bool) → list_any (gives moment n e) (cond b (sent_reply text r to ∷ []) []) ≡ false
-      by true = or_false _ ∙ and_false (to.number == n)
+      by true = or-false _ ∙ and-false (to.number == n)
       by false = refl
 
   pub replied_give : (moment : ℕ) (e : Pending) (text : List ℕ) (r : Response) (o : Option ReplyTo) → list_any (gives moment n e) (map (written names) (replied text r o).handed) ≡ false
@@ -129,11 +130,11 @@ module _ (n : ℕ) (names : NamingState) where
     where
       none : (us : List Timeout) → list_any (gives moment n e) (map (sent_timeout faces) us) ≡ false
       none [] = refl
-      none (u ∷ us) = (λ j. and_false (u.number == n) j || none us j)
+      none (u ∷ us) = (λ j. and-false (u.number == n) j || none us j)
 
   unsaid : (k : ℕ) (faces : List (ℕ × OpenFace)) (t : Timeout) (ts : List Timeout) (o : Option ℕ) → t.reply ≡ o → list_any (carries n k) (map (sent_timeout faces) (filter has_number_for ts)) ≡ list_any (says n k) ts
       → list_any (carries n k) (map (sent_timeout faces) (cond (is_some o) (t ∷ filter has_number_for ts) (filter has_number_for ts))) ≡ (((t.number == n) && option_map_or (is_reply k) o false) || list_any (says n k) ts)
-  unsaid k faces t ts None e ih = ih ∙ ap (λ b. b || list_any (says n k) ts) (sym (and_false (t.number == n)))
+  unsaid k faces t ts None e ih = ih ∙ ap (λ b. b || list_any (says n k) ts) (sym (and-false (t.number == n)))
   unsaid k faces t ts (Some x) e ih = (λ j. ((t.number == n) && option_map_or (is_reply k) (e j) false) || ih j)
 
   timeouts_say : (k : ℕ) (faces : List (ℕ × OpenFace)) (ts : List Timeout) → list_any (carries n k) (map (sent_timeout faces) (filter has_number_for ts)) ≡ list_any (says n k) ts
@@ -156,17 +157,13 @@ quiet d rs = record { entries = λ n e. idle (owes n e rs); replies = λ n k. id
 
 -- nothing is put in
 nothing_new : (a b : Bool) → a ≡ b → (l : Bool) → l ≡ false → a ≡ (b || l)
-nothing_new a b e l none = e ∙ sym (or_false b) ∙ ap (λ x. b || x) (sym none)
+nothing_new a b e l none = e ∙ sym (or-false b) ∙ ap (λ x. b || x) (sym none)
 
 let_go : (d : ℕ) (s : State) (p : Pending → Bool) (fs : List Final) → Waits p (λ k. false) d s.core.queries.records (letting_go p s.core.queries.records) (map (written s.names) (map handed_final fs))
 let_go d s p fs = record {
   entries = λ n e. nothing_new _ _ (owes_let n e p s.core.queries.records) _ (finals_give n s.names d e fs);
-  replies = λ n k. nothing_new _ _ (flies_let n k p s.core.queries.records ∙ sym (and_true (flies n k s.core.queries.records))) _ (finals_carry n s.names k fs);
+  replies = λ n k. nothing_new _ _ (flies_let n k p s.core.queries.records ∙ sym (and-true (flies n k s.core.queries.records))) _ (finals_carry n s.names k fs);
 }
-
-or_next : (a b c : Bool) → (a || (b || c)) ≡ ((a || b) || c)
-or_next true b c = refl
-or_next false b c = refl
 
 passed_entries : (s : State) (now n : ℕ) (e : Pending) → (ts : List Timeout) → (fs : List Final) → owes n e (letting_go (is_due now) (timing_out ts s.core.queries).records) ≡ ((owes n e s.core.queries.records && not (is_due now e)) || list_any (gives 0 n e) (map (written s.names) (handed_timeouts s.core.faces ts ++ map handed_final fs)))
 passed_entries s now n e ts fs =
@@ -183,18 +180,18 @@ passed_replies s now n k fs =
     let ts = timeouts now q in
     flies_let n k (is_due now) (timing_out ts q).records
     ∙ flies_timing n k ts q (timeouts_fit now q)
-    ∙ (λ j. sym (and_true (flies n k q.records)) j || told j)
+    ∙ (λ j. sym (and-true (flies n k q.records)) j || told j)
   where
     told : list_any (says n k) (timeouts now s.core.queries) ≡ list_any (carries n k) (map (written s.names) (handed_timeouts s.core.faces (timeouts now s.core.queries) ++ map handed_final fs))
     told = sym
         (ap (list_any (carries n k)) (map-append (written s.names) (handed_timeouts s.core.faces (timeouts now s.core.queries)) (map handed_final fs))
         ∙ list_any-append (carries n k) (map (written s.names) (handed_timeouts s.core.faces (timeouts now s.core.queries))) _
         ∙ (λ j. timeouts_carry n s.names k s.core.faces (timeouts now s.core.queries) j || finals_carry n s.names k fs j)
-        ∙ or_false _)
+        ∙ or-false _)
 
 replied_entries : (s : State) (n : ℕ) (e : Pending) (text : List ℕ) (r : Response) (o : Option ReplyTo) → owes n e (after_replied o s.core.queries).records ≡ ((owes n e s.core.queries.records && true) || list_any (gives 0 n e) (map (written s.names) (replied text r o).handed))
 replied_entries s n e text r None = idle (owes n e s.core.queries.records)
-replied_entries s n e text r (Some to) = nothing_new _ _ (owes_after_put n e to.number s.core.queries (is_some to.reply) ∙ sym (and_true (owes n e s.core.queries.records))) _ (replied_give n s.names 0 e text r (Some to))
+replied_entries s n e text r (Some to) = nothing_new _ _ (owes_after_put n e to.number s.core.queries (is_some to.reply) ∙ sym (and-true (owes n e s.core.queries.records))) _ (replied_give n s.names 0 e text r (Some to))
 
 -- a reply that has a number is in flight under it, and carries it
 module _ (s : State) (n k : ℕ) (text : List ℕ) (r : Response) (to : ReplyTo) (there : list_any (has_number to.number) s.core.queries.records ≡ true) where
@@ -203,8 +200,8 @@ module _ (s : State) (n k : ℕ) (text : List ℕ) (r : Response) (to : ReplyTo)
   reply_by None e fresh = idle (flies n k s.core.queries.records)
   reply_by (Some x) e fresh =
       flies_put n k s.core.queries.replies to.number s.core.queries.records there
-      ∙ (λ j. sym (and_true (flies n k s.core.queries.records)) j || ((to.number == n) && option_map_or (is_reply k) (sym (e ∙ fresh refl) j) false))
-      ∙ ap (λ b. (flies n k s.core.queries.records && true) || b) (sym (or_false _))
+      ∙ (λ j. sym (and-true (flies n k s.core.queries.records)) j || ((to.number == n) && option_map_or (is_reply k) (sym (e ∙ fresh refl) j) false))
+      ∙ ap (λ b. (flies n k s.core.queries.records && true) || b) (sym (or-false _))
 
 given_reply : (s : QueryState) (f : Final) (b : Bool) → is_closed s.closed f.asker.0 ≡ b → is_some (cond b None (Some s.replies)) ≡ true → ◌≡◌ {A = Option ℕ} (cond b None (Some s.replies)) (Some s.replies)
 given_reply s f true e h = absurd (false≢true h)
@@ -224,7 +221,7 @@ asked_entries s face text r d n e os =
     let q = s.core.queries in
     let places = map (given_place q) (map target_of os) in
     list_any-append (waits n e) q.records (asked_records q.requests face r.id r.qos places d)
-    ∙ (λ j. sym (and_true (owes n e q.records)) j || (owes_asked e d n q.requests face r.id r.qos places ∙ sym (asked_give n s.names d e q face text r os)) j)
+    ∙ (λ j. sym (and-true (owes n e q.records)) j || (owes_asked e d n q.requests face r.id r.qos places ∙ sym (asked_give n s.names d e q face text r os)) j)
 
 asked_replies : (s : State) (face : FaceId) (text : List ℕ) (r : Request) (d n k : ℕ) (os : List QueryTargetQabl)
     → flies n k (s.core.queries.records ++ asked_records s.core.queries.requests face r.id r.qos (map (given_place s.core.queries) (map target_of os)) d) ≡ ((flies n k s.core.queries.records && true) || list_any (carries n k) (map (written s.names) (handed_requests s.core.queries face text r os)))
@@ -232,7 +229,7 @@ asked_replies s face text r d n k os =
     let q = s.core.queries in
     let places = map (given_place q) (map target_of os) in
     list_any-append (λ (x : Record). (x.number == n) && has_reply k x) q.records (asked_records q.requests face r.id r.qos places d)
-    ∙ (λ j. sym (and_true (flies n k q.records)) j || (flies_asked n k q.requests face r.id r.qos places d ∙ sym (asked_carry n s.names k q face text r os)) j)
+    ∙ (λ j. sym (and-true (flies n k q.records)) j || (flies_asked n k q.requests face r.id r.qos places d ∙ sym (asked_carry n s.names k q face text r os)) j)
 
 granted_waits : (s : State) (t : TextCall) → WaitsAfter s t
 unfolding ended landed moment_of
@@ -250,7 +247,7 @@ granted_waits s (reporting reply) =
     let q = s.core.queries in
     let fs = finals_landed reply q.closed q.records in
     record {
-      entries = λ n e. nothing_new _ _ (owes_landed n e reply q.records ∙ sym (and_true (owes n e q.records))) _ (finals_give n s.names 0 e fs);
+      entries = λ n e. nothing_new _ _ (owes_landed n e reply q.records ∙ sym (and-true (owes n e q.records))) _ (finals_give n s.names 0 e fs);
       replies = λ n k. nothing_new _ _ (flies_landed n k reply q.records) _ (finals_carry n s.names k fs);
     }
 granted_waits s (passing now) = record {

@@ -17,7 +17,7 @@ use Rattle.zq_hat.specs.declared.types.Declaration.{Declaration}
 use Rattle.zq_hat.specs.Kept.{text_cmp, at_id, is_on, declaration}
 use Rattle.zq_hat.specs.State.{FaceState}
 use Rattle.zq_hat.specs.Holders.{Place, Holdings, place_cmp, at_place, info_on, declared_at, held_by, held, AreOrdered}
-use Rattle.zq_hat.proofs.Sorted.{same_key, at_itself, none_above, found_later}
+use Rattle.zq_key.proofs.Lookups.{same_key, at_itself, none_above, found_later}
 
 pub place_total : IsTotalOrder place_cmp
 place_total = then_total (on_total (λ p. p.0) nat_cmp_total) (on_total (λ p. p.1) nat_cmp_total)

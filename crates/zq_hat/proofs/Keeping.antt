@@ -18,11 +18,12 @@ use Rattle.zq_hat.specs.declared.types.Declaration.{Declaration}
 use Rattle.zq_hat.specs.Kept.{text_cmp, at_id, is_apart, declare, withdraw, declaration}
 use Rattle.zq_hat.specs.State.{FaceState}
 use Rattle.zq_hat.specs.Holders.{Place, Holdings, Index, place_cmp, at_text, at_place, held_at, info_on, declared_at, with_holding, without_holding, without_declared, if_any, AreOrdered, IsTied}
-use Rattle.zq_hat.proofs.Sorted.{same_key, at_itself, found_after_removal, found_after_write, found_after_insertion, same_entries, sorted_in, sorted_write, sorted_out}
 use Rattle.zq_hat.proofs.Held.{place_total, place_exact, text_total, text_exact, own_place, other_place}
 use Rattle.zq_hat.proofs.Reading.{sorted_at}
 use Rattle.zq_hat.proofs.Holding.{gone}
 use Rattle.zq_hat.proofs.Tied.{test_text, found_with, sorted_with, found_without, sorted_without, held_if_any, if_any_some, if_any_used, inserted_used}
+use Rattle.zq_key.proofs.Lookups.{same_key, at_itself, found_after_removal, found_after_write, found_after_insertion, same_entries}
+use Rattle.zq_key.proofs.Sorted.{sorted_in, sorted_write, sorted_out}
 
 -- one place changes in both, and the others stay
 mixed : (k : List ℕ) (b c d e : Bool) (s w : Option QueryableInfoType) (v dec : Option Declaration) → (c ≡ true → s ≡ option_and_then (info_on k) dec) → (c ≡ true → e ≡ d) → (c ≡ false → e ≡ false) → (b ≡ true → w ≡ option_and_then (info_on k) v)
@@ -98,7 +99,7 @@ module _ (faces : List (ℕ × FaceState)) (index : Index) (t : IsTied faces ind
   with_places_by : (k : List ℕ) (hs : Holdings) (b : Bool) → cond b (Some (insert_entry place_cmp (held_at key index) p i)) (at_text k index) ≡ Some hs → IsStrictlySortedBy place_cmp (keys_of hs)
   with_places_by k hs true is =
       let same : insert_entry place_cmp (held_at key index) p i ≡ hs = let both : Some (insert_entry place_cmp (held_at key index) p i) ≡ Some hs = is in cc in
-      subst (λ l. IsStrictlySortedBy place_cmp (keys_of l)) same (sorted_in place_total place_exact p i (held_at key index) (sorted_at faces index t key))
+      subst (λ l. IsStrictlySortedBy place_cmp (keys_of l)) same (sorted_in place_total (held_at key index) p i (sorted_at faces index t key))
   with_places_by k hs false is = t.places k hs is
 
   with_used_by : (k : List ℕ) (b : Bool) → cond b (Some (insert_entry place_cmp (held_at key index) p i)) (at_text k index) ≡ Some [] → ⊥
@@ -126,8 +127,8 @@ module _ (faces : List (ℕ × FaceState)) (index : Index) (t : IsTied faces ind
       let d : Declaration = record { key = key; info = info } in
       let x = declare i key info f in
       record {
-        numbers = sorted_write nat_cmp_total exact_unsigned (is_at (nat_cmp n)) x faces t.numbers;
-        ids = ordered' faces index t n f at x (sorted_in nat_cmp_total exact_unsigned i d f.declared (t.ids n f at));
+        numbers = sorted_write nat_cmp (is_at (nat_cmp n)) x faces t.numbers;
+        ids = ordered' faces index t n f at x (sorted_in nat_cmp_total f.declared i d (t.ids n f at));
         texts = sorted_with key (n, i) info index t.texts;
         places = λ k hs is. with_places_by faces index t key (n, i) info k hs _ (sym (found_with key (n, i) info index k) ∙ is);
         used = λ k is. with_used_by faces index t key (n, i) info k _ (sym (found_with key (n, i) info index k) ∙ is);
@@ -177,7 +178,7 @@ module _ (faces : List (ℕ × FaceState)) (index : Index) (t : IsTied faces ind
       let x = withdraw i f in
       let key = d.key in
       record {
-        numbers = sorted_write nat_cmp_total exact_unsigned (is_at (nat_cmp n)) x faces t.numbers;
+        numbers = sorted_write nat_cmp (is_at (nat_cmp n)) x faces t.numbers;
         ids = ordered' faces index t n f at x (sorted_out nat_cmp (is_at (nat_cmp i)) f.declared (t.ids n f at));
         texts = sorted_without key (n, i) index t.texts;
         places = λ k hs is. without_places_by faces index t key (n, i) k hs _ (sym (found_without key (n, i) index k t.texts) ∙ is);

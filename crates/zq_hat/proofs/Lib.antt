@@ -1,7 +1,6 @@
 pub mod Folds
 pub mod Laws
 pub mod Rebuilt
-pub mod Sorted
 pub mod Held
 pub mod Texts
 pub mod Holding

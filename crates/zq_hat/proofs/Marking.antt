@@ -14,7 +14,8 @@ use Rattle.zq_hat.specs.Kept.{at_id, declaration}
 use Rattle.zq_hat.specs.Marks.{marked}
 use Rattle.zq_hat.specs.State.{FaceState}
 use Rattle.zq_hat.specs.Holders.{Index, Place, info_on, declared_at, AreOrdered, IsTied}
-use Rattle.zq_hat.proofs.Sorted.{same_key, found_after_write, sorted_write}
+use Rattle.zq_key.proofs.Lookups.{same_key, found_after_write}
+use Rattle.zq_key.proofs.Sorted.{sorted_write}
 
 same_declared : (m : FinalMark) (set : Bool) (f : FaceState) → (marked m set f).declared ≡ f.declared
 same_declared mark.Initial set f = refl
@@ -56,7 +57,7 @@ module _ (faces : List (ℕ × FaceState)) (index : Index) (t : IsTied faces ind
 
   kept : IsTied faces' index
   kept = record {
-    numbers = sorted_write nat_cmp_total exact_unsigned (is_at (nat_cmp n)) x faces t.numbers;
+    numbers = sorted_write nat_cmp (is_at (nat_cmp n)) x faces t.numbers;
     ids = ordered;
     texts = t.texts;
     places = t.places;

@@ -19,7 +19,7 @@ use Rattle.zq_hat.specs.Kept.{at_id, has_face, info, declared_keys}
 use Rattle.zq_hat.specs.Offers.{place, sorted, offer_cmp, offer_of, offer_list, offers_on, offers_for, declared_offers, bare_offer, bare_on, bare_offers, may_have, offers_by, offers_of}
 use Rattle.zq_hat.specs.Regions.{is_north, same_region, strategy_at}
 use Rattle.zq_hat.specs.State.{FaceState, HatState}
-use Rattle.zq_hat.proofs.Sorted.{at_itself}
+use Rattle.zq_key.proofs.Lookups.{at_itself}
 
 all_from : {X : Type 0} (P : X → Type 0) (xs : List X) → AllByRecursion P xs → All P xs
 all_from P [] all = All-nil P

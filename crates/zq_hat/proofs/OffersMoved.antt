@@ -1,5 +1,5 @@
 -- A hat whose texts are moved offers for the moved key what it offered, moved.
-use Rattle.std.proofs.Common.{◌≡◌, ◌∙◌, sym, ap, refl, ℕ, Bool, true, false, cond, List, [], ◌∷◌, ◌++◌, Some, None, Option, fold, map, take, drop, length}
+use Rattle.std.proofs.Common.{◌≡◌, ◌∙◌, sym, ap, refl, ℕ, Bool, true, false, cond, List, [], ◌∷◌, ◌++◌, Some, None, Option, map, take, drop, length}
 use Rattle.std.specs.Prelude.{◌-◌, ◌&&◌, ◌||◌, not, reverse}
 use Rattle.std.specs.declared.cmp.Ordering.{Ordering}
 use Rattle.std.specs.declared.cmp.Ordering.TheVariants.{Less, Equal, Greater}
@@ -8,8 +8,8 @@ use Rattle.std.specs.List.{flat_map, list_any, suffix_len, prefix_len}
 use Rattle.std.specs.BTreeMap.{is_at}
 use Rattle.std.specs.Set.{remove_key}
 use Rattle.std.specs.BTreeSet.{insert_key}
-use Rattle.std.proofs.lemmas.List.{take-map, drop-map, length-map, reverse-append}
-use Rattle.zq_key.proofs.Naturals.{map-append, fold-map, fold-moved, flat_map-map}
+use Rattle.std.proofs.lemmas.List.{take-map, drop-map, length-map, reverse-append, map-append}
+use Rattle.zq_key.proofs.Naturals.{fold-map, fold-moved, flat_map-map}
 use Rattle.zq_key.specs.Key.{intersects}
 use Rattle.zq_key.specs.declared.message.QueryableInfoType.{QueryableInfoType}
 use Rattle.zq_key.specs.declared.message.Region.{Region}

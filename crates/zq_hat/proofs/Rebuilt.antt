@@ -10,14 +10,13 @@ use Rattle.std.specs.List.Sorted.{IsStrictlySortedBy}
 use Rattle.std.specs.Map.{keys_of}
 use Rattle.std.specs.BTreeMap.{insert_entry}
 use Rattle.std.proofs.lemmas.Map.Keys.{sorted_head, sorted_tail}
-use Rattle.std.proofs.lemmas.List.{append-nil}
+use Rattle.std.proofs.lemmas.List.{append-nil, map-append}
 use Rattle.std.specs.Prelude.{String}
 use Rattle.std.specs.String.{string_bytes, string_cmp}
 use Rattle.std.specs.declared.alloc.Global.{Global}
 use Rattle.zq_hat.specs.Kept.{text_cmp}
 use Rattle.zq_hat.specs.Holders.{Place, place_cmp, texts_of}
 use Rattle.zq_hat.proofs.Held.{place_total, text_total}
-use Rattle.zq_key.proofs.Naturals.{map-append}
 
 -- an entry is put in its place
 abbrev pub put_entry : {K X : Type 0} → (K → K → Ordering) → List (K × X) → K × X → List (K × X)

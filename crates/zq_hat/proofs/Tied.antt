@@ -10,8 +10,9 @@ use Rattle.std.specs.BTreeMap.{is_at, insert_entry}
 use Rattle.zq_key.specs.declared.message.QueryableInfoType.{QueryableInfoType}
 use Rattle.zq_hat.specs.Kept.{text_cmp}
 use Rattle.zq_hat.specs.Holders.{Place, Holdings, Index, place_cmp, at_text, held_at, with_holding, with_holdings, without_holding, if_any}
-use Rattle.zq_hat.proofs.Sorted.{same_key, found_after_removal, found_after_write, found_after_insertion, sorted_in, sorted_write, sorted_out}
 use Rattle.zq_hat.proofs.Held.{text_total, text_exact}
+use Rattle.zq_key.proofs.Lookups.{same_key, found_after_removal, found_after_write, found_after_insertion}
+use Rattle.zq_key.proofs.Sorted.{sorted_in, sorted_write, sorted_out}
 
 abbrev pub test_text : List ℕ → List ℕ → Bool
 test_text key k = is_at (text_cmp key) k
@@ -29,8 +30,8 @@ module _ (key : List ℕ) (p : Place) (i : QueryableInfoType) (index : Index) wh
 
   sorted_with_by : (o : Option Holdings) → IsStrictlySortedBy text_cmp (keys_of index)
       → IsStrictlySortedBy text_cmp (keys_of (option_map_or (λ hs. set_value (is_at (text_cmp key)) index (insert_entry place_cmp hs p i)) o (insert_entry text_cmp index key ((p, i) ∷ []))))
-  sorted_with_by None s = sorted_in text_total text_exact key ((p, i) ∷ []) index s
-  sorted_with_by (Some hs) s = sorted_write text_total text_exact (is_at (text_cmp key)) (insert_entry place_cmp hs p i) index s
+  sorted_with_by None s = sorted_in text_total index key ((p, i) ∷ []) s
+  sorted_with_by (Some hs) s = sorted_write text_cmp (is_at (text_cmp key)) (insert_entry place_cmp hs p i) index s
 
   pub sorted_with : IsStrictlySortedBy text_cmp (keys_of index) → IsStrictlySortedBy text_cmp (keys_of (with_holding key p i index))
   sorted_with s = sorted_with_by (at_text key index) s
@@ -55,7 +56,7 @@ module _ (key : List ℕ) (p : Place) (index : Index) where
 
   sorted_left : (o : Holdings) → IsStrictlySortedBy text_cmp (keys_of index) → IsStrictlySortedBy text_cmp (keys_of (with_holdings key o index))
   sorted_left [] s = sorted_out text_cmp (is_at (text_cmp key)) index s
-  sorted_left (h ∷ hs) s = sorted_write text_total text_exact (is_at (text_cmp key)) (h ∷ hs) index s
+  sorted_left (h ∷ hs) s = sorted_write text_cmp (is_at (text_cmp key)) (h ∷ hs) index s
 
   sorted_without_by : (o : Option Holdings) → IsStrictlySortedBy text_cmp (keys_of index) → IsStrictlySortedBy text_cmp (keys_of (option_map_or (λ hs. with_holdings key (remove_entry (is_at (place_cmp p)) hs) index) o index))
   sorted_without_by None s = s

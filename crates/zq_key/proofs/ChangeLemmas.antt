@@ -6,6 +6,7 @@ use Rattle.std.proofs.lemmas.List.Sums.{fails_before_first}
 use Rattle.std.proofs.lemmas.List.Quantifiers.{position-Some}
 use Rattle.std.proofs.lemmas.List.{take-set, drop-set-lt, get_or-set_same}
 use Rattle.std.proofs.Common.{set}
+use Rattle.std.proofs.lemmas.List.Folds.{list_any_at}
 use Rattle.zq_key.specs.Changes.{change_first, update_first, insert_before}
 
 none_false : (b : Bool) (n : ℕ) → cond b (Some n) None ≡ None → b ≡ false
@@ -40,19 +41,10 @@ first_removed p [] i e = absurd (cc)
 first_removed p (x ∷ xs) i e = first_changed p (λ _. []) (x ∷ xs) i x e ∙ append_assoc (take i (x ∷ xs)) [] (drop (suc i) (x ∷ xs))
 
 module _ {X : Type 0} (p : X → Bool) where
-  or_true : (b : Bool) → (b || true) ≡ true
-  or_true true = refl
-  or_true false = refl
-
-  any_at : (xs : List X) (i : ℕ) (d : X) → i < length xs → p (get_or xs i d) ≡ true → list_any p xs ≡ true
-  any_at [] i d l h = absurd (omega arith)
-  any_at (x ∷ xs) zero d l h = ap (λ b. b || list_any p xs) h
-  any_at (x ∷ xs) (suc i) d l h = ap (λ b. p x || b) (any_at xs i d (omega arith) h) ∙ or_true (p x)
-
   -- some element passes where there is a first one
   pub any_first : (xs : List X) (i : ℕ) → position p xs ≡ Some i → list_any p xs ≡ true
   any_first [] i e = absurd (cc)
-  any_first (x ∷ xs) i e = let found = position-Some p (x ∷ xs) i x e in any_at (x ∷ xs) i x found.0 found.1
+  any_first (x ∷ xs) i e = let found = position-Some p (x ∷ xs) i x e in list_any_at p (x ∷ xs) i x found.0 found.1
 
   none_at : (xs : List X) → ((k : ℕ) (d : X) → k < length xs → p (get_or xs k d) ≡ false) → list_any p xs ≡ false
   none_at [] none = refl

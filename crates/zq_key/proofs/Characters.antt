@@ -10,8 +10,9 @@ use lib.Utf8.{encode, encodes}
 use Rattle.zq_key.specs.Match.{covers_by, meets_by}
 use Rattle.zq_key.specs.Key.{chunks, parts, is_verbatim, is_star, is_stars, chunk_meets, chunk_covers, part_fits, runs_apart, is_chunk, neighbours_fit, is_key, intersects, includes}
 use Rattle.zq_key.proofs.Spelling.{is_next, somes, spell}
-use Rattle.zq_key.proofs.Spell.{Word, word, parts_meet-spell}
+use Rattle.zq_key.proofs.Spell.{Word, word}
 use Rattle.zq_key.proofs.Checks.{intersects-related, includes-related}
+use Rattle.zq_key.proofs.SpellMeets.{parts_meet-spell}
 use Rattle.zq_key.proofs.SpellCovers.{parts_cover-spell}
 
 -- no byte of c is the ASCII character d, unless c is

@@ -2,32 +2,19 @@
 use Rattle.std.proofs.Common.{◌≡◌, ℕ, length, Bool, true, false, not, ◌&&◌, ◌||◌, List, [], ◌∷◌, Option, Some, None, refl, sym, ap}
 use Rattle.std.specs.List.{list_all}
 use Rattle.std.proofs.lemmas.Bool.{and_parts, false≢true}
+use Rattle.std.proofs.Math.Bool.{and-true, and-false, and_assoc}
 use Rattle.zq_key.specs.Key.{parts, part_fits, runs_apart, is_chunk, is_star, is_stars, neighbours_fit, is_key, chunks, is_plain_chunk, intersects, includes}
 use Rattle.zq_key.specs.Checks.{parts_fit, chunk_fits, chunks_fit}
 use Rattle.zq_key.specs.Chunks.{trim, chunks_left, keys_relate}
 use Rattle.zq_key.specs.declared.key.Relation.TheVariants.{Meets, Covers}
 use Rattle.zq_key.proofs.Parts.{parts-empty}
 
-and-swap : (a b c : Bool) → (a && (b && c)) ≡ (b && (a && c))
-and-swap true true c = refl
-and-swap true false c = refl
-and-swap false true c = refl
-and-swap false false c = refl
-
-and-nothing : (a : Bool) → (a && false) ≡ false
-and-nothing true = refl
-and-nothing false = refl
-
-and-more : (a b c : Bool) → ((a && b) && c) ≡ (a && (b && c))
-and-more true b c = refl
-and-more false b c = refl
-
 parts_fit-false : (list : List (Option ℕ)) → parts_fit false list ≡ (list_all part_fits list && runs_apart list)
 parts_fit-false [] = refl
-parts_fit-false (Some c ∷ list) = rw (parts_fit-false list) (sym (and-more (part_fits (Some c)) (list_all part_fits list) (runs_apart list)))
+parts_fit-false (Some c ∷ list) = rw (parts_fit-false list) (sym (and_assoc (part_fits (Some c)) (list_all part_fits list) (runs_apart list)))
 parts_fit-false (None ∷ []) = refl
-parts_fit-false (None ∷ None ∷ list) = sym (and-nothing (list_all part_fits list))
-parts_fit-false (None ∷ Some c ∷ list) = rw (parts_fit-false list) (sym (and-more (part_fits (Some c)) (list_all part_fits list) (runs_apart list)))
+parts_fit-false (None ∷ None ∷ list) = sym (and-false (list_all part_fits list))
+parts_fit-false (None ∷ Some c ∷ list) = rw (parts_fit-false list) (sym (and_assoc (part_fits (Some c)) (list_all part_fits list) (runs_apart list)))
 
 pub parts_fit-whole : (list : List (Option ℕ)) → parts_fit false list ≡ (list_all part_fits list && runs_apart list)
 parts_fit-whole list = parts_fit-false list
@@ -68,11 +55,7 @@ pub chunks_fit-more : (after : Bool) (text chunk rest : List ℕ) → chunks tex
 chunks_fit-more after text chunk rest is = rw is refl
 
 pub chunks_fit-last : (after : Bool) (text : List ℕ) → chunks text ≡ (text ∷ []) → chunks_fit after (chunks text) ≡ chunk_fits after text
-chunks_fit-last after text is = rw is (at (chunk_fits after text))
-  where
-    at : (t : Bool) → (t && true) ≡ t
-    at true = refl
-    at false = refl
+chunks_fit-last after text is = rw is (and-true (chunk_fits after text))
 
 pub ruleset chunk_checks = (chunks_fit-key, chunks_fit-more, chunks_fit-last)
 
@@ -80,11 +63,7 @@ pub plain-more : (text chunk rest : List ℕ) → chunks text ≡ (chunk ∷ chu
 plain-more text chunk rest is = rw is refl
 
 pub plain-last : (text : List ℕ) → chunks text ≡ (text ∷ []) → list_all is_plain_chunk (chunks text) ≡ is_plain_chunk text
-plain-last text is = rw is (at (is_plain_chunk text))
-  where
-    at : (t : Bool) → (t && true) ≡ t
-    at true = refl
-    at false = refl
+plain-last text is = rw is (and-true (is_plain_chunk text))
 
 pub ruleset plain_checks = (plain-more, plain-last)
 

@@ -28,7 +28,8 @@ cut-some text i h = cut_at text (Some i) h
 
 pub ruleset cuts = (cut-none, cut-some)
 
-split-more : (p : ℕ → Bool) (xs : List ℕ) → (first : List ℕ) × (rest : List (List ℕ)) × (slice_split p xs ≡ (first ∷ rest))
+-- what a text is split into is not empty
+pub split-more : (p : ℕ → Bool) (xs : List ℕ) → (first : List ℕ) × (rest : List (List ℕ)) × (slice_split p xs ≡ (first ∷ rest))
 split-more p [] = ([], [], refl)
 split-more p (x ∷ xs) = at (p x) (split-more p xs)
   where

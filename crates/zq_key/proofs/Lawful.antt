@@ -4,6 +4,7 @@ use Rattle.std.specs.Str.{bytes_eq}
 use Rattle.std.proofs.lemmas.Bool.{true≢false, false≢true, and_parts}
 use Rattle.std.proofs.lemmas.Bool.Decides.{Decides-eqb}
 use Rattle.std.proofs.lemmas.Slice.Eq.{bytes_eq-Decides}
+use Rattle.std.proofs.Math.Bool.{or-true}
 use Rattle.zq_key.specs.Match.{covers_by, meets_by}
 use Rattle.zq_key.specs.Walk.{never}
 use Rattle.zq_key.specs.Key.{is_stars, is_star, is_verbatim, chunk_meets, chunk_covers, parts, parts_meet, parts_cover, same_part, chunks, intersects, includes}
@@ -19,10 +20,6 @@ covers-drop : {A : Type 0} (w f : A → Bool) (e : A → A → Bool) (x : A) (a 
 unfolding covers_by
 covers-drop w f e x a [] h k = rw (h, k) refl
 covers-drop w f e x a (y ∷ b) h k = rw (h, k) refl
-
-or-true : (a : Bool) → (a || true) ≡ true
-or-true true = refl
-or-true false = refl
 
 covers-self : {A : Type 0} (w f : A → Bool) (e : A → A → Bool) (wf : (x : A) → w x ≡ true → f x ≡ false) (same : (x : A) → w x ≡ false → e x x ≡ true) (a : List A) → covers_by w f e a a ≡ true
 unfolding covers_by

@@ -8,6 +8,7 @@ pub mod Checks
 pub mod Lawful
 pub mod Spelling
 pub mod Spell
+pub mod SpellMeets
 pub mod SpellCovers
 pub mod Characters
 pub mod Plain
@@ -15,3 +16,6 @@ pub mod Strips
 pub mod Behind
 pub mod ChangeLemmas
 pub mod Naturals
+pub mod Truth
+pub mod Lookups
+pub mod Sorted

@@ -2,18 +2,13 @@
 use Rattle.std.proofs.Common.{◌≡◌, Bool, true, false, not, cond, ◌&&◌, ◌||◌, List, [], ◌∷◌, ◌++◌, Option, Some, None, ◌⊎◌, inl, inr, refl, sym, ap, ◌∙◌, arith}
 use Rattle.std.proofs.lemmas.Bool.{true≢false, false≢true, false_from_ne_true}
 use Rattle.std.proofs.lemmas.Bool.Decides.{nat_tests}
+use Rattle.std.proofs.Math.Bool.{or_comm, and_assoc, and-or_distrib_right}
 use Rattle.zq_key.specs.Match.{covers_by, meets_by}
 use Rattle.zq_key.specs.Walk.{wild_covers, wild_takes, has_none, after_last, never, Advances, Stops, is_nil, starts_wild, before_fixed, from_fixed, both_go_on}
 use Rattle.zq_key.proofs.Match.{covers-wild, wild_takes-step, wild_covers-again, wild_covers-found, wild_covers-over, wild_covers-next}
 
-or-swap : (a b : Bool) → (a || b) ≡ (b || a)
-or-swap true true = refl
-or-swap true false = refl
-or-swap false true = refl
-or-swap false false = refl
-
 swap_step : (wx wy fx fy a b c : Bool) → (wx ≡ true → fx ≡ false) → (wy ≡ true → fy ≡ false) → cond wx (a || (not fy && b)) (cond wy (b || (not fx && a)) c) ≡ cond wy (b || (not fx && a)) (cond wx (a || (not fy && b)) c)
-swap_step true true fx fy a b c h k = rw (h refl, k refl) (or-swap a b)
+swap_step true true fx fy a b c h k = rw (h refl, k refl) (or_comm a b)
 swap_step true false fx fy a b c h k = refl
 swap_step false true fx fy a b c h k = refl
 swap_step false false fx fy a b c h k = refl
@@ -93,7 +88,7 @@ meets-wilds w e x y z v wx wy fz fv =
     let right : meets_by w never e (x ∷ z) v ≡ wild_covers w never e z v = meets-covers w never e (x ∷ z) v fv ∙ covers-wild w never e x z v wx in
     let left : meets_by w never e z (y ∷ v) ≡ wild_covers w never (λ s t. e t s) v z =
     meets-swap w never e (λ _ _. refl) z (y ∷ v) ∙ (meets-covers w never (λ s t. e t s) (y ∷ v) z fz ∙ covers-wild w never (λ s t. e t s) y v z wy) in
-    first ∙ (rw (left, right) (or-swap (wild_covers w never (λ s t. e t s) v z) (wild_covers w never e z v)))
+    first ∙ (rw (left, right) (or_comm (wild_covers w never (λ s t. e t s) v z) (wild_covers w never e z v)))
 
 -- two lists that both have a wild part, the first at its head: only what follows the last ones matters
 pub meets-last : {A : Type 0} (w : A → Bool) (e : A → A → Bool) (h : A) (a p q : List A) (x y : A) (z v : List A) → w h ≡ true → w x ≡ true → w y ≡ true → (h ∷ a) ≡ (p ++ (x ∷ z)) → meets_by w never e (h ∷ a) (q ++ (y ∷ v)) ≡ meets_by w never e (x ∷ z) (y ∷ v)
@@ -224,7 +219,7 @@ meets-tails w e a b z v stop la lb = by_heads (starts_wild w a) (starts_wild w b
   where
     by_heads : (s t : Bool) → starts_wild w a ≡ s → starts_wild w b ≡ t → meets_by w never e a b ≡ ((s || t) && (wild_covers w never e z v || wild_covers w never (λ s t. e t s) v z))
     by_heads true t ha hb = meets-tails-first w e a b z v ha la lb
-    by_heads false true ha hb = meets-swap w never e (λ _ _. refl) a b ∙ (meets-tails-first w (λ s t. e t s) b a v z hb lb la ∙ or-swap (wild_covers w never (λ s t. e t s) v z) (wild_covers w never e z v))
+    by_heads false true ha hb = meets-swap w never e (λ _ _. refl) a b ∙ (meets-tails-first w (λ s t. e t s) b a v z hb lb la ∙ or_comm (wild_covers w never (λ s t. e t s) v z) (wild_covers w never e z v))
     by_heads false false ha hb =
         let none : is_nil a ≡ false = rw la.whole (is_nil-append la.front la.wild z) in
         meets-stops w never e a b stop ha hb ∙ (rw none refl)
@@ -233,15 +228,10 @@ meets-tails w e a b z v stop la lb = by_heads (starts_wild w a) (starts_wild w b
 not_wild : {A : Type 0} (w f : A → Bool) (wf : (x : A) → w x ≡ true → f x ≡ false) (x : A) → f x ≡ true → w x ≡ false
 not_wild w f wf x h = false_from_ne_true (w x) (λ k. false≢true (sym (wf x k) ∙ h))
 
-and-more : (a b c : Bool) → (a && (b && c)) ≡ ((a && b) && c)
-and-more true b c = refl
-and-more false b c = refl
-
-or-and : (a b c : Bool) → ((a && c) || (b && c)) ≡ ((a || b) && c)
-or-and true b true = refl
-or-and true true false = refl
-or-and true false false = refl
-or-and false b c = refl
+-- parts that agree are both fixed, or neither
+differ : {A : Type 0} (f : A → Bool) (e : A → A → Bool) (ef : (x y : A) → e x y ≡ true → f x ≡ f y) (x y : A) (b : Bool) → f x ≡ b → f y ≡ not b → e x y ≡ false
+differ f e ef x y true h k = false_from_ne_true (e x y) (λ s. true≢false (sym h ∙ (ef x y s ∙ k)))
+differ f e ef x y false h k = false_from_ne_true (e x y) (λ s. false≢true (sym h ∙ (ef x y s ∙ k)))
 
 drop_only : (wy p g : Bool) → cond wy ((p && g) || false) false ≡ ((wy && p) && g)
 drop_only true true true = refl
@@ -250,9 +240,9 @@ drop_only true false g = refl
 drop_only false p g = refl
 
 both_free : (wx wy exy p q r g : Bool) → cond wx ((p && g) || (q && g)) (cond wy ((q && g) || (p && g)) (exy && (r && g))) ≡ (cond wx (p || q) (cond wy (q || p) (exy && r)) && g)
-both_free true wy exy p q r g = or-and p q g
-both_free false true exy p q r g = or-and q p g
-both_free false false exy p q r g = and-more exy r g
+both_free true wy exy p q r g = sym (and-or_distrib_right p q g)
+both_free false true exy p q r g = sym (and-or_distrib_right q p g)
+both_free false false exy p q r g = sym (and_assoc exy r g)
 
 pub meets-split : {A : Type 0} (w f : A → Bool) (e : A → A → Bool) (wf : (x : A) → w x ≡ true → f x ≡ false) (ef : (x y : A) → e x y ≡ true → f x ≡ f y) (a b : List A) → meets_by w f e a b ≡ (meets_by w never e (before_fixed f a) (before_fixed f b) && both_go_on e (meets_by w f e) (from_fixed f a) (from_fixed f b))
 unfolding meets_by
@@ -261,33 +251,27 @@ meets-split w f e wf ef [] (y ∷ b) = by_fixed (f y) refl (meets-split w f e wf
   where
     by_fixed : (t : Bool) → f y ≡ t → meets_by w f e [] b ≡ (meets_by w never e [] (before_fixed f b) && both_go_on e (meets_by w f e) [] (from_fixed f b)) → meets_by w f e [] (y ∷ b) ≡ (meets_by w never e [] (before_fixed f (y ∷ b)) && both_go_on e (meets_by w f e) [] (from_fixed f (y ∷ b)))
     by_fixed true h ih = let wy = not_wild w f wf y h in rw (h, wy) refl
-    by_fixed false h ih = rw (h, ih) (and-more (w y) _ _)
+    by_fixed false h ih = rw (h, ih) (sym (and_assoc (w y) _ _))
 meets-split w f e wf ef (x ∷ a) [] = by_fixed (f x) refl (meets-split w f e wf ef a [])
   where
     by_fixed : (t : Bool) → f x ≡ t → meets_by w f e a [] ≡ (meets_by w never e (before_fixed f a) [] && both_go_on e (meets_by w f e) (from_fixed f a) []) → meets_by w f e (x ∷ a) [] ≡ (meets_by w never e (before_fixed f (x ∷ a)) [] && both_go_on e (meets_by w f e) (from_fixed f (x ∷ a)) [])
     by_fixed true h ih = let wx = not_wild w f wf x h in rw (h, wx) refl
-    by_fixed false h ih = rw (h, ih) (and-more (w x) _ _)
+    by_fixed false h ih = rw (h, ih) (sym (and_assoc (w x) _ _))
 meets-split {A = A} w f e wf ef (x ∷ a) (y ∷ b) = by_fixed (f x) (f y) refl refl (meets-split w f e wf ef a (y ∷ b)) (meets-split w f e wf ef (x ∷ a) b) (meets-split w f e wf ef a b)
   where
     Splits : List A → List A → Type 0
     Splits a b = meets_by w f e a b ≡ (meets_by w never e (before_fixed f a) (before_fixed f b) && both_go_on e (meets_by w f e) (from_fixed f a) (from_fixed f b))
 
-    apart : f x ≡ true → f y ≡ false → e x y ≡ false
-    apart h k = false_from_ne_true (e x y) (λ s. true≢false (sym h ∙ (ef x y s ∙ k)))
-
-    apart_too : f x ≡ false → f y ≡ true → e x y ≡ false
-    apart_too h k = false_from_ne_true (e x y) (λ s. false≢true (sym h ∙ (ef x y s ∙ k)))
-
     by_fixed : (s t : Bool) → f x ≡ s → f y ≡ t → meets_by w f e a (y ∷ b) ≡ (meets_by w never e (before_fixed f a) (before_fixed f (y ∷ b)) && both_go_on e (meets_by w f e) (from_fixed f a) (from_fixed f (y ∷ b))) → meets_by w f e (x ∷ a) b ≡ (meets_by w never e (before_fixed f (x ∷ a)) (before_fixed f b) && both_go_on e (meets_by w f e) (from_fixed f (x ∷ a)) (from_fixed f b)) → meets_by w f e a b ≡ (meets_by w never e (before_fixed f a) (before_fixed f b) && both_go_on e (meets_by w f e) (from_fixed f a) (from_fixed f b)) → meets_by w f e (x ∷ a) (y ∷ b) ≡ (meets_by w never e (before_fixed f (x ∷ a)) (before_fixed f (y ∷ b)) && both_go_on e (meets_by w f e) (from_fixed f (x ∷ a)) (from_fixed f (y ∷ b)))
     by_fixed true true h k i1 i2 i3 = let wx = not_wild w f wf x h in let wy = not_wild w f wf y k in rw (h, k, wx, wy) refl
     by_fixed true false h k i1 i2 i3 =
         let wx = not_wild w f wf x h in
-        let exy = apart h k in
+        let exy = differ f e ef x y true h k in
         let j2 = rw h at i2 in
         rw (h, k, wx, exy, j2) (drop_only (w y) _ _)
     by_fixed false true h k i1 i2 i3 =
         let wy = not_wild w f wf y k in
-        let exy = apart_too h k in
+        let exy = differ f e ef x y false h k in
         let j1 = rw k at i1 in
         rw (h, k, wy, exy, j1) (drop_only (w x) _ _)
     by_fixed false false h k i1 i2 i3 =
@@ -300,8 +284,8 @@ never_both true c = refl
 never_both false c = refl
 
 one_free : (wx n p q r g : Bool) → cond wx ((p && g) || (q && g)) (n && (r && g)) ≡ (cond wx (p || q) (n && r) && g)
-one_free true n p q r g = or-and p q g
-one_free false n p q r g = and-more n r g
+one_free true n p q r g = sym (and-or_distrib_right p q g)
+one_free false n p q r g = sym (and_assoc n r g)
 
 pub covers-split : {A : Type 0} (w f : A → Bool) (e : A → A → Bool) (wf : (x : A) → w x ≡ true → f x ≡ false) (ef : (x y : A) → e x y ≡ true → f x ≡ f y) (a b : List A) → covers_by w f e a b ≡ (covers_by w never e (before_fixed f a) (before_fixed f b) && both_go_on e (covers_by w f e) (from_fixed f a) (from_fixed f b))
 unfolding covers_by
@@ -315,24 +299,18 @@ covers-split w f e wf ef (x ∷ a) [] = by_fixed (f x) refl (covers-split w f e 
   where
     by_fixed : (t : Bool) → f x ≡ t → covers_by w f e a [] ≡ (covers_by w never e (before_fixed f a) [] && both_go_on e (covers_by w f e) (from_fixed f a) []) → covers_by w f e (x ∷ a) [] ≡ (covers_by w never e (before_fixed f (x ∷ a)) [] && both_go_on e (covers_by w f e) (from_fixed f (x ∷ a)) [])
     by_fixed true h ih = let wx = not_wild w f wf x h in rw (h, wx) refl
-    by_fixed false h ih = rw (h, ih) (and-more (w x) _ _)
+    by_fixed false h ih = rw (h, ih) (sym (and_assoc (w x) _ _))
 covers-split {A = A} w f e wf ef (x ∷ a) (y ∷ b) = by_fixed (f x) (f y) refl refl (covers-split w f e wf ef a (y ∷ b)) (covers-split w f e wf ef (x ∷ a) b) (covers-split w f e wf ef a b)
   where
-    apart : f x ≡ true → f y ≡ false → e x y ≡ false
-    apart h k = false_from_ne_true (e x y) (λ s. true≢false (sym h ∙ (ef x y s ∙ k)))
-
-    apart_too : f x ≡ false → f y ≡ true → e x y ≡ false
-    apart_too h k = false_from_ne_true (e x y) (λ s. false≢true (sym h ∙ (ef x y s ∙ k)))
-
     by_fixed : (s t : Bool) → f x ≡ s → f y ≡ t → covers_by w f e a (y ∷ b) ≡ (covers_by w never e (before_fixed f a) (before_fixed f (y ∷ b)) && both_go_on e (covers_by w f e) (from_fixed f a) (from_fixed f (y ∷ b))) → covers_by w f e (x ∷ a) b ≡ (covers_by w never e (before_fixed f (x ∷ a)) (before_fixed f b) && both_go_on e (covers_by w f e) (from_fixed f (x ∷ a)) (from_fixed f b)) → covers_by w f e a b ≡ (covers_by w never e (before_fixed f a) (before_fixed f b) && both_go_on e (covers_by w f e) (from_fixed f a) (from_fixed f b)) → covers_by w f e (x ∷ a) (y ∷ b) ≡ (covers_by w never e (before_fixed f (x ∷ a)) (before_fixed f (y ∷ b)) && both_go_on e (covers_by w f e) (from_fixed f (x ∷ a)) (from_fixed f (y ∷ b)))
     by_fixed true true h k i1 i2 i3 = let wx = not_wild w f wf x h in let wy = not_wild w f wf y k in rw (h, k, wx, wy) refl
     by_fixed true false h k i1 i2 i3 =
         let wx = not_wild w f wf x h in
-        let exy = apart h k in
+        let exy = differ f e ef x y true h k in
         rw (h, k, wx, exy) (never_both (w y) (covers_by w f e a b))
     by_fixed false true h k i1 i2 i3 =
         let wy = not_wild w f wf y k in
-        let exy = apart_too h k in
+        let exy = differ f e ef x y false h k in
         let j1 = rw k at i1 in
         rw (h, k, wy, exy, j1) (drop_only (w x) (covers_by w never e (before_fixed f a) []) (both_go_on e (covers_by w f e) (from_fixed f a) (y ∷ b)))
     by_fixed false false h k i1 i2 i3 =

@@ -3,19 +3,12 @@ use Rattle.std.proofs.Common.{◌≡◌, Bool, true, false, cond, List, [], ◌�
 use Rattle.std.specs.List.{list_any, filter, flat_map}
 use Rattle.std.specs.Prelude.{find, fold}
 use Rattle.std.specs.Option.{option_map}
+use Rattle.std.proofs.lemmas.List.{map-append}
 use Rattle.zq_key.specs.Changes.{change_first, update_first, insert_before}
-
-pub map-append : {X Y : Type 0} (g : X → Y) (xs ys : List X) → map g (xs ++ ys) ≡ map g xs ++ map g ys
-map-append g [] ys = refl
-map-append g (x ∷ xs) ys = rw (map-append g xs ys) refl
 
 pub map-map : {X Y Z : Type 0} (g : X → Y) (h : Y → Z) (k : X → Z) (same : (x : X) → h (g x) ≡ k x) (xs : List X) → map h (map g xs) ≡ map k xs
 map-map g h k same [] = refl
 map-map g h k same (x ∷ xs) = rw (same x, map-map g h k same xs) refl
-
-pub filter-same : {X : Type 0} (p q : X → Bool) (same : (x : X) → p x ≡ q x) (xs : List X) → filter p xs ≡ filter q xs
-filter-same p q same [] = refl
-filter-same p q same (x ∷ xs) = rw (same x, filter-same p q same xs) refl
 
 module _ {X Y : Type 0} (g : X → Y) (p : Y → Bool) (q : X → Bool) (same : (x : X) → p (g x) ≡ q x) where
   pub any-map : (xs : List X) → list_any p (map g xs) ≡ list_any q xs

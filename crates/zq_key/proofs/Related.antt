@@ -1,5 +1,6 @@
 -- One round of the code over two keys: the chunks before the next verbatim ones, and these.
-use Rattle.std.proofs.Common.{◌≡◌, ℕ, Bool, true, false, ◌&&◌, List, [], ◌∷◌, refl, ◌∙◌}
+use Rattle.std.proofs.Common.{◌≡◌, ℕ, true, false, ◌&&◌, List, [], ◌∷◌, refl, ◌∙◌}
+use Rattle.std.proofs.Math.Bool.{and-false}
 use Rattle.zq_key.specs.Walk.{both_go_on}
 use Rattle.zq_key.specs.Key.{is_stars, is_verbatim, chunk_meets, chunk_covers}
 use Rattle.zq_key.specs.Chunks.{chunks_left, relates, free_left, verbatim_left, lists_relate, keys_relate}
@@ -12,10 +13,6 @@ pub keys_relate-round : (r : Relation) (a b : List ℕ) → keys_relate r (chunk
 unfolding keys_relate free_left verbatim_left
 keys_relate-round Meets a b = meets-split is_stars is_verbatim chunk_meets stars-free (relates-kind Meets) (chunks_left a) (chunks_left b)
 keys_relate-round Covers a b = covers-split is_stars is_verbatim chunk_covers stars-free (relates-kind Covers) (chunks_left a) (chunks_left b)
-
-and-false : (t : Bool) → (t && false) ≡ false
-and-false true = refl
-and-false false = refl
 
 -- the fronts differ
 pub round-front : (r : Relation) (a b : List ℕ) → lists_relate r (free_left a) (free_left b) ≡ false → keys_relate r (chunks_left a) (chunks_left b) ≡ false

@@ -3,7 +3,8 @@ use Rattle.std.proofs.Common.{◌≡◌, ℕ, Bool, true, false, cond, ◌||◌,
 use Rattle.std.specs.Str.{bytes_eq}
 use Rattle.std.proofs.lemmas.Bool.Decides.{same_from_decides}
 use Rattle.std.proofs.lemmas.Slice.Eq.{bytes_eq-Decides}
-use Rattle.zq_key.specs.Key.{is_stars, is_star, is_verbatim, chunk_meets, chunk_covers, parts, parts_meet}
+use Rattle.std.proofs.Math.Bool.{or_comm}
+use Rattle.zq_key.specs.Key.{is_stars, is_star, is_verbatim, chunk_meets, chunk_covers, parts}
 use Rattle.zq_key.specs.Chunks.{relates}
 use Rattle.zq_key.specs.declared.key.Relation.{Relation}
 use Rattle.zq_key.specs.declared.key.Relation.TheVariants.{Meets, Covers}
@@ -12,21 +13,9 @@ use Rattle.zq_key.proofs.Parts.{parts_meet-swap}
 bytes_eq-swap : (a b : List ℕ) → bytes_eq a b ≡ bytes_eq b a
 bytes_eq-swap a b = let d = bytes_eq-Decides a b in let e = bytes_eq-Decides b a in same_from_decides (bytes_eq a b) (bytes_eq b a) d ((λ h. sym (e.0 h)), (λ h. e.1 (sym h)))
 
-or-swap : (a b : Bool) → (a || b) ≡ (b || a)
-or-swap true true = refl
-or-swap true false = refl
-or-swap false true = refl
-or-swap false false = refl
-
-or-swap_more : (a b c : Bool) → (a || b || c) ≡ (b || a || c)
-or-swap_more true true c = refl
-or-swap_more true false c = refl
-or-swap_more false true c = refl
-or-swap_more false false c = refl
-
 pub chunk_meets-swap : (a b : List ℕ) → chunk_meets a b ≡ chunk_meets b a
 unfolding chunk_meets
-chunk_meets-swap a b = rw (or-swap (is_verbatim a) (is_verbatim b), bytes_eq-swap a b, parts_meet-swap (parts a) (parts b), or-swap_more (is_star a) (is_star b) (parts_meet (parts b) (parts a))) refl
+chunk_meets-swap a b = rw (or_comm (is_verbatim a) (is_verbatim b), bytes_eq-swap a b, parts_meet-swap (parts a) (parts b), or_comm (is_star a) (is_star b)) refl
 
 -- `**` is not verbatim
 pub stars-free : (x : List ℕ) → is_stars x ≡ true → is_verbatim x ≡ false

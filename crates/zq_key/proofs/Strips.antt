@@ -1,6 +1,6 @@
 -- What is left of a key behind a namespace, chunk by chunk.
 use Rattle.std.proofs.Common.{◌≡◌, ℕ, ◌<◌, ◌+◌, ◌-◌, ◌==◌, ◌≤◌, ltb, ltb-false, lit<, Bor, MatchOption, length, length-drop, add-one, take, drop, get_or, Bool, true, false, cond, List, [], ◌∷◌, Option, Some, None, refl, sym, ap, ◌∙◌, arith}
-use Rattle.std.specs.List.{position, position_or_len, slice_split, onto_first, join_with_byte}
+use Rattle.std.specs.List.{position, position_or_len, join_with_byte}
 use Rattle.std.specs.Option.{option_map}
 use Rattle.std.proofs.lemmas.List.Splits.{join_with_byte-slice_split}
 use Rattle.std.proofs.lemmas.List.Splits.{slice_split_first, slice_split_none}
@@ -12,6 +12,7 @@ use Rattle.std.proofs.lemmas.Bool.Decides.{Decides-eqb}
 use Rattle.std.proofs.lemmas.Grind.{common_steps}
 use Rattle.zq_key.specs.Key.{chunks, is_stars, chunk_meets}
 use Rattle.zq_key.specs.Space.{strip, strip_chunks, is_slash, first_chunk}
+use Rattle.zq_key.proofs.Chunks.{split-more}
 
 joined : (text : List ℕ) → join_with_byte 47 (chunks text) ≡ text
 joined text = join_with_byte-slice_split 47 text
@@ -31,14 +32,6 @@ strip-last_stars head rest is h = at (chunks head) (chunks rest) is ∙ ap Some 
     at : (n k : List (List ℕ)) → k ≡ (rest ∷ []) → option_map (join_with_byte 47) (strip_chunks n k) ≡ Some (join_with_byte 47 k)
     at [] k e = rw e refl
     at (x ∷ n) k e = rw (e, h) refl
-
-split-more : (p : ℕ → Bool) (xs : List ℕ) → (first : List ℕ) × (rest : List (List ℕ)) × (slice_split p xs ≡ (first ∷ rest))
-split-more p [] = ([], [], refl)
-split-more p (x ∷ xs) = at (p x) (split-more p xs)
-  where
-    at : (b : Bool) → ((first : List ℕ) × (rest : List (List ℕ)) × (slice_split p xs ≡ (first ∷ rest))) → (first : List ℕ) × (rest : List (List ℕ)) × (cond b ([] ∷ slice_split p xs) (onto_first x (slice_split p xs)) ≡ (first ∷ rest))
-    at true k = ([], slice_split p xs, refl)
-    at false (first, rest, k) = (x ∷ first, rest, rw k refl)
 
 pub strip-last : (head rest : List ℕ) → chunks rest ≡ (rest ∷ []) → is_stars rest ≡ false → strip head rest ≡ None
 unfolding strip

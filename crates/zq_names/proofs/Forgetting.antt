@@ -1,5 +1,5 @@
 -- A number leaves the matches of other nodes.
-use Rattle.std.proofs.Common.{◌≡◌, ◌≢◌, ℕ, Bool, true, false, cond, not, eqb, List, [], ◌∷◌, ◌++◌, map, filter, get_or, set, Option, Some, None, IsSome, subst, sym, ap, ◌∙◌, refl, arith, zero, suc, inl, inr, ◌⊎◌}
+use Rattle.std.proofs.Common.{◌≡◌, ◌≢◌, ℕ, Bool, true, false, cond, not, eqb, List, [], ◌∷◌, ◌++◌, map, filter, get_or, set, Option, Some, None, IsSome, subst, sym, ap, ◌∙◌, refl, arith, zero, suc, inl, inr, ◌⊎◌, is_some}
 use Rattle.std.specs.List.{Contains}
 use Rattle.std.proofs.lemmas.Bool.{cases_eq, false≢true}
 use Rattle.std.proofs.lemmas.Bool.Decides.{nat_tests}
@@ -8,7 +8,7 @@ use Rattle.zq_names.specs.declared.node.Node.{Node}
 use Rattle.zq_names.specs.declared.node.ResourceId.{ResourceId}
 use Rattle.zq_names.specs.Names.{NameEntry, IsTable, IsNames, IsLinked, slot, slot_matches, slot_former, row, rows, texts, without_match}
 use Rattle.zq_names.specs.Forgetting.{Drops}
-use Rattle.zq_names.proofs.Table.{Changes-with_value}
+use Rattle.zq_names.proofs.Table.{Changes-with_value, each_slot}
 
 -- ---- lists without a number
 
@@ -118,14 +118,8 @@ Drops-written old i holder before after was fewer text context holds former =
         | inl here ↦ rw (here, changes.is, changes.was, fewer, ← filter_twice, text, context, holds)
         | inr differ ↦ rw (changes.others j differ)
       ];
-      live = λ j. elim (cases_eq j holder.0) [
-        | inl here ↦ rw (here, changes.is, changes.was)
-        | inr differ ↦ rw (changes.others j differ)
-      ];
-      former = λ j. elim (cases_eq j holder.0) [
-        | inl here ↦ rw (here, changes.is, changes.was, former)
-        | inr differ ↦ rw (changes.others j differ)
-      ];
+      live = each_slot is_some old new holder.0 before after changes refl;
+      former = each_slot slot_former old new holder.0 before after changes (ap (λ ms. ms.items) former);
       fewer = λ j m has. elim (cases_eq j holder.0) [
         | inl here ↦ rw (here, changes.was) (from_others i before.matches.items m (rw (here, changes.is, fewer) at has))
         | inr differ ↦ rw (changes.others j differ) at has

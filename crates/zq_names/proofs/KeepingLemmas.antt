@@ -134,6 +134,9 @@ pub once_in_table : (nodes : List (Option Node)) (order : List ℕ) → IsTable 
 once_in_table nodes order table =
     subst Once (sym (ids-rows nodes order)) (once_from order (λ j k lt in_k. one_place nodes order k j table.names.rising in_k (omega arith) (omega arith)))
 
+pub once_in_view : (nodes : List (Option Node)) (order : List ℕ) (ns : List NameEntry) → rows nodes order ≡ ns → IsTable nodes order → Once (ids ns)
+once_in_view nodes order ns view table = let O : List NameEntry → Type 0 = λ (v : List NameEntry). Once (ids v) in subst O view (once_in_table nodes order table)
+
 entry_at-without : (i j : ℕ) (ns : List NameEntry) → entry_at (map (without_match i) ns) j ≡ without_match i (entry_at ns j)
 entry_at-without i j [] = refl
 entry_at-without i j (e ∷ es) = by (eqb e.id j) (entry_at-without i j es)

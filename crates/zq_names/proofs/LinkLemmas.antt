@@ -12,7 +12,7 @@ use Rattle.zq_names.specs.Names.{NameEntry, IsSound, slot, slot_matches, slot_fo
 use Rattle.zq_names.specs.Keeping.{AllStay}
 use Rattle.zq_names.specs.Linking.{has_number, with_member, with_match, joined, matched, HasRoom, IsReadyFor, IsRoomier, Joins, HasBoth, Links}
 use Rattle.zq_names.proofs.Same.{SameSlot, IsTable-same}
-use Rattle.zq_names.proofs.Table.{Changes-with_value}
+use Rattle.zq_names.proofs.Table.{Changes-with_value, each_slot}
 
 -- ---- a number in a list
 
@@ -105,14 +105,8 @@ IsRoomier-written old i before after was matches text context holds former room 
         | inl here ↦ rw (here, changes.is, changes.was, matches, text, context, holds)
         | inr differ ↦ rw (changes.others j differ)
       ];
-      live = λ j. elim (cases_eq j i) [
-        | inl here ↦ rw (here, changes.is, changes.was)
-        | inr differ ↦ rw (changes.others j differ)
-      ];
-      former = λ j. elim (cases_eq j i) [
-        | inl here ↦ rw (here, changes.is, changes.was, former)
-        | inr differ ↦ rw (changes.others j differ)
-      ];
+      live = each_slot is_some old new i before after changes refl;
+      former = each_slot slot_former old new i before after changes (ap (λ ms. ms.items) former);
       room = λ j has. elim (cases_eq j i) [
         | inl here ↦
             let R : Option Node → Type 0 = λ (o : Option Node). HasRoom o in
@@ -153,14 +147,8 @@ Joins-written old r member before after was matches text context holds former =
         | inl here ↦ rw (here, changes.is, changes.was) (now ∙ sym (joined-here r member (entry_of i (Some before)) refl))
         | inr differ ↦ rw (changes.others j differ) (sym (joined-other r member (entry_of j (slot old j)) differ))
       ];
-      live = λ j. elim (cases_eq j i) [
-        | inl here ↦ rw (here, changes.is, changes.was)
-        | inr differ ↦ rw (changes.others j differ)
-      ];
-      former = λ j. elim (cases_eq j i) [
-        | inl here ↦ rw (here, changes.is, changes.was, former)
-        | inr differ ↦ rw (changes.others j differ)
-      ];
+      live = each_slot is_some old new i before after changes refl;
+      former = each_slot slot_former old new i before after changes (ap (λ ms. ms.items) former);
       ready = λ j is. elim (cases_eq j i) [
         | inl here ↦ subst R (sym (ap (slot new) here ∙ changes.is)) (inl (ap (λ (ms : List ResourceId). has_number ms r.0) matches ∙ number_from (with_member before.matches.items r) r (with_member-has before.matches.items r)))
         | inr differ ↦ subst R (sym (changes.others j differ)) is

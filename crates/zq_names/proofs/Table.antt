@@ -9,7 +9,7 @@ use Rattle.std.proofs.lemmas.Option.{none-some}
 use Rattle.zq_names.specs.declared.node.Node.{Node}
 use Rattle.zq_names.proofs.Rows.{length-rows, text_at-rows}
 use Rattle.zq_names.specs.declared.node.ResourceId.{ResourceId}
-use Rattle.zq_names.specs.Names.{NameEntry, IsPlaceOf, HasText, slot, slot_matches, slot_former, IsSound, IsTable, IsNames, entry_of, row, rows, texts, ids, entry_at, change_at}
+use Rattle.zq_names.specs.Names.{NameEntry, IsPlaceOf, HasText, slot, slot_matches, slot_former, IsSound, IsTable, IsNames, entry_of, row, rows, texts, ids, entry_at, change_at, text_at}
 
 pub ids-rows : (nodes : List (Option Node)) (order : List ℕ) → ids (rows nodes order) ≡ order
 ids-rows nodes [] = refl
@@ -101,6 +101,13 @@ Changes-with_value nodes i before after was = record {
   others = λ j differ. get_or-set_other nodes i j (Some after) None differ;
 }
 
+-- what the node has in common with the one before, each number has
+pub each_slot : {X : Type 0} (f : Option Node → X) (old new : List (Option Node)) (i : ℕ) (before after : Node) → Changes old new i before after → f (Some after) ≡ f (Some before) → (j : ℕ) → f (slot new j) ≡ f (slot old j)
+each_slot f old new i before after changes same j = elim (cases_eq j i) [
+  | inl here ↦ rw here (ap f changes.is ∙ same ∙ sym (ap f changes.was))
+  | inr differ ↦ ap f (changes.others j differ)
+]
+
 pub view_written : (nodes : List (Option Node)) (order : List ℕ) (i : ℕ) (before after : Node) (f : NameEntry → NameEntry) → slot nodes i ≡ Some before → entry_of i (Some after) ≡ f (entry_of i (Some before)) → rows (set nodes i (Some after)) order ≡ change_at (rows nodes order) i f
 view_written nodes order i before after f was made = rows-change nodes (set nodes i (Some after)) order i before after f (Changes-with_value nodes i before after was) made
 
@@ -141,6 +148,12 @@ has_node nodes order ns i view table live = live_at nodes order i table (in_orde
 pub entry_is : (nodes : List (Option Node)) (order : List ℕ) (ns : List NameEntry) (i : ℕ) (n : Node) → rows nodes order ≡ ns → Contains (ids ns) i → slot nodes i ≡ Some n → entry_at ns i ≡ entry_of i (Some n)
 entry_is nodes order ns i n view live is =
     ap (λ (v : List NameEntry). entry_at v i) (sym view) ∙ entry_at-rows nodes order i (in_order nodes order ns i view live) ∙ ap (entry_of i) is
+
+pub text_there : (nodes : List (Option Node)) (order : List ℕ) (ns : List NameEntry) (i place : ℕ) → rows nodes order ≡ ns → Contains (ids ns) i → text_at (rows nodes order) place ≡ (row nodes i).text → (entry_at ns i).text ≡ text_at (rows nodes order) place
+text_there nodes order ns i place view live is =
+    ap (λ (v : List NameEntry). (entry_at v i).text) (sym view)
+    ∙ ap (λ (e : NameEntry). e.text) (entry_at-rows nodes order i (in_order nodes order ns i view live))
+    ∙ sym is
 
 pub live_number : (nodes : List (Option Node)) (order : List ℕ) (ns : List NameEntry) (i : ℕ) → rows nodes order ≡ ns → IsTable nodes order → IsSome (slot nodes i) → Contains (ids ns) i
 live_number nodes order ns i view table some =

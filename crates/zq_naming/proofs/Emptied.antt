@@ -11,18 +11,18 @@ use Rattle.std.proofs.lemmas.Cmp.{nat_cmp_total, tied_itself}
 use Rattle.std.proofs.lemmas.Bool.{false≢true}
 use Rattle.std.proofs.lemmas.Option.{none-some, same_Some}
 use Rattle.std.proofs.lemmas.List.Elements.{All-nil}
-use Rattle.std.proofs.lemmas.Map.Made.{lookup-map_values, keys_of-map_values}
+use Rattle.std.proofs.lemmas.Map.Made.{keys_of-map_values}
 use Rattle.std.proofs.lemmas.Map.Steps.{set_value_same}
 use Rattle.std.proofs.lemmas.Map.Views.{All-values-insert_entry, All-map-remove_entry}
 use Rattle.zq_names.specs.Names.{NameEntry, entry_at, texts}
 use Rattle.zq_tables.specs.FaceIds.{of_id, without_id}
 use Rattle.zq_tables.specs.FaceTexts.{id_texts}
-use Rattle.zq_naming.specs.Naming.{FaceKeys, NamingState, Names, no_keys, no_names, naming_at, face_keys, face_naming, face_queryables, text_at, with_theirs, without_name, put_naming, change_naming}
-use Rattle.zq_naming.specs.Holding.{FaceHolds, Faces, IsFace, IsHeld, Rises, face_holds, holds_by, ids_at, node_at, numbers_in, queryables_in, keys_of_face, texts_by}
+use Rattle.zq_naming.specs.Naming.{FaceKeys, NamingState, Names, no_keys, no_names, naming_at, face_keys, face_naming, face_queryables, with_theirs, without_name, put_naming, change_naming, without_queryable}
+use Rattle.zq_naming.specs.Holding.{FaceHolds, Faces, IsFace, IsHeld, Rises, face_holds, holds_by, ids_at, node_at, numbers_in, queryables_in, keys_of_face, texts_by, queryable_at}
 use Rattle.zq_naming.proofs.Entries.{weigh-with_id, weigh-removed, removed_absent, removed_set, set_twice, lookup_set, insert_there, shown-with_id, shown-removed}
 use Rattle.zq_naming.proofs.Holds.{face_at}
 use Rattle.zq_naming.proofs.Lean.{root_lean}
-use Rattle.zq_naming.proofs.Faces.{naming_at-texts, keys_there, face_there, face_closed, numbers_texts, queryables_texts, change_closed, change_idle}
+use Rattle.zq_naming.proofs.Faces.{naming_at-texts, keys_there, face_there, face_closed, numbers_texts, queryables_texts, change_idle, shown_text}
 
 -- ---- before any call
 
@@ -218,14 +218,18 @@ first_none names faces face held is = by (ids_at face faces) refl is
         let ours = (face_at faces face f held.sides at).ours in
         face_there names faces face f at ∙ rw (theirs, ours) refl
 
+idle_less : (names : List NameEntry) (es : List (ℕ × ℕ)) (id : ℕ) → of_id es id ≡ None → without_id (id_texts names es) id ≡ id_texts names es
+idle_less names es id absent = removed_absent (is_at (nat_cmp id)) (id_texts names es) (shown_text names es id None absent)
+
 pub undeclared_idle : (names : List NameEntry) (faces : Faces) (face id : ℕ) → node_at face id faces ≡ None → texts_by names faces ≡ change_naming face (without_name id) (texts_by names faces)
-undeclared_idle names faces face id none = by (ids_at face faces) refl none
-  where
-    by : (o : Option FaceHolds) → ids_at face faces ≡ o → of_id (numbers_in o) id ≡ None → texts_by names faces ≡ change_naming face (without_name id) (texts_by names faces)
-    by None at absent = sym (change_closed names faces face (without_name id) at)
-    by (Some f) at absent =
-        let no_text : text_at id (id_texts names f.numbers.theirs) ≡ None = lookup-map_values (λ (k : ℕ). (entry_at names k).text) (is_at (nat_cmp id)) f.numbers.theirs ∙ ap (option_map (λ (k : ℕ). (entry_at names k).text)) absent in
-        sym (change_idle names faces face f (without_name id) at (ap (with_theirs (keys_of_face names f)) (removed_absent (is_at (nat_cmp id)) (id_texts names f.numbers.theirs) no_text)))
+undeclared_idle names faces face id none =
+    change_idle names faces face (without_name id)
+    (λ f at. ap (with_theirs (keys_of_face names f)) (idle_less names f.numbers.theirs id (ap (λ (o : Option FaceHolds). of_id (numbers_in o) id) (sym at) ∙ none)))
+
+pub released_idle : (names : List NameEntry) (faces : Faces) (face id : ℕ) → queryable_at face id faces ≡ None → texts_by names faces ≡ change_naming face (without_queryable id) (texts_by names faces)
+released_idle names faces face id none =
+    change_idle names faces face (without_queryable id)
+    (λ f at. ap (λ (l : Names). record (keys_of_face names f) { queryables = l }) (idle_less names f.queryables id (ap (λ (o : Option FaceHolds). of_id (queryables_in o) id) (sym at) ∙ none)))
 
 -- ---- one id less
 

@@ -1,5 +1,5 @@
 -- A face in the list of texts, and the texts after one entry of the names changed.
-use Rattle.std.proofs.Common.{◌≡◌, ℕ, ◌≤◌, List, [], Option, Some, None, refl, sym, ap, subst, ◌∙◌, arith, inl, inr, unwrap_or}
+use Rattle.std.proofs.Common.{◌≡◌, ℕ, List, [], Option, Some, None, refl, sym, ap, subst, ◌∙◌, arith, inl, inr, unwrap_or}
 use Rattle.std.specs.Prelude.{option_map}
 use Rattle.std.specs.List.{Contains}
 use Rattle.std.specs.Map.{set_value}
@@ -14,7 +14,7 @@ use Rattle.zq_names.specs.Keeping.{ChangesAt}
 use Rattle.zq_tables.specs.FaceIds.{of_id}
 use Rattle.zq_tables.specs.FaceTexts.{id_texts, texts_of}
 use Rattle.zq_naming.specs.Naming.{FaceKeys, no_keys, no_names, naming_at, face_keys, face_naming, face_queryables, text_at, put_naming, change_naming}
-use Rattle.zq_naming.specs.Holding.{FaceHolds, Faces, IsHeld, hold_of, face_holds, side_holds, ids_at, keys_of_face, numbers_in, queryables_in, node_at, queryable_at, texts_by}
+use Rattle.zq_naming.specs.Holding.{FaceHolds, Faces, IsHeld, hold_of, ids_at, keys_of_face, numbers_in, queryables_in, node_at, queryable_at, texts_by}
 use Rattle.zq_naming.proofs.Entries.{shown-set, weigh-removed}
 use Rattle.zq_naming.proofs.Holds.{hold_itself, holds_at}
 
@@ -44,15 +44,18 @@ face_closed names faces face at = ap (λ (n : FaceKeys). n.numbers) (keys_closed
 pub change_there : (names : List NameEntry) (faces : Faces) (face : ℕ) (f : FaceHolds) (g : FaceKeys → FaceKeys) → ids_at face faces ≡ Some f → change_naming face g (texts_by names faces) ≡ set_value (is_at (nat_cmp face)) (texts_by names faces) (g (keys_of_face names f))
 change_there names faces face f g at = ap (put_naming face g (texts_by names faces)) (naming_there names faces face f at)
 
-pub change_closed : (names : List NameEntry) (faces : Faces) (face : ℕ) (g : FaceKeys → FaceKeys) → ids_at face faces ≡ None → change_naming face g (texts_by names faces) ≡ texts_by names faces
-change_closed names faces face g at = ap (put_naming face g (texts_by names faces)) (naming_closed names faces face at)
-
--- a change that leaves the face as it is
-pub change_idle : (names : List NameEntry) (faces : Faces) (face : ℕ) (f : FaceHolds) (g : FaceKeys → FaceKeys) → ids_at face faces ≡ Some f → g (keys_of_face names f) ≡ keys_of_face names f → change_naming face g (texts_by names faces) ≡ texts_by names faces
-change_idle names faces face f g at same =
-    change_there names faces face f g at
-    ∙ ap (set_value (is_at (nat_cmp face)) (texts_by names faces)) same
-    ∙ set_value_same (is_at (nat_cmp face)) (texts_by names faces) (keys_of_face names f) (naming_there names faces face f at)
+-- a change that leaves the face as it is, or finds it closed
+pub change_idle : (names : List NameEntry) (faces : Faces) (face : ℕ) (g : FaceKeys → FaceKeys) → ((f : FaceHolds) → ids_at face faces ≡ Some f → g (keys_of_face names f) ≡ keys_of_face names f) → texts_by names faces ≡ change_naming face g (texts_by names faces)
+change_idle names faces face g same = by (ids_at face faces) refl
+  where
+    by : (o : Option FaceHolds) → ids_at face faces ≡ o → texts_by names faces ≡ change_naming face g (texts_by names faces)
+    by None at = sym (ap (put_naming face g (texts_by names faces)) (naming_closed names faces face at))
+    by (Some f) at =
+        sym (
+        change_there names faces face f g at
+        ∙ ap (set_value (is_at (nat_cmp face)) (texts_by names faces)) (same f at)
+        ∙ set_value_same (is_at (nat_cmp face)) (texts_by names faces) (keys_of_face names f) (naming_there names faces face f at)
+        )
 
 pub set_texts : (names : List NameEntry) (faces faces' : Faces) (face : ℕ) (f f' : FaceHolds) (g : FaceKeys → FaceKeys) → ids_at face faces ≡ Some f → faces' ≡ set_value (is_at (nat_cmp face)) faces f' → keys_of_face names f' ≡ g (keys_of_face names f) → texts_by names faces' ≡ change_naming face g (texts_by names faces)
 set_texts names faces faces' face f f' g at put is =
@@ -73,32 +76,16 @@ changed_text names names1 n i f keeps changes = elim (cases_eq i n) [
 
 -- ---- what an id stands for, on either side of a face
 
--- the node of an id is live, if its side is part of what the face holds
-module _ (side : Option FaceHolds → List (ℕ × ℕ)) (none : side None ≡ []) (part : (i : ℕ) (f : FaceHolds) → side_holds i (side (Some f)) ≤ face_holds i f) where
+module _ (side : Option FaceHolds → List (ℕ × ℕ)) (none : side None ≡ []) where
   pub side_is : (id n : ℕ) (o : Option FaceHolds) → of_id (side o) id ≡ Some n → (f : FaceHolds) × (o ≡ Some f) × (of_id (side (Some f)) id ≡ Some n)
   side_is id n None is = absurd (none-some n (ap (λ (l : List (ℕ × ℕ)). of_id l id) (sym none) ∙ is))
   side_is id n (Some f) is = (f, refl, is)
 
-  pub side_live : (names : List NameEntry) (faces : Faces) (face id n : ℕ) → IsHeld names faces → of_id (side (ids_at face faces)) id ≡ Some n → Contains (ids names) n
-  side_live names faces face id n held is =
-      let there = side_is id n (ids_at face faces) is in
-      let one = weigh-removed (hold_of n) (is_at (nat_cmp id)) (side (Some there.0)) n there.2 in
-      held.live n (omega (arith, one, hold_itself n, part n there.0, holds_at n face faces there.0 there.1))
-
-numbers_part : (i : ℕ) (f : FaceHolds) → side_holds i (numbers_in (Some f)) ≤ face_holds i f
-numbers_part i f = omega arith
-
-queryables_part : (i : ℕ) (f : FaceHolds) → side_holds i (queryables_in (Some f)) ≤ face_holds i f
-queryables_part i f = omega arith
-
-pub node_is : (id n : ℕ) (o : Option FaceHolds) → of_id (numbers_in o) id ≡ Some n → (f : FaceHolds) × (o ≡ Some f) × (of_id f.numbers.theirs id ≡ Some n)
-node_is id n o is = side_is numbers_in refl numbers_part id n o is
-
-pub queryable_is : (id n : ℕ) (o : Option FaceHolds) → of_id (queryables_in o) id ≡ Some n → (f : FaceHolds) × (o ≡ Some f) × (of_id f.queryables id ≡ Some n)
-queryable_is id n o is = side_is queryables_in refl queryables_part id n o is
-
 pub node_live : (names : List NameEntry) (faces : Faces) (face id n : ℕ) → IsHeld names faces → node_at face id faces ≡ Some n → Contains (ids names) n
-node_live names faces face id n held is = side_live numbers_in refl numbers_part names faces face id n held is
+node_live names faces face id n held is =
+    let there = side_is numbers_in refl id n (ids_at face faces) is in
+    let one = weigh-removed (hold_of n) (is_at (nat_cmp id)) there.0.numbers.theirs n there.2 in
+    held.live n (omega (arith, one, hold_itself n, holds_at n face faces there.0 there.1))
 
 pub numbers_texts : (names : List NameEntry) (faces : Faces) (face : ℕ) → id_texts names (numbers_in (ids_at face faces)) ≡ (face_naming face (texts_by names faces)).theirs
 numbers_texts names faces face = by (ids_at face faces) refl
@@ -116,6 +103,9 @@ queryables_texts names faces face = by (ids_at face faces) refl
 
 id_text : (names : List NameEntry) (es : List (ℕ × ℕ)) (id : ℕ) → option_map (λ (n : ℕ). (entry_at names n).text) (of_id es id) ≡ text_at id (id_texts names es)
 id_text names es id = sym (lookup-map_values (λ (k : ℕ). (entry_at names k).text) (is_at (nat_cmp id)) es)
+
+pub shown_text : (names : List NameEntry) (es : List (ℕ × ℕ)) (id : ℕ) (o : Option ℕ) → of_id es id ≡ o → text_at id (id_texts names es) ≡ option_map (λ (n : ℕ). (entry_at names n).text) o
+shown_text names es id o is = sym (id_text names es id) ∙ ap (option_map (λ (n : ℕ). (entry_at names n).text)) is
 
 pub standing_text : (names : List NameEntry) (faces : Faces) (face id : ℕ) → option_map (λ (n : ℕ). (entry_at names n).text) (node_at face id faces) ≡ text_at id (face_naming face (texts_by names faces)).theirs
 standing_text names faces face id = id_text names (numbers_in (ids_at face faces)) id ∙ ap (text_at id) (numbers_texts names faces face)

@@ -1,23 +1,21 @@
 -- Holds are taken and let go, and ids are put in place and taken out, on either side of a face.
-use Rattle.std.proofs.Common.{◌≡◌, ℕ, ◌+◌, ◌-◌, ◌^◌, ◌<◌, List, length, Some, refl, sym, ap, subst, ◌∙◌, arith, zero, suc, inl, inr}
+use Rattle.std.proofs.Common.{◌≡◌, ℕ, ◌+◌, ◌-◌, ◌^◌, ◌<◌, List, length, Some, refl, sym, ap, subst, ◌∙◌, arith, zero, suc, inl, inr, Option, None, [], ◌⊎◌}
 use Rattle.std.specs.List.{All, Contains}
 use Rattle.std.specs.Map.{set_value, values_of}
 use Rattle.std.specs.BTreeMap.{is_at}
 use Rattle.std.specs.Ordering.{nat_cmp}
 use Rattle.std.proofs.lemmas.Bool.{cases_eq}
 use Rattle.std.proofs.lemmas.Map.Views.{All-values-set_value}
-use Rattle.zq_names.specs.declared.node.ResourceId.{ResourceId}
-use Rattle.zq_names.specs.Names.{NameEntry, Makes, HasText, ids, entry_at, with_hold, without_hold, change_at}
+use Rattle.zq_names.specs.Names.{NameEntry, ids, entry_at, with_hold, without_hold, change_at}
 use Rattle.zq_names.specs.Idle.{IdleAt, NoneIdle}
 use Rattle.zq_names.specs.Keeping.{AllStay, NoneCome, ChangesAt}
 use Rattle.zq_tables.specs.FaceIds.{of_id}
-use Rattle.zq_naming.specs.Naming.{Names, with_theirs, without_name, without_queryable, change_naming}
-use Rattle.zq_naming.specs.Holding.{FaceHolds, Faces, InHand, IsFace, IsHeld, LetsGo, TakesHold, hold_of, face_holds, holds_by, ids_at, node_at, queryable_at, put_ids, change_ids, keys_of_face, texts_by, without_hold_at, without_number}
+use Rattle.zq_naming.specs.Naming.{Names, with_theirs, without_name, without_queryable, change_naming, FaceKeys}
+use Rattle.zq_naming.specs.Holding.{FaceHolds, Faces, InHand, IsFace, IsHeld, LetsGo, TakesHold, hold_of, face_holds, holds_by, ids_at, node_at, queryable_at, put_ids, change_ids, keys_of_face, texts_by, without_hold_at, without_number, numbers_in, queryables_in}
 use Rattle.zq_naming.proofs.Entries.{Rises-without_id, weigh-removed, weigh-set, shown-removed}
-use Rattle.zq_naming.proofs.Faces.{set_texts, changed_text, node_is, queryable_is}
+use Rattle.zq_naming.proofs.Faces.{set_texts, changed_text, side_is}
 use Rattle.zq_naming.proofs.Holds.{hold_itself, hold_other, few_holds, face_at, same_texts}
 use Rattle.zq_naming.proofs.Lean.{lean_held, lean_unheld}
-use Rattle.zq_naming.proofs.Made.{fresh_made}
 
 -- ---- what a hold changes
 
@@ -47,31 +45,31 @@ unheld_holds names names1 n i changes some = elim (cases_eq i n) [
       omega (arith, other, none)
 ]
 
--- a text was made and its node held
-module _ (old middle : List NameEntry) (t : List ℕ) (r : ResourceId) (made : Makes old middle r t) (named : HasText middle r t) (stay : AllStay old middle) (idle : NoneIdle old → IdleAt middle r.0) where
-  -- the node that was made is held seldom enough
-  pub made_room : ((i : ℕ) → Contains (ids old) i → (entry_at old i).holds + 1 < 2 ^ 128) → (entry_at middle r.0).holds + 1 < 2 ^ 128
-  made_room room = elim (fresh_made old middle r t made r.0 named.live) [
-    | inl before ↦ omega (arith, room r.0 before, (stay r.0 before).1.holds)
+-- a node is there, what is new is not held, and the node is held
+module _ (old middle : List NameEntry) (t : List ℕ) (r : ℕ) (live : Contains (ids middle) r) (text : (entry_at middle r).text ≡ t) (stay : AllStay old middle) (fresh : (i : ℕ) → Contains (ids middle) i → Contains (ids old) i ⊎ ((entry_at middle i).holds ≡ 0)) where
+  -- the node is held seldom enough
+  pub made_room : ((i : ℕ) → Contains (ids old) i → (entry_at old i).holds + 1 < 2 ^ 128) → (entry_at middle r).holds + 1 < 2 ^ 128
+  made_room room = elim (fresh r live) [
+    | inl before ↦ omega (arith, room r before, (stay r before).1.holds)
     | inr none ↦ omega (arith, none)
   ]
 
-  pub takes : (new : List NameEntry) → ChangesAt middle new r.0 with_hold → new ≡ change_at middle r.0 with_hold → TakesHold old new t r.0
-  takes new changes all =
+  pub takes : (new : List NameEntry) → ChangesAt middle new r with_hold → new ≡ change_at middle r with_hold → (NoneIdle old → IdleAt middle r) → TakesHold old new t r
+  takes new changes all idle =
       let C : ℕ → List ℕ → Type 0 = λ (i : ℕ) (is : List ℕ). Contains is i in
       record {
-        live = subst (C r.0) (sym changes.live) named.live;
-        text = changed_text middle new r.0 r.0 with_hold (λ e. refl) changes ∙ named.text;
+        live = subst (C r) (sym changes.live) live;
+        text = changed_text middle new r r with_hold (λ e. refl) changes ∙ text;
         kept = λ i before. (
           subst (C i) (sym changes.live) (stay i before).0,
-          changed_text middle new r.0 i with_hold (λ e. refl) changes ∙ (stay i before).1.text,
-          omega (arith, held_holds middle new r.0 i changes, (stay i before).1.holds),
+          changed_text middle new r i with_hold (λ e. refl) changes ∙ (stay i before).1.text,
+          omega (arith, held_holds middle new r i changes, (stay i before).1.holds),
         );
-        fresh = λ i has. elim (fresh_made old middle r t made i (subst (C i) changes.live has)) [
+        fresh = λ i has. elim (fresh i (subst (C i) changes.live has)) [
           | inl before ↦ inl before
-          | inr none ↦ inr (omega (arith, held_holds middle new r.0 i changes, none))
+          | inr none ↦ inr (omega (arith, held_holds middle new r i changes, none))
         ];
-        lean = λ none. lean_held middle new r.0 all (idle none);
+        lean = λ none. lean_held middle new r all (idle none);
       }
 
 -- a hold ended, and what is idle went
@@ -149,74 +147,71 @@ module _ (names names' : List NameEntry) (faces : Faces) (n : ℕ) (hand : InHan
   pub left_texts : texts_by names' faces ≡ texts_by names faces
   left_texts = same_texts names names' faces (λ i some. (lets.kept i (live_left i some)).1)
 
--- ---- what an id held comes into hand
+-- ---- a face is changed by what is in hand
 
-module _ (names : List NameEntry) (faces faces' : Faces) (face n : ℕ) (was is : FaceHolds) (held : IsHeld names faces) (at : ids_at face faces ≡ Some was) (put : faces' ≡ set_value (is_at (nat_cmp face)) faces is) (less : (i : ℕ) → face_holds i is + hold_of i n ≡ face_holds i was) (is_face : IsFace is) where
-  fewer_holds : (i : ℕ) → holds_by i faces' + hold_of i n ≡ holds_by i faces
-  fewer_holds i = omega (arith, weigh-set (face_holds i) (is_at (nat_cmp face)) faces was is at, less i, ap (holds_by i) put)
+module _ (names : List NameEntry) (faces faces' : Faces) (face n : ℕ) (was is : FaceHolds) (at : ids_at face faces ≡ Some was) (put : faces' ≡ set_value (is_at (nat_cmp face)) faces is) (is_face : IsFace is) where
+  sides_put : All IsFace (values_of faces) → All IsFace (values_of faces')
+  sides_put sides = let A : Faces → Type 0 = λ (fs : Faces). All IsFace (values_of fs) in subst A (sym put) (All-values-set_value (is_at (nat_cmp face)) IsFace faces is sides is_face)
 
-  freed : InHand names faces' n
-  freed = record {
-    live = λ i some. held.live i (omega (arith, some, fewer_holds i));
-    counted = λ i has. omega (arith, held.counted i has, fewer_holds i);
-    sides = let A : Faces → Type 0 = λ (fs : Faces). All IsFace (values_of fs) in subst A (sym put) (All-values-set_value (is_at (nat_cmp face)) IsFace faces is held.sides is_face);
-    lean = held.lean;
-  }
+  -- the hold in hand is that of an id from then on
+  pub placed : InHand names faces n → ((i : ℕ) → face_holds i is ≡ face_holds i was + hold_of i n) → IsHeld names faces'
+  placed hand more =
+      let count : (i : ℕ) → holds_by i faces' ≡ holds_by i faces + hold_of i n = λ i. omega (arith, weigh-set (face_holds i) (is_at (nat_cmp face)) faces was is at, more i, ap (holds_by i) put) in
+      record {
+        live = λ i some. hand.live i (omega (arith, some, count i));
+        counted = λ i has. hand.counted i has ∙ sym (count i);
+        sides = sides_put hand.sides;
+        lean = hand.lean;
+      }
 
-module _ (names : List NameEntry) (faces faces' : Faces) (face id n : ℕ) (held : IsHeld names faces) (node : node_at face id faces ≡ Some n) (put : faces' ≡ change_ids face (without_number id) faces) where
-  number_was : FaceHolds
-  number_was = (node_is id n (ids_at face faces) node).0
+  -- what an id held comes into hand
+  pub freed : IsHeld names faces → ((i : ℕ) → face_holds i is + hold_of i n ≡ face_holds i was) → InHand names faces' n
+  freed held less =
+      let count : (i : ℕ) → holds_by i faces' + hold_of i n ≡ holds_by i faces = λ i. omega (arith, weigh-set (face_holds i) (is_at (nat_cmp face)) faces was is at, less i, ap (holds_by i) put) in
+      record {
+        live = λ i some. held.live i (omega (arith, some, count i));
+        counted = λ i has. omega (arith, held.counted i has, count i);
+        sides = sides_put held.sides;
+        lean = held.lean;
+      }
 
-  number_at : ids_at face faces ≡ Some number_was
-  unfolding number_was
-  number_at = (node_is id n (ids_at face faces) node).1
+-- ---- an id is taken out, on either side of a face
 
-  number_stood : of_id number_was.numbers.theirs id ≡ Some n
-  unfolding number_was
-  number_stood = (node_is id n (ids_at face faces) node).2
+module _ (side : Option FaceHolds → List (ℕ × ℕ)) (none : side None ≡ []) (id : ℕ) (without : FaceHolds → FaceHolds) where
+  side_freed : ((f : FaceHolds) (i n : ℕ) → of_id (side (Some f)) id ≡ Some n → face_holds i (without f) + hold_of i n ≡ face_holds i f) → ((f : FaceHolds) → IsFace f → IsFace (without f))
+      → (names : List NameEntry) (faces faces' : Faces) (face n : ℕ) → IsHeld names faces → of_id (side (ids_at face faces)) id ≡ Some n → faces' ≡ change_ids face without faces → InHand names faces' n
+  side_freed less is_face names faces faces' face n held node put =
+      let there = side_is side none id n (ids_at face faces) node in
+      freed names faces faces' face n there.0 (without there.0) there.1 (put ∙ ap (put_ids face without faces) there.1) (is_face there.0 (face_at faces face there.0 held.sides there.1)) held (λ i. less there.0 i n there.2)
 
-  number_put : faces' ≡ set_value (is_at (nat_cmp face)) faces (without_number id number_was)
-  number_put = put ∙ ap (put_ids face (without_number id) faces) number_at
+  side_texts : (g : FaceKeys → FaceKeys) → ((names : List NameEntry) (f : FaceHolds) → keys_of_face names (without f) ≡ g (keys_of_face names f))
+      → (names : List NameEntry) (faces faces' : Faces) (face n : ℕ) → of_id (side (ids_at face faces)) id ≡ Some n → faces' ≡ change_ids face without faces → texts_by names faces' ≡ change_naming face g (texts_by names faces)
+  side_texts g shown names faces faces' face n node put =
+      let there = side_is side none id n (ids_at face faces) node in
+      set_texts names faces faces' face there.0 (without there.0) g there.1 (put ∙ ap (put_ids face without faces) there.1) (shown names there.0)
 
-  number_face : IsFace (without_number id number_was)
-  number_face = let old = face_at faces face number_was held.sides number_at in record { theirs = Rises-without_id 65536 1 id number_was.numbers.theirs old.theirs; ours = old.ours; queryables = old.queryables }
+pub number_freed : (names : List NameEntry) (faces faces' : Faces) (face id n : ℕ) → IsHeld names faces → node_at face id faces ≡ Some n → faces' ≡ change_ids face (without_number id) faces → InHand names faces' n
+number_freed names faces faces' face id n =
+    side_freed numbers_in refl id (without_number id)
+    (λ f i m is. let one = weigh-removed (hold_of i) (is_at (nat_cmp id)) f.numbers.theirs m is in omega (arith, one))
+    (λ f old. record { theirs = Rises-without_id 65536 1 id f.numbers.theirs old.theirs; ours = old.ours; queryables = old.queryables })
+    names faces faces' face n
 
-  number_less : (i : ℕ) → face_holds i (without_number id number_was) + hold_of i n ≡ face_holds i number_was
-  number_less i = let one = weigh-removed (hold_of i) (is_at (nat_cmp id)) number_was.numbers.theirs n number_stood in omega (arith, one)
+pub number_freed_texts : (names : List NameEntry) (faces faces' : Faces) (face id n : ℕ) → node_at face id faces ≡ Some n → faces' ≡ change_ids face (without_number id) faces → texts_by names faces' ≡ change_naming face (without_name id) (texts_by names faces)
+number_freed_texts names faces faces' face id n =
+    side_texts numbers_in refl id (without_number id) (without_name id)
+    (λ ns f. ap (with_theirs (keys_of_face ns f)) (shown-removed (λ (k : ℕ). (entry_at ns k).text) (is_at (nat_cmp id)) f.numbers.theirs))
+    names faces faces' face n
 
-  pub number_freed : InHand names faces' n
-  number_freed = freed names faces faces' face n number_was (without_number id number_was) held number_at number_put number_less number_face
+pub queryable_freed : (names : List NameEntry) (faces faces' : Faces) (face id n : ℕ) → IsHeld names faces → queryable_at face id faces ≡ Some n → faces' ≡ change_ids face (without_hold_at id) faces → InHand names faces' n
+queryable_freed names faces faces' face id n =
+    side_freed queryables_in refl id (without_hold_at id)
+    (λ f i m is. let one = weigh-removed (hold_of i) (is_at (nat_cmp id)) f.queryables m is in omega (arith, one))
+    (λ f old. record { theirs = old.theirs; ours = old.ours; queryables = Rises-without_id 4294967296 0 id f.queryables old.queryables })
+    names faces faces' face n
 
-  pub number_freed_texts : texts_by names faces' ≡ change_naming face (without_name id) (texts_by names faces)
-  number_freed_texts =
-      set_texts names faces faces' face number_was (without_number id number_was) (without_name id) number_at number_put
-      (ap (with_theirs (keys_of_face names number_was)) (shown-removed (λ (k : ℕ). (entry_at names k).text) (is_at (nat_cmp id)) number_was.numbers.theirs))
-
-module _ (names : List NameEntry) (faces faces' : Faces) (face id n : ℕ) (held : IsHeld names faces) (node : queryable_at face id faces ≡ Some n) (put : faces' ≡ change_ids face (without_hold_at id) faces) where
-  queryable_was : FaceHolds
-  queryable_was = (queryable_is id n (ids_at face faces) node).0
-
-  there : ids_at face faces ≡ Some queryable_was
-  unfolding queryable_was
-  there = (queryable_is id n (ids_at face faces) node).1
-
-  stood : of_id queryable_was.queryables id ≡ Some n
-  unfolding queryable_was
-  stood = (queryable_is id n (ids_at face faces) node).2
-
-  put_there : faces' ≡ set_value (is_at (nat_cmp face)) faces (without_hold_at id queryable_was)
-  put_there = put ∙ ap (put_ids face (without_hold_at id) faces) there
-
-  is_face : IsFace (without_hold_at id queryable_was)
-  is_face = let old = face_at faces face queryable_was held.sides there in record { theirs = old.theirs; ours = old.ours; queryables = Rises-without_id 4294967296 0 id queryable_was.queryables old.queryables }
-
-  less : (i : ℕ) → face_holds i (without_hold_at id queryable_was) + hold_of i n ≡ face_holds i queryable_was
-  less i = let one = weigh-removed (hold_of i) (is_at (nat_cmp id)) queryable_was.queryables n stood in omega (arith, one)
-
-  pub queryable_freed : InHand names faces' n
-  queryable_freed = freed names faces faces' face n queryable_was (without_hold_at id queryable_was) held there put_there less is_face
-
-  pub queryable_freed_texts : texts_by names faces' ≡ change_naming face (without_queryable id) (texts_by names faces)
-  queryable_freed_texts =
-      set_texts names faces faces' face queryable_was (without_hold_at id queryable_was) (without_queryable id) there put_there
-      (ap (λ (l : Names). record (keys_of_face names queryable_was) { queryables = l }) (shown-removed (λ (k : ℕ). (entry_at names k).text) (is_at (nat_cmp id)) queryable_was.queryables))
+pub queryable_freed_texts : (names : List NameEntry) (faces faces' : Faces) (face id n : ℕ) → queryable_at face id faces ≡ Some n → faces' ≡ change_ids face (without_hold_at id) faces → texts_by names faces' ≡ change_naming face (without_queryable id) (texts_by names faces)
+queryable_freed_texts names faces faces' face id n =
+    side_texts queryables_in refl id (without_hold_at id) (without_queryable id)
+    (λ ns f. ap (λ (l : Names). record (keys_of_face ns f) { queryables = l }) (shown-removed (λ (k : ℕ). (entry_at ns k).text) (is_at (nat_cmp id)) f.queryables))
+    names faces faces' face n

@@ -1,30 +1,24 @@
--- A queryable is declared: it holds its node; and one that is there, or isn't, stays as it is.
-use Rattle.std.proofs.Common.{◌≡◌, ℕ, ◌+◌, ◌<◌, true, false, List, Option, Some, None, refl, sym, ap, subst, ◌∙◌, arith}
-use Rattle.std.specs.Prelude.{option_map}
+-- A queryable is declared: it holds its node; and one that is there stays as it is.
+use Rattle.std.proofs.Common.{◌≡◌, ℕ, ◌+◌, ◌<◌, true, false, List, Option, Some, None, refl, sym, ap, ◌∙◌, arith}
 use Rattle.std.specs.Option.{is_some}
-use Rattle.std.specs.List.{All}
-use Rattle.std.specs.Map.{remove_entry, set_value, values_of}
+use Rattle.std.specs.Map.{set_value}
 use Rattle.std.specs.BTreeMap.{is_at}
 use Rattle.std.specs.Ordering.{nat_cmp}
 use Rattle.std.proofs.lemmas.Bool.{false≢true}
-use Rattle.std.proofs.lemmas.Map.Made.{lookup-map_values}
-use Rattle.std.proofs.lemmas.Map.Views.{All-values-set_value}
 use Rattle.zq_names.specs.Names.{NameEntry, entry_at}
 use Rattle.zq_tables.specs.FaceIds.{of_id, with_id}
 use Rattle.zq_tables.specs.FaceTexts.{id_texts}
-use Rattle.zq_naming.specs.Naming.{Names, first_stays, text_at, with_queryable, without_queryable, change_naming}
-use Rattle.zq_naming.specs.Holding.{FaceHolds, Faces, InHand, IsFace, IsHeld, hold_of, face_holds, holds_by, ids_at, is_settled, queryable_at, queryable_settled, queryables_in, put_ids, change_ids, keys_of_face, texts_by, with_hold_at}
-use Rattle.zq_naming.proofs.Entries.{Rises-with_id, removed_absent, weigh-set, weigh-with_id, shown-with_id}
-use Rattle.zq_naming.proofs.Faces.{change_closed, change_idle, set_texts}
+use Rattle.zq_naming.specs.Naming.{Names, first_stays, text_at, with_queryable, change_naming}
+use Rattle.zq_naming.specs.Holding.{FaceHolds, Faces, InHand, IsFace, IsHeld, hold_of, face_holds, ids_at, is_settled, queryable_settled, queryables_in, put_ids, change_ids, keys_of_face, texts_by, with_hold_at}
+use Rattle.zq_naming.proofs.Entries.{Rises-with_id, weigh-with_id, shown-with_id}
+use Rattle.zq_naming.proofs.Faces.{change_idle, set_texts, shown_text}
 use Rattle.zq_naming.proofs.Holds.{face_at}
-use Rattle.zq_naming.proofs.Declared.{none_from, some_from}
+use Rattle.zq_naming.proofs.Letting.{placed}
+use Rattle.zq_key.proofs.Truth.{none_from, some_from}
 
 open_face : (id : ℕ) (o : Option FaceHolds) → is_settled o (queryables_in o) id ≡ false → (f : FaceHolds) × (o ≡ Some f) × (of_id f.queryables id ≡ None)
 open_face id None is = absurd (false≢true (sym is))
 open_face id (Some f) is = (f, refl, none_from (of_id f.queryables id) is)
-
-shown_text : (names : List NameEntry) (es : List (ℕ × ℕ)) (id : ℕ) (o : Option ℕ) → of_id es id ≡ o → text_at id (id_texts names es) ≡ option_map (λ (k : ℕ). (entry_at names k).text) o
-shown_text names es id o is = lookup-map_values (λ (k : ℕ). (entry_at names k).text) (is_at (nat_cmp id)) es ∙ ap (option_map (λ (k : ℕ). (entry_at names k).text)) is
 
 -- ---- a new queryable takes the hold in hand
 
@@ -46,20 +40,11 @@ module _ (names : List NameEntry) (faces faces' : Faces) (face id r : ℕ) (t : 
   is_face : IsFace (with_hold_at id r was)
   is_face = let old = face_at faces face was hand.sides there in record { theirs = old.theirs; ours = old.ours; queryables = Rises-with_id 4294967296 0 id r was.queryables (omega arith) small old.queryables }
 
-  count : (i : ℕ) → holds_by i faces' ≡ holds_by i faces + hold_of i r
-  count i =
-      let all = weigh-set (face_holds i) (is_at (nat_cmp face)) faces was (with_hold_at id r was) there in
-      let one = weigh-with_id (hold_of i) was.queryables id r absent in
-      let here = ap (holds_by i) put_there in
-      omega (arith, all, one, here)
+  more : (i : ℕ) → face_holds i (with_hold_at id r was) ≡ face_holds i was + hold_of i r
+  more i = let one = weigh-with_id (hold_of i) was.queryables id r absent in omega (arith, one)
 
   pub queryable_held : IsHeld names faces'
-  queryable_held = record {
-    live = λ i some. hand.live i (omega (arith, some, count i));
-    counted = λ i has. hand.counted i has ∙ sym (count i);
-    sides = let A : Faces → Type 0 = λ (fs : Faces). All IsFace (values_of fs) in subst A (sym put_there) (All-values-set_value (is_at (nat_cmp face)) IsFace faces (with_hold_at id r was) hand.sides is_face);
-    lean = hand.lean;
-  }
+  queryable_held = placed names faces faces' face r was (with_hold_at id r was) there put_there is_face hand more
 
   no_text : is_some (text_at id (id_texts names was.queryables)) ≡ false
   no_text = ap is_some (shown_text names was.queryables id None absent)
@@ -75,24 +60,12 @@ module _ (names : List NameEntry) (faces faces' : Faces) (face id r : ℕ) (t : 
       set_texts names faces faces' face was (with_hold_at id r was) (with_queryable id t) there put_there
       (ap (λ (l : Names). record (keys_of_face names was) { queryables = l }) with_text)
 
--- ---- nothing is to be held, or let go
+-- ---- nothing is to be held
 
 pub settled_queryable : (names : List NameEntry) (faces : Faces) (face id : ℕ) (t : List ℕ) → queryable_settled face id faces ≡ true → texts_by names faces ≡ change_naming face (with_queryable id t) (texts_by names faces)
-settled_queryable names faces face id t settled = by (ids_at face faces) refl settled
-  where
-    by : (o : Option FaceHolds) → ids_at face faces ≡ o → is_settled o (queryables_in o) id ≡ true → texts_by names faces ≡ change_naming face (with_queryable id t) (texts_by names faces)
-    by None at s = sym (change_closed names faces face (with_queryable id t) at)
-    by (Some f) at s =
-        let node = some_from (of_id f.queryables id) s in
-        let some : is_some (text_at id (id_texts names f.queryables)) ≡ true = ap is_some (shown_text names f.queryables id (Some node.0) node.1) in
-        let kept : first_stays id t (id_texts names f.queryables) ≡ id_texts names f.queryables = rw some refl in
-        sym (change_idle names faces face f (with_queryable id t) at (ap (λ (l : Names). record (keys_of_face names f) { queryables = l }) kept))
-
-pub released_idle : (names : List NameEntry) (faces : Faces) (face id : ℕ) → queryable_at face id faces ≡ None → texts_by names faces ≡ change_naming face (without_queryable id) (texts_by names faces)
-released_idle names faces face id none = by (ids_at face faces) refl none
-  where
-    by : (o : Option FaceHolds) → ids_at face faces ≡ o → of_id (queryables_in o) id ≡ None → texts_by names faces ≡ change_naming face (without_queryable id) (texts_by names faces)
-    by None at absent = sym (change_closed names faces face (without_queryable id) at)
-    by (Some f) at absent =
-        let gone : remove_entry (is_at (nat_cmp id)) (id_texts names f.queryables) ≡ id_texts names f.queryables = removed_absent (is_at (nat_cmp id)) (id_texts names f.queryables) (shown_text names f.queryables id None absent) in
-        sym (change_idle names faces face f (without_queryable id) at (ap (λ (l : Names). record (keys_of_face names f) { queryables = l }) gone))
+settled_queryable names faces face id t settled =
+    change_idle names faces face (with_queryable id t) (λ f at.
+    let node = some_from (of_id f.queryables id) (ap (λ (o : Option FaceHolds). is_settled o (queryables_in o) id) (sym at) ∙ settled) in
+    let some : is_some (text_at id (id_texts names f.queryables)) ≡ true = ap is_some (shown_text names f.queryables id (Some node.0) node.1) in
+    let kept : first_stays id t (id_texts names f.queryables) ≡ id_texts names f.queryables = rw some refl in
+    ap (λ (l : Names). record (keys_of_face names f) { queryables = l }) kept)

@@ -8,10 +8,10 @@ use Rattle.std.specs.Cmp.{nat_cmp_total, nat_eq_equiv}
 use Rattle.std.specs.List.{filter, list_any, AllByRecursion}
 use Rattle.std.specs.List.Sorted.{IsStrictlySortedBy}
 use Rattle.std.specs.Map.{keys_of}
-use Rattle.std.proofs.lemmas.Bool.{ltb-true, lt-ltb, le-ltb}
+use Rattle.std.proofs.lemmas.Bool.{ltb-true, lt-ltb, le-ltb, or_parts, or_from}
 use Rattle.std.proofs.lemmas.List.{map-append, append-nil}
 use Rattle.std.proofs.lemmas.List.Elements.{filter-append}
-use Rattle.std.proofs.lemmas.List.Folds.{list_any-append}
+use Rattle.std.proofs.lemmas.List.Folds.{list_any-append, list_any_at}
 use Rattle.std.proofs.Math.Seq.{take-length}
 use Rattle.std.proofs.lemmas.Map.Lookups.{exact_unsigned}
 use Rattle.zq_key.specs.declared.message.FaceId.{FaceId}
@@ -21,12 +21,10 @@ use Rattle.zq_query.specs.Records.{Record, Pending, is_entry, has_entry, is_pend
 use Rattle.zq_query.specs.Asking.{entry_at, entries_at, asked_record, asked_records, any_pending, has_number_from}
 use Rattle.zq_query.specs.Polling.{is_among}
 use Rattle.zq_query.specs.Tables.{Place, Due, records_of, record_of, at_number, IsTied, IsBelow}
-use Rattle.zq_query.proofs.Keys.{each_entry}
 use Rattle.zq_query.proofs.Entries.{any_map, one_has}
 use Rattle.zq_query.proofs.Fusion.{all_fused}
-use Rattle.zq_query.proofs.Giving.{any_at}
-use Rattle.zq_query.proofs.Bools.{neither_of}
 use Rattle.zq_query.proofs.Unchanged.{unchanged}
+use Rattle.zq_key.proofs.Lookups.{each_entry}
 
 pub same_less : (n : ℕ) → n + 1 - 1 ≡ n
 same_less n = omega arith
@@ -59,12 +57,12 @@ apart_by k n false e h = refl
 -- so the next number is no record's
 pub next_is_free : (n : ℕ) (rs : List Record) → has_number_from n rs ≡ false → list_any (has_number n) rs ≡ false
 next_is_free n [] h = refl
-next_is_free n (r ∷ rs) h = let m = neither_of (not (nat_lt r.number n)) (has_number_from n rs) h in rw (apart_by r.number n _ refl m.0) (next_is_free n rs m.1)
+next_is_free n (r ∷ rs) h = let m = or_parts (not (nat_lt r.number n)) (has_number_from n rs) h in rw (apart_by r.number n _ refl m.0) (next_is_free n rs m.1)
 
 -- ---- entries
 none_put : (q : Pending → Bool) (l : List Pending) (p : Pending) → q p ≡ false → list_any q l ≡ false → list_any q (insert_pending l p) ≡ false
 none_put q [] p h none = rw h refl
-none_put q (e ∷ l) p h none = let n = neither_of (q e) (list_any q l) none in step (ordering_then (nat_cmp p.face e.face) (nat_cmp p.id e.id)) n.0 n.1 (none_put q l p h n.1)
+none_put q (e ∷ l) p h none = let n = or_parts (q e) (list_any q l) none in step (ordering_then (nat_cmp p.face e.face) (nat_cmp p.id e.id)) n.0 n.1 (none_put q l p h n.1)
   where
     step : (r : Ordering) → q e ≡ false → list_any q l ≡ false → list_any q (insert_pending l p) ≡ false → list_any q (match_ordering r (p ∷ e ∷ l) (p ∷ l) (e ∷ insert_pending l p)) ≡ false
     step Less a b ih = rw (h, a) b
@@ -74,19 +72,19 @@ none_put q (e ∷ l) p h none = let n = neither_of (q e) (list_any q l) none in 
 -- no entry passes where none does at the places
 pub none_of_entries : (q : Pending → Bool) (d : ℕ) (l : List Pending) (ps : List (ℕ × ℕ)) → list_any q l ≡ false → list_any (λ p. q (entry_at d p)) ps ≡ false → list_any q (fold (λ z p. insert_pending z (entry_at d p)) l ps) ≡ false
 none_of_entries q d l [] none h = none
-none_of_entries q d l (p ∷ ps) none h = let m = neither_of (q (entry_at d p)) (list_any (λ x. q (entry_at d x)) ps) h in none_of_entries q d (insert_pending l (entry_at d p)) ps (none_put q l (entry_at d p) m.0 none) m.1
+none_of_entries q d l (p ∷ ps) none h = let m = or_parts (q (entry_at d p)) (list_any (λ x. q (entry_at d x)) ps) h in none_of_entries q d (insert_pending l (entry_at d p)) ps (none_put q l (entry_at d p) m.0 none) m.1
 
 none_at_face : (f i d : ℕ) (ps : List (ℕ × ℕ)) → list_any (λ y. y == f) (keys_of ps) ≡ false → list_any (λ p. is_entry f i (entry_at d p)) ps ≡ false
 none_at_face f i d [] h = refl
-none_at_face f i d (p ∷ ps) h = let m = neither_of (p.0 == f) (list_any (λ y. y == f) (keys_of ps)) h in rw m.0 (none_at_face f i d ps m.1)
+none_at_face f i d (p ∷ ps) h = let m = or_parts (p.0 == f) (list_any (λ y. y == f) (keys_of ps)) h in rw m.0 (none_at_face f i d ps m.1)
 
 none_owed_at : (f d : ℕ) (ps : List (ℕ × ℕ)) → list_any (λ y. y == f) (keys_of ps) ≡ false → list_any (λ (p : ℕ × ℕ). p.0 == f) ps ≡ false
 none_owed_at f d [] h = refl
-none_owed_at f d (p ∷ ps) h = let m = neither_of (p.0 == f) (list_any (λ y. y == f) (keys_of ps)) h in rw m.0 (none_owed_at f d ps m.1)
+none_owed_at f d (p ∷ ps) h = let m = or_parts (p.0 == f) (list_any (λ y. y == f) (keys_of ps)) h in rw m.0 (none_owed_at f d ps m.1)
 
 none_weaker : (n f : ℕ) (rs : List Record) → list_any (has_number n) rs ≡ false → owes_face n f rs ≡ false
 none_weaker n f [] h = refl
-none_weaker n f (r ∷ rs) h = let m = neither_of (r.number == n) (list_any (has_number n) rs) h in rw m.0 (none_weaker n f rs m.1)
+none_weaker n f (r ∷ rs) h = let m = or_parts (r.number == n) (list_any (has_number n) rs) h in rw m.0 (none_weaker n f rs m.1)
 
 with_by : (n : ℕ) (p : Pending) (r : Record) (b : Bool) → b ≡ false → cond b (record r { pending = insert_pending r.pending p }) r ≡ r
 with_by n p r true h = absurd (true≢false h)
@@ -94,11 +92,7 @@ with_by n p r false h = refl
 
 others_stay : (n : ℕ) (p : Pending) (rs : List Record) → list_any (has_number n) rs ≡ false → adding n p rs ≡ rs
 others_stay n p [] h = refl
-others_stay n p (r ∷ rs) h = let m = neither_of (r.number == n) (list_any (has_number n) rs) h in λ j. with_by n p r (r.number == n) m.0 j ∷ others_stay n p rs m.1 j
-
-or_false : (a b : Bool) → a ≡ false → b ≡ false → (a || b) ≡ false
-or_false true b h k = absurd (true≢false h)
-or_false false b h k = k
+others_stay n p (r ∷ rs) h = let m = or_parts (r.number == n) (list_any (has_number n) rs) h in λ j. with_by n p r (r.number == n) m.0 j ∷ others_stay n p rs m.1 j
 
 -- ---- the new record, last of all
 module _ (rs : List Record) (n : ℕ) (asker : FaceId) (id qos d : ℕ) where
@@ -111,13 +105,13 @@ module _ (rs : List Record) (n : ℕ) (asker : FaceId) (id qos d : ℕ) where
   pub still_absent : (f i : ℕ) (ps : List (ℕ × ℕ)) → is_pending f i rs ≡ false → list_any (λ y. y == f) (keys_of ps) ≡ false → is_pending f i (with_asked ps) ≡ false
   still_absent f i ps h new =
       list_any-append (has_entry f i) rs (asked ps ∷ [])
-      ∙ or_false (is_pending f i rs) (has_entry f i (asked ps) || false) h (or_false (has_entry f i (asked ps)) false (none_of_entries (is_entry f i) d [] ps refl (none_at_face f i d ps new)) refl)
+      ∙ or_from (is_pending f i rs) (has_entry f i (asked ps) || false) h (or_from (has_entry f i (asked ps)) false (none_of_entries (is_entry f i) d [] ps refl (none_at_face f i d ps new)) refl)
 
   pub still_alone : (f : ℕ) (ps : List (ℕ × ℕ)) → list_any (has_number n) rs ≡ false → list_any (λ y. y == f) (keys_of ps) ≡ false → owes_face n f (with_asked ps) ≡ false
   still_alone f ps h new =
       list_any-append (λ r. (r.number == n) && list_any (λ (e : Pending). e.face == f) r.pending) rs (asked ps ∷ [])
-      ∙ or_false (owes_face n f rs) (((n == n) && list_any (λ (e : Pending). e.face == f) (entries_at d ps)) || false) (none_weaker n f rs h)
-      (rw (nat_eq_equiv.refl n) (or_false (list_any (λ (e : Pending). e.face == f) (entries_at d ps)) false (none_of_entries (λ e. e.face == f) d [] ps refl (none_owed_at f d ps new)) refl))
+      ∙ or_from (owes_face n f rs) (((n == n) && list_any (λ (e : Pending). e.face == f) (entries_at d ps)) || false) (none_weaker n f rs h)
+      (rw (nat_eq_equiv.refl n) (or_from (list_any (λ (e : Pending). e.face == f) (entries_at d ps)) false (none_of_entries (λ e. e.face == f) d [] ps refl (none_owed_at f d ps new)) refl))
 
   pub added_last : (p : Pending) (ps : List (ℕ × ℕ)) → list_any (has_number n) rs ≡ false → adding n p (with_asked ps) ≡ rs ++ record (asked ps) { pending = insert_pending (entries_at d ps) p } ∷ []
   added_last p ps h =
@@ -153,12 +147,12 @@ letting_all_both rs ss (p ∷ ps) = ap (λ l. letting_go_all l ps) (letting_both
 pub unchanged_all : (rs : List Record) (ps : List (ℕ × ℕ)) → any_pending rs ps ≡ false → filter is_left rs ≡ rs → letting_go_all rs ps ≡ rs
 unchanged_all rs [] h left = refl
 unchanged_all rs (p ∷ ps) h left =
-    let m = neither_of (is_pending p.0 p.1 rs) (any_pending rs ps) h in
+    let m = or_parts (is_pending p.0 p.1 rs) (any_pending rs ps) h in
     ap (λ l. letting_go_all l ps) (unchanged p.0 p.1 rs m.0 left) ∙ unchanged_all rs ps m.1 left
 
 all_out : (q : Pending → Bool) (l : List Pending) → list_any (λ e. not (q e)) l ≡ false → filter (λ e. not (q e)) l ≡ []
 all_out q [] h = refl
-all_out q (e ∷ l) h = let m = neither_of (not (q e)) (list_any (λ x. not (q x)) l) h in rw m.0 (all_out q l m.1)
+all_out q (e ∷ l) h = let m = or_parts (not (q e)) (list_any (λ x. not (q x)) l) h in rw m.0 (all_out q l m.1)
 
 all_in : (l : List Pending) → filter (λ e. not false) l ≡ l
 all_in [] = refl
@@ -190,7 +184,7 @@ its_entry d p = λ j. nat_eq_equiv.refl p.0 j && nat_eq_equiv.refl p.1 j
 first_among : (d : ℕ) (ps : List (ℕ × ℕ)) (i : ℕ) → list_any (λ p. not (is_among ps (entry_at d p))) (take i ps) ≡ false
 first_among d ps i = among_by d ps (take i ps)
     (λ k l. let t = taken ps i k l in
-    ap (λ p. is_among ps (entry_at d p)) t.1 ∙ any_at (λ p. is_entry p.0 p.1 (entry_at d (get_or ps k (0, 0)))) ps k (0, 0) t.0 (its_entry d (get_or ps k (0, 0))))
+    ap (λ p. is_among ps (entry_at d p)) t.1 ∙ list_any_at (λ p. is_entry p.0 p.1 (entry_at d (get_or ps k (0, 0)))) ps k (0, 0) t.0 (its_entry d (get_or ps k (0, 0))))
 
 -- the new record is gone again
 pub taken_back : (rs : List Record) (n : ℕ) (asker : FaceId) (id qos d : ℕ) (ps : List (ℕ × ℕ)) (i : ℕ) → 0 < length (take i ps) → any_pending rs ps ≡ false → filter is_left rs ≡ rs

@@ -1,11 +1,11 @@
 -- Each call hands a final under a number exactly where it stops owing it; no call leaves a request with nothing.
-use Rattle.std.proofs.Common.{◌≡◌, ℕ, ◌+◌, Bool, true, false, cond, List, [], ◌∷◌, ◌++◌, length, map, ap, ◌∙◌, refl, arith, true≢false, eqb-true}
-use Rattle.std.specs.Prelude.{not, nat_lt, ◌&&◌, ◌||◌, ◌==◌}
+use Rattle.std.proofs.Common.{◌≡◌, ℕ, ◌+◌, Bool, true, false, cond, List, [], ◌∷◌, ◌++◌, length, map, ap, ◌∙◌, refl, arith, eqb-true}
+use Rattle.std.specs.Prelude.{not, nat_lt, ◌&&◌, ◌==◌}
 use Rattle.std.specs.List.{filter}
 use Rattle.std.specs.Option.{is_some}
 use Rattle.std.specs.Ordering.{nat_cmp}
 use Rattle.std.specs.BTreeSet.{insert_key}
-use Rattle.std.proofs.lemmas.Bool.{lt-ltb, le-ltb, ltb-true, ltb-false, eqb-false}
+use Rattle.std.proofs.lemmas.Bool.{lt-ltb, le-ltb, ltb-true, ltb-false, eqb-false, or_from}
 use Rattle.std.proofs.lemmas.List.{length-append, append-nil}
 use Rattle.std.proofs.lemmas.List.Elements.{filter-append}
 use Rattle.std.proofs.lemmas.List.Folds.{list_any-append}
@@ -162,12 +162,8 @@ close_none_over face s = letting_none_over (at_face face) s.records
 pub poll_none_over : (now : ℕ) (s : QueryState) → any_over (after_poll now s).records ≡ false
 poll_none_over now s = letting_none_over (is_due now) (timing_out (timeouts now s) s).records
 
-or_false : (a b : Bool) → a ≡ false → b ≡ false → (a || b) ≡ false
-or_false true b h k = absurd (true≢false h)
-or_false false b h k = k
-
 pub ask_none_over : (asker : FaceId) (id qos : ℕ) (targets : List FaceId) (deadline : ℕ) (s : QueryState) → any_over s.records ≡ false → any_over (after_ask asker id qos targets deadline s).records ≡ false
 ask_none_over asker id qos [] deadline s h = ap any_over (append-nil s.records) ∙ h
 ask_none_over asker id qos (t ∷ ts) deadline s h =
     list_any-append is_over s.records (asked_record s.requests asker id qos (map (given_place s) (t ∷ ts)) deadline ∷ [])
-    ∙ or_false (any_over s.records) _ h (rw (some_entries deadline (map (given_place s) (t ∷ ts)) (omega arith)) refl)
+    ∙ or_from (any_over s.records) _ h (rw (some_entries deadline (map (given_place s) (t ∷ ts)) (omega arith)) refl)

@@ -1,7 +1,7 @@
 -- The entries of a face that closes, and the requests that end with them.
 use Rattle.std.proofs.Common.{◌≡◌, ℕ, ◌+◌, ◌-◌, ◌<◌, ◌^◌, Bool, true, false, cond, List, [], ◌∷◌, length, ap, ◌∙◌, refl, arith, Some, None, Option, sym, subst, true≢false, eqb-true, eq-eqb}
 use Rattle.std.specs.Prelude.{map, not, ◌&&◌, ◌||◌, ◌==◌}
-use Rattle.std.proofs.lemmas.Bool.{ne_eqb}
+use Rattle.std.proofs.lemmas.Bool.{ne_eqb, or_parts}
 use Rattle.std.proofs.lemmas.Cmp.{ranked}
 use Rattle.std.specs.declared.cmp.Ordering.{Ordering}
 use Rattle.std.specs.declared.cmp.Ordering.TheVariants.{Less, Equal, Greater}
@@ -15,6 +15,8 @@ use Rattle.std.specs.Map.{keys_of, remove_entry}
 use Rattle.std.specs.BTreeMap.{is_at}
 use Rattle.std.specs.BTreeMap.Range.{range_contains}
 use Rattle.std.proofs.lemmas.Map.Lookups.{exact_unsigned}
+use Rattle.std.proofs.Math.Bool.{or-true}
+use Rattle.std.proofs.lemmas.List.Kept.{IsStrictlySortedBy-filter}
 use Rattle.zq_query.specs.declared.records.Final.{Final}
 use Rattle.zq_query.specs.declared.queries.Open.{Open}
 use Rattle.zq_query.specs.declared.queries.Owed.{Owed}
@@ -23,12 +25,13 @@ use Rattle.zq_query.specs.Polling.{is_among}
 use Rattle.zq_query.specs.Tables.{Place, Due, place_cmp, is_of, flies_for, entry_of, record_of, records_of, at_number, at_place, final_at, IsTied}
 use Rattle.zq_query.specs.Closing.{at_face, has_open_asker, finals_after}
 use Rattle.zq_query.specs.FaceEntries.{entries_of_face, ending, ending_by, has_key}
-use Rattle.zq_query.proofs.Keys.{each_entry, same_key, at_itself, place_total, place_exact}
-use Rattle.zq_query.proofs.Bools.{or_true, neither_of}
+use Rattle.zq_query.proofs.Keys.{place_total, place_exact}
 use Rattle.zq_query.proofs.Counts.{count-remove}
 use Rattle.zq_query.proofs.Entries.{map_both, without_place, over_is, some_is}
 use Rattle.zq_query.proofs.Agreeing.{without_agree, letting_all, all_in}
-use Rattle.zq_query.proofs.Lists.{filter_members, chosen, chosen_map, chosen_keys, chosen_kept, same_keys, sorted_kept, has_kept}
+use Rattle.zq_query.proofs.Lists.{filter_members, chosen, chosen_map, chosen_keys, chosen_kept, has_kept}
+use Rattle.zq_key.proofs.Lookups.{each_entry, same_key, at_itself}
+use Rattle.zq_key.proofs.Sorted.{same_keys}
 
 -- ---- the entries from the face's first place to its last
 within_by : (face : ℕ) (k : Place) (r : Ordering) → nat_cmp face k.0 ≡ r → k.1 < 2 ^ 32 → (is_le (ordering_then r (nat_cmp 0 k.1)) && not (is_lt (ordering_then r (nat_cmp (2 ^ 32 - 1) k.1)))) ≡ (k.0 == face)
@@ -77,7 +80,7 @@ found_by face e x es true true t at here is ih =
 found_by face e x es false true t at here is ih =
     let same : e.0 ≡ x.0 = same_key place_total place_exact e.0 x.0 at in
     absurd (true≢false (sym here ∙ ap (λ (k : Place). k.0 == face) same ∙ t))
-found_by face e x es true false t at here is ih = ap (λ b. is_entry x.0.0 x.0.1 (entry_of e) || b) (ih is) ∙ or_true (is_entry x.0.0 x.0.1 (entry_of e))
+found_by face e x es true false t at here is ih = ap (λ b. is_entry x.0.0 x.0.1 (entry_of e) || b) (ih is) ∙ or-true (is_entry x.0.0 x.0.1 (entry_of e))
 found_by face e x es false false t at here is ih = ih is
 
 one_among : (face : ℕ) (e : Place × Owed) (es : List (Place × Owed)) → (e.0.0 == face) ≡ true → at_place e.0 es ≡ Some e.1 → list_any (λ y. is_entry y.0.0 y.0.1 (entry_of e)) (filter (is_at_face face) es) ≡ true
@@ -133,7 +136,7 @@ module _ (heads : List (ℕ × Open)) (pending : List (Place × Owed)) (dues : L
   none_by : (n : ℕ) (e : Place × Owed) (es : List (Place × Owed)) (b : Bool) → (e.0.0 == face) ≡ b → list_any (λ (x : Place × Owed). is_at (nat_cmp n) x.1.number) (cond b (e ∷ filter (is_at_face face) es) (filter (is_at_face face) es)) ≡ false
       → ((e.1.number == n) ≡ true → b ≡ false) × (list_any (λ (x : Place × Owed). is_at (nat_cmp n) x.1.number) (filter (is_at_face face) es) ≡ false)
   none_by n e es true t h =
-      let m = neither_of (is_at (nat_cmp n) e.1.number) (list_any (λ (x : Place × Owed). is_at (nat_cmp n) x.1.number) (filter (is_at_face face) es)) h in
+      let m = or_parts (is_at (nat_cmp n) e.1.number) (list_any (λ (x : Place × Owed). is_at (nat_cmp n) x.1.number) (filter (is_at_face face) es)) h in
       (λ same. absurd (true≢false (sym (at_itself nat_cmp_total exact_unsigned n) ∙ ap (is_at (nat_cmp n)) (sym (eqb-true _ _ same)) ∙ m.0)), m.1)
   none_by n e es false t h = (λ same. refl, h)
 
@@ -217,7 +220,7 @@ module _ (heads : List (ℕ × Open)) (pending : List (Place × Owed)) (dues : L
     -- the finals of the requests that owe an entry at the face are those of all
     pub finals_are : filter_map (ending heads closed) numbers ≡ finals_after (at_face face) closed (records_of heads pending replies)
     finals_are =
-        ap (filter_map (ending heads closed)) (same_keys nat_cmp_total exact_unsigned numbers (filter (λ n. has_key nat_cmp n numbers) (keys_of heads)) order (sorted_kept nat_cmp_total exact_unsigned (λ n. has_key nat_cmp n numbers) (keys_of heads) tied.numbers)
+        ap (filter_map (ending heads closed)) (same_keys nat_cmp_total exact_unsigned numbers (filter (λ n. has_key nat_cmp n numbers) (keys_of heads)) order (IsStrictlySortedBy-filter nat_cmp (λ n. has_key nat_cmp n numbers) (keys_of heads) tied.numbers)
         (λ q. sym (has_kept nat_cmp_total exact_unsigned (λ n. has_key nat_cmp n numbers) q (keys_of heads) ∙ open_by q _ refl)))
         ∙ sym (chosen_kept (λ n. has_key nat_cmp n numbers) (ending heads closed) (keys_of heads))
         ∙ sym (chosen_keys by_head by_number heads (each_entry nat_cmp_total exact_unsigned (λ e. by_head e ≡ by_number e.0) heads tied.numbers same_finals))

@@ -16,6 +16,9 @@ use Rattle.std.specs.BTreeMap.{is_at}
 use Rattle.std.specs.BTreeMap.Range.{range_contains}
 use Rattle.std.specs.BTreeSet.{insert_key}
 use Rattle.std.proofs.lemmas.List.Folds.{list_any-append}
+use Rattle.std.proofs.Math.Bool.{or-true, or-false, or_assoc}
+use Rattle.std.proofs.lemmas.List.Kept.{IsStrictlySortedBy-filter}
+use Rattle.std.proofs.lemmas.Map.Made.{is_some-lookup}
 use Rattle.zq_query.specs.declared.queries.Open.{Open}
 use Rattle.zq_query.specs.declared.queries.Owed.{Owed}
 use Rattle.zq_query.specs.Records.{Pending, is_entry, any_entry}
@@ -23,12 +26,14 @@ use Rattle.zq_query.specs.Tables.{Place, Due, place_cmp, due_cmp, is_of, entry_o
 use Rattle.zq_query.specs.FaceEntries.{has_key}
 use Rattle.zq_query.specs.DueEntries.{dues_until}
 use Rattle.zq_query.specs.Polling.{is_due, dues_of, dues_at, is_among, is_amiss}
-use Rattle.zq_query.proofs.Keys.{each_entry, same_key, at_itself, place_total, place_exact, due_total, due_exact}
-use Rattle.zq_query.proofs.Bools.{or_true}
-use Rattle.zq_query.proofs.Counts.{filter-map}
+use Rattle.zq_query.proofs.Keys.{place_total, place_exact, due_total, due_exact}
 use Rattle.zq_query.proofs.Entries.{any_map, one_has}
 use Rattle.zq_query.proofs.Fusion.{no_entry}
-use Rattle.zq_query.proofs.Lists.{filter_members, same_keys, sorted_kept, has_kept, has_put, sorted_put}
+use Rattle.zq_query.proofs.Lists.{filter_members, has_kept}
+use Rattle.zq_key.proofs.Lookups.{each_entry, same_key, at_itself}
+use Rattle.zq_key.proofs.Sorted.{same_keys, has_put, sorted_put}
+use Rattle.zq_key.proofs.Naturals.{filter-map}
+use Rattle.zq_key.proofs.Truth.{or_swap}
 
 -- ---- the entries up to the last that the moment can have
 up_to : (now : ℕ) (q : Due) (r : Ordering) → nat_cmp now q.0 ≡ r → q.1 < 2 ^ 64 → q.2 < 2 ^ 32 → is_lt (ordering_then (ordering_then r (nat_cmp (2 ^ 64 - 1) q.1)) (nat_cmp (2 ^ 32 - 1) q.2)) ≡ nat_lt now q.0
@@ -46,35 +51,18 @@ up_to now q Greater e l m = sym (le-ltb now q.0 (let less : q.0 < now = ranked n
 abbrev comes : ℕ → Due → Bool
 comes now q = not (nat_lt now q.0)
 
-key_found : {X : Type 0} (q : Due) (e : Due × X) (es : List (Due × X)) (b : Bool) → has_key due_cmp q (keys_of es) ≡ is_some (at_due q es) → (b || has_key due_cmp q (keys_of es)) ≡ is_some (cond b (Some e.1) (at_due q es))
-key_found q e es true ih = refl
-key_found q e es false ih = ih
-
-key_is : {X : Type 0} (q : Due) (es : List (Due × X)) → has_key due_cmp q (keys_of es) ≡ is_some (at_due q es)
-key_is q [] = refl
-key_is q (e ∷ es) = key_found q e es (is_at (due_cmp q) e.0) (key_is q es)
-
 -- ---- the list of the records' entries
 pub any_concat : {X : Type 0} (q : Due) (f : X → List Due) (xs : List X) → has_key due_cmp q (flat_map f xs) ≡ list_any (λ x. has_key due_cmp q (f x)) xs
 any_concat q f [] = refl
 any_concat q f (x ∷ xs) = list_any-append (is_at (due_cmp q)) (f x) (flat_map f xs) ∙ ap (λ b. has_key due_cmp q (f x) || b) (any_concat q f xs)
 
-or_swap : (a b c : Bool) → (c || (a || b)) ≡ ((a || c) || b)
-or_swap true b true = refl
-or_swap true b false = refl
-or_swap false b c = refl
-
 pub folded_key : (q : Due) (l ds : List Due) → has_key due_cmp q (fold (insert_key due_cmp) l ds) ≡ (has_key due_cmp q ds || has_key due_cmp q l)
 folded_key q l [] = refl
-folded_key q l (d ∷ ds) = folded_key q (insert_key due_cmp l d) ds ∙ ap (λ b. has_key due_cmp q ds || b) (has_put due_total due_exact q d l) ∙ or_swap (is_at (due_cmp q) d) (has_key due_cmp q l) (has_key due_cmp q ds)
-
-pub or_none : (b : Bool) → (b || false) ≡ b
-or_none true = refl
-or_none false = refl
+folded_key q l (d ∷ ds) = folded_key q (insert_key due_cmp l d) ds ∙ ap (λ b. has_key due_cmp q ds || b) (has_put due_total due_exact q d l) ∙ or_swap (has_key due_cmp q ds) (is_at (due_cmp q) d) (has_key due_cmp q l) ∙ sym (or_assoc (is_at (due_cmp q) d) (has_key due_cmp q ds) (has_key due_cmp q l))
 
 folded_sorted : (l ds : List Due) → IsStrictlySortedBy due_cmp l → IsStrictlySortedBy due_cmp (fold (insert_key due_cmp) l ds)
 folded_sorted l [] s = s
-folded_sorted l (d ∷ ds) s = folded_sorted (insert_key due_cmp l d) ds (sorted_put due_total due_exact l d s)
+folded_sorted l (d ∷ ds) s = folded_sorted (insert_key due_cmp l d) ds (sorted_put due_total l d s)
 
 none_sorted : IsStrictlySortedBy due_cmp []
 unfolding IsStrictlySortedBy
@@ -121,7 +109,7 @@ module _ (q : Due) (now i : ℕ) (due : comes now q ≡ true) where
   in_by e es true false f h is ih = more (is_due now (entry_of e)) (ih is)
     where
       more : (b : Bool) → has_key due_cmp q (listed q now q.1 es) ≡ true → has_key due_cmp q (map (λ (x : Pending). (x.deadline, q.1, x.face)) (cond b (entry_of e ∷ filter (is_due now) (map entry_of (filter (is_of q.1) es))) (filter (is_due now) (map entry_of (filter (is_of q.1) es))))) ≡ true
-      more true rest = ap (λ b. is_at (due_cmp q) (e.1.deadline, q.1, e.0.0) || b) rest ∙ or_true (is_at (due_cmp q) (e.1.deadline, q.1, e.0.0))
+      more true rest = ap (λ b. is_at (due_cmp q) (e.1.deadline, q.1, e.0.0) || b) rest ∙ or-true (is_at (due_cmp q) (e.1.deadline, q.1, e.0.0))
       more false rest = rest
   in_by e es false false f h is ih = ih is
 
@@ -169,17 +157,17 @@ module _ (heads : List (ℕ × Open)) (pending : List (Place × Owed)) (dues : L
   keys_until : (next requests : ℕ) → IsBelow heads replies requests next → requests < 2 ^ 64 → keys_of (dues_until now dues) ≡ filter (comes now) (keys_of dues)
   keys_until next requests below fits =
       ap keys_of (until next requests below fits)
-      ∙ sym (filter-map (λ (e : Due × ℕ). e.0) (comes now) dues)
+      ∙ sym (filter-map (λ (e : Due × ℕ). e.0) (comes now) (λ e. comes now e.0) (λ e. refl) dues)
 
   same_members : (q : Due) → has_key due_cmp q (filter (comes now) (keys_of dues)) ≡ has_key due_cmp q (dues_at now (records_of heads pending replies))
   same_members q =
       has_kept due_total due_exact (comes now) q (keys_of dues)
-      ∙ ap (λ b. comes now q && b) (key_is q dues)
+      ∙ ap (λ b. comes now q && b) (sym (is_some-lookup (is_at (due_cmp q)) dues))
       ∙ both_ways _ _
       (λ h. to_heads q (at_due q dues) (first_so _ _ h) refl (second_so _ _ h))
       (λ h. let t = from_heads q heads h in (λ j. t.0 j && t.1 j))
       ∙ sym (folded_key q [] (flat_map (dues_of now) (records_of heads pending replies))
-      ∙ or_none (has_key due_cmp q (flat_map (dues_of now) (records_of heads pending replies)))
+      ∙ or-false (has_key due_cmp q (flat_map (dues_of now) (records_of heads pending replies)))
       ∙ any_concat q (dues_of now) (records_of heads pending replies)
       ∙ any_head q)
 
@@ -187,7 +175,7 @@ module _ (heads : List (ℕ × Open)) (pending : List (Place × Owed)) (dues : L
   pub dues_are : (next requests : ℕ) → IsBelow heads replies requests next → requests < 2 ^ 64 → keys_of (dues_until now dues) ≡ dues_at now (records_of heads pending replies)
   dues_are next requests below fits =
       keys_until next requests below fits
-      ∙ same_keys due_total due_exact (filter (comes now) (keys_of dues)) (dues_at now (records_of heads pending replies)) (sorted_kept due_total due_exact (comes now) (keys_of dues) tied.due_order) (folded_sorted [] (flat_map (dues_of now) (records_of heads pending replies)) none_sorted) same_members
+      ∙ same_keys due_total due_exact (filter (comes now) (keys_of dues)) (dues_at now (records_of heads pending replies)) (IsStrictlySortedBy-filter due_cmp (comes now) (keys_of dues) tied.due_order) (folded_sorted [] (flat_map (dues_of now) (records_of heads pending replies)) none_sorted) same_members
 
   -- ---- their places
   abbrev place_of : Due × ℕ → ℕ × ℕ
@@ -220,7 +208,7 @@ module _ (heads : List (ℕ × Open)) (pending : List (Place × Owed)) (dues : L
   due_by k v e es false true f g due is ih =
       let at : (v.deadline, v.number, k.0) ≡ e.0 = same_key due_total due_exact (v.deadline, v.number, k.0) e.0 g in
       absurd (true≢false (sym due ∙ ap (comes now) at ∙ f))
-  due_by k v e es true false f g due is ih = ap (λ b. is_entry e.0.2 e.1 (entry_of (k, v)) || b) (ih is) ∙ or_true (is_entry e.0.2 e.1 (entry_of (k, v)))
+  due_by k v e es true false f g due is ih = ap (λ b. is_entry e.0.2 e.1 (entry_of (k, v)) || b) (ih is) ∙ or-true (is_entry e.0.2 e.1 (entry_of (k, v)))
   due_by k v e es false false f g due is ih = ih is
 
   due_among : (k : Place) (v : Owed) (es : List (Due × ℕ)) → is_due now (entry_of (k, v)) ≡ true → at_due (v.deadline, v.number, k.0) es ≡ Some k.1 → is_among (map place_of (filter (λ x. comes now x.0) es)) (entry_of (k, v)) ≡ true

@@ -17,8 +17,9 @@ use Rattle.zq_query.specs.declared.queries.Open.{Open}
 use Rattle.zq_query.specs.declared.queries.Owed.{Owed}
 use Rattle.zq_query.specs.Records.{flies, is_reply, has_reply}
 use Rattle.zq_query.specs.Tables.{Place, Due, place_cmp, at_number, flies_for, record_of, records_of, has_flight, IsTied, IsFlown}
-use Rattle.zq_query.proofs.Keys.{same_key, at_itself, apart, kept, stays, each_entry, place_total, place_exact}
+use Rattle.zq_query.proofs.Keys.{kept, stays, place_total, place_exact}
 use Rattle.zq_query.proofs.Entries.{any_map, one_has, has_the_reply}
+use Rattle.zq_key.proofs.Lookups.{same_key, at_itself, apart, each_entry}
 
 module _ (replies flights after left : List (ℕ × ℕ)) (flown : IsFlown replies flights) where
   -- a reply is taken out of both

@@ -1,7 +1,7 @@
 -- Replies that are put in flight, and that land again, on the list of records.
 use Rattle.std.proofs.Common.{◌≡◌, ℕ, ◌+◌, ◌<◌, ◌≤◌, zero, suc, Bool, true, false, cond, List, [], ◌∷◌, length, take, get_or, ap, ◌∙◌, refl, arith, sym, true≢false, eqb-true}
 use Rattle.std.specs.Prelude.{map, not, nat_lt, ◌&&◌, ◌||◌, ◌==◌}
-use Rattle.std.proofs.lemmas.Bool.{ltb-true, lt-ltb}
+use Rattle.std.proofs.lemmas.Bool.{ltb-true, lt-ltb, or_parts}
 use Rattle.std.specs.declared.cmp.Ordering.{Ordering}
 use Rattle.std.specs.declared.cmp.Ordering.TheVariants.{Less, Equal, Greater}
 use Rattle.std.specs.Ordering.{nat_cmp, match_ordering}
@@ -10,24 +10,24 @@ use Rattle.std.specs.List.{filter, list_any}
 use Rattle.std.specs.BTreeSet.{insert_key}
 use Rattle.std.specs.Option.{is_some}
 use Rattle.std.proofs.lemmas.Map.Lookups.{exact_unsigned}
+use Rattle.std.proofs.Math.Bool.{and-false}
 use Rattle.zq_query.specs.declared.records.Timeout.{Timeout}
 use Rattle.zq_query.specs.Records.{QueryState, Record, Pending, is_reply, has_reply, is_in_flight, has_number, without_reply, is_over, is_left, is_none_left, any_over, any_entry, landing, putting, after_put}
 use Rattle.zq_query.specs.Polling.{has_number_for, numbers_in, after_timeout, timing_out, has_reply_from, landing_from}
-use Rattle.zq_query.proofs.Bools.{neither_of}
 
 -- all are left where none is over
 pub all_stay : (rs : List Record) → any_over rs ≡ false → filter is_left rs ≡ rs
 all_stay [] h = refl
-all_stay (r ∷ rs) h = let m = neither_of (is_over r) (any_over rs) h in rw m.0 (ap (λ z. r ∷ z) (all_stay rs m.1))
+all_stay (r ∷ rs) h = let m = or_parts (is_over r) (any_over rs) h in rw m.0 (ap (λ z. r ∷ z) (all_stay rs m.1))
 
 module _ (r : ℕ) where
   stays : (l : List ℕ) → list_any (is_reply r) l ≡ false → filter (λ n. not (is_reply r n)) l ≡ l
   stays [] h = refl
-  stays (n ∷ l) h = let m = neither_of (is_reply r n) (list_any (is_reply r) l) h in rw m.0 (ap (λ z. n ∷ z) (stays l m.1))
+  stays (n ∷ l) h = let m = or_parts (is_reply r n) (list_any (is_reply r) l) h in rw m.0 (ap (λ z. n ∷ z) (stays l m.1))
 
   without_none : (rs : List Record) → is_in_flight r rs ≡ false → map (without_reply r) rs ≡ rs
   without_none [] h = refl
-  without_none (x ∷ rs) h = let m = neither_of (has_reply r x) (is_in_flight r rs) h in λ j. record x { in_flight = stays x.in_flight m.0 j } ∷ without_none rs m.1 j
+  without_none (x ∷ rs) h = let m = or_parts (has_reply r x) (is_in_flight r rs) h in λ j. record x { in_flight = stays x.in_flight m.0 j } ∷ without_none rs m.1 j
 
   -- nothing lands where it does not fly
   pub landing_none : (rs : List Record) → is_in_flight r rs ≡ false → any_over rs ≡ false → landing r rs ≡ rs
@@ -40,7 +40,7 @@ module _ (r : ℕ) where
 
   out : (l : List ℕ) → list_any (is_reply r) l ≡ false → filter (λ x. not (is_reply r x)) (insert_key nat_cmp l r) ≡ l
   out [] h = rw (nat_eq_equiv.refl r) refl
-  out (n ∷ l) h = let m = neither_of (is_reply r n) (list_any (is_reply r) l) h in out_by n l _ refl m.0 m.1 (out l m.1)
+  out (n ∷ l) h = let m = or_parts (is_reply r n) (list_any (is_reply r) l) h in out_by n l _ refl m.0 m.1 (out l m.1)
 
   record_by : (n : ℕ) (x : Record) (b : Bool) → has_reply r x ≡ false → without_reply r (cond b (record x { in_flight = insert_key nat_cmp x.in_flight r }) x) ≡ x
   record_by n x true h = ap (λ l. record x { in_flight = l }) (out x.in_flight h)
@@ -48,7 +48,7 @@ module _ (r : ℕ) where
 
   back : (n : ℕ) (rs : List Record) → is_in_flight r rs ≡ false → map (without_reply r) (putting r n rs) ≡ rs
   back n [] h = refl
-  back n (x ∷ rs) h = let m = neither_of (has_reply r x) (is_in_flight r rs) h in λ j. record_by n x (x.number == n) m.0 j ∷ back n rs m.1 j
+  back n (x ∷ rs) h = let m = or_parts (has_reply r x) (is_in_flight r rs) h in λ j. record_by n x (x.number == n) m.0 j ∷ back n rs m.1 j
 
   -- a reply that is put in flight lands again: nothing has changed
   pub landed_back : (n : ℕ) (rs : List Record) → is_in_flight r rs ≡ false → any_over rs ≡ false → landing r (putting r n rs) ≡ rs
@@ -64,12 +64,12 @@ module _ (r : ℕ) where
 
   none_here : (l : List ℕ) → list_any (λ n. not (nat_lt n r)) l ≡ false → list_any (is_reply r) l ≡ false
   none_here [] h = refl
-  none_here (n ∷ l) h = let m = neither_of (not (nat_lt n r)) (list_any (λ x. not (nat_lt x r)) l) h in rw (apart_by n _ refl m.0) (none_here l m.1)
+  none_here (n ∷ l) h = let m = or_parts (not (nat_lt n r)) (list_any (λ x. not (nat_lt x r)) l) h in rw (apart_by n _ refl m.0) (none_here l m.1)
 
   -- the next number flies nowhere
   pub next_flies_not : (rs : List Record) → has_reply_from r rs ≡ false → is_in_flight r rs ≡ false
   next_flies_not [] h = refl
-  next_flies_not (x ∷ rs) h = let m = neither_of (list_any (λ n. not (nat_lt n r)) x.in_flight) (has_reply_from r rs) h in rw (none_here x.in_flight m.0) (next_flies_not rs m.1)
+  next_flies_not (x ∷ rs) h = let m = or_parts (list_any (λ n. not (nat_lt n r)) x.in_flight) (has_reply_from r rs) h in rw (none_here x.in_flight m.0) (next_flies_not rs m.1)
 
   later_by : (n : ℕ) (b : Bool) → nat_lt n r ≡ b → not b ≡ false → not (nat_lt n (r + 1)) ≡ false
   later_by n true e h = let l : n < r = ltb-true _ _ e in ap not (lt-ltb n (r + 1) (omega (arith, l)))
@@ -77,7 +77,7 @@ module _ (r : ℕ) where
 
   later : (l : List ℕ) → list_any (λ n. not (nat_lt n r)) l ≡ false → list_any (λ n. not (nat_lt n (r + 1))) l ≡ false
   later [] h = refl
-  later (n ∷ l) h = let m = neither_of (not (nat_lt n r)) (list_any (λ x. not (nat_lt x r)) l) h in rw (later_by n _ refl m.0) (later l m.1)
+  later (n ∷ l) h = let m = or_parts (not (nat_lt n r)) (list_any (λ x. not (nat_lt x r)) l) h in rw (later_by n _ refl m.0) (later l m.1)
 
   in_by : (n : ℕ) (l : List ℕ) (o : Ordering) → not (nat_lt n (r + 1)) ≡ false → list_any (λ x. not (nat_lt x (r + 1))) l ≡ false → list_any (λ x. not (nat_lt x (r + 1))) (insert_key nat_cmp l r) ≡ false → list_any (λ x. not (nat_lt x (r + 1))) (match_ordering o (r ∷ n ∷ l) (n ∷ l) (n ∷ insert_key nat_cmp l r)) ≡ false
   in_by n l Less a b ih = rw (lt-ltb r (r + 1) (omega arith), a) b
@@ -86,7 +86,7 @@ module _ (r : ℕ) where
 
   in_later : (l : List ℕ) → list_any (λ x. not (nat_lt x (r + 1))) l ≡ false → list_any (λ x. not (nat_lt x (r + 1))) (insert_key nat_cmp l r) ≡ false
   in_later [] h = rw (lt-ltb r (r + 1) (omega arith)) refl
-  in_later (n ∷ l) h = let m = neither_of (not (nat_lt n (r + 1))) (list_any (λ x. not (nat_lt x (r + 1))) l) h in in_by n l (nat_cmp r n) m.0 m.1 (in_later l m.1)
+  in_later (n ∷ l) h = let m = or_parts (not (nat_lt n (r + 1))) (list_any (λ x. not (nat_lt x (r + 1))) l) h in in_by n l (nat_cmp r n) m.0 m.1 (in_later l m.1)
 
   put_later_by : (n : ℕ) (x : Record) (b : Bool) → list_any (λ k. not (nat_lt k r)) x.in_flight ≡ false → list_any (λ k. not (nat_lt k (r + 1))) (cond b (record x { in_flight = insert_key nat_cmp x.in_flight r }) x).in_flight ≡ false
   put_later_by n x true h = in_later x.in_flight (later x.in_flight h)
@@ -95,7 +95,7 @@ module _ (r : ℕ) where
   -- and after it is put, the one after it flies nowhere
   pub put_later : (n : ℕ) (rs : List Record) → has_reply_from r rs ≡ false → has_reply_from (r + 1) (putting r n rs) ≡ false
   put_later n [] h = refl
-  put_later n (x ∷ rs) h = let m = neither_of (list_any (λ k. not (nat_lt k r)) x.in_flight) (has_reply_from r rs) h in rw (put_later_by n x (x.number == n) m.0) (put_later n rs m.1)
+  put_later n (x ∷ rs) h = let m = or_parts (list_any (λ k. not (nat_lt k r)) x.in_flight) (has_reply_from r rs) h in rw (put_later_by n x (x.number == n) m.0) (put_later n rs m.1)
 
   pub some_flies : (l : List ℕ) → is_none_left (insert_key nat_cmp l r) ≡ false
   some_flies [] = refl
@@ -106,18 +106,14 @@ module _ (r : ℕ) where
       step Equal = refl
       step Greater = refl
 
-  and_false : (b : Bool) → (b && false) ≡ false
-  and_false true = refl
-  and_false false = refl
-
   not_over_by : (n : ℕ) (x : Record) (b : Bool) → is_over x ≡ false → is_over (cond b (record x { in_flight = insert_key nat_cmp x.in_flight r }) x) ≡ false
-  not_over_by n x true h = ap (λ b. is_none_left x.pending && b) (some_flies x.in_flight) ∙ and_false (is_none_left x.pending)
+  not_over_by n x true h = ap (λ b. is_none_left x.pending && b) (some_flies x.in_flight) ∙ and-false (is_none_left x.pending)
   not_over_by n x false h = h
 
   -- no request is over by it
   pub put_none_over : (n : ℕ) (rs : List Record) → any_over rs ≡ false → any_over (putting r n rs) ≡ false
   put_none_over n [] h = refl
-  put_none_over n (x ∷ rs) h = let m = neither_of (is_over x) (any_over rs) h in rw (not_over_by n x (x.number == n) m.0) (put_none_over n rs m.1)
+  put_none_over n (x ∷ rs) h = let m = or_parts (is_over x) (any_over rs) h in rw (not_over_by n x (x.number == n) m.0) (put_none_over n rs m.1)
 
   number_by : (n m : ℕ) (x : Record) (b : Bool) → has_number m (cond b (record x { in_flight = insert_key nat_cmp x.in_flight r }) x) ≡ has_number m x
   number_by n m x true = refl

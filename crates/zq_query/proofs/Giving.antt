@@ -1,7 +1,7 @@
 -- The last ids given: what is given to distinct faces can be taken back.
 use Rattle.std.proofs.Common.{◌≡◌, ℕ, ◌+◌, ◌<◌, suc, zero, Bool, true, false, List, [], ◌∷◌, ◌++◌, length, take, get_or, map, ap, ◌∙◌, refl, arith, Some, None, Option, sym, true≢false, eqb-true}
-use Rattle.std.specs.Prelude.{not, ◌||◌, ◌==◌}
-use Rattle.std.proofs.lemmas.Bool.{eqb-false}
+use Rattle.std.specs.Prelude.{not, ◌==◌}
+use Rattle.std.proofs.lemmas.Bool.{eqb-false, or_parts}
 use Rattle.std.specs.Ordering.{nat_cmp}
 use Rattle.std.specs.Cmp.{nat_cmp_total, nat_eq_equiv, first_so, second_so}
 use Rattle.std.specs.List.{list_any}
@@ -12,27 +12,22 @@ use Rattle.std.proofs.lemmas.List.{take-map, get_or-map, take_more, map-append}
 use Rattle.std.proofs.lemmas.List.Sums.{fold_more}
 use Rattle.std.proofs.lemmas.Map.Entries.{length-keys_of}
 use Rattle.std.proofs.lemmas.Map.Lookups.{exact_unsigned}
+use Rattle.std.proofs.lemmas.List.Folds.{list_any_at}
 use Rattle.zq_query.specs.Tables.{at_number}
 use Rattle.zq_query.specs.Asking.{are_distinct, giving, restoring}
-use Rattle.zq_query.proofs.Bools.{or_true, neither_of}
-use Rattle.zq_query.proofs.Sorted.{sorted_in, put_back, aside}
+use Rattle.zq_query.proofs.Sorted.{put_back, aside}
 use Rattle.zq_query.proofs.Owing.{undone}
+use Rattle.zq_key.proofs.Sorted.{sorted_in}
 
 -- one more
 pub map_more : {X Y : Type 0} (f : X → Y) (xs : List X) (i : ℕ) (d : X) → i < length xs → map f (take (i + 1) xs) ≡ map f (take i xs) ++ f (get_or xs i d) ∷ []
 map_more f xs i d l = ap (map f) (take_more xs i d l) ∙ map-append f (take i xs) (get_or xs i d ∷ [])
 
--- an element that passes
-pub any_at : {X : Type 0} (p : X → Bool) (xs : List X) (i : ℕ) (d : X) → i < length xs → p (get_or xs i d) ≡ true → list_any p xs ≡ true
-any_at p [] i d l h = absurd (omega (arith, l))
-any_at p (x ∷ xs) zero d l h = rw h refl
-any_at p (x ∷ xs) (suc i) d l h = ap (λ b. p x || b) (any_at p xs i d (omega (arith, l)) h) ∙ or_true (p x)
-
 -- and where none does
 pub none_at : {X : Type 0} (p : X → Bool) (xs : List X) (i : ℕ) (d : X) → i < length xs → list_any p xs ≡ false → p (get_or xs i d) ≡ false
 none_at p [] i d l h = absurd (omega (arith, l))
-none_at p (x ∷ xs) zero d l h = (neither_of (p x) (list_any p xs) h).0
-none_at p (x ∷ xs) (suc i) d l h = none_at p xs i d (omega (arith, l)) (neither_of (p x) (list_any p xs) h).1
+none_at p (x ∷ xs) zero d l h = (or_parts (p x) (list_any p xs) h).0
+none_at p (x ∷ xs) (suc i) d l h = none_at p xs i d (omega (arith, l)) (or_parts (p x) (list_any p xs) h).1
 
 apart_by : (x y : ℕ) (xs : List ℕ) (b : Bool) → (x == y) ≡ b → not (list_any (λ z. z == x) xs) ≡ true → (x ≡ y → list_any (λ z. z == x) xs ≡ true) → b ≡ false
 apart_by x y xs true e none any = absurd (true≢false (sym none ∙ ap not (any (eqb-true _ _ e))))
@@ -44,7 +39,7 @@ distinct_before [] i l h = absurd (omega (arith, l))
 distinct_before (x ∷ xs) zero l h = refl
 distinct_before (x ∷ xs) (suc i) l h =
     let less : i < length xs = omega (arith, l) in
-    let miss : (x == get_or xs i 0) ≡ false = apart_by x (get_or xs i 0) xs _ refl (first_so _ _ h) (λ same. any_at (λ z. z == x) xs i 0 less (ap (λ z. z == x) (sym same) ∙ nat_eq_equiv.refl x)) in
+    let miss : (x == get_or xs i 0) ≡ false = apart_by x (get_or xs i 0) xs _ refl (first_so _ _ h) (λ same. list_any_at (λ z. z == x) xs i 0 less (ap (λ z. z == x) (sym same) ∙ nat_eq_equiv.refl x)) in
     rw miss (distinct_before xs i less (second_so _ _ h))
 
 -- no earlier place has the face
@@ -62,7 +57,7 @@ giving_sorted es (p ∷ ps) s = giving_sorted (insert_entry nat_cmp es p.0 p.1) 
 giving_aside : (f : ℕ) (es ps : List (ℕ × ℕ)) → list_any (λ y. y == f) (keys_of ps) ≡ false → at_number f (giving es ps) ≡ at_number f es
 giving_aside f es [] h = refl
 giving_aside f es (p ∷ ps) h =
-    let none = neither_of (p.0 == f) (list_any (λ y. y == f) (keys_of ps)) h in
+    let none = or_parts (p.0 == f) (list_any (λ y. y == f) (keys_of ps)) h in
     giving_aside f (insert_entry nat_cmp es p.0 p.1) ps none.1 ∙ aside nat_cmp_total exact_unsigned es p.0 f p.1 (eqb-false _ _ none.0)
 
 restored : (es : List (ℕ × ℕ)) (f id : ℕ) (before : Option ℕ) → IsStrictlySortedBy nat_cmp (keys_of es) → at_number f es ≡ before → restoring f before (insert_entry nat_cmp es f id) ≡ es

@@ -1,20 +1,15 @@
--- Filters and look-ups of lists in order; two lists in order with the same keys are one.
-use Rattle.std.proofs.Common.{◌≡◌, Bool, true, false, cond, List, [], ◌∷◌, ap, ◌∙◌, refl, Some, None, Option, sym, subst, true≢false}
+-- Filters and look-ups of lists, and the keys that a filter keeps.
+use Rattle.std.proofs.Common.{◌≡◌, Bool, true, false, cond, List, [], ◌∷◌, ap, ◌∙◌, refl, Some, None, Option, sym}
 use Rattle.std.specs.Prelude.{map, ◌&&◌, ◌||◌}
 use Rattle.std.specs.declared.cmp.Ordering.{Ordering}
-use Rattle.std.specs.declared.cmp.Ordering.TheVariants.{Less, Equal, Greater}
-use Rattle.std.specs.Ordering.{match_ordering}
 use Rattle.std.specs.Cmp.{IsTotalOrder}
 use Rattle.std.specs.List.{filter, filter_map, cons_option, AllByRecursion}
-use Rattle.std.specs.List.Sorted.{IsStrictlySortedBy}
 use Rattle.std.specs.BTreeMap.{is_at}
-use Rattle.std.specs.BTreeSet.{insert_key}
 use Rattle.std.specs.Map.{keys_of}
-use Rattle.std.proofs.lemmas.Map.Keys.{sorted_head, sorted_tail}
 use Rattle.std.proofs.lemmas.Map.Lookups.{CmpEqualImpliesEq}
+use Rattle.std.proofs.Math.Bool.{and-false}
 use Rattle.zq_query.specs.FaceEntries.{has_key}
-use Rattle.zq_query.proofs.Keys.{same_key, at_itself, apart, less_apart}
-use Rattle.zq_query.proofs.Sorted.{flip}
+use Rattle.zq_key.proofs.Lookups.{same_key}
 
 -- two tests that agree on the members
 pub filter_members : {X : Type 0} (p q : X → Bool) (xs : List X) → AllByRecursion (λ x. p x ≡ q x) xs → filter p xs ≡ filter q xs
@@ -54,80 +49,6 @@ chosen_kept p g [] = refl
 chosen_kept p g (x ∷ xs) = kept_by g x (filter p xs) (filter_map (λ z. cond (p z) (g z) None) xs) (p x) (sym (chosen_kept p g xs))
 
 module _ {K : Type 0} {R : K → K → Ordering} (o : IsTotalOrder R) (exact : CmpEqualImpliesEq R) where
-  none_below : (k : K) (ks : List K) → AllByRecursion (λ z. R k z ≡ Less) ks → has_key R k ks ≡ false
-  none_below k [] all = refl
-  none_below k (x ∷ ks) all = rw (apart o exact k x (less_apart o exact k x all.0)) (none_below k ks all.1)
-
-  below_chain : (k q : K) (ks : List K) → R k q ≡ Less → AllByRecursion (λ z. R q z ≡ Less) ks → AllByRecursion (λ z. R k z ≡ Less) ks
-  below_chain k q [] l all = tt
-  below_chain k q (x ∷ ks) l all = (o.trans k q x l all.0, below_chain k q ks l all.1)
-
-  -- the first of one list is not below the first of the other
-  not_first : (x y : K) (xs ys : List K) → R x y ≡ Less → AllByRecursion (λ z. R y z ≡ Less) ys → ((q : K) → has_key R q (x ∷ xs) ≡ has_key R q (y ∷ ys)) → ⊥
-  not_first x y xs ys l all h =
-      true≢false (sym (ap (λ b. b || has_key R x xs) (at_itself o exact x)) ∙ h x ∙ none_below x (y ∷ ys) (l, below_chain x y ys l all))
-
-  tail_by : (x : K) (xs ys : List K) (q : K) (b : Bool) → is_at (R q) x ≡ b → AllByRecursion (λ z. R x z ≡ Less) xs → AllByRecursion (λ z. R x z ≡ Less) ys → (b || has_key R q xs) ≡ (b || has_key R q ys) → has_key R q xs ≡ has_key R q ys
-  tail_by x xs ys q true e left right h =
-      let same = same_key o exact q x e in
-      ap (λ k. has_key R k xs) same ∙ none_below x xs left ∙ sym (ap (λ k. has_key R k ys) same ∙ none_below x ys right)
-  tail_by x xs ys q false e left right h = h
-
-  same_by : (x y : K) (xs ys : List K) (r : Ordering) → R x y ≡ r → AllByRecursion (λ z. R x z ≡ Less) xs → AllByRecursion (λ z. R y z ≡ Less) ys → ((q : K) → has_key R q (x ∷ xs) ≡ has_key R q (y ∷ ys)) → (((q : K) → has_key R q xs ≡ has_key R q ys) → xs ≡ ys) → x ∷ xs ≡ y ∷ ys
-  same_by x y xs ys Less e left right h ih = absurd (not_first x y xs ys e right h)
-  same_by x y xs ys Equal e left right h ih =
-      let same = exact x y e in
-      let rest : (q : K) → has_key R q xs ≡ has_key R q ys = λ q. tail_by x xs ys q (is_at (R q) x) refl left (subst (λ k. AllByRecursion (λ z. R k z ≡ Less) ys) (sym same) right) (h q ∙ ap (λ k. is_at (R q) k || has_key R q ys) (sym same)) in
-      λ j. same j ∷ ih rest j
-  same_by x y xs ys Greater e left right h ih = absurd (not_first y x ys xs (flip o x y e) left (λ q. sym (h q)))
-
-  -- two lists in order with the same keys are one
-  pub same_keys : (xs ys : List K) → IsStrictlySortedBy R xs → IsStrictlySortedBy R ys → ((q : K) → has_key R q xs ≡ has_key R q ys) → xs ≡ ys
-  same_keys [] [] s t h = refl
-  same_keys [] (y ∷ ys) s t h = absurd (true≢false (sym (ap (λ b. b || has_key R y ys) (at_itself o exact y)) ∙ sym (h y)))
-  same_keys (x ∷ xs) [] s t h = absurd (true≢false (sym (ap (λ b. b || has_key R x xs) (at_itself o exact x)) ∙ h x))
-  same_keys (x ∷ xs) (y ∷ ys) s t h = same_by x y xs ys (R x y) refl (sorted_head R x xs s) (sorted_head R y ys t) h (same_keys xs ys (sorted_tail R x xs s) (sorted_tail R y ys t))
-
-  all_kept_by : (P : K → Type 0) (p : K → Bool) (x : K) (xs : List K) (b : Bool) → P x → AllByRecursion P (filter p xs) → AllByRecursion P (cond b (x ∷ filter p xs) (filter p xs))
-  all_kept_by P p x xs true it ih = (it, ih)
-  all_kept_by P p x xs false it ih = ih
-
-  all_kept : (P : K → Type 0) (p : K → Bool) (xs : List K) → AllByRecursion P xs → AllByRecursion P (filter p xs)
-  all_kept P p [] all = tt
-  all_kept P p (x ∷ xs) all = all_kept_by P p x xs (p x) all.0 (all_kept P p xs all.1)
-
-  sorted_by : (p : K → Bool) (x : K) (xs : List K) (b : Bool) → AllByRecursion (λ z. R x z ≡ Less) xs → IsStrictlySortedBy R (filter p xs) → IsStrictlySortedBy R (cond b (x ∷ filter p xs) (filter p xs))
-  unfolding IsStrictlySortedBy
-  sorted_by p x xs true all ih = (all_kept (λ z. R x z ≡ Less) p xs all, ih)
-  sorted_by p x xs false all ih = ih
-
-  pub sorted_kept : (p : K → Bool) (xs : List K) → IsStrictlySortedBy R xs → IsStrictlySortedBy R (filter p xs)
-  sorted_kept p [] s = s
-  sorted_kept p (x ∷ xs) s = sorted_by p x xs (p x) (sorted_head R x xs s) (sorted_kept p xs (sorted_tail R x xs s))
-
-  all_put_by : (P : K → Type 0) (k x : K) (xs : List K) (r : Ordering) → P k → AllByRecursion P (x ∷ xs) → AllByRecursion P (insert_key R xs k) → AllByRecursion P (match_ordering r (k ∷ x ∷ xs) (x ∷ xs) (x ∷ insert_key R xs k))
-  all_put_by P k x xs Less it all ih = (it, all)
-  all_put_by P k x xs Equal it all ih = all
-  all_put_by P k x xs Greater it all ih = (all.0, ih)
-
-  all_put : (P : K → Type 0) (k : K) (xs : List K) → P k → AllByRecursion P xs → AllByRecursion P (insert_key R xs k)
-  all_put P k [] it all = (it, tt)
-  all_put P k (x ∷ xs) it all = all_put_by P k x xs (R k x) it all (all_put P k xs it all.1)
-
-  put_sorted_by : (k x : K) (xs : List K) (r : Ordering) → R k x ≡ r → IsStrictlySortedBy R (x ∷ xs) → IsStrictlySortedBy R (insert_key R xs k) → IsStrictlySortedBy R (match_ordering r (k ∷ x ∷ xs) (x ∷ xs) (x ∷ insert_key R xs k))
-  unfolding IsStrictlySortedBy
-  put_sorted_by k x xs Less h s ih = ((h, below_chain k x xs h s.0), s)
-  put_sorted_by k x xs Equal h s ih = s
-  put_sorted_by k x xs Greater h s ih = (all_put (λ z. R x z ≡ Less) k xs (flip o k x h) s.0, ih)
-
-  one_sorted : (k : K) → IsStrictlySortedBy R (k ∷ [])
-  unfolding IsStrictlySortedBy
-  one_sorted k = (tt, tt)
-
-  pub sorted_put : (xs : List K) (k : K) → IsStrictlySortedBy R xs → IsStrictlySortedBy R (insert_key R xs k)
-  sorted_put [] k s = one_sorted k
-  sorted_put (x ∷ xs) k s = put_sorted_by k x xs (R k x) refl s (sorted_put xs k (sorted_tail R x xs s))
-
   key_by : (p : K → Bool) (q x : K) (xs : List K) (b c : Bool) → is_at (R q) x ≡ b → p x ≡ c → has_key R q (filter p xs) ≡ (p q && has_key R q xs) → has_key R q (cond c (x ∷ filter p xs) (filter p xs)) ≡ (p q && (b || has_key R q xs))
   key_by p q x xs true true e f ih =
       let passes : p q ≡ true = ap p (same_key o exact q x e) ∙ f in
@@ -140,30 +61,5 @@ module _ {K : Type 0} {R : K → K → Ordering} (o : IsTotalOrder R) (exact : C
 
   -- the keys that a test keeps
   pub has_kept : (p : K → Bool) (q : K) (xs : List K) → has_key R q (filter p xs) ≡ (p q && has_key R q xs)
-  has_kept p q [] = sym (no_more (p q))
-    where
-      no_more : (b : Bool) → (b && false) ≡ false
-      no_more true = refl
-      no_more false = refl
+  has_kept p q [] = sym (and-false (p q))
   has_kept p q (x ∷ xs) = key_by p q x xs (is_at (R q) x) (p x) refl refl (has_kept p q xs)
-
-  twice : (a b : Bool) → (a || b) ≡ (a || (a || b))
-  twice true b = refl
-  twice false b = refl
-
-  swap : (a b c : Bool) → (a || (b || c)) ≡ (b || (a || c))
-  swap true true c = refl
-  swap true false c = refl
-  swap false b c = refl
-
-  put_by : (q k x : K) (xs : List K) (r : Ordering) → R k x ≡ r → has_key R q (insert_key R xs k) ≡ (is_at (R q) k || has_key R q xs) → has_key R q (match_ordering r (k ∷ x ∷ xs) (x ∷ xs) (x ∷ insert_key R xs k)) ≡ (is_at (R q) k || (is_at (R q) x || has_key R q xs))
-  put_by q k x xs Less e ih = refl
-  put_by q k x xs Equal e ih =
-      let same = exact k x e in
-      subst (λ z. (is_at (R q) x || has_key R q xs) ≡ (is_at (R q) z || (is_at (R q) x || has_key R q xs))) (sym same) (twice (is_at (R q) x) (has_key R q xs))
-  put_by q k x xs Greater e ih = ap (λ b. is_at (R q) x || b) ih ∙ swap (is_at (R q) x) (is_at (R q) k) (has_key R q xs)
-
-  -- one more key
-  pub has_put : (q k : K) (xs : List K) → has_key R q (insert_key R xs k) ≡ (is_at (R q) k || has_key R q xs)
-  has_put q k [] = refl
-  has_put q k (x ∷ xs) = put_by q k x xs (R k x) refl (has_put q k xs)

@@ -12,9 +12,9 @@ use Rattle.zq_query.specs.declared.queries.Owed.{Owed}
 use Rattle.zq_query.specs.Records.{is_reply}
 use Rattle.zq_query.specs.Polling.{has_reply_from}
 use Rattle.zq_query.specs.Tables.{Place, Due, flies_for, record_of, records_of, at_number, IsTied, IsBelow}
-use Rattle.zq_query.proofs.Keys.{each_entry}
 use Rattle.zq_query.proofs.Entries.{any_map, one_has, has_the_reply}
 use Rattle.zq_query.proofs.Owing.{any_weaker}
+use Rattle.zq_key.proofs.Lookups.{each_entry}
 
 abbrev flies_from : List (ℕ × ℕ) → ℕ → ℕ → Bool
 flies_from replies n k = list_any (λ x. not (nat_lt x n)) (keys_of (filter (flies_for k) replies))

@@ -1,7 +1,7 @@
 -- Timeouts: how many take a number, of which requests they are, and what is let go.
-use Rattle.std.proofs.Common.{◌≡◌, ℕ, ◌+◌, ◌<◌, ◌≤◌, ◌^◌, Bool, true, false, cond, List, [], ◌∷◌, ◌++◌, length, take, drop, ap, ◌∙◌, refl, arith, Some, None, Option, sym, true≢false}
+use Rattle.std.proofs.Common.{◌≡◌, ℕ, ◌+◌, ◌<◌, ◌≤◌, ◌^◌, Bool, true, false, cond, List, [], ◌∷◌, ◌++◌, length, take, drop, ap, ◌∙◌, refl, arith, Some, None, Option, sym}
 use Rattle.std.specs.Prelude.{fold, map, not, ◌||◌}
-use Rattle.std.proofs.lemmas.Bool.{ltb-true, lt-ltb, le-ltb}
+use Rattle.std.proofs.lemmas.Bool.{ltb-true, lt-ltb, le-ltb, or_parts, or_from, not-false}
 use Rattle.std.proofs.lemmas.List.{length-append, take-append-drop}
 use Rattle.std.proofs.lemmas.List.Elements.{filter-append}
 use Rattle.std.proofs.lemmas.List.Folds.{list_any-append}
@@ -13,18 +13,13 @@ use Rattle.zq_query.specs.declared.records.Timeout.{Timeout}
 use Rattle.zq_query.specs.Records.{QueryState, Record, Pending, request, has_number, without, is_left, any_over, any_entry, letting_go, letting_go_all, after_put}
 use Rattle.zq_query.specs.Tables.{Due}
 use Rattle.zq_query.specs.Polling.{is_due, is_among, is_amiss, has_number_for, numbers_in, timed_out, with_timeout, timeouts_of, lacks_replies, after_timeout, timing_out, lacks_record}
-use Rattle.zq_query.proofs.Bools.{neither_of}
 use Rattle.zq_query.proofs.Fusion.{all_fused}
 use Rattle.zq_query.proofs.Agreeing.{keeps_all}
 use Rattle.zq_query.proofs.Flying.{all_stay}
 use Rattle.zq_query.proofs.Putting.{found_there}
 
-pub not_false : (b : Bool) → not b ≡ false → b ≡ true
-not_false true h = refl
-not_false false h = absurd (true≢false h)
-
 pub enough : (ts : List Timeout) (s : QueryState) → lacks_replies ts s ≡ false → s.replies + numbers_in ts < 2 ^ 64
-enough ts s h = ltb-true _ _ (not_false _ h)
+enough ts s h = ltb-true _ _ (not-false _ h)
 
 pub enough_is : (ts : List Timeout) (s : QueryState) → s.replies + numbers_in ts < 2 ^ 64 → lacks_replies ts s ≡ false
 enough_is ts s l = ap not (lt-ltb (s.replies + numbers_in ts) (2 ^ 64) l)
@@ -64,34 +59,30 @@ lacking_by : (s : QueryState) (n : ℕ) (d : Due) (r : Option Final) → request
 lacking_by s n d None e = refl
 lacking_by s n d (Some f) e = rw (found_there (has_number d.1) s.records f e) refl
 
-or_false : (a b : Bool) → a ≡ false → b ≡ false → (a || b) ≡ false
-or_false true b h k = absurd (true≢false h)
-or_false false b h k = k
-
 none_lacking : (s : QueryState) (ts : List Timeout) (ds : List Due) → lacks_record s.records ts ≡ false → lacks_record s.records (fold (with_timeout s) ts ds) ≡ false
 none_lacking s ts [] h = h
 none_lacking s ts (d ∷ ds) h = none_lacking s (with_timeout s ts d) ds
     (list_any-append (λ (t : Timeout). not (list_any (has_number t.number) s.records)) ts _
-    ∙ or_false (lacks_record s.records ts) _ h (lacking_by s (s.replies + numbers_in ts) d _ refl))
+    ∙ or_from (lacks_record s.records ts) _ h (lacking_by s (s.replies + numbers_in ts) d _ refl))
 
 pub have_records : (s : QueryState) (ds : List Due) → lacks_record s.records (timeouts_of s ds) ≡ false
 have_records s ds = none_lacking s [] ds refl
 
 -- ---- what is let go
 same_test : (a b : Bool) → cond a (not b) b ≡ false → a ≡ b
-same_test true b h = sym (not_false b h)
+same_test true b h = sym (not-false b h)
 same_test false b h = sym h
 
 left_agree : (places : List (ℕ × ℕ)) (now : ℕ) (l : List Pending) → list_any (is_amiss places now) l ≡ false → filter (λ e. not (false || is_among places e)) l ≡ filter (λ e. not (is_due now e)) l
 left_agree places now [] h = refl
 left_agree places now (e ∷ l) h =
-    let m = neither_of (is_amiss places now e) (list_any (is_amiss places now) l) h in
+    let m = or_parts (is_amiss places now e) (list_any (is_amiss places now) l) h in
     λ j. cond (not (same_test (is_among places e) (is_due now e) m.0 j)) (e ∷ left_agree places now l m.1 j) (left_agree places now l m.1 j)
 
 agree : (places : List (ℕ × ℕ)) (now : ℕ) (rs : List Record) → any_entry (is_amiss places now) rs ≡ false → map (without (λ e. false || is_among places e)) rs ≡ map (without (is_due now)) rs
 agree places now [] h = refl
 agree places now (r ∷ rs) h =
-    let m = neither_of (list_any (is_amiss places now) r.pending) (any_entry (is_amiss places now) rs) h in
+    let m = or_parts (list_any (is_amiss places now) r.pending) (any_entry (is_amiss places now) rs) h in
     λ j. record r { pending = left_agree places now r.pending m.0 j } ∷ agree places now rs m.1 j
 
 -- the entries at the places of those that are due

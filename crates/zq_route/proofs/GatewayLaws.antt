@@ -1,5 +1,5 @@
 -- Of the gateways of one list, none carries what one of them asked, and else the greatest alone.
-use Rattle.std.proofs.Common.{◌≡◌, ◌∙◌, sym, ap, refl, subst, arith, ℕ, ◌≤◌, ◌<◌, length, cond, Option, Bool, true, false, List, [], ◌∷◌, Some, eqb-true, true≢false, ◌⊎◌, inl, inr, fold, ◌↔◌}
+use Rattle.std.proofs.Common.{◌≡◌, ◌∙◌, sym, ap, refl, subst, arith, ℕ, ◌≤◌, cond, Bool, true, false, List, [], ◌∷◌, Some, eqb-true, true≢false, ◌⊎◌, inl, inr, fold, ◌↔◌}
 use Rattle.std.specs.Prelude.{not, ◌&&◌, ◌||◌, ◌==◌, max}
 use Rattle.std.specs.Cmp.{nat_eq_equiv, second_so}
 use Rattle.zq_key.specs.declared.message.Zid.{Zid}

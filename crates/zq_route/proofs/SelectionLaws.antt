@@ -6,11 +6,12 @@ use Rattle.std.specs.List.{list_any, IsDistinct}
 use Rattle.std.specs.Option.{option_map_or}
 use Rattle.std.specs.Map.{keys_of, values_of}
 use Rattle.std.specs.Cmp.{nat_eq_equiv}
-use Rattle.std.proofs.lemmas.List.{append-nil}
+use Rattle.std.proofs.lemmas.List.{append-nil, map-append}
 use Rattle.std.proofs.lemmas.List.Elements.{filter_agree}
 use Rattle.std.proofs.lemmas.List.Folds.{list_any-append}
 use Rattle.std.proofs.lemmas.Map.Keys.{IsDistinct-push}
-use Rattle.zq_key.proofs.Naturals.{map-append, any-map}
+use Rattle.std.proofs.Math.Bool.{or_assoc, or-false}
+use Rattle.zq_key.proofs.Naturals.{any-map}
 use Rattle.zq_key.specs.declared.message.QueryTarget.{QueryTarget}
 use Rattle.zq_key.specs.declared.message.QueryTarget.TheVariants as target
 use Rattle.zq_hat.specs.declared.types.QueryTargetQabl.{QueryTargetQabl}
@@ -31,23 +32,6 @@ offers_by_face [] = refl
 offers_by_face (o ∷ os) = ap (λ l. o ∷ l) (offers_by_face os)
 
 -- ---- a route from nothing has each face's first offer
-or_regroup : (a b c : Bool) → ((a || b) || c) ≡ (a || (b || c))
-or_regroup true b c = refl
-or_regroup false b c = refl
-
-or_false : (a : Bool) → (a || false) ≡ a
-or_false true = refl
-or_false false = refl
-
-flip_face : (a b : ℕ) (p q : Bool) → (a == b) ≡ p → (b == a) ≡ q → p ≡ q
-flip_face a b true true e f = refl
-flip_face a b false false e f = refl
-flip_face a b true false e f = absurd (true≢false (sym (nat_eq_equiv.refl a) ∙ ap (λ n. n == a) (eqb-true _ _ e) ∙ f))
-flip_face a b false true e f = absurd (true≢false (sym (nat_eq_equiv.refl b) ∙ ap (λ n. n == b) (eqb-true _ _ f) ∙ e))
-
-either_face : (a b : ℕ) → (a == b) ≡ (b == a)
-either_face a b = flip_face a b _ _ refl refl
-
 -- the offers whose face the route lacks
 abbrev is_new : List (ℕ × QueryTargetQabl) → QueryTargetQabl → Bool
 is_new route o = not (has_face o.face.0 route)
@@ -55,7 +39,7 @@ is_new route o = not (has_face o.face.0 route)
 pushed : (route : List (ℕ × QueryTargetQabl)) (o later : QueryTargetQabl) → has_face later.face.0 (route ++ by_face o ∷ []) ≡ (has_face later.face.0 route || same_face o later)
 pushed route o later =
     list_any-append (is_face later.face.0) route (by_face o ∷ [])
-    ∙ ap (λ b. has_face later.face.0 route || b) (or_false (later.face.0 == o.face.0) ∙ either_face later.face.0 o.face.0)
+    ∙ ap (λ b. has_face later.face.0 route || b) (or-false (later.face.0 == o.face.0) ∙ nat_eq_equiv.symm later.face.0 o.face.0)
 
 module _ (route : List (ℕ × QueryTargetQabl)) (o : QueryTargetQabl) where
   -- where the route has the face, later offers of it are out anyway
@@ -111,15 +95,15 @@ built_firsts offers =
 module _ (face : ℕ) where
   added_by : (route : List (ℕ × QueryTargetQabl)) (o : QueryTargetQabl) (b c : Bool) → has_face o.face.0 route ≡ b → is_of face o ≡ c → has_face face (cond b route (route ++ by_face o ∷ [])) ≡ (has_face face route || c)
   added_by route o true true e f = ap (λ n. has_face n route) (eqb-true _ _ f) ∙ e ∙ sym (ap (λ b. b || true) (ap (λ n. has_face n route) (eqb-true _ _ f) ∙ e))
-  added_by route o true false e f = sym (or_false (has_face face route))
-  added_by route o false c e f = list_any-append (is_face face) route (by_face o ∷ []) ∙ ap (λ b. has_face face route || b) (or_false (is_of face o) ∙ f)
+  added_by route o true false e f = sym (or-false (has_face face route))
+  added_by route o false c e f = list_any-append (is_face face) route (by_face o ∷ []) ∙ ap (λ b. has_face face route || b) (or-false (is_of face o) ∙ f)
 
   pub faces_of_route : (route : List (ℕ × QueryTargetQabl)) (offers : List QueryTargetQabl) → has_face face (with_offers route offers) ≡ (has_face face route || list_any (is_of face) offers)
-  faces_of_route route [] = sym (or_false (has_face face route))
+  faces_of_route route [] = sym (or-false (has_face face route))
   faces_of_route route (o ∷ os) =
       faces_of_route (with_first route (by_face o)) os
       ∙ ap (λ b. b || list_any (is_of face) os) (added_by route o (has_face o.face.0 route) (is_of face o) refl refl)
-      ∙ or_regroup (has_face face route) (is_of face o) (list_any (is_of face) os)
+      ∙ or_assoc (has_face face route) (is_of face o) (list_any (is_of face) os)
 
 -- ---- each face stands in a route once
 keys_pushed : (route : List (ℕ × QueryTargetQabl)) (o : QueryTargetQabl) → keys_of (route ++ by_face o ∷ []) ≡ keys_of route ++ o.face.0 ∷ []
@@ -158,7 +142,7 @@ module _ (p : QueryTargetQabl → Bool) where
 
   best_by : (os : List QueryTargetQabl) (first : Option QueryTargetQabl) → find is_complete os ≡ first → list_any p os ≡ false → list_any p (option_map_or (λ o. o ∷ []) first os) ≡ false
   best_by os None is e = e
-  best_by os (Some o) is e = or_false (p o) ∙ found_fails is_complete os o is e
+  best_by os (Some o) is e = or-false (p o) ∙ found_fails is_complete os o is e
 
   pub none_chosen : (by : QueryTarget) (os : List QueryTargetQabl) → list_any p os ≡ false → list_any p (chosen by os) ≡ false
   none_chosen target.All os e = e
@@ -190,4 +174,4 @@ pub faces_pass : (face : ℕ) (by : QueryTarget) (test : QueryTargetQabl → Boo
 faces_pass face by test route offers e =
     faces_of_route face route (chosen by (filter test offers))
     ∙ ap (λ b. has_face face route || b) (none_chosen (is_of face) by (filter test offers) (passing_of face test offers e))
-    ∙ or_false (has_face face route)
+    ∙ or-false (has_face face route)

@@ -1,5 +1,5 @@
 -- One id in the ids of a face.
-use Rattle.std.proofs.Common.{◌≡◌, ◌≢◌, ℕ, ◌+◌, ◌-◌, ◌<◌, ◌≤◌, Bool, true, false, cond, ◌||◌, List, [], ◌∷◌, Option, Some, None, refl, sym, ap, ◌∙◌, arith, zero, suc, min, inl, inr}
+use Rattle.std.proofs.Common.{◌≡◌, ◌≢◌, ℕ, ◌+◌, ◌-◌, ◌<◌, ◌≤◌, Bool, true, false, cond, List, [], ◌∷◌, Some, None, refl, sym, ap, ◌∙◌, arith, zero, suc, min, inl, inr}
 use Rattle.std.specs.declared.cmp.Ordering.{Ordering}
 use Rattle.std.specs.declared.cmp.Ordering.TheVariants.{Less, Equal, Greater}
 use Rattle.std.specs.Ordering.{nat_cmp, match_ordering, is_eq}
@@ -7,12 +7,13 @@ use Rattle.std.specs.Option.{is_some}
 use Rattle.std.specs.BTreeMap.{is_at}
 use Rattle.std.specs.Map.{keys_of}
 use Rattle.std.specs.List.{All}
-use Rattle.std.proofs.lemmas.Bool.{false≢true, cases_eq}
+use Rattle.std.proofs.lemmas.Bool.{false≢true, cases_eq, or_parts}
 use Rattle.std.proofs.lemmas.Cmp.{nat_cmp_total, tied_itself, ranked}
 use Rattle.std.proofs.lemmas.Option.{none-some, same_Some}
 use Rattle.std.proofs.lemmas.List.Elements.{All-head, All-tail}
 use Rattle.std.proofs.lemmas.Map.Views.{All-keys-insert_entry, All-map-remove_entry}
 use Rattle.zq_tables.specs.FaceIds.{of_id, with_id, without_id, is_used, free_from, IsFace}
+use Rattle.zq_key.proofs.Truth.{none_from}
 
 pub itself : (i : ℕ) → nat_cmp i i ≡ Equal
 itself i = tied_itself nat_cmp_total i
@@ -131,27 +132,11 @@ free_from-least {X} a b (suc n) i k found = by (is_used a b i) refl (free_from-l
 
 -- ---- the fields of a face
 
-used_still : {X : Type 0} (o : Option X) (b : Bool) → (is_some o || b) ≡ false → b ≡ false
-used_still None b e = e
-used_still (Some x) b e = absurd (false≢true (sym e))
-
-first_unused : {X : Type 0} (o : Option X) (b : Bool) → (is_some o || b) ≡ false → is_some o ≡ false
-first_unused None b e = refl
-first_unused (Some x) b e = absurd (false≢true (sym e))
-
-none_from_unused : {X : Type 0} (o : Option X) → is_some o ≡ false → o ≡ None
-none_from_unused None e = refl
-none_from_unused (Some x) e = absurd (false≢true (sym e))
-
-pub some_value : {X : Type 0} (o : Option X) → is_some o ≡ true → (x : X) × (o ≡ Some x)
-some_value None e = absurd (false≢true e)
-some_value (Some x) e = (x, refl)
-
 -- the least free id is not one of the gateway's
 pub next_unused : {X : Type 0} (theirs ours : List (ℕ × X)) (i : ℕ) → free_from theirs ours 65535 1 ≡ Some i → of_id ours i ≡ None
 next_unused theirs ours i found =
     let least = free_from-least theirs ours 65535 1 i found in
-    none_from_unused (of_id ours i) (used_still (of_id theirs i) (is_some (of_id ours i)) least.2)
+    none_from (of_id ours i) ((or_parts (is_some (of_id theirs i)) (is_some (of_id ours i)) least.2).1)
 
 pub IsFace-with_theirs : (theirs ours : List (ℕ × ℕ)) (free i n : ℕ) → 0 < i → IsFace theirs ours free → IsFace (with_id theirs i n) ours free
 IsFace-with_theirs theirs ours free i n positive face = record {
@@ -159,7 +144,7 @@ IsFace-with_theirs theirs ours free i n positive face = record {
   ours_positive = face.ours_positive;
   positive = face.positive;
   used = λ j above below unused. elim (cases_eq j i) [
-    | inl same ↦ false≢true (sym (first_unused (of_id (with_id theirs i n) j) (is_some (of_id ours j)) unused) ∙ ap is_some (ap (of_id (with_id theirs i n)) same ∙ of_id-with_id theirs i n))
+    | inl same ↦ false≢true (sym ((or_parts (is_some (of_id (with_id theirs i n) j)) (is_some (of_id ours j)) unused).0) ∙ ap is_some (ap (of_id (with_id theirs i n)) same ∙ of_id-with_id theirs i n))
     | inr differ ↦ face.used j above below (rw (← of_id-with_other theirs i j n differ) unused)
   ];
 }

@@ -5,9 +5,9 @@ use Rattle.std.specs.Map.{keys_of}
 use Rattle.std.specs.BTreeMap.{insert_entry}
 use Rattle.std.specs.List.Sorted.{IsStrictlySortedBy}
 use Rattle.zq_naming.specs.Naming.{NamingState, no_keys, naming_at}
-use Rattle.zq_naming.proofs.Declared.{none_from}
 use Rattle.zq_naming.proofs.Emptied.{emptied_put, keys_texts, opened, opened_texts, open_naming}
 use Rattle.zq_naming.proofs.naming.Naming.open.Goals as goal
+use Rattle.zq_key.proofs.Truth.{none_from}
 
 pub returns-then-contains_key-clause-ok : goal.returns-then-contains_key-clause-ok
 returns-then-contains_key-clause-ok c =

@@ -1,7 +1,7 @@
 use Rattle.std.proofs.Common.{◌≡◌, ◌∙◌, ap, sym, subst}
 use Rattle.zq_naming.specs.Naming.{NamingState, change_naming, without_queryable}
 use Rattle.zq_naming.proofs.Letting.{in_hand_held, in_hand_live, left, left_texts, queryable_freed, queryable_freed_texts}
-use Rattle.zq_naming.proofs.Queryables.{released_idle}
+use Rattle.zq_naming.proofs.Emptied.{released_idle}
 use Rattle.zq_naming.proofs.naming.Naming.release_queryable.Goals as goal
 
 pub returns-in_default : goal.returns-in_default
@@ -26,5 +26,5 @@ pub returns : goal.returns
 returns c =
     let freed = queryable_freed c.self.inside.names c.self.inside.faces.entries c.take_queryable.new.faces.entries c.args.face.0 c.args.id c.in-Some.node.0 c.self.invariant (sym c.in-Some.ensures) c.take_queryable.ensures in
     left_texts _ _ _ _ freed c.let_go.ensures
-    ∙ queryable_freed_texts c.self.inside.names c.self.inside.faces.entries c.take_queryable.new.faces.entries c.args.face.0 c.args.id c.in-Some.node.0 c.self.invariant (sym c.in-Some.ensures) c.take_queryable.ensures
+    ∙ queryable_freed_texts c.self.inside.names c.self.inside.faces.entries c.take_queryable.new.faces.entries c.args.face.0 c.args.id c.in-Some.node.0 (sym c.in-Some.ensures) c.take_queryable.ensures
     ∙ ap (change_naming c.args.face.0 (without_queryable c.args.id)) c.self.view_is

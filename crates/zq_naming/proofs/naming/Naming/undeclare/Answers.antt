@@ -33,5 +33,5 @@ returns c =
     let L : List NameEntry → Type 0 = λ (ns : List NameEntry). LetsGo ns c.let_go.new.names c.in-Some.node.0 in
     let freed = number_freed c.self.inside.names c.self.inside.faces.entries c.undeclare_at.new.faces.entries c.args.face.0 c.args.id c.in-Some.node.0 c.self.invariant (sym c.in-Some.ensures) c.undeclare_at.ensures.faces in
     left_texts _ _ _ _ freed (subst L c.undeclare_at.ensures.names c.let_go.ensures)
-    ∙ number_freed_texts c.self.inside.names c.self.inside.faces.entries c.undeclare_at.new.faces.entries c.args.face.0 c.args.id c.in-Some.node.0 c.self.invariant (sym c.in-Some.ensures) c.undeclare_at.ensures.faces
+    ∙ number_freed_texts c.self.inside.names c.self.inside.faces.entries c.undeclare_at.new.faces.entries c.args.face.0 c.args.id c.in-Some.node.0 (sym c.in-Some.ensures) c.undeclare_at.ensures.faces
     ∙ ap (change_naming c.args.face.0 (without_name c.args.id)) c.self.view_is

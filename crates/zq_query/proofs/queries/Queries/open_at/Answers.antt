@@ -2,8 +2,8 @@ use Rattle.std.proofs.Common.{◌∙◌, ◌+◌, ◌^◌, ℕ, List, ap}
 use Rattle.std.specs.Prelude.{◌==◌}
 use Rattle.std.specs.List.{list_any}
 use Rattle.std.specs.Map.{keys_of}
+use Rattle.std.proofs.lemmas.Bool.{or_parts}
 use Rattle.zq_query.specs.Asking.{are_distinct, any_pending, given_place, is_full}
-use Rattle.zq_query.proofs.Bools.{neither_of}
 use Rattle.zq_query.proofs.Entries.{map_both}
 use Rattle.zq_query.proofs.Ids.{given_are_new}
 use Rattle.zq_query.proofs.queries.Queries.open_at.Goals as goal
@@ -13,7 +13,7 @@ enter_and_give-requires-clause-absent c =
     let s = c.args.self.now in
     let ts = c.args.targets.now in
     ap (any_pending s.records) (c.as_slice-2.ensures.value ∙ c.in_ok-places.ensures)
-    ∙ given_are_new s ts (neither_of (s.requests + 1 == 2 ^ 64) (list_any (is_full s) ts) c.requires.free).1
+    ∙ given_are_new s ts (or_parts (s.requests + 1 == 2 ^ 64) (list_any (is_full s) ts) c.requires.free).1
 
 pub enter_and_give-requires-clause-distinct : goal.enter_and_give-requires-clause-distinct
 enter_and_give-requires-clause-distinct c =

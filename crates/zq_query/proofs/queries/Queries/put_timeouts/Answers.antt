@@ -1,6 +1,7 @@
 use Rattle.std.proofs.Common.{◌≡◌, ◌∙◌, ◌-◌, List, None, sym, ap, get_or, take, arith, false}
 use Rattle.std.specs.Prelude.{not}
 use Rattle.std.specs.List.{list_any}
+use Rattle.std.proofs.lemmas.Bool.{not-false}
 use Rattle.zq_query.specs.declared.records.Timeout.{Timeout}
 use Rattle.zq_query.specs.Records.{QueryState, has_number, any_over}
 use Rattle.zq_query.specs.Polling.{timing_out, numbers_in, has_reply_from, landing_from}
@@ -8,7 +9,7 @@ use Rattle.zq_query.proofs.Giving.{none_at}
 use Rattle.zq_query.proofs.Fusion.{none_over}
 use Rattle.zq_query.proofs.NextReply.{none_flies_yet}
 use Rattle.zq_query.proofs.Flying.{numbers_stay, numbers_given, one_before, all_landed}
-use Rattle.zq_query.proofs.TimingOut.{not_false, enough, rest_stays}
+use Rattle.zq_query.proofs.TimingOut.{enough, rest_stays}
 use Rattle.zq_query.proofs.queries.Queries.put_timeouts.Goals as goal
 
 pub put_timeout-requires-clause-there : goal.put_timeout-requires-clause-there
@@ -18,7 +19,7 @@ put_timeout-requires-clause-there c =
     let t : Timeout = get_or ts c.loop-i.i (record { number = 0; asker = record { 0 = 0 }; id = 0; qos = 0; target = record { 0 = 0 }; reply = None }) in
     ap (λ (z : QueryState). list_any (has_number t.number) z.records) c.loop-i.invariant
     ∙ numbers_stay t.number (take c.loop-i.i ts) s
-    ∙ not_false _ (none_at (λ (x : Timeout). not (list_any (has_number x.number) s.records)) ts c.loop-i.i (record { number = 0; asker = record { 0 = 0 }; id = 0; qos = 0; target = record { 0 = 0 }; reply = None }) c.loop-i-test.true c.requires.there)
+    ∙ not-false _ (none_at (λ (x : Timeout). not (list_any (has_number x.number) s.records)) ts c.loop-i.i (record { number = 0; asker = record { 0 = 0 }; id = 0; qos = 0; target = record { 0 = 0 }; reply = None }) c.loop-i-test.true c.requires.there)
 
 pub put_timeout-requires-clause-fits : goal.put_timeout-requires-clause-fits
 put_timeout-requires-clause-fits c = λ some.

@@ -4,12 +4,12 @@ use Rattle.std.specs.BTreeMap.{is_at}
 use Rattle.std.specs.Ordering.{nat_cmp}
 use Rattle.std.specs.Cmp.{nat_cmp_total, eq_by_cmp_equiv}
 use Rattle.std.proofs.lemmas.List.Folds.{list_any_more}
+use Rattle.std.proofs.Math.Bool.{or-true}
 use Rattle.zq_query.specs.FaceEntries.{has_key}
-use Rattle.zq_query.proofs.Bools.{or_true}
 use Rattle.zq_query.proofs.queries.close.set_of.Goals as goal
 
 as_or : (a b c : Bool) → a ≡ c → cond a true b ≡ (b || c)
-as_or true b c e = sym (ap (λ x. b || x) (sym e) ∙ or_true b)
+as_or true b c e = sym (ap (λ x. b || x) (sym e) ∙ or-true b)
 as_or false true c e = refl
 as_or false false c e = e
 
