@@ -5,7 +5,8 @@ use Rattle.std.specs.List.{filter}
 use Rattle.std.specs.Ordering.{nat_cmp}
 use Rattle.std.specs.BTreeMap.{is_at}
 use Rattle.std.specs.Map.{remove_entry}
-use Rattle.zq_key.proofs.Naturals.{map-append, map-map}
+use Rattle.std.proofs.lemmas.List.{map-append}
+use Rattle.zq_key.proofs.Naturals.{map-map}
 use Rattle.zq_key.specs.Key.{is_key, is_chunk}
 use Rattle.zq_key.specs.declared.message.FaceId.{FaceId}
 use Rattle.zq_key.specs.declared.message.QueryTarget.{QueryTarget}

@@ -4,7 +4,8 @@ use Rattle.std.specs.Prelude.{find}
 use Rattle.std.specs.List.{filter}
 use Rattle.std.specs.Map.{values_of}
 use Rattle.std.specs.Option.{option_map, option_map_or}
-use Rattle.zq_key.proofs.Naturals.{map-append, map-map, any-map, find-map, filter-map, fold-moved}
+use Rattle.std.proofs.lemmas.List.{map-append}
+use Rattle.zq_key.proofs.Naturals.{map-map, any-map, find-map, filter-map, fold-moved}
 use Rattle.zq_key.specs.Key.{is_key}
 use Rattle.zq_key.specs.declared.message.FaceId.{FaceId}
 use Rattle.zq_key.specs.declared.message.QueryTarget.{QueryTarget}

@@ -407,7 +407,7 @@ impl Gateway {
         match self.queries.last(face, rid) {
             Ok(last) => Ok(Step {
                 outcome: Outcome::Done,
-                handed: final_in(room, last),
+                handed: final_in(self.alloc, room, last),
             }),
             Err(_) => Ok(self.refused(Refusal::QueryNotFound)),
         }
@@ -424,7 +424,7 @@ impl Gateway {
         match self.queries.sent(reply) {
             Ok(last) => Ok(Step {
                 outcome: Outcome::Done,
-                handed: final_in(room, last),
+                handed: final_in(self.alloc, room, last),
             }),
             Err(_) => Ok(self.refused(Refusal::NotInFlight)),
         }

@@ -42,6 +42,13 @@ pub fn written_final(last: Final) -> Handed
     }
 }
 
+/// An empty list with room for so many messages.
+fn room_for(alloc: Global, count: usize) -> Result<HandedList, OutOfMemory>
+    ensures { IfOk result (λ l. l ≡ []) }
+{
+    Ok(Items::from_vec(Vec::with_capacity(alloc, count)?))
+}
+
 /// Room for the one message that a final may need.
 pub fn room_for_final(alloc: Global) -> Result<Vec<Handed>, AllocError>
     ensures empty { IfOk result (λ v. v.items ≡ []) }
@@ -51,25 +58,25 @@ pub fn room_for_final(alloc: Global) -> Result<Vec<Handed>, AllocError>
 }
 
 /// The final, where there is one. It takes no memory.
-pub fn final_in(mut room: Vec<Handed>, last: Option<Final>) -> HandedList
+pub fn final_in(alloc: Global, mut room: Vec<Handed>, last: Option<Final>) -> HandedList
     requires empty { room.items ≡ [] }
     requires room { vec_len room < vec_capacity room }
     ensures { result ≡ map sent_final (cons_option last []) }
 {
-    if let Some(last) = last {
-        match room.push(written_final(last)) {
-            Ok(()) => {}
-            Err(_) => unreachable!(),
-        }
+    let Some(last) = last else {
+        return Items::new(alloc);
+    };
+    match room.push(written_final(last)) {
+        Ok(()) => Items::from_vec(room),
+        Err(_) => unreachable!(),
     }
-    Items::from_vec(room)
 }
 
 /// Finals to their askers.
 pub fn written_finals(alloc: Global, finals: &[Final]) -> Result<HandedList, OutOfMemory>
     ensures { IfOk result (λ l. l ≡ map sent_final finals.now) }
 {
-    let mut handed = Items::new(alloc);
+    let mut handed = room_for(alloc, finals.len())?;
     for last in finals {
         handed.push(written_final(*last))?;
     }
@@ -112,10 +119,10 @@ pub fn written_replies(
 ) -> Result<HandedList, OutOfMemory>
     ensures { IfOk result (λ l. l ≡ sent_replies text.now response.now to.now) }
 {
-    let mut handed = Items::new(alloc);
     if to.reply.is_none() {
-        return Ok(handed);
+        return Ok(Items::new(alloc));
     }
+    let mut handed = room_for(alloc, 1)?;
     let message = reply_message(alloc, text, response, to)?;
     let leaves = message.copy(alloc)?;
     handed.push(Handed {
@@ -190,7 +197,7 @@ fn requests_to(
 ) -> Result<HandedList, OutOfMemory>
     ensures { IfOk result (λ l. l ≡ map (written names.now) (map (handed_request queries.now text.now request.now) offers.now)) }
 {
-    let mut handed = Items::new(alloc);
+    let mut handed = room_for(alloc, offers.len())?;
     for offer in offers {
         handed.push(written_request(alloc, queries, names, text, request, offer)?)?;
     }
@@ -212,7 +219,7 @@ pub fn written_requests(
     if !offers.is_empty() {
         return requests_to(alloc, queries, names, text, request, offers);
     }
-    let mut handed = Items::new(alloc);
+    let mut handed = room_for(alloc, 1)?;
     handed.push(written_final(Final {
         number: queries.next_number(),
         asker,
@@ -264,7 +271,7 @@ pub fn written_timeouts(
 ) -> Result<HandedList, OutOfMemory>
     ensures { IfOk result (λ l. l ≡ map (sent_timeout faces.now.entries) (filter has_number_for timeouts.now)) }
 {
-    let mut handed = Items::new(alloc);
+    let mut handed = room_for(alloc, timeouts.len())?;
     for timeout in timeouts {
         if timeout.reply.is_some() {
             handed.push(written_timeout(alloc, faces, timeout)?)?;
