@@ -6,3 +6,5 @@ pub mod Given
 pub mod GivenLines
 pub mod Promised
 pub mod StepsBack
+pub mod Shown
+pub mod EachFits

@@ -97,8 +97,8 @@ queryable_back : (interest : Option ℕ) (node id : ℕ) (wire : WireExpr) (info
     → queryable_of (field (decimal id) ++ (field (wire_word wire) ++ (info_words info ++ (field (decimal node) ++ field (option_word decimal interest))))) ≡ declared interest node (body.DeclareQueryable id wire info)
 unfolding queryable_of
 queryable_back interest node id wire info f =
-    then _ (number_reads most_32 id f.0 (omega arith)) refl (then _ (wire_reads wire f.1) refl (on _ (info_back info _ f.2 refl)
-    (then _ (number_reads most_16 node f.3 (omega arith)) refl (last_back _ (option_number most_32 interest (omega arith) f.4) refl))))
+    then _ (number_reads most_32 id f.body.0 (omega arith)) refl (then _ (wire_reads wire f.body.1) refl (on _ (info_back info _ f.body.2 refl)
+    (then _ (number_reads most_16 node f.node (omega arith)) refl (last_back _ (option_number most_32 interest (omega arith) f.interest) refl))))
 
 unqueryable_back : (node id : ℕ) (wire : Option WireExpr) → id ≤ most_32 → FitsOption FitsWire wire → node ≤ most_16
     → unqueryable_of (field (decimal id) ++ (field (option_word wire_word wire) ++ field (decimal node))) ≡ declared None node (body.UndeclareQueryable id wire)
@@ -113,15 +113,15 @@ declare_back : (interest : Option ℕ) (node : ℕ) (b : DeclareBody) → FitsDe
 unfolding message_by
 declare_back interest node (body.DeclareKeyExpr id wire) f =
     ap message_of (append_assoc (codes "key") (field (decimal id)) (field (wire_word wire)))
-    ∙ first_back message_by (codes "key") _ refl ∙ key_back id wire f.0 f.1 ∙ for_none interest 0 _ f.2 ∙ from_zero interest node _ f.3
-declare_back interest node (body.UndeclareKeyExpr id) f = first_back message_by (codes "unkey") _ refl ∙ unkey_back id f.0 ∙ for_none interest 0 _ f.1 ∙ from_zero interest node _ f.2
+    ∙ first_back message_by (codes "key") _ refl ∙ key_back id wire f.body.0 f.body.1 ∙ for_none interest 0 _ f.shown.0 ∙ from_zero interest node _ f.shown.1
+declare_back interest node (body.UndeclareKeyExpr id) f = first_back message_by (codes "unkey") _ refl ∙ unkey_back id f.body ∙ for_none interest 0 _ f.shown.0 ∙ from_zero interest node _ f.shown.1
 declare_back interest node (body.DeclareQueryable id wire info) f =
     ap message_of (nest5 (codes "queryable") (field (decimal id)) (field (wire_word wire)) (info_words info) (field (decimal node)) (field (option_word decimal interest)))
     ∙ first_back message_by (codes "queryable") _ refl ∙ queryable_back interest node id wire info f
 declare_back interest node (body.UndeclareQueryable id wire) f =
     ap message_of (nest3 (codes "unqueryable") (field (decimal id)) (field (option_word wire_word wire)) (field (decimal node)))
-    ∙ first_back message_by (codes "unqueryable") _ refl ∙ unqueryable_back node id wire f.0 f.1 f.2 ∙ for_none interest node _ f.3
-declare_back interest node body.DeclareFinal f = first_back message_by (codes "declfinal") _ refl ∙ declfinal_back interest f.0 ∙ from_zero interest node _ f.1
+    ∙ first_back message_by (codes "unqueryable") _ refl ∙ unqueryable_back node id wire f.body.0 f.body.1 f.node ∙ for_none interest node _ f.shown
+declare_back interest node body.DeclareFinal f = first_back message_by (codes "declfinal") _ refl ∙ declfinal_back interest f.interest ∙ from_zero interest node _ f.shown
 
 -- a printed message is read back
 pub message_back : (m : Message) → FitsMessage m → message_of (message_words m) ≡ Some m
@@ -248,15 +248,15 @@ interests_flat o f = option_flat (λ n. n ≤ most_32) decimal o (λ n l. decima
 
 declare_flat : (interest : Option ℕ) (node : ℕ) (b : DeclareBody) → FitsDeclare interest node b → Flat (declare_words interest node b)
 unfolding joined
-declare_flat interest node (body.DeclareKeyExpr id wire) f = all_flat (codes "key") (field (decimal id) ∷ field (wire_word wire) ∷ []) refl (decimal_lacks 10 id (omega (arith, f.0)) refl, (wire_flat wire f.1, tt))
-declare_flat interest node (body.UndeclareKeyExpr id) f = decimal_lacks 10 id (omega (arith, f.0)) refl
+declare_flat interest node (body.DeclareKeyExpr id wire) f = all_flat (codes "key") (field (decimal id) ∷ field (wire_word wire) ∷ []) refl (decimal_lacks 10 id (omega (arith, f.body.0)) refl, (wire_flat wire f.body.1, tt))
+declare_flat interest node (body.UndeclareKeyExpr id) f = decimal_lacks 10 id (omega (arith, f.body)) refl
 declare_flat interest node (body.DeclareQueryable id wire info) f =
     all_flat (codes "queryable") (field (decimal id) ∷ field (wire_word wire) ∷ info_words info ∷ field (decimal node) ∷ field (option_word decimal interest) ∷ []) refl
-    (decimal_lacks 10 id (omega (arith, f.0)) refl, (wire_flat wire f.1, (info_flat info f.2, (decimal_lacks 10 node (omega (arith, f.3)) refl, (interests_flat interest f.4, tt)))))
+    (decimal_lacks 10 id (omega (arith, f.body.0)) refl, (wire_flat wire f.body.1, (info_flat info f.body.2, (decimal_lacks 10 node (omega (arith, f.node)) refl, (interests_flat interest f.interest, tt)))))
 declare_flat interest node (body.UndeclareQueryable id wire) f =
     all_flat (codes "unqueryable") (field (decimal id) ∷ field (option_word wire_word wire) ∷ field (decimal node) ∷ []) refl
-    (decimal_lacks 10 id (omega (arith, f.0)) refl, (wires_flat wire f.1, (decimal_lacks 10 node (omega (arith, f.2)) refl, tt)))
-declare_flat interest node body.DeclareFinal f = interests_flat interest f.0
+    (decimal_lacks 10 id (omega (arith, f.body.0)) refl, (wires_flat wire f.body.1, (decimal_lacks 10 node (omega (arith, f.node)) refl, tt)))
+declare_flat interest node body.DeclareFinal f = interests_flat interest f.interest
 
 message_flat : (m : Message) → FitsMessage m → Flat (message_words m)
 message_flat (message.Request r) f = request_flat r f

@@ -1,5 +1,5 @@
 -- What a run reads and writes.
-use Rattle.std.specs.Prelude.{ℕ, ◌<◌, ◌≤◌, Bool, true, false, List, [], ◌∷◌, ◌++◌, Option, Result, Ok, Err, codes, length}
+use Rattle.std.specs.Prelude.{◌≡◌, ℕ, ◌<◌, ◌≤◌, Bool, true, false, List, [], ◌∷◌, ◌++◌, Option, Some, Result, Ok, Err, codes, length}
 use Rattle.std.specs.Str.{bytes_eq}
 use Rattle.std.specs.Fmt.{decimal}
 use Rattle.std.specs.Io.KnownBytes.{Appends}
@@ -9,6 +9,7 @@ use Rattle.zq_words.specs.declared.transfer.TheConstants.{LIMIT}
 use Rattle.zq_words.specs.Streams.{AppendsPrefix}
 use Rattle.zq_script.specs.Script.{lines_of, script_of}
 use Rattle.zq_script.specs.Steps.{steps_words}
+use Rattle.zq_script.specs.StepsRead.{steps_of}
 use Rattle.zq_script.specs.declared.script.Script.{Script}
 use Rattle.zq_script.specs.declared.run.Status.{Status}
 use Rattle.zq_script.specs.declared.run.Status.TheVariants as status
@@ -27,6 +28,10 @@ first_part (calls ∷ parts) = calls
 -- what a script prints: the steps of its calls
 abbrev pub script_print : Script → List ℕ
 script_print s = steps_words (steps s.config (first_part s.parts))
+
+-- the print of a script says its steps, and no other list of steps
+abbrev pub ReadsBack : Script → Type 0
+ReadsBack s = steps_of (script_print s) ≡ Some (steps s.config (first_part s.parts))
 
 -- what is printed for a script, or for the first bad line
 abbrev pub print_by : Result Script ℕ → List ℕ

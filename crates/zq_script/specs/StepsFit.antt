@@ -25,14 +25,28 @@ pub record FitsInterest (i : Interest) : Type 0 where
   pub id : i.id ≤ most_32
   pub wire : FitsOption FitsWire i.wire
 
--- a declaration: interest and node are within their fields where its line shows them, and none and 0 where it doesn't
-abbrev pub FitsDeclare : Option ℕ → ℕ → DeclareBody → Type 0
-FitsDeclare interest node (body.DeclareKeyExpr id wire) = (id ≤ most_16) × FitsWire wire × (interest ≡ None) × (node ≡ 0)
-FitsDeclare interest node (body.UndeclareKeyExpr id) = (id ≤ most_16) × (interest ≡ None) × (node ≡ 0)
-FitsDeclare interest node (body.DeclareQueryable id wire info) =
-    (id ≤ most_32) × FitsWire wire × (info.distance ≤ most_16) × (node ≤ most_16) × FitsOption (λ n. n ≤ most_32) interest
-FitsDeclare interest node (body.UndeclareQueryable id wire) = (id ≤ most_32) × FitsOption FitsWire wire × (node ≤ most_16) × (interest ≡ None)
-FitsDeclare interest node body.DeclareFinal = FitsOption (λ n. n ≤ most_32) interest × (node ≡ 0)
+-- what a declaration declares or takes back
+abbrev pub FitsDeclareBody : DeclareBody → Type 0
+FitsDeclareBody (body.DeclareKeyExpr id wire) = (id ≤ most_16) × FitsWire wire
+FitsDeclareBody (body.UndeclareKeyExpr id) = id ≤ most_16
+FitsDeclareBody (body.DeclareQueryable id wire info) = (id ≤ most_32) × FitsWire wire × (info.distance ≤ most_16)
+FitsDeclareBody (body.UndeclareQueryable id wire) = (id ≤ most_32) × FitsOption FitsWire wire
+FitsDeclareBody body.DeclareFinal = ⊤
+
+-- the line of a declaration shows all of it: the interest is none, and the node is 0, where the line doesn't have them
+abbrev pub ShowsDeclare : Option ℕ → ℕ → DeclareBody → Type 0
+ShowsDeclare interest node (body.DeclareKeyExpr id wire) = (interest ≡ None) × (node ≡ 0)
+ShowsDeclare interest node (body.UndeclareKeyExpr id) = (interest ≡ None) × (node ≡ 0)
+ShowsDeclare interest node (body.DeclareQueryable id wire info) = ⊤
+ShowsDeclare interest node (body.UndeclareQueryable id wire) = interest ≡ None
+ShowsDeclare interest node body.DeclareFinal = node ≡ 0
+
+-- a declaration, for an interest or for none, from a node
+pub record FitsDeclare (answers : Option ℕ) (origin : ℕ) (what : DeclareBody) : Type 0 where
+  pub interest : FitsOption (λ n. n ≤ most_32) answers
+  pub node : origin ≤ most_16
+  pub body : FitsDeclareBody what
+  pub shown : ShowsDeclare answers origin what
 
 -- a message whose words say all of it
 abbrev pub FitsMessage : Message → Type 0
@@ -63,3 +77,20 @@ pub record FitsHanded (h : Handed) : Type 0 where
 pub record FitsStep (t : Step) : Type 0 where
   pub outcome : FitsOutcome t.outcome
   pub handed : AllByRecursion FitsHanded t.handed
+
+-- the line of a message shows all of it
+abbrev pub ShowsMessage : Message → Type 0
+ShowsMessage (message.Request r) = ⊤
+ShowsMessage (message.Response r) = ⊤
+ShowsMessage (message.ResponseFinal f) = ⊤
+ShowsMessage (message.Declare d) = ShowsDeclare d.interest d.node d.body
+ShowsMessage (message.Interest i) = ⊤
+ShowsMessage (message.InterestFinal id) = ⊤
+
+-- the lines of a message that is handed, and of what leaves, show all of both
+abbrev pub ShowsHanded : Handed → Type 0
+ShowsHanded h = ShowsMessage h.message × FitsOption ShowsMessage h.leaves
+
+-- the lines of a step show all of it
+abbrev pub ShowsStep : Step → Type 0
+ShowsStep t = AllByRecursion ShowsHanded t.handed

@@ -2,6 +2,7 @@
 //!
 //! - `lines`: which call a line says.
 //! - `calls`: how a call is written as a line, which reads back as that call.
+//! - `fit`: that what lies in memory fits the fields of a print.
 //! - `head`: the lines before the calls.
 //! - `script`: a whole script: its head, and its calls in parts.
 //! - `refusal`: why bytes are no script.
@@ -13,6 +14,7 @@
 #![tactic(auto)]
 
 pub mod calls;
+mod fit;
 mod head;
 pub mod lines;
 pub mod refusal;

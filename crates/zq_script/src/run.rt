@@ -7,7 +7,7 @@ ghost use Rattle.zq_gateway.specs.Headline.{RunPromise};
 ghost use Rattle.zq_words.specs.declared.transfer.TheConstants.{LIMIT};
 ghost use Rattle.zq_words.specs.Streams.{Rose};
 ghost use Rattle.zq_script.specs.Script.{lines_of, script_of, AllBuilt};
-ghost use Rattle.zq_script.specs.Running.{is_command, first_part, print_of, script_print, IsEnd, Leaves, wrote, status_code};
+ghost use Rattle.zq_script.specs.Running.{is_command, first_part, print_of, script_print, ReadsBack, IsEnd, Leaves, wrote, status_code};
 
 use crate::refusal::ScriptRefusal;
 use crate::script::{Script, read_script};
@@ -79,10 +79,11 @@ fn first_part(script: &Script) -> &[Call]
 }
 
 /// The print of the steps that the script's calls are answered.
-#[tactic(auto, using(crate::proofs::Built::first_built))]
+#[tactic(auto, using(crate::proofs::Built::first_built, crate::proofs::Shown::steps_show))]
 fn print_script(alloc: Global, script: &Script) -> Result<Bytes, OutOfMemory>
     requires { AllByRecursion (AllBuilt script.now.config) script.now.parts }
-    ensures { IfOk result (λ b. b ≡ script_print script.now) }
+    ensures print { IfOk result (λ b. b ≡ script_print script.now) }
+    ensures back { IfOk result (λ _. ReadsBack script.now) }
 {
     let run = replay(alloc, &script.config, first_part(script))?;
     print_steps(alloc, run.steps.as_slice())
@@ -100,6 +101,7 @@ fn print_bad_line(alloc: Global, number: u64) -> Result<Bytes, OutOfMemory>
 /// What is printed for the bytes, and the status where the print is taken.
 fn print_of(alloc: Global, bytes: &[u8]) -> Result<(Status, Bytes), OutOfMemory>
     ensures print { IfOk result (λ t. t.1 ≡ print_of bytes.now) }
+    ensures back { IfOk result (λ _. IfOk (script_of 0 (lines_of bytes.now)) ReadsBack) }
     ensures status { IfOk result (λ t. IsEnd t.0 (script_of 0 (lines_of bytes.now))) }
 {
     match read_script(alloc, bytes, 0) {
@@ -115,6 +117,7 @@ fn print_of(alloc: Global, bytes: &[u8]) -> Result<(Status, Bytes), OutOfMemory>
 fn answer<K: Sink>(alloc: Global, bytes: &[u8], sink: &mut K) -> Status
     requires { length bytes.now ≤ LIMIT }
     ensures leaves { Leaves result bytes.now (K.taken sink.old) (K.taken sink.new) }
+    ensures back { result ≡ Status.Done → IfOk (script_of 0 (lines_of bytes.now)) ReadsBack }
     ensures fault { result ≡ Status.WriteFault → Rose (K.faults sink.old) (K.faults sink.new) }
     ensures quiet { result ≢ Status.WriteFault → K.faults sink.new ≡ K.faults sink.old }
     ensures later { K.faults sink.old ≤ K.faults sink.new }
@@ -142,6 +145,7 @@ pub fn run<S: Source, K: Sink>(
     ensures words { (result ≡ Status.Words) ↔ (is_command words.now ≡ false) }
     ensures untouched { result ≡ Status.Words → (source.new ≡ source.old) × (sink.new ≡ sink.old) }
     ensures leaves { IfSome (S.left source.old) (λ input. Leaves result input (K.taken sink.old) (K.taken sink.new)) }
+    ensures back { IfSome (S.left source.old) (λ input. result ≡ Status.Done → IfOk (script_of 0 (lines_of input)) ReadsBack) }
     ensures whole { result ≡ Status.Done → IsAtEnd (S.left source.new) }
     ensures read { result ≡ Status.ReadFault → Rose (S.faults source.old) (S.faults source.new) }
     ensures write { result ≡ Status.WriteFault → Rose (K.faults sink.old) (K.faults sink.new) }

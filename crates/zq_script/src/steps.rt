@@ -5,9 +5,10 @@ ghost use Rattle.std.specs.List.{AllByRecursion};
 ghost use Rattle.zq_words.specs.Words.{field, option_word};
 ghost use Rattle.zq_script.specs.Steps.{request_words, response_words, interest_words, declare_words, message_words, refusal_name, outcome_words, leaving_words, handed_words, step_words, steps_words};
 ghost use Rattle.zq_script.specs.StepsRead.{message_of, steps_of};
-ghost use Rattle.zq_script.specs.StepsFit.{FitsMessage, FitsStep};
+ghost use Rattle.zq_script.specs.StepsFit.{ShowsMessage, ShowsStep};
 
 use crate::calls::{push_body, push_info};
+use crate::fit::{message_fits, steps_fit};
 use crate::same::same_message;
 use std::alloc::{AllocError, Global};
 use std::fmt::Write;
@@ -115,12 +116,13 @@ fn push_message(out: &mut String, message: &Message) -> Result<(), AllocError>
     }
 }
 
-/// The words of a message, which are read back as that message.
+/// The words of a message, which are read back as that message where they show all of it.
 #[tactic(auto, using(crate::proofs::StepsBack::message_back))]
 pub fn print_message(alloc: Global, message: &Message) -> Result<Bytes, OutOfMemory>
     ensures words { IfOk result (λ b. b ≡ message_words message.now) }
-    ensures back { IfOk result (λ b. FitsMessage message.now → message_of b ≡ Some message.now) }
+    ensures back { IfOk result (λ b. ShowsMessage message.now → message_of b ≡ Some message.now) }
 {
+    message_fits(message);
     let mut out = String::new(alloc);
     push_message(&mut out, message)?;
     Ok(Bytes::from_vec(out.into_bytes()))
@@ -203,11 +205,13 @@ fn push_step(out: &mut String, step: &Step) -> Result<(), AllocError>
     Ok(())
 }
 
-/// The print of steps, one step after the other, which is read back as those steps.
+/// The print of steps, one step after the other, which is read back as those steps where it shows
+/// all of them.
 pub fn print_steps(alloc: Global, steps: &[Step]) -> Result<Bytes, OutOfMemory>
     ensures words { IfOk result (λ b. b ≡ steps_words steps.now) }
-    ensures back { IfOk result (λ b. AllByRecursion FitsStep steps.now → steps_of b ≡ Some steps.now) }
+    ensures back { IfOk result (λ b. AllByRecursion ShowsStep steps.now → steps_of b ≡ Some steps.now) }
 {
+    steps_fit(steps);
     let mut out = String::new(alloc);
     for step in steps {
         push_step(&mut out, step)?;

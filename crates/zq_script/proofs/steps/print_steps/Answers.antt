@@ -5,4 +5,4 @@ use Rattle.zq_script.proofs.StepsBack.{steps_back}
 use Rattle.zq_script.proofs.steps.print_steps.Goals as goal
 
 pub returns-clause-back : goal.returns-clause-back
-returns-clause-back c = let words : c.from_vec.result ≡ steps_words c.args.steps.now = grind (arith, common_steps) in λ fits. rw words (steps_back c.args.steps.now fits)
+returns-clause-back c = let words : c.from_vec.result ≡ steps_words c.args.steps.now = grind (arith, common_steps) in λ shown. rw words (steps_back c.args.steps.now (c.steps_fit.ensures shown))
