@@ -2,6 +2,7 @@ pub mod Folds
 pub mod Laws
 pub mod Rebuilt
 pub mod Held
+pub mod Ranks
 pub mod Texts
 pub mod Holding
 pub mod Reading

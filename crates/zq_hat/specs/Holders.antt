@@ -1,12 +1,12 @@
 -- Who declared each key, as the hat keeps it beside the faces' own lists.
-use Rattle.std.specs.Prelude.{ℕ, ◌≡◌, ◌==◌, true, List, [], ◌∷◌, Option, Some, None, map, filter, if◌then◌else◌}
-use Rattle.std.specs.List.{flat_map}
+use Rattle.std.specs.Prelude.{ℕ, Bool, not, false, ◌≡◌, ◌==◌, true, List, [], ◌∷◌, Option, Some, None, map, filter, if◌then◌else◌}
+use Rattle.std.specs.List.{flat_map, list_any}
 use Rattle.std.specs.List.Sorted.{IsStrictlySortedBy}
 use Rattle.std.specs.Option.{option_map_or, option_and_then, option_to_list}
 use Rattle.std.specs.Map.{lookup, keys_of, remove_entry, set_value}
 use Rattle.std.specs.BTreeMap.{insert_entry, is_at}
 use Rattle.std.specs.declared.cmp.Ordering.{Ordering}
-use Rattle.std.specs.Ordering.{nat_cmp, ordering_then}
+use Rattle.std.specs.Ordering.{nat_cmp, bool_cmp, ordering_then}
 use Rattle.std.specs.Str.{bytes_eq}
 use Rattle.std.specs.Prelude.{String, string_bytes}
 use Rattle.std.specs.declared.alloc.Global.{Global}
@@ -32,6 +32,18 @@ place_cmp x y = ordering_then (nat_cmp x.0 y.0) (nat_cmp x.1 y.1)
 abbrev pub Holdings : Type 0
 Holdings = List (Place × QueryableInfoType)
 
+-- where an information goes in merging, and its place
+abbrev pub Rank : Type 0
+Rank = (Bool × ℕ) × Place
+
+-- complete ones first, then the nearer; by place where they are alike
+abbrev pub rank_cmp : Rank → Rank → Ordering
+rank_cmp x y = ordering_then (ordering_then (bool_cmp x.0.0 y.0.0) (nat_cmp x.0.1 y.0.1)) (place_cmp x.1 y.1)
+
+-- the rank of the information at the place
+abbrev pub rank_of : Place → QueryableInfoType → Rank
+rank_of p i = ((not i.complete, i.distance), p)
+
 -- the declarations on each key, by text
 abbrev pub Index : Type 0
 Index = List (List ℕ × Holdings)
@@ -43,6 +55,19 @@ at_text key es = lookup (is_at (text_cmp key)) es
 -- what stands at the place
 abbrev pub at_place : {X : Type 0} → Place → List (Place × X) → Option X
 at_place p es = lookup (is_at (place_cmp p)) es
+
+-- the rank is among them
+abbrev pub has_rank : Rank → List Rank → Bool
+has_rank k ks = list_any (is_at (rank_cmp k)) ks
+
+-- it is the rank of what stands at its place
+abbrev pub is_rank : Rank → Option QueryableInfoType → Bool
+is_rank k o = option_map_or (λ i. is_at (rank_cmp k) (rank_of k.1 i)) o false
+
+-- the places are in order, and the ranks are those of the informations
+pub record IsRanked (es : Holdings) (ks : List Rank) : Type 0 where
+  pub places : IsStrictlySortedBy place_cmp (keys_of es)
+  pub ranks : (k : Rank) → has_rank k ks ≡ is_rank k (at_place k.1 es)
 
 -- the declarations on the key
 abbrev pub held_at : List ℕ → Index → Holdings

@@ -5,38 +5,41 @@ ghost use Rattle.std.specs.Map.{remove_entry, set_value};
 ghost use Rattle.std.specs.BTreeMap.{insert_entry, is_at};
 ghost use Rattle.std.specs.String.{string_bytes};
 ghost use Rattle.zq_hat.specs.Kept.{text_cmp};
-ghost use Rattle.zq_hat.specs.Holders.{place_cmp, at_text, with_holding, without_holding, with_held, texts_of, Holdings};
+ghost use Rattle.zq_hat.specs.Holders.{place_cmp, at_text, with_holding, without_holding, with_held, texts_of, rank_of, Holdings};
 
-use crate::info::joined;
+use crate::info::same_info;
 use std::alloc::Global;
-use std::collections::BTreeMap;
+use std::collections::{BTreeMap, BTreeSet};
 use std::marker::Model;
 use zq_key::memory::OutOfMemory;
 use zq_key::message::QueryableInfoType;
 
-/// The declarations on one key: their informations by face and id.
+/// Where an information goes in merging: complete ones first, then the nearer; by face and id where
+/// they are alike.
+type Rank = ((bool, u16), (u32, u32));
+
+/// The declarations on one key: their informations by face and id, and the ranks of these, so that
+/// the merge is the first.
 #[derive(Drop)]
 pub struct Holders {
     infos: BTreeMap<(u32, u32), QueryableInfoType>,
+    ranks: BTreeSet<Rank>,
 }
 
 impl Model for Holders {
-    ghost use Rattle.zq_hat.specs.Holders.{Holdings};
+    ghost use Rattle.zq_hat.specs.Holders.{Holdings, IsRanked};
 
     ghost Value = { Holdings };
 
     ghost view = { λ h. h.infos.entries };
+
+    ghost invariant = { λ h. IsRanked h.infos.entries h.ranks.keys };
 }
 
-/// What the declarations say, merged.
-fn merged(infos: &BTreeMap<(u32, u32), QueryableInfoType>) -> Option<QueryableInfoType>
-    ensures { result ≡ fold with_held None infos.now.entries }
+fn rank(place: (u32, u32), info: QueryableInfoType) -> Rank
+    ensures { result ≡ rank_of place info }
 {
-    let mut merged = None;
-    for (_, info) in infos {
-        merged = joined(merged, Some(*info));
-    }
-    merged
+    ((!info.complete, info.distance), place)
 }
 
 /// Equal informations.
@@ -61,6 +64,7 @@ impl Holders {
     {
         Ok(Holders {
             infos: copy_infos(&self.infos, alloc)?,
+            ranks: self.ranks.clone()?,
         })
     }
 
@@ -69,6 +73,7 @@ impl Holders {
     {
         Holders {
             infos: BTreeMap::new(alloc),
+            ranks: BTreeSet::new(alloc),
         }
     }
 
@@ -83,16 +88,32 @@ impl Holders {
     pub fn merged(&self) -> Option<QueryableInfoType>
         ensures { result ≡ fold with_held None self.now }
     {
-        merged(&self.infos)
+        match self.ranks.first() {
+            Some(((incomplete, distance), _)) => Some(QueryableInfoType {
+                complete: !*incomplete,
+                distance: *distance,
+            }),
+            None => None,
+        }
     }
 
     fn put(&mut self, place: (u32, u32), info: QueryableInfoType) -> Result<(), OutOfMemory>
         ensures ok { OnOk result (self.new ≡ insert_entry place_cmp self.old place info) }
         ensures err { OnErr result (self.new ≡ self.old) }
     {
+        self.ranks.insert(rank(place, info))?;
         match self.infos.insert(place, info) {
-            Ok(_) => Ok(()),
-            Err(_) => Err(OutOfMemory),
+            Ok(Some(before)) => {
+                if !same_info(before, info) {
+                    let _ = self.ranks.remove(&rank(place, before));
+                }
+                Ok(())
+            }
+            Ok(None) => Ok(()),
+            Err(_) => {
+                let _ = self.ranks.remove(&rank(place, info));
+                Err(OutOfMemory)
+            }
         }
     }
 
@@ -100,7 +121,9 @@ impl Holders {
         ensures after { self.new ≡ remove_entry (is_at (place_cmp place)) self.old }
         ensures empty { result ≡ (length self.new == 0) }
     {
-        let _ = self.infos.remove(&place);
+        if let Some(gone) = self.infos.remove(&place) {
+            let _ = self.ranks.remove(&rank(place, gone));
+        }
         self.infos.len() == 0
     }
 }

@@ -1,4 +1,4 @@
-use Rattle.std.proofs.Common.{◌≡◌, ◌∙◌, ap, map}
+use Rattle.std.proofs.Common.{◌∙◌, ap, map}
 use Rattle.std.specs.BTreeMap.{is_at}
 use Rattle.std.specs.String.{string_bytes}
 use Rattle.zq_hat.specs.Kept.{text_cmp}

@@ -1,4 +1,4 @@
-use Rattle.std.proofs.Common.{◌≡◌, ◌∙◌, refl, ap, subst, ◌+◌, ◌++◌, ◌∷◌, [], get_or, take, List, ℕ, arith}
+use Rattle.std.proofs.Common.{◌≡◌, refl, ap, subst, ◌+◌, ◌++◌, ◌∷◌, [], get_or, take, List, ℕ, arith}
 use native.Mathlib.Numerals.{unary_clauses}
 use Rattle.std.specs.String.{string_bytes}
 use Rattle.zq_names.specs.Matching.{IsApartAt}

@@ -1,4 +1,4 @@
-use Rattle.std.proofs.Common.{◌≡◌, fold, [], List, ◌++◌}
+use Rattle.std.proofs.Common.{◌≡◌, fold, []}
 use Rattle.std.specs.List.{AllByRecursion, flat_map}
 use Rattle.zq_hat.specs.Offers.{place, offer_cmp}
 use Rattle.zq_hat.specs.Holders.{IsKeyed, holder_offers, texts_of}

@@ -1,4 +1,4 @@
-use Rattle.std.proofs.Common.{◌≡◌, ◌∙◌, ap, true}
+use Rattle.std.proofs.Common.{◌∙◌, ap}
 use Rattle.zq_hat.specs.Kept.{has_face}
 use Rattle.zq_hat.specs.State.{HatState}
 use Rattle.zq_hat.proofs.Marking.{mark_tied}
