@@ -1,11 +1,11 @@
 //! The ids of one face.
-ghost use Rattle.std.specs.Prelude.{◌≡◌, ◌+◌, ◌<◌, ◌≤◌, ◌++◌, [], None, Some, Err, IfOk, IfErr, IfSome, IfNone, OnOk, OnErr, MatchOption, option_map, is_some, true, false, slice_get};
+ghost use Rattle.std.specs.Prelude.{◌≡◌, ◌↔◌, ◌+◌, ◌<◌, ◌≤◌, ◌++◌, [], None, Some, Err, IfOk, IfErr, IfSome, IfNone, IsTrue, OnOk, OnErr, MatchOption, option_map, is_some, true, false, slice_get};
 ghost use Rattle.std.specs.Map.{keys_of};
 ghost use Rattle.std.specs.Str.{IsCharBoundary};
 ghost use Rattle.std.specs.List.{Contains};
 ghost use Rattle.zq_key.specs.Key.{is_key as key_of};
 ghost use Rattle.zq_names.specs.Names.{IsLive, HasText, Makes, entry_at};
-ghost use Rattle.zq_tables.specs.FaceIds.{of_id, with_id, without_id, side, sent_side, is_used as used_of, next_id, AreLive};
+ghost use Rattle.zq_tables.specs.FaceIds.{no_ids, of_id, with_id, without_id, side, sent_side, is_used as used_of, next_id, AreLive};
 ghost use Rattle.zq_tables.specs.Registering.{Maps, Registers};
 ghost use Rattle.zq_tables.specs.FaceTexts.{texts_of, full_of, read_by, known as known_of, part_choice, declared_ids, best_part as part_of, best_key, declared_key, with_declared, registered, register_refusal, IsReason};
 
@@ -80,6 +80,13 @@ impl FaceNames {
             Some(node) => Some(ResourceId(node)),
             None => None,
         }
+    }
+
+    /// Whether neither side has an id.
+    pub fn is_empty(&self) -> bool
+        ensures { IsTrue result ↔ (self.now ≡ no_ids) }
+    {
+        self.theirs.is_empty() && self.ours.is_empty()
     }
 
     /// The least id that the face declared.

@@ -1,5 +1,5 @@
 //! The ids of one side of a face, with a way back from a node to its least id.
-ghost use Rattle.std.specs.Prelude.{◌≡◌, [], None, OnOk, OnErr, IfOk, is_some, option_map, slice_get, true, false};
+ghost use Rattle.std.specs.Prelude.{◌≡◌, ◌↔◌, [], None, OnOk, OnErr, IfOk, IsTrue, is_some, option_map, slice_get, true, false};
 ghost use Rattle.std.specs.List.Sorted.{IsStrictlySortedBy};
 ghost use Rattle.std.specs.Map.{keys_of};
 ghost use Rattle.std.specs.Ordering.{nat_cmp};
@@ -65,6 +65,13 @@ impl Ids {
         ensures { result ≡ slice_get (keys_of self.now) 0 }
     {
         self.nodes.keys().next().copied()
+    }
+
+    // Whether there is no id.
+    pub(crate) fn is_empty(&self) -> bool
+        ensures { IsTrue result ↔ (self.now ≡ []) }
+    {
+        self.nodes.is_empty()
     }
 
     // How many ids there are.
