@@ -198,7 +198,7 @@ impl FaceNames {
         self.map_new(names, id, from, wire.suffix.as_str())
     }
 
-    // Lets a new id stand for the text, of which the node is made. Room for the id is taken first, under the greatest number, which moves no pair of the others.
+    // Lets a new id stand for the text, of which the node is made.
     fn map_new(
         &mut self,
         names: &mut Names,
@@ -213,17 +213,8 @@ impl FaceNames {
         ensures err { OnErr result ((self.new ≡ self.old) × (names.new ≡ names.old)) }
         ensures only { IfErr result (λ e. key_of ((entry_at names.old from.0).text ++ suffix.now) ≡ true → e ≡ NameRefusal.OutOfMemory) }
     {
-        self.theirs.put(id, u64::MAX)?;
-        match names.make_resource(from, suffix) {
-            Ok(r) => {
-                self.theirs.change(id, r.0);
-                Ok(())
-            }
-            Err(refusal) => {
-                self.theirs.remove(id);
-                Err(refusal)
-            }
-        }
+        self.theirs.put_made(names, id, from, suffix)?;
+        Ok(())
     }
 
     // The id that names the text to the face, its own first.
