@@ -141,10 +141,12 @@ impl Naming {
     {
         match self.faces.get(&face.0) {
             Some(nodes) => {
+                let numbers = nodes.numbers();
+                if numbers.is_empty() {
+                    return plain(self.alloc, text);
+                }
                 let root = self.names.root();
-                nodes
-                    .numbers()
-                    .get_best_key(self.alloc, &self.names, root, text)
+                numbers.get_best_key(self.alloc, &self.names, root, text)
             }
             None => plain(self.alloc, text),
         }

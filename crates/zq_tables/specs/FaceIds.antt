@@ -14,6 +14,10 @@ pub record FaceIds : Type 0 where
   pub theirs : List (ℕ × ℕ)
   pub ours : List (ℕ × ℕ)
 
+-- neither side has an id
+abbrev pub no_ids : FaceIds
+no_ids = record { theirs = []; ours = [] }
+
 -- what an id stands for
 abbrev pub of_id : {X : Type 0} → List (ℕ × X) → ℕ → Option X
 of_id list i = lookup (is_at (nat_cmp i)) list

@@ -1,11 +1,11 @@
 //! The ids of one face.
-ghost use Rattle.std.specs.Prelude.{◌≡◌, ◌+◌, ◌<◌, ◌≤◌, ◌++◌, [], None, Some, Err, IfOk, IfErr, IfSome, IfNone, OnOk, OnErr, MatchOption, option_map, is_some, true, false, slice_get};
+ghost use Rattle.std.specs.Prelude.{◌≡◌, ◌↔◌, ◌+◌, ◌<◌, ◌≤◌, ◌++◌, [], None, Some, Err, IfOk, IfErr, IfSome, IfNone, IsTrue, OnOk, OnErr, MatchOption, option_map, is_some, true, false, slice_get};
 ghost use Rattle.std.specs.Map.{keys_of};
 ghost use Rattle.std.specs.Str.{IsCharBoundary};
 ghost use Rattle.std.specs.List.{Contains};
 ghost use Rattle.zq_key.specs.Key.{is_key as key_of};
 ghost use Rattle.zq_names.specs.Names.{IsLive, HasText, Makes, entry_at};
-ghost use Rattle.zq_tables.specs.FaceIds.{of_id, with_id, without_id, side, sent_side, is_used as used_of, next_id, AreLive};
+ghost use Rattle.zq_tables.specs.FaceIds.{no_ids, of_id, with_id, without_id, side, sent_side, is_used as used_of, next_id, AreLive};
 ghost use Rattle.zq_tables.specs.Registering.{Maps, Registers};
 ghost use Rattle.zq_tables.specs.FaceTexts.{texts_of, full_of, read_by, known as known_of, part_choice, declared_ids, best_part as part_of, best_key, declared_key, with_declared, registered, register_refusal, IsReason};
 
@@ -80,6 +80,13 @@ impl FaceNames {
             Some(node) => Some(ResourceId(node)),
             None => None,
         }
+    }
+
+    /// Whether neither side has an id.
+    pub fn is_empty(&self) -> bool
+        ensures { IsTrue result ↔ (self.now ≡ no_ids) }
+    {
+        self.theirs.is_empty() && self.ours.is_empty()
     }
 
     /// The least id that the face declared.
@@ -191,7 +198,7 @@ impl FaceNames {
         self.map_new(names, id, from, wire.suffix.as_str())
     }
 
-    // Lets a new id stand for the text, of which the node is made. Room for the id is taken first, under the greatest number, which moves no pair of the others.
+    // Lets a new id stand for the text, of which the node is made.
     fn map_new(
         &mut self,
         names: &mut Names,
@@ -206,17 +213,8 @@ impl FaceNames {
         ensures err { OnErr result ((self.new ≡ self.old) × (names.new ≡ names.old)) }
         ensures only { IfErr result (λ e. key_of ((entry_at names.old from.0).text ++ suffix.now) ≡ true → e ≡ NameRefusal.OutOfMemory) }
     {
-        self.theirs.put(id, u64::MAX)?;
-        match names.make_resource(from, suffix) {
-            Ok(r) => {
-                self.theirs.change(id, r.0);
-                Ok(())
-            }
-            Err(refusal) => {
-                self.theirs.remove(id);
-                Err(refusal)
-            }
-        }
+        self.theirs.put_made(names, id, from, suffix)?;
+        Ok(())
     }
 
     // The id that names the text to the face, its own first.

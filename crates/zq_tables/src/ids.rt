@@ -1,32 +1,39 @@
 //! The ids of one side of a face, with a way back from a node to its least id.
-ghost use Rattle.std.specs.Prelude.{◌≡◌, [], None, OnOk, OnErr, IfOk, is_some, option_map, slice_get, true, false};
+ghost use Rattle.std.specs.Prelude.{◌≡◌, ◌↔◌, ◌++◌, [], None, OnOk, OnErr, IfOk, IfErr, IsTrue, is_some, option_map, slice_get, true, false};
 ghost use Rattle.std.specs.List.Sorted.{IsStrictlySortedBy};
 ghost use Rattle.std.specs.Map.{keys_of};
 ghost use Rattle.std.specs.Ordering.{nat_cmp};
+ghost use Rattle.zq_key.specs.Key.{is_key as key_of};
+ghost use Rattle.zq_names.specs.Names.{IsLive, HasText, Makes, entry_at};
+ghost use Rattle.zq_names.specs.Keeping.{AllStay};
+ghost use Rattle.zq_names.specs.Idle.{IdleAt, NoneIdle};
 ghost use Rattle.zq_tables.specs.FaceIds.{of_id, with_id, without_id, least_id as least_of_node};
 
 use crate::pairs::{least_of, put_pair, take_pair};
 use std::alloc::Global;
-use std::collections::BTreeMap;
+use std::collections::{BTreeMap, BTreeSet};
 use std::marker::Model;
 use zq_key::memory::OutOfMemory;
+use zq_names::{NameRefusal, Names, ResourceId};
 
 // Ids with their nodes, and the same pairs in the order of their nodes.
 #[derive(Drop)]
 pub(crate) struct Ids {
     nodes: BTreeMap<u16, u64>,
-    by_node: Vec<(u64, u16)>,
+    by_node: BTreeSet<(u64, u16)>,
+    // whether the pairs are all there, which they are until one finds no memory
+    whole: bool,
 }
 
 impl Model for Ids {
     ghost use Rattle.std.specs.Prelude.{List, ℕ};
-    ghost use Rattle.zq_tables.specs.FaceIndex.{IsIndex};
+    ghost use Rattle.zq_tables.specs.FaceIndex.{IsIndexed};
 
     ghost Value = { List (ℕ × ℕ) };
 
     ghost view = { λ s. s.nodes.entries };
 
-    ghost invariant = { λ s. IsIndex s.nodes.entries s.by_node.items };
+    ghost invariant = { λ s. IsIndexed s.whole s.nodes.entries s.by_node.keys };
 }
 
 impl Ids {
@@ -35,7 +42,8 @@ impl Ids {
     {
         Ids {
             nodes: BTreeMap::new(alloc),
-            by_node: Vec::new(alloc),
+            by_node: BTreeSet::new(alloc),
+            whole: true,
         }
     }
 
@@ -57,7 +65,10 @@ impl Ids {
         ensures { result ≡ least_of_node self.now node }
     {
         let _ids = self.nodes.len();
-        least_of(&self.by_node, node)
+        if self.whole {
+            return least_of(&self.by_node, node);
+        }
+        first_of(&self.nodes, node)
     }
 
     // The least id.
@@ -65,6 +76,13 @@ impl Ids {
         ensures { result ≡ slice_get (keys_of self.now) 0 }
     {
         self.nodes.keys().next().copied()
+    }
+
+    // Whether there is no id.
+    pub(crate) fn is_empty(&self) -> bool
+        ensures { IsTrue result ↔ (self.now ≡ []) }
+    {
+        self.nodes.is_empty()
     }
 
     // How many ids there are.
@@ -80,23 +98,46 @@ impl Ids {
         ensures ok { OnOk result (self.new ≡ with_id self.old id node) }
         ensures err { OnErr result (self.new ≡ self.old) }
     {
-        self.by_node.reserve(1)?;
         put_id(&mut self.nodes, id, node)?;
-        put_pair(&mut self.by_node, node, id);
-        Ok(())
+        if put_pair(&mut self.by_node, node, id) {
+            return Ok(());
+        }
+        let _ = self.nodes.remove(&id);
+        Err(OutOfMemory)
     }
 
-    // Lets an id that is there stand for another node, which takes no memory.
-    pub(crate) fn change(&mut self, id: u16, node: u64)
-        requires { is_some (of_id self.old id) ≡ true }
-        ensures { self.new ≡ with_id self.old id node }
+    // Lets a new id stand for a text, of which the node is made. Room for the id is taken first, under the greatest number.
+    pub(crate) fn put_made(
+        &mut self,
+        names: &mut Names,
+        id: u16,
+        from: ResourceId,
+        suffix: &str,
+    ) -> Result<ResourceId, NameRefusal>
+        requires live { IsLive names.old from }
+        requires new { of_id self.old id ≡ None }
+        ensures put { IfOk result (λ r. self.new ≡ with_id self.old id r.0) }
+        ensures made { IfOk result (λ r. Makes names.old names.new r ((entry_at names.old from.0).text ++ suffix.now)) }
+        ensures named { IfOk result (λ r. HasText names.new r ((entry_at names.old from.0).text ++ suffix.now)) }
+        ensures kept { OnOk result (AllStay names.old names.new) }
+        ensures lean { IfOk result (λ r. NoneIdle names.old → IdleAt names.new r.0) }
+        ensures only { IfErr result (λ e. key_of ((entry_at names.old from.0).text ++ suffix.now) ≡ true → e ≡ NameRefusal.OutOfMemory) }
+        ensures err { OnErr result (self.new ≡ self.old) }
+        ensures names { OnErr result (names.new ≡ names.old) }
     {
-        let Some(before) = self.get(id) else {
-            unreachable!()
-        };
-        set_id(&mut self.nodes, id, node);
-        take_pair(&mut self.by_node, before, id);
-        put_pair(&mut self.by_node, node, id);
+        put_id(&mut self.nodes, id, u64::MAX)?;
+        match names.make_resource(from, suffix) {
+            Ok(r) => {
+                set_id(&mut self.nodes, id, r.0);
+                let put = put_pair(&mut self.by_node, r.0, id);
+                self.whole = both(self.whole, put);
+                Ok(r)
+            }
+            Err(refusal) => {
+                let _ = self.nodes.remove(&id);
+                Err(refusal)
+            }
+        }
     }
 
     // Drops the id, and answers whether it was there.
@@ -114,12 +155,13 @@ impl Ids {
         }
     }
 
-    pub(crate) fn copy(&self, alloc: Global) -> Result<Ids, OutOfMemory>
+    pub(crate) fn copy(&self, _alloc: Global) -> Result<Ids, OutOfMemory>
         ensures { IfOk result (λ ids. ids ≡ self.now) }
     {
         Ok(Ids {
             nodes: self.nodes.clone()?,
-            by_node: Vec::from_slice(alloc, &self.by_node)?,
+            by_node: self.by_node.clone()?,
+            whole: self.whole,
         })
     }
 }
@@ -141,4 +183,23 @@ fn set_id(nodes: &mut BTreeMap<u16, u64>, id: u16, node: u64)
     ensures ordered { IsStrictlySortedBy nat_cmp (keys_of nodes.old.entries) }
 {
     let _ = nodes.insert(id, node);
+}
+
+// The least id of the node, by a look at each id.
+fn first_of(nodes: &BTreeMap<u16, u64>, node: u64) -> Option<u16>
+    ensures { result ≡ least_of_node nodes.now.entries node }
+{
+    for (id, other) in nodes {
+        if *other == node {
+            return Some(*id);
+        }
+    }
+    None
+}
+
+fn both(a: bool, b: bool) -> bool
+    ensures first { result ≡ true → a ≡ true }
+    ensures second { result ≡ true → b ≡ true }
+{
+    a && b
 }
