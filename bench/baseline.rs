@@ -1,6 +1,7 @@
 //! The query gateway as plain Rust, to compare the program's speed with. It reads the same scripts and prints the same
-//! prints, for the calls that the gateway answers today. It was written from docs/SCRIPT.md and the definitions in the
-//! folders `specs`, with the maps that come to mind first. Nothing is proved of it, and nothing else uses it.
+//! prints, as far as faces are opened as clients, in Local and in South regions of clients, and have no marks. It was
+//! written from docs/SCRIPT.md and the definitions in the folders `specs`, with the maps that come to mind first.
+//! Nothing is proved of it, and nothing else uses it.
 //!
 //!     rustc --edition 2021 -O -o baseline bench/baseline.rs && ./baseline replay < SCRIPT
 
@@ -556,7 +557,7 @@ impl Gateway {
         self.done()
     }
 
-    /// A list of gateways counts between North and other regions, and no face can be opened in North yet.
+    /// A list of gateways counts between North and other regions, and no face is opened in North here.
     fn gateways(&mut self, region: Region) -> Answer {
         if self.hats.contains_key(&region) {
             self.done()
