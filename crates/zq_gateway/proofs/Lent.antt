@@ -1,5 +1,5 @@
 -- A map of which one value was lent and came back as it was is as it was.
-use Rattle.std.proofs.Common.{◌≡◌, ◌∙◌, sym, ap, ℕ, Bool, List, Option, Some, Result}
+use Rattle.std.proofs.Common.{◌≡◌, ◌∙◌, sym, ap, Bool, List, Some, Result}
 use Rattle.std.specs.Prelude.{OnErr}
 use Rattle.std.specs.Map.{lookup, set_value}
 use Rattle.std.proofs.lemmas.Map.Steps.{set_value_same}

@@ -29,7 +29,7 @@ use Rattle.zq_gateway.specs.Selecting.{select, full_text, target_of}
 use Rattle.zq_gateway.specs.TextCalls.{TextCall, opening, closing, naming, unnaming, declaring, withdrawing, asking, replying, ending, reporting, passing, listing, finalizing, unbuilt, read}
 use Rattle.zq_gateway.specs.Deciding.{refusal_of, granted, answered, is_accepted, accepted, after_replied, deadline, handed_final, handed_request, handed_requests, handed_replies, handed_timeouts, passing_finals, replied}
 use Rattle.zq_gateway.specs.Machine.{written, write, accepted_state, step, after, sent_reply, sent_timeout}
-use Rattle.zq_gateway.specs.Waiting.{Waits, carries, ends_entry, gives, lands, owes, until, waits}
+use Rattle.zq_gateway.specs.Waiting.{Waits, hands_reply, ends_entry, gives, lands, owes, until, waits}
 use Rattle.zq_gateway.proofs.Waiting.{asked, owes_let, owes_landed, owes_timing, owes_after_put, owes_asked, flies_let, flies_landed, flies_put, flies_timing, flies_asked, says, timeouts_fit}
 use Rattle.zq_gateway.proofs.Writing.{replies_written, timeouts_written}
 
@@ -88,15 +88,15 @@ module _ (n : ℕ) (names : NamingState) where
   finals_give moment e [] = refl
   finals_give moment e (f ∷ fs) = (λ j. and-false (f.number == n) j || finals_give moment e fs j)
 
-  pub finals_carry : (k : ℕ) (fs : List Final) → list_any (carries n k) (map (written names) (map handed_final fs)) ≡ false
+  pub finals_carry : (k : ℕ) (fs : List Final) → list_any (hands_reply n k) (map (written names) (map handed_final fs)) ≡ false
   finals_carry k [] = refl
   finals_carry k (f ∷ fs) = (λ j. and-false (f.number == n) j || finals_carry k fs j)
 
-  requests_carry : (k : ℕ) (q : QueryState) (text : List ℕ) (r : Request) (os : List QueryTargetQabl) → list_any (carries n k) (map (written names) (map (handed_request q text r) os)) ≡ false
+  requests_carry : (k : ℕ) (q : QueryState) (text : List ℕ) (r : Request) (os : List QueryTargetQabl) → list_any (hands_reply n k) (map (written names) (map (handed_request q text r) os)) ≡ false
   requests_carry k q text r [] = refl
   requests_carry k q text r (o ∷ os) = (λ j. and-false (q.requests == n) j || requests_carry k q text r os j)
 
-  pub asked_carry : (k : ℕ) (q : QueryState) (face : FaceId) (text : List ℕ) (r : Request) (os : List QueryTargetQabl) → list_any (carries n k) (map (written names) (handed_requests q face text r os)) ≡ false
+  pub asked_carry : (k : ℕ) (q : QueryState) (face : FaceId) (text : List ℕ) (r : Request) (os : List QueryTargetQabl) → list_any (hands_reply n k) (map (written names) (handed_requests q face text r os)) ≡ false
   asked_carry k q face text r [] = or-false _ ∙ and-false (q.requests == n)
   asked_carry k q face text r (o ∷ os) = requests_carry k q text r (o ∷ os)
 
@@ -132,17 +132,17 @@ module _ (n : ℕ) (names : NamingState) where
       none [] = refl
       none (u ∷ us) = (λ j. and-false (u.number == n) j || none us j)
 
-  unsaid : (k : ℕ) (faces : List (ℕ × OpenFace)) (t : Timeout) (ts : List Timeout) (o : Option ℕ) → t.reply ≡ o → list_any (carries n k) (map (sent_timeout faces) (filter has_number_for ts)) ≡ list_any (says n k) ts
-      → list_any (carries n k) (map (sent_timeout faces) (cond (is_some o) (t ∷ filter has_number_for ts) (filter has_number_for ts))) ≡ (((t.number == n) && option_map_or (is_reply k) o false) || list_any (says n k) ts)
+  unsaid : (k : ℕ) (faces : List (ℕ × OpenFace)) (t : Timeout) (ts : List Timeout) (o : Option ℕ) → t.reply ≡ o → list_any (hands_reply n k) (map (sent_timeout faces) (filter has_number_for ts)) ≡ list_any (says n k) ts
+      → list_any (hands_reply n k) (map (sent_timeout faces) (cond (is_some o) (t ∷ filter has_number_for ts) (filter has_number_for ts))) ≡ (((t.number == n) && option_map_or (is_reply k) o false) || list_any (says n k) ts)
   unsaid k faces t ts None e ih = ih ∙ ap (λ b. b || list_any (says n k) ts) (sym (and-false (t.number == n)))
   unsaid k faces t ts (Some x) e ih = (λ j. ((t.number == n) && option_map_or (is_reply k) (e j) false) || ih j)
 
-  timeouts_say : (k : ℕ) (faces : List (ℕ × OpenFace)) (ts : List Timeout) → list_any (carries n k) (map (sent_timeout faces) (filter has_number_for ts)) ≡ list_any (says n k) ts
+  timeouts_say : (k : ℕ) (faces : List (ℕ × OpenFace)) (ts : List Timeout) → list_any (hands_reply n k) (map (sent_timeout faces) (filter has_number_for ts)) ≡ list_any (says n k) ts
   timeouts_say k faces [] = refl
   timeouts_say k faces (t ∷ ts) = unsaid k faces t ts t.reply refl (timeouts_say k faces ts)
 
-  pub timeouts_carry : (k : ℕ) (faces : List (ℕ × OpenFace)) (ts : List Timeout) → list_any (carries n k) (map (written names) (handed_timeouts faces ts)) ≡ list_any (says n k) ts
-  timeouts_carry k faces ts = ap (list_any (carries n k)) (timeouts_written names faces ts) ∙ timeouts_say k faces ts
+  pub timeouts_carry : (k : ℕ) (faces : List (ℕ × OpenFace)) (ts : List Timeout) → list_any (hands_reply n k) (map (written names) (handed_timeouts faces ts)) ≡ list_any (says n k) ts
+  timeouts_carry k faces ts = ap (list_any (hands_reply n k)) (timeouts_written names faces ts) ∙ timeouts_say k faces ts
 
 -- ---- each call that nothing refuses
 abbrev WaitsAfter : State → TextCall → Type 0
@@ -174,7 +174,7 @@ passed_entries s now n e ts fs =
     ∙ list_any-append (gives 0 n e) (map (written s.names) (handed_timeouts s.core.faces ts)) _
     ∙ (λ j. timeouts_give n s.names 0 e s.core.faces ts j || finals_give n s.names 0 e fs j))
 
-passed_replies : (s : State) (now n k : ℕ) → (fs : List Final) → flies n k (letting_go (is_due now) (timing_out (timeouts now s.core.queries) s.core.queries).records) ≡ ((flies n k s.core.queries.records && true) || list_any (carries n k) (map (written s.names) (handed_timeouts s.core.faces (timeouts now s.core.queries) ++ map handed_final fs)))
+passed_replies : (s : State) (now n k : ℕ) → (fs : List Final) → flies n k (letting_go (is_due now) (timing_out (timeouts now s.core.queries) s.core.queries).records) ≡ ((flies n k s.core.queries.records && true) || list_any (hands_reply n k) (map (written s.names) (handed_timeouts s.core.faces (timeouts now s.core.queries) ++ map handed_final fs)))
 passed_replies s now n k fs =
     let q = s.core.queries in
     let ts = timeouts now q in
@@ -182,10 +182,10 @@ passed_replies s now n k fs =
     ∙ flies_timing n k ts q (timeouts_fit now q)
     ∙ (λ j. sym (and-true (flies n k q.records)) j || told j)
   where
-    told : list_any (says n k) (timeouts now s.core.queries) ≡ list_any (carries n k) (map (written s.names) (handed_timeouts s.core.faces (timeouts now s.core.queries) ++ map handed_final fs))
+    told : list_any (says n k) (timeouts now s.core.queries) ≡ list_any (hands_reply n k) (map (written s.names) (handed_timeouts s.core.faces (timeouts now s.core.queries) ++ map handed_final fs))
     told = sym
-        (ap (list_any (carries n k)) (map-append (written s.names) (handed_timeouts s.core.faces (timeouts now s.core.queries)) (map handed_final fs))
-        ∙ list_any-append (carries n k) (map (written s.names) (handed_timeouts s.core.faces (timeouts now s.core.queries))) _
+        (ap (list_any (hands_reply n k)) (map-append (written s.names) (handed_timeouts s.core.faces (timeouts now s.core.queries)) (map handed_final fs))
+        ∙ list_any-append (hands_reply n k) (map (written s.names) (handed_timeouts s.core.faces (timeouts now s.core.queries))) _
         ∙ (λ j. timeouts_carry n s.names k s.core.faces (timeouts now s.core.queries) j || finals_carry n s.names k fs j)
         ∙ or-false _)
 
@@ -193,10 +193,10 @@ replied_entries : (s : State) (n : ℕ) (e : Pending) (text : List ℕ) (r : Res
 replied_entries s n e text r None = idle (owes n e s.core.queries.records)
 replied_entries s n e text r (Some to) = nothing_new _ _ (owes_after_put n e to.number s.core.queries (is_some to.reply) ∙ sym (and-true (owes n e s.core.queries.records))) _ (replied_give n s.names 0 e text r (Some to))
 
--- a reply that has a number is in flight under it, and carries it
+-- a reply that has a number is in flight under it, and hands_reply it
 module _ (s : State) (n k : ℕ) (text : List ℕ) (r : Response) (to : ReplyTo) (there : list_any (has_number to.number) s.core.queries.records ≡ true) where
   reply_by : (o : Option ℕ) → to.reply ≡ o → (is_some o ≡ true → o ≡ Some s.core.queries.replies)
-      → flies n k (cond (is_some o) (after_put to.number s.core.queries) s.core.queries).records ≡ ((flies n k s.core.queries.records && true) || list_any (carries n k) (cond (is_some o) (sent_reply text r to ∷ []) []))
+      → flies n k (cond (is_some o) (after_put to.number s.core.queries) s.core.queries).records ≡ ((flies n k s.core.queries.records && true) || list_any (hands_reply n k) (cond (is_some o) (sent_reply text r to ∷ []) []))
   reply_by None e fresh = idle (flies n k s.core.queries.records)
   reply_by (Some x) e fresh =
       flies_put n k s.core.queries.replies to.number s.core.queries.records there
@@ -208,12 +208,12 @@ given_reply s f true e h = absurd (false≢true h)
 given_reply s f false e h = refl
 
 replied_replies : (s : State) (face : FaceId) (rid n k : ℕ) (text : List ℕ) (r : Response) (o : Option Final) → owner face.0 rid s.core.queries.records ≡ o
-    → flies n k (after_replied (option_map (reply_to s.core.queries) o) s.core.queries).records ≡ ((flies n k s.core.queries.records && true) || list_any (carries n k) (map (written s.names) (replied text r (option_map (reply_to s.core.queries) o)).handed))
+    → flies n k (after_replied (option_map (reply_to s.core.queries) o) s.core.queries).records ≡ ((flies n k s.core.queries.records && true) || list_any (hands_reply n k) (map (written s.names) (replied text r (option_map (reply_to s.core.queries) o)).handed))
 replied_replies s face rid n k text r None e = idle (flies n k s.core.queries.records)
 replied_replies s face rid n k text r (Some f) e =
     let to = reply_to s.core.queries f in
     reply_by s n k text r to (owner_there face.0 rid s.core.queries.records f e) to.reply refl (given_reply s.core.queries f (is_closed s.core.queries.closed f.asker.0) refl)
-    ∙ ap (λ l. (flies n k s.core.queries.records && true) || list_any (carries n k) l) (sym (replies_written s.names text r to))
+    ∙ ap (λ l. (flies n k s.core.queries.records && true) || list_any (hands_reply n k) l) (sym (replies_written s.names text r to))
 
 asked_entries : (s : State) (face : FaceId) (text : List ℕ) (r : Request) (d n : ℕ) (e : Pending) (os : List QueryTargetQabl)
     → owes n e (s.core.queries.records ++ asked_records s.core.queries.requests face r.id r.qos (map (given_place s.core.queries) (map target_of os)) d) ≡ ((owes n e s.core.queries.records && true) || list_any (gives d n e) (map (written s.names) (handed_requests s.core.queries face text r os)))
@@ -224,7 +224,7 @@ asked_entries s face text r d n e os =
     ∙ (λ j. sym (and-true (owes n e q.records)) j || (owes_asked e d n q.requests face r.id r.qos places ∙ sym (asked_give n s.names d e q face text r os)) j)
 
 asked_replies : (s : State) (face : FaceId) (text : List ℕ) (r : Request) (d n k : ℕ) (os : List QueryTargetQabl)
-    → flies n k (s.core.queries.records ++ asked_records s.core.queries.requests face r.id r.qos (map (given_place s.core.queries) (map target_of os)) d) ≡ ((flies n k s.core.queries.records && true) || list_any (carries n k) (map (written s.names) (handed_requests s.core.queries face text r os)))
+    → flies n k (s.core.queries.records ++ asked_records s.core.queries.requests face r.id r.qos (map (given_place s.core.queries) (map target_of os)) d) ≡ ((flies n k s.core.queries.records && true) || list_any (hands_reply n k) (map (written s.names) (handed_requests s.core.queries face text r os)))
 asked_replies s face text r d n k os =
     let q = s.core.queries in
     let places = map (given_place q) (map target_of os) in

@@ -26,10 +26,12 @@ is_served strategy.Client = true
 is_served strategy.Peer = true
 is_served strategy.Router = false
 
+-- no namespace is given
 abbrev pub is_absent : Option (List ℕ) → Bool
 is_absent None = true
 is_absent (Some name) = false
 
+-- the deny list is empty
 abbrev pub has_none : List (List ℕ) → Bool
 has_none [] = true
 has_none (x ∷ xs) = false
@@ -56,6 +58,7 @@ abbrev pub ending_call : FaceId → Option ℕ → Option Call
 ending_call face None = None
 ending_call face (Some interest) = if interest == 0 then Some (call.FinalizeInterest face mark.Initial true) else None
 
+-- the call that a declaration with a body makes, if it makes one
 abbrev pub declaring_call : FaceId → ℕ → Option ℕ → DeclareBody → Option Call
 declaring_call face node interest (body.DeclareKeyExpr id wire) = Some (call.DeclareKeyExpr face id wire)
 declaring_call face node interest (body.UndeclareKeyExpr id) = Some (call.UndeclareKeyExpr face id)

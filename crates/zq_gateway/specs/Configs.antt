@@ -33,6 +33,7 @@ region_of (entry.South id mode) = region.South id mode
 abbrev pub entry_index : Entry → ℕ
 entry_index e = region_index (region_of e)
 
+-- the two numbers are one
 abbrev pub is_number : ℕ → ℕ → Bool
 is_number n m = m == n
 
@@ -54,6 +55,7 @@ bad_entry seen (entry.South id mode) =
     if nat_lt SOUTH_IDS id then Some (bad.IdAbove id)
     else (if is_among (region_index (region.South id mode)) seen then Some (bad.Twice (region.South id mode)) else None)
 
+-- what is wrong first, and else what is wrong next
 abbrev pub or_else : Option BadConfig → Option BadConfig → Option BadConfig
 or_else None other = other
 or_else (Some b) other = Some b
@@ -79,6 +81,7 @@ north_of (entry.North m ∷ es) = m
 north_of (entry.Local ∷ es) = north_of es
 north_of (entry.South id m ∷ es) = north_of es
 
+-- the entry is Local
 abbrev pub is_local_entry : Entry → Bool
 is_local_entry (entry.North mode) = false
 is_local_entry entry.Local = true

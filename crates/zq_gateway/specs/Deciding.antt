@@ -75,6 +75,7 @@ abbrev pub marks_key : FinalMark → Bool
 marks_key mark.Initial = true
 marks_key (mark.Key text) = is_key text
 
+-- the face was never opened, or is closed
 abbrev pub unknown_face : FaceId → Core → Cause
 unknown_face face c = (not (is_open face.0 c), refusal.UnknownFace)
 
@@ -107,9 +108,11 @@ refusal_of c t = first_of (causes c t)
 
 -- ---- what is handed, each text whole, under no number
 
+-- a refused call hands nothing
 abbrev pub refused : Refusal → Step
 refused r = record { outcome = outcome.Refused r; handed = [] }
 
+-- a call that answers nothing of its own, and hands these messages
 abbrev pub done : List Handed → Step
 done handed = record { outcome = outcome.Done; handed = handed }
 
@@ -180,6 +183,7 @@ handed_timeouts faces ts = map (timed_out faces) (filter has_number_for ts)
 abbrev pub passing_finals : ℕ → QueryState → List Final
 passing_finals now q = finals_after (is_due now) (timing_out (timeouts now q) q).closed (timing_out (timeouts now q) q).records
 
+-- what an accepted reply is answered, by where it goes; a reply that goes nowhere is not pending
 abbrev pub replied : List ℕ → Response → Option ReplyTo → Step
 replied text r None = refused refusal.QueryNotFound
 replied text r (Some to) = record { outcome = outcome.Replied to.reply; handed = handed_replies text r to }
@@ -201,6 +205,7 @@ granted c (listing r table) = done []
 granted c (finalizing face mark set) = done []
 granted c unbuilt = done []
 
+-- the refusal where there is one, else what is granted
 abbrev pub answered : Option Refusal → Step → Step
 answered None t = t
 answered (Some r) t = refused r
@@ -209,6 +214,7 @@ answered (Some r) t = refused r
 abbrev pub decide : Core → TextCall → Step
 decide c t = answered (refusal_of c t) (granted c t)
 
+-- the outcome is no refusal
 abbrev pub is_accepted : Outcome → Bool
 is_accepted (outcome.Refused r) = false
 is_accepted (outcome.Opened face) = true
@@ -218,12 +224,15 @@ is_accepted outcome.Done = true
 
 -- ---- what an accepted call changes
 
+-- with other queries
 abbrev pub with_queries : Core → QueryState → Core
 with_queries c q = record c { queries = q }
 
+-- an open face as the gateway keeps it
 abbrev pub opened : Opening → OpenFace
 opened o = record { region = o.region; zid = o.zid; mode = o.mode; remote_bound = o.remote_bound }
 
+-- a new face as its region's hat keeps it
 abbrev pub seat : ℕ → Opening → FaceRecord
 seat n o = record { face = record { 0 = n }; zid = o.zid; mode = o.mode; remote_bound = o.remote_bound }
 
@@ -242,6 +251,7 @@ without_open face c = record (change_hat_of face (without_face face) c) {
   queries = after_close face c.queries;
 }
 
+-- the queries after a reply, by where it goes
 abbrev pub after_replied : Option ReplyTo → QueryState → QueryState
 after_replied None q = q
 after_replied (Some to) q = after_reply to q

@@ -57,6 +57,7 @@ abbrev pub HandsRequest : State → FaceId → List ℕ → Request → List Que
 HandsRequest s face text r [] handed = handed ≡ sent_final (record { number = s.core.queries.requests; asker = face; id = r.id; qos = r.qos }) ∷ []
 HandsRequest s face text r (o ∷ os) handed = HandsEach s text r (o ∷ os) handed
 
+-- the message is a request
 abbrev pub is_request : Message → Bool
 is_request (message.Request r) = true
 is_request (message.Response r) = false
@@ -65,6 +66,7 @@ is_request (message.Interest i) = false
 is_request (message.InterestFinal i) = false
 is_request (message.Declare d) = false
 
+-- what is handed is a request
 abbrev pub asks : Handed → Bool
 asks h = is_request h.message
 
@@ -78,6 +80,7 @@ RequestPromise s c t = list_any asks t.handed ≡ false
 
 -- ---- replies
 
+-- the message is a reply
 abbrev pub is_response : Message → Bool
 is_response (message.Request r) = false
 is_response (message.Response r) = true
@@ -86,6 +89,7 @@ is_response (message.Interest i) = false
 is_response (message.InterestFinal i) = false
 is_response (message.Declare d) = false
 
+-- what is handed is a reply
 abbrev pub replies_to : Handed → Bool
 replies_to h = is_response h.message
 
@@ -104,6 +108,7 @@ ReplyPromise s c t = list_any replies_to t.handed ≡ false
 
 -- ---- finals
 
+-- the message is a final
 abbrev pub is_final : Message → Bool
 is_final (message.Request r) = false
 is_final (message.Response r) = false
@@ -112,6 +117,7 @@ is_final (message.Interest i) = false
 is_final (message.InterestFinal i) = false
 is_final (message.Declare d) = false
 
+-- what is handed is a final of the request of that number
 abbrev pub ends : ℕ → Handed → Bool
 ends n h = is_final h.message && is_of n h
 
@@ -128,7 +134,7 @@ finals_over n (t ∷ ts) = finals_of n t + finals_over n ts
 abbrev pub to_come : List ℕ → ℕ → QueryState → ℕ
 to_come closed n q = owed_by closed n q.records + (if nat_lt n q.requests then 0 else 1)
 
--- a final comes in exactly the call that takes the record of an open asker out; it leaves nothing of the request pending and no reply in flight; a request with none to come is handed nothing more; and each record that stands has an entry pending or a reply in flight
+-- a final comes in exactly the call that takes the record of an open asker out (both sides count by the faces that are closed after the call, so that one that closes its asker hands none); it leaves nothing of the request pending and no reply in flight; a request with none to come is handed nothing more; and each record that stands has an entry pending or a reply in flight
 pub record FinalPromise (n : ℕ) (s : State) (c : Call) : Type 0 where
   pub balance : finals_of n (step s c) + to_come (after s c).core.queries.closed n (after s c).core.queries ≡ to_come (after s c).core.queries.closed n s.core.queries
   pub settled : 0 < finals_of n (step s c) → IsSettled n (after s c).core.queries
@@ -142,7 +148,9 @@ abbrev pub RefusesBy : Option Refusal → State → Call → Type 0
 RefusesBy (Some r) s c = (step s c ≡ refused r) × (after s c ≡ s)
 RefusesBy None s c = is_accepted (step s c).outcome ≡ true
 
--- ---- all of them, of one call at any point of a run
+-- ---- all of them
+
+-- what one call promises, at any point of a run
 pub record KeepsPromises (s : State) (c : Call) : Type 0 where
   pub requests : RequestPromise s c (step s c)
   pub replies : ReplyPromise s c (step s c)
@@ -150,7 +158,7 @@ pub record KeepsPromises (s : State) (c : Call) : Type 0 where
   pub finals : (n : ℕ) → FinalPromise n s c
   pub refusals : RefusesBy (refusal_of s.core (read s c)) s c
 
--- ---- and of a whole run: each of its calls keeps them; it hands one final of a request at most, and nothing of the request afterwards
+-- what a whole run promises: each of its calls keeps its promises; it hands one final of a request at most, and nothing of the request afterwards
 pub record RunPromise (config : Settings) (calls : List Call) : Type 0 where
   pub each : (before rest : List Call) (c : Call) → calls ≡ before ++ c ∷ rest → KeepsPromises (state_after (opening_state config) before) c
   pub one_final : (n : ℕ) → finals_over n (steps config calls) ≤ 1

@@ -26,6 +26,7 @@ written_message n (message.Interest i) = message.Interest i
 written_message n (message.InterestFinal i) = message.InterestFinal i
 written_message n (message.Declare d) = message.Declare d
 
+-- a message that is handed and leaves as it is
 abbrev pub leaving : Message → Handed → Handed
 leaving m h = record h { message = m; leaves = Some m }
 
@@ -33,6 +34,7 @@ leaving m h = record h { message = m; leaves = Some m }
 abbrev pub written : NamingState → Handed → Handed
 written names h = leaving (written_message (face_naming h.to.0 names) h.message) h
 
+-- each message of a step is written as its receiver is handed it
 abbrev pub write : NamingState → Step → Step
 write names t = record { outcome = t.outcome; handed = map (written names) t.handed }
 
@@ -40,12 +42,15 @@ write names t = record { outcome = t.outcome; handed = map (written names) t.han
 abbrev pub sent_final : Final → Handed
 sent_final f = leaving (handed_final f).message (handed_final f)
 
+-- a reply as its asker is handed it
 abbrev pub sent_reply : List ℕ → Response → ReplyTo → Handed
 sent_reply text r to = leaving (handed_reply text r to).message (handed_reply text r to)
 
+-- none where the asker is closed
 abbrev pub sent_replies : List ℕ → Response → ReplyTo → List Handed
 sent_replies text r to = if is_some to.reply then sent_reply text r to ∷ [] else []
 
+-- the error reply of a deadline
 abbrev pub sent_timeout : List (ℕ × OpenFace) → Timeout → Handed
 sent_timeout faces t = leaving (timed_out faces t).message (timed_out faces t)
 
@@ -53,6 +58,7 @@ sent_timeout faces t = leaving (timed_out faces t).message (timed_out faces t)
 abbrev pub answer : State → TextCall → Step
 answer s t = write s.names (decide s.core t)
 
+-- the state after an accepted call: what decides, and what stands for keys
 abbrev pub accepted_state : State → TextCall → State
 accepted_state s t = record { core = accepted s.core t; names = renamed s t }
 
@@ -87,6 +93,7 @@ abbrev pub step_of : State → Option Call → Step
 step_of s None = done []
 step_of s (Some c) = step s c
 
+-- the state after a call that may be none
 abbrev pub after_of : State → Option Call → State
 after_of s None = s
 after_of s (Some c) = after s c

@@ -19,6 +19,7 @@ use Rattle.zq_route.specs.Selection.{chosen, with_offers}
 use Rattle.zq_gateway.specs.declared.face.OpenFace.{OpenFace}
 use Rattle.zq_gateway.specs.State.{Core, at, is_region}
 
+-- the expression's scope stands for nothing
 abbrev pub is_unscoped : Said → Bool
 is_unscoped said.Unscoped = true
 is_unscoped said.Empty = false
@@ -36,6 +37,7 @@ says_key_or_nothing said.Unscoped = false
 says_key_or_nothing said.Empty = true
 says_key_or_nothing (said.Full text) = is_key text
 
+-- the text that is said; the empty one where none is
 abbrev pub full_text : Said → List ℕ
 full_text said.Unscoped = []
 full_text said.Empty = []
@@ -45,6 +47,7 @@ full_text (said.Full text) = text
 abbrev pub target_of : QueryTargetQabl → FaceId
 target_of o = o.face
 
+-- an open face's id
 abbrev pub zid_in : OpenFace → Zid
 zid_in o = o.zid
 

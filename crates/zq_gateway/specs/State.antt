@@ -82,6 +82,7 @@ is_full_region r c = option_map_or is_full (hat_at r c.hats) false
 abbrev pub hat_of : ℕ → Core → Option HatState
 hat_of face c = option_and_then (λ (o : OpenFace). hat_at o.region c.hats) (at face c.faces)
 
+-- a region's hat is changed, where the region has one
 abbrev pub put_hat : Region → (HatState → HatState) → List (ℕ × HatState) → Option HatState → List (ℕ × HatState)
 put_hat r f hats None = hats
 put_hat r f hats (Some h) = set_value (is_at (nat_cmp (region_index r))) hats (f h)
@@ -107,10 +108,12 @@ abbrev pub has_declared_in : ℕ → ℕ → Option HatState → Bool
 has_declared_in face id None = false
 has_declared_in face id (Some h) = is_some (declaration_at face id h)
 
+-- the id stands for another key of the face in the hat, if there is one
 abbrev pub clashes_in : ℕ → ℕ → List ℕ → Option HatState → Bool
 clashes_in face id key None = false
 clashes_in face id key (Some h) = clashes_at face id key h
 
+-- an open face's region
 abbrev pub region_in : OpenFace → Region
 region_in o = o.region
 

@@ -21,6 +21,7 @@ is_same e p = (p.face == e.face) && ((p.id == e.id) && (p.deadline == e.deadline
 abbrev pub waits : ℕ → Pending → Record → Bool
 waits n e r = (r.number == n) && list_any (is_same e) r.pending
 
+-- the entry is pending for the request of that number
 abbrev pub owes : ℕ → Pending → List Record → Bool
 owes n e rs = list_any (waits n e) rs
 
@@ -45,6 +46,7 @@ until s c = 0
 abbrev pub is_of : ℕ → Handed → Bool
 is_of n h = option_map_or (λ m. m == n) h.number false
 
+-- the message is a request to the entry's face under its id, which waits up to that moment
 abbrev pub asks_entry : ℕ → ℕ → Pending → Message → Bool
 asks_entry moment face e (message.Request r) = is_same e (record { face = face; id = r.id; deadline = moment })
 asks_entry moment face e (message.Response r) = false
@@ -58,13 +60,13 @@ abbrev pub gives : ℕ → ℕ → Pending → Handed → Bool
 gives moment n e h = is_of n h && asks_entry moment h.to.0 e h.message
 
 -- the message is the reply of that number, of that request
-abbrev pub carries : ℕ → ℕ → Handed → Bool
-carries n k h = is_of n h && option_map_or (is_reply k) h.reply false
+abbrev pub hands_reply : ℕ → ℕ → Handed → Bool
+hands_reply n k h = is_of n h && option_map_or (is_reply k) h.reply false
 
 -- the entries that are pending are those that were and that the call does not end, and one for each request that it hands; the replies in flight are those that were and whose sending it does not report, and those that it hands
 pub record Waits (ended : Pending → Bool) (landed : ℕ → Bool) (moment : ℕ) (before after : List Record) (handed : List Handed) : Type 0 where
   pub entries : (n : ℕ) (e : Pending) → owes n e after ≡ ((owes n e before && not (ended e)) || list_any (gives moment n e) handed)
-  pub replies : (n k : ℕ) → flies n k after ≡ ((flies n k before && not (landed k)) || list_any (carries n k) handed)
+  pub replies : (n k : ℕ) → flies n k after ≡ ((flies n k before && not (landed k)) || list_any (hands_reply n k) handed)
 
 -- nothing of the request is pending, and no reply of it is in flight
 abbrev pub IsSettled : ℕ → QueryState → Type 0

@@ -68,6 +68,7 @@ declared_keys faces = fold with_keys [] faces
 abbrev pub face_at : ℕ → HatState → Option FaceState
 face_at number s = at_id number s.faces
 
+-- the list is not empty
 abbrev pub has_any : {X : Type 0} → List X → Bool
 has_any [] = false
 has_any (x ∷ xs) = true

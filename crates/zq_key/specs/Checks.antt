@@ -12,6 +12,7 @@ parts_fit after_run (Some c ∷ rest) = part_fits (Some c) && parts_fit false re
 abbrev pub chunk_fits : Bool → List ℕ → Bool
 chunk_fits after_stars chunk = is_chunk chunk && not (after_stars && (is_stars chunk || is_star chunk))
 
+-- whether the chunks fit, where `**` has just been read or not
 abbrev pub chunks_fit : Bool → List (List ℕ) → Bool
 chunks_fit after_stars [] = true
 chunks_fit after_stars (chunk ∷ rest) = chunk_fits after_stars chunk && chunks_fit (is_stars chunk) rest

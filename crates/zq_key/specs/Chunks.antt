@@ -25,6 +25,7 @@ free_left text = before_fixed is_verbatim (chunks_left text)
 unfoldable pub verbatim_left : List ℕ → List (List ℕ)
 verbatim_left text = from_fixed is_verbatim (chunks_left text)
 
+-- the relation of two chunks, neither of them `**`
 abbrev pub relates : Relation → List ℕ → List ℕ → Bool
 relates Meets a b = chunk_meets a b
 relates Covers a b = chunk_covers a b
@@ -33,6 +34,7 @@ relates Covers a b = chunk_covers a b
 abbrev pub lists_cover : Relation → List (List ℕ) → List (List ℕ) → Bool
 lists_cover relation a b = covers_by is_stars (λ _. false) (relates relation) a b
 
+-- whether the chunks meet, none of them verbatim
 abbrev pub lists_meet : Relation → List (List ℕ) → List (List ℕ) → Bool
 lists_meet relation a b = meets_by is_stars (λ _. false) (relates relation) a b
 

@@ -20,12 +20,15 @@ same_part (Some c) (Some d) = c == d
 same_part (Some c) None = false
 same_part None d = false
 
+-- whether two lists of parts meet
 abbrev pub parts_meet : List (Option ℕ) → List (Option ℕ) → Bool
 parts_meet a b = meets_by is_none (λ _. false) same_part a b
 
+-- whether the first list of parts covers the second
 abbrev pub parts_cover : List (Option ℕ) → List (Option ℕ) → Bool
 parts_cover a b = covers_by is_none (λ _. false) same_part a b
 
+-- whether a chunk begins with `@`
 abbrev pub is_verbatim : List ℕ → Bool
 is_verbatim [] = false
 is_verbatim (c ∷ rest) = c == 64
@@ -76,6 +79,7 @@ neighbours_fit [] = true
 neighbours_fit (a ∷ []) = true
 neighbours_fit (a ∷ b ∷ rest) = not (is_stars a && (is_stars b || is_star b)) && neighbours_fit (b ∷ rest)
 
+-- whether a text is a key: each piece may stand as a chunk, and no `**` stands before `**` or `*`
 unfoldable pub is_key : List ℕ → Bool
 is_key text = list_all is_chunk (chunks text) && neighbours_fit (chunks text)
 
@@ -83,6 +87,7 @@ is_key text = list_all is_chunk (chunks text) && neighbours_fit (chunks text)
 abbrev pub is_plain_chunk : List ℕ → Bool
 is_plain_chunk chunk = not (is_verbatim chunk) && not (list_any (λ c. c == 42 || c == 36) chunk)
 
+-- whether a text is a plain key: a key of plain chunks
 unfoldable pub is_plain : List ℕ → Bool
 is_plain text = is_key text && list_all is_plain_chunk (chunks text)
 

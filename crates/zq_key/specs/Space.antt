@@ -5,6 +5,7 @@ use Rattle.std.specs.Option.{option_map}
 use Rattle.std.specs.Prelude.{take, drop}
 use Rattle.zq_key.specs.Key.{chunks, is_stars, chunk_meets}
 
+-- the character `/`
 abbrev pub is_slash : ℕ → Bool
 is_slash c = c == 47
 

@@ -27,6 +27,7 @@ unfoldable pub after_last : {A : Type 0} → (A → Bool) → Option (List A) �
 after_last wild known [] = known
 after_last wild known (x ∷ xs) = if wild x then after_last wild (Some xs) xs else after_last wild known xs
 
+-- the test that nothing passes
 abbrev pub never : {A : Type 0} → A → Bool
 never x = false
 
@@ -40,6 +41,7 @@ Stops wild agree [] b = Unit {0}
 Stops wild agree (x ∷ a) [] = Unit {0}
 Stops wild agree (x ∷ a) (y ∷ b) = wild x ≡ false → wild y ≡ false → agree x y ≡ false
 
+-- the list is empty
 abbrev pub is_nil : {A : Type 0} → List A → Bool
 is_nil [] = true
 is_nil (x ∷ xs) = false

@@ -14,6 +14,7 @@ has_number ms i = list_any (λ m. m.0 == i) ms
 abbrev pub with_member : List ResourceId → ResourceId → List ResourceId
 with_member ms r = if has_number ms r.0 then ms else ms ++ r ∷ []
 
+-- r is among the matches, last where it was not there
 abbrev pub with_match : ResourceId → NameEntry → NameEntry
 with_match r e = record e { matches = with_member e.matches r }
 

@@ -4,6 +4,7 @@ use Rattle.zq_key.specs.Key.{is_key, intersects}
 use Rattle.zq_names.specs.declared.node.ResourceId.{ResourceId}
 use Rattle.zq_names.specs.Names.{NameEntry}
 
+-- the number itself
 abbrev pub number : ResourceId → ℕ
 number r = r.0
 

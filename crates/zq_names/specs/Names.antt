@@ -20,22 +20,27 @@ pub record NameEntry : Type 0 where
 abbrev pub slot : List (Option Node) → ℕ → Option Node
 slot nodes i = slice_index_or nodes i None
 
+-- a slot's text; the empty one where it is empty
 abbrev pub slot_text : Option Node → List ℕ
 slot_text None = []
 slot_text (Some n) = n.text
 
+-- whether it has a context
 abbrev pub slot_context : Option Node → Bool
 slot_context None = false
 slot_context (Some n) = n.context
 
+-- how often it is held
 abbrev pub slot_holds : Option Node → ℕ
 slot_holds None = 0
 slot_holds (Some n) = n.holds
 
+-- the texts that it meets
 abbrev pub slot_matches : Option Node → List ResourceId
 slot_matches None = []
 slot_matches (Some n) = n.matches.items
 
+-- the texts that it met before its matches were last made
 abbrev pub slot_former : Option Node → List ResourceId
 slot_former None = []
 slot_former (Some n) = n.former.items
@@ -44,15 +49,19 @@ slot_former (Some n) = n.former.items
 abbrev pub entry_of : ℕ → Option Node → NameEntry
 entry_of i o = record { id = i; text = slot_text o; context = slot_context o; holds = slot_holds o; matches = slot_matches o }
 
+-- the entry of a number
 abbrev pub row : List (Option Node) → ℕ → NameEntry
 row nodes i = entry_of i (slot nodes i)
 
+-- the entries of an order of numbers
 abbrev pub rows : List (Option Node) → List ℕ → List NameEntry
 rows nodes order = map (row nodes) order
 
+-- the texts of entries
 abbrev pub texts : List NameEntry → List (List ℕ)
 texts ns = map (λ e. e.text) ns
 
+-- the text at a place
 abbrev pub text_at : List NameEntry → ℕ → List ℕ
 text_at ns k = slice_index_or (texts ns) k []
 
@@ -70,6 +79,7 @@ pub record SplitsAt (ns : List NameEntry) (t : List ℕ) (i : ℕ) : Type 0 wher
   pub before : (k : ℕ) → k < i → text_cmp (text_at ns k) t ≡ Less
   pub from : (k : ℕ) → i ≤ k → k < length ns → text_cmp (text_at ns k) t ≢ Less
 
+-- the numbers of entries
 abbrev pub ids : List NameEntry → List ℕ
 ids ns = map (λ e. e.id) ns
 
@@ -111,12 +121,15 @@ entry_at (e ∷ es) i = if e.id == i then e else entry_at es i
 abbrev pub change_at : List NameEntry → ℕ → (NameEntry → NameEntry) → List NameEntry
 change_at ns i f = map (λ e. if e.id == i then f e else e) ns
 
+-- with one hold more
 abbrev pub with_hold : NameEntry → NameEntry
 with_hold e = record e { holds = e.holds + 1 }
 
+-- with one hold less
 abbrev pub without_hold : NameEntry → NameEntry
 without_hold e = record e { holds = e.holds - 1 }
 
+-- with the context mark
 abbrev pub with_context : NameEntry → NameEntry
 with_context e = record e { context = true }
 
@@ -148,6 +161,7 @@ pub record Adds (old new : List NameEntry) (added : List (List ℕ)) : Type 0 wh
   pub brought : (e : NameEntry) → Contains new e → Contains old e ⊎ (Contains added e.text × IsBare e)
   pub has : (t : List ℕ) → Contains added t → Contains (texts new) t
 
+-- the texts of nodes
 abbrev pub node_texts : List Node → List (List ℕ)
 node_texts ns = map (λ n. n.text) ns
 

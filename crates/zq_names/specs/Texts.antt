@@ -40,9 +40,11 @@ parent_of t = parent_to t (length t)
 abbrev pub last_part : List ℕ → List ℕ
 last_part t = drop (length (parent_of t)) t
 
+-- the character `*`
 abbrev pub is_star_byte : ℕ → Bool
 is_star_byte c = c == 42
 
+-- the text cut before the chunk that its first `*` stands in
 abbrev pub cut_at_star : List ℕ → Option ℕ → List ℕ
 cut_at_star t None = t
 cut_at_star t (Some k) = parent_of (take k t)

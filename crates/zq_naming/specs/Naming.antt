@@ -32,6 +32,7 @@ pub record FaceKeys : Type 0 where
 abbrev pub NamingState : Type 0
 NamingState = List (ℕ × FaceKeys)
 
+-- no number is declared on either side
 abbrev pub no_names : FaceNaming
 no_names = record { theirs = []; ours = [] }
 
@@ -39,6 +40,7 @@ no_names = record { theirs = []; ours = [] }
 abbrev pub no_keys : FaceKeys
 no_keys = record { numbers = no_names; queryables = [] }
 
+-- what stands for keys at a face, if it is open
 abbrev pub naming_at : ℕ → NamingState → Option FaceKeys
 naming_at face s = lookup (is_at (nat_cmp face)) s
 
@@ -68,10 +70,12 @@ abbrev pub handed_side : FaceNaming → Mapping → Names
 handed_side n mapping.Sender = n.ours
 handed_side n mapping.Receiver = n.theirs
 
+-- what a suffix says under a scope, by the scope's text
 abbrev pub said_under : Option (List ℕ) → List ℕ → Said
 said_under None suffix = said.Unscoped
 said_under (Some text) suffix = said.Full (text ++ suffix)
 
+-- what a suffix says under scope 0
 abbrev pub said_plainly : List ℕ → Said
 said_plainly [] = said.Empty
 said_plainly (b ∷ suffix) = said.Full (b ∷ suffix)
@@ -90,6 +94,7 @@ said_of n w = said_by (sent_side n) w
 abbrev pub read_by : FaceNaming → WireExpr → Said
 read_by n w = said_by (handed_side n) w
 
+-- with other numbers of the face's own
 abbrev pub with_theirs : FaceKeys → Names → FaceKeys
 with_theirs n names = record n { numbers = record n.numbers { theirs = names } }
 
@@ -121,6 +126,7 @@ with_queryable id text n = record n { queryables = first_stays id text n.queryab
 abbrev pub without_queryable : ℕ → FaceKeys → FaceKeys
 without_queryable id n = record n { queryables = remove_entry (is_at (nat_cmp id)) n.queryables }
 
+-- what stands for keys at a face is changed, where the face is open
 abbrev pub put_naming : ℕ → (FaceKeys → FaceKeys) → NamingState → Option FaceKeys → NamingState
 put_naming face f s None = s
 put_naming face f s (Some n) = set_value (is_at (nat_cmp face)) s (f n)
@@ -129,6 +135,7 @@ put_naming face f s (Some n) = set_value (is_at (nat_cmp face)) s (f n)
 abbrev pub change_naming : ℕ → (FaceKeys → FaceKeys) → NamingState → NamingState
 change_naming face f s = put_naming face f s (naming_at face s)
 
+-- another text stands there
 abbrev pub is_other : List ℕ → Option (List ℕ) → Bool
 is_other text None = false
 is_other text (Some t) = not (bytes_eq t text)
@@ -141,6 +148,7 @@ remaps id text standing = (id == 0) || is_other text standing
 abbrev pub declare_refusal : ℕ → List ℕ → FaceNaming → Option NameRefusal
 declare_refusal id text n = if is_key text then (if remaps id text (text_at id n.theirs) then Some refusal.Remapped else None) else Some refusal.InvalidKeyExpr
 
+-- this text stands there
 abbrev pub is_text : List ℕ → Option (List ℕ) → Bool
 is_text text None = false
 is_text text (Some t) = bytes_eq t text
@@ -157,6 +165,7 @@ least_name text names = find (names_text names text) (keys_of names)
 abbrev pub plain : List ℕ → WireExpr
 plain text = whole text
 
+-- a number with the side that declared it
 abbrev pub tagged : Mapping → Option ℕ → Option (ℕ × Mapping)
 tagged side None = None
 tagged side (Some id) = Some (id, side)
@@ -165,6 +174,7 @@ tagged side (Some id) = Some (id, side)
 abbrev pub known : FaceNaming → List ℕ → Option (ℕ × Mapping)
 known n text = or_else (tagged mapping.Receiver (least_name text n.theirs)) (tagged mapping.Sender (least_name text n.ours))
 
+-- a number with the length of the part that it stands for
 abbrev pub cut_at : ℕ → Option (ℕ × Mapping) → Option (ℕ × Mapping × ℕ)
 cut_at k None = None
 cut_at k (Some m) = Some (m.0, m.1, k)
@@ -180,6 +190,7 @@ best_before n text (suc k) =
 abbrev pub best_part : FaceNaming → List ℕ → Option (ℕ × Mapping × ℕ)
 best_part n text = or_else (cut_at (length text) (known n text)) (best_before n text (length text))
 
+-- the text by the number of its part, else whole
 abbrev pub numbered : List ℕ → Option (ℕ × Mapping × ℕ) → WireExpr
 numbered text part = key_from part text
 

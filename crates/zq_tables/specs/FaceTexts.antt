@@ -21,12 +21,15 @@ pub record FaceTexts : Type 0 where
 abbrev pub id_texts : List NameEntry → List (ℕ × ℕ) → List (ℕ × List ℕ)
 id_texts names list = map (λ p. (p.0, (entry_at names p.1).text)) list
 
+-- the face's own ids with their texts
 abbrev pub theirs_texts : List NameEntry → FaceIds → List (ℕ × List ℕ)
 theirs_texts names face = id_texts names face.theirs
 
+-- the ids that were declared to the face, with their texts
 abbrev pub ours_texts : List NameEntry → FaceIds → List (ℕ × List ℕ)
 ours_texts names face = id_texts names face.ours
 
+-- both sides with their texts
 abbrev pub texts_of : List NameEntry → FaceIds → FaceTexts
 texts_of names face = record { theirs = theirs_texts names face; ours = ours_texts names face }
 
@@ -45,6 +48,7 @@ behind_scope list w = if w.scope == 0 then Some w.suffix else option_map (λ t. 
 abbrev pub full_of : FaceTexts → WireExpr → Option (List ℕ)
 full_of face w = behind_scope (text_side face w.mapping) w
 
+-- the two sides change places
 abbrev pub swapped : FaceTexts → FaceTexts
 swapped face = record { theirs = face.ours; ours = face.theirs }
 
@@ -58,6 +62,7 @@ read_by face w = full_of (swapped face) w
 abbrev pub id_of : List (ℕ × List ℕ) → List ℕ → Option ℕ
 id_of list t = option_map (λ p. p.0) (find (λ p. bytes_eq p.1 t) list)
 
+-- the first answer where there is one, else the other
 abbrev pub or_else : {X : Type 0} → Option X → Option X → Option X
 or_else None y = y
 or_else (Some x) y = Some x
@@ -83,6 +88,7 @@ best_part face t = or_else (known_at face t (length t)) (best_to face t (length 
 abbrev pub whole : List ℕ → WireExpr
 whole t = record { scope = 0; mapping = Sender; suffix = t }
 
+-- the text by the id of its part, else whole
 abbrev pub key_from : Option (ℕ × Mapping × ℕ) → List ℕ → WireExpr
 key_from None t = whole t
 key_from (Some p) t = record { scope = p.0; mapping = p.1; suffix = drop p.2 t }
@@ -93,6 +99,7 @@ best_key face t = key_from (best_part face t) t
 
 -- ---- the declared key of a text
 
+-- a declared key without an id
 abbrev pub whole_key : List ℕ → DeclKey
 whole_key t = record { wire = whole t; declared = None }
 
@@ -110,9 +117,11 @@ abbrev pub known_choice : FaceTexts → Bool → List ℕ → Option (ℕ × Map
 known_choice face may rest (Some x) = Some (under x.0 x.1 rest None)
 known_choice face may rest None = if may then new_choice rest (next_id face.theirs face.ours) else None
 
+-- the declared key by its part p, if an id may be had
 abbrev pub part_choice : FaceTexts → Bool → List ℕ → List ℕ → Option DeclKey
 part_choice face may p rest = known_choice face may rest (known face p)
 
+-- the declared key by its part p, whole where p is empty or no id may be had
 abbrev pub prefix_key : FaceTexts → Bool → List ℕ → List ℕ → DeclKey
 prefix_key face may t [] = whole_key t
 prefix_key face may t (c ∷ p) = unwrap_or (part_choice face may (c ∷ p) (drop (length (c ∷ p)) t)) (whole_key t)
@@ -126,6 +135,7 @@ abbrev pub with_new : FaceIds → ℕ → Option ℕ → FaceIds
 with_new face node None = face
 with_new face node (Some i) = record face { ours = with_id face.ours i node }
 
+-- the same, of a key that may not have been declared
 abbrev pub declared_ids : FaceIds → ℕ → Option DeclKey → FaceIds
 declared_ids face node None = face
 declared_ids face node (Some d) = with_new face node d.declared
@@ -142,6 +152,7 @@ abbrev pub id_refusal : Option (List ℕ) → List ℕ → Option NameRefusal
 id_refusal None t = None
 id_refusal (Some u) t = if bytes_eq u t then None else Some Remapped
 
+-- the first reason not to let the id stand for a text, which may be unknown
 abbrev pub text_refusal : FaceTexts → ℕ → Option (List ℕ) → Option NameRefusal
 text_refusal face i None = Some UnknownScope
 text_refusal face i (Some t) = if is_key t then (if i == 0 then Some Remapped else id_refusal (of_id face.theirs i) t) else Some InvalidKeyExpr
@@ -150,6 +161,7 @@ text_refusal face i (Some t) = if is_key t then (if i == 0 then Some Remapped el
 abbrev pub register_refusal : FaceTexts → ℕ → WireExpr → Option NameRefusal
 register_refusal face i w = text_refusal face i (full_of face w)
 
+-- with the id standing for the text where it stood for none
 abbrev pub added : FaceTexts → ℕ → List ℕ → Option (List ℕ) → FaceTexts
 added face i t None = record face { theirs = with_id face.theirs i t }
 added face i t (Some u) = face
