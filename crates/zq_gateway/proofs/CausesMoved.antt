@@ -7,11 +7,11 @@ use Rattle.zq_hat.specs.Moved.{Keeps}
 use Rattle.zq_naming.specs.declared.said.Said.TheVariants as said
 use Rattle.zq_naming.specs.Naming.{remaps}
 use Rattle.zq_query.specs.Asking.{lacks_number}
-use Rattle.zq_query.specs.Records.{is_pending}
+use Rattle.zq_query.specs.Records.{is_pending, lacks_reply}
 use Rattle.zq_gateway.specs.declared.call.Refusal.TheVariants as refusal
 use Rattle.zq_gateway.specs.State.{Core, hat_of, has_declared_in, clashes_in}
 use Rattle.zq_gateway.specs.TextCalls.{TextCall, opening, closing, naming, unnaming, declaring, withdrawing, asking, replying, ending, reporting, passing, listing, finalizing, unbuilt}
-use Rattle.zq_gateway.specs.Deciding.{first_of, clashes, has_declared, lacks_face_number, lacks_reply_number, unknown_face, refusal_of}
+use Rattle.zq_gateway.specs.Deciding.{first_of, clashes, has_declared, lacks_face_number, unknown_face, refusal_of}
 use Rattle.zq_gateway.specs.Moved.{move_core, move_text}
 use Rattle.zq_gateway.proofs.HatsMoved.{declared_moved, clashes_moved, has_moved, full_moved, own_found}
 use Rattle.zq_gateway.proofs.SelectionMoved.{targets_moved}
@@ -46,7 +46,7 @@ module _ (φ : List ℕ → List ℕ) (keeps : Keeps φ) (c : Core) where
   refused_alike (replying face said.Empty r) = refl
   refused_alike (replying face (said.Full text) r) =
       ap (λ b. first_of (unknown_face face c ∷ (false, refusal.UnknownScope) ∷ (not (is_pending face.0 r.rid c.queries.records), refusal.QueryNotFound)
-      ∷ (not b, refusal.InvalidKeyExpr) ∷ (lacks_reply_number face r.rid c.queries, refusal.NoFreeId) ∷ [])) (keeps.key text)
+      ∷ (not b, refusal.InvalidKeyExpr) ∷ (lacks_reply face.0 r.rid c.queries, refusal.NoFreeId) ∷ [])) (keeps.key text)
   refused_alike (ending face rid) = refl
   refused_alike (reporting reply) = refl
   refused_alike (passing now) = refl

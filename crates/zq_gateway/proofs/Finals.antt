@@ -125,7 +125,7 @@ replied_sound faces next q (Some to) s = same_closed faces next q (after_reply t
 pub timing_closed : (now : ℕ) (q : QueryState) → (after_poll now q).closed ≡ q.closed
 timing_closed now q = ap (λ (z : QueryState). z.closed) (rest_stays (timeouts now q) q)
 
-is_there : (b : Bool) → not b ≡ false → b ≡ true
+pub is_there : (b : Bool) → not b ≡ false → b ≡ true
 is_there true h = refl
 is_there false h = absurd (true≢false h)
 
@@ -161,7 +161,7 @@ follow_sound s t i = by (refusal_of s.core t) refl
     by (Some r) e = i
     by None e = taken (is_accepted (granted s.core t).outcome) (granted_is_accepted s.core t e) e
 
-none_sorted : IsStrictlySortedBy nat_cmp []
+pub none_sorted : IsStrictlySortedBy nat_cmp []
 unfolding IsStrictlySortedBy
 none_sorted = tt
 

@@ -5,6 +5,8 @@ use Rattle.zq_gateway.specs.Configs.{Settings}
 use Rattle.zq_gateway.specs.State.{State, opening_state}
 use Rattle.zq_gateway.specs.Machine.{state_after}
 use Rattle.zq_gateway.specs.Headline.{KeepsPromises, RunPromise}
+use Rattle.zq_gateway.proofs.Asking.{counted, to_askers}
+use Rattle.zq_gateway.proofs.Closings.{call_closed}
 use Rattle.zq_gateway.proofs.Promises.{request_promise, reply_promise, refusal_promise}
 use Rattle.zq_gateway.proofs.Silent.{nothing_after}
 use Rattle.zq_gateway.proofs.Settled.{final_promise, run_once}
@@ -20,12 +22,15 @@ kept config before c =
       replies = reply_promise s c;
       waits = call_waits s c;
       finals = λ n. final_promise n s c (run_sound before (opening_state config) (opening_sound config)) (run_once n config before);
+      closed = λ face. call_closed s face c;
       refusals = refusal_promise s c;
     }
 
 pub headline : (config : Settings) (calls : List Call) → RunPromise config calls
 headline config calls = record {
   each = λ before rest c at. kept config before c;
+  numbers = counted config calls;
+  askers = λ before rest c at. to_askers config before c;
   one_final = λ n. one_final config calls n;
   nothing_after = λ n before rest c at ended. nothing_after config before c n ended;
 }

@@ -19,3 +19,9 @@ pub mod HatsMoved
 pub mod SelectionMoved
 pub mod CausesMoved
 pub mod DecidingMoved
+pub mod Changing
+pub mod Agreeing
+pub mod Joining
+pub mod Agreed
+pub mod Asking
+pub mod Closings

@@ -35,6 +35,8 @@ use Rattle.zq_gateway.specs.TextCalls.{TextCall, opening, closing, naming, unnam
 use Rattle.zq_gateway.specs.Deciding.{passing_finals, Cause, first_of, causes, refusal_of, granted, answered, is_accepted, targets, handed_final, handed_request, handed_requests, handed_replies, handed_timeouts, replied}
 use Rattle.zq_gateway.specs.Machine.{written, write, answer, accepted_state, step, sent_final, sent_reply, sent_timeout}
 use Rattle.zq_gateway.specs.Headline.{HandsOn, HandsEach, HandsRequest, RequestPromise, HandsReply, ReplyPromise, RefusesBy, asks, replies_to}
+use Rattle.zq_gateway.proofs.Routes.{none_to_asker}
+use Rattle.zq_gateway.specs.Asked.{is_own}
 use Rattle.zq_gateway.proofs.Writing.{finals_written, replies_written, timeouts_written}
 use Rattle.zq_gateway.proofs.Replies.{next-pending}
 
@@ -119,8 +121,9 @@ asked_promise : (s : State) (face : FaceId) (sd : Said) (r : Request) (now : ℕ
     → is_accepted (write s.names (answered o (granted s.core (asking face sd r now)))).outcome ≡ true
     → ((write s.names (answered o (granted s.core (asking face sd r now)))).outcome ≡ outcome.Asked s.core.queries.requests)
     × HandsRequest s face (full_text sd) r (select s.core face sd r.target) (write s.names (answered o (granted s.core (asking face sd r now)))).handed
+    × (list_any (is_own face) (select s.core face sd r.target) ≡ false)
 asked_promise s face sd r now (Some x) e a = absurd (false≢true a)
-asked_promise s face sd r now None e a = (refl, requests_handed s face sd r (select s.core face sd r.target) refl (no_full s face sd r now e))
+asked_promise s face sd r now None e a = (refl, requests_handed s face sd r (select s.core face sd r.target) refl (no_full s face sd r now e), none_to_asker s.core face sd r.target)
 
 -- ---- messages that are none of a kind
 no_finals_ask : (names : NamingState) (fs : List Final) → list_any asks (map (written names) (map handed_final fs)) ≡ false
@@ -165,7 +168,7 @@ no_replied_asks : (names : NamingState) (text : List ℕ) (r : Response) (o : Op
 no_replied_asks names text r None = refl
 no_replied_asks names text r (Some to) = no_replies_ask names text r to
 
-is_asking : TextCall → Bool
+pub is_asking : TextCall → Bool
 is_asking (asking face s r now) = true
 is_asking (opening o) = false
 is_asking (closing face) = false

@@ -41,12 +41,6 @@ is_number n m = m == n
 abbrev pub is_among : ℕ → List ℕ → Bool
 is_among index seen = list_any (is_number index) seen
 
--- an id that no South region has
-abbrev pub bad_id : Entry → Option BadConfig
-bad_id (entry.North mode) = None
-bad_id entry.Local = None
-bad_id (entry.South id mode) = if nat_lt SOUTH_IDS id then Some (bad.IdAbove id) else None
-
 -- what is wrong with an entry behind others: its id before its repetition
 abbrev pub bad_entry : List ℕ → Entry → Option BadConfig
 bad_entry seen (entry.North mode) = if is_among 0 seen then Some (bad.Twice region.North) else None

@@ -1,5 +1,5 @@
 -- What a call is answered, over texts: the first cause that refuses it, or what it hands and changes.
-use Rattle.std.specs.Prelude.{codes, ℕ, ◌+◌, ◌-◌, ◌^◌, ◌==◌, min, Bool, true, false, not, ◌&&◌, List, [], ◌∷◌, ◌++◌, map, Option, Some, None, if◌then◌else◌, unwrap_or, is_none}
+use Rattle.std.specs.Prelude.{codes, ℕ, ◌+◌, ◌-◌, ◌^◌, ◌==◌, min, Bool, true, false, not, List, [], ◌∷◌, ◌++◌, map, Option, Some, None, if◌then◌else◌, unwrap_or, is_none}
 use Rattle.std.specs.List.{filter}
 use Rattle.std.specs.Option.{is_some}
 use Rattle.std.specs.Ordering.{nat_cmp}
@@ -21,7 +21,7 @@ use Rattle.zq_hat.specs.Marks.{finalized}
 use Rattle.zq_query.specs.declared.records.Final.{Final}
 use Rattle.zq_query.specs.declared.records.ReplyTo.{ReplyTo}
 use Rattle.zq_query.specs.declared.records.Timeout.{Timeout}
-use Rattle.zq_query.specs.Records.{QueryState, is_pending, is_in_flight, is_entry, letting_go, landing, next_reply, after_reply, needs_number}
+use Rattle.zq_query.specs.Records.{QueryState, is_pending, is_in_flight, is_entry, letting_go, landing, lacks_reply, next_reply, after_reply}
 use Rattle.zq_query.specs.Closing.{closing_finals, after_close, finals_after, finals_landed}
 use Rattle.zq_query.specs.Polling.{is_due, timing_out, timeouts, after_poll, lacks_replies, has_number_for}
 use Rattle.zq_query.specs.Asking.{lacks_number, given_id, after_ask}
@@ -66,10 +66,6 @@ lacks_face_number c = c.next_face + 1 == 2 ^ 32
 abbrev pub targets : Core → FaceId → Said → Request → List FaceId
 targets c asker s r = map target_of (select c asker s r.target)
 
--- a reply needs a number, and none is left
-abbrev pub lacks_reply_number : FaceId → ℕ → QueryState → Bool
-lacks_reply_number face rid q = needs_number face.0 rid q && (q.replies + 1 == 2 ^ 64)
-
 -- a mark of a key has a key
 abbrev pub marks_key : FinalMark → Bool
 marks_key mark.Initial = true
@@ -94,7 +90,7 @@ causes c (withdrawing face id) = unknown_face face c ∷ (not (has_declared face
 causes c (asking face s r now) = unknown_face face c ∷ (lacks_number (targets c face s r) c.queries, refusal.NoFreeId) ∷ []
 causes c (replying face s r) =
     unknown_face face c ∷ (is_unscoped s, refusal.UnknownScope) ∷ (not (is_pending face.0 r.rid c.queries.records), refusal.QueryNotFound)
-    ∷ (not (says_key_or_nothing s), refusal.InvalidKeyExpr) ∷ (lacks_reply_number face r.rid c.queries, refusal.NoFreeId) ∷ []
+    ∷ (not (says_key_or_nothing s), refusal.InvalidKeyExpr) ∷ (lacks_reply face.0 r.rid c.queries, refusal.NoFreeId) ∷ []
 causes c (ending face rid) = unknown_face face c ∷ (not (is_pending face.0 rid c.queries.records), refusal.QueryNotFound) ∷ []
 causes c (reporting reply) = (not (is_in_flight reply c.queries.records), refusal.NotInFlight) ∷ []
 causes c (passing now) = (lacks_replies (timeouts now c.queries) c.queries, refusal.NoFreeId) ∷ []
@@ -106,7 +102,7 @@ causes c unbuilt = []
 abbrev pub refusal_of : Core → TextCall → Option Refusal
 refusal_of c t = first_of (causes c t)
 
--- ---- what is handed, each text whole, under no number
+-- ---- what is handed, each text whole, under no number; what leaves is put in where it is written
 
 -- a refused call hands nothing
 abbrev pub refused : Refusal → Step

@@ -1,6 +1,6 @@
 -- What each call of a run promises: of requests, of replies, of finals and of refusals. It is said of the step that answers a call and of the lists before and after it.
-use Rattle.std.specs.Prelude.{◌≡◌, ℕ, ◌+◌, ◌<◌, ◌≤◌, Bool, true, false, ◌&&◌, List, [], ◌∷◌, ◌++◌, map, length, Option, Some, None, if◌then◌else◌, nat_lt}
-use Rattle.std.specs.List.{filter, list_any}
+use Rattle.std.specs.Prelude.{◌≡◌, ℕ, ◌+◌, ◌<◌, ◌≤◌, Bool, true, false, ◌&&◌, ◌||◌, List, [], ◌∷◌, ◌++◌, map, length, Option, Some, None, if◌then◌else◌, nat_lt}
+use Rattle.std.specs.List.{AllByRecursion, filter, list_any}
 use Rattle.zq_key.specs.declared.message.FaceId.{FaceId}
 use Rattle.zq_key.specs.declared.message.Message.{Message}
 use Rattle.zq_key.specs.declared.message.Message.TheVariants as message
@@ -8,7 +8,7 @@ use Rattle.zq_key.specs.declared.message.Request.{Request}
 use Rattle.zq_key.specs.declared.message.Response.{Response}
 use Rattle.zq_hat.specs.declared.types.QueryTargetQabl.{QueryTargetQabl}
 use Rattle.zq_query.specs.declared.records.ReplyTo.{ReplyTo}
-use Rattle.zq_query.specs.Records.{QueryState, is_pending, any_over, next_reply}
+use Rattle.zq_query.specs.Records.{QueryState, is_closed, is_pending, any_over, next_reply}
 use Rattle.zq_query.specs.Balance.{owed_by}
 use Rattle.zq_query.specs.Polling.{timeouts, has_number_for}
 use Rattle.zq_naming.specs.declared.said.Said.TheVariants as said
@@ -23,6 +23,7 @@ use Rattle.zq_gateway.specs.Configs.{Settings}
 use Rattle.zq_gateway.specs.State.{State, opening_state}
 use Rattle.zq_gateway.specs.Selecting.{select, full_text}
 use Rattle.zq_gateway.specs.TextCalls.{read, said as said_by_face}
+use Rattle.zq_gateway.specs.Asked.{AreCounted, IsHandedToAsker, asked_in, closes, is_own}
 use Rattle.zq_gateway.specs.Deciding.{passing_finals, refused, refusal_of, is_accepted}
 use Rattle.zq_gateway.specs.Waiting.{Waits, IsSettled, ends_entry, lands, until, is_of}
 use Rattle.zq_gateway.specs.Machine.{step, steps, after, state_after, sent_final, sent_replies, sent_timeout}
@@ -70,12 +71,13 @@ is_request (message.Declare d) = false
 abbrev pub asks : Handed → Bool
 asks h = is_request h.message
 
--- an accepted request has the next number and is handed once to each face that the selection picks; no other call hands a request
+-- an accepted request has the next number and is handed once to each face that the selection picks, which never picks the asker; no other call hands a request
 abbrev pub RequestPromise : State → Call → Step → Type 0
 RequestPromise s (call.Request face r now) t =
     is_accepted t.outcome ≡ true →
     (t.outcome ≡ outcome.Asked s.core.queries.requests)
     × HandsRequest s face (full_text (said_by_face face r.wire s)) r (select s.core face (said_by_face face r.wire s) r.target) t.handed
+    × (list_any (is_own face) (select s.core face (said_by_face face r.wire s) r.target) ≡ false)
 RequestPromise s c t = list_any asks t.handed ≡ false
 
 -- ---- replies
@@ -156,10 +158,13 @@ pub record KeepsPromises (s : State) (c : Call) : Type 0 where
   pub replies : ReplyPromise s c (step s c)
   pub waits : is_accepted (step s c).outcome ≡ true → Waits (ends_entry c) (lands c) (until s c) s.core.queries.records (after s c).core.queries.records (step s c).handed
   pub finals : (n : ℕ) → FinalPromise n s c
+  pub closed : (face : ℕ) → is_closed (after s c).core.queries.closed face ≡ (closes face c (step s c) || is_closed s.core.queries.closed face)
   pub refusals : RefusesBy (refusal_of s.core (read s c)) s c
 
--- what a whole run promises: each of its calls keeps its promises; it hands one final of a request at most, and nothing of the request afterwards
+-- what a whole run promises: each of its calls keeps its promises; accepted requests are numbered one after another; each message that it hands is of a request, and each reply and final goes to the request's asker, under the asker's id; it hands one final of a request at most, and nothing of the request afterwards
 pub record RunPromise (config : Settings) (calls : List Call) : Type 0 where
   pub each : (before rest : List Call) (c : Call) → calls ≡ before ++ c ∷ rest → KeepsPromises (state_after (opening_state config) before) c
+  pub numbers : AreCounted config.start.requests (asked_in calls (steps config calls))
+  pub askers : (before rest : List Call) (c : Call) → calls ≡ before ++ c ∷ rest → AllByRecursion (IsHandedToAsker (asked_in (before ++ c ∷ []) (steps config (before ++ c ∷ [])))) (step (state_after (opening_state config) before) c).handed
   pub one_final : (n : ℕ) → finals_over n (steps config calls) ≤ 1
   pub nothing_after : (n : ℕ) (before rest : List Call) (c : Call) → calls ≡ before ++ c ∷ rest → finals_over n (steps config before) ≡ 1 → list_any (is_of n) (step (state_after (opening_state config) before) c).handed ≡ false

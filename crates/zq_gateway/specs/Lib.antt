@@ -6,6 +6,8 @@ pub mod Selecting
 pub mod Deciding
 pub mod Machine
 pub mod Waiting
+pub mod Asked
 pub mod Headline
 pub mod Undoing
 pub mod Moved
+pub mod Agreeing

@@ -14,8 +14,8 @@ use zq_key::message::{Mode, Region, Zid};
 pub const SOUTH_IDS: u32 = 255;
 
 /// The numbers that a gateway begins with: the next face, request and reply, and the id last told
-/// and last given to each new face.
-#[derive(Clone, Copy, Debug, PartialEq, Eq)]
+/// and last given to each new face. All are 0 by default.
+#[derive(Clone, Copy, Debug, Default, PartialEq, Eq)]
 pub struct Counters {
     pub faces: u32,
     pub requests: u64,

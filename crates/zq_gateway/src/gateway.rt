@@ -10,7 +10,7 @@ ghost use Rattle.zq_query.specs.Asking.{are_distinct, face_numbers, is_full, lac
 ghost use Rattle.zq_naming.specs.Naming.{is_text};
 ghost use Rattle.zq_gateway.specs.declared.call.Call.TheVariants as call;
 ghost use Rattle.zq_gateway.specs.Calls.{declared_call, declaring_call, is_built};
-ghost use Rattle.zq_gateway.specs.Deciding.{done, granted, lacks_reply_number, opened, refused, seat};
+ghost use Rattle.zq_gateway.specs.Deciding.{done, granted, opened, refused, seat};
 ghost use Rattle.zq_gateway.specs.Selecting.{full_text, is_unscoped, says_key, says_key_or_nothing, select_for, target_of};
 ghost use Rattle.zq_gateway.specs.Machine.{accepted_state, after, after_of, answer, follow, step, step_of, write};
 ghost use Rattle.zq_gateway.specs.State.{at, change_hat, face_region, is_open, joined, opening_state};
@@ -151,7 +151,8 @@ impl Gateway {
         }
     }
 
-    /// A face is opened.
+    /// A face is opened, in its region. A namespace and deny lists are not built yet (`Call::is_built`):
+    /// the face is opened without them.
     pub fn open_face(&mut self, opening: &Opening) -> Result<Step, OutOfMemory>
         ensures step { IfOk result (λ t. t ≡ step self.old (call.Open opening.now)) }
         ensures after { OnOk result (self.new ≡ after self.old (call.Open opening.now)) }

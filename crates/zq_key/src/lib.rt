@@ -31,8 +31,8 @@ pub use check::{is_key, is_plain};
 use key::{Relation, related};
 pub use name::{Key, KeyError};
 
-/// Whether two keys intersect (upstream's `keyexpr::intersects`): whether some text without wild
-/// chunks is matched by both. It takes no memory.
+/// Whether two keys intersect (upstream's `keyexpr::intersects`), by the recursion on their chunks. It
+/// takes no memory.
 #[tactic(auto, using(crate::proofs::Characters::relations))]
 pub fn intersects(a: &str, b: &str) -> bool
     requires first { IsTrue (key_of a.now) }
@@ -43,8 +43,8 @@ pub fn intersects(a: &str, b: &str) -> bool
     related(Relation::Meets, a.as_bytes(), b.as_bytes())
 }
 
-/// Whether key a includes key b (upstream's `keyexpr::includes`): whether all that b matches is
-/// matched by a. It takes no memory.
+/// Whether key a includes key b (upstream's `keyexpr::includes`), by the recursion on their chunks. It
+/// may be false where a matches all that b matches, as for `*/**` and `**/x`. It takes no memory.
 #[tactic(auto, using(crate::proofs::Characters::relations))]
 pub fn includes(a: &str, b: &str) -> bool
     requires first { IsTrue (key_of a.now) }

@@ -1,5 +1,5 @@
 //! The table of names.
-ghost use Rattle.std.specs.Prelude.{◌≡◌, ◌≢◌, ℕ, ◌+◌, ◌<◌, ◌^◌, ◌++◌, ◌↔◌, [], ◌∷◌, IsTrue, IfOk, IfErr, IfSome, IfNone, OnOk, OnErr, Err, true, false, length, drop, map, filter};
+ghost use Rattle.std.specs.Prelude.{◌≡◌, ◌≢◌, ℕ, ◌+◌, ◌<◌, ◌^◌, ◌++◌, ◌↔◌, [], ◌∷◌, IsTrue, IfOk, IfErr, ◌⊎◌, IfSome, IfNone, OnOk, OnErr, Err, true, false, length, drop, map, filter};
 ghost use Rattle.std.specs.List.{All, Contains};
 ghost use Rattle.std.specs.String.{string_bytes};
 ghost use Rattle.zq_key.specs.Key.{is_key as key_of};
@@ -56,10 +56,12 @@ fn joined(alloc: Global, head: &str, tail: &str) -> Result<String, OutOfMemory>
 }
 
 impl Names {
-    /// A table of the root alone, which is not held.
+    /// A table of the root alone, without marks.
     pub fn new(alloc: Global) -> Result<Names, OutOfMemory>
         ensures root { IfOk result (λ ns. texts ns ≡ [] ∷ []) }
         ensures unheld { IfOk result (λ ns. map (λ e. e.holds) ns ≡ 0 ∷ []) }
+        ensures unmarked { IfOk result (λ ns. map (λ e. e.context) ns ≡ false ∷ []) }
+        ensures unmatched { IfOk result (λ ns. map (λ e. e.matches) ns ≡ [] ∷ []) }
     {
         let mut nodes = Slab::new(alloc);
         let mut order = Vec::new(alloc);
@@ -256,6 +258,7 @@ impl Names {
         ensures lean { IfOk result (λ r. NoneIdle self.old → IdleAt self.new r.0) }
         ensures key { OnOk result (key_of ((entry_at self.old from.0).text ++ suffix.now) ≡ true) }
         ensures invalid { result ≡ Err NameRefusal.InvalidKeyExpr → key_of ((entry_at self.old from.0).text ++ suffix.now) ≡ false }
+        ensures kind { IfErr result (λ e. (e ≡ NameRefusal.InvalidKeyExpr) ⊎ (e ≡ NameRefusal.OutOfMemory)) }
         ensures only { IfErr result (λ e. key_of ((entry_at self.old from.0).text ++ suffix.now) ≡ true → e ≡ NameRefusal.OutOfMemory) }
         ensures refused { OnErr result (self.new ≡ self.old) }
     {

@@ -5,6 +5,7 @@ pub mod Built
 pub mod Given
 pub mod GivenLines
 pub mod Promised
+pub mod Completed
 pub mod StepsBack
 pub mod Shown
 pub mod EachFits

@@ -85,6 +85,21 @@ wrote status.Memory = false
 wrote status.TooLong = false
 wrote status.LinkFault = false
 
+-- the run is done, or found no memory
+abbrev pub EndsWell : Status → Type 0
+EndsWell status.Done = Unit {0}
+EndsWell status.Words = ⊥
+EndsWell status.Script = ⊥
+EndsWell status.ReadFault = ⊥
+EndsWell status.WriteFault = ⊥
+EndsWell status.Memory = Unit {0}
+EndsWell status.TooLong = ⊥
+EndsWell status.LinkFault = ⊥
+
+-- the bytes are a script that a run may read
+abbrev pub IsFit : List ℕ → Type 0
+IsFit input = (length input ≤ LIMIT) × IsScript (script_of 0 (lines_of input))
+
 -- the number of a status
 abbrev pub status_code : Status → ℕ
 status_code status.Done = 0

@@ -1,5 +1,5 @@
 //! The call that runs a script.
-ghost use Rattle.std.specs.Prelude.{◌≡◌, ◌≢◌, ◌↔◌, ◌≤◌, ◌^◌, ◌<◌, ◌++◌, ◌∷◌, [], IfOk, IfSome, OnOk, OnErr, codes, length, true, false};
+ghost use Rattle.std.specs.Prelude.{◌≡◌, ◌≢◌, ◌↔◌, ◌≤◌, ◌^◌, ◌<◌, ◌++◌, ◌∷◌, [], ◌⊎◌, IfOk, IfSome, OnOk, OnErr, codes, length, true, false};
 ghost use Rattle.std.specs.Fmt.{decimal};
 ghost use Rattle.std.specs.Io.KnownBytes.{IsAtEnd};
 ghost use Rattle.std.specs.List.{AllByRecursion};
@@ -7,7 +7,7 @@ ghost use Rattle.zq_gateway.specs.Headline.{RunPromise};
 ghost use Rattle.zq_words.specs.declared.transfer.TheConstants.{LIMIT};
 ghost use Rattle.zq_words.specs.Streams.{Rose};
 ghost use Rattle.zq_script.specs.Script.{lines_of, script_of, AllBuilt};
-ghost use Rattle.zq_script.specs.Running.{is_command, first_part, print_of, script_print, ReadsBack, IsEnd, Leaves, wrote, status_code};
+ghost use Rattle.zq_script.specs.Running.{is_command, first_part, print_of, script_print, EndsWell, IsFit, ReadsBack, IsEnd, Leaves, wrote, status_code};
 
 use crate::refusal::ScriptRefusal;
 use crate::script::{Script, read_script};
@@ -135,7 +135,7 @@ fn answer<K: Sink>(alloc: Global, bytes: &[u8], sink: &mut K) -> Status
 
 /// Reads a script from the source, and gives the print of its steps to the sink, where the words
 /// are the one word `replay`. The steps keep what each run promises.
-#[tactic(auto, using(crate::proofs::Promised::promised))]
+#[tactic(auto, using(crate::proofs::Promised::promised, crate::proofs::Completed::answered, crate::proofs::Completed::words_fail, crate::proofs::Completed::read_fails, crate::proofs::Completed::too_long, crate::proofs::Completed::no_memory))]
 pub fn run<S: Source, K: Sink>(
     alloc: Global,
     words: &[Text],
@@ -146,11 +146,12 @@ pub fn run<S: Source, K: Sink>(
     ensures untouched { result ≡ Status.Words → (source.new ≡ source.old) × (sink.new ≡ sink.old) }
     ensures leaves { IfSome (S.left source.old) (λ input. Leaves result input (K.taken sink.old) (K.taken sink.new)) }
     ensures back { IfSome (S.left source.old) (λ input. result ≡ Status.Done → IfOk (script_of 0 (lines_of input)) ReadsBack) }
-    ensures whole { result ≡ Status.Done → IsAtEnd (S.left source.new) }
+    ensures whole { (result ≡ Status.Done) ⊎ (result ≡ Status.Script) → IsAtEnd (S.left source.new) }
     ensures read { result ≡ Status.ReadFault → Rose (S.faults source.old) (S.faults source.new) }
     ensures write { result ≡ Status.WriteFault → Rose (K.faults sink.old) (K.faults sink.new) }
     ensures unwritten { wrote result ≡ false → sink.new ≡ sink.old }
     ensures linked { result ≢ Status.LinkFault }
+    ensures complete { IfSome (S.left source.old) (λ input. is_command words.now ≡ true → IsFit input → (Rose (S.faults source.old) (S.faults source.new) → ⊥) → (Rose (K.faults sink.old) (K.faults sink.new) → ⊥) → EndsWell result) }
     ensures headline { IfSome (S.left source.old) (λ input. IfOk (script_of 0 (lines_of input)) (λ s. RunPromise s.config (first_part s.parts))) }
 {
     if !is_command(words) {

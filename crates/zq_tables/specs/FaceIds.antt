@@ -36,9 +36,9 @@ side face Sender = face.theirs
 side face Receiver = face.ours
 
 -- the side that it names in what is handed to the face
-abbrev pub sent_side : FaceIds → Mapping → List (ℕ × ℕ)
-sent_side face Sender = face.ours
-sent_side face Receiver = face.theirs
+abbrev pub handed_side : FaceIds → Mapping → List (ℕ × ℕ)
+handed_side face Sender = face.ours
+handed_side face Receiver = face.theirs
 
 -- whether one of the sides uses the id
 abbrev pub is_used : {X : Type 0} → List (ℕ × X) → List (ℕ × X) → ℕ → Bool

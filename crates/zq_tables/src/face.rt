@@ -5,7 +5,7 @@ ghost use Rattle.std.specs.Str.{IsCharBoundary};
 ghost use Rattle.std.specs.List.{Contains};
 ghost use Rattle.zq_key.specs.Key.{is_key as key_of};
 ghost use Rattle.zq_names.specs.Names.{IsLive, HasText, Makes, entry_at};
-ghost use Rattle.zq_tables.specs.FaceIds.{no_ids, of_id, with_id, without_id, side, sent_side, is_used as used_of, next_id, AreLive};
+ghost use Rattle.zq_tables.specs.FaceIds.{no_ids, of_id, with_id, without_id, side, handed_side, is_used as used_of, next_id, AreLive};
 ghost use Rattle.zq_tables.specs.Registering.{Maps, Registers};
 ghost use Rattle.zq_tables.specs.FaceTexts.{texts_of, full_of, read_by, known as known_of, part_choice, declared_ids, best_part as part_of, best_key, declared_key, with_declared, registered, register_refusal, IsReason};
 
@@ -70,7 +70,7 @@ impl FaceNames {
 
     /// The node of an id in what is handed to the face. (`FaceState::get_sent_mapping`)
     pub fn get_sent_mapping(&self, scope: u16, mapping: Mapping) -> Option<ResourceId>
-        ensures { option_map (λ r. r.0) result ≡ of_id (sent_side self.now mapping) scope }
+        ensures { option_map (λ r. r.0) result ≡ of_id (handed_side self.now mapping) scope }
     {
         let found = match mapping {
             Mapping::Sender => self.ours.get(scope),
