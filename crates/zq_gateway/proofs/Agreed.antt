@@ -24,7 +24,7 @@ use Rattle.zq_gateway.specs.Configs.{Settings, region_of, north_of}
 use Rattle.zq_gateway.specs.Deciding.{causes, refusal_of, granted, answered, is_accepted}
 use Rattle.zq_gateway.specs.Machine.{accepted_state, after, follow, state_after}
 use Rattle.zq_gateway.specs.Selecting.{full_text}
-use Rattle.zq_gateway.specs.State.{State, at, change_hat, clashes_in, first_hats, hat_at, hat_of, is_open, opening_state, with_hat}
+use Rattle.zq_gateway.specs.State.{State, at, change_hat, clashes_in, first_hats, hat_at, hat_of, is_open, is_region, opening_state, with_hat}
 use Rattle.zq_gateway.specs.TextCalls.{TextCall, opening, closing, naming, unnaming, declaring, withdrawing, asking, replying, ending, reporting, passing, listing, finalizing, unbuilt, read}
 use Rattle.zq_gateway.proofs.Agreeing.{Tied, declared_tied, marked_tied, named_tied, some_of, unnamed_tied, withdrawn_tied}
 use Rattle.zq_gateway.proofs.Changing.{hat_found, itself, number_test, region_there}
@@ -105,7 +105,7 @@ bare_with config hats e bare r h h_at = by (is_at (nat_cmp (region_index (region
     hat : HatState
     hat = new_hat (region_of e) (north_of config.entries) config.zid config.start.told
 
-    there : (is_region_of : _) × (at (region_index r) (with_hat config hats e) ≡ Some h)
+    there : (is_region r ≡ true) × (at (region_index r) (with_hat config hats e) ≡ Some h)
     there = region_there r (with_hat config hats e) h h_at
 
     now : cond (is_at (nat_cmp (region_index (region_of e))) (region_index r)) (Some hat) (at (region_index r) hats) ≡ Some h
@@ -139,24 +139,24 @@ run_tied (c ∷ cs) s i t = run_tied cs (after s c) (follow_sound s (read s c) i
 -- ---- in the words of the promise
 agrees : (s : State) → IsSound s → IsTied s → Agrees s
 agrees s i t = record {
-  apart = λ face open. i.apart face open;
+  apart = λ face seen. i.apart face seen;
   seats = λ r h face e. t.seats r h face e;
-  homes = λ face open.
-      let x : (o : OpenFace) × (at face s.core.faces ≡ Some o) = some_of (at face s.core.faces) open in
+  homes = λ face seen.
+      let x : (o : OpenFace) × (at face s.core.faces ≡ Some o) = some_of (at face s.core.faces) seen in
       ap (λ y. is_some (option_and_then its_hat y)) x.1 ∙ t.homes face x.0 x.1;
   named = λ face. t.named face;
-  held = λ face h e. option_and_then_some its_hat (at face s.core.faces) h e (λ o open h_at. held_by face h o open h_at);
+  held = λ face h e. option_and_then_some its_hat (at face s.core.faces) h e (λ o seen h_at. held_by face h o seen h_at);
 }
   where
     its_hat : OpenFace → Option HatState
     its_hat o = hat_at o.region s.core.hats
 
     held_by : (face : ℕ) (h : HatState) (o : OpenFace) → at face s.core.faces ≡ Some o → hat_at o.region s.core.hats ≡ Some h → face_queryables face s.names ≡ keys_in face h
-    held_by face h o open h_at =
+    held_by face h o seen h_at =
         let seated : has_face face h ≡ true =
-        t.seats o.region h face h_at ∙ ap (λ x. option_map_or (stands_in o.region) x false) open ∙ sym (number_test (region_index o.region) (region_index o.region)) ∙ itself (region_index o.region) in
+        t.seats o.region h face h_at ∙ ap (λ x. option_map_or (stands_in o.region) x false) seen ∙ sym (number_test (region_index o.region) (region_index o.region)) ∙ itself (region_index o.region) in
         let f : (f : FaceState) × (face_at face h ≡ Some f) = some_of (face_at face h) seated in
-        (t.held face o h f.0 open h_at f.1).same ∙ sym (ap (λ x. option_map_or (λ (y : FaceState). map id_and_key y.declared) x []) f.1)
+        (t.held face o h f.0 seen h_at f.1).same ∙ sym (ap (λ x. option_map_or (λ (y : FaceState). map id_and_key y.declared) x []) f.1)
 
 pub agree_always : (config : Settings) (calls : List Call) → Agrees (state_after (opening_state config) calls)
 agree_always config calls =

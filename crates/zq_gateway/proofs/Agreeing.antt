@@ -95,15 +95,15 @@ module _ (faces : List (ℕ × OpenFace)) (hats : List (ℕ × HatState)) (names
   unnamed_tied face id = renamed_tied face (without_name id) (λ n. refl)
 
   -- ---- an open face is changed in its hat, and its keys with it
-  module _ (face : ℕ) (o : OpenFace) (open : at face faces ≡ Some o) where
+  module _ (face : ℕ) (o : OpenFace) (seen : at face faces ≡ Some o) where
     abbrev hats_with : (FaceState → FaceState) → List (ℕ × HatState)
     hats_with k = change_hat o.region (change_face face k) hats
 
     home : (h : HatState) × (hat_at o.region hats ≡ Some h)
-    home = some_of (hat_at o.region hats) (t.homes face o open)
+    home = some_of (hat_at o.region hats) (t.homes face o seen)
 
     its_keys : (n : FaceKeys) × (naming_at face names ≡ Some n)
-    its_keys = some_of (naming_at face names) (t.named face ∙ ap is_some open)
+    its_keys = some_of (naming_at face names) (t.named face ∙ ap is_some seen)
 
     module _ (k : FaceState → FaceState) (after : NamingState)
         (sorted : IsStrictlySortedBy nat_cmp (keys_of after))
@@ -129,7 +129,7 @@ module _ (faces : List (ℕ × OpenFace)) (hats : List (ℕ × HatState)) (names
           by None is = absurd (let gap : None ≡ Some f = sym (ap (option_map k) is) ∙ found in cc)
           by (Some x) is =
               let new : k x ≡ f = same_Some _ _ (sym (ap (option_map k) is) ∙ found) in
-              let holds : Holds (k x) (face_queryables face after) = kept home.0 x home.1 is (t.held face o home.0 x open home.1 is) in
+              let holds : Holds (k x) (face_queryables face after) = kept home.0 x home.1 is (t.held face o home.0 x seen home.1 is) in
               subst (λ n. Holds f (face_queryables n after)) one (subst (λ y. Holds y (face_queryables face after)) new holds)
 
       changed_elsewhere : (q : ℕ) → is_at (nat_cmp face) q ≡ false → (p : OpenFace) (h : HatState) (f : FaceState) → at q faces ≡ Some p → hat_at p.region hats ≡ Some h → face_at q h ≡ Some f → Holds f (face_queryables q after)
@@ -138,7 +138,7 @@ module _ (faces : List (ℕ × OpenFace)) (hats : List (ℕ × HatState)) (names
       -- the face's own hat is changed
       own_region : (q : ℕ) → is_at (nat_cmp face) q ≡ true → (p : OpenFace) → at q faces ≡ Some p → is_at (nat_cmp (region_index o.region)) (region_index p.region) ≡ true
       own_region q e p q_at =
-          let same : o ≡ p = same_Some _ _ (sym open ∙ ap (λ n. at n faces) (one_number face q e) ∙ q_at) in
+          let same : o ≡ p = same_Some _ _ (sym seen ∙ ap (λ n. at n faces) (one_number face q e) ∙ q_at) in
           ap (λ (x : OpenFace). is_at (nat_cmp (region_index o.region)) (region_index x.region)) (sym same) ∙ itself (region_index o.region)
 
       holds_after : (q : ℕ) (p : OpenFace) (h : HatState) (f : FaceState) → at q faces ≡ Some p → hat_at p.region (hats_with k) ≡ Some h → face_at q h ≡ Some f → Holds f (face_queryables q after)
@@ -203,14 +203,14 @@ marked_holds mark.Initial set f qs holds = record { same = holds.same; sorted = 
 marked_holds (mark.Key key) true f qs holds = record { same = holds.same; sorted = holds.sorted }
 marked_holds (mark.Key key) false f qs holds = record { same = holds.same; sorted = holds.sorted }
 
-module _ (faces : List (ℕ × OpenFace)) (hats : List (ℕ × HatState)) (names : NamingState) (t : Tied faces hats names) (face : ℕ) (o : OpenFace) (open : at face faces ≡ Some o) where
+module _ (faces : List (ℕ × OpenFace)) (hats : List (ℕ × HatState)) (names : NamingState) (t : Tied faces hats names) (face : ℕ) (o : OpenFace) (seen : at face faces ≡ Some o) where
   -- the keys of the face are changed as its declarations are
   with_keys : (k : FaceState → FaceState) (g : FaceKeys → FaceKeys)
       → ((h : HatState) (f : FaceState) (n : FaceKeys) → hat_at o.region hats ≡ Some h → face_at face h ≡ Some f → Holds f n.queryables → Holds (k f) (g n).queryables)
       → Tied faces (change_hat o.region (change_face face k) hats) (change_naming face g names)
   with_keys k g kept =
-      let n : (n : FaceKeys) × (naming_at face names ≡ Some n) = its_keys faces hats names t face o open in
-      face_tied faces hats names t face o open k (change_naming face g names)
+      let n : (n : FaceKeys) × (naming_at face names ≡ Some n) = its_keys faces hats names t face o seen in
+      face_tied faces hats names t face o seen k (change_naming face g names)
       (names_in_order face g names t.names_sorted) (names_found face g names) (keys_elsewhere face g names)
       (λ h f h_at f_at holds. subst (Holds (k f)) (sym (keys_here face g names n.0 n.1)) (kept h f n.0 h_at f_at (subst (Holds f) (ap keys_by n.1) holds)))
 
@@ -225,5 +225,5 @@ module _ (faces : List (ℕ × OpenFace)) (hats : List (ℕ × HatState)) (names
 
   pub marked_tied : (m : FinalMark) (set : Bool) → Tied faces (change_hat o.region (change_face face (marked m set)) hats) names
   marked_tied m set =
-      face_tied faces hats names t face o open (marked m set) names t.names_sorted (λ q. refl) (λ q e. refl)
+      face_tied faces hats names t face o seen (marked m set) names t.names_sorted (λ q. refl) (λ q e. refl)
       (λ h f h_at f_at holds. marked_holds m set f (face_queryables face names) holds)

@@ -22,6 +22,7 @@ use Rattle.zq_query.specs.Records.{Pending, QueryState, Record, after_put, final
 use Rattle.zq_query.specs.Tables.{Due}
 use Rattle.zq_query.proofs.TimingOut.{rest_stays}
 use Rattle.zq_naming.specs.Naming.{NamingState}
+use Rattle.zq_naming.specs.declared.said.Said.{Said}
 use Rattle.zq_gateway.specs.declared.call.Call.{Call}
 use Rattle.zq_gateway.specs.declared.call.Call.TheVariants as call
 use Rattle.zq_gateway.specs.declared.call.Handed.{Handed}
@@ -286,7 +287,7 @@ module _ (asked : List Final) (s : State) (all : Asks asked s) where
       by None e = taken (is_accepted (granted s.core t).outcome) (granted_is_accepted s.core t e)
 
   module _ (face : FaceId) (r : Request) (now : ℕ) where
-    abbrev said : _
+    abbrev said : Said
     said = said_by_face face r.wire s
 
     abbrev offers : List QueryTargetQabl
@@ -321,7 +322,7 @@ module _ (asked : List Final) (s : State) (all : Asks asked s) where
           counted = λ rest are. (refl, are);
         }
 
-  pub call_tells : (c : Call) → Tells asked (asked_by c (step s c)) s (after s c) (step s c)
+  call_tells : (c : Call) → Tells asked (asked_by c (step s c)) s (after s c) (step s c)
   unfolding is_asking
   call_tells (call.Request face r now) = request_tells face r now
   call_tells (call.Open o) = quiet (opening o) refl

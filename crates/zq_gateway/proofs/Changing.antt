@@ -1,6 +1,6 @@
 -- Entries of which one is changed, and a region's hat and a face's keys so changed: what look-ups find afterwards.
 use Rattle.std.proofs.Common.{◌≡◌, ◌∙◌, refl, sym, ap, subst, ℕ, Bool, true, false, cond, eqb, List, Option, Some, None, eqb-true}
-use Rattle.std.specs.Option.{IsSome, is_some, option_map, option_map_or}
+use Rattle.std.specs.Option.{is_some, option_map, option_map_or}
 use Rattle.std.specs.Ordering.{nat_cmp}
 use Rattle.std.specs.List.Sorted.{IsStrictlySortedBy}
 use Rattle.std.specs.Map.{keys_of, set_value}
@@ -52,7 +52,7 @@ module _ {X : Type 0} (k : ℕ) (g : X → X) (es : List (ℕ × X)) where
       by : (b : Bool) → is_at (nat_cmp k) q ≡ b → at q es ≡ cond b None (at q es)
       by true is = ap (λ n. at n es) (sym (one_number k q is)) ∙ e
       by false is = refl
-  found_by q (Some x) e = found_after_write nat_cmp_total exact_unsigned k q (g x) es (subst IsSome (sym e) tt)
+  found_by q (Some x) e = found_after_write nat_cmp_total exact_unsigned k q (g x) es (ap is_some e)
 
   pub found : (q : ℕ) → at q changed ≡ cond (is_at (nat_cmp k) q) (option_map g (at k es)) (at q es)
   found q = found_by q (at k es) refl

@@ -136,9 +136,9 @@ module _ (faces : List (ℕ × OpenFace)) (hats : List (ℕ × HatState)) (names
   }
 
 -- ---- an open face is closed
-module _ (faces : List (ℕ × OpenFace)) (hats : List (ℕ × HatState)) (names : NamingState) (t : Tied faces hats names) (sorted : IsStrictlySortedBy nat_cmp (keys_of faces)) (face : ℕ) (o : OpenFace) (open : at face faces ≡ Some o) where
+module _ (faces : List (ℕ × OpenFace)) (hats : List (ℕ × HatState)) (names : NamingState) (t : Tied faces hats names) (sorted : IsStrictlySortedBy nat_cmp (keys_of faces)) (face : ℕ) (o : OpenFace) (seen : at face faces ≡ Some o) where
   own : (h : HatState) × (hat_at o.region hats ≡ Some h)
-  own = some_of (hat_at o.region hats) (t.homes face o open)
+  own = some_of (hat_at o.region hats) (t.homes face o seen)
 
   abbrev test : ℕ → Bool
   test q = is_at (nat_cmp face) q
@@ -178,7 +178,7 @@ module _ (faces : List (ℕ × OpenFace)) (hats : List (ℕ × HatState)) (names
   other_seats r h q b old = t.seats r h q old ∙ by (test q) refl ∙ sym (ap (λ x. option_map_or (stands_in r) x false) (left_in_faces q))
     where
       by : (c : Bool) → test q ≡ c → is_open_in r q faces ≡ option_map_or (stands_in r) (cond c None (at q faces)) false
-      by true e = ap (λ x. option_map_or (stands_in r) x false) (ap (λ m. at m faces) (sym (one_number face q e)) ∙ open) ∙ same_place o.region r false b
+      by true e = ap (λ x. option_map_or (stands_in r) x false) (ap (λ m. at m faces) (sym (one_number face q e)) ∙ seen) ∙ same_place o.region r false b
       by false e = refl
 
   left_home : (q : ℕ) (p : OpenFace) → at q less_faces ≡ Some p → is_some (hat_at p.region less_hats) ≡ true

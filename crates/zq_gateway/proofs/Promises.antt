@@ -168,7 +168,7 @@ no_replied_asks : (names : NamingState) (text : List ℕ) (r : Response) (o : Op
 no_replied_asks names text r None = refl
 no_replied_asks names text r (Some to) = no_replies_ask names text r to
 
-pub is_asking : TextCall → Bool
+unfoldable pub is_asking : TextCall → Bool
 is_asking (asking face s r now) = true
 is_asking (opening o) = false
 is_asking (closing face) = false

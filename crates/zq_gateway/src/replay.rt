@@ -13,7 +13,6 @@ use zq_key::items::Items;
 use zq_key::memory::OutOfMemory;
 
 /// The steps of a new gateway for calls, one after another; and what each run of them promises.
-#[tactic(auto, using(crate::proofs::Kept::headline))]
 pub fn replay(alloc: Global, config: &Config, calls: &[Call]) -> Result<Replay, OutOfMemory>
     requires { AllByRecursion (λ c. is_built config.now c ≡ true) calls.now }
     ensures machine { IfOk result (λ r. r.steps ≡ steps config.now calls.now) }

@@ -46,8 +46,10 @@ fn read_words(words: &[Text]) -> Asked
 }
 
 fn words(rt: &(impl Env + Alloc), alloc: Global) -> Result<Vec<Text>, Status> {
-    let Ok(args) = env::args(rt) else {
-        return Err(Status::Words);
+    let args = match env::args(rt) {
+        Ok(args) => args,
+        Err(error) if error.kind() == io::ErrorKind::OutOfMemory => return Err(Status::Memory),
+        Err(_) => return Err(Status::Words),
     };
     let mut words = Vec::new(alloc);
     for arg in args.skip(1) {

@@ -135,7 +135,7 @@ fn answer<K: Sink>(alloc: Global, bytes: &[u8], sink: &mut K) -> Status
 
 /// Reads a script from the source, and gives the print of its steps to the sink, where the words
 /// are the one word `replay`. The steps keep what each run promises.
-#[tactic(auto, using(crate::proofs::Promised::promised, crate::proofs::Completed::answered, crate::proofs::Completed::words_fail, crate::proofs::Completed::read_fails, crate::proofs::Completed::too_long, crate::proofs::Completed::no_memory))]
+#[tactic(auto, using(crate::proofs::Completed::words_fail, crate::proofs::Completed::read_fails, crate::proofs::Completed::too_long, crate::proofs::Completed::no_memory))]
 pub fn run<S: Source, K: Sink>(
     alloc: Global,
     words: &[Text],
