@@ -1,0 +1,587 @@
+#!/usr/bin/env python3
+"""What is right: the query gateway as plain lists.
+
+`fuzz/model.py < script` prints what the script's calls have to be answered, and exits with the
+status that the program has to exit with. docs/SCRIPT.md has the words of a script.
+"""
+
+import re
+import sys
+from collections import namedtuple
+from dataclasses import dataclass, field
+from functools import lru_cache
+from itertools import count
+
+U8, U16, U32, U64, U128 = (2**bits - 1 for bits in (8, 16, 32, 64, 128))
+MODES = ('router', 'peer', 'client')
+FARTHEST = U16
+
+
+# Keys
+
+# `*`, `**`, or characters other than `#?*$`, with single `$*` before, between and behind them.
+CHUNK = rb'(\*\*?|(\$\*)?[^/#?*$]+(\$\*[^/#?*$]+)*(\$\*)?)'
+CHUNKS = re.compile(CHUNK + b'(/' + CHUNK + b')*')
+
+
+def is_key(text):
+    """Chunks between slashes, with neither `**` nor `*` right behind a `**`."""
+    return CHUNKS.fullmatch(text) is not None and b'**/*' not in text
+
+
+def is_verbatim(chunk):
+    """A chunk that begins with `@` is matched by itself alone."""
+    return chunk[:1] == b'@'
+
+
+def characters(chunk):
+    """The characters of a chunk, of which `$*` is one."""
+    return tuple(re.findall(rb'\$\*|.', chunk, re.DOTALL))
+
+
+@lru_cache(maxsize=2**18)
+def fits(left, right, wild, every):
+    """Whether the left list stands for something that the right one stands for, or for every such thing."""
+    if left[:1] == (wild,):
+        longer = may_take(wild, right) and fits(left, right[1:], wild, every)
+        return longer or fits(left[1:], right, wild, every)
+    if right[:1] == (wild,) and not every:
+        return fits(right, left, wild, every)
+    if not left or not right:
+        return left == right
+    same = left[0] == right[0] if wild == b'$*' else chunk_fits(left[0], right[0], every)
+    return same and fits(left[1:], right[1:], wild, every)
+
+
+def may_take(wild, parts):
+    """`$*` stands for any characters, `**` for any chunks that are not verbatim."""
+    return parts != () and (wild == b'$*' or not is_verbatim(parts[0]))
+
+
+def chunk_fits(left, right, every):
+    """`*` stands for any chunk that is not verbatim, but not for a `**`."""
+    if is_verbatim(left) or is_verbatim(right) or right == b'**':
+        return left == right
+    if left == b'*' or right == b'*' and not every:
+        return True
+    return fits(characters(left), characters(right), b'$*', every)
+
+
+def intersects(left, right):
+    """Whether two keys have a text in common."""
+    return fits(tuple(left.split(b'/')), tuple(right.split(b'/')), b'**', False)
+
+
+def includes(left, right):
+    """Whether the left key has all texts of the right one."""
+    return fits(tuple(left.split(b'/')), tuple(right.split(b'/')), b'**', True)
+
+
+# Words
+
+class BadLine(Exception):
+    """The line is no call."""
+
+
+def require(condition):
+    if not condition:
+        raise BadLine
+
+
+def number(most):
+    """Reads a decimal number without sign or leading zeros."""
+    def read(word):
+        require(re.fullmatch(rb'0|[1-9][0-9]{0,59}', word) and int(word) <= most)
+        return int(word)
+    return read
+
+
+u8, u16, u32, u64, u128 = (number(most) for most in (U8, U16, U32, U64, U128))
+
+
+def choice(*names):
+    """Reads one of some words."""
+    def read(word):
+        require(word in [name.encode() for name in names])
+        return word.decode()
+    return read
+
+
+def tagged(tag, reader):
+    """Reads what follows a tag and a colon."""
+    return lambda word: fields(word.split(b':', 1), choice(tag), reader)[1]
+
+
+def optional(reader):
+    """Reads `-` as none."""
+    return lambda word: None if word == b'-' else reader(word)
+
+
+def payload(word):
+    """`-` is empty; `%` and two hexadecimal digits are a byte, any other `%` is itself."""
+    if word == b'-':
+        return b''
+    return re.sub(rb'%([0-9A-Fa-f]{2})', lambda found: bytes([int(found[1], 16)]), word)
+
+
+def text(word):
+    """A payload that is UTF-8."""
+    try:
+        return payload(word).decode().encode()
+    except UnicodeDecodeError:
+        raise BadLine from None
+
+
+# A number, whose it is (`s`, the sender's, or `r`, the receiver's), and what follows its text.
+Expression = namedtuple('Expression', 'number side suffix')
+
+
+def expression(word):
+    return Expression(*fields(word.split(b':', 2), u16, choice('s', 'r'), text))
+
+
+def ids(word):
+    """A list of ids, joined by commas."""
+    return [] if word == b'-' else [u128(part) for part in word.split(b',')]
+
+
+Region = namedtuple('Region', 'kind number mode', defaults=[0, ''])
+NORTH, LOCAL = Region('north'), Region('local')
+
+
+def region(word):
+    if word in (b'north', b'local'):
+        return Region(word.decode())
+    return Region(*fields(word.split(b':'), choice('south'), u32, choice(*MODES)))
+
+
+def region_order(where):
+    """North comes first, then Local, then South by number and mode."""
+    return ['north', 'local', 'south'].index(where.kind), where.number, ['', *MODES].index(where.mode)
+
+
+def gateway_lists(word):
+    """For each id the gateways that may carry its requests."""
+    entries = [] if word == b'-' else word.split(b';')
+    return [fields(entry.split(b'='), u128, ids) for entry in entries]
+
+
+def fields(words, *readers):
+    """As many values as words, each by its reader."""
+    require(len(words) == len(readers))
+    return tuple(reader(word) for reader, word in zip(readers, words))
+
+
+def shown(content):
+    """A text or payload as a word of the print."""
+    if content in (b'', b'-'):
+        return '%2D' if content else '-'
+    return ''.join(chr(b) if 32 < b < 127 and b != 37 else f'%{b:02X}' for b in content)
+
+
+# Lines
+
+@dataclass
+class Config:
+    id: int
+    timeout: int
+    regions: list = field(default_factory=list)
+    north_mode: str = ''
+    start: tuple = (0, 0, 0, 0, 0)
+
+    def mode(self, where):
+        """What a region is made of; Local is of applications."""
+        return {NORTH: self.north_mode, LOCAL: 'application'}.get(where, where.mode)
+
+
+def read_config(words):
+    """North once, no region twice, and South numbers of a byte."""
+    require(words[0] == b'config')
+    config = Config(*fields(words[1:3], u128, u64))
+    for word in words[3:]:
+        if word.startswith(b'north:'):
+            entry, config.north_mode = NORTH, tagged('north', choice(*MODES))(word)
+        else:
+            entry = region(word)
+            require(entry != NORTH and entry.number <= U8)
+        require(entry not in config.regions)
+        config.regions.append(entry)
+    require(NORTH in config.regions)
+    return config
+
+
+FORMATS = [
+    ('close', u32),
+    ('key', u32, u16, expression),
+    ('unkey', u32, u16),
+    ('queryable', u32, u32, expression, choice('c', 'p'), u16, u16),
+    ('unqueryable', u32, u32, optional(expression), u16),
+    ('ask', u32, u32, expression, choice('all', 'complete', 'best'), optional(u64), u16, u8, payload, u64),
+    ('reply', u32, u32, expression, choice('ok', 'err'), payload),
+    ('reply', u32, u32, expression, choice('ok', 'err'), payload, tagged('by', u128)),
+    ('final', u32, u32),
+    ('sent', u64),
+    ('poll', u64),
+    ('finalize', u32, choice('initial'), choice('0', '1')),
+    ('finalize', u32, choice('key'), text, choice('0', '1')),
+    ('gateways', region, gateway_lists, lambda word: None if word == b'none' else ids(word)),
+]
+READERS = {(kind, len(readers)): readers for kind, *readers in FORMATS}
+
+
+def read_open(words, config):
+    """In a region that is there, routers, a namespace and deny lists are not built yet."""
+    where, face_id, _, bound, namespace = fields(
+        words[:5], region, u128, choice(*MODES), choice('north', 'south'), optional(text))
+    for item in words[5:]:
+        tagged('in' if item.startswith(b'in') else 'out', text)(item)
+    if where in config.regions:
+        require(namespace is None and not words[5:] and config.mode(where) != 'router')
+    return where, face_id, bound
+
+
+def read_call(words, config):
+    """The kind of a call, and its values."""
+    kind, values = words[0].decode('latin-1'), words[1:]
+    if kind == 'open':
+        return kind, read_open(values, config)
+    require((kind, len(values)) in READERS)
+    return kind, fields(values, *READERS[kind, len(values)])
+
+
+# The gateway
+
+class Refused(Exception):
+    """The call changes nothing; its cause is named."""
+
+
+def refuse(cause, holds):
+    if holds:
+        raise Refused(cause)
+
+
+@dataclass
+class Face:
+    """An open face: whether it told all, or of which keys; the texts of its numbers; its queryables."""
+    number: int
+    region: Region
+    id: int
+    bound: str
+    last_id: int
+    told: bool = False
+    told_of: set = field(default_factory=set)
+    texts: dict = field(default_factory=dict)
+    queryables: dict = field(default_factory=dict)
+
+    def says(self, written):
+        """The text of an expression."""
+        if written.number == 0:
+            return written.suffix
+        refuse('UnknownScope', written.side == 'r' or written.number not in self.texts)
+        return self.texts[written.number] + written.suffix
+
+    def says_key(self, written):
+        """The text of an expression that has to be a key."""
+        key = self.says(written)
+        refuse('InvalidKeyExpr', not is_key(key))
+        return key
+
+    def writes(self, key):
+        """The key by the longest part of whole chunks that has a number, the least of several."""
+        parts = [(len(part), -n) for n, part in self.texts.items() if (key + b'/').startswith(part + b'/')]
+        if not parts:
+            return f'0:s:{shown(key)}'
+        length, negated = max(parts)
+        return f'{-negated}:r:{shown(key[length:])}'
+
+
+# A target that owes its final, under which id and until when.
+Entry = namedtuple('Entry', 'face id deadline')
+
+
+@dataclass
+class Query:
+    """An open request, with what it waits for."""
+    number: int
+    asker: int
+    id: int
+    qos: int
+    pending: list = field(default_factory=list)
+    in_flight: set = field(default_factory=set)
+
+
+# A face that may answer. Offers are taken by distance, then key, then face.
+Offer = namedtuple('Offer', 'distance key face complete declared')
+
+
+def pick(offers, target):
+    """What a target mode takes of a region's offers."""
+    complete = [offer for offer in offers if offer.complete]
+    if target == 'complete':
+        return [offer for offer in offers if offer.complete or not offer.declared]
+    if target == 'best':
+        return complete[:1] or offers
+    return offers
+
+
+class Gateway:
+    def __init__(self, config):
+        self.config = config
+        self.next_face, self.next_query, self.next_reply, _, self.first_id = config.start
+        self.faces = {}
+        self.queries = []
+        self.gateways = {}
+        self.handed = []
+
+    def call(self, kind, values):
+        """The lines of a call: its answer, then requests or replies, then finals."""
+        self.handed = []
+        try:
+            answer = getattr(self, f'on_{kind}')(*values) or 'done'
+        except Refused as cause:
+            return [f'= refused {cause}']
+        return [f'= {answer}', *self.handed, *self.finals()]
+
+    def finals(self):
+        """A query ends when no target owes its final and no reply is in flight. The asker is told."""
+        ended = [query for query in self.queries if not query.pending and not query.in_flight]
+        self.queries = [query for query in self.queries if query.pending or query.in_flight]
+        return [f'> {query.asker} {query.number} - final {query.id} {query.qos}'
+                for query in ended if query.asker in self.faces]
+
+    def face(self, number):
+        refuse('UnknownFace', number not in self.faces)
+        return self.faces[number]
+
+    def faces_of(self, where):
+        return [face for face in self.faces.values() if face.region == where]
+
+    # Faces, numbers, declarations
+
+    def on_open(self, where, face_id, bound):
+        """There is one upstream; face numbers end before the last."""
+        refuse('UnknownRegion', where not in self.config.regions)
+        refuse('UpstreamInUse', where == NORTH and self.config.north_mode == 'client' and self.faces_of(NORTH))
+        refuse('NoFreeId', self.next_face == U32)
+        face = Face(self.next_face, where, face_id, bound, self.first_id)
+        self.faces[face.number] = face
+        self.next_face += 1
+        return f'opened {face.number}'
+
+    def on_close(self, face):
+        """What the face owed is let go."""
+        self.face(face)
+        del self.faces[face]
+        for query in self.queries:
+            query.pending = [entry for entry in query.pending if entry.face != face]
+
+    def on_key(self, face, key_number, written):
+        """A number keeps its text until it is taken back."""
+        face = self.face(face)
+        key = face.says_key(written)
+        refuse('Remapped', key_number == 0 or face.texts.get(key_number, key) != key)
+        face.texts[key_number] = key
+
+    def on_unkey(self, face, key_number):
+        """What was declared by the number stays."""
+        refuse('UnknownId', key_number not in self.face(face).texts)
+        del self.face(face).texts[key_number]
+
+    def on_queryable(self, face, queryable, written, complete, *_):
+        """An id keeps its key until it is withdrawn; whether it is complete may change."""
+        face = self.face(face)
+        key = face.says_key(written)
+        refuse('IdInUse', face.queryables.get(queryable, (key,))[0] != key)
+        face.queryables[queryable] = key, complete == 'c'
+
+    def on_unqueryable(self, face, queryable, *_):
+        """Only the id says what is withdrawn. What was asked stays pending."""
+        refuse('UnknownId', queryable not in self.face(face).queryables)
+        del self.face(face).queryables[queryable]
+
+    def on_finalize(self, face, what, *mark):
+        """Sets or takes a mark, which says that the face has told all, or all of a key."""
+        face, *key, on = self.face(face), *mark
+        refuse('InvalidKeyExpr', what == 'key' and not is_key(*key))
+        if what == 'initial':
+            face.told = on == '1'
+        else:
+            face.told_of = face.told_of.difference(key).union(key if on == '1' else [])
+
+    def on_gateways(self, where, lists, _):
+        """The last lists of a region count, and in them the first list of an id."""
+        refuse('UnknownRegion', where not in self.config.regions)
+        self.gateways[where] = dict(reversed(lists))
+
+    # Selection
+
+    def declared_offers(self, face, key):
+        """An offer for each key that meets: complete where one that is declared so includes the key."""
+        distance = 0 if face.region == LOCAL else 1
+        offers = []
+        for declared in {declared for declared, _ in face.queryables.values() if intersects(declared, key)}:
+            complete = (declared, True) in face.queryables.values() and includes(declared, key)
+            offers.append(Offer(distance, declared, face.number, complete, True))
+        return offers
+
+    def may_have_more(self, face, key):
+        """Whether a face of North may answer a key that it has not declared."""
+        if self.config.north_mode == 'peer' and face.bound == 'north':
+            return not face.told
+        return key not in face.told_of
+
+    def offers(self, where, key, asker):
+        """The offers of a region, in order. Peers, and those in North, reach one another by themselves."""
+        found, apart = [], where == NORTH or self.config.mode(where) == 'peer'
+        for face in self.faces_of(where):
+            if asker.region != where or not apart:
+                found += self.declared_offers(face, key)
+            if where == NORTH != asker.region and self.may_have_more(face, key):
+                found.append(Offer(FARTHEST, key, face.number, False, False))
+        return sorted(found)
+
+    def may_ask(self, asker, face):
+        """No one is asked by itself. Between North and the rest, a list says which gateway carries requests.
+
+        The list is the asker's, or for an asker in North the asked face's. With none or an empty one, this
+        gateway does; else the greatest of the list, and none where the asker is in the list itself.
+        """
+        if face.number == asker.number:
+            return False
+        if (face.region == NORTH) == (asker.region == NORTH):
+            return True
+        listed = face if asker.region == NORTH else asker
+        carriers = self.gateways.get(listed.region, {}).get(listed.id)
+        if not carriers:
+            return True
+        return asker.id not in carriers and max(carriers) == self.config.id
+
+    def select(self, asker, written, target):
+        """The faces that are asked: those of each region in turn, each once. No key, no face."""
+        try:
+            key = asker.says_key(written)
+        except Refused:
+            return []
+        picked = []
+        for where in sorted(self.config.regions, key=region_order):
+            offers = self.offers(where, key, asker)
+            picked += pick([offer for offer in offers if self.may_ask(asker, self.faces[offer.face])], target)
+        return [self.faces[face] for face in dict.fromkeys(offer.face for offer in picked)]
+
+    # The life of a query
+
+    def pending_at(self, face):
+        """The queries that wait for a face, by the ids that they have there."""
+        return {entry.id: query for query in self.queries for entry in query.pending if entry.face == face}
+
+    def next_id(self, face):
+        """The first id after the last one given, in a circle, that is not pending at the face."""
+        taken = self.pending_at(face.number)
+        face.last_id = next(n % 2**32 for n in count(face.last_id + 1) if n % 2**32 not in taken)
+        return face.last_id
+
+    def on_ask(self, face, own_id, written, target, timeout, _, qos, content, now):
+        """Every target owes its final until the deadline, which is no later than time ends."""
+        asker = self.face(face)
+        targets = self.select(asker, written, target)
+        refuse('NoFreeId', self.next_query == U64)
+        query = Query(self.next_query, face, own_id, qos)
+        deadline = min(U64, now + (self.config.timeout if timeout is None else timeout))
+        for to in targets:
+            entry = Entry(to.number, self.next_id(to), deadline)
+            query.pending.append(entry)
+            self.handed.append(
+                f'> {to.number} {query.number} - request {entry.id} {to.writes(asker.says(written))} {target}'
+                f' {"-" if timeout is None else timeout} 0 {qos} {shown(content)}')
+        self.queries.append(query)
+        self.next_query += 1
+        return f'asked {query.number}'
+
+    def respond(self, query, key, outcome, content, responder):
+        """Hands the asker a reply, which is in flight from now on."""
+        query.in_flight.add(self.next_reply)
+        self.handed.append(
+            f'> {query.asker} {query.number} {self.next_reply} response {query.id} 0:s:{shown(key)}'
+            f' {query.qos} {outcome} {shown(content)} {"-" if responder is None else responder}')
+        self.next_reply += 1
+
+    def on_reply(self, face, query_id, written, outcome, content, responder=None):
+        """A reply to a closed asker is accepted and goes nowhere. The empty expression is no key."""
+        key = self.face(face).says(written)
+        query = self.pending_at(face).get(query_id)
+        refuse('QueryNotFound', query is None)
+        refuse('InvalidKeyExpr', key != b'' and not is_key(key))
+        if query.asker not in self.faces:
+            return 'replied -'
+        refuse('NoFreeId', self.next_reply == U64)
+        self.respond(query, key, outcome, content, responder)
+        return f'replied {self.next_reply - 1}'
+
+    def on_final(self, face, query_id):
+        """The target owes nothing more to this request."""
+        self.face(face)
+        query = self.pending_at(face).get(query_id)
+        refuse('QueryNotFound', query is None)
+        query.pending = [entry for entry in query.pending if (entry.face, entry.id) != (face, query_id)]
+
+    def on_sent(self, reply):
+        """The reply is in flight no more."""
+        for query in self.queries:
+            if reply in query.in_flight:
+                query.in_flight.remove(reply)
+                return
+        raise Refused('NotInFlight')
+
+    def on_poll(self, now):
+        """What is due is let go, by deadline, query, face and id; open askers get an error in its place."""
+        due = sorted((entry.deadline, query.number, entry, query)
+                     for query in self.queries for entry in query.pending if entry.deadline <= now)
+        refuse('NoFreeId', sum(query.asker in self.faces for *_, query in due) > U64 - self.next_reply)
+        for *_, entry, query in due:
+            query.pending.remove(entry)
+            if query.asker in self.faces:
+                self.respond(query, b'', 'err', b'Timeout', self.faces[entry.face].id)
+
+
+# A run
+
+# What the program has to exit with and to print; and the lines of each call, with its kind.
+Run = namedtuple('Run', 'status print calls')
+
+
+def read_script(lines):
+    """The configuration and the calls; the number of the first bad line is raised with it."""
+    config, calls = None, []
+    for at, line in enumerate(lines, start=1):
+        words = line.split(b' ')
+        try:
+            require(b'' not in words)
+            if at == 1:
+                config = read_config(words)
+            elif at == 2 and words[0] == b'start':
+                config.start = fields(words[1:], u32, u64, u64, u32, u32)
+            else:
+                calls.append(read_call(words, config))
+        except BadLine:
+            raise BadLine(at) from None
+    return config, calls
+
+
+def replay(script):
+    """The run of a script."""
+    lines = script.split(b'\n')
+    if lines[-1] == b'' and len(lines) > 1:
+        lines.pop()
+    try:
+        config, calls = read_script(lines)
+    except BadLine as at:
+        return Run(2, f'bad line {at}\n'.encode(), [])
+    gateway = Gateway(config)
+    answers = [(kind, gateway.call(kind, values)) for kind, values in calls]
+    return Run(0, ''.join(f'{line}\n' for _, lines in answers for line in lines).encode(), answers)
+
+
+if __name__ == '__main__':
+    run = replay(sys.stdin.buffer.read())
+    sys.stdout.buffer.write(run.print)
+    sys.exit(run.status)
