@@ -7,3 +7,6 @@ pub mod Keeping
 pub mod Closing
 pub mod Idle
 pub mod Linking
+pub mod Tree
+pub mod TreeFalls
+pub mod Coming

@@ -161,10 +161,6 @@ pub record Adds (old new : List NameEntry) (added : List (List ℕ)) : Type 0 wh
   pub brought : (e : NameEntry) → Contains new e → Contains old e ⊎ (Contains added e.text × IsBare e)
   pub has : (t : List ℕ) → Contains added t → Contains (texts new) t
 
--- the texts of nodes
-abbrev pub node_texts : List Node → List (List ℕ)
-node_texts ns = map (λ n. n.text) ns
-
 -- a node of a key, without marks
 pub record IsBareNode (n : Node) : Type 0 where
   pub context : n.context ≡ false

@@ -1,5 +1,5 @@
 -- Texts as lists of bytes: order, cuts before a `/`.
-use Rattle.std.specs.Prelude.{◌≡◌, ℕ, ◌<◌, Bool, Option, Some, None, List, [], ◌∷◌, ◌++◌, length, take, drop, slice_index, slice_index_or, zero, suc, if◌then◌else◌, ◌==◌}
+use Rattle.std.specs.Prelude.{◌≡◌, ℕ, ◌<◌, ◌≤◌, Bool, Option, Some, None, List, [], ◌∷◌, ◌++◌, length, take, drop, slice_index, slice_index_or, zero, suc, if◌then◌else◌, ◌==◌, ◌⊎◌}
 use Rattle.std.specs.List.{Contains, position}
 use Rattle.std.specs.Str.{IsCharBoundary}
 use Rattle.std.specs.declared.cmp.Ordering.{Ordering}
@@ -23,9 +23,18 @@ heads_to t (suc k) = heads_to t k ++ (if slice_index t k == 47 then take k t ∷
 abbrev pub heads : List ℕ → List (List ℕ)
 heads t = heads_to t (length t) ++ t ∷ []
 
+-- the parts of t that end before one of its first n places with a `/` are among the texts
+pub record IsKnownTo (ts : List (List ℕ)) (t : List ℕ) (n : ℕ) : Type 0 where
+  pub in_range : n ≤ length t
+  pub known : (s : List ℕ) → Contains (heads_to t n) s → Contains ts s
+
 -- each text comes after those that it lies below
 abbrev pub IsChain : List (List ℕ) → Type 0
 IsChain hs = (k : ℕ) → k < length hs → (s : List ℕ) → IsBelow s (slice_index_or hs k []) → Contains (take k hs) s
+
+-- each text comes after those that it lies below, or these are among the known ones
+abbrev pub IsChainAfter : List (List ℕ) → List (List ℕ) → Type 0
+IsChainAfter known hs = (k : ℕ) → k < length hs → (s : List ℕ) → IsBelow s (slice_index_or hs k []) → Contains known s ⊎ Contains (take k hs) s
 
 -- the longest part of t that ends before one of its first n places with a `/`, or the root's text
 abbrev pub parent_to : List ℕ → ℕ → List ℕ

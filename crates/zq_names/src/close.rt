@@ -6,10 +6,11 @@ ghost use Rattle.zq_names.specs.Closing.{Closes, ClosesBelow, IsRun};
 use crate::edit::remove_at;
 use crate::node::Node;
 use crate::order::lower_bound;
+use crate::tree::Tree;
 use slab::Slab;
 
 // The first place below the text at a place, and the first one after those.
-fn run_of(nodes: &Slab<Node>, order: &[usize], place: usize) -> (usize, usize)
+fn run_of(nodes: &Slab<Node>, order: &Tree, place: usize) -> (usize, usize)
     requires table { IsTable nodes.now.slots order.now }
     requires in_range { place < length order.now }
     ensures { IsRun (rows nodes.now.slots order.now) (text_at (rows nodes.now.slots order.now) place) place result.0 result.1 }
@@ -17,7 +18,7 @@ fn run_of(nodes: &Slab<Node>, order: &[usize], place: usize) -> (usize, usize)
     if place == 0 {
         return (1, order.len());
     }
-    let text = nodes[order[place]].text.as_str().as_bytes();
+    let text = nodes[order.get(place)].text.as_str().as_bytes();
     (
         lower_bound(nodes, order, text, b"/"),
         lower_bound(nodes, order, text, b"0"),
@@ -25,12 +26,12 @@ fn run_of(nodes: &Slab<Node>, order: &[usize], place: usize) -> (usize, usize)
 }
 
 // Takes out the nodes of a run, the last one first.
-fn take_run(nodes: &mut Slab<Node>, order: &mut Vec<usize>, place: usize, low: usize, high: usize)
-    requires sound { IsSound nodes.old.slots order.old.items }
-    requires run { IsRun (rows nodes.old.slots order.old.items) (text_at (rows nodes.old.slots order.old.items) place) place low high }
-    ensures sound { IsSound nodes.new.slots order.new.items }
-    ensures closes { ClosesBelow (rows nodes.old.slots order.old.items) (text_at (rows nodes.old.slots order.old.items) place) (rows nodes.new.slots order.new.items) }
-    ensures run { IsRun (rows nodes.new.slots order.new.items) (text_at (rows nodes.old.slots order.old.items) place) place low low }
+fn take_run(nodes: &mut Slab<Node>, order: &mut Tree, place: usize, low: usize, high: usize)
+    requires sound { IsSound nodes.old.slots order.old }
+    requires run { IsRun (rows nodes.old.slots order.old) (text_at (rows nodes.old.slots order.old) place) place low high }
+    ensures sound { IsSound nodes.new.slots order.new }
+    ensures closes { ClosesBelow (rows nodes.old.slots order.old) (text_at (rows nodes.old.slots order.old) place) (rows nodes.new.slots order.new) }
+    ensures run { IsRun (rows nodes.new.slots order.new) (text_at (rows nodes.old.slots order.old) place) place low low }
 {
     let mut end = high;
     while low < end {
@@ -40,11 +41,11 @@ fn take_run(nodes: &mut Slab<Node>, order: &mut Vec<usize>, place: usize, low: u
 }
 
 // Takes out the nodes below a place, and the one there unless it is the root.
-pub(crate) fn close_at(nodes: &mut Slab<Node>, order: &mut Vec<usize>, place: usize)
-    requires sound { IsSound nodes.old.slots order.old.items }
-    requires in_range { place < vec_len order.old }
-    ensures sound { IsSound nodes.new.slots order.new.items }
-    ensures closes { Closes (rows nodes.old.slots order.old.items) (text_at (rows nodes.old.slots order.old.items) place) (rows nodes.new.slots order.new.items) }
+pub(crate) fn close_at(nodes: &mut Slab<Node>, order: &mut Tree, place: usize)
+    requires sound { IsSound nodes.old.slots order.old }
+    requires in_range { place < length order.old }
+    ensures sound { IsSound nodes.new.slots order.new }
+    ensures closes { Closes (rows nodes.old.slots order.old) (text_at (rows nodes.old.slots order.old) place) (rows nodes.new.slots order.new) }
 {
     let (low, high) = run_of(nodes, order, place);
     take_run(nodes, order, place, low, high);

@@ -9,6 +9,7 @@ ghost use Rattle.zq_names.specs.Matching.{number, is_match, is_wild, IsApartAt};
 
 use crate::node::{Node, ResourceId};
 use crate::order::lower_bound;
+use crate::tree::Tree;
 use slab::Slab;
 use std::alloc::Global;
 use zq_key::intersects;
@@ -48,7 +49,7 @@ pub fn apart(text: &[u8], key: &[u8]) -> Option<usize>
 }
 
 // The first place after those whose texts begin with the head and the byte.
-fn after_run(nodes: &Slab<Node>, order: &[usize], head: &[u8], byte: u8) -> usize
+fn after_run(nodes: &Slab<Node>, order: &Tree, head: &[u8], byte: u8) -> usize
     requires table { IsTable nodes.now.slots order.now }
     requires byte { byte < 255 }
     ensures { SplitsAt (rows nodes.now.slots order.now) (head.now ++ (byte + 1) ∷ []) result }
@@ -59,7 +60,7 @@ fn after_run(nodes: &Slab<Node>, order: &[usize], head: &[u8], byte: u8) -> usiz
 // Looks at the node at a place, and gives the next place to look at.
 fn look(
     nodes: &Slab<Node>,
-    order: &[usize],
+    order: &Tree,
     found: &mut Vec<ResourceId>,
     i: usize,
     key: &str,
@@ -70,7 +71,8 @@ fn look(
     ensures bounds { IfOk result (λ j. (i < j) × (j ≤ length order.now)) }
     ensures found { IfOk result (λ j. map number found.new.items ≡ map number found.old.items ++ ids (filter (is_match key.now) (drop i (take j (rows nodes.now.slots order.now))))) }
 {
-    let id = order[i];
+    let _count = order.len();
+    let id = order.get(i);
     let node = &nodes[id];
     let text = node.text.as_str();
     let bytes = text.as_bytes();
@@ -96,7 +98,7 @@ fn look(
 pub(crate) fn matches_of(
     alloc: Global,
     nodes: &Slab<Node>,
-    order: &[usize],
+    order: &Tree,
     key: &str,
 ) -> Result<Vec<ResourceId>, OutOfMemory>
     requires table { IsTable nodes.now.slots order.now }

@@ -1,14 +1,14 @@
 //! The table of names.
-ghost use Rattle.std.specs.Prelude.{◌≡◌, ◌≢◌, ℕ, ◌+◌, ◌<◌, ◌^◌, ◌++◌, ◌↔◌, [], ◌∷◌, IsTrue, IfOk, IfErr, ◌⊎◌, IfSome, IfNone, OnOk, OnErr, Err, true, false, length, drop, map, filter};
+ghost use Rattle.std.specs.Prelude.{◌≡◌, ◌≢◌, ℕ, ◌+◌, ◌<◌, ◌^◌, ◌++◌, ◌↔◌, [], ◌∷◌, IsTrue, IfOk, IfErr, ◌⊎◌, IfSome, IfNone, OnOk, OnErr, Err, Some, true, false, slice_get, length, drop, map, filter};
 ghost use Rattle.std.specs.List.{All, Contains};
 ghost use Rattle.std.specs.String.{string_bytes};
 ghost use Rattle.zq_key.specs.Key.{is_key as key_of};
-ghost use Rattle.zq_names.specs.Names.{IsLive, entry_at, entry_of, change_at, with_hold, without_hold, with_context, texts, HasText, Adds, Makes, Cleans, ids};
+ghost use Rattle.zq_names.specs.Names.{IsLive, entry_at, entry_of, change_at, with_hold, without_hold, with_context, texts, text_at, HasText, Adds, Makes, Cleans, Rises, ids};
 ghost use Rattle.zq_names.specs.Closing.{Closes};
 ghost use Rattle.zq_names.specs.Linking.{HasContext, matched};
 ghost use Rattle.zq_names.specs.Keeping.{AllStay, ChangesAt, NoneCome};
 ghost use Rattle.zq_names.specs.Idle.{IdleAt, NoneIdle};
-ghost use Rattle.zq_names.specs.Texts.{heads, last_part, nonwild};
+ghost use Rattle.zq_names.specs.Texts.{IsBelow, heads, last_part, nonwild};
 ghost use Rattle.zq_names.specs.Matching.{number, is_match};
 
 use crate::close::close_at;
@@ -17,13 +17,14 @@ use crate::linking::link;
 use crate::matching::matches_of;
 use crate::node::{Node, ResourceId, ResourceList};
 use crate::order::{cut_before_star, last_slash, place_of, search};
+use crate::part::Part;
 use crate::refusal::NameRefusal;
+use crate::tree::{Seat, Tree};
 use slab::Slab;
 use std::alloc::Global;
 use std::marker::Model;
 use zq_key::is_key;
 use zq_key::memory::OutOfMemory;
-use zq_key::text::Text;
 
 /// The texts that stand for something, in order, each with its marks: whether it has a context, how often it is held, and its matches.
 ///
@@ -31,7 +32,7 @@ use zq_key::text::Text;
 #[derive(Drop)]
 pub struct Names {
     nodes: Slab<Node>,
-    order: Vec<usize>,
+    order: Tree,
     alloc: Global,
 }
 
@@ -41,9 +42,9 @@ impl Model for Names {
 
     ghost Value = { List NameEntry };
 
-    ghost view = { λ s. rows s.nodes.slots s.order.items };
+    ghost view = { λ s. rows s.nodes.slots s.order };
 
-    ghost invariant = { λ s. IsSound s.nodes.slots s.order.items };
+    ghost invariant = { λ s. IsSound s.nodes.slots s.order };
 }
 
 // Two texts in a row.
@@ -64,10 +65,10 @@ impl Names {
         ensures unmatched { IfOk result (λ ns. map (λ e. e.matches) ns ≡ [] ∷ []) }
     {
         let mut nodes = Slab::new(alloc);
-        let mut order = Vec::new(alloc);
-        let text = Text::new(alloc, "")?;
+        let mut order = Tree::new();
+        let text = Part::new(alloc, "")?;
+        let seat = Seat::new(alloc)?;
         nodes.reserve(1)?;
-        order.reserve(1)?;
         let root = nodes.insert_reserved(Node {
             text,
             context: false,
@@ -75,14 +76,12 @@ impl Names {
             matches: Vec::new(alloc),
             former: Vec::new(alloc),
         });
-        match order.push(root) {
-            Ok(()) => Ok(Names {
-                nodes,
-                order,
-                alloc,
-            }),
-            Err(_) => unreachable!(),
-        }
+        order.insert(0, root, seat);
+        Ok(Names {
+            nodes,
+            order,
+            alloc,
+        })
     }
 
     /// An equal table, with the same numbers.
@@ -91,9 +90,23 @@ impl Names {
     {
         Ok(Names {
             nodes: self.nodes.clone()?,
-            order: Vec::from_slice(alloc, &self.order)?,
+            order: self.order.copy(alloc)?,
             alloc,
         })
+    }
+
+    /// How many texts there are.
+    ///
+    /// They begin with the root's, rise, and but for it are keys. With a text, each part of it that ends before a `/` is there.
+    pub fn len(&self) -> usize
+        ensures len { result ≡ length self.now }
+        ensures rising { Rises self.now }
+        ensures root { slice_get (texts self.now) 0 ≡ Some [] }
+        ensures distinct { (i j : ℕ) → i < j → j < length self.now → text_at self.now i ≢ text_at self.now j }
+        ensures closed { (s t : _) → Contains (texts self.now) t → IsBelow s t → Contains (texts self.now) s }
+        ensures keys { (t : _) → Contains (texts self.now) t → 0 < length t → key_of t ≡ true }
+    {
+        self.order.len()
     }
 
     /// Whether the number is a node's.
@@ -205,6 +218,20 @@ impl Names {
         node.holds -= 1;
     }
 
+    // The node of the node's text followed by the suffix, or a place near to which it would go.
+    fn find(&self, from: ResourceId, suffix: &str) -> Result<ResourceId, usize>
+        requires { IsLive self.now from }
+        ensures found { IfOk result (λ r. HasText self.now r ((entry_at self.now from.0).text ++ suffix.now)) }
+        ensures only { IfOk result (λ r. (i : ℕ) → Contains (ids self.now) i → (entry_at self.now i).text ≡ (entry_at self.now from.0).text ++ suffix.now → i ≡ r.0) }
+        ensures absent { OnErr result (Contains (texts self.now) ((entry_at self.now from.0).text ++ suffix.now) → ⊥) }
+    {
+        let head = self.expr(from);
+        match search(&self.nodes, &self.order, head, suffix) {
+            Ok(at) => Ok(ResourceId(self.order.get(at) as u64)),
+            Err(at) => Err(at.saturating_sub(1)),
+        }
+    }
+
     /// The node of the node's text followed by the suffix.
     pub fn get_resource(&self, from: ResourceId, suffix: &str) -> Option<ResourceId>
         requires { IsLive self.now from }
@@ -212,9 +239,8 @@ impl Names {
         ensures only { IfSome result (λ r. (i : ℕ) → Contains (ids self.now) i → (entry_at self.now i).text ≡ (entry_at self.now from.0).text ++ suffix.now → i ≡ r.0) }
         ensures absent { IfNone result (Contains (texts self.now) ((entry_at self.now from.0).text ++ suffix.now) → ⊥) }
     {
-        let head = self.expr(from);
-        match search(&self.nodes, &self.order, head, suffix) {
-            Ok(at) => Some(ResourceId(self.order[at] as u64)),
+        match self.find(from, suffix) {
+            Ok(r) => Some(r),
             Err(_) => None,
         }
     }
@@ -228,18 +254,18 @@ impl Names {
         self.get_resource(from, suffix)
     }
 
-    // The node of the node's text followed by the suffix, where that is a key and has one.
-    fn get_key(&self, from: ResourceId, suffix: &str) -> Option<ResourceId>
+    // The node of the node's text followed by the suffix, where that is a key and has one; or a place near to which it would go.
+    fn get_key(&self, from: ResourceId, suffix: &str) -> Result<ResourceId, usize>
         requires { IsLive self.now from }
-        ensures named { IfSome result (λ r. HasText self.now r ((entry_at self.now from.0).text ++ suffix.now)) }
-        ensures adds { IfSome result (λ _. Adds self.now self.now (heads ((entry_at self.now from.0).text ++ suffix.now))) }
-        ensures key { IfSome result (λ _. key_of ((entry_at self.now from.0).text ++ suffix.now) ≡ true) }
+        ensures named { IfOk result (λ r. HasText self.now r ((entry_at self.now from.0).text ++ suffix.now)) }
+        ensures adds { IfOk result (λ _. Adds self.now self.now (heads ((entry_at self.now from.0).text ++ suffix.now))) }
+        ensures key { IfOk result (λ _. key_of ((entry_at self.now from.0).text ++ suffix.now) ≡ true) }
     {
-        let r = self.get_resource(from, suffix)?;
+        let r = self.find(from, suffix)?;
         let _table = &self.order;
         match self.keyexpr(r) {
-            Some(_) => Some(r),
-            None => None,
+            Some(_) => Ok(r),
+            None => Err(0),
         }
     }
 
@@ -262,15 +288,24 @@ impl Names {
         ensures only { IfErr result (λ e. key_of ((entry_at self.old from.0).text ++ suffix.now) ≡ true → e ≡ NameRefusal.OutOfMemory) }
         ensures refused { OnErr result (self.new ≡ self.old) }
     {
-        if let Some(r) = self.get_key(from, suffix) {
-            self.upgrade_resource(r);
-            return Ok(r);
-        }
+        let near = match self.get_key(from, suffix) {
+            Ok(r) => {
+                self.upgrade_resource(r);
+                return Ok(r);
+            }
+            Err(near) => near,
+        };
         let text = joined(self.alloc, self.expr(from), suffix)?;
         if !is_key(text.as_str()) {
             return Err(NameRefusal::InvalidKeyExpr);
         }
-        let id = add_text(self.alloc, &mut self.nodes, &mut self.order, text.as_str())?;
+        let id = add_text(
+            self.alloc,
+            &mut self.nodes,
+            &mut self.order,
+            near,
+            text.as_str(),
+        )?;
         let r = ResourceId(id as u64);
         self.upgrade_resource(r);
         Ok(r)

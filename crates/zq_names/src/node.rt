@@ -1,7 +1,7 @@
 //! A node of the table of names.
+use crate::part::Part;
 use std::alloc::AllocError;
 use zq_key::items::Items;
-use zq_key::text::Text;
 
 /// The number of a node of `Names`.
 #[derive(Clone, Copy, Debug, PartialEq, Eq, PartialOrd, Ord, Hash)]
@@ -13,7 +13,7 @@ pub type ResourceList = Items<ResourceId>;
 // What is kept of a text.
 #[derive(Drop)]
 pub(crate) struct Node {
-    pub(crate) text: Text,
+    pub(crate) text: Part,
     pub(crate) context: bool,
     pub(crate) holds: u128,
     pub(crate) matches: Vec<ResourceId>,
@@ -28,7 +28,7 @@ impl Clone for Node {
 
     fn clone(&self) -> Result<Node, AllocError> {
         let alloc = *self.matches.allocator();
-        let Ok(text) = self.text.copy(alloc) else {
+        let Ok(text) = self.text.share() else {
             return Err(AllocError);
         };
         Ok(Node {

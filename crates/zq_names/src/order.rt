@@ -1,11 +1,12 @@
 //! The order of the nodes by their texts.
-ghost use Rattle.std.specs.Prelude.{◌≡◌, ◌<◌, ◌++◌, [], length, take, slice_index, IsSome, IfOk, IfErr, IfSome, IfNone, true, false};
+ghost use Rattle.std.specs.Prelude.{◌≡◌, ◌+◌, ◌<◌, ◌≤◌, ◌++◌, [], length, take, slice_index, IsSome, IfOk, IfErr, IfSome, IfNone, true, false};
 ghost use Rattle.std.specs.Ordering.{is_lt, is_eq};
 ghost use Rattle.std.specs.List.{Contains, position};
-ghost use Rattle.zq_names.specs.Texts.{text_cmp, is_star_byte, IsBelow, IsCutBefore, nonwild, parent_of};
-ghost use Rattle.zq_names.specs.Names.{AreLive, Rises, SplitsAt, slot, row, rows, IsGapAt, IsPlaceOf, HasBelow, IsTable};
+ghost use Rattle.zq_names.specs.Texts.{text_cmp, is_star_byte, IsBelow, IsCutBefore, IsKnownTo, nonwild, parent_of};
+ghost use Rattle.zq_names.specs.Names.{AreLive, Rises, SplitsAt, slot, row, rows, texts, IsGapAt, IsPlaceOf, HasBelow, IsTable};
 
 use crate::node::Node;
+use crate::tree::{Branch, Tree, count};
 use slab::Slab;
 use std::cmp::Ordering;
 
@@ -28,22 +29,34 @@ fn is_before(nodes: &Slab<Node>, id: usize, head: &[u8], tail: &[u8]) -> bool
 }
 
 // The first place whose text isn't less than the head followed by the tail.
-pub(crate) fn lower_bound(nodes: &Slab<Node>, order: &[usize], head: &[u8], tail: &[u8]) -> usize
+pub(crate) fn lower_bound(nodes: &Slab<Node>, order: &Tree, head: &[u8], tail: &[u8]) -> usize
     requires live { AreLive nodes.now.slots order.now }
     requires rising { Rises (rows nodes.now.slots order.now) }
     ensures { SplitsAt (rows nodes.now.slots order.now) (head.now ++ tail.now) result }
 {
-    let mut low = 0;
-    let mut high = order.len();
-    while low < high {
-        let mid = low + (high - low) / 2;
-        if is_before(nodes, order[mid], head, tail) {
-            low = mid + 1;
-        } else {
-            high = mid;
-        }
+    match &order.top {
+        None => 0,
+        Some(b) => lower_bound_under(nodes, b, head, tail),
     }
-    low
+}
+
+fn lower_bound_under(nodes: &Slab<Node>, b: &Branch, head: &[u8], tail: &[u8]) -> usize
+    requires live { AreLive nodes.now.slots b.now }
+    requires rising { Rises (rows nodes.now.slots b.now) }
+    ensures { SplitsAt (rows nodes.now.slots b.now) (head.now ++ tail.now) result }
+{
+    let _len = b.len();
+    if is_before(nodes, b.id, head, tail) {
+        let past = count(&b.left) + 1;
+        return match &b.right {
+            None => past,
+            Some(r) => past + lower_bound_under(nodes, r, head, tail),
+        };
+    }
+    match &b.left {
+        None => 0,
+        Some(l) => lower_bound_under(nodes, l, head, tail),
+    }
 }
 
 // Whether the node's text is the head followed by the tail.
@@ -54,10 +67,61 @@ fn is_joined(nodes: &Slab<Node>, id: usize, head: &[u8], tail: &[u8]) -> bool
     compare_joined(nodes[id].text.as_str().as_bytes(), head, tail).is_eq()
 }
 
+// The same as `lower_bound`. It looks right behind a place first.
+fn lower_bound_near(
+    nodes: &Slab<Node>,
+    order: &Tree,
+    near: usize,
+    head: &[u8],
+    tail: &[u8],
+) -> usize
+    requires live { AreLive nodes.now.slots order.now }
+    requires rising { Rises (rows nodes.now.slots order.now) }
+    ensures { SplitsAt (rows nodes.now.slots order.now) (head.now ++ tail.now) result }
+{
+    let count = order.len();
+    if near >= count {
+        return lower_bound(nodes, order, head, tail);
+    }
+    if !is_before(nodes, order.get(near), head, tail) {
+        return lower_bound(nodes, order, head, tail);
+    }
+    if near + 1 >= count {
+        return near + 1;
+    }
+    if is_before(nodes, order.get(near + 1), head, tail) {
+        return lower_bound(nodes, order, head, tail);
+    }
+    near + 1
+}
+
+// Whether the head followed by the tail stands at a place that no lesser text is behind.
+fn look_at(
+    nodes: &Slab<Node>,
+    order: &Tree,
+    at: usize,
+    head: &[u8],
+    tail: &[u8],
+) -> Result<usize, usize>
+    requires live { AreLive nodes.now.slots order.now }
+    requires rising { Rises (rows nodes.now.slots order.now) }
+    requires split { SplitsAt (rows nodes.now.slots order.now) (head.now ++ tail.now) at }
+    ensures found { IfOk result (IsPlaceOf (rows nodes.now.slots order.now) (head.now ++ tail.now)) }
+    ensures gap { IfErr result (IsGapAt (rows nodes.now.slots order.now) (head.now ++ tail.now)) }
+{
+    if at >= order.len() {
+        return Err(at);
+    }
+    if is_joined(nodes, order.get(at), head, tail) {
+        return Ok(at);
+    }
+    Err(at)
+}
+
 // The place of the head followed by the tail, or where it would go.
 pub(crate) fn search(
     nodes: &Slab<Node>,
-    order: &[usize],
+    order: &Tree,
     head: &str,
     tail: &str,
 ) -> Result<usize, usize>
@@ -69,13 +133,94 @@ pub(crate) fn search(
     let front = head.as_bytes();
     let rest = tail.as_bytes();
     let at = lower_bound(nodes, order, front, rest);
-    if at >= order.len() {
-        return Err(at);
+    look_at(nodes, order, at, front, rest)
+}
+
+// The place of the text, or where it would go. It is looked for right behind a place first.
+pub(crate) fn search_near(
+    nodes: &Slab<Node>,
+    order: &Tree,
+    near: usize,
+    text: &str,
+) -> Result<usize, usize>
+    requires live { AreLive nodes.now.slots order.now }
+    requires rising { Rises (rows nodes.now.slots order.now) }
+    ensures found { IfOk result (IsPlaceOf (rows nodes.now.slots order.now) text.now) }
+    ensures gap { IfErr result (IsGapAt (rows nodes.now.slots order.now) text.now) }
+{
+    let bytes = text.as_bytes();
+    let at = lower_bound_near(nodes, order, near, bytes, b"");
+    look_at(nodes, order, at, bytes, b"")
+}
+
+// Whether the text is there. One that lies below it is looked for at a place first.
+fn stands_near(nodes: &Slab<Node>, order: &Tree, near: usize, text: &str) -> bool
+    requires { IsTable nodes.now.slots order.now }
+    ensures { result ≡ true → Contains (texts (rows nodes.now.slots order.now)) text.now }
+{
+    if near >= order.len() {
+        return stands(nodes, order, text);
     }
-    if is_joined(nodes, order[at], front, rest) {
-        return Ok(at);
+    if is_below(nodes, order.get(near), text) {
+        return true;
     }
-    Err(at)
+    stands(nodes, order, text)
+}
+
+// Whether the text is there.
+fn stands(nodes: &Slab<Node>, order: &Tree, text: &str) -> bool
+    requires live { AreLive nodes.now.slots order.now }
+    requires rising { Rises (rows nodes.now.slots order.now) }
+    ensures { result ≡ true → Contains (texts (rows nodes.now.slots order.now)) text.now }
+{
+    match search(nodes, order, text, "") {
+        Ok(_) => true,
+        Err(_) => false,
+    }
+}
+
+// The first place with a `/` among some.
+fn slash_between(text: &[u8], low: usize, high: usize) -> Option<usize>
+    requires { high ≤ length text.now }
+    ensures { IfSome result (λ k. (low ≤ k) × (k < high) × (slice_index text.now k ≡ 47)) }
+{
+    for k in low..high {
+        if text[k] == b'/' {
+            return Some(k);
+        }
+    }
+    None
+}
+
+// A place up to which all parts of the text that end before a `/` are there. It is the last one.
+// The longest part is looked for near a place first.
+pub(crate) fn known_end(nodes: &Slab<Node>, order: &Tree, near: usize, text: &str) -> usize
+    requires table { IsTable nodes.now.slots order.now }
+    ensures { IsKnownTo (texts (rows nodes.now.slots order.now)) text.now result }
+{
+    let bytes = text.as_bytes();
+    let mut low = 0;
+    let mut high = bytes.len();
+    if let Some(k) = last_slash(bytes) {
+        if stands_near(nodes, order, near, &text[..k]) {
+            return k + 1;
+        }
+        high = k;
+    }
+    while low < high {
+        let mid = low + (high - low) / 2;
+        match slash_between(bytes, mid, high) {
+            None => high = mid,
+            Some(k) => {
+                if stands(nodes, order, &text[..k]) {
+                    low = k + 1;
+                } else {
+                    high = k;
+                }
+            }
+        }
+    }
+    low
 }
 
 // Whether the node's text lies below the text.
@@ -95,18 +240,18 @@ fn is_below(nodes: &Slab<Node>, id: usize, text: &str) -> bool
     &bytes[..head.len()] == head
 }
 
-// Whether some text lies below the text.
-pub(crate) fn has_below(nodes: &Slab<Node>, order: &[usize], text: &str) -> bool
+// Whether some text lies below the text. It is looked for right behind a place first.
+pub(crate) fn has_below(nodes: &Slab<Node>, order: &Tree, near: usize, text: &str) -> bool
     requires live { AreLive nodes.now.slots order.now }
     requires rising { Rises (rows nodes.now.slots order.now) }
     ensures below { result ≡ true → HasBelow (rows nodes.now.slots order.now) text.now }
     ensures none { result ≡ false → HasBelow (rows nodes.now.slots order.now) text.now → ⊥ }
 {
-    let at = lower_bound(nodes, order, text.as_bytes(), b"/");
+    let at = lower_bound_near(nodes, order, near, text.as_bytes(), b"/");
     if at >= order.len() {
         return false;
     }
-    is_below(nodes, order[at], text)
+    is_below(nodes, order.get(at), text)
 }
 
 // The last place with a `/`.
@@ -143,7 +288,7 @@ pub(crate) fn cut_before_star(text: &str) -> Option<usize>
 }
 
 // The place of a node.
-pub(crate) fn place_of(nodes: &Slab<Node>, order: &[usize], id: usize) -> usize
+pub(crate) fn place_of(nodes: &Slab<Node>, order: &Tree, id: usize) -> usize
     requires table { IsTable nodes.now.slots order.now }
     requires live { Contains order.now id }
     ensures { IsPlaceOf (rows nodes.now.slots order.now) (row nodes.now.slots id).text result }

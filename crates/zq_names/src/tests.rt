@@ -167,3 +167,14 @@ fn matches_go_both_ways(rt: HostRuntime) -> Result<(), Fail> {
     assert!(rt; counts(&names, keys) == [0, 0, 0, 0]);
     Ok(())
 }
+
+fn moved<T: Send>(value: T) -> T {
+    value
+}
+
+#[test]
+fn a_table_may_go_to_a_thread(rt: HostRuntime) -> Result<(), Fail> {
+    let names = moved(Names::new(rt.alloc())?);
+    assert_eq!(rt; names.len(), 1);
+    Ok(())
+}

@@ -11,14 +11,14 @@ remove_at-text-requires-clause-lonely c =
     let end = c.loop-end.end in
     let le : c.args.low ≤ end - 1 = omega arith in
     let last : end - 1 + 1 ≡ end = omega arith in
-    lonely-last c.loop-end.order.items (rows c.loop-end.nodes.slots c.loop-end.order.items) _ c.args.place c.args.low end (end - 1) old.sound.table.names old.run le last
+    lonely-last c.loop-end.order (rows c.loop-end.nodes.slots c.loop-end.order) _ c.args.place c.args.low end (end - 1) old.sound.table.names old.run le last
 
 pub loop-end-preserved : goal.loop-end-preserved
 loop-end-preserved c =
     let old = c.loop-end.invariant in
     let end = c.loop-end.end in
-    let ns = rows c.loop-end.nodes.slots c.loop-end.order.items in
-    let t = text_at (rows c.args.nodes.now.slots c.args.order.now.items) c.args.place in
+    let ns = rows c.loop-end.nodes.slots c.loop-end.order in
+    let t = text_at (rows c.args.nodes.now.slots c.args.order.now) c.args.place in
     let le : c.args.low ≤ end - 1 = omega arith in
     let last : end - 1 + 1 ≡ end = omega arith in
     let R : List NameEntry → Type 0 = λ (v : List NameEntry). IsRun v t c.args.place c.args.low (end - 1) in

@@ -5,10 +5,10 @@ use Rattle.zq_names.proofs.close.take_run.Given as goal
 
 abbrev pub invariant-loop-end : goal.invariant-loop-end
 invariant-loop-end l = record {
-  sound : IsSound l.nodes.slots l.order.items;
-  run : IsRun (rows l.nodes.slots l.order.items) (text_at (rows l.fn.nodes.slots l.fn.order.items) l.place) l.place l.low l.end;
-  rest : (new : List NameEntry) → ClosesBelow (rows l.nodes.slots l.order.items) (text_at (rows l.fn.nodes.slots l.fn.order.items) l.place) new
-      → ClosesBelow (rows l.fn.nodes.slots l.fn.order.items) (text_at (rows l.fn.nodes.slots l.fn.order.items) l.place) new;
+  sound : IsSound l.nodes.slots l.order;
+  run : IsRun (rows l.nodes.slots l.order) (text_at (rows l.fn.nodes.slots l.fn.order) l.place) l.place l.low l.end;
+  rest : (new : List NameEntry) → ClosesBelow (rows l.nodes.slots l.order) (text_at (rows l.fn.nodes.slots l.fn.order) l.place) new
+      → ClosesBelow (rows l.fn.nodes.slots l.fn.order) (text_at (rows l.fn.nodes.slots l.fn.order) l.place) new;
 }
 
 abbrev pub decreases-loop-end : goal.decreases-loop-end

@@ -32,16 +32,16 @@ forgets old middle last new order at id node xs ys lt is was gone others first s
 pub returns : goal.returns
 returns c =
     let nodes = c.args.nodes.now.slots in
-    let order = c.args.order.now.items in
+    let order = c.args.order.now in
     let at = c.args.at in
-    let lt : at < length order = omega (arith, c.args.order.now.ok.0, c.requires.in_range) in
+    let lt : at < length order = omega (arith, c.requires.in_range) in
     let took = c.take_out-text.ensures in
     let node = c.take_out-text.result in
     let middle = c.take_out-text.new.nodes.slots in
-    let rest = c.take_out-text.new.order.items in
+    let rest = c.take_out-text.new.order in
     let new = c.forget-2.new.nodes.slots in
     let i = get_or order at 0 in
-    let all = forgets nodes middle c.forget.new.nodes.slots new order at c.index.result.now node c.deref.result.now c.deref-2.result.now lt c.index.ensures took.was took.gone took.others c.deref.ensures.value c.deref-2.ensures.value c.forget.ensures c.forget-2.ensures in
+    let all = forgets nodes middle c.forget.new.nodes.slots new order at c.get-id.result node c.deref.result.now c.deref-2.result.now lt c.get-id.ensures.here took.was took.gone took.others c.deref.ensures.value c.deref-2.ensures.value c.forget.ensures c.forget-2.ensures in
     let linked = c.requires.sound.linked in
     let number : i ≡ (get_or (rows nodes order) at (entry_of 0 None)).id = sym (ap (λ (e : NameEntry). e.id) (row_at nodes order at i lt (get_or_default order at 0 i lt))) in
     record {

@@ -12,29 +12,29 @@ pub returns-clause-table : goal.returns-clause-table
 returns-clause-table c =
     let r = c.requires in
     let u = c.remove.ensures.updates in
-    rw c.remove-id.ensures.items (taken _ _ _ _ _ r.table (omega (arith, c.args.order.now.ok.0)) r.past_root r.lonely c.remove-id.ensures.value u.changed u.others).1
+    rw c.remove-id.ensures.rest (taken _ _ _ _ _ r.table c.requires.in_range r.past_root r.lonely c.remove-id.ensures.number u.changed u.others).1
 
 pub returns-clause-rows : goal.returns-clause-rows
 returns-clause-rows c =
     let r = c.requires in
     let u = c.remove.ensures.updates in
-    rw c.remove-id.ensures.items (taken _ _ _ _ _ r.table (omega (arith, c.args.order.now.ok.0)) r.past_root r.lonely c.remove-id.ensures.value u.changed u.others).0
+    rw c.remove-id.ensures.rest (taken _ _ _ _ _ r.table c.requires.in_range r.past_root r.lonely c.remove-id.ensures.number u.changed u.others).0
 
 pub returns-clause-text : goal.returns-clause-text
 returns-clause-text c =
-    let order = c.args.order.now.items in
+    let order = c.args.order.now in
     let nodes = c.args.nodes.now.slots in
-    let lt : c.args.at < length order = omega (arith, c.args.order.now.ok.0) in
-    let number : get_or order c.args.at 0 ≡ c.remove-id.result = get_or_default order c.args.at 0 c.remove-id.result lt ∙ sym c.remove-id.ensures.value in
+    let lt : c.args.at < length order = omega (arith) in
+    let number : get_or order c.args.at 0 ≡ c.remove-id.result = get_or_default order c.args.at 0 c.remove-id.result lt ∙ sym c.remove-id.ensures.number in
     sym (text_at-rows nodes order c.args.at lt ∙ ap (λ (j : ℕ). (row nodes j).text) number ∙ ap slot_text c.remove.ensures.value)
 
 pub returns-clause-was : goal.returns-clause-was
-returns-clause-was c = ap (slot c.args.nodes.now.slots) (number c.args.order.now.items c.args.at c.remove-id.result (omega (arith, c.args.order.now.ok.0)) c.remove-id.ensures.value) ∙ c.remove.ensures.value
+returns-clause-was c = ap (slot c.args.nodes.now.slots) (number c.args.order.now c.args.at c.remove-id.result c.requires.in_range c.remove-id.ensures.number) ∙ c.remove.ensures.value
 
 pub returns-clause-gone : goal.returns-clause-gone
-returns-clause-gone c = ap (slot c.remove.new.self.slots) (number c.args.order.now.items c.args.at c.remove-id.result (omega (arith, c.args.order.now.ok.0)) c.remove-id.ensures.value) ∙ c.remove.ensures.updates.changed
+returns-clause-gone c = ap (slot c.remove.new.self.slots) (number c.args.order.now c.args.at c.remove-id.result c.requires.in_range c.remove-id.ensures.number) ∙ c.remove.ensures.updates.changed
 
 pub returns-clause-others : goal.returns-clause-others
 returns-clause-others c j differ =
-    let is = number c.args.order.now.items c.args.at c.remove-id.result (omega (arith, c.args.order.now.ok.0)) c.remove-id.ensures.value in
+    let is = number c.args.order.now c.args.at c.remove-id.result c.requires.in_range c.remove-id.ensures.number in
     c.remove.ensures.updates.others j (λ same. differ (same ∙ sym is))

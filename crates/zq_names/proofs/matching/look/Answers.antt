@@ -45,18 +45,18 @@ jumped nodes order i j k node bytes key key_bytes table lt is text same apart sp
 pub returns-in-Some-clause-bounds : goal.returns-in-Some-clause-bounds
 returns-in-Some-clause-bounds c =
     let n = length-rows c.args.nodes.now.slots c.args.order.now in
-    let both = jumped c.args.nodes.now.slots c.args.order.now c.args.i c.after_run.result c.in-Some.k c.index-node.result.now c.as_bytes-bytes.result.now c.args.key.now c.as_bytes.result.now c.requires.table c.requires.in_range c.index-node.ensures (c.as_bytes-bytes.ensures.value ∙ c.as_str-text.ensures) c.as_bytes.ensures.value c.in-Some.ensures c.after_run.ensures in
+    let both = jumped c.args.nodes.now.slots c.args.order.now c.args.i c.after_run.result c.in-Some.k c.index-node.result.now c.as_bytes-bytes.result.now c.args.key.now c.as_bytes.result.now c.requires.table c.requires.in_range (ap (slot c.args.nodes.now.slots) (sym c.get-id.ensures.number) ∙ c.index-node.ensures) (c.as_bytes-bytes.ensures.value ∙ c.as_str-text.ensures) c.as_bytes.ensures.value c.in-Some.ensures c.after_run.ensures in
     (both.0, omega (arith, n, c.after_run.ensures.in_range))
 
 pub returns-in-Some-clause-found : goal.returns-in-Some-clause-found
 returns-in-Some-clause-found c =
-    let both = jumped c.args.nodes.now.slots c.args.order.now c.args.i c.after_run.result c.in-Some.k c.index-node.result.now c.as_bytes-bytes.result.now c.args.key.now c.as_bytes.result.now c.requires.table c.requires.in_range c.index-node.ensures (c.as_bytes-bytes.ensures.value ∙ c.as_str-text.ensures) c.as_bytes.ensures.value c.in-Some.ensures c.after_run.ensures in
+    let both = jumped c.args.nodes.now.slots c.args.order.now c.args.i c.after_run.result c.in-Some.k c.index-node.result.now c.as_bytes-bytes.result.now c.args.key.now c.as_bytes.result.now c.requires.table c.requires.in_range (ap (slot c.args.nodes.now.slots) (sym c.get-id.ensures.number) ∙ c.index-node.ensures) (c.as_bytes-bytes.ensures.value ∙ c.as_str-text.ensures) c.as_bytes.ensures.value c.in-Some.ensures c.after_run.ensures in
     rw both.1 (sym (append-nil (map number c.args.found.now.items)))
 
 pub returns-then-not-node-clause-found : goal.returns-then-not-node-clause-found
 returns-then-not-node-clause-found c =
     let node = c.index-node.result.now in
-    passed_over c.args.nodes.now.slots c.args.order.now c.args.i node c.args.key.now (map number c.args.found.now.items) c.requires.in_range c.index-node.ensures (no_context node.context (meets_key c.args.key.now node.text) c.if-not-node.true)
+    passed_over c.args.nodes.now.slots c.args.order.now c.args.i node c.args.key.now (map number c.args.found.now.items) c.requires.in_range (ap (slot c.args.nodes.now.slots) (sym c.get-id.ensures.number) ∙ c.index-node.ensures) (no_context node.context (meets_key c.args.key.now node.text) c.if-not-node.true)
 
 pub returns-then-is_empty-clause-found : goal.returns-then-is_empty-clause-found
 returns-then-is_empty-clause-found c =
@@ -65,20 +65,20 @@ returns-then-is_empty-clause-found c =
     let none : length c.as_str-text.result.now ≡ 0 = grind (arith, nat_tests, c.if-is_empty.ensures) in
     let empty : node.text ≡ [] = sym c.as_str-text.ensures ∙ nil_from_length c.as_str-text.result.now none in
     let miss : meets_key key node.text ≡ false = rw (empty, empty_no_key) in
-    passed_over c.args.nodes.now.slots c.args.order.now c.args.i node key (map number c.args.found.now.items) c.requires.in_range c.index-node.ensures (misses node.context (meets_key key node.text) miss)
+    passed_over c.args.nodes.now.slots c.args.order.now c.args.i node key (map number c.args.found.now.items) c.requires.in_range (ap (slot c.args.nodes.now.slots) (sym c.get-id.ensures.number) ∙ c.index-node.ensures) (misses node.context (meets_key key node.text) miss)
 
 pub intersects-requires-clause-first : goal.intersects-requires-clause-first
 intersects-requires-clause-first c =
     let node = c.index-node.result.now in
     let some : 0 < length c.as_str-text.result.now = grind (arith, nat_tests, c.if-is_empty.ensures) in
-    ap is_key c.as_str-text.ensures ∙ key_of_node c.args.nodes.now.slots c.args.order.now c.args.i node c.requires.table c.requires.in_range c.index-node.ensures (omega (arith, some, ap length c.as_str-text.ensures))
+    ap is_key c.as_str-text.ensures ∙ key_of_node c.args.nodes.now.slots c.args.order.now c.args.i node c.requires.table c.requires.in_range (ap (slot c.args.nodes.now.slots) (sym c.get-id.ensures.number) ∙ c.index-node.ensures) (omega (arith, some, ap length c.as_str-text.ensures))
 
 pub returns-then-not-intersects-clause-found : goal.returns-then-not-intersects-clause-found
 returns-then-not-intersects-clause-found c =
     let node = c.index-node.result.now in
     let key = c.args.key.now in
     let miss : intersects node.text key ≡ false = ap (λ (t : List ℕ). intersects t key) (sym c.as_str-text.ensures) ∙ sym c.if-not-intersects.ensures.bytes in
-    passed_over c.args.nodes.now.slots c.args.order.now c.args.i node key (map number c.args.found.now.items) c.requires.in_range c.index-node.ensures (misses node.context (meets_key key node.text) (no_meeting key node.text miss))
+    passed_over c.args.nodes.now.slots c.args.order.now c.args.i node key (map number c.args.found.now.items) c.requires.in_range (ap (slot c.args.nodes.now.slots) (sym c.get-id.ensures.number) ∙ c.index-node.ensures) (misses node.context (meets_key key node.text) (no_meeting key node.text miss))
 
 pub returns-in-Ok-clause-found : goal.returns-in-Ok-clause-found
 returns-in-Ok-clause-found c =
@@ -89,8 +89,8 @@ returns-in-Ok-clause-found c =
     let key = c.args.key.now in
     let lt = c.requires.in_range in
     let some : 0 < length c.as_str-text.result.now = grind (arith, nat_tests, c.if-is_empty.ensures) in
-    let is_a_key = key_of_node nodes order i node c.requires.table lt c.index-node.ensures (omega (arith, some, ap length c.as_str-text.ensures)) in
+    let is_a_key = key_of_node nodes order i node c.requires.table lt (ap (slot c.args.nodes.now.slots) (sym c.get-id.ensures.number) ∙ c.index-node.ensures) (omega (arith, some, ap length c.as_str-text.ensures)) in
     let hit : intersects node.text key ≡ true = ap (λ (t : List ℕ). intersects t key) (sym c.as_str-text.ensures) ∙ sym c.if-not-intersects.ensures.bytes in
-    let here = entry_there nodes order i node lt c.index-node.ensures in
+    let here = entry_there nodes order i node lt (ap (slot c.args.nodes.now.slots) (sym c.get-id.ensures.number) ∙ c.index-node.ensures) in
     let match : is_match key (get_or (rows nodes order) i (entry_of 0 None)) ≡ true = ap (is_match key) here ∙ rw (c.if-not-node.false, is_a_key, hit) in
-    rw (c.in-Ok.ensures.items, map_push number, one_look key (rows nodes order) i (entry_of 0 None) true (omega (arith, length-rows nodes order, lt)) match, here)
+    rw (c.in-Ok.ensures.items, c.get-id.ensures.number, map_push number, one_look key (rows nodes order) i (entry_of 0 None) true (omega (arith, length-rows nodes order, lt)) match, here)

@@ -4,11 +4,11 @@ use Rattle.zq_names.proofs.names.Names.close.Goals as goal
 use Rattle.zq_names.proofs.KeepingLemmas.{once_in_view}
 
 pub place_of-place-requires-clause-live : goal.place_of-place-requires-clause-live
-place_of-place-requires-clause-live c = rw c.deref.ensures.value (in_order _ _ _ _ c.self.view_is c.requires)
+place_of-place-requires-clause-live c = in_order _ _ _ _ c.self.view_is c.requires
 
 pub returns-clause-closes : goal.returns-clause-closes
 returns-clause-closes c =
-    let text = text_there c.self.inside.nodes.slots c.self.inside.order.items c.args.self.now c.args.r.0 c.place_of-place.result c.self.view_is c.requires (rw c.deref.ensures.value at c.place_of-place.ensures.is) in
+    let text = text_there c.self.inside.nodes.slots c.self.inside.order c.args.self.now c.args.r.0 c.place_of-place.result c.self.view_is c.requires c.place_of-place.ensures.is in
     rw text (rw (← c.self.view_is) c.close_at.ensures.closes)
 
 pub returns-clause-kept : goal.returns-clause-kept

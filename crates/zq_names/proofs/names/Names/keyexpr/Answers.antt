@@ -21,7 +21,7 @@ returns-clause-text c = c.as_str-text.ensures ∙ sym (ap (λ (e : NameEntry). e
 pub returns-clause-key : goal.returns-clause-key
 returns-clause-key c =
     let nodes = c.self.inside.nodes.slots in
-    let order = c.self.inside.order.items in
+    let order = c.self.inside.order in
     let i = c.args.r.0 in
     let some : 0 < length c.as_str-text.result.now = grind (arith, nat_tests, c.if-is_empty.ensures) in
     let has = in_order nodes order _ i c.self.view_is c.requires in

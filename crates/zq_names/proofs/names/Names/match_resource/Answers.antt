@@ -23,19 +23,19 @@ on_err (Ok x) P holds = tt
 on_err (Err e) P holds = holds
 
 pub invariant_of-self : goal.invariant_of-self
-invariant_of-self c = IsSound-same _ _ c.self.inside.order.items (same_slots _ _ c.in_err-link.ensures.err) c.self.invariant
+invariant_of-self c = IsSound-same _ _ c.self.inside.order (same_slots _ _ c.in_err-link.ensures.err) c.self.invariant
 
 pub returns-in_err-link-clause-err : goal.returns-in_err-link-clause-err
-returns-in_err-link-clause-err c = on_err c.from_residual.result _ (rows-same _ _ c.self.inside.order.items (same_slots _ _ c.in_err-link.ensures.err) ∙ c.self.view_is)
+returns-in_err-link-clause-err c = on_err c.from_residual.result _ (rows-same _ _ c.self.inside.order (same_slots _ _ c.in_err-link.ensures.err) ∙ c.self.view_is)
 
 pub invariant_of-self-2 : goal.invariant_of-self-2
-invariant_of-self-2 c = IsSound-linked _ _ c.self.inside.order.items c.args.r _ c.in_ok-link.ensures.ok c.self.invariant
+invariant_of-self-2 c = IsSound-linked _ _ c.self.inside.order c.args.r _ c.in_ok-link.ensures.ok c.self.invariant
 
 pub returns-clause-ok : goal.returns-clause-ok
 returns-clause-ok c =
-    let new = rows c.link.new.nodes.slots c.self.inside.order.items in
+    let new = rows c.link.new.nodes.slots c.self.inside.order in
     let M : List ResourceId → Type 0 = λ (ms : List ResourceId). new ≡ map (matched c.args.r ms) c.args.self.now in
-    subst M c.into_vec.ensures (rows-linked _ _ c.self.inside.order.items c.args.r _ c.in_ok-link.ensures.ok ∙ ap (map (matched c.args.r c.into_vec.result.items)) c.self.view_is)
+    subst M c.into_vec.ensures (rows-linked _ _ c.self.inside.order c.args.r _ c.in_ok-link.ensures.ok ∙ ap (map (matched c.args.r c.into_vec.result.items)) c.self.view_is)
 
 pub returns-clause-kept : goal.returns-clause-kept
 returns-clause-kept c = AllStay-matched c.args.r c.args.matches c.args.self.now _ (returns-clause-ok c)

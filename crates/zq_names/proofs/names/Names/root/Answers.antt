@@ -8,4 +8,4 @@ pub returns : goal.returns
 returns c =
     let t = c.self.invariant.table.names in
     let n = slice_get_within _ 0 _ t.root in
-    HasText-at _ _ _ [] 0 0 c.self.view_is (record { in_range = omega (arith, n, length-rows c.self.inside.nodes.slots c.self.inside.order.items); is = get_or_from_slice_get _ 0 _ [] t.root_text }) (sym (get_or_from_slice_get _ 0 _ 0 t.root))
+    HasText-at _ _ _ [] 0 0 c.self.view_is (record { in_range = omega (arith, n, length-rows c.self.inside.nodes.slots c.self.inside.order); is = get_or_from_slice_get _ 0 _ [] t.root_text }) (sym (get_or_from_slice_get _ 0 _ 0 t.root))
