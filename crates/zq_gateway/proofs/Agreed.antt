@@ -28,9 +28,10 @@ use Rattle.zq_gateway.specs.State.{State, at, change_hat, clashes_in, first_hats
 use Rattle.zq_gateway.specs.TextCalls.{TextCall, opening, closing, naming, unnaming, declaring, withdrawing, asking, replying, ending, reporting, passing, listing, finalizing, unbuilt, read}
 use Rattle.zq_gateway.proofs.Agreeing.{Tied, declared_tied, marked_tied, named_tied, some_of, unnamed_tied, withdrawn_tied}
 use Rattle.zq_gateway.proofs.Changing.{hat_found, itself, number_test, region_there}
-use Rattle.zq_gateway.proofs.Finals.{IsSound, follow_sound, is_there, none_sorted, opening_sound, run_sound}
+use Rattle.zq_gateway.proofs.Finals.{IsSound, after_sound, is_there, none_sorted, opening_sound, run_sound}
 use Rattle.zq_gateway.proofs.Joining.{closed_tied, opened_tied}
 use Rattle.zq_gateway.proofs.Promises.{all_passed, granted_is_accepted}
+use Rattle.zq_gateway.proofs.Writing.{settles_plainly}
 use Rattle.zq_key.proofs.Lookups.{found_after_insertion}
 
 abbrev IsTied : State → Type 0
@@ -134,7 +135,7 @@ opening_tied config = record {
 
 run_tied : (cs : List Call) (s : State) → IsSound s → IsTied s → IsTied (state_after s cs)
 run_tied [] s i t = t
-run_tied (c ∷ cs) s i t = run_tied cs (after s c) (follow_sound s (read s c) i) (follow_tied s (read s c) i t)
+run_tied (c ∷ cs) s i t = run_tied cs (after s c) (after_sound s c i) (subst IsTied (sym (settles_plainly s (read s c))) (follow_tied s (read s c) i t))
 
 -- ---- in the words of the promise
 agrees : (s : State) → IsSound s → IsTied s → Agrees s

@@ -17,7 +17,7 @@ use Rattle.zq_query.specs.declared.records.ReplyTo.{ReplyTo}
 use Rattle.zq_query.specs.declared.records.Timeout.{Timeout}
 use Rattle.zq_query.specs.Asking.{given_place}
 use Rattle.zq_query.specs.Closing.{at_face, closed_with, closing_finals, finals_after, finals_landed, has_open_asker}
-use Rattle.zq_query.specs.Polling.{after_timeout, dues_at, has_number_for, is_due, numbers_in, timed_out, timeouts, timing_out, with_timeout}
+use Rattle.zq_query.specs.Polling.{after_timeout, dues_at, is_due, numbers_in, timed_out, timeouts, timing_out, with_timeout}
 use Rattle.zq_query.specs.Records.{Pending, QueryState, Record, after_put, final_of, has_entry, has_number, is_entry, is_left, is_none_left, is_over, landing, letting_go, next_reply, owner, putting, reply_to, request, without, without_reply}
 use Rattle.zq_query.specs.Tables.{Due}
 use Rattle.zq_query.proofs.TimingOut.{rest_stays}
@@ -25,18 +25,20 @@ use Rattle.zq_naming.specs.Naming.{NamingState}
 use Rattle.zq_naming.specs.declared.said.Said.{Said}
 use Rattle.zq_gateway.specs.declared.call.Call.{Call}
 use Rattle.zq_gateway.specs.declared.call.Call.TheVariants as call
-use Rattle.zq_gateway.specs.declared.call.Handed.{Handed}
 use Rattle.zq_gateway.specs.declared.call.Refusal.{Refusal}
 use Rattle.zq_gateway.specs.declared.call.Step.{Step}
 use Rattle.zq_gateway.specs.declared.face.OpenFace.{OpenFace}
 use Rattle.zq_gateway.specs.Asked.{AreCounted, IsAsked, IsHandedToAsker, asked_by, asked_in}
 use Rattle.zq_gateway.specs.Configs.{Settings}
-use Rattle.zq_gateway.specs.Deciding.{accepted, after_replied, answered, granted, handed_final, handed_reply, handed_request, handed_requests, handed_timeouts, is_accepted, passing_finals, refusal_of, replied, timed_out as handed_timeout}
-use Rattle.zq_gateway.specs.Machine.{accepted_state, after, answer, follow, state_after, step, steps_from, write, written}
+use Rattle.zq_gateway.specs.Deciding.{accepted, after_replied, answered, granted, handed_reply, handed_request, handed_requests, handed_timeouts, is_accepted, passing_finals, refusal_of, replied, timed_out as text_timeout}
+use Rattle.zq_gateway.specs.Machine.{accepted_state, after, answer, settle, state_after, step, steps_from}
+use Rattle.zq_gateway.specs.Messages.{TextMessage, text_final}
+use Rattle.zq_gateway.specs.Writing.{write}
 use Rattle.zq_gateway.specs.Selecting.{full_text, select, target_of}
 use Rattle.zq_gateway.specs.State.{Core, State, opening_state}
 use Rattle.zq_gateway.specs.TextCalls.{TextCall, opening, closing, naming, unnaming, declaring, withdrawing, asking, replying, ending, reporting, passing, listing, finalizing, unbuilt, read, said as said_by_face}
 use Rattle.zq_gateway.proofs.Promises.{granted_is_accepted, is_asking}
+use Rattle.zq_gateway.proofs.Writing.{by_plain, plainly}
 
 -- ---- lists of which each element has a property
 module _ {X : Type 0} (P : X → Type 0) where
@@ -169,34 +171,38 @@ module _ (P : ℕ → FaceId → ℕ → ℕ → Type 0) where
 
 -- ---- what is handed
 module _ (asked : List Final) (names : NamingState) where
-  abbrev All : List Handed → Type 0
-  All hs = AllByRecursion (IsHandedToAsker asked) (map (written names) hs)
+  abbrev All : List TextMessage → Type 0
+  All hs = AllByRecursion (IsHandedToAsker asked) (write names hs)
 
-  finals_handed : (fs : List Final) → AllByRecursion (OfFinal (IsAsked asked)) fs → All (map handed_final fs)
+  finals_handed : (fs : List Final) → AllByRecursion (OfFinal (IsAsked asked)) fs → All (map text_final fs)
   finals_handed [] all = tt
   finals_handed (f ∷ fs) all = (all.0, finals_handed fs all.1)
 
-  timeouts_handed : (faces : List (ℕ × OpenFace)) (ts : List Timeout) → AllByRecursion (OfTimeout (IsAsked asked)) ts → All (map (handed_timeout faces) ts)
+  timeouts_handed : (faces : List (ℕ × OpenFace)) (ts : List Timeout) → AllByRecursion (OfTimeout (IsAsked asked)) ts → All (handed_timeouts faces ts)
   timeouts_handed faces [] all = tt
-  timeouts_handed faces (t ∷ ts) all = (all.0, timeouts_handed faces ts all.1)
+  timeouts_handed faces (t ∷ ts) all = by t.reply (timeouts_handed faces ts all.1)
+    where
+      by : (o : Option ℕ) → All (handed_timeouts faces ts) → All (cons_option (option_map (text_timeout faces t) o) [] ++ handed_timeouts faces ts)
+      by None rest = rest
+      by (Some k) rest = (all.0, rest)
 
   requests_handed : (q : QueryState) (text : List ℕ) (r : Request) (os : List QueryTargetQabl) → All (map (handed_request q text r) os)
   requests_handed q text r [] = tt
   requests_handed q text r (o ∷ os) = (tt, requests_handed q text r os)
 
-  reply_handed : (q : QueryState) (text : List ℕ) (r : Response) (o : Option Final) → IfThere (IsAsked asked) o → All (replied text r (option_map (reply_to q) o)).handed
+  reply_handed : (q : QueryState) (text : List ℕ) (r : Response) (o : Option Final) → IfThere (IsAsked asked) o → All (replied text r (option_map (reply_to q) o))
   reply_handed q text r None it = tt
-  reply_handed q text r (Some f) it = by (is_some (reply_to q f).reply)
+  reply_handed q text r (Some f) it = by (reply_to q f).reply
     where
-      by : (b : Bool) → All (cond b (handed_reply text r (reply_to q f) ∷ []) [])
-      by true = (it, tt)
-      by false = tt
+      by : (o : Option ℕ) → All (cons_option (option_map (handed_reply text r (reply_to q f)) o) [])
+      by (Some k) = (it, tt)
+      by None = tt
 
-  all_parts : (xs ys : List Handed) → All xs → All ys → All (xs ++ ys)
+  all_parts : (xs ys : List TextMessage) → All xs → All ys → All (xs ++ ys)
   all_parts [] ys all more = more
   all_parts (x ∷ xs) ys all more = (all.0, all_parts xs ys all.1 more)
 
-  pub all_handed : (c : Core) (t : TextCall) → is_asking t ≡ false → Each (IsAsked asked) c.queries.records → All (granted c t).handed
+  pub all_handed : (c : Core) (t : TextCall) → is_asking t ≡ false → Each (IsAsked asked) c.queries.records → All (granted c t).messages
   unfolding is_asking
   all_handed c (asking face s r now) h all = absurd (false≢true (sym h))
   all_handed c (opening o) h all = tt
@@ -213,8 +219,8 @@ module _ (asked : List Final) (names : NamingState) where
       let ts = timeouts now c.queries in
       let late = timeouts_each (IsAsked asked) c.queries (dues_at now c.queries.records) [] all tt in
       let z = timing_out ts c.queries in
-      all_parts (handed_timeouts c.faces ts) (map handed_final (passing_finals now c.queries))
-      (timeouts_handed c.faces (filter has_number_for ts) (all_filter (OfTimeout (IsAsked asked)) has_number_for ts late))
+      all_parts (handed_timeouts c.faces ts) (map text_final (passing_finals now c.queries))
+      (timeouts_handed c.faces ts late)
       (finals_handed (passing_finals now c.queries) (finals_let_go (IsAsked asked) (is_due now) z.closed z.records (each_timing_out (IsAsked asked) ts c.queries all)))
   all_handed c (listing r t) h all = tt
   all_handed c (finalizing face m set) h all = tt
@@ -265,24 +271,24 @@ module _ (asked : List Final) (s : State) (all : Asks asked s) where
   no_more : Asks (asked ++ []) s
   no_more = more_asked asked [] s all
 
-  quiet : (t : TextCall) → is_asking t ≡ false → Tells asked [] s (follow s t) (answer s t)
-  quiet t h = by (refusal_of s.core t) refl
+  quiet : (t : TextCall) → is_asking t ≡ false → Tells asked [] s (settle s t) (answer s t)
+  quiet t h = by_plain (λ z w. Tells asked [] s w z) s t (by (refusal_of s.core t) refl)
     where
       kept : State
       kept = accepted_state s t
 
-      given : Tells asked [] s kept (write s.names (granted s.core t))
+      given : Tells asked [] s kept (plainly s.names (granted s.core t))
       given = record {
         records = each_kept (IsAsked (asked ++ [])) s.core t h no_more;
         handed = all_handed (asked ++ []) s.names s.core t h no_more;
         counted = λ rest are. subst (λ n. AreCounted n rest) (same_count s.core t h) are;
       }
 
-      taken : (b : Bool) → b ≡ true → Tells asked [] s (cond b kept s) (write s.names (granted s.core t))
+      taken : (b : Bool) → b ≡ true → Tells asked [] s (cond b kept s) (plainly s.names (granted s.core t))
       taken true e = given
       taken false e = absurd (false≢true e)
 
-      by : (o : Option Refusal) → refusal_of s.core t ≡ o → Tells asked [] s (cond (is_accepted (answered o (granted s.core t)).outcome) kept s) (write s.names (answered o (granted s.core t)))
+      by : (o : Option Refusal) → refusal_of s.core t ≡ o → Tells asked [] s (cond (is_accepted (answered o (granted s.core t)).outcome) kept s) (plainly s.names (answered o (granted s.core t)))
       by (Some r) e = record { records = no_more; handed = tt; counted = λ rest are. are }
       by None e = taken (is_accepted (granted s.core t).outcome) (granted_is_accepted s.core t e)
 
@@ -291,7 +297,7 @@ module _ (asked : List Final) (s : State) (all : Asks asked s) where
     said = said_by_face face r.wire s
 
     abbrev offers : List QueryTargetQabl
-    offers = select s.core face said r.target
+    offers = select s.core face said r
 
     abbrev new : List Final
     new = record { number = s.core.queries.requests; asker = face; id = r.id; qos = r.qos } ∷ []
@@ -311,10 +317,10 @@ module _ (asked : List Final) (s : State) (all : Asks asked s) where
     requests_by (o ∷ os) = requests_handed (asked ++ new) s.names s.core.queries (full_text said) r (o ∷ os)
 
     request_tells : Tells asked (asked_by (call.Request face r now) (step s (call.Request face r now))) s (after s (call.Request face r now)) (step s (call.Request face r now))
-    request_tells = by (refusal_of s.core asking_call) refl
+    request_tells = by_plain (λ z w. Tells asked (asked_by (call.Request face r now) z) s w z) s asking_call (by (refusal_of s.core asking_call) refl)
       where
         by : (o : Option Refusal) → refusal_of s.core asking_call ≡ o
-            → Tells asked (asked_by (call.Request face r now) (write s.names (answered o (granted s.core asking_call)))) s (cond (is_accepted (answered o (granted s.core asking_call)).outcome) (accepted_state s asking_call) s) (write s.names (answered o (granted s.core asking_call)))
+            → Tells asked (asked_by (call.Request face r now) (plainly s.names (answered o (granted s.core asking_call)))) s (cond (is_accepted (answered o (granted s.core asking_call)).outcome) (accepted_state s asking_call) s) (plainly s.names (answered o (granted s.core asking_call)))
         by (Some x) e = record { records = no_more; handed = tt; counted = λ rest are. are }
         by None e = record {
           records = all_append _ s.core.queries.records _ (more_asked asked new s all) (records_by (is_none_left (map (given_place s.core.queries) (map target_of offers))) _ its_own);

@@ -12,11 +12,12 @@ use Rattle.zq_gateway.specs.declared.call.Call.TheVariants as call
 use Rattle.zq_gateway.specs.declared.call.Refusal.{Refusal}
 use Rattle.zq_gateway.specs.Asked.{closes}
 use Rattle.zq_gateway.specs.Deciding.{accepted, after_replied, answered, decide, granted, is_accepted, refusal_of}
-use Rattle.zq_gateway.specs.Machine.{accepted_state, after, follow, step, write}
+use Rattle.zq_gateway.specs.Machine.{accepted_state, after, settle, step}
 use Rattle.zq_gateway.specs.State.{Core, State}
 use Rattle.zq_gateway.specs.TextCalls.{TextCall, opening, closing, naming, unnaming, declaring, withdrawing, asking, replying, ending, reporting, passing, listing, finalizing, unbuilt, read}
 use Rattle.zq_gateway.proofs.Changing.{number_test}
 use Rattle.zq_gateway.proofs.Finals.{put_closed, timing_closed}
+use Rattle.zq_gateway.proofs.Writing.{by_plain, plainly, settles_plainly}
 use Rattle.zq_key.proofs.Sorted.{has_put}
 
 is_closing : TextCall → Bool
@@ -57,8 +58,8 @@ same_closed c (finalizing face m set) h = refl
 same_closed c unbuilt h = refl
 
 module _ (s : State) (face : ℕ) where
-  quiet : (t : TextCall) → is_closing t ≡ false → is_closed (follow s t).core.queries.closed face ≡ is_closed s.core.queries.closed face
-  quiet t h = by (is_accepted (decide s.core t).outcome)
+  quiet : (t : TextCall) → is_closing t ≡ false → is_closed (settle s t).core.queries.closed face ≡ is_closed s.core.queries.closed face
+  quiet t h = ap (λ (z : State). is_closed z.core.queries.closed face) (settles_plainly s t) ∙ by (is_accepted (decide s.core t).outcome)
     where
       by : (b : Bool) → is_closed (cond b (accepted_state s t) s).core.queries.closed face ≡ is_closed s.core.queries.closed face
       by true = ap (λ l. is_closed l face) (same_closed s.core t h)
@@ -66,10 +67,11 @@ module _ (s : State) (face : ℕ) where
 
   pub call_closed : (c : Call) → is_closed (after s c).core.queries.closed face ≡ (closes face c (step s c) || is_closed s.core.queries.closed face)
   unfolding is_closing
-  call_closed (call.Close f) = by (refusal_of s.core (closing f))
+  call_closed (call.Close f) =
+      by_plain (λ t z. is_closed z.core.queries.closed face ≡ (closes face (call.Close f) t || is_closed s.core.queries.closed face)) s (closing f) (by (refusal_of s.core (closing f)))
     where
       by : (o : Option Refusal) → is_closed (cond (is_accepted (answered o (granted s.core (closing f))).outcome) (accepted_state s (closing f)) s).core.queries.closed face
-          ≡ (closes face (call.Close f) (write s.names (answered o (granted s.core (closing f)))) || is_closed s.core.queries.closed face)
+          ≡ (closes face (call.Close f) (plainly s.names (answered o (granted s.core (closing f)))) || is_closed s.core.queries.closed face)
       by (Some r) = refl
       by None = has_put nat_cmp_total exact_unsigned face f.0 s.core.queries.closed ∙ ap (λ b. b || is_closed s.core.queries.closed face) (number_test face f.0)
   call_closed (call.Request f r now) = quiet (read s (call.Request f r now)) refl

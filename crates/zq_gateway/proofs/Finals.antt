@@ -1,8 +1,8 @@
 -- A final comes in exactly one call: what a call hands of them, and what is still to come, is what was to come.
 use Rattle.std.proofs.Common.{◌≡◌, ℕ, ◌+◌, ◌<◌, Bool, true, false, cond, not, List, [], ◌∷◌, ◌++◌, map, length, Option, Some, None, refl, sym, ap, ◌∙◌, arith, true≢false, subst, eqb-true, length-append}
-use Rattle.std.specs.List.{filter}
+use Rattle.std.specs.List.{cons_option, filter}
 use Rattle.std.specs.Prelude.{◌&&◌, ◌||◌, ◌==◌}
-use Rattle.std.specs.Option.{is_some}
+use Rattle.std.specs.Option.{is_some, option_map}
 use Rattle.std.specs.Ordering.{nat_cmp}
 use Rattle.std.specs.List.Sorted.{IsStrictlySortedBy}
 use Rattle.std.specs.Map.{keys_of, remove_entry}
@@ -21,7 +21,7 @@ use Rattle.zq_query.specs.declared.records.ReplyTo.{ReplyTo}
 use Rattle.zq_query.specs.declared.records.Timeout.{Timeout}
 use Rattle.zq_query.specs.Records.{QueryState, any_over, is_closed, is_entry, next_reply, after_reply, after_put, is_none_left}
 use Rattle.zq_query.specs.Closing.{closing_finals, after_close, finals_after, finals_landed}
-use Rattle.zq_query.specs.Polling.{timeouts, after_poll, has_number_for}
+use Rattle.zq_query.specs.Polling.{timeouts, after_poll}
 use Rattle.zq_query.specs.Balance.{finals_under}
 use Rattle.zq_query.proofs.Keys.{kept}
 use Rattle.zq_query.proofs.Sorted.{aside}
@@ -36,10 +36,12 @@ use Rattle.zq_gateway.specs.Configs.{Settings}
 use Rattle.zq_gateway.specs.State.{State, Core, at, is_open, opening_state}
 use Rattle.zq_gateway.specs.Selecting.{select, full_text, target_of}
 use Rattle.zq_gateway.specs.TextCalls.{TextCall, opening, closing, naming, unnaming, declaring, withdrawing, asking, replying, ending, reporting, passing, listing, finalizing, unbuilt, read}
-use Rattle.zq_gateway.specs.Deciding.{causes, refusal_of, granted, answered, is_accepted, accepted, after_replied, deadline, handed_final, handed_request, handed_requests, handed_replies, handed_timeouts, opened, passing_finals, replied}
-use Rattle.zq_gateway.specs.Machine.{written, write, follow, accepted_state, after, state_after, sent_final, sent_reply, sent_timeout, step}
+use Rattle.zq_gateway.specs.Deciding.{timed_out, causes, refusal_of, granted, answered, is_accepted, accepted, after_replied, deadline, handed_reply, handed_request, handed_requests, handed_replies, handed_timeouts, opened, passing_finals, replied}
+use Rattle.zq_gateway.specs.Machine.{follow, accepted_state, after, state_after, step}
+use Rattle.zq_gateway.specs.Messages.{text_final}
+use Rattle.zq_gateway.specs.Writing.{sent_final, write, written}
 use Rattle.zq_gateway.specs.Headline.{ends, finals_of, to_come}
-use Rattle.zq_gateway.proofs.Writing.{replies_written, timeouts_written}
+use Rattle.zq_gateway.proofs.Writing.{by_plain, settles_plainly}
 use Rattle.zq_gateway.proofs.Promises.{all_passed, granted_is_accepted}
 use Rattle.zq_key.proofs.Lookups.{same_key}
 use Rattle.zq_key.proofs.Sorted.{sorted_out, sorted_in, has_put}
@@ -161,6 +163,9 @@ follow_sound s t i = by (refusal_of s.core t) refl
     by (Some r) e = i
     by None e = taken (is_accepted (granted s.core t).outcome) (granted_is_accepted s.core t e) e
 
+pub after_sound : (s : State) (c : Call) → IsSound s → IsSound (after s c)
+after_sound s c i = subst IsSound (sym (settles_plainly s (read s c))) (follow_sound s (read s c) i)
+
 pub none_sorted : IsStrictlySortedBy nat_cmp []
 unfolding IsStrictlySortedBy
 none_sorted = tt
@@ -176,45 +181,46 @@ opening_sound config = record {
 
 pub run_sound : (cs : List Call) (s : State) → IsSound s → IsSound (state_after s cs)
 run_sound [] s i = i
-run_sound (c ∷ cs) s i = run_sound cs (after s c) (follow_sound s (read s c) i)
+run_sound (c ∷ cs) s i = run_sound cs (after s c) (after_sound s c i)
 
 -- ---- how many finals messages are
 module _ (n : ℕ) (names : NamingState) where
   abbrev count : List Handed → ℕ
   count hs = length (filter (ends n) hs)
 
-  pub finals_counted : (fs : List Final) → count (map (written names) (map handed_final fs)) ≡ finals_under n fs
+  pub finals_counted : (fs : List Final) → count (write names (map text_final fs)) ≡ finals_under n fs
   finals_counted [] = refl
   finals_counted (f ∷ fs) = by (f.number == n) (finals_counted fs)
     where
-      by : (b : Bool) → count (map (written names) (map handed_final fs)) ≡ finals_under n fs → length (cond b (sent_final f ∷ filter (ends n) (map (written names) (map handed_final fs))) (filter (ends n) (map (written names) (map handed_final fs)))) ≡ length (cond b (f ∷ filter (λ (g : Final). g.number == n) fs) (filter (λ (g : Final). g.number == n) fs))
+      by : (b : Bool) → count (write names (map text_final fs)) ≡ finals_under n fs → length (cond b (sent_final f ∷ filter (ends n) (write names (map text_final fs))) (filter (ends n) (write names (map text_final fs)))) ≡ length (cond b (f ∷ filter (λ (g : Final). g.number == n) fs) (filter (λ (g : Final). g.number == n) fs))
       by true e = omega (arith, e)
       by false e = e
 
-  none_requests : (q : QueryState) (text : List ℕ) (r : Request) (os : List QueryTargetQabl) → count (map (written names) (map (handed_request q text r) os)) ≡ 0
+  none_requests : (q : QueryState) (text : List ℕ) (r : Request) (os : List QueryTargetQabl) → count (write names (map (handed_request q text r) os)) ≡ 0
   none_requests q text r [] = refl
   none_requests q text r (o ∷ os) = none_requests q text r os
 
-  none_replies : (text : List ℕ) (r : Response) (to : ReplyTo) → count (map (written names) (handed_replies text r to)) ≡ 0
-  none_replies text r to = ap count (replies_written names text r to) ∙ by (is_some to.reply)
+  none_replies : (text : List ℕ) (r : Response) (to : ReplyTo) → count (write names (handed_replies text r to)) ≡ 0
+  none_replies text r to = by to.reply
     where
-      by : (b : Bool) → count (cond b (sent_reply text r to ∷ []) []) ≡ 0
-      by true = refl
-      by false = refl
+      by : (o : Option ℕ) → count (write names (cons_option (option_map (handed_reply text r to) o) [])) ≡ 0
+      by None = refl
+      by (Some k) = refl
 
-  pub none_replied : (text : List ℕ) (r : Response) (o : Option ReplyTo) → count (map (written names) (replied text r o).handed) ≡ 0
+  pub none_replied : (text : List ℕ) (r : Response) (o : Option ReplyTo) → count (write names (replied text r o)) ≡ 0
   none_replied text r None = refl
   none_replied text r (Some to) = none_replies text r to
 
-  pub none_timeouts : (faces : List (ℕ × OpenFace)) (ts : List Timeout) → count (map (written names) (handed_timeouts faces ts)) ≡ 0
-  none_timeouts faces ts = ap count (timeouts_written names faces ts) ∙ none (filter has_number_for ts)
+  pub none_timeouts : (faces : List (ℕ × OpenFace)) (ts : List Timeout) → count (write names (handed_timeouts faces ts)) ≡ 0
+  none_timeouts faces [] = refl
+  none_timeouts faces (t ∷ ts) = by t.reply (none_timeouts faces ts)
     where
-      none : (us : List Timeout) → count (map (sent_timeout faces) us) ≡ 0
-      none [] = refl
-      none (u ∷ us) = none us
+      by : (o : Option ℕ) → count (write names (handed_timeouts faces ts)) ≡ 0 → count (write names (cons_option (option_map (timed_out faces t) o) [] ++ handed_timeouts faces ts)) ≡ 0
+      by None none = none
+      by (Some k) none = none
 
   -- with no offer the one message is the final
-  pub asked_count : (q : QueryState) (face : FaceId) (text : List ℕ) (r : Request) (os : List QueryTargetQabl) → count (map (written names) (handed_requests q face text r os)) ≡ cond (is_none_left (map target_of os) && (q.requests == n)) 1 0
+  pub asked_count : (q : QueryState) (face : FaceId) (text : List ℕ) (r : Request) (os : List QueryTargetQabl) → count (write names (handed_requests q face text r os)) ≡ cond (is_none_left (map target_of os) && (q.requests == n)) 1 0
   asked_count q face text r [] = by (q.requests == n)
     where
       by : (b : Bool) → length (cond b (sent_final (record { number = q.requests; asker = face; id = r.id; qos = r.qos }) ∷ []) []) ≡ cond b 1 0
@@ -222,19 +228,19 @@ module _ (n : ℕ) (names : NamingState) where
       by false = refl
   asked_count q face text r (o ∷ os) = none_requests q text r (o ∷ os)
 
-  pub passed_count : (faces : List (ℕ × OpenFace)) (ts : List Timeout) (fs : List Final) → count (map (written names) (handed_timeouts faces ts ++ map handed_final fs)) ≡ finals_under n fs
+  pub passed_count : (faces : List (ℕ × OpenFace)) (ts : List Timeout) (fs : List Final) → count (write names (handed_timeouts faces ts ++ map text_final fs)) ≡ finals_under n fs
   passed_count faces ts fs =
       let none = none_timeouts faces ts in
       let told = finals_counted fs in
-      let both : count (map (written names) (handed_timeouts faces ts ++ map handed_final fs)) ≡ count (map (written names) (handed_timeouts faces ts)) + count (map (written names) (map handed_final fs)) =
-      ap count (map-append (written names) (handed_timeouts faces ts) (map handed_final fs))
-      ∙ ap length (filter-append (ends n) (map (written names) (handed_timeouts faces ts)) (map (written names) (map handed_final fs)))
-      ∙ length-append (filter (ends n) (map (written names) (handed_timeouts faces ts))) _ in
+      let both : count (write names (handed_timeouts faces ts ++ map text_final fs)) ≡ count (write names (handed_timeouts faces ts)) + count (write names (map text_final fs)) =
+      ap count (map-append (written names) (handed_timeouts faces ts) (map text_final fs))
+      ∙ ap length (filter-append (ends n) (write names (handed_timeouts faces ts)) (write names (map text_final fs)))
+      ∙ length-append (filter (ends n) (write names (handed_timeouts faces ts))) _ in
       omega (arith, none, told, both)
 
 -- ---- the balance of a call that nothing refuses
 abbrev Balanced : ℕ → State → TextCall → Type 0
-Balanced n s t = length (filter (ends n) (map (written s.names) (granted s.core t).handed)) + to_come (accepted s.core t).queries.closed n (accepted s.core t).queries ≡ to_come (accepted s.core t).queries.closed n s.core.queries
+Balanced n s t = length (filter (ends n) (write s.names (granted s.core t).messages)) + to_come (accepted s.core t).queries.closed n (accepted s.core t).queries ≡ to_come (accepted s.core t).queries.closed n s.core.queries
 
 replied_balance : (n : ℕ) (q : QueryState) (o : Option ReplyTo) → to_come (after_replied o q).closed n (after_replied o q) ≡ to_come (after_replied o q).closed n q
 replied_balance n q None = refl
@@ -253,7 +259,7 @@ granted_balance n s (declaring face id sd j m) h i = omega arith
 granted_balance n s (withdrawing face id) h i = omega arith
 granted_balance n s (asking face sd r now) h i =
     let q = s.core.queries in
-    let os = select s.core face sd r.target in
+    let os = select s.core face sd r in
     let told = asked_count n s.names q face (full_text sd) r os in
     let kept = ask_balance n face r.id r.qos (map target_of os) (deadline s.core r.timeout now) q (i.apart face.0 (is_there (is_open face.0 s.core) (all_passed (causes s.core (asking face sd r now)) h).0)) in
     omega (arith, told, kept)
@@ -282,17 +288,19 @@ granted_balance n s (finalizing face m set) h i = omega arith
 granted_balance n s unbuilt h i = omega arith
 
 follow_balance : (n : ℕ) (s : State) (t : TextCall) (o : Option Refusal) → refusal_of s.core t ≡ o → IsSound s →
-    length (filter (ends n) (write s.names (answered o (granted s.core t))).handed) + to_come (cond (is_accepted (answered o (granted s.core t)).outcome) (accepted_state s t) s).core.queries.closed n (cond (is_accepted (answered o (granted s.core t)).outcome) (accepted_state s t) s).core.queries
+    length (filter (ends n) (write s.names (answered o (granted s.core t)).messages)) + to_come (cond (is_accepted (answered o (granted s.core t)).outcome) (accepted_state s t) s).core.queries.closed n (cond (is_accepted (answered o (granted s.core t)).outcome) (accepted_state s t) s).core.queries
     ≡ to_come (cond (is_accepted (answered o (granted s.core t)).outcome) (accepted_state s t) s).core.queries.closed n s.core.queries
 follow_balance n s t (Some r) e i = omega arith
 follow_balance n s t None e i = by (is_accepted (granted s.core t).outcome) (granted_is_accepted s.core t e)
   where
-    by : (b : Bool) → b ≡ true → length (filter (ends n) (map (written s.names) (granted s.core t).handed)) + to_come (cond b (accepted_state s t) s).core.queries.closed n (cond b (accepted_state s t) s).core.queries ≡ to_come (cond b (accepted_state s t) s).core.queries.closed n s.core.queries
+    by : (b : Bool) → b ≡ true → length (filter (ends n) (write s.names (granted s.core t).messages)) + to_come (cond b (accepted_state s t) s).core.queries.closed n (cond b (accepted_state s t) s).core.queries ≡ to_come (cond b (accepted_state s t) s).core.queries.closed n s.core.queries
     by true g = granted_balance n s t e i
     by false g = absurd (false≢true g)
 
 pub call_balance : (n : ℕ) (s : State) (c : Call) → IsSound s → finals_of n (step s c) + to_come (after s c).core.queries.closed n (after s c).core.queries ≡ to_come (after s c).core.queries.closed n s.core.queries
-call_balance n s c i = follow_balance n s (read s c) (refusal_of s.core (read s c)) refl i
+call_balance n s c i =
+    by_plain (λ t z. length (filter (ends n) t.handed) + to_come z.core.queries.closed n z.core.queries ≡ to_come z.core.queries.closed n s.core.queries) s (read s c)
+    (follow_balance n s (read s c) (refusal_of s.core (read s c)) refl i)
 
 pub call_standing : (s : State) (c : Call) → IsSound s → any_over (after s c).core.queries.records ≡ false
-call_standing s c i = (follow_sound s (read s c) i).standing
+call_standing s c i = (after_sound s c i).standing

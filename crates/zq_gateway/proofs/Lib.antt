@@ -1,5 +1,7 @@
 pub mod Entries
 pub mod Writing
+pub mod Hearing
+pub mod Frame
 pub mod Below
 pub mod Lent
 pub mod Replies

@@ -16,7 +16,8 @@ use Rattle.zq_gateway.specs.TextCalls.{TextCall, opening, closing, naming, unnam
 use Rattle.zq_gateway.specs.Deciding.{decide, is_accepted, accepted, after_replied}
 use Rattle.zq_gateway.specs.Machine.{follow, accepted_state, after, steps_from, state_after}
 use Rattle.zq_gateway.specs.Headline.{finals_over, to_come}
-use Rattle.zq_gateway.proofs.Finals.{IsSound, put_closed, timing_closed, call_balance, follow_sound, opening_sound}
+use Rattle.zq_gateway.proofs.Finals.{IsSound, put_closed, timing_closed, call_balance, after_sound, opening_sound}
+use Rattle.zq_gateway.proofs.Writing.{settles_plainly}
 use Rattle.zq_key.proofs.Sorted.{has_put}
 
 -- ---- a face that was closed stays so
@@ -47,6 +48,9 @@ follow_grows s t f h = by (is_accepted (decide s.core t).outcome) h
     by true g = granted_grows s.core t f g
     by false g = g
 
+after_grows : (s : State) (c : Call) (f : ℕ) → is_closed (after s c).core.queries.closed f ≡ false → is_closed s.core.queries.closed f ≡ false
+after_grows s c f h = follow_grows s (read s c) f (ap (λ (z : State). is_closed z.core.queries.closed f) (sym (settles_plainly s (read s c))) ∙ h)
+
 -- ---- with more faces closed fewer finals are owed
 pub owed_less : (old new : List ℕ) (n : ℕ) → ((f : ℕ) → is_closed new f ≡ false → is_closed old f ≡ false) → (rs : List Record) → owed_by new n rs ≤ owed_by old n rs
 owed_less old new n grows [] = omega arith
@@ -65,9 +69,9 @@ owed_less old new n grows (r ∷ rs) = by (r.number == n) (is_closed new r.asker
 pub run_balance : (n : ℕ) (cs : List Call) (s : State) → IsSound s → finals_over n (steps_from s cs) + to_come (state_after s cs).core.queries.closed n (state_after s cs).core.queries ≤ to_come s.core.queries.closed n s.core.queries
 run_balance n [] s i = omega arith
 run_balance n (c ∷ cs) s i =
-    let rest = run_balance n cs (after s c) (follow_sound s (read s c) i) in
+    let rest = run_balance n cs (after s c) (after_sound s c i) in
     let now = call_balance n s c i in
-    let less = owed_less s.core.queries.closed (after s c).core.queries.closed n (follow_grows s (read s c)) s.core.queries.records in
+    let less = owed_less s.core.queries.closed (after s c).core.queries.closed n (after_grows s c) s.core.queries.records in
     omega (arith, rest, now, less)
 
 pub one_at_first : (config : Settings) (n : ℕ) → to_come (opening_state config).core.queries.closed n (opening_state config).core.queries ≤ 1

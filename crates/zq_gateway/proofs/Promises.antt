@@ -1,14 +1,13 @@
 -- What each call of a run promises of requests, replies and refusals.
 use Rattle.std.proofs.Common.{◌≡◌, ℕ, ◌+◌, ◌<◌, ◌^◌, Bool, true, false, cond, not, List, [], ◌∷◌, ◌++◌, map, length, Option, Some, None, refl, ap, ◌∙◌, arith, true≢false}
-use Rattle.std.specs.List.{filter, list_any}
+use Rattle.std.specs.List.{cons_option, list_any}
 use Rattle.std.specs.Prelude.{◌||◌, ◌==◌, unwrap_or}
-use Rattle.std.specs.Option.{is_some}
+use Rattle.std.specs.Option.{is_some, option_map}
 use Rattle.std.proofs.lemmas.Bool.{false≢true, or_parts}
 use Rattle.std.proofs.lemmas.List.{map-append}
 use Rattle.zq_key.specs.Key.{is_key, is_chunk}
 use Rattle.zq_key.specs.declared.message.FaceId.{FaceId}
 use Rattle.zq_key.specs.declared.message.Request.{Request}
-use Rattle.zq_key.specs.declared.message.QueryTarget.{QueryTarget}
 use Rattle.zq_key.specs.declared.message.Response.{Response}
 use Rattle.zq_hat.specs.declared.types.QueryTargetQabl.{QueryTargetQabl}
 use Rattle.zq_query.specs.declared.records.Final.{Final}
@@ -17,7 +16,7 @@ use Rattle.zq_query.specs.declared.records.Timeout.{Timeout}
 use Rattle.zq_query.specs.Closing.{closing_finals, finals_after, finals_landed}
 use Rattle.zq_query.specs.Records.{QueryState, is_entry, is_pending, next_reply, next_id}
 use Rattle.zq_query.specs.Asking.{given_id, is_full}
-use Rattle.zq_query.specs.Polling.{timeouts, has_number_for}
+use Rattle.zq_query.specs.Polling.{timeouts}
 use Rattle.zq_query.proofs.Ids.{next_id_is_new}
 use Rattle.zq_naming.specs.Naming.{NamingState, best, face_naming}
 use Rattle.zq_naming.specs.declared.said.Said.{Said}
@@ -28,16 +27,19 @@ use Rattle.zq_gateway.specs.declared.call.Call.TheVariants as call
 use Rattle.zq_gateway.specs.declared.call.Handed.{Handed}
 use Rattle.zq_gateway.specs.declared.call.Outcome.TheVariants as outcome
 use Rattle.zq_gateway.specs.declared.call.Refusal.{Refusal}
+use Rattle.zq_gateway.specs.declared.call.Step.{Step}
 use Rattle.zq_gateway.specs.declared.face.OpenFace.{OpenFace}
 use Rattle.zq_gateway.specs.State.{State, Core, at}
 use Rattle.zq_gateway.specs.Selecting.{select, select_for, full_text, target_of}
 use Rattle.zq_gateway.specs.TextCalls.{TextCall, opening, closing, naming, unnaming, declaring, withdrawing, asking, replying, ending, reporting, passing, listing, finalizing, unbuilt, read, said as said_by_face}
-use Rattle.zq_gateway.specs.Deciding.{passing_finals, Cause, first_of, causes, refusal_of, granted, answered, is_accepted, targets, handed_final, handed_request, handed_requests, handed_replies, handed_timeouts, replied}
-use Rattle.zq_gateway.specs.Machine.{written, write, answer, accepted_state, step, sent_final, sent_reply, sent_timeout}
+use Rattle.zq_gateway.specs.Deciding.{replied_outcome, passing_finals, Cause, first_of, causes, refusal_of, granted, answered, is_accepted, targets, handed_reply, timed_out, handed_request, handed_requests, handed_replies, handed_timeouts, replied}
+use Rattle.zq_gateway.specs.Machine.{answer, accepted_state, step}
+use Rattle.zq_gateway.specs.Messages.{Decided, text_final}
+use Rattle.zq_gateway.specs.Writing.{sent_final, write, written}
 use Rattle.zq_gateway.specs.Headline.{HandsOn, HandsEach, HandsRequest, RequestPromise, HandsReply, ReplyPromise, RefusesBy, asks, replies_to}
 use Rattle.zq_gateway.proofs.Routes.{none_to_asker}
 use Rattle.zq_gateway.specs.Asked.{is_own}
-use Rattle.zq_gateway.proofs.Writing.{finals_written, replies_written, timeouts_written}
+use Rattle.zq_gateway.proofs.Writing.{answers_plainly, by_plain, finals_written, plainly, settles_plainly}
 use Rattle.zq_gateway.proofs.Replies.{next-pending}
 
 key_some : (t : List ℕ) → is_key t ≡ true → 0 < length t
@@ -71,6 +73,8 @@ module _ (s : State) (text : List ℕ) (r : Request) (some : 0 < length text) wh
   hands o h = record {
     to = refl;
     number = refl;
+    reply = refl;
+    leaves = refl;
     copy = (
       record { id = given_id s.core.queries o.face; wire = best (face_naming o.face.0 s.names) text; target = r.target; timeout = r.timeout; node = o.node; qos = r.qos; payload = r.payload },
       refl,
@@ -86,14 +90,14 @@ module _ (s : State) (text : List ℕ) (r : Request) (some : 0 < length text) wh
     );
   }
 
-  hands_each : (os : List QueryTargetQabl) → list_any (is_full s.core.queries) (map target_of os) ≡ false → HandsEach s text r os (map (written s.names) (map (handed_request s.core.queries text r) os))
+  hands_each : (os : List QueryTargetQabl) → list_any (is_full s.core.queries) (map target_of os) ≡ false → HandsEach s text r os (write s.names (map (handed_request s.core.queries text r) os))
   hands_each [] h = tt
   hands_each (o ∷ os) h =
       let p = or_parts (is_full s.core.queries o.face) (list_any (is_full s.core.queries) (map target_of os)) h in
       (hands o p.0, hands_each os p.1)
 
 -- what is selected is selected on a key
-selected_key : (c : Core) (asker : FaceId) (s : Said) (t : QueryTarget) (o : Option OpenFace) (x : QueryTargetQabl) (xs : List QueryTargetQabl) → select_for c asker s t o ≡ x ∷ xs → 0 < length (full_text s)
+selected_key : (c : Core) (asker : FaceId) (s : Said) (t : Request) (o : Option OpenFace) (x : QueryTargetQabl) (xs : List QueryTargetQabl) → select_for c asker s t o ≡ x ∷ xs → 0 < length (full_text s)
 selected_key c asker s t None x xs e = absurd (cc)
 selected_key c asker said.Unscoped t (Some f) x xs e = absurd (cc)
 selected_key c asker said.Empty t (Some f) x xs e = absurd (cc)
@@ -103,10 +107,10 @@ selected_key c asker (said.Full text) t (Some f) x xs e = by (is_key text) refl 
     by true k ys g = key_some text k
     by false k ys g = absurd (cc)
 
-requests_handed : (s : State) (face : FaceId) (sd : Said) (r : Request) (os : List QueryTargetQabl) → select s.core face sd r.target ≡ os → list_any (is_full s.core.queries) (map target_of os) ≡ false
-    → HandsRequest s face (full_text sd) r os (map (written s.names) (handed_requests s.core.queries face (full_text sd) r os))
+requests_handed : (s : State) (face : FaceId) (sd : Said) (r : Request) (os : List QueryTargetQabl) → select s.core face sd r ≡ os → list_any (is_full s.core.queries) (map target_of os) ≡ false
+    → HandsRequest s face (full_text sd) r os (write s.names (handed_requests s.core.queries face (full_text sd) r os))
 requests_handed s face sd r [] e h = refl
-requests_handed s face sd r (o ∷ os) e h = hands_each s (full_text sd) r (selected_key s.core face sd r.target (at face.0 s.core.faces) o os e) (o ∷ os) h
+requests_handed s face sd r (o ∷ os) e h = hands_each s (full_text sd) r (selected_key s.core face sd r (at face.0 s.core.faces) o os e) (o ∷ os) h
 
 no_full : (s : State) (face : FaceId) (sd : Said) (r : Request) (now : ℕ) → refusal_of s.core (asking face sd r now) ≡ None → list_any (is_full s.core.queries) (targets s.core face sd r) ≡ false
 no_full s face sd r now h =
@@ -118,27 +122,27 @@ no_full s face sd r now h =
     second false b e = e
 
 asked_promise : (s : State) (face : FaceId) (sd : Said) (r : Request) (now : ℕ) (o : Option Refusal) → refusal_of s.core (asking face sd r now) ≡ o
-    → is_accepted (write s.names (answered o (granted s.core (asking face sd r now)))).outcome ≡ true
-    → ((write s.names (answered o (granted s.core (asking face sd r now)))).outcome ≡ outcome.Asked s.core.queries.requests)
-    × HandsRequest s face (full_text sd) r (select s.core face sd r.target) (write s.names (answered o (granted s.core (asking face sd r now)))).handed
-    × (list_any (is_own face) (select s.core face sd r.target) ≡ false)
+    → is_accepted (plainly s.names (answered o (granted s.core (asking face sd r now)))).outcome ≡ true
+    → ((plainly s.names (answered o (granted s.core (asking face sd r now)))).outcome ≡ outcome.Asked s.core.queries.requests)
+    × HandsRequest s face (full_text sd) r (select s.core face sd r) (plainly s.names (answered o (granted s.core (asking face sd r now)))).handed
+    × (list_any (is_own face) (select s.core face sd r) ≡ false)
 asked_promise s face sd r now (Some x) e a = absurd (false≢true a)
-asked_promise s face sd r now None e a = (refl, requests_handed s face sd r (select s.core face sd r.target) refl (no_full s face sd r now e), none_to_asker s.core face sd r.target)
+asked_promise s face sd r now None e a = (refl, requests_handed s face sd r (select s.core face sd r) refl (no_full s face sd r now e), none_to_asker s.core face sd r)
 
 -- ---- messages that are none of a kind
-no_finals_ask : (names : NamingState) (fs : List Final) → list_any asks (map (written names) (map handed_final fs)) ≡ false
+no_finals_ask : (names : NamingState) (fs : List Final) → list_any asks (write names (map text_final fs)) ≡ false
 no_finals_ask names [] = refl
 no_finals_ask names (f ∷ fs) = no_finals_ask names fs
 
-no_finals_reply : (names : NamingState) (fs : List Final) → list_any replies_to (map (written names) (map handed_final fs)) ≡ false
+no_finals_reply : (names : NamingState) (fs : List Final) → list_any replies_to (write names (map text_final fs)) ≡ false
 no_finals_reply names [] = refl
 no_finals_reply names (f ∷ fs) = no_finals_reply names fs
 
-no_requests_reply : (names : NamingState) (q : QueryState) (text : List ℕ) (r : Request) (os : List QueryTargetQabl) → list_any replies_to (map (written names) (map (handed_request q text r) os)) ≡ false
+no_requests_reply : (names : NamingState) (q : QueryState) (text : List ℕ) (r : Request) (os : List QueryTargetQabl) → list_any replies_to (write names (map (handed_request q text r) os)) ≡ false
 no_requests_reply names q text r [] = refl
 no_requests_reply names q text r (o ∷ os) = no_requests_reply names q text r os
 
-no_asking_replies : (names : NamingState) (q : QueryState) (face : FaceId) (text : List ℕ) (r : Request) (os : List QueryTargetQabl) → list_any replies_to (map (written names) (handed_requests q face text r os)) ≡ false
+no_asking_replies : (names : NamingState) (q : QueryState) (face : FaceId) (text : List ℕ) (r : Request) (os : List QueryTargetQabl) → list_any replies_to (write names (handed_requests q face text r os)) ≡ false
 no_asking_replies names q face text r [] = refl
 no_asking_replies names q face text r (o ∷ os) = no_requests_reply names q text r (o ∷ os)
 
@@ -150,21 +154,22 @@ any_both p (x ∷ xs) ys e h = by (p x) (list_any p xs) e (any_both p xs ys)
     by true b g more = absurd (true≢false g)
     by false b g more = more g h
 
-no_timeouts_ask : (names : NamingState) (faces : List (ℕ × OpenFace)) (ts : List Timeout) → list_any asks (map (written names) (handed_timeouts faces ts)) ≡ false
-no_timeouts_ask names faces ts = ap (list_any asks) (timeouts_written names faces ts) ∙ none (filter has_number_for ts)
+no_timeouts_ask : (names : NamingState) (faces : List (ℕ × OpenFace)) (ts : List Timeout) → list_any asks (write names (handed_timeouts faces ts)) ≡ false
+no_timeouts_ask names faces [] = refl
+no_timeouts_ask names faces (t ∷ ts) = by t.reply (no_timeouts_ask names faces ts)
   where
-    none : (us : List Timeout) → list_any asks (map (sent_timeout faces) us) ≡ false
-    none [] = refl
-    none (u ∷ us) = none us
+    by : (o : Option ℕ) → list_any asks (write names (handed_timeouts faces ts)) ≡ false → list_any asks (write names (cons_option (option_map (timed_out faces t) o) [] ++ handed_timeouts faces ts)) ≡ false
+    by None none = none
+    by (Some k) none = none
 
-no_replies_ask : (names : NamingState) (text : List ℕ) (r : Response) (to : ReplyTo) → list_any asks (map (written names) (handed_replies text r to)) ≡ false
-no_replies_ask names text r to = ap (list_any asks) (replies_written names text r to) ∙ by (is_some to.reply)
+no_replies_ask : (names : NamingState) (text : List ℕ) (r : Response) (to : ReplyTo) → list_any asks (write names (handed_replies text r to)) ≡ false
+no_replies_ask names text r to = by to.reply
   where
-    by : (b : Bool) → list_any asks (cond b (sent_reply text r to ∷ []) []) ≡ false
-    by true = refl
-    by false = refl
+    by : (o : Option ℕ) → list_any asks (write names (cons_option (option_map (handed_reply text r to) o) [])) ≡ false
+    by None = refl
+    by (Some k) = refl
 
-no_replied_asks : (names : NamingState) (text : List ℕ) (r : Response) (o : Option ReplyTo) → list_any asks (map (written names) (replied text r o).handed) ≡ false
+no_replied_asks : (names : NamingState) (text : List ℕ) (r : Response) (o : Option ReplyTo) → list_any asks (write names (replied text r o)) ≡ false
 no_replied_asks names text r None = refl
 no_replied_asks names text r (Some to) = no_replies_ask names text r to
 
@@ -184,7 +189,7 @@ is_asking (listing r t) = false
 is_asking (finalizing face m set) = false
 is_asking unbuilt = false
 
-granted_asks : (names : NamingState) (c : Core) (t : TextCall) → is_asking t ≡ false → list_any asks (map (written names) (granted c t).handed) ≡ false
+granted_asks : (names : NamingState) (c : Core) (t : TextCall) → is_asking t ≡ false → list_any asks (write names (granted c t).messages) ≡ false
 unfolding is_asking
 granted_asks names c (asking face s r now) h = absurd (true≢false h)
 granted_asks names c (opening o) h = refl
@@ -197,22 +202,24 @@ granted_asks names c (replying face s r) h = no_replied_asks names (full_text s)
 granted_asks names c (ending face rid) h = no_finals_ask names (finals_after (is_entry face.0 rid) c.queries.closed c.queries.records)
 granted_asks names c (reporting reply) h = no_finals_ask names (finals_landed reply c.queries.closed c.queries.records)
 granted_asks names c (passing now) h =
-    ap (list_any asks) (map-append (written names) (handed_timeouts c.faces (timeouts now c.queries)) (map handed_final (passing_finals now c.queries)))
-    ∙ any_both asks (map (written names) (handed_timeouts c.faces (timeouts now c.queries))) (map (written names) (map handed_final (passing_finals now c.queries))) (no_timeouts_ask names c.faces (timeouts now c.queries)) (no_finals_ask names (passing_finals now c.queries))
+    ap (list_any asks) (map-append (written names) (handed_timeouts c.faces (timeouts now c.queries)) (map text_final (passing_finals now c.queries)))
+    ∙ any_both asks (write names (handed_timeouts c.faces (timeouts now c.queries))) (write names (map text_final (passing_finals now c.queries))) (no_timeouts_ask names c.faces (timeouts now c.queries)) (no_finals_ask names (passing_finals now c.queries))
 granted_asks names c (listing r t) h = refl
 granted_asks names c (finalizing face m set) h = refl
 granted_asks names c unbuilt h = refl
 
 quiet_asks : (s : State) (t : TextCall) → is_asking t ≡ false → list_any asks (answer s t).handed ≡ false
-quiet_asks s t h = by (refusal_of s.core t)
+quiet_asks s t h = ap (λ (z : Step). list_any asks z.handed) (answers_plainly s t) ∙ by (refusal_of s.core t)
   where
-    by : (o : Option Refusal) → list_any asks (map (written s.names) (answered o (granted s.core t)).handed) ≡ false
+    by : (o : Option Refusal) → list_any asks (write s.names (answered o (granted s.core t)).messages) ≡ false
     by (Some r) = refl
     by None = granted_asks s.names s.core t h
 
 pub request_promise : (s : State) (c : Call) → RequestPromise s c (step s c)
 unfolding is_asking
-request_promise s (call.Request face r now) = asked_promise s face (said_by_face face r.wire s) r now (refusal_of s.core (asking face (said_by_face face r.wire s) r now)) refl
+request_promise s (call.Request face r now) =
+    by_plain (λ z _. RequestPromise s (call.Request face r now) z) s (read s (call.Request face r now))
+    (asked_promise s face (said_by_face face r.wire s) r now (refusal_of s.core (asking face (said_by_face face r.wire s) r now)) refl)
 request_promise s (call.Open o) = quiet_asks s (opening o) refl
 request_promise s (call.Close face) = quiet_asks s (closing face) refl
 request_promise s (call.DeclareKeyExpr face id wire) = quiet_asks s (read s (call.DeclareKeyExpr face id wire)) refl
@@ -247,11 +254,11 @@ is_replying (listing r t) = false
 is_replying (finalizing face m set) = false
 is_replying unbuilt = false
 
-granted_replies : (names : NamingState) (c : Core) (t : TextCall) → is_replying t ≡ false → list_any replies_to (map (written names) (granted c t).handed) ≡ false
+granted_replies : (names : NamingState) (c : Core) (t : TextCall) → is_replying t ≡ false → list_any replies_to (write names (granted c t).messages) ≡ false
 unfolding is_replying
 granted_replies names c (replying face s r) h = absurd (true≢false h)
 granted_replies names c (passing now) h = absurd (true≢false h)
-granted_replies names c (asking face s r now) h = no_asking_replies names c.queries face (full_text s) r (select c face s r.target)
+granted_replies names c (asking face s r now) h = no_asking_replies names c.queries face (full_text s) r (select c face s r)
 granted_replies names c (opening o) h = refl
 granted_replies names c (closing face) h = no_finals_reply names (closing_finals face.0 c.queries)
 granted_replies names c (naming face id s x) h = refl
@@ -265,31 +272,37 @@ granted_replies names c (finalizing face m set) h = refl
 granted_replies names c unbuilt h = refl
 
 quiet_replies : (s : State) (t : TextCall) → is_replying t ≡ false → list_any replies_to (answer s t).handed ≡ false
-quiet_replies s t h = by (refusal_of s.core t)
+quiet_replies s t h = ap (λ (z : Step). list_any replies_to z.handed) (answers_plainly s t) ∙ by (refusal_of s.core t)
   where
-    by : (o : Option Refusal) → list_any replies_to (map (written s.names) (answered o (granted s.core t)).handed) ≡ false
+    by : (o : Option Refusal) → list_any replies_to (write s.names (answered o (granted s.core t)).messages) ≡ false
     by (Some r) = refl
     by None = granted_replies s.names s.core t h
 
+abbrev reply_decided : List ℕ → Response → Option ReplyTo → Decided
+reply_decided text r to = record { outcome = replied_outcome to; messages = replied text r to; told = [] }
+
 replied_promise : (s : State) (face : FaceId) (r : Response) (o : Option Refusal) (to : Option ReplyTo) → next_reply face.0 r.rid s.core.queries ≡ to
-    → is_accepted (write s.names (answered o (replied (full_text (said_by_face face r.wire s)) r to))).outcome ≡ true
-    → HandsReply s face r (write s.names (answered o (replied (full_text (said_by_face face r.wire s)) r to)))
+    → is_accepted (plainly s.names (answered o (reply_decided (full_text (said_by_face face r.wire s)) r to))).outcome ≡ true
+    → HandsReply s face r (plainly s.names (answered o (reply_decided (full_text (said_by_face face r.wire s)) r to)))
 replied_promise s face r (Some x) to e a = absurd (false≢true a)
 replied_promise s face r None None e a = absurd (false≢true a)
-replied_promise s face r None (Some to) e a = record { goes = to; there = e; outcome = refl; handed = replies_written s.names (full_text (said_by_face face r.wire s)) r to }
+replied_promise s face r None (Some to) e a = record { goes = to; there = e; outcome = refl; handed = refl }
 
-timed_promise : (s : State) (now : ℕ) (o : Option Refusal) → is_accepted (write s.names (answered o (granted s.core (passing now)))).outcome ≡ true
-    → (write s.names (answered o (granted s.core (passing now)))).handed ≡ map (sent_timeout s.core.faces) (filter has_number_for (timeouts now s.core.queries)) ++ map sent_final (passing_finals now s.core.queries)
+timed_promise : (s : State) (now : ℕ) (o : Option Refusal) → is_accepted (plainly s.names (answered o (granted s.core (passing now)))).outcome ≡ true
+    → (plainly s.names (answered o (granted s.core (passing now)))).handed ≡ write s.names (handed_timeouts s.core.faces (timeouts now s.core.queries)) ++ map sent_final (passing_finals now s.core.queries)
 timed_promise s now (Some x) a = absurd (false≢true a)
 timed_promise s now None a =
-    map-append (written s.names) (handed_timeouts s.core.faces (timeouts now s.core.queries)) (map handed_final (passing_finals now s.core.queries))
-    ∙ ap (λ l. l ++ map (written s.names) (map handed_final (passing_finals now s.core.queries))) (timeouts_written s.names s.core.faces (timeouts now s.core.queries))
-    ∙ ap (λ l. map (sent_timeout s.core.faces) (filter has_number_for (timeouts now s.core.queries)) ++ l) (finals_written s.names (passing_finals now s.core.queries))
+    map-append (written s.names) (handed_timeouts s.core.faces (timeouts now s.core.queries)) (map text_final (passing_finals now s.core.queries))
+    ∙ ap (λ l. write s.names (handed_timeouts s.core.faces (timeouts now s.core.queries)) ++ l) (finals_written s.names (passing_finals now s.core.queries))
 
 pub reply_promise : (s : State) (c : Call) → ReplyPromise s c (step s c)
 unfolding is_replying
-reply_promise s (call.Response face r) = replied_promise s face r (refusal_of s.core (read s (call.Response face r))) (next_reply face.0 r.rid s.core.queries) refl
-reply_promise s (call.Poll now) = timed_promise s now (refusal_of s.core (passing now))
+reply_promise s (call.Response face r) =
+    by_plain (λ z _. is_accepted z.outcome ≡ true → HandsReply s face r z) s (read s (call.Response face r))
+    (replied_promise s face r (refusal_of s.core (read s (call.Response face r))) (next_reply face.0 r.rid s.core.queries) refl)
+reply_promise s (call.Poll now) =
+    by_plain (λ z _. is_accepted z.outcome ≡ true → z.handed ≡ write s.names (handed_timeouts s.core.faces (timeouts now s.core.queries)) ++ map sent_final (passing_finals now s.core.queries)) s (passing now)
+    (timed_promise s now (refusal_of s.core (passing now)))
 reply_promise s (call.Request face r now) = quiet_replies s (read s (call.Request face r now)) refl
 reply_promise s (call.Open o) = quiet_replies s (opening o) refl
 reply_promise s (call.Close face) = quiet_replies s (closing face) refl
@@ -307,14 +320,14 @@ reply_promise s (call.SetNetwork r net) = quiet_replies s unbuilt refl
 reply_promise s (call.SetNodeIds face ids) = quiet_replies s unbuilt refl
 
 -- ---- refusals
-pending_there : (o : Option ReplyTo) (p : Bool) → is_some o ≡ p → not p ≡ false → (text : List ℕ) (r : Response) → is_accepted (replied text r o).outcome ≡ true
-pending_there None p e h text r = absurd (true≢false (ap not e ∙ h))
-pending_there (Some to) p e h text r = refl
+pending_there : (o : Option ReplyTo) (p : Bool) → is_some o ≡ p → not p ≡ false → is_accepted (replied_outcome o) ≡ true
+pending_there None p e h = absurd (true≢false (ap not e ∙ h))
+pending_there (Some to) p e h = refl
 
 pub granted_is_accepted : (c : Core) (t : TextCall) → refusal_of c t ≡ None → is_accepted (granted c t).outcome ≡ true
 granted_is_accepted c (replying face s r) h =
     let p = all_passed (causes c (replying face s r)) h in
-    pending_there (next_reply face.0 r.rid c.queries) (is_pending face.0 r.rid c.queries.records) (next-pending face.0 r.rid c.queries) p.1.1.0 (full_text s) r
+    pending_there (next_reply face.0 r.rid c.queries) (is_pending face.0 r.rid c.queries.records) (next-pending face.0 r.rid c.queries) p.1.1.0
 granted_is_accepted c (passing now) h = refl
 granted_is_accepted c (asking face s r now) h = refl
 granted_is_accepted c (opening o) h = refl
@@ -333,5 +346,8 @@ pub refusal_promise : (s : State) (c : Call) → RefusesBy (refusal_of s.core (r
 refusal_promise s c = by (refusal_of s.core (read s c)) refl
   where
     by : (o : Option Refusal) → refusal_of s.core (read s c) ≡ o → RefusesBy o s c
-    by (Some r) e = (ap (λ p. write s.names (answered p (granted s.core (read s c)))) e, ap (λ p. cond (is_accepted (answered p (granted s.core (read s c))).outcome) (accepted_state s (read s c)) s) e)
+    by (Some r) e = (
+      answers_plainly s (read s c) ∙ ap (λ p. plainly s.names (answered p (granted s.core (read s c)))) e,
+      settles_plainly s (read s c) ∙ ap (λ p. cond (is_accepted (answered p (granted s.core (read s c))).outcome) (accepted_state s (read s c)) s) e,
+    )
     by None e = ap (λ p. is_accepted (answered p (granted s.core (read s c))).outcome) e ∙ granted_is_accepted s.core (read s c) e

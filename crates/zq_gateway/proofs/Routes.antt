@@ -8,6 +8,7 @@ use Rattle.std.specs.Map.{keys_of, values_of}
 use Rattle.zq_key.specs.declared.message.FaceId.{FaceId}
 use Rattle.zq_key.specs.declared.message.QueryTarget.{QueryTarget}
 use Rattle.zq_key.specs.declared.message.QueryTarget.TheVariants as mode
+use Rattle.zq_key.specs.declared.message.Request.{Request}
 use Rattle.zq_key.specs.declared.message.Zid.{Zid}
 use Rattle.zq_hat.specs.declared.types.QueryTargetQabl.{QueryTargetQabl}
 use Rattle.zq_hat.specs.State.{HatState}
@@ -152,13 +153,13 @@ module _ (faces : List (ℕ × OpenFace)) (tables : List (ℕ × Gateways)) (own
       (none_offered (is_own asker) (chosen target (filter (passes faces tables own asker opened) os)) r none (none_chosen (is_own asker) target _ (none_own os)))
 
 -- what is selected is never the asker
-pub none_to_asker : (c : Core) (asker : FaceId) (s : Said) (target : QueryTarget) → list_any (is_own asker) (select c asker s target) ≡ false
-none_to_asker c asker s target = by (at asker.0 c.faces)
+pub none_to_asker : (c : Core) (asker : FaceId) (s : Said) (r : Request) → list_any (is_own asker) (select c asker s r) ≡ false
+none_to_asker c asker s r = by (at asker.0 c.faces)
   where
-    by : (o : Option OpenFace) → list_any (is_own asker) (select_for c asker s target o) ≡ false
+    by : (o : Option OpenFace) → list_any (is_own asker) (select_for c asker s r o) ≡ false
     by None = refl
     by (Some opened) = keyed (says_key s)
       where
-        keyed : (b : Bool) → list_any (is_own asker) (cond b (values_of (route_for c asker opened (full_text s) target)) []) ≡ false
-        keyed true = none_in_parts c.faces c.tables c.config.zid asker opened (full_text s) target (values_of c.hats) [] refl
+        keyed : (b : Bool) → list_any (is_own asker) (cond b (values_of (route_for c asker opened (full_text s) r)) []) ≡ false
+        keyed true = none_in_parts c.faces c.tables c.config.zid asker opened (full_text s) r.target (values_of c.hats) [] refl
         keyed false = refl

@@ -58,37 +58,37 @@ module _ (φ : List ℕ → List ℕ) where
       ap (λ o. option_map_or (λ x. x ∷ []) o (map (move_offer φ) os)) (find-map (move_offer φ) is_complete is_complete (λ _. refl) os)
       ∙ best_by os (find is_complete os)
 
-  module _ (keeps : Keeps φ) (c : Core) (asker : FaceId) (t : QueryTarget) where
+  module _ (keeps : Keeps φ) (c : Core) (asker : FaceId) (r : Request) where
     module _ (opened : OpenFace) (key : List ℕ) where
       abbrev is_passed : QueryTargetQabl → Bool
       is_passed = passes c.faces c.tables c.config.zid asker opened
 
       abbrev part : List ℕ → List (ℕ × QueryTargetQabl) → HatState → List (ℕ × QueryTargetQabl)
-      part q = with_part c.faces c.tables c.config.zid asker opened q t
+      part q = with_part c.faces c.tables c.config.zid asker opened q r.target
 
       part_moved : (route : List (ℕ × QueryTargetQabl)) (h : HatState) → part (φ key) (map routed route) (move_hat φ h) ≡ map routed (part key route h)
       part_moved route h =
-          ap (λ os. with_offers (map routed route) (chosen t (filter is_passed os))) (offers_moved φ keeps h opened.region key)
-          ∙ ap (λ os. with_offers (map routed route) (chosen t os)) (filter-map (move_offer φ) is_passed is_passed (λ _. refl) (offers_of h opened.region key))
-          ∙ ap (with_offers (map routed route)) (chosen_moved t (filter is_passed (offers_of h opened.region key)))
-          ∙ added_moved route (chosen t (filter is_passed (offers_of h opened.region key)))
+          ap (λ os. with_offers (map routed route) (chosen r.target (filter is_passed os))) (offers_moved φ keeps h opened.region key)
+          ∙ ap (λ os. with_offers (map routed route) (chosen r.target os)) (filter-map (move_offer φ) is_passed is_passed (λ _. refl) (offers_of h opened.region key))
+          ∙ ap (with_offers (map routed route)) (chosen_moved r.target (filter is_passed (offers_of h opened.region key)))
+          ∙ added_moved route (chosen r.target (filter is_passed (offers_of h opened.region key)))
 
-      route_moved : route_for (move_core φ c) asker opened (φ key) t ≡ map routed (route_for c asker opened key t)
+      route_moved : route_for (move_core φ c) asker opened (φ key) r ≡ map routed (route_for c asker opened key r)
       route_moved = ap (fold (part (φ key)) []) (values-map (move_hat φ) c.hats) ∙ fold-moved (move_hat φ) (map routed) (part (φ key)) (part key) part_moved [] (values_of c.hats)
 
-      offers_by : (b : Bool) → cond b (values_of (route_for (move_core φ c) asker opened (φ key) t)) [] ≡ map (move_offer φ) (cond b (values_of (route_for c asker opened key t)) [])
-      offers_by true = ap values_of route_moved ∙ values-map (move_offer φ) (route_for c asker opened key t)
+      offers_by : (b : Bool) → cond b (values_of (route_for (move_core φ c) asker opened (φ key) r)) [] ≡ map (move_offer φ) (cond b (values_of (route_for c asker opened key r)) [])
+      offers_by true = ap values_of route_moved ∙ values-map (move_offer φ) (route_for c asker opened key r)
       offers_by false = refl
 
-    selected : (s : Said) (o : Option OpenFace) → select_for (move_core φ c) asker (move_said φ s) t o ≡ map (move_offer φ) (select_for c asker s t o)
+    selected : (s : Said) (o : Option OpenFace) → select_for (move_core φ c) asker (move_said φ s) r o ≡ map (move_offer φ) (select_for c asker s r o)
     selected s None = refl
     selected said.Unscoped (Some opened) = refl
     selected said.Empty (Some opened) = refl
     selected (said.Full text) (Some opened) =
-        ap (λ b. cond b (values_of (route_for (move_core φ c) asker opened (φ text) t)) []) (keeps.key text) ∙ offers_by opened text (is_key text)
+        ap (λ b. cond b (values_of (route_for (move_core φ c) asker opened (φ text) r)) []) (keeps.key text) ∙ offers_by opened text (is_key text)
 
-    pub select_moved : (s : Said) → select (move_core φ c) asker (move_said φ s) t ≡ map (move_offer φ) (select c asker s t)
+    pub select_moved : (s : Said) → select (move_core φ c) asker (move_said φ s) r ≡ map (move_offer φ) (select c asker s r)
     select_moved s = selected s (at asker.0 c.faces)
 
   pub targets_moved : (keeps : Keeps φ) (c : Core) (asker : FaceId) (s : Said) (r : Request) → targets (move_core φ c) asker (move_said φ s) r ≡ targets c asker s r
-  targets_moved keeps c asker s r = ap (map target_of) (select_moved keeps c asker r.target s) ∙ map-map (move_offer φ) target_of target_of (λ _. refl) (select c asker s r.target)
+  targets_moved keeps c asker s r = ap (map target_of) (select_moved keeps c asker r s) ∙ map-map (move_offer φ) target_of target_of (λ _. refl) (select c asker s r)

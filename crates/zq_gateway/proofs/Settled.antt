@@ -19,13 +19,15 @@ use Rattle.zq_gateway.specs.State.{State, opening_state}
 use Rattle.zq_gateway.specs.Selecting.{full_text, select, target_of}
 use Rattle.zq_gateway.specs.TextCalls.{TextCall, opening, closing, naming, unnaming, declaring, withdrawing, asking, replying, ending, reporting, passing, listing, finalizing, unbuilt, read}
 use Rattle.zq_gateway.specs.Deciding.{refusal_of, granted, answered, is_accepted, accepted, after_replied, deadline, passing_finals}
-use Rattle.zq_gateway.specs.Machine.{written, write, accepted_state, after, state_after, step}
+use Rattle.zq_gateway.specs.Machine.{accepted_state, after, state_after, step}
+use Rattle.zq_gateway.specs.Writing.{write}
 use Rattle.zq_gateway.specs.Waiting.{IsSettled, is_same, waits}
 use Rattle.zq_gateway.specs.Headline.{FinalPromise, ends, finals_of, to_come}
 use Rattle.zq_gateway.proofs.Finals.{IsSound, asked_count, call_balance, call_standing, finals_counted, none_replied, passed_count}
 use Rattle.zq_gateway.proofs.OneFinal.{one_at_first}
 use Rattle.zq_gateway.proofs.Promises.{granted_is_accepted}
 use Rattle.zq_gateway.proofs.Silent.{silent}
+use Rattle.zq_gateway.proofs.Writing.{by_plain}
 
 -- how many records have the number, and one where it is still to be given
 abbrev pub numbers : ℕ → QueryState → ℕ
@@ -69,7 +71,7 @@ replied_numbers n q None = refl
 replied_numbers n q (Some to) = put_numbers n to.number q (is_some to.reply)
 
 abbrev Fewer : ℕ → State → TextCall → Type 0
-Fewer n s t = length (filter (ends n) (map (written s.names) (granted s.core t).handed)) + numbers n (accepted s.core t).queries ≤ numbers n s.core.queries
+Fewer n s t = length (filter (ends n) (write s.names (granted s.core t).messages)) + numbers n (accepted s.core t).queries ≤ numbers n s.core.queries
 
 granted_numbers : (n : ℕ) (s : State) (t : TextCall) → Fewer n s t
 granted_numbers n s (opening o) = omega arith
@@ -84,7 +86,7 @@ granted_numbers n s (declaring face id sd j m) = omega arith
 granted_numbers n s (withdrawing face id) = omega arith
 granted_numbers n s (asking face sd r now) =
     let q = s.core.queries in
-    let os = select s.core face sd r.target in
+    let os = select s.core face sd r in
     let told = asked_count n s.names q face (full_text sd) r os in
     let kept : cond (is_none_left (map target_of os) && (q.requests == n)) 1 0 + numbers n (accepted s.core (asking face sd r now)).queries ≡ numbers n q = ask_balance n face r.id r.qos (map target_of os) (deadline s.core r.timeout now) (record q { closed = [] }) refl in
     omega (arith, told, kept)
@@ -114,17 +116,18 @@ granted_numbers n s (finalizing face m set) = omega arith
 granted_numbers n s unbuilt = omega arith
 
 follow_numbers : (n : ℕ) (s : State) (t : TextCall) (o : Option Refusal) → refusal_of s.core t ≡ o →
-    length (filter (ends n) (write s.names (answered o (granted s.core t))).handed) + numbers n (cond (is_accepted (answered o (granted s.core t)).outcome) (accepted_state s t) s).core.queries
+    length (filter (ends n) (write s.names (answered o (granted s.core t)).messages)) + numbers n (cond (is_accepted (answered o (granted s.core t)).outcome) (accepted_state s t) s).core.queries
     ≤ numbers n s.core.queries
 follow_numbers n s t (Some r) e = omega arith
 follow_numbers n s t None e = by (is_accepted (granted s.core t).outcome) (granted_is_accepted s.core t e) (granted_numbers n s t)
   where
-    by : (b : Bool) → b ≡ true → Fewer n s t → length (filter (ends n) (map (written s.names) (granted s.core t).handed)) + numbers n (cond b (accepted_state s t) s).core.queries ≤ numbers n s.core.queries
+    by : (b : Bool) → b ≡ true → Fewer n s t → length (filter (ends n) (write s.names (granted s.core t).messages)) + numbers n (cond b (accepted_state s t) s).core.queries ≤ numbers n s.core.queries
     by true g l = l
     by false g l = absurd (false≢true g)
 
 call_numbers : (n : ℕ) (s : State) (c : Call) → finals_of n (step s c) + numbers n (after s c).core.queries ≤ numbers n s.core.queries
-call_numbers n s c = follow_numbers n s (read s c) (refusal_of s.core (read s c)) refl
+call_numbers n s c =
+    by_plain (λ t z. length (filter (ends n) t.handed) + numbers n z.core.queries ≤ numbers n s.core.queries) s (read s c) (follow_numbers n s (read s c) (refusal_of s.core (read s c)) refl)
 
 -- each number stands once at most, all along a run
 still_once : (n : ℕ) (cs : List Call) (s : State) → numbers n s.core.queries ≤ 1 → numbers n (state_after s cs).core.queries ≤ 1

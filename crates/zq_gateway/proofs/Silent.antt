@@ -22,16 +22,19 @@ use Rattle.zq_naming.specs.Naming.{NamingState}
 use Rattle.zq_gateway.specs.declared.call.Call.{Call}
 use Rattle.zq_gateway.specs.declared.call.Handed.{Handed}
 use Rattle.zq_gateway.specs.declared.call.Refusal.{Refusal}
+use Rattle.zq_gateway.specs.declared.call.Step.{Step}
 use Rattle.zq_gateway.specs.declared.face.OpenFace.{OpenFace}
 use Rattle.zq_gateway.specs.Configs.{Settings}
 use Rattle.zq_gateway.specs.State.{State, opening_state}
 use Rattle.zq_gateway.specs.Selecting.{full_text, select}
 use Rattle.zq_gateway.specs.TextCalls.{TextCall, opening, closing, naming, unnaming, declaring, withdrawing, asking, replying, ending, reporting, passing, listing, finalizing, unbuilt, read}
-use Rattle.zq_gateway.specs.Deciding.{answered, granted, handed_final, handed_replies, handed_request, handed_requests, handed_timeouts, passing_finals, refusal_of, replied}
-use Rattle.zq_gateway.specs.Machine.{sent_timeout, state_after, step, steps_from, written}
+use Rattle.zq_gateway.specs.Deciding.{timed_out as text_timeout, answered, granted, handed_replies, handed_request, handed_requests, handed_timeouts, passing_finals, refusal_of, replied}
+use Rattle.zq_gateway.specs.Machine.{state_after, step, steps_from}
+use Rattle.zq_gateway.specs.Messages.{text_final}
+use Rattle.zq_gateway.specs.Writing.{write, written}
 use Rattle.zq_gateway.specs.Waiting.{is_of}
 use Rattle.zq_gateway.specs.Headline.{finals_over, to_come}
-use Rattle.zq_gateway.proofs.Writing.{timeouts_written}
+use Rattle.zq_gateway.proofs.Writing.{answers_plainly}
 use Rattle.zq_gateway.proofs.Finals.{opening_sound}
 use Rattle.zq_gateway.proofs.OneFinal.{granted_grows, one_at_first, owed_less, run_balance}
 
@@ -71,35 +74,35 @@ module _ (n : ℕ) (names : NamingState) where
   any : List Handed → Bool
   any hs = list_any (is_of n) hs
 
-  no_finals : (fs : List Final) → finals_under n fs ≡ 0 → list_any (is_of n) (map (written names) (map handed_final fs)) ≡ false
+  no_finals : (fs : List Final) → finals_under n fs ≡ 0 → list_any (is_of n) (write names (map text_final fs)) ≡ false
   no_finals [] h = refl
   no_finals (f ∷ fs) h = by (f.number == n) h (no_finals fs)
     where
-      by : (b : Bool) → length (cond b (f ∷ filter (λ (g : Final). g.number == n) fs) (filter (λ (g : Final). g.number == n) fs)) ≡ 0 → (finals_under n fs ≡ 0 → list_any (is_of n) (map (written names) (map handed_final fs)) ≡ false)
-          → (b || list_any (is_of n) (map (written names) (map handed_final fs))) ≡ false
+      by : (b : Bool) → length (cond b (f ∷ filter (λ (g : Final). g.number == n) fs) (filter (λ (g : Final). g.number == n) fs)) ≡ 0 → (finals_under n fs ≡ 0 → list_any (is_of n) (write names (map text_final fs)) ≡ false)
+          → (b || list_any (is_of n) (write names (map text_final fs))) ≡ false
       by true g more = absurd (omega (arith, g))
       by false g more = more g
 
-  no_requests : (q : QueryState) (text : List ℕ) (r : Request) (os : List QueryTargetQabl) → (q.requests == n) ≡ false → list_any (is_of n) (map (written names) (map (handed_request q text r) os)) ≡ false
+  no_requests : (q : QueryState) (text : List ℕ) (r : Request) (os : List QueryTargetQabl) → (q.requests == n) ≡ false → list_any (is_of n) (write names (map (handed_request q text r) os)) ≡ false
   no_requests q text r [] h = refl
-  no_requests q text r (o ∷ os) h = ap (λ b. b || list_any (is_of n) (map (written names) (map (handed_request q text r) os))) h ∙ no_requests q text r os h
+  no_requests q text r (o ∷ os) h = ap (λ b. b || list_any (is_of n) (write names (map (handed_request q text r) os))) h ∙ no_requests q text r os h
 
-  no_asking : (q : QueryState) (face : FaceId) (text : List ℕ) (r : Request) (os : List QueryTargetQabl) → (q.requests == n) ≡ false → list_any (is_of n) (map (written names) (handed_requests q face text r os)) ≡ false
+  no_asking : (q : QueryState) (face : FaceId) (text : List ℕ) (r : Request) (os : List QueryTargetQabl) → (q.requests == n) ≡ false → list_any (is_of n) (write names (handed_requests q face text r os)) ≡ false
   no_asking q face text r [] h = ap (λ b. b || false) h
   no_asking q face text r (o ∷ os) h = no_requests q text r (o ∷ os) h
 
-  no_reply : (q : QueryState) (text : List ℕ) (r : Response) (f : Final) → ((f.number == n) ≡ true → is_closed q.closed f.asker.0 ≡ false → ⊥) → list_any (is_of n) (map (written names) (handed_replies text r (reply_to q f))) ≡ false
+  no_reply : (q : QueryState) (text : List ℕ) (r : Response) (f : Final) → ((f.number == n) ≡ true → is_closed q.closed f.asker.0 ≡ false → ⊥) → list_any (is_of n) (write names (handed_replies text r (reply_to q f))) ≡ false
   no_reply q text r f away = by (is_closed q.closed f.asker.0) refl
     where
       same : (b : Bool) → (f.number == n) ≡ b → is_closed q.closed f.asker.0 ≡ false → (b || false) ≡ false
       same true m o = absurd (away m o)
       same false m o = refl
 
-      by : (c : Bool) → is_closed q.closed f.asker.0 ≡ c → list_any (is_of n) (map (written names) (handed_replies text r (record { number = f.number; asker = f.asker; id = f.id; qos = f.qos; reply = if c then None else Some q.replies }))) ≡ false
+      by : (c : Bool) → is_closed q.closed f.asker.0 ≡ c → list_any (is_of n) (write names (handed_replies text r (record { number = f.number; asker = f.asker; id = f.id; qos = f.qos; reply = if c then None else Some q.replies }))) ≡ false
       by true o = refl
       by false o = same (f.number == n) refl o
 
-  no_replied : (q : QueryState) (text : List ℕ) (r : Response) (o : Option Final) → ((f : Final) → o ≡ Some f → (f.number == n) ≡ true → is_closed q.closed f.asker.0 ≡ false → ⊥) → list_any (is_of n) (map (written names) (replied text r (option_map (reply_to q) o)).handed) ≡ false
+  no_replied : (q : QueryState) (text : List ℕ) (r : Response) (o : Option Final) → ((f : Final) → o ≡ Some f → (f.number == n) ≡ true → is_closed q.closed f.asker.0 ≡ false → ⊥) → list_any (is_of n) (write names (replied text r (option_map (reply_to q) o))) ≡ false
   no_replied q text r None away = refl
   no_replied q text r (Some f) away = no_reply q text r f (away f refl)
 
@@ -108,16 +111,16 @@ module _ (n : ℕ) where
   answers : Timeout → Bool
   answers t = has_number_for t && (t.number == n)
 
-  answers_only : (faces : List (ℕ × OpenFace)) (ts : List Timeout) → list_any answers ts ≡ false → list_any (is_of n) (map (sent_timeout faces) (filter has_number_for ts)) ≡ false
+  answers_only : (names : NamingState) (faces : List (ℕ × OpenFace)) (ts : List Timeout) → list_any answers ts ≡ false → list_any (is_of n) (write names (handed_timeouts faces ts)) ≡ false
   unfolding answers
-  answers_only faces [] h = refl
-  answers_only faces (t ∷ ts) h = by (has_number_for t) (t.number == n) refl h (answers_only faces ts)
+  answers_only names faces [] h = refl
+  answers_only names faces (t ∷ ts) h = by t.reply (t.number == n) refl h (answers_only names faces ts)
     where
-      by : (b c : Bool) → (t.number == n) ≡ c → ((b && c) || list_any answers ts) ≡ false → (list_any answers ts ≡ false → list_any (is_of n) (map (sent_timeout faces) (filter has_number_for ts)) ≡ false)
-          → list_any (is_of n) (map (sent_timeout faces) (cond b (t ∷ filter has_number_for ts) (filter has_number_for ts))) ≡ false
-      by false c e g more = more g
-      by true true e g more = absurd (true≢false g)
-      by true false e g more = ap (λ x. x || list_any (is_of n) (map (sent_timeout faces) (filter has_number_for ts))) e ∙ more g
+      by : (o : Option ℕ) (c : Bool) → (t.number == n) ≡ c → ((is_some o && c) || list_any answers ts) ≡ false → (list_any answers ts ≡ false → list_any (is_of n) (write names (handed_timeouts faces ts)) ≡ false)
+          → list_any (is_of n) (write names (cons_option (option_map (text_timeout faces t) o) [] ++ handed_timeouts faces ts)) ≡ false
+      by None c e g more = more g
+      by (Some k) true e g more = absurd (true≢false g)
+      by (Some k) false e g more = ap (λ x. x || list_any (is_of n) (write names (handed_timeouts faces ts))) e ∙ more g
 
   module _ (q : QueryState) (away : (p : Record → Bool) (f : Final) → option_map final_of (find p q.records) ≡ Some f → (f.number == n) ≡ true → is_closed q.closed f.asker.0 ≡ false → ⊥) where
     one : (ts : List Timeout) (d : Due) (o : Option Final) → request d.1 q.records ≡ o → list_any answers ts ≡ false → list_any answers (ts ++ cons_option (option_map (timed_out q (q.replies + numbers_in ts) d) o) []) ≡ false
@@ -137,8 +140,8 @@ module _ (n : ℕ) where
     none_answers [] ts h = h
     none_answers (d ∷ ds) ts h = none_answers ds (with_timeout q ts d) (one ts d (request d.1 q.records) refl h)
 
-    no_timeouts : (names : NamingState) (faces : List (ℕ × OpenFace)) (now : ℕ) → list_any (is_of n) (map (written names) (handed_timeouts faces (timeouts now q))) ≡ false
-    no_timeouts names faces now = ap (list_any (is_of n)) (timeouts_written names faces (timeouts now q)) ∙ answers_only faces (timeouts now q) (none_answers (dues_at now q.records) [] refl)
+    no_timeouts : (names : NamingState) (faces : List (ℕ × OpenFace)) (now : ℕ) → list_any (is_of n) (write names (handed_timeouts faces (timeouts now q))) ≡ false
+    no_timeouts names faces now = answers_only names faces (timeouts now q) (none_answers (dues_at now q.records) [] refl)
 
 -- ---- every call
 next_away : (n : ℕ) (q : QueryState) → to_come q.closed n q ≡ 0 → (q.requests == n) ≡ false
@@ -157,7 +160,7 @@ next_away n q none = by (q.requests == n) refl
 never : (n : ℕ) (q : QueryState) → to_come q.closed n q ≡ 0 → (p : Record → Bool) (f : Final) → option_map final_of (find p q.records) ≡ Some f → (f.number == n) ≡ true → is_closed q.closed f.asker.0 ≡ false → ⊥
 never n q none p f e m o = let owed = found q.closed n p q.records f e m o in omega (arith, owed, none)
 
-granted_silent : (n : ℕ) (s : State) (t : TextCall) → to_come s.core.queries.closed n s.core.queries ≡ 0 → list_any (is_of n) (map (written s.names) (granted s.core t).handed) ≡ false
+granted_silent : (n : ℕ) (s : State) (t : TextCall) → to_come s.core.queries.closed n s.core.queries ≡ 0 → list_any (is_of n) (write s.names (granted s.core t).messages) ≡ false
 granted_silent n s (opening o) none = refl
 granted_silent n s (closing face) none =
     let q = s.core.queries in
@@ -169,7 +172,7 @@ granted_silent n s (unnaming face id x) none = refl
 granted_silent n s (declaring face id sd j m) none = refl
 granted_silent n s (withdrawing face id) none = refl
 granted_silent n s (asking face sd r now) none =
-    no_asking n s.names s.core.queries face (full_text sd) r (select s.core face sd r.target) (next_away n s.core.queries none)
+    no_asking n s.names s.core.queries face (full_text sd) r (select s.core face sd r) (next_away n s.core.queries none)
 granted_silent n s (replying face sd r) none =
     no_replied n s.names s.core.queries (full_text sd) r (owner face.0 r.rid s.core.queries.records) (never n s.core.queries none (has_entry face.0 r.rid))
 granted_silent n s (ending face rid) none =
@@ -185,18 +188,18 @@ granted_silent n s (passing now) none =
     let kept = poll_balance now n q in
     let ended = no_finals n s.names (passing_finals now q) (omega (arith, kept, none)) in
     let late = no_timeouts n q (never n q none) s.names s.core.faces now in
-    ap (list_any (is_of n)) (map-append (written s.names) (handed_timeouts s.core.faces (timeouts now q)) (map handed_final (passing_finals now q)))
-    ∙ list_any-append (is_of n) (map (written s.names) (handed_timeouts s.core.faces (timeouts now q))) (map (written s.names) (map handed_final (passing_finals now q)))
-    ∙ ap (λ b. b || list_any (is_of n) (map (written s.names) (map handed_final (passing_finals now q)))) late
+    ap (list_any (is_of n)) (map-append (written s.names) (handed_timeouts s.core.faces (timeouts now q)) (map text_final (passing_finals now q)))
+    ∙ list_any-append (is_of n) (write s.names (handed_timeouts s.core.faces (timeouts now q))) (write s.names (map text_final (passing_finals now q)))
+    ∙ ap (λ b. b || list_any (is_of n) (write s.names (map text_final (passing_finals now q)))) late
     ∙ ended
 granted_silent n s (listing r t) none = refl
 granted_silent n s (finalizing face m set) none = refl
 granted_silent n s unbuilt none = refl
 
 pub silent : (n : ℕ) (s : State) (c : Call) → to_come s.core.queries.closed n s.core.queries ≡ 0 → list_any (is_of n) (step s c).handed ≡ false
-silent n s c none = by (refusal_of s.core (read s c))
+silent n s c none = ap (λ (z : Step). list_any (is_of n) z.handed) (answers_plainly s (read s c)) ∙ by (refusal_of s.core (read s c))
   where
-    by : (o : Option Refusal) → list_any (is_of n) (map (written s.names) (answered o (granted s.core (read s c))).handed) ≡ false
+    by : (o : Option Refusal) → list_any (is_of n) (write s.names (answered o (granted s.core (read s c))).messages) ≡ false
     by (Some r) = refl
     by None = granted_silent n s (read s c) none
 

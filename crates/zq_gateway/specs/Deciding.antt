@@ -1,12 +1,11 @@
 -- What a call is answered, over texts: the first cause that refuses it, or what it hands and changes.
 use Rattle.std.specs.Prelude.{codes, ℕ, ◌+◌, ◌-◌, ◌^◌, ◌==◌, min, Bool, true, false, not, List, [], ◌∷◌, ◌++◌, map, Option, Some, None, if◌then◌else◌, unwrap_or, is_none}
-use Rattle.std.specs.List.{filter}
-use Rattle.std.specs.Option.{is_some}
+use Rattle.std.specs.List.{cons_option, flat_map}
+use Rattle.std.specs.Option.{option_map}
 use Rattle.std.specs.Ordering.{nat_cmp}
 use Rattle.std.specs.BTreeMap.{is_at, insert_entry}
 use Rattle.std.specs.Map.{remove_entry}
 use Rattle.zq_key.specs.declared.message.FaceId.{FaceId}
-use Rattle.zq_key.specs.declared.message.Message.TheVariants as message
 use Rattle.zq_key.specs.declared.message.ReplyBody.TheVariants as body
 use Rattle.zq_key.specs.declared.message.Request.{Request}
 use Rattle.zq_key.specs.declared.message.Response.{Response}
@@ -23,17 +22,16 @@ use Rattle.zq_query.specs.declared.records.ReplyTo.{ReplyTo}
 use Rattle.zq_query.specs.declared.records.Timeout.{Timeout}
 use Rattle.zq_query.specs.Records.{QueryState, is_pending, is_in_flight, is_entry, letting_go, landing, lacks_reply, next_reply, after_reply}
 use Rattle.zq_query.specs.Closing.{closing_finals, after_close, finals_after, finals_landed}
-use Rattle.zq_query.specs.Polling.{is_due, timing_out, timeouts, after_poll, lacks_replies, has_number_for}
+use Rattle.zq_query.specs.Polling.{is_due, timing_out, timeouts, after_poll, lacks_replies}
 use Rattle.zq_query.specs.Asking.{lacks_number, given_id, after_ask}
 use Rattle.zq_naming.specs.declared.said.Said.{Said}
-use Rattle.zq_naming.specs.Naming.{NamingState, no_keys, plain, remaps, with_name, without_name, with_queryable, without_queryable, change_naming}
+use Rattle.zq_naming.specs.Naming.{NamingState, no_keys, remaps, with_name, without_name, with_queryable, without_queryable, change_naming}
 use Rattle.zq_gateway.specs.declared.call.Opening.{Opening}
 use Rattle.zq_gateway.specs.declared.call.Outcome.{Outcome}
 use Rattle.zq_gateway.specs.declared.call.Outcome.TheVariants as outcome
 use Rattle.zq_gateway.specs.declared.call.Refusal.{Refusal}
 use Rattle.zq_gateway.specs.declared.call.Refusal.TheVariants as refusal
-use Rattle.zq_gateway.specs.declared.call.Handed.{Handed}
-use Rattle.zq_gateway.specs.declared.call.Step.{Step}
+use Rattle.zq_gateway.specs.Messages.{Decided, Telling, TextMessage, text_final, text_reply, text_request}
 use Rattle.zq_gateway.specs.declared.face.OpenFace.{OpenFace}
 use Rattle.zq_gateway.specs.State.{Core, State, is_open, has_hat, is_full_region, hat_of, has_declared_in, clashes_in, joined, change_hat, change_hat_of}
 use Rattle.zq_gateway.specs.TextCalls.{TextCall, opening, closing, naming, unnaming, declaring, withdrawing, asking, replying, ending, reporting, passing, listing, finalizing, unbuilt}
@@ -64,7 +62,7 @@ lacks_face_number c = c.next_face + 1 == 2 ^ 32
 
 -- the faces that the request is handed to
 abbrev pub targets : Core → FaceId → Said → Request → List FaceId
-targets c asker s r = map target_of (select c asker s r.target)
+targets c asker s r = map target_of (select c asker s r)
 
 -- a mark of a key has a key
 abbrev pub marks_key : FinalMark → Bool
@@ -102,112 +100,105 @@ causes c unbuilt = []
 abbrev pub refusal_of : Core → TextCall → Option Refusal
 refusal_of c t = first_of (causes c t)
 
--- ---- what is handed, each text whole, under no number; what leaves is put in where it is written
+-- ---- what is handed, over texts
 
 -- a refused call hands nothing
-abbrev pub refused : Refusal → Step
-refused r = record { outcome = outcome.Refused r; handed = [] }
-
--- a call that answers nothing of its own, and hands these messages
-abbrev pub done : List Handed → Step
-done handed = record { outcome = outcome.Done; handed = handed }
-
--- a final to its asker
-abbrev pub handed_final : Final → Handed
-handed_final f = record { to = f.asker; number = Some f.number; reply = None; message = message.ResponseFinal (record { rid = f.id; qos = f.qos }); leaves = None }
+abbrev pub refused : Refusal → Decided
+refused r = record { outcome = outcome.Refused r; messages = []; told = [] }
 
 -- the deadline of a request: its timeout or the configuration's from now on, at most the last moment
 abbrev pub deadline : Core → Option ℕ → ℕ → ℕ
 deadline c timeout now = min (now + unwrap_or timeout c.config.timeout) (2 ^ 64 - 1)
 
 -- a request to the face of an offer
-abbrev pub handed_request : QueryState → List ℕ → Request → QueryTargetQabl → Handed
-handed_request q text r offer = record {
+abbrev pub handed_request : QueryState → List ℕ → Request → QueryTargetQabl → TextMessage
+handed_request q text r offer = text_request (record {
   to = offer.face;
-  number = Some q.requests;
-  reply = None;
-  message = message.Request (record {
-    id = given_id q offer.face;
-    wire = plain text;
-    target = r.target;
-    timeout = r.timeout;
-    node = offer.node;
-    qos = r.qos;
-    payload = r.payload;
-  });
-  leaves = None;
-}
+  number = q.requests;
+  id = given_id q offer.face;
+  text = text;
+  target = r.target;
+  timeout = r.timeout;
+  node = offer.node;
+  qos = r.qos;
+  payload = r.payload;
+})
 
 -- with no offer the final comes at once
-abbrev pub handed_requests : QueryState → FaceId → List ℕ → Request → List QueryTargetQabl → List Handed
-handed_requests q asker text r [] = handed_final (record { number = q.requests; asker = asker; id = r.id; qos = r.qos }) ∷ []
+abbrev pub handed_requests : QueryState → FaceId → List ℕ → Request → List QueryTargetQabl → List TextMessage
+handed_requests q asker text r [] = text_final (record { number = q.requests; asker = asker; id = r.id; qos = r.qos }) ∷ []
 handed_requests q asker text r (o ∷ os) = map (handed_request q text r) (o ∷ os)
 
--- a reply to its asker
-abbrev pub handed_reply : List ℕ → Response → ReplyTo → Handed
-handed_reply text r to = record {
-  to = to.asker;
-  number = Some to.number;
-  reply = to.reply;
-  message = message.Response (record { rid = to.id; wire = plain text; qos = to.qos; payload = r.payload; responder = r.responder });
-  leaves = None;
-}
+-- a reply to its asker, in flight under a number
+abbrev pub handed_reply : List ℕ → Response → ReplyTo → ℕ → TextMessage
+handed_reply text r to reply = text_reply (record { to = to.asker; number = to.number; reply = reply; id = to.id; text = text; qos = to.qos; payload = r.payload; responder = r.responder })
 
--- a reply to a closed asker is handed to no one
-abbrev pub handed_replies : List ℕ → Response → ReplyTo → List Handed
-handed_replies text r to = if is_some to.reply then handed_reply text r to ∷ [] else []
+-- a reply to a closed asker has no number, and is handed to no one
+abbrev pub handed_replies : List ℕ → Response → ReplyTo → List TextMessage
+handed_replies text r to = cons_option (option_map (handed_reply text r to) to.reply) []
 
 -- the word of a reply that a deadline gives
 abbrev pub timeout_word : List ℕ
 timeout_word = codes "Timeout"
 
--- an error reply to the asker, in the place of a target that was too late
-abbrev pub timed_out : List (ℕ × OpenFace) → Timeout → Handed
-timed_out faces t = record {
-  to = t.asker;
-  number = Some t.number;
-  reply = t.reply;
-  message = message.Response (record { rid = t.id; wire = plain []; qos = t.qos; payload = body.Err timeout_word; responder = zid_of t.target.0 faces });
-  leaves = None;
-}
+-- an error reply to the asker, in the place of a target that was too late, in flight under a number
+abbrev pub timed_out : List (ℕ × OpenFace) → Timeout → ℕ → TextMessage
+timed_out faces t reply = text_reply (record { to = t.asker; number = t.number; reply = reply; id = t.id; text = []; qos = t.qos; payload = body.Err timeout_word; responder = zid_of t.target.0 faces })
 
--- a closed asker is handed nothing
-abbrev pub handed_timeouts : List (ℕ × OpenFace) → List Timeout → List Handed
-handed_timeouts faces ts = map (timed_out faces) (filter has_number_for ts)
+-- the error reply of a deadline, if it has a number; a closed asker is handed nothing
+abbrev pub handed_timeout : List (ℕ × OpenFace) → Timeout → List TextMessage
+handed_timeout faces t = cons_option (option_map (timed_out faces t) t.reply) []
+
+-- the error replies of deadlines
+abbrev pub handed_timeouts : List (ℕ × OpenFace) → List Timeout → List TextMessage
+handed_timeouts faces ts = flat_map (handed_timeout faces) ts
 
 -- the finals of a moment that has come: of the requests that it leaves with nothing, once their error replies are in flight
 abbrev pub passing_finals : ℕ → QueryState → List Final
 passing_finals now q = finals_after (is_due now) (timing_out (timeouts now q) q).closed (timing_out (timeouts now q) q).records
 
--- what an accepted reply is answered, by where it goes; a reply that goes nowhere is not pending
-abbrev pub replied : List ℕ → Response → Option ReplyTo → Step
-replied text r None = refused refusal.QueryNotFound
-replied text r (Some to) = record { outcome = outcome.Replied to.reply; handed = handed_replies text r to }
+-- the outcome of a reply, by where it goes; a reply that goes nowhere is not pending
+abbrev pub replied_outcome : Option ReplyTo → Outcome
+replied_outcome None = outcome.Refused refusal.QueryNotFound
+replied_outcome (Some to) = outcome.Replied to.reply
 
--- what a call is answered that nothing refuses
-abbrev pub granted : Core → TextCall → Step
-granted c (opening o) = record { outcome = outcome.Opened (record { 0 = c.next_face }); handed = [] }
-granted c (closing face) = done (map handed_final (closing_finals face.0 c.queries))
-granted c (naming face id s standing) = done []
-granted c (unnaming face id standing) = done []
-granted c (declaring face id s info node) = done []
-granted c (withdrawing face id) = done []
-granted c (asking face s r now) = record { outcome = outcome.Asked c.queries.requests; handed = handed_requests c.queries face (full_text s) r (select c face s r.target) }
-granted c (replying face s r) = replied (full_text s) r (next_reply face.0 r.rid c.queries)
-granted c (ending face rid) = done (map handed_final (finals_after (is_entry face.0 rid) c.queries.closed c.queries.records))
-granted c (reporting reply) = done (map handed_final (finals_landed reply c.queries.closed c.queries.records))
-granted c (passing now) = done (handed_timeouts c.faces (timeouts now c.queries) ++ map handed_final (passing_finals now c.queries))
-granted c (listing r table) = done []
-granted c (finalizing face mark set) = done []
-granted c unbuilt = done []
+-- what an accepted reply hands, by where it goes
+abbrev pub replied : List ℕ → Response → Option ReplyTo → List TextMessage
+replied text r None = []
+replied text r (Some to) = handed_replies text r to
 
--- the refusal where there is one, else what is granted
-abbrev pub answered : Option Refusal → Step → Step
-answered None t = t
-answered (Some r) t = refused r
+-- the outcome of a call that nothing refuses
+abbrev pub outcome_of : Core → TextCall → Outcome
+outcome_of c (opening o) = outcome.Opened (record { 0 = c.next_face })
+outcome_of c (asking face s r now) = outcome.Asked c.queries.requests
+outcome_of c (replying face s r) = replied_outcome (next_reply face.0 r.rid c.queries)
+outcome_of c t = outcome.Done
 
--- what a call is answered
-abbrev pub decide : Core → TextCall → Step
+-- the messages that it hands: requests, then replies, then finals by number
+abbrev pub messages_of : Core → TextCall → List TextMessage
+messages_of c (closing face) = map text_final (closing_finals face.0 c.queries)
+messages_of c (asking face s r now) = handed_requests c.queries face (full_text s) r (select c face s r)
+messages_of c (replying face s r) = replied (full_text s) r (next_reply face.0 r.rid c.queries)
+messages_of c (ending face rid) = map text_final (finals_after (is_entry face.0 rid) c.queries.closed c.queries.records)
+messages_of c (reporting reply) = map text_final (finals_landed reply c.queries.closed c.queries.records)
+messages_of c (passing now) = handed_timeouts c.faces (timeouts now c.queries) ++ map text_final (passing_finals now c.queries)
+messages_of c t = []
+
+-- what faces are told after it: nothing yet
+abbrev pub told_of : Core → TextCall → List Telling
+told_of c t = []
+
+-- what a call decides that nothing refuses
+abbrev pub granted : Core → TextCall → Decided
+granted c t = record { outcome = outcome_of c t; messages = messages_of c t; told = told_of c t }
+
+-- the refusal, or what is granted
+abbrev pub answered : Option Refusal → Decided → Decided
+answered None d = d
+answered (Some r) d = refused r
+
+-- what a call decides
+abbrev pub decide : Core → TextCall → Decided
 decide c t = answered (refusal_of c t) (granted c t)
 
 -- the outcome is no refusal

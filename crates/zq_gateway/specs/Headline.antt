@@ -10,9 +10,9 @@ use Rattle.zq_hat.specs.declared.types.QueryTargetQabl.{QueryTargetQabl}
 use Rattle.zq_query.specs.declared.records.ReplyTo.{ReplyTo}
 use Rattle.zq_query.specs.Records.{QueryState, is_closed, is_pending, any_over, next_reply}
 use Rattle.zq_query.specs.Balance.{owed_by}
-use Rattle.zq_query.specs.Polling.{timeouts, has_number_for}
+use Rattle.zq_query.specs.Polling.{timeouts}
 use Rattle.zq_naming.specs.declared.said.Said.TheVariants as said
-use Rattle.zq_naming.specs.Naming.{read_by, face_naming}
+use Rattle.zq_naming.specs.Naming.{read_by, face_keys, face_naming}
 use Rattle.zq_gateway.specs.declared.call.Call.{Call}
 use Rattle.zq_gateway.specs.declared.call.Call.TheVariants as call
 use Rattle.zq_gateway.specs.declared.call.Handed.{Handed}
@@ -24,9 +24,10 @@ use Rattle.zq_gateway.specs.State.{State, opening_state}
 use Rattle.zq_gateway.specs.Selecting.{select, full_text}
 use Rattle.zq_gateway.specs.TextCalls.{read, said as said_by_face}
 use Rattle.zq_gateway.specs.Asked.{AreCounted, IsHandedToAsker, asked_in, closes, is_own}
-use Rattle.zq_gateway.specs.Deciding.{passing_finals, refused, refusal_of, is_accepted}
+use Rattle.zq_gateway.specs.Deciding.{handed_replies, handed_timeouts, passing_finals, refusal_of, is_accepted}
 use Rattle.zq_gateway.specs.Waiting.{Waits, IsSettled, ends_entry, lands, until, is_of}
-use Rattle.zq_gateway.specs.Machine.{step, steps, after, state_after, sent_final, sent_replies, sent_timeout}
+use Rattle.zq_gateway.specs.Machine.{step, steps, after, state_after, refused_step}
+use Rattle.zq_gateway.specs.Writing.{leaving, sent_final, write}
 
 -- ---- requests
 
@@ -40,10 +41,12 @@ pub record IsHandedOn (s : State) (text : List ℕ) (r : Request) (o : QueryTarg
   pub qos : m.qos ≡ r.qos
   pub node : m.node ≡ o.node
 
--- the request is handed to the face of an offer, under its number
+-- the request is handed to the face of an offer, under its number and none of a reply, and what leaves of it is what the face's exit lets out
 pub record HandsOn (s : State) (text : List ℕ) (r : Request) (o : QueryTargetQabl) (h : Handed) : Type 0 where
   pub to : h.to ≡ o.face
   pub number : h.number ≡ Some s.core.queries.requests
+  pub reply : h.reply ≡ None
+  pub leaves : h.leaves ≡ leaving (face_keys o.face.0 s.names) text h.message
   pub copy : (m : Request) × (h.message ≡ message.Request m) × IsHandedOn s text r o m
 
 -- one message for each offer, in their order, and no other
@@ -76,8 +79,8 @@ abbrev pub RequestPromise : State → Call → Step → Type 0
 RequestPromise s (call.Request face r now) t =
     is_accepted t.outcome ≡ true →
     (t.outcome ≡ outcome.Asked s.core.queries.requests)
-    × HandsRequest s face (full_text (said_by_face face r.wire s)) r (select s.core face (said_by_face face r.wire s) r.target) t.handed
-    × (list_any (is_own face) (select s.core face (said_by_face face r.wire s) r.target) ≡ false)
+    × HandsRequest s face (full_text (said_by_face face r.wire s)) r (select s.core face (said_by_face face r.wire s) r) t.handed
+    × (list_any (is_own face) (select s.core face (said_by_face face r.wire s) r) ≡ false)
 RequestPromise s c t = list_any asks t.handed ≡ false
 
 -- ---- replies
@@ -100,12 +103,12 @@ pub record HandsReply (s : State) (face : FaceId) (r : Response) (t : Step) : Ty
   pub goes : ReplyTo
   pub there : next_reply face.0 r.rid s.core.queries ≡ Some goes
   pub outcome : t.outcome ≡ outcome.Replied goes.reply
-  pub handed : t.handed ≡ sent_replies (full_text (said_by_face face r.wire s)) r goes
+  pub handed : t.handed ≡ write s.names (handed_replies (full_text (said_by_face face r.wire s)) r goes)
 
 -- an accepted reply is handed to its asker alone; a moment that has come hands an error reply for each entry that was too late and whose asker is open; no other call hands a reply
 abbrev pub ReplyPromise : State → Call → Step → Type 0
 ReplyPromise s (call.Response face r) t = is_accepted t.outcome ≡ true → HandsReply s face r t
-ReplyPromise s (call.Poll now) t = is_accepted t.outcome ≡ true → t.handed ≡ map (sent_timeout s.core.faces) (filter has_number_for (timeouts now s.core.queries)) ++ map sent_final (passing_finals now s.core.queries)
+ReplyPromise s (call.Poll now) t = is_accepted t.outcome ≡ true → t.handed ≡ write s.names (handed_timeouts s.core.faces (timeouts now s.core.queries)) ++ map sent_final (passing_finals now s.core.queries)
 ReplyPromise s c t = list_any replies_to t.handed ≡ false
 
 -- ---- finals
@@ -147,7 +150,7 @@ pub record FinalPromise (n : ℕ) (s : State) (c : Call) : Type 0 where
 
 -- the first cause that holds refuses a call, which then hands and changes nothing; with none the call is accepted
 abbrev pub RefusesBy : Option Refusal → State → Call → Type 0
-RefusesBy (Some r) s c = (step s c ≡ refused r) × (after s c ≡ s)
+RefusesBy (Some r) s c = (step s c ≡ refused_step r) × (after s c ≡ s)
 RefusesBy None s c = is_accepted (step s c).outcome ≡ true
 
 -- ---- all of them

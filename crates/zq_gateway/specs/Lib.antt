@@ -3,7 +3,10 @@ pub mod Configs
 pub mod State
 pub mod TextCalls
 pub mod Selecting
+pub mod Messages
 pub mod Deciding
+pub mod Writing
+pub mod Hearing
 pub mod Machine
 pub mod Waiting
 pub mod Asked

@@ -1,70 +1,43 @@
 -- One call of the gateway, and whole runs.
-use Rattle.std.specs.Option.{is_some}
-use Rattle.std.specs.Prelude.{ℕ, List, [], ◌∷◌, map, Option, Some, None, if◌then◌else◌}
-use Rattle.zq_key.specs.declared.message.Message.{Message}
-use Rattle.zq_key.specs.declared.message.Message.TheVariants as message
-use Rattle.zq_key.specs.declared.message.Response.{Response}
-use Rattle.zq_query.specs.declared.records.Final.{Final}
-use Rattle.zq_query.specs.declared.records.ReplyTo.{ReplyTo}
-use Rattle.zq_query.specs.declared.records.Timeout.{Timeout}
-use Rattle.zq_gateway.specs.declared.face.OpenFace.{OpenFace}
-use Rattle.zq_naming.specs.Naming.{FaceNaming, NamingState, best, face_naming}
+use Rattle.std.specs.Prelude.{List, [], ◌∷◌, ◌++◌, map, Option, Some, None, if◌then◌else◌}
 use Rattle.zq_gateway.specs.declared.call.Call.{Call}
 use Rattle.zq_gateway.specs.declared.call.Handed.{Handed}
+use Rattle.zq_gateway.specs.declared.call.Outcome.TheVariants as outcome
+use Rattle.zq_gateway.specs.declared.call.Refusal.{Refusal}
 use Rattle.zq_gateway.specs.declared.call.Step.{Step}
 use Rattle.zq_gateway.specs.Configs.{Settings}
 use Rattle.zq_gateway.specs.State.{State, opening_state}
 use Rattle.zq_gateway.specs.TextCalls.{TextCall, read}
-use Rattle.zq_gateway.specs.Deciding.{done, handed_final, handed_reply, timed_out, decide, accepted, renamed, is_accepted}
-
--- a request is written with the best number that its receiver knows; all else is written whole
-abbrev pub written_message : FaceNaming → Message → Message
-written_message n (message.Request r) = message.Request (record r { wire = best n r.wire.suffix })
-written_message n (message.Response r) = message.Response r
-written_message n (message.ResponseFinal f) = message.ResponseFinal f
-written_message n (message.Interest i) = message.Interest i
-written_message n (message.InterestFinal i) = message.InterestFinal i
-written_message n (message.Declare d) = message.Declare d
-
--- a message that is handed and leaves as it is
-abbrev pub leaving : Message → Handed → Handed
-leaving m h = record h { message = m; leaves = Some m }
-
--- a message as its receiver is handed it; it leaves as it is
-abbrev pub written : NamingState → Handed → Handed
-written names h = leaving (written_message (face_naming h.to.0 names) h.message) h
-
--- each message of a step is written as its receiver is handed it
-abbrev pub write : NamingState → Step → Step
-write names t = record { outcome = t.outcome; handed = map (written names) t.handed }
-
--- a final and replies as they are written
-abbrev pub sent_final : Final → Handed
-sent_final f = leaving (handed_final f).message (handed_final f)
-
--- a reply as its asker is handed it
-abbrev pub sent_reply : List ℕ → Response → ReplyTo → Handed
-sent_reply text r to = leaving (handed_reply text r to).message (handed_reply text r to)
-
--- none where the asker is closed
-abbrev pub sent_replies : List ℕ → Response → ReplyTo → List Handed
-sent_replies text r to = if is_some to.reply then sent_reply text r to ∷ [] else []
-
--- the error reply of a deadline
-abbrev pub sent_timeout : List (ℕ × OpenFace) → Timeout → Handed
-sent_timeout faces t = leaving (timed_out faces t).message (timed_out faces t)
-
--- what a call whose expressions are read is answered
-abbrev pub answer : State → TextCall → Step
-answer s t = write s.names (decide s.core t)
+use Rattle.zq_gateway.specs.Deciding.{decide, accepted, renamed, is_accepted}
+use Rattle.zq_gateway.specs.Writing.{Finished, Told, finish, sent_final, tell, unsent, write}
 
 -- the state after an accepted call: what decides, and what stands for keys
 abbrev pub accepted_state : State → TextCall → State
 accepted_state s t = record { core = accepted s.core t; names = renamed s t }
 
--- the state after it; a refused call changes nothing
+-- what the call itself changes; a refused call changes nothing
 abbrev pub follow : State → TextCall → State
 follow s t = if is_accepted (decide s.core t).outcome then accepted_state s t else s
+
+-- the messages of the call, as they are handed and leave
+abbrev pub sending : State → TextCall → List Handed
+sending s t = write s.names (decide s.core t).messages
+
+-- what decides, once the requests that did not leave are let go, with the finals that come of it
+abbrev pub finishing : State → TextCall → Finished
+finishing s t = finish (follow s t).core (unsent (sending s t))
+
+-- what faces are told, and what stands for keys then
+abbrev pub telling : State → TextCall → Told
+telling s t = tell (finishing s t).core (decide s.core t).told (follow s t).names
+
+-- what a call whose expressions are read is answered: messages of requests, finals of those that did not leave, and what faces are told
+abbrev pub answer : State → TextCall → Step
+answer s t = record { outcome = (decide s.core t).outcome; handed = sending s t ++ (map sent_final (finishing s t).finals ++ (telling s t).handed) }
+
+-- the state after it
+abbrev pub settle : State → TextCall → State
+settle s t = record { core = (finishing s t).core; names = (telling s t).names }
 
 -- what a call is answered
 abbrev pub step : State → Call → Step
@@ -72,7 +45,15 @@ step s c = answer s (read s c)
 
 -- the state after a call
 abbrev pub after : State → Call → State
-after s c = follow s (read s c)
+after s c = settle s (read s c)
+
+-- a call that answers nothing of its own, and hands these messages
+abbrev pub done : List Handed → Step
+done handed = record { outcome = outcome.Done; handed = handed }
+
+-- the step of a refused call
+abbrev pub refused_step : Refusal → Step
+refused_step r = record { outcome = outcome.Refused r; handed = [] }
 
 -- the answers to calls, one after another
 abbrev pub steps_from : State → List Call → List Step

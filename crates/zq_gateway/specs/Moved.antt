@@ -1,16 +1,10 @@
 -- Calls over texts, the part that decides them and what is handed, with all their texts moved by one map; and that what is decided moves along.
 use Rattle.std.specs.Prelude.{◌≡◌, ℕ, List, [], ◌∷◌, map, option_map, if◌then◌else◌}
-use Rattle.zq_key.specs.declared.message.DeclareBody.{DeclareBody}
-use Rattle.zq_key.specs.declared.message.DeclareBody.TheVariants as body
-use Rattle.zq_key.specs.declared.message.Message.{Message}
-use Rattle.zq_key.specs.declared.message.Message.TheVariants as message
-use Rattle.zq_key.specs.declared.message.WireExpr.{WireExpr}
 use Rattle.zq_hat.specs.State.{HatState}
 use Rattle.zq_hat.specs.Moved.{move_hat, move_mark}
 use Rattle.zq_naming.specs.declared.said.Said.{Said}
 use Rattle.zq_naming.specs.declared.said.Said.TheVariants as said
-use Rattle.zq_gateway.specs.declared.call.Handed.{Handed}
-use Rattle.zq_gateway.specs.declared.call.Step.{Step}
+use Rattle.zq_gateway.specs.Messages.{Decided, Telling, TellingBody, TextMessage, all_told, key_ended, key_told, text_final, text_reply, text_request}
 use Rattle.zq_gateway.specs.State.{Core}
 use Rattle.zq_gateway.specs.TextCalls.{TextCall, naming, unnaming, declaring, asking, replying, finalizing}
 use Rattle.zq_gateway.specs.Deciding.{decide, accepted, is_accepted}
@@ -45,40 +39,31 @@ module _ (φ : List ℕ → List ℕ) where
   move_suffix [] = []
   move_suffix (b ∷ bs) = φ (b ∷ bs)
 
-  -- an expression that holds its text whole, moved
-  abbrev pub move_wire : WireExpr → WireExpr
-  move_wire w = record w { suffix = move_suffix w.suffix }
+  -- a message with its text moved
+  abbrev pub move_message : TextMessage → TextMessage
+  move_message (text_request r) = text_request (record r { text = move_suffix r.text })
+  move_message (text_reply r) = text_reply (record r { text = move_suffix r.text })
+  move_message (text_final f) = text_final f
 
-  -- what a declaration says, with its expression moved
-  abbrev pub move_body : DeclareBody → DeclareBody
-  move_body (body.DeclareKeyExpr id wire) = body.DeclareKeyExpr id (move_wire wire)
-  move_body (body.UndeclareKeyExpr id) = body.UndeclareKeyExpr id
-  move_body (body.DeclareQueryable id wire info) = body.DeclareQueryable id (move_wire wire) info
-  move_body (body.UndeclareQueryable id wire) = body.UndeclareQueryable id (option_map move_wire wire)
-  move_body body.DeclareFinal = body.DeclareFinal
+  -- what a face is told, with its key moved
+  abbrev pub move_told : TellingBody → TellingBody
+  move_told (key_told id text info) = key_told id (φ text) info
+  move_told (key_ended id text) = key_ended id (option_map φ text)
+  move_told all_told = all_told
 
-  -- a message with its expression moved
-  abbrev pub move_message : Message → Message
-  move_message (message.Request r) = message.Request (record r { wire = move_wire r.wire })
-  move_message (message.Response r) = message.Response (record r { wire = move_wire r.wire })
-  move_message (message.ResponseFinal f) = message.ResponseFinal f
-  move_message (message.Interest i) = message.Interest (record i { wire = option_map move_wire i.wire })
-  move_message (message.InterestFinal i) = message.InterestFinal i
-  move_message (message.Declare d) = message.Declare (record d { body = move_body d.body })
+  -- the same, with its face, interest and node
+  abbrev pub move_telling : Telling → Telling
+  move_telling t = record t { body = move_told t.body }
 
-  -- what a face is handed, with its message moved
-  abbrev pub move_handed : Handed → Handed
-  move_handed h = record h { message = move_message h.message; leaves = option_map move_message h.leaves }
-
-  -- what a call is answered, with all that is handed moved
-  abbrev pub move_step : Step → Step
-  move_step t = record t { handed = map move_handed t.handed }
+  -- what a call decides, with all that is handed moved
+  abbrev pub move_decided : Decided → Decided
+  move_decided d = record d { messages = map move_message d.messages; told = map move_telling d.told }
 
 -- the deciding part after a call; a refused call changes nothing
 abbrev pub after_text : Core → TextCall → Core
 after_text c t = if is_accepted (decide c t).outcome then accepted c t else c
 
--- what is decided moves with its texts: at the moved core, the moved call is answered the moved step, and leaves the moved core
+-- what is decided moves with its texts: at the moved core, the moved call decides the moved messages, and leaves the moved core
 pub record DecidesAlike (φ : List ℕ → List ℕ) : Type 0 where
-  pub answer : (c : Core) (t : TextCall) → decide (move_core φ c) (move_text φ t) ≡ move_step φ (decide c t)
+  pub answer : (c : Core) (t : TextCall) → decide (move_core φ c) (move_text φ t) ≡ move_decided φ (decide c t)
   pub change : (c : Core) (t : TextCall) → after_text (move_core φ c) (move_text φ t) ≡ move_core φ (after_text c t)

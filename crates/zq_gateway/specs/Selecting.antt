@@ -6,6 +6,7 @@ use Rattle.std.specs.Option.{option_map}
 use Rattle.zq_key.specs.Key.{is_key}
 use Rattle.zq_key.specs.declared.message.FaceId.{FaceId}
 use Rattle.zq_key.specs.declared.message.QueryTarget.{QueryTarget}
+use Rattle.zq_key.specs.declared.message.Request.{Request}
 use Rattle.zq_key.specs.declared.message.Zid.{Zid}
 use Rattle.zq_hat.specs.declared.types.QueryTargetQabl.{QueryTargetQabl}
 use Rattle.zq_hat.specs.State.{HatState}
@@ -73,14 +74,14 @@ with_part faces tables own asker opened key target route h =
     with_offers route (chosen target (filter (passes faces tables own asker opened) (offers_of h opened.region key)))
 
 -- region by region, in the order of their places
-abbrev pub route_for : Core → FaceId → OpenFace → List ℕ → QueryTarget → List (ℕ × QueryTargetQabl)
-route_for c asker opened key target = fold (with_part c.faces c.tables c.config.zid asker opened key target) [] (values_of c.hats)
+abbrev pub route_for : Core → FaceId → OpenFace → List ℕ → Request → List (ℕ × QueryTargetQabl)
+route_for c asker opened key r = fold (with_part c.faces c.tables c.config.zid asker opened key r.target) [] (values_of c.hats)
 
 -- the offers that a request of an open face is handed to
-abbrev pub select_for : Core → FaceId → Said → QueryTarget → Option OpenFace → List QueryTargetQabl
-select_for c asker s target None = []
-select_for c asker s target (Some opened) = if says_key s then values_of (route_for c asker opened (full_text s) target) else []
+abbrev pub select_for : Core → FaceId → Said → Request → Option OpenFace → List QueryTargetQabl
+select_for c asker s r None = []
+select_for c asker s r (Some opened) = if says_key s then values_of (route_for c asker opened (full_text s) r) else []
 
 -- the offers that a request is handed to
-abbrev pub select : Core → FaceId → Said → QueryTarget → List QueryTargetQabl
-select c asker s target = select_for c asker s target (at asker.0 c.faces)
+abbrev pub select : Core → FaceId → Said → Request → List QueryTargetQabl
+select c asker s r = select_for c asker s r (at asker.0 c.faces)

@@ -10,9 +10,10 @@ ghost use Rattle.zq_query.specs.Asking.{are_distinct, face_numbers, is_full, lac
 ghost use Rattle.zq_naming.specs.Naming.{is_text};
 ghost use Rattle.zq_gateway.specs.declared.call.Call.TheVariants as call;
 ghost use Rattle.zq_gateway.specs.Calls.{declared_call, declaring_call, is_built};
-ghost use Rattle.zq_gateway.specs.Deciding.{done, granted, opened, refused, seat};
+ghost use Rattle.zq_gateway.specs.Deciding.{messages_of, opened, outcome_of, seat};
+ghost use Rattle.zq_gateway.specs.Writing.{write};
 ghost use Rattle.zq_gateway.specs.Selecting.{full_text, is_unscoped, says_key, says_key_or_nothing, select_for, target_of};
-ghost use Rattle.zq_gateway.specs.Machine.{accepted_state, after, after_of, answer, follow, step, step_of, write};
+ghost use Rattle.zq_gateway.specs.Machine.{accepted_state, after, after_of, answer, done, refused_step, settle, step, step_of};
 ghost use Rattle.zq_gateway.specs.State.{at, change_hat, face_region, is_open, joined, opening_state};
 ghost use Rattle.zq_naming.specs.Naming.{face_naming, text_at};
 ghost use Rattle.zq_gateway.specs.TextCalls.{asking, closing, declaring, ending, finalizing, listing, naming, opening, passing, replying, reporting, unnaming, withdrawing};
@@ -36,8 +37,7 @@ use zq_hat::types::{FinalMark, HatRefusal, QueryTargetQabl};
 use zq_key::items::Items;
 use zq_key::memory::OutOfMemory;
 use zq_key::message::{
-    Declare, DeclareBody, FaceId, Mode, QueryTarget, QueryableInfoType, Region, Request, Response,
-    WireExpr, Zid,
+    Declare, DeclareBody, FaceId, Mode, QueryableInfoType, Region, Request, Response, WireExpr, Zid,
 };
 use zq_key::{Key, KeyError};
 use zq_naming::naming::Naming;
@@ -259,7 +259,7 @@ impl Gateway {
     #[tactic(auto, using(crate::proofs::Writing::finals_written))]
     pub fn send_response_final(&mut self, face: FaceId, rid: u32) -> Result<Option<Handed>, Refusal>
         ensures handed { IfOk result (λ o. step self.old (call.ResponseFinal face rid) ≡ done (cons_option o [])) }
-        ensures refused { IfErr result (λ r. step self.old (call.ResponseFinal face rid) ≡ refused r) }
+        ensures refused { IfErr result (λ r. step self.old (call.ResponseFinal face rid) ≡ refused_step r) }
         ensures after { self.new ≡ after self.old (call.ResponseFinal face rid) }
     {
         if !self.is_open(face) {
@@ -276,7 +276,7 @@ impl Gateway {
     #[tactic(auto, using(crate::proofs::Writing::finals_written))]
     pub fn sent(&mut self, reply: u64) -> Result<Option<Handed>, Refusal>
         ensures handed { IfOk result (λ o. step self.old (call.Sent reply) ≡ done (cons_option o [])) }
-        ensures refused { IfErr result (λ r. step self.old (call.Sent reply) ≡ refused r) }
+        ensures refused { IfErr result (λ r. step self.old (call.Sent reply) ≡ refused_step r) }
         ensures after { self.new ≡ after self.old (call.Sent reply) }
     {
         match self.queries.sent(reply) {
@@ -301,7 +301,7 @@ impl Gateway {
     }
 
     fn refused(&self, refusal: Refusal) -> Step
-        ensures { result ≡ refused refusal }
+        ensures { result ≡ refused_step refusal }
     {
         Step {
             outcome: Outcome::Refused(refusal),
@@ -343,7 +343,7 @@ impl Gateway {
         node: u16,
     ) -> Result<Step, OutOfMemory>
         ensures step { IfOk result (λ t. t ≡ answer self.old (declaring face id said.now info node)) }
-        ensures after { OnOk result (self.new ≡ follow self.old (declaring face id said.now info node)) }
+        ensures after { OnOk result (self.new ≡ settle self.old (declaring face id said.now info node)) }
         ensures err { OnErr result (self.new ≡ self.old) }
     {
         let Some(region) = self.region_of(face) else {
@@ -377,7 +377,7 @@ impl Gateway {
     // A face withdraws a queryable.
     fn undeclare_queryable(&mut self, face: FaceId, id: u32, node: u16) -> Result<Step, OutOfMemory>
         ensures step { IfOk result (λ t. t ≡ answer self.old (withdrawing face id)) }
-        ensures after { OnOk result (self.new ≡ follow self.old (withdrawing face id)) }
+        ensures after { OnOk result (self.new ≡ settle self.old (withdrawing face id)) }
         ensures err { OnErr result (self.new ≡ self.old) }
     {
         let Some(region) = self.region_of(face) else {
@@ -398,7 +398,7 @@ impl Gateway {
     #[tactic(auto, using(crate::proofs::Writing::finals_written))]
     fn response_final(&mut self, face: FaceId, rid: u32) -> Result<Step, OutOfMemory>
         ensures step { IfOk result (λ t. t ≡ answer self.old (ending face rid)) }
-        ensures after { OnOk result (self.new ≡ follow self.old (ending face rid)) }
+        ensures after { OnOk result (self.new ≡ settle self.old (ending face rid)) }
         ensures err { OnErr result (self.new ≡ self.old) }
     {
         if !self.is_open(face) {
@@ -418,7 +418,7 @@ impl Gateway {
     #[tactic(auto, using(crate::proofs::Writing::finals_written))]
     fn report(&mut self, reply: u64) -> Result<Step, OutOfMemory>
         ensures step { IfOk result (λ t. t ≡ answer self.old (reporting reply)) }
-        ensures after { OnOk result (self.new ≡ follow self.old (reporting reply)) }
+        ensures after { OnOk result (self.new ≡ settle self.old (reporting reply)) }
         ensures err { OnErr result (self.new ≡ self.old) }
     {
         let room = room_for_final(self.alloc)?;
@@ -434,7 +434,7 @@ impl Gateway {
     // A face is opened.
     fn open(&mut self, asked: &Opening) -> Result<Step, OutOfMemory>
         ensures step { IfOk result (λ t. t ≡ answer self.old (opening asked.now)) }
-        ensures after { OnOk result (self.new ≡ follow self.old (opening asked.now)) }
+        ensures after { OnOk result (self.new ≡ settle self.old (opening asked.now)) }
         ensures err { OnErr result (self.new ≡ self.old) }
     {
         if hats::hat_at(&self.hats, asked.region).is_none() {
@@ -476,9 +476,9 @@ impl Gateway {
         face: FaceId,
         opened: OpenFace,
         said: &Said,
-        target: QueryTarget,
+        request: &Request,
     ) -> Result<Vec<QueryTargetQabl>, OutOfMemory>
-        ensures offers { IfOk result (λ v. v.items ≡ select_for self.now.core face said.now target (Some opened)) }
+        ensures offers { IfOk result (λ v. v.items ≡ select_for self.now.core face said.now request.now (Some opened)) }
         ensures distinct { IfOk result (λ v. are_distinct (face_numbers (map target_of v.items)) ≡ true) }
     {
         if !says_key(said) {
@@ -491,7 +491,7 @@ impl Gateway {
             face,
             opened,
         };
-        asker.select(self.alloc, &self.hats, full_text(said), target)
+        asker.select(self.alloc, &self.hats, full_text(said), request.target)
     }
 
     // A request of a face.
@@ -503,13 +503,13 @@ impl Gateway {
         now: u64,
     ) -> Result<Step, OutOfMemory>
         ensures step { IfOk result (λ t. t ≡ answer self.old (asking face said.now request.now now)) }
-        ensures after { OnOk result (self.new ≡ follow self.old (asking face said.now request.now now)) }
+        ensures after { OnOk result (self.new ≡ settle self.old (asking face said.now request.now now)) }
         ensures err { OnErr result (self.new ≡ self.old) }
     {
         let Some(opened) = self.opened(face) else {
             return Ok(self.refused(Refusal::UnknownFace));
         };
-        let offers = self.select(face, opened, said, request.target)?;
+        let offers = self.select(face, opened, said, request)?;
         let targets = targets_of(self.alloc, offers.as_slice())?;
         if lacks_number(&self.queries, targets.as_slice()) {
             return Ok(self.refused(Refusal::NoFreeId));
@@ -536,10 +536,10 @@ impl Gateway {
     }
 
     // A face is closed: its entries are let go, and it gives up its numbers.
-    #[tactic(auto, using(crate::proofs::Writing::finals_written))]
+    #[tactic(auto, using(crate::proofs::Writing::closed_step, crate::proofs::Writing::closed_after))]
     fn close(&mut self, face: FaceId) -> Result<Step, OutOfMemory>
         ensures step { IfOk result (λ t. t ≡ answer self.old (closing face)) }
-        ensures after { OnOk result (self.new ≡ follow self.old (closing face)) }
+        ensures after { OnOk result (self.new ≡ settle self.old (closing face)) }
         ensures err { OnErr result (self.new ≡ self.old) }
     {
         let Some(region) = self.region_of(face) else {
@@ -560,7 +560,7 @@ impl Gateway {
     // A reply of a target.
     fn reply(&mut self, face: FaceId, said: &Said, response: &Response) -> Result<Step, OutOfMemory>
         ensures step { IfOk result (λ t. t ≡ answer self.old (replying face said.now response.now)) }
-        ensures after { OnOk result (self.new ≡ follow self.old (replying face said.now response.now)) }
+        ensures after { OnOk result (self.new ≡ settle self.old (replying face said.now response.now)) }
         ensures err { OnErr result (self.new ≡ self.old) }
     {
         if !self.is_open(face) {
@@ -584,7 +584,6 @@ impl Gateway {
     }
 
     // A reply is handed to its asker and put in flight.
-    #[tactic(auto, using(crate::proofs::Writing::replies_written))]
     fn put_reply(
         &mut self,
         face: FaceId,
@@ -594,11 +593,11 @@ impl Gateway {
     ) -> Result<Step, OutOfMemory>
         requires next { next_reply face.0 response.now.rid self.old.core.queries ≡ Some to.now }
         requires fits { IsSome to.now.reply → self.old.core.queries.replies + 1 < 2 ^ 64 }
-        ensures step { IfOk result (λ t. t ≡ write self.old.names (granted self.old.core (replying face said.now response.now))) }
+        ensures step { IfOk result (λ t. t ≡ record { outcome = outcome_of self.old.core (replying face said.now response.now); handed = write self.old.names (messages_of self.old.core (replying face said.now response.now)) }) }
         ensures after { OnOk result (self.new ≡ accepted_state self.old (replying face said.now response.now)) }
         ensures err { OnErr result (self.new ≡ self.old) }
     {
-        let handed = written_replies(self.alloc, full_text(said), response, to)?;
+        let handed = written_replies(self.alloc, &self.names, full_text(said), response, to)?;
         match self.queries.reply(face, response.rid) {
             Ok(to) => Ok(Step {
                 outcome: Outcome::Replied(to.reply),
@@ -611,10 +610,10 @@ impl Gateway {
     }
 
     // A moment has come: entries whose deadlines have come are let go.
-    #[tactic(auto, using(crate::proofs::Writing::polled))]
+    #[tactic(auto, using(crate::proofs::Writing::polled_after))]
     fn pass(&mut self, now: u64) -> Result<Step, OutOfMemory>
         ensures step { IfOk result (λ t. t ≡ answer self.old (passing now)) }
-        ensures after { OnOk result (self.new ≡ follow self.old (passing now)) }
+        ensures after { OnOk result (self.new ≡ settle self.old (passing now)) }
         ensures err { OnErr result (self.new ≡ self.old) }
     {
         let timeouts = match self.queries.would_poll(now) {
@@ -622,7 +621,7 @@ impl Gateway {
             Err(PollRefusal::NoFreeId) => return Ok(self.refused(Refusal::NoFreeId)),
             Err(PollRefusal::OutOfMemory) => return Err(OutOfMemory),
         };
-        let handed = written_timeouts(self.alloc, &self.faces, timeouts.as_slice())?;
+        let handed = written_timeouts(self.alloc, &self.names, &self.faces, timeouts.as_slice())?;
         match self.queries.poll(now) {
             Ok(_) => Ok(Step {
                 outcome: Outcome::Done,
@@ -636,7 +635,7 @@ impl Gateway {
     // The face declares a number for a text.
     fn declare_key(&mut self, face: FaceId, id: u16, said: &Said) -> Result<Step, OutOfMemory>
         ensures step { IfOk result (λ t. t ≡ answer self.old (naming face id said.now (text_at id (face_naming face.0 self.old.names).theirs))) }
-        ensures after { OnOk result (self.new ≡ follow self.old (naming face id said.now (text_at id (face_naming face.0 self.old.names).theirs))) }
+        ensures after { OnOk result (self.new ≡ settle self.old (naming face id said.now (text_at id (face_naming face.0 self.old.names).theirs))) }
         ensures err { OnErr result (self.new ≡ self.old) }
     {
         if !self.is_open(face) {
@@ -660,7 +659,7 @@ impl Gateway {
     // The face gives a number up.
     fn undeclare_key(&mut self, face: FaceId, id: u16) -> Result<Step, OutOfMemory>
         ensures step { IfOk result (λ t. t ≡ answer self.old (unnaming face id (text_at id (face_naming face.0 self.old.names).theirs))) }
-        ensures after { OnOk result (self.new ≡ follow self.old (unnaming face id (text_at id (face_naming face.0 self.old.names).theirs))) }
+        ensures after { OnOk result (self.new ≡ settle self.old (unnaming face id (text_at id (face_naming face.0 self.old.names).theirs))) }
         ensures err { OnErr result (self.new ≡ self.old) }
     {
         if !self.is_open(face) {
@@ -731,7 +730,7 @@ impl Gateway {
     // A mark of a face is set or unset.
     fn finalize(&mut self, face: FaceId, mark: &FinalMark, set: bool) -> Result<Step, OutOfMemory>
         ensures step { IfOk result (λ t. t ≡ answer self.old (finalizing face mark.now set)) }
-        ensures after { OnOk result (self.new ≡ follow self.old (finalizing face mark.now set)) }
+        ensures after { OnOk result (self.new ≡ settle self.old (finalizing face mark.now set)) }
         ensures err { OnErr result (self.new ≡ self.old) }
     {
         let Some(region) = self.region_of(face) else {
@@ -747,7 +746,7 @@ impl Gateway {
     // The gateways of a region are listed.
     fn list_gateways(&mut self, region: Region, table: &Gateways) -> Result<Step, OutOfMemory>
         ensures step { IfOk result (λ t. t ≡ answer self.old (listing region table.now)) }
-        ensures after { OnOk result (self.new ≡ follow self.old (listing region table.now)) }
+        ensures after { OnOk result (self.new ≡ settle self.old (listing region table.now)) }
         ensures err { OnErr result (self.new ≡ self.old) }
     {
         if hats::hat_at(&self.hats, region).is_none() {

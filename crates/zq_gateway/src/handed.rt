@@ -1,13 +1,13 @@
 //! The messages that a step hands.
-ghost use Rattle.std.specs.Prelude.{◌≡◌, ◌<◌, [], ◌∷◌, IfOk, IfSome, map, vec_capacity, vec_len};
-ghost use Rattle.std.specs.List.{cons_option, filter};
-ghost use Rattle.zq_naming.specs.Naming.{face_naming, plain};
-ghost use Rattle.zq_query.specs.Polling.{has_number_for};
+ghost use Rattle.std.specs.Prelude.{◌≡◌, ◌<◌, [], ◌∷◌, IfOk, IfSome, Some, map, vec_capacity, vec_len};
+ghost use Rattle.std.specs.List.{cons_option};
+ghost use Rattle.zq_naming.specs.Naming.{best, face_naming, plain};
 ghost use Rattle.zq_gateway.specs.Selecting.{zid_of};
 ghost use Rattle.zq_query.specs.Asking.{given_id};
-ghost use Rattle.zq_gateway.specs.Machine.{sent_final, sent_replies, sent_timeout, written, written_message};
-ghost use Rattle.zq_gateway.specs.Deciding.{timed_out, timeout_word, handed_request, handed_requests};
-ghost use Rattle.zq_key.specs.declared.message.Message.{Message};
+ghost use Rattle.zq_key.specs.declared.message.Message.TheVariants as message_of;
+ghost use Rattle.zq_key.specs.declared.message.ReplyBody.TheVariants as body;
+ghost use Rattle.zq_gateway.specs.Writing.{sent_final, write, written};
+ghost use Rattle.zq_gateway.specs.Deciding.{timed_out, timeout_word, handed_replies, handed_reply, handed_request, handed_requests, handed_timeout, handed_timeouts};
 
 use crate::call::{Handed, HandedList};
 use crate::face::OpenFace;
@@ -113,26 +113,40 @@ fn reply_message(
 /// A reply to its asker; to no one, where the asker is closed.
 pub fn written_replies(
     alloc: Global,
+    names: &Naming,
     text: &str,
     response: &Response,
     to: &ReplyTo,
 ) -> Result<HandedList, OutOfMemory>
-    ensures { IfOk result (λ l. l ≡ sent_replies text.now response.now to.now) }
+    ensures { IfOk result (λ l. l ≡ write names.now (handed_replies text.now response.now to.now)) }
 {
-    if to.reply.is_none() {
+    let Some(reply) = to.reply else {
         return Ok(Items::new(alloc));
-    }
+    };
     let mut handed = room_for(alloc, 1)?;
     let message = reply_message(alloc, text, response, to)?;
+    handed.push(in_flight(alloc, to.asker, to.number, reply, message)?)?;
+    Ok(handed)
+}
+
+// A reply that its asker is handed.
+fn in_flight(
+    alloc: Global,
+    to: FaceId,
+    number: u64,
+    reply: u64,
+    message: Response,
+) -> Result<Handed, OutOfMemory>
+    ensures { IfOk result (λ h. h ≡ record { to = to; number = Some number; reply = Some reply; message = message_of.Response message; leaves = Some (message_of.Response message) }) }
+{
     let leaves = message.copy(alloc)?;
-    handed.push(Handed {
-        to: to.asker,
-        number: Some(to.number),
-        reply: to.reply,
+    Ok(Handed {
+        to,
+        number: Some(number),
+        reply: Some(reply),
         message: Message::Response(message),
         leaves: Some(Message::Response(leaves)),
-    })?;
-    Ok(handed)
+    })
 }
 
 fn given_id(queries: &Queries, face: FaceId) -> u32
@@ -152,7 +166,7 @@ fn request_message(
     offer: &QueryTargetQabl,
     alloc: Global,
 ) -> Result<Request, OutOfMemory>
-    ensures { IfOk result (λ r. Message.Request r ≡ written_message (face_naming offer.now.face.0 names.now) (handed_request queries.now text.now request.now offer.now).message) }
+    ensures { IfOk result (λ r. r ≡ record { id = given_id queries.now offer.now.face; wire = best (face_naming offer.now.face.0 names.now) text.now; target = request.now.target; timeout = request.now.timeout; node = offer.now.node; qos = request.now.qos; payload = request.now.payload }) }
 {
     Ok(Request {
         id: given_id(queries, offer.face),
@@ -195,7 +209,7 @@ fn requests_to(
     request: &Request,
     offers: &[QueryTargetQabl],
 ) -> Result<HandedList, OutOfMemory>
-    ensures { IfOk result (λ l. l ≡ map (written names.now) (map (handed_request queries.now text.now request.now) offers.now)) }
+    ensures { IfOk result (λ l. l ≡ write names.now (map (handed_request queries.now text.now request.now) offers.now)) }
 {
     let mut handed = room_for(alloc, offers.len())?;
     for offer in offers {
@@ -214,7 +228,7 @@ pub fn written_requests(
     request: &Request,
     offers: &[QueryTargetQabl],
 ) -> Result<HandedList, OutOfMemory>
-    ensures { IfOk result (λ l. l ≡ map (written names.now) (handed_requests queries.now asker text.now request.now offers.now)) }
+    ensures { IfOk result (λ l. l ≡ write names.now (handed_requests queries.now asker text.now request.now offers.now)) }
 {
     if !offers.is_empty() {
         return requests_to(alloc, queries, names, text, request, offers);
@@ -234,7 +248,7 @@ fn timeout_message(
     faces: &BTreeMap<u32, OpenFace>,
     timeout: &Timeout,
 ) -> Result<Response, OutOfMemory>
-    ensures { IfOk result (λ r. Message.Response r ≡ (timed_out faces.now.entries timeout.now).message) }
+    ensures { IfOk result (λ r. r ≡ record { rid = timeout.now.id; wire = plain []; qos = timeout.now.qos; payload = body.Err timeout_word; responder = zid_of timeout.now.target.0 faces.now.entries }) }
 {
     Ok(Response {
         rid: timeout.id,
@@ -247,34 +261,30 @@ fn timeout_message(
 
 fn written_timeout(
     alloc: Global,
+    names: &Naming,
     faces: &BTreeMap<u32, OpenFace>,
     timeout: &Timeout,
+    reply: u64,
 ) -> Result<Handed, OutOfMemory>
-    ensures { IfOk result (λ h. h ≡ sent_timeout faces.now.entries timeout.now) }
+    ensures { IfOk result (λ h. h ≡ written names.now (timed_out faces.now.entries timeout.now reply)) }
 {
     let message = timeout_message(alloc, faces, timeout)?;
-    let leaves = message.copy(alloc)?;
-    Ok(Handed {
-        to: timeout.asker,
-        number: Some(timeout.number),
-        reply: timeout.reply,
-        message: Message::Response(message),
-        leaves: Some(Message::Response(leaves)),
-    })
+    in_flight(alloc, timeout.asker, timeout.number, reply, message)
 }
 
 /// Error replies to the askers that are open.
 pub fn written_timeouts(
     alloc: Global,
+    names: &Naming,
     faces: &BTreeMap<u32, OpenFace>,
     timeouts: &[Timeout],
 ) -> Result<HandedList, OutOfMemory>
-    ensures { IfOk result (λ l. l ≡ map (sent_timeout faces.now.entries) (filter has_number_for timeouts.now)) }
+    ensures { IfOk result (λ l. l ≡ write names.now (handed_timeouts faces.now.entries timeouts.now)) }
 {
     let mut handed = room_for(alloc, timeouts.len())?;
     for timeout in timeouts {
-        if timeout.reply.is_some() {
-            handed.push(written_timeout(alloc, faces, timeout)?)?;
+        if let Some(reply) = timeout.reply {
+            handed.push(written_timeout(alloc, names, faces, timeout, reply)?)?;
         }
     }
     Ok(handed)

@@ -1,12 +1,17 @@
 //! Laws of what the gateway decides and keeps, as the contracts of calls.
-ghost use Rattle.std.specs.Prelude.{ℕ, List};
+ghost use Rattle.std.specs.Prelude.{◌≡◌, ℕ, List};
+ghost use Rattle.std.specs.List.{AllByRecursion};
 ghost use Rattle.zq_hat.specs.Moved.{Keeps};
 ghost use Rattle.zq_gateway.specs.declared.call.Call.{Call};
 ghost use Rattle.zq_gateway.specs.Agreeing.{Agrees};
 ghost use Rattle.zq_gateway.specs.Configs.{Settings};
 ghost use Rattle.zq_gateway.specs.Machine.{state_after};
 ghost use Rattle.zq_gateway.specs.Moved.{DecidesAlike};
-ghost use Rattle.zq_gateway.specs.State.{opening_state};
+ghost use Rattle.zq_naming.specs.Naming.{NamingState};
+ghost use Rattle.zq_gateway.specs.Hearing.{CanBeTold, hear};
+ghost use Rattle.zq_gateway.specs.Messages.{Telling};
+ghost use Rattle.zq_gateway.specs.State.{Core, opening_state};
+ghost use Rattle.zq_gateway.specs.Writing.{tell};
 
 /// What is decided moves with its texts, by every map that keeps how they relate.
 #[tactic(auto, using(crate::proofs::DecidingMoved::decides_alike))]
@@ -18,4 +23,11 @@ pub fn decides_alike()
 #[tactic(auto, using(crate::proofs::Agreed::agree_always))]
 pub fn agree_always()
     ensures { (config : Settings) (calls : List Call) → Agrees (state_after (opening_state config) calls) }
+{}
+
+/// What open faces are told is what they hear: each key is read as the text that was told, by the
+/// numbers that were declared to the face before.
+#[tactic(auto, using(crate::proofs::Hearing::told_heard))]
+pub fn told_heard()
+    ensures { (c : Core) (ts : List Telling) (names : NamingState) → AllByRecursion (CanBeTold names) ts → hear (tell c ts names).handed names ≡ ts }
 {}

@@ -1,7 +1,7 @@
 use Rattle.std.proofs.Common.{◌≡◌, map, take}
 use Rattle.zq_gateway.specs.Deciding.{handed_request}
-use Rattle.zq_gateway.specs.Machine.{written}
+use Rattle.zq_gateway.specs.Writing.{write}
 use Rattle.zq_gateway.proofs.handed.requests_to.Given as goal
 
 abbrev pub invariant-loop-offer : goal.invariant-loop-offer
-invariant-loop-offer l = l.handed ≡ map (written l.names) (map (handed_request l.queries l.text l.request) (take l.offer-index l.offers))
+invariant-loop-offer l = l.handed ≡ write l.names (map (handed_request l.queries l.text l.request) (take l.offer-index l.offers))

@@ -1,7 +1,7 @@
 use Rattle.std.proofs.Common.{◌≡◌, subst}
 use Rattle.std.specs.Prelude.{IfOk, OnOk}
 use Rattle.zq_naming.specs.Naming.{said_of, face_naming, text_at}
-use Rattle.zq_gateway.specs.Machine.{answer, follow}
+use Rattle.zq_gateway.specs.Machine.{answer, settle}
 use Rattle.zq_gateway.specs.TextCalls.{naming}
 use Rattle.zq_gateway.proofs.gateway.Gateway.name_key.Goals as goal
 
@@ -13,4 +13,4 @@ returns-clause-step c =
 pub returns-clause-after : goal.returns-clause-after
 returns-clause-after c =
     let read : c.in_ok-said.said ≡ said_of (face_naming c.args.face.0 c.args.self.now.names) c.args.wire.now = rw (← c.self.view_is) c.in_ok-said.ensures in
-    subst (λ said. OnOk c.declare_key.result (c.declare_key.new.self ≡ follow c.args.self.now (naming c.args.face c.args.id said (text_at c.args.id (face_naming c.args.face.0 c.args.self.now.names).theirs)))) read c.declare_key.ensures.after
+    subst (λ said. OnOk c.declare_key.result (c.declare_key.new.self ≡ settle c.args.self.now (naming c.args.face c.args.id said (text_at c.args.id (face_naming c.args.face.0 c.args.self.now.names).theirs)))) read c.declare_key.ensures.after

@@ -1,7 +1,7 @@
 use Rattle.std.proofs.Common.{◌≡◌, subst}
 use Rattle.std.specs.Prelude.{IfOk, OnOk}
 use Rattle.zq_naming.specs.Naming.{said_of, face_naming}
-use Rattle.zq_gateway.specs.Machine.{answer, follow}
+use Rattle.zq_gateway.specs.Machine.{answer, settle}
 use Rattle.zq_gateway.specs.TextCalls.{asking}
 use Rattle.zq_gateway.proofs.gateway.Gateway.send_request.Goals as goal
 
@@ -13,4 +13,4 @@ returns-clause-step c =
 pub returns-clause-after : goal.returns-clause-after
 returns-clause-after c =
     let read : c.in_ok-said.said ≡ said_of (face_naming c.args.face.0 c.args.self.now.names) c.args.msg.now.wire = rw (← c.self.view_is) c.in_ok-said.ensures in
-    subst (λ said. OnOk c.request.result (c.request.new.self ≡ follow c.args.self.now (asking c.args.face said c.args.msg.now c.args.now))) read c.request.ensures.after
+    subst (λ said. OnOk c.request.result (c.request.new.self ≡ settle c.args.self.now (asking c.args.face said c.args.msg.now c.args.now))) read c.request.ensures.after
