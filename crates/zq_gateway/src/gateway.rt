@@ -3,9 +3,9 @@ ghost use Rattle.std.specs.Prelude.{IfErr, ◌≡◌, ◌<◌, ◌+◌, ◌^◌,
 ghost use Rattle.std.specs.BTreeMap.{insert_entry};
 ghost use Rattle.std.specs.Option.{IsSome};
 ghost use Rattle.std.specs.Ordering.{nat_cmp};
-ghost use Rattle.std.specs.List.{cons_option};
+ghost use Rattle.std.specs.List.{cons_option, list_any};
 ghost use Rattle.zq_gateway.specs.Configs.{north_of};
-ghost use Rattle.zq_query.specs.Records.{next_reply};
+ghost use Rattle.zq_query.specs.Records.{has_number, next_reply};
 ghost use Rattle.zq_query.specs.Asking.{are_distinct, face_numbers, is_full, lacks_number};
 ghost use Rattle.zq_naming.specs.Naming.{is_text};
 ghost use Rattle.zq_gateway.specs.declared.call.Call.TheVariants as call;
@@ -26,7 +26,7 @@ use crate::handed::{
     written_timeouts,
 };
 use crate::hats;
-use crate::parts::{lacks_number, take_back, take_seat, targets_of};
+use crate::parts::{take_back, take_seat, targets_of};
 use crate::read::{full_text, is_unscoped, marks_key, says_key, says_key_or_nothing};
 use crate::select::Asker;
 use std::alloc::Global;
@@ -511,9 +511,11 @@ impl Gateway {
         };
         let offers = self.select(face, opened, said, request)?;
         let targets = targets_of(self.alloc, offers.as_slice())?;
-        if lacks_number(&self.queries, targets.as_slice()) {
-            return Ok(self.refused(Refusal::NoFreeId));
-        }
+        let plan = match self.queries.plan(targets.as_slice()) {
+            Ok(plan) => plan,
+            Err(AskRefusal::NoFreeId) => return Ok(self.refused(Refusal::NoFreeId)),
+            Err(AskRefusal::OutOfMemory) => return Err(OutOfMemory),
+        };
         let handed = written_requests(
             self.alloc,
             &self.queries,
@@ -522,17 +524,16 @@ impl Gateway {
             full_text(said),
             request,
             offers.as_slice(),
+            plan.places.as_slice(),
         )?;
         let number = self.queries.next_number();
         let deadline = now.saturating_add(request.timeout.unwrap_or(self.config.timeout()));
-        match self.queries.ask(face, request.id, request.qos, targets.as_slice(), deadline) {
-            Ok(_) => Ok(Step {
-                outcome: Outcome::Asked(number),
-                handed,
-            }),
-            Err(AskRefusal::OutOfMemory) => Err(OutOfMemory),
-            Err(AskRefusal::NoFreeId) => unreachable!(),
-        }
+        self.queries
+            .ask(face, request.id, request.qos, &plan, deadline)?;
+        Ok(Step {
+            outcome: Outcome::Asked(number),
+            handed,
+        })
     }
 
     // A face is closed: its entries are let go, and it gives up its numbers.
@@ -547,7 +548,7 @@ impl Gateway {
         };
         let finals = self.queries.would_close(face)?;
         let handed = written_finals(self.alloc, finals.as_slice())?;
-        let _ = self.queries.close(face)?;
+        self.queries.close(face)?;
         hats::leave(&mut self.hats, region, face);
         let _ = self.faces.remove(&face.0);
         self.names.close(face);
@@ -569,16 +570,20 @@ impl Gateway {
         if is_unscoped(said) {
             return Ok(self.refused(Refusal::UnknownScope));
         }
-        if !self.queries.is_pending(face, response.rid) {
-            return Ok(self.refused(Refusal::QueryNotFound));
-        }
-        if !says_key_or_nothing(said) {
-            return Ok(self.refused(Refusal::InvalidKeyExpr));
-        }
         match self.queries.would_reply(face, response.rid) {
-            Ok(to) => self.put_reply(face, said, response, &to),
-            Err(ReplyRefusal::NoFreeId) => Ok(self.refused(Refusal::NoFreeId)),
-            Err(ReplyRefusal::QueryNotFound) => unreachable!(),
+            Ok(to) => {
+                if !says_key_or_nothing(said) {
+                    return Ok(self.refused(Refusal::InvalidKeyExpr));
+                }
+                self.put_reply(face, said, response, &to)
+            }
+            Err(ReplyRefusal::NoFreeId) => {
+                if !says_key_or_nothing(said) {
+                    return Ok(self.refused(Refusal::InvalidKeyExpr));
+                }
+                Ok(self.refused(Refusal::NoFreeId))
+            }
+            Err(ReplyRefusal::QueryNotFound) => Ok(self.refused(Refusal::QueryNotFound)),
             Err(ReplyRefusal::OutOfMemory) => unreachable!(),
         }
     }
@@ -592,21 +597,18 @@ impl Gateway {
         to: &ReplyTo,
     ) -> Result<Step, OutOfMemory>
         requires next { next_reply face.0 response.now.rid self.old.core.queries ≡ Some to.now }
+        requires there { list_any (has_number to.now.number) self.old.core.queries.records ≡ true }
         requires fits { IsSome to.now.reply → self.old.core.queries.replies + 1 < 2 ^ 64 }
         ensures step { IfOk result (λ t. t ≡ record { outcome = outcome_of self.old.core (replying face said.now response.now); handed = write self.old.names (messages_of self.old.core (replying face said.now response.now)) }) }
         ensures after { OnOk result (self.new ≡ accepted_state self.old (replying face said.now response.now)) }
         ensures err { OnErr result (self.new ≡ self.old) }
     {
         let handed = written_replies(self.alloc, &self.names, full_text(said), response, to)?;
-        match self.queries.reply(face, response.rid) {
-            Ok(to) => Ok(Step {
-                outcome: Outcome::Replied(to.reply),
-                handed,
-            }),
-            Err(ReplyRefusal::OutOfMemory) => Err(OutOfMemory),
-            Err(ReplyRefusal::QueryNotFound) => unreachable!(),
-            Err(ReplyRefusal::NoFreeId) => unreachable!(),
-        }
+        self.queries.reply(to)?;
+        Ok(Step {
+            outcome: Outcome::Replied(to.reply),
+            handed,
+        })
     }
 
     // A moment has come: entries whose deadlines have come are let go.
@@ -622,14 +624,11 @@ impl Gateway {
             Err(PollRefusal::OutOfMemory) => return Err(OutOfMemory),
         };
         let handed = written_timeouts(self.alloc, &self.names, &self.faces, timeouts.as_slice())?;
-        match self.queries.poll(now) {
-            Ok(_) => Ok(Step {
-                outcome: Outcome::Done,
-                handed,
-            }),
-            Err(PollRefusal::OutOfMemory) => Err(OutOfMemory),
-            Err(PollRefusal::NoFreeId) => unreachable!(),
-        }
+        self.queries.poll(now, timeouts.as_slice())?;
+        Ok(Step {
+            outcome: Outcome::Done,
+            handed,
+        })
     }
 
     // The face declares a number for a text.

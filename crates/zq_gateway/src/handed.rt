@@ -2,8 +2,8 @@
 ghost use Rattle.std.specs.Prelude.{◌≡◌, ◌<◌, [], ◌∷◌, IfOk, IfSome, Some, map, vec_capacity, vec_len};
 ghost use Rattle.std.specs.List.{cons_option};
 ghost use Rattle.zq_naming.specs.Naming.{best, face_naming, plain};
-ghost use Rattle.zq_gateway.specs.Selecting.{zid_of};
-ghost use Rattle.zq_query.specs.Asking.{given_id};
+ghost use Rattle.zq_gateway.specs.Selecting.{target_of, zid_of};
+ghost use Rattle.zq_query.specs.Asking.{given_id, given_place};
 ghost use Rattle.zq_key.specs.declared.message.Message.TheVariants as message_of;
 ghost use Rattle.zq_key.specs.declared.message.ReplyBody.TheVariants as body;
 ghost use Rattle.zq_gateway.specs.Writing.{sent_final, write, written};
@@ -149,27 +149,21 @@ fn in_flight(
     })
 }
 
-fn given_id(queries: &Queries, face: FaceId) -> u32
-    ensures { result ≡ given_id queries.now face }
-{
-    match queries.next_id(face) {
-        Some(id) => id,
-        None => 0,
-    }
-}
-
 fn request_message(
+    alloc: Global,
     queries: &Queries,
     names: &Naming,
     text: &str,
     request: &Request,
     offer: &QueryTargetQabl,
-    alloc: Global,
+    id: u32,
 ) -> Result<Request, OutOfMemory>
+    requires { id ≡ given_id queries.now offer.now.face }
     ensures { IfOk result (λ r. r ≡ record { id = given_id queries.now offer.now.face; wire = best (face_naming offer.now.face.0 names.now) text.now; target = request.now.target; timeout = request.now.timeout; node = offer.now.node; qos = request.now.qos; payload = request.now.payload }) }
 {
+    let _ = queries;
     Ok(Request {
-        id: given_id(queries, offer.face),
+        id,
         wire: names.best(offer.face, text)?,
         target: request.target,
         timeout: request.timeout,
@@ -187,10 +181,12 @@ fn written_request(
     text: &str,
     request: &Request,
     offer: &QueryTargetQabl,
+    id: u32,
 ) -> Result<Handed, OutOfMemory>
+    requires { id ≡ given_id queries.now offer.now.face }
     ensures { IfOk result (λ h. h ≡ written names.now (handed_request queries.now text.now request.now offer.now)) }
 {
-    let message = request_message(queries, names, text, request, offer, alloc)?;
+    let message = request_message(alloc, queries, names, text, request, offer, id)?;
     let leaves = message.copy(alloc)?;
     Ok(Handed {
         to: offer.face,
@@ -208,12 +204,22 @@ fn requests_to(
     text: &str,
     request: &Request,
     offers: &[QueryTargetQabl],
+    places: &[(u32, u32)],
 ) -> Result<HandedList, OutOfMemory>
+    requires { places.now ≡ map (given_place queries.now) (map target_of offers.now) }
     ensures { IfOk result (λ l. l ≡ write names.now (map (handed_request queries.now text.now request.now) offers.now)) }
 {
     let mut handed = room_for(alloc, offers.len())?;
-    for offer in offers {
-        handed.push(written_request(alloc, queries, names, text, request, offer)?)?;
+    for i in 0..offers.len() {
+        handed.push(written_request(
+            alloc,
+            queries,
+            names,
+            text,
+            request,
+            &offers[i],
+            places[i].1,
+        )?)?;
     }
     Ok(handed)
 }
@@ -227,11 +233,13 @@ pub fn written_requests(
     text: &str,
     request: &Request,
     offers: &[QueryTargetQabl],
+    places: &[(u32, u32)],
 ) -> Result<HandedList, OutOfMemory>
+    requires { places.now ≡ map (given_place queries.now) (map target_of offers.now) }
     ensures { IfOk result (λ l. l ≡ write names.now (handed_requests queries.now asker text.now request.now offers.now)) }
 {
     if !offers.is_empty() {
-        return requests_to(alloc, queries, names, text, request, offers);
+        return requests_to(alloc, queries, names, text, request, offers, places);
     }
     let mut handed = room_for(alloc, 1)?;
     handed.push(written_final(Final {

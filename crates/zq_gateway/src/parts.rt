@@ -86,19 +86,3 @@ pub fn targets_of(alloc: Global, offers: &[QueryTargetQabl]) -> Result<Vec<FaceI
 {
     offers.iter().map(|offer| offer.face).collect(alloc)
 }
-
-/// No number is left for the request, or no id at a target.
-pub fn lacks_number(queries: &Queries, targets: &[FaceId]) -> bool
-    ensures { result ≡ lacks_number targets.now queries.now }
-{
-    if queries.next_number() == u64::MAX {
-        return true;
-    }
-    any_full(queries, targets)
-}
-
-fn any_full(queries: &Queries, targets: &[FaceId]) -> bool
-    ensures { result ≡ list_any (is_full queries.now) targets.now }
-{
-    targets.iter().any(|face| queries.next_id(*face).is_none())
-}

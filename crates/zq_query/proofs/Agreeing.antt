@@ -6,7 +6,7 @@ use Rattle.zq_query.specs.declared.queries.Open.{Open}
 use Rattle.zq_query.specs.declared.queries.Owed.{Owed}
 use Rattle.zq_query.specs.Records.{Record, Pending, without, is_left, letting_go, letting_go_all}
 use Rattle.zq_query.specs.Polling.{is_among}
-use Rattle.zq_query.specs.Tables.{Place, Due, is_of, entry_of, record_of, records_of, IsTied}
+use Rattle.zq_query.specs.Tables.{Dues, Place, is_of, entry_of, record_of, records_of, IsTied}
 use Rattle.zq_query.proofs.Entries.{map_both, map_each}
 use Rattle.zq_query.proofs.Fusion.{all_fused, all_left}
 
@@ -48,7 +48,7 @@ keeps_all [] = refl
 keeps_all (r ∷ rs) = λ j. keeps_record r j ∷ keeps_all rs j
 
 -- the entries at some places are let go, where these are those that pass
-pub letting_all : (heads : List (ℕ × Open)) (pending : List (Place × Owed)) (dues : List (Due × ℕ)) (replies : List (ℕ × ℕ)) (p : Pending → Bool) (places : List (ℕ × ℕ)) → IsTied heads pending dues replies
+pub letting_all : (heads : List (ℕ × Open)) (pending : List (Place × Owed)) (dues : Dues) (replies : List (ℕ × ℕ)) (p : Pending → Bool) (places : List (ℕ × ℕ)) → IsTied heads pending dues replies
     → AllByRecursion (λ e. is_among places (entry_of e) ≡ p (entry_of e)) pending → letting_go_all (records_of heads pending replies) places ≡ letting_go p (records_of heads pending replies)
 letting_all heads pending dues replies p places tied all =
     ap (λ rs. letting_go_all rs places) (sym (ap (filter is_left) (keeps_all (records_of heads pending replies)) ∙ all_left heads pending dues replies tied))

@@ -22,7 +22,7 @@ use Rattle.zq_query.specs.declared.queries.Open.{Open}
 use Rattle.zq_query.specs.declared.queries.Owed.{Owed}
 use Rattle.zq_query.specs.Records.{Pending, is_entry, is_over, final_of, without, letting_go, letting_go_all}
 use Rattle.zq_query.specs.Polling.{is_among}
-use Rattle.zq_query.specs.Tables.{Place, Due, place_cmp, is_of, flies_for, entry_of, record_of, records_of, at_number, at_place, final_at, IsTied}
+use Rattle.zq_query.specs.Tables.{Dues, Place, place_cmp, is_of, flies_for, entry_of, record_of, records_of, at_number, at_place, final_at, IsTied}
 use Rattle.zq_query.specs.Closing.{at_face, has_open_asker, finals_after}
 use Rattle.zq_query.specs.FaceEntries.{entries_of_face, ending, ending_by, has_key}
 use Rattle.zq_query.proofs.Keys.{place_total, place_exact}
@@ -99,7 +99,7 @@ some_key : (m : ℕ) (o : Open) (hs : List (ℕ × Open)) → at_number m hs ≡
 some_key m o [] is = absurd (cc)
 some_key m o (h ∷ hs) is = key_by m o h hs (is_at (nat_cmp m) h.0) is (some_key m o hs)
 
-module _ (heads : List (ℕ × Open)) (pending : List (Place × Owed)) (dues : List (Due × ℕ)) (replies : List (ℕ × ℕ)) (tied : IsTied heads pending dues replies) (face : ℕ) where
+module _ (heads : List (ℕ × Open)) (pending : List (Place × Owed)) (dues : Dues) (replies : List (ℕ × ℕ)) (tied : IsTied heads pending dues replies) (face : ℕ) where
   listed : AllByRecursion (λ e. at_place e.0 pending ≡ Some e.1) pending
   listed = each_entry place_total place_exact (λ e. at_place e.0 pending ≡ Some e.1) pending tied.places (λ k v h. h)
 

@@ -11,7 +11,7 @@ use Rattle.zq_query.specs.declared.queries.Open.{Open}
 use Rattle.zq_query.specs.declared.queries.Owed.{Owed}
 use Rattle.zq_query.specs.Records.{is_reply}
 use Rattle.zq_query.specs.Polling.{has_reply_from}
-use Rattle.zq_query.specs.Tables.{Place, Due, flies_for, record_of, records_of, at_number, IsTied, IsBelow}
+use Rattle.zq_query.specs.Tables.{Dues, Place, flies_for, record_of, records_of, at_number, IsTied, IsBelow}
 use Rattle.zq_query.proofs.Entries.{any_map, one_has, has_the_reply}
 use Rattle.zq_query.proofs.Owing.{any_weaker}
 use Rattle.zq_key.proofs.Lookups.{each_entry}
@@ -31,7 +31,7 @@ none_at_all : (n : ℕ) (replies : List (ℕ × ℕ)) (heads : List (ℕ × Open
 none_at_all n replies [] all = refl
 none_at_all n replies (h ∷ heads) all = rw (none_of n h.0 replies all) (none_at_all n replies heads all)
 
-module _ (heads : List (ℕ × Open)) (pending : List (Place × Owed)) (dues : List (Due × ℕ)) (replies : List (ℕ × ℕ)) (tied : IsTied heads pending dues replies) where
+module _ (heads : List (ℕ × Open)) (pending : List (Place × Owed)) (dues : Dues) (replies : List (ℕ × ℕ)) (tied : IsTied heads pending dues replies) where
   read : (n : ℕ) → has_reply_from n (records_of heads pending replies) ≡ list_any (λ e. flies_from replies n e.0) heads
   read n = any_map (record_of pending replies) (λ r. list_any (λ x. not (nat_lt x n)) r.in_flight) heads
 

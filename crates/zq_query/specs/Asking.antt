@@ -1,11 +1,12 @@
 -- What a request makes of the records: one entry a target, under the next id there.
-use Rattle.std.specs.Prelude.{ℕ, ◌+◌, ◌^◌, ◌==◌, ◌&&◌, ◌||◌, Bool, true, not, List, [], ◌∷◌, ◌++◌, map, fold, nat_lt, if◌then◌else◌, Option, Some, None}
-use Rattle.std.specs.List.{list_any}
+use Rattle.std.specs.Prelude.{◌≡◌, ◌<◌, ℕ, ◌+◌, ◌^◌, ◌==◌, ◌&&◌, ◌||◌, Bool, true, false, not, List, [], ◌∷◌, ◌++◌, map, fold, nat_lt, if◌then◌else◌, Option, Some, None}
+use Rattle.std.specs.List.{list_any, AllByRecursion}
 use Rattle.std.specs.Option.{unwrap_or, is_some}
 use Rattle.std.specs.BTreeMap.{insert_entry, is_at}
-use Rattle.std.specs.Map.{remove_entry, set_value}
+use Rattle.std.specs.Map.{keys_of, remove_entry, set_value}
 use Rattle.std.specs.Ordering.{nat_cmp}
 use Rattle.zq_key.specs.declared.message.FaceId.{FaceId}
+use Rattle.zq_query.specs.Tables.{at_number}
 use Rattle.zq_query.specs.Records.{QueryState, Record, Pending, insert_pending, next_id, is_pending, is_none_left}
 
 -- no number stands twice
@@ -62,9 +63,13 @@ restoring face (Some id) ids = set_value (is_at (nat_cmp face)) ids id
 abbrev pub entering : FaceId → ℕ → ℕ → List (ℕ × ℕ) → ℕ → QueryState → QueryState
 entering asker id qos places deadline s = record s { records = s.records ++ asked_records s.requests asker id qos places deadline; requests = s.requests + 1 }
 
--- and each target the id as its last
+-- and each face the id as its last
+abbrev pub asking_at : FaceId → ℕ → ℕ → List (ℕ × ℕ) → ℕ → QueryState → QueryState
+asking_at asker id qos places deadline s = record (entering asker id qos places deadline s) { last_ids = giving s.last_ids places }
+
+-- each target is given its next id
 abbrev pub after_ask : FaceId → ℕ → ℕ → List FaceId → ℕ → QueryState → QueryState
-after_ask asker id qos targets deadline s = record (entering asker id qos (map (given_place s) targets) deadline s) { last_ids = giving s.last_ids (map (given_place s) targets) }
+after_ask asker id qos targets deadline s = asking_at asker id qos (map (given_place s) targets) deadline s
 
 -- some record has the number, or a greater one
 abbrev pub has_number_from : ℕ → List Record → Bool
@@ -73,3 +78,11 @@ has_number_from number rs = list_any (λ r. not (nat_lt r.number number)) rs
 -- some place is pending
 abbrev pub any_pending : List Record → List (ℕ × ℕ) → Bool
 any_pending rs places = list_any (λ p. is_pending p.0 p.1 rs) places
+
+-- what the next request can be given: a number, and places of distinct faces where nothing is pending; and the ids last given there
+pub record IsPlan (s : QueryState) (places : List (ℕ × ℕ)) (before : List (Option ℕ)) : Type 0 where
+  pub fits : s.requests + 1 < 2 ^ 64
+  pub absent : any_pending s.records places ≡ false
+  pub distinct : are_distinct (keys_of places) ≡ true
+  pub small : AllByRecursion (λ p. (p.0 < 2 ^ 32) × (p.1 < 2 ^ 32)) places
+  pub known : before ≡ map (λ p. at_number p.0 s.last_ids) places

@@ -1,20 +1,20 @@
 //! The open requests by number, their entries by place and by deadline, and the replies in flight.
-ghost use Rattle.std.specs.Prelude.{◌≡◌, ℕ, true, ◌<◌, ◌-◌, ◌+◌, ◌^◌, ◌&&◌, ◌==◌, Some, None, if◌then◌else◌, IfSome, IfNone, IfOk, OnOk, OnErr, IsErrOf, [], ◌++◌, ◌∷◌, false, length};
+ghost use Rattle.std.specs.Prelude.{◌≡◌, ℕ, find, true, ◌<◌, ◌-◌, ◌+◌, ◌^◌, ◌&&◌, ◌==◌, Some, None, if◌then◌else◌, OnSome, IfSome, IfNone, IfOk, OnOk, OnErr, IsErrOf, [], ◌++◌, ◌∷◌, false, length};
 ghost use Rattle.std.specs.BTreeMap.{get, is_at, insert_entry};
 ghost use Rattle.std.specs.Map.{remove_entry, set_value};
 ghost use Rattle.std.specs.Option.{is_some, IsSome, option_map};
 ghost use Rattle.std.specs.Ordering.{nat_cmp};
 ghost use Rattle.std.specs.List.{list_any, cons_option};
-ghost use Rattle.zq_query.specs.Tables.{place_cmp, due_cmp, at_number, at_place, less_owed, less_flying, more_flying, more_owed, first_record, is_spent, final_at};
+ghost use Rattle.zq_query.specs.Tables.{dues_left, flies_for, place_cmp, due_cmp, at_number, at_place, less_owed, less_flying, more_flying, more_owed, first_record, is_spent, final_at};
 ghost use Rattle.zq_query.specs.declared.records.Final.{Final};
 ghost use Rattle.zq_query.specs.Closing.{finals_after, finals_landed};
-ghost use Rattle.zq_query.specs.Records.{is_pending, is_entry, is_closed, final_if_open, request, owner, next_reply, lacks_reply, after_put, after_reply, last_given, next_id, pending_count, has_number, owes_face, adding, letting_go, letting_go_all, has_deadline, has_earlier, owes_any, over_after, ending_after, ending_landed, is_in_flight, flies, landing, over_after_reply};
+ghost use Rattle.zq_query.specs.Records.{is_pending, is_entry, is_closed, final_if_open, request, owner, next_reply, lacks_reply, after_put, after_reply, first_free, next_id, pending_count, has_number, owes_face, adding, letting_go, letting_go_all, has_deadline, has_earlier, owes_any, over_after, ending_after, ending_landed, is_in_flight, flies, landing, over_after_reply};
 
 mod ask;
 mod close;
 mod poll;
 
-use crate::records::{Final, NotInFlight, QueryNotFound, ReplyRefusal, ReplyTo};
+use crate::records::{Final, NotInFlight, PlaceList, QueryNotFound, ReplyRefusal, ReplyTo};
 use std::alloc::Global;
 use std::collections::{BTreeMap, BTreeSet};
 use std::marker::Model;
@@ -43,9 +43,8 @@ pub struct Queries {
     alloc: Global,
     heads: BTreeMap<u64, Open>,
     pending: BTreeMap<(u32, u32), Owed>,
-    dues: BTreeMap<(u64, u64, u32), u32>,
+    dues: BTreeMap<(u64, u64), PlaceList>,
     replies: BTreeMap<u64, u64>,
-    flights: BTreeSet<(u64, u64)>,
     last_ids: BTreeMap<u32, u32>,
     closed: BTreeSet<u32>,
     requests: u64,
@@ -55,13 +54,13 @@ pub struct Queries {
 
 impl Model for Queries {
     ghost use Rattle.zq_query.specs.Records.{QueryState};
-    ghost use Rattle.zq_query.specs.Tables.{IsTied, IsBelow, IsFlown, records_of};
+    ghost use Rattle.zq_query.specs.Tables.{IsTied, IsBelow, records_of};
 
     ghost Value = { QueryState };
 
     ghost view = { λ q. record { records = records_of q.heads.entries q.pending.entries q.replies.entries; last_ids = q.last_ids.entries; closed = q.closed.keys; requests = q.requests; replies = q.next_reply; request_ids = q.request_ids } };
 
-    ghost invariant = { λ q. IsTied q.heads.entries q.pending.entries q.dues.entries q.replies.entries × IsBelow q.heads.entries q.replies.entries q.requests q.next_reply × IsFlown q.replies.entries q.flights.keys };
+    ghost invariant = { λ q. IsTied q.heads.entries q.pending.entries q.dues.entries q.replies.entries × IsBelow q.heads.entries q.replies.entries q.requests q.next_reply };
 }
 
 /// The count of the request goes down by one.
@@ -79,14 +78,12 @@ fn owe_less(heads: &mut BTreeMap<u64, Open>, number: u64) -> Open
     }
 }
 
-/// The count of the request's entries goes up by one.
-fn owe_more(heads: &mut BTreeMap<u64, Open>, number: u64)
-    requires { (o : _) × (at_number number heads.old.entries ≡ Some o) × (o.pending + 1 < 2 ^ 64) }
-    ensures { (o : _) → at_number number heads.old.entries ≡ Some o → heads.new.entries ≡ set_value (is_at (nat_cmp number)) heads.old.entries (more_owed o) }
+/// The deadline of a request goes with its last entry.
+fn due_less(dues: &mut BTreeMap<(u64, u64), PlaceList>, owed: Owed, left: Open)
+    ensures { dues.new.entries ≡ dues_left owed left dues.old.entries }
 {
-    match heads.get_mut(&number) {
-        Some(found) => found.pending += 1,
-        None => unreachable!(),
+    if left.pending == 0 {
+        let _ = dues.remove(&(owed.deadline, owed.number));
     }
 }
 
@@ -114,6 +111,18 @@ fn fly_more(heads: &mut BTreeMap<u64, Open>, number: u64)
         Some(found) => found.in_flight += 1,
         None => unreachable!(),
     }
+}
+
+/// The first reply of the request.
+fn first_of(replies: &BTreeMap<u64, u64>, number: u64) -> Option<u64>
+    ensures { result ≡ option_map (λ e. e.0) (find (flies_for number) replies.now.entries) }
+{
+    for (reply, owner) in replies {
+        if *owner == number {
+            return Some(*reply);
+        }
+    }
+    None
 }
 
 /// The request is over where nothing of it is left.
@@ -145,7 +154,6 @@ impl Queries {
             pending: BTreeMap::new(alloc),
             dues: BTreeMap::new(alloc),
             replies: BTreeMap::new(alloc),
-            flights: BTreeSet::new(alloc),
             last_ids: BTreeMap::new(alloc),
             closed: BTreeSet::new(alloc),
             requests,
@@ -179,21 +187,21 @@ impl Queries {
         Some(found)
     }
 
-    /// An entry is let go.
-    fn let_go(&mut self, face: u32, id: u32) -> Option<Final>
-        requires { is_pending face id self.old.records ≡ true }
-        ensures records { self.new ≡ record self.old { records = letting_go (is_entry face id) self.old.records } }
-        ensures over { result ≡ over_after (is_entry face id) self.old.records }
-        ensures only { cons_option result [] ≡ ending_after (is_entry face id) self.old.records }
+    /// Lets the entry go, if it is there: the request's final, if nothing of it is left.
+    fn let_go(&mut self, face: u32, id: u32) -> Option<Option<Final>>
+        ensures there { OnSome result (is_pending face id self.old.records ≡ true) }
+        ensures records { OnSome result (self.new ≡ record self.old { records = letting_go (is_entry face id) self.old.records }) }
+        ensures over { IfSome result (λ over. over ≡ over_after (is_entry face id) self.old.records) }
+        ensures only { IfSome result (λ over. cons_option over [] ≡ ending_after (is_entry face id) self.old.records) }
+        ensures absent { IfNone result (is_pending face id self.old.records ≡ false) }
+        ensures none { IfNone result (self.new ≡ self.old) }
     {
-        let Some(found) = self.pending.get(&(face, id)) else {
-            unreachable!()
+        let Some(owed) = self.pending.remove(&(face, id)) else {
+            return None;
         };
-        let owed = *found;
-        let _ = self.pending.remove(&(face, id));
-        let _ = self.dues.remove(&(owed.deadline, owed.number, face));
         let left = owe_less(&mut self.heads, owed.number);
-        settle(&mut self.heads, owed.number, left)
+        due_less(&mut self.dues, owed, left);
+        Some(settle(&mut self.heads, owed.number, left))
     }
 
     /// Whether the reply is in flight.
@@ -203,21 +211,20 @@ impl Queries {
         self.replies.contains_key(&reply)
     }
 
-    /// A reply is no longer in flight.
-    fn land(&mut self, reply: u64) -> Option<Final>
-        requires { is_in_flight reply self.old.records ≡ true }
-        ensures records { self.new ≡ record self.old { records = landing reply self.old.records } }
-        ensures over { result ≡ over_after_reply reply self.old.records }
-        ensures only { cons_option result [] ≡ ending_landed reply self.old.records }
+    /// The reply is no longer in flight, if it was: the request's final, if nothing of it is left.
+    fn land(&mut self, reply: u64) -> Option<Option<Final>>
+        ensures there { OnSome result (is_in_flight reply self.old.records ≡ true) }
+        ensures records { OnSome result (self.new ≡ record self.old { records = landing reply self.old.records }) }
+        ensures over { IfSome result (λ over. over ≡ over_after_reply reply self.old.records) }
+        ensures only { IfSome result (λ over. cons_option over [] ≡ ending_landed reply self.old.records) }
+        ensures absent { IfNone result (is_in_flight reply self.old.records ≡ false) }
+        ensures none { IfNone result (self.new ≡ self.old) }
     {
-        let Some(found) = self.replies.get(&reply) else {
-            unreachable!()
+        let Some(number) = self.replies.remove(&reply) else {
+            return None;
         };
-        let number = *found;
-        let _ = self.replies.remove(&reply);
-        let _ = self.flights.remove(&(number, reply));
         let left = fly_less(&mut self.heads, number);
-        settle(&mut self.heads, number, left)
+        Some(settle(&mut self.heads, number, left))
     }
 
     /// Lets go an entry that the exit blocked. The final, where nothing of the request is left and its
@@ -228,8 +235,10 @@ impl Queries {
         ensures all { cons_option result [] ≡ finals_after (is_entry face.0 id) self.old.closed self.old.records }
         ensures after { self.new ≡ record self.old { records = letting_go (is_entry face.0 id) self.old.records } }
     {
-        let over = self.let_go(face.0, id);
-        self.if_open(over)
+        match self.let_go(face.0, id) {
+            Some(over) => self.if_open(over),
+            None => unreachable!(),
+        }
     }
 
     /// A target's final lets its entry go. The final of the request, where nothing of it is left and
@@ -242,10 +251,10 @@ impl Queries {
         ensures after { OnOk result (self.new ≡ record self.old { records = letting_go (is_entry face.0 id) self.old.records }) }
         ensures not_found { OnErr result ((is_pending face.0 id self.old.records ≡ false) × (self.new ≡ self.old)) }
     {
-        if !self.is_pending(face, id) {
-            return Err(QueryNotFound);
+        match self.let_go(face.0, id) {
+            Some(over) => Ok(self.if_open(over)),
+            None => Err(QueryNotFound),
         }
-        Ok(self.deny(face, id))
     }
 
     /// The reply was sent. The final of its request, where nothing of it is left and its asker is open.
@@ -257,11 +266,10 @@ impl Queries {
         ensures after { OnOk result (self.new ≡ record self.old { records = landing reply self.old.records }) }
         ensures not_found { OnErr result ((is_in_flight reply self.old.records ≡ false) × (self.new ≡ self.old)) }
     {
-        if !self.is_in_flight(reply) {
-            return Err(NotInFlight);
+        match self.land(reply) {
+            Some(over) => Ok(self.if_open(over)),
+            None => Err(NotInFlight),
         }
-        let over = self.land(reply);
-        Ok(self.if_open(over))
     }
 
     /// The request that has the entry.
@@ -282,13 +290,19 @@ impl Queries {
         })
     }
 
-    /// What `reply` would answer, but for want of memory.
+    /// Where a reply to the entry goes: under the next reply number, if the asker is open; without a
+    /// number if it was closed. `QueryNotFound` where the id is not pending there, `NoFreeId` where the
+    /// number 2^64 - 1 is next.
     pub fn would_reply(&self, face: FaceId, id: u32) -> Result<ReplyTo, ReplyRefusal>
         ensures to { IfOk result (λ t. next_reply face.0 id self.now ≡ Some t) }
+        ensures there { IfOk result (λ t. list_any (has_number t.number) self.now.records ≡ true) }
         ensures fits { IfOk result (λ t. IsSome t.reply → self.now.replies + 1 < 2 ^ 64) }
+        ensures pending { OnOk result (is_pending face.0 id self.now.records ≡ true) }
         ensures free { OnOk result (lacks_reply face.0 id self.now ≡ false) }
         ensures not_found { IsErrOf result ReplyRefusal.QueryNotFound → next_reply face.0 id self.now ≡ None }
+        ensures absent { IsErrOf result ReplyRefusal.QueryNotFound → is_pending face.0 id self.now.records ≡ false }
         ensures no_free { IsErrOf result ReplyRefusal.NoFreeId → lacks_reply face.0 id self.now ≡ true }
+        ensures needs { IsErrOf result ReplyRefusal.NoFreeId → is_pending face.0 id self.now.records ≡ true }
         ensures memory { IsErrOf result ReplyRefusal.OutOfMemory → ⊥ }
     {
         let Some(found) = self.owner(face.0, id) else {
@@ -342,55 +356,37 @@ impl Queries {
             Ok(_) => {}
             Err(_) => return Err(OutOfMemory),
         }
-        match self.flights.insert((number, self.next_reply)) {
-            Ok(_) => {}
-            Err(_) => {
-                let _ = self.replies.remove(&self.next_reply);
-                return Err(OutOfMemory);
-            }
-        }
         fly_more(&mut self.heads, number);
         self.next_reply += 1;
         Ok(())
     }
 
-    /// A reply to the entry: under the next reply number, and in flight, if the asker is open; without
-    /// a number if it was closed. `QueryNotFound` where the id is not pending there, `NoFreeId` where
-    /// the number 2^64 - 1 is next. A refusal leaves all as it was. Upstream: `route_send_response`.
-    pub fn reply(&mut self, face: FaceId, id: u32) -> Result<ReplyTo, ReplyRefusal>
-        ensures to { IfOk result (λ t. next_reply face.0 id self.old ≡ Some t) }
-        ensures after { IfOk result (λ t. self.new ≡ after_reply t self.old) }
-        ensures free { OnOk result (lacks_reply face.0 id self.old ≡ false) }
-        ensures not_found { IsErrOf result ReplyRefusal.QueryNotFound → next_reply face.0 id self.old ≡ None }
-        ensures no_free { IsErrOf result ReplyRefusal.NoFreeId → lacks_reply face.0 id self.old ≡ true }
+    /// The reply that `would_reply` answered: in flight under its number, if it has one. Where memory
+    /// is lacking all is as it was. Upstream: `route_send_response`.
+    pub fn reply(&mut self, to: &ReplyTo) -> Result<(), OutOfMemory>
+        requires there { list_any (has_number to.now.number) self.old.records ≡ true }
+        requires fits { IsSome to.now.reply → self.old.replies + 1 < 2 ^ 64 }
+        ensures after { OnOk result (self.new ≡ after_reply to.now self.old) }
         ensures err { OnErr result (self.new ≡ self.old) }
     {
-        let to = self.would_reply(face, id)?;
-        if let Some(_) = to.reply {
-            match self.put(to.number) {
-                Ok(()) => return Ok(to),
-                Err(_) => return Err(ReplyRefusal::OutOfMemory),
-            }
-        }
-        Ok(to)
-    }
-
-    /// The id last given at the face.
-    fn last_given(&self, face: FaceId) -> u32
-        ensures { result ≡ last_given self.now face.0 }
-    {
-        match self.last_ids.get(&face.0) {
-            Some(id) => *id,
-            None => self.request_ids,
+        match to.reply {
+            Some(_) => self.put(to.number),
+            None => Ok(()),
         }
     }
 
-    /// The id that the face is given next: the first one after the last given, round, that is not
-    /// pending there; none where all 2^32 are.
-    pub fn next_id(&self, face: FaceId) -> Option<u32>
-        ensures { result ≡ next_id self.now face.0 }
+    /// The id last given at the face, if one was.
+    fn last_at(&self, face: FaceId) -> Option<u32>
+        ensures { result ≡ at_number face.0 self.now.last_ids }
     {
-        let mut id = self.last_given(face);
+        self.last_ids.get(&face.0).copied()
+    }
+
+    /// The first id after this one, round, that is not pending at the face; none where all 2^32 are.
+    fn free_after(&self, face: FaceId, last: u32) -> Option<u32>
+        ensures { result ≡ first_free face.0 self.now.records last (2 ^ 32) }
+    {
+        let mut id = last;
         for _step in 0..4294967296u64 {
             id = id.wrapping_add(1);
             if !self.is_pending(face, id) {
@@ -398,6 +394,22 @@ impl Queries {
             }
         }
         None
+    }
+
+    /// The id that the face is given next, where this was the last one given there.
+    fn next_after(&self, face: FaceId, last: Option<u32>) -> Option<u32>
+        requires { last ≡ at_number face.0 self.now.last_ids }
+        ensures { result ≡ next_id self.now face.0 }
+    {
+        self.free_after(face, last.unwrap_or(self.request_ids))
+    }
+
+    /// The id that the face is given next: the first one after the last given, round, that is not
+    /// pending there; none where all 2^32 are.
+    pub fn next_id(&self, face: FaceId) -> Option<u32>
+        ensures { result ≡ next_id self.now face.0 }
+    {
+        self.next_after(face, self.last_at(face))
     }
 
     /// The number of the next request.
@@ -428,39 +440,14 @@ impl Queries {
         }
     }
 
-    /// An open request owes one more entry.
-    fn owe(&mut self, number: u64, face: u32, id: u32, deadline: u64) -> Result<(), OutOfMemory>
-        requires absent { is_pending face id self.old.records ≡ false }
-        requires there { list_any (has_number number) self.old.records ≡ true }
-        requires alone { owes_face number face self.old.records ≡ false }
-        ensures ok { OnOk result (self.new ≡ record self.old { records = adding number (record { face = face; id = id; deadline = deadline }) self.old.records }) }
-        ensures err { OnErr result (self.new ≡ self.old) }
-    {
-        let _ = self.pending.len();
-        match self.pending.insert((face, id), Owed { number, deadline }) {
-            Ok(_) => {}
-            Err(_) => return Err(OutOfMemory),
-        }
-        match self.dues.insert((deadline, number, face), id) {
-            Ok(_) => {}
-            Err(_) => {
-                let _ = self.pending.remove(&(face, id));
-                return Err(OutOfMemory);
-            }
-        }
-        owe_more(&mut self.heads, number);
-        Ok(())
-    }
-
     /// An entry is let go, if it is there.
     fn drop_entry(&mut self, face: u32, id: u32)
         ensures { self.new ≡ record self.old { records = letting_go (is_entry face id) self.old.records } }
     {
         let _ = &self.alloc;
-        if !self.is_pending(FaceId(face), id) {
+        if let None = self.let_go(face, id) {
             return;
         }
-        let _ = self.let_go(face, id);
     }
 
     /// The entries at the places are let go.
@@ -472,19 +459,13 @@ impl Queries {
         }
     }
 
-    /// The least reply in flight of the request.
+    /// The least reply in flight of the request. It walks the replies in flight up to that one.
     pub fn first_in_flight(&self, number: u64) -> Option<u64>
         ensures there { IfSome result (λ reply. flies number reply self.now.records ≡ true) }
         ensures least { IfSome result (λ reply. (earlier : ℕ) → earlier < reply → flies number earlier self.now.records ≡ false) }
         ensures none { IfNone result ((reply : ℕ) → flies number reply self.now.records ≡ false) }
     {
-        let Some(flight) = self.flights.range((number, 0)..).next() else {
-            return None;
-        };
-        if flight.0 != number {
-            return None;
-        }
-        Some(flight.1)
+        first_of(&self.replies, number)
     }
 
     /// The least deadline of all pending entries.
@@ -497,43 +478,5 @@ impl Queries {
             Some((due, _)) => Some(due.0),
             None => None,
         }
-    }
-
-    /// A new request, with its first entry.
-    fn open_with(
-        &mut self,
-        opened: Open,
-        face: u32,
-        id: u32,
-        deadline: u64,
-    ) -> Result<(), OutOfMemory>
-        requires absent { is_pending face id self.old.records ≡ false }
-        requires fits { self.old.requests + 1 < 2 ^ 64 }
-        requires counts { (opened.pending ≡ 1) × (opened.in_flight ≡ 0) }
-        ensures ok { OnOk result (self.new ≡ record self.old { records = self.old.records ++ first_record self.old.requests opened (record { face = face; id = id; deadline = deadline }) ∷ []; requests = self.old.requests + 1 }) }
-        ensures err { OnErr result (self.new ≡ self.old) }
-    {
-        let number = self.requests;
-        match self.heads.insert(number, opened) {
-            Ok(_) => {}
-            Err(_) => return Err(OutOfMemory),
-        }
-        match self.pending.insert((face, id), Owed { number, deadline }) {
-            Ok(_) => {}
-            Err(_) => {
-                let _ = self.heads.remove(&number);
-                return Err(OutOfMemory);
-            }
-        }
-        match self.dues.insert((deadline, number, face), id) {
-            Ok(_) => {}
-            Err(_) => {
-                let _ = self.pending.remove(&(face, id));
-                let _ = self.heads.remove(&number);
-                return Err(OutOfMemory);
-            }
-        }
-        self.requests += 1;
-        Ok(())
     }
 }

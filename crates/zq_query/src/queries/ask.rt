@@ -1,16 +1,16 @@
 //! Asking: a new request owes each of its targets an entry.
 ghost use Rattle.std.specs.Prelude.{◌≡◌, ◌+◌, ◌-◌, ◌<◌, ◌^◌, true, false, map, length, IfOk, OnOk, OnErr, IsErrOf, take, ℕ};
-ghost use Rattle.std.specs.List.{list_any};
+ghost use Rattle.std.specs.List.{list_any, AllByRecursion};
 ghost use Rattle.std.specs.List.Sorted.{IsStrictlySortedBy};
 ghost use Rattle.std.specs.Map.{keys_of};
 ghost use Rattle.std.specs.BTreeMap.{insert_entry};
 ghost use Rattle.std.specs.Ordering.{nat_cmp};
-ghost use Rattle.zq_query.specs.Tables.{at_number};
-ghost use Rattle.zq_query.specs.Asking.{are_distinct, face_numbers, is_full, lacks_number, given_id, given_place, giving, restoring, has_number_from, entering, after_ask, any_pending};
-ghost use Rattle.zq_query.specs.Records.{next_id, letting_go_all};
+ghost use Rattle.zq_query.specs.Tables.{at_number, filled, AreAbsent};
+ghost use Rattle.zq_query.specs.Asking.{are_distinct, face_numbers, is_full, lacks_number, given_place, giving, restoring, asking_at, IsPlan};
 
-use crate::queries::{Open, Queries};
-use crate::records::{AskRefusal, Asked, U32List};
+use crate::queries::{Open, Owed, Queries};
+use crate::records::{AskRefusal, PlaceList, Plan};
+use std::alloc::Global;
 use std::collections::BTreeMap;
 use zq_key::items::Items;
 use zq_key::memory::OutOfMemory;
@@ -49,6 +49,38 @@ fn restore_all(
     }
 }
 
+/// The entries at the first places are taken out again.
+fn empty(pending: &mut BTreeMap<(u32, u32), Owed>, places: &[(u32, u32)], count: usize)
+    requires within { count < length places.now + 1 }
+    ensures { (es : _) (v : _) → AreAbsent es v places.now → pending.old.entries ≡ filled es (take count places.now) v → pending.new.entries ≡ es }
+{
+    for step in 0..count {
+        let _ = pending.remove(&places[count - 1 - step]);
+    }
+}
+
+/// The same is owed at each place; all or none.
+fn fill(
+    pending: &mut BTreeMap<(u32, u32), Owed>,
+    places: &[(u32, u32)],
+    owed: Owed,
+) -> Result<(), OutOfMemory>
+    requires { AreAbsent pending.old.entries owed places.now }
+    ensures ok { OnOk result (pending.new.entries ≡ filled pending.old.entries places.now owed) }
+    ensures err { OnErr result (pending.new.entries ≡ pending.old.entries) }
+{
+    for i in 0..places.len() {
+        match pending.insert(places[i], owed) {
+            Ok(_) => {}
+            Err(_) => {
+                empty(pending, places, i);
+                return Err(OutOfMemory);
+            }
+        }
+    }
+    Ok(())
+}
+
 /// Each face is given its id, as the last one given there; all or none.
 fn give_all(
     last_ids: &mut BTreeMap<u32, u32>,
@@ -73,137 +105,135 @@ fn give_all(
     Ok(())
 }
 
+/// The same is owed at each place, and each face is given its id; all or none.
+fn take_places(
+    pending: &mut BTreeMap<(u32, u32), Owed>,
+    last_ids: &mut BTreeMap<u32, u32>,
+    places: &[(u32, u32)],
+    before: &[Option<u32>],
+    owed: Owed,
+) -> Result<(), OutOfMemory>
+    requires absent { AreAbsent pending.old.entries owed places.now }
+    requires before { before.now ≡ map (λ p. at_number p.0 last_ids.old.entries) places.now }
+    requires distinct { are_distinct (keys_of places.now) ≡ true }
+    ensures pending { OnOk result (pending.new.entries ≡ filled pending.old.entries places.now owed) }
+    ensures given { OnOk result (last_ids.new.entries ≡ giving last_ids.old.entries places.now) }
+    ensures no_pending { OnErr result (pending.new.entries ≡ pending.old.entries) }
+    ensures no_given { OnErr result (last_ids.new.entries ≡ last_ids.old.entries) }
+{
+    match fill(pending, places, owed) {
+        Ok(()) => {}
+        Err(_) => return Err(OutOfMemory),
+    }
+    match give_all(last_ids, places, before) {
+        Ok(()) => Ok(()),
+        Err(_) => {
+            empty(pending, places, places.len());
+            Err(OutOfMemory)
+        }
+    }
+}
+
+/// The face, and the id there.
+fn place_of(face: u32, id: u32) -> (u32, u32)
+    ensures is { result ≡ (face, id) }
+    ensures small { (result.0 < 2 ^ 32) × (result.1 < 2 ^ 32) }
+{
+    (face, id)
+}
+
+/// A copy of the places.
+fn copy_of(alloc: Global, places: &[(u32, u32)]) -> Result<PlaceList, OutOfMemory>
+    ensures { IfOk result (λ copy. copy ≡ places.now) }
+{
+    let copy = places.iter().copied().collect(alloc)?;
+    Ok(Items::from_vec(copy))
+}
+
 impl Queries {
-    /// The id that each target is given, in their order.
-    fn next_ids(&self, targets: &[FaceId]) -> Result<U32List, AskRefusal>
-        ensures ids { IfOk result (λ ids. ids ≡ map (given_id self.now) targets.now) }
+    /// The place of each target and the id last given there, in their order.
+    fn places_for(&self, targets: &[FaceId]) -> Result<Plan, AskRefusal>
+        ensures places { IfOk result (λ plan. plan.places ≡ map (given_place self.now) targets.now) }
+        ensures before { IfOk result (λ plan. plan.before ≡ map (λ f. at_number f.0 self.now.last_ids) targets.now) }
+        ensures small { IfOk result (λ plan. AllByRecursion (λ p. (p.0 < 2 ^ 32) × (p.1 < 2 ^ 32)) plan.places) }
         ensures free { OnOk result (list_any (is_full self.now) targets.now ≡ false) }
         ensures no_free { IsErrOf result AskRefusal.NoFreeId → list_any (is_full self.now) targets.now ≡ true }
     {
-        let mut ids = Items::new(self.alloc);
+        let mut places = Items::new(self.alloc);
+        let mut before = Items::new(self.alloc);
         for target in targets {
-            let Some(id) = self.next_id(*target) else {
+            let last = self.last_at(*target);
+            let Some(id) = self.next_after(*target, last) else {
                 return Err(AskRefusal::NoFreeId);
             };
-            match ids.push(id) {
+            match places.push(place_of(target.0, id)) {
+                Ok(()) => {}
+                Err(_) => return Err(AskRefusal::OutOfMemory),
+            }
+            match before.push(last) {
                 Ok(()) => {}
                 Err(_) => return Err(AskRefusal::OutOfMemory),
             }
         }
-        Ok(ids)
+        Ok(Plan { places, before })
     }
 
-    /// Each target with its id.
-    fn places_of(&self, targets: &[FaceId], ids: &[u32]) -> Result<Vec<(u32, u32)>, OutOfMemory>
-        requires ids { ids.now ≡ map (given_id self.now) targets.now }
-        ensures { IfOk result (λ places. places.items ≡ map (given_place self.now) targets.now) }
+    /// What a request would be given at its targets: the next id at each. `NoFreeId` where the number
+    /// 2^64 - 1 is next or a target has no free id.
+    pub fn plan(&self, targets: &[FaceId]) -> Result<Plan, AskRefusal>
+        requires { are_distinct (face_numbers targets.now) ≡ true }
+        ensures places { IfOk result (λ plan. plan.places ≡ map (given_place self.now) targets.now) }
+        ensures fits { IfOk result (λ plan. IsPlan self.now plan.places plan.before) }
+        ensures free { OnOk result (lacks_number targets.now self.now ≡ false) }
+        ensures no_free { IsErrOf result AskRefusal.NoFreeId → lacks_number targets.now self.now ≡ true }
     {
-        let mut places = Vec::new(self.alloc);
-        for i in 0..targets.len() {
-            match places.push((targets[i].0, ids[i])) {
-                Ok(()) => {}
-                Err(_) => return Err(OutOfMemory),
-            }
+        if self.requests == u64::MAX {
+            return Err(AskRefusal::NoFreeId);
         }
-        Ok(places)
+        let plan = self.places_for(targets)?;
+        Ok(plan)
     }
 
-    /// The ids last given at the faces.
-    fn last_ids_at(&self, places: &[(u32, u32)]) -> Result<Vec<Option<u32>>, OutOfMemory>
-        ensures { IfOk result (λ before. before.items ≡ map (λ p. at_number p.0 self.now.last_ids) places.now) }
-    {
-        let mut before = Vec::new(self.alloc);
-        for place in places {
-            let last = self.last_ids.get(&place.0).copied();
-            match before.push(last) {
-                Ok(()) => {}
-                Err(_) => return Err(OutOfMemory),
-            }
-        }
-        Ok(before)
-    }
-
-    /// The entries of the last request are let go, and its number is free again.
-    fn withdraw(&mut self, places: &[(u32, u32)])
-        requires raised { 0 < self.old.requests }
-        requires last { has_number_from (self.old.requests - 1) (letting_go_all self.old.records places.now) ≡ false }
-        ensures { self.new ≡ record self.old { records = letting_go_all self.old.records places.now; requests = self.old.requests - 1 } }
-    {
-        self.drop_all(places);
-        self.requests -= 1;
-    }
-
-    /// A new request owes an entry at each place; all or none.
+    /// A new request owes an entry at each place, under the place's id as the last given there; all
+    /// or none. The places are listed under its deadline.
     fn enter(
         &mut self,
         opened: Open,
         places: &[(u32, u32)],
+        before: &[Option<u32>],
+        listed: PlaceList,
         deadline: u64,
     ) -> Result<(), OutOfMemory>
+        requires plan { IsPlan self.old places.now before.now }
         requires some { 0 < length places.now }
-        requires absent { any_pending self.old.records places.now ≡ false }
-        requires distinct { are_distinct (keys_of places.now) ≡ true }
-        requires fits { self.old.requests + 1 < 2 ^ 64 }
-        requires counts { (opened.pending ≡ 1) × (opened.in_flight ≡ 0) }
-        ensures ok { OnOk result (self.new ≡ entering opened.asker opened.id opened.qos places.now deadline self.old) }
+        requires listed { listed ≡ places.now }
+        requires counts { (opened.pending ≡ length places.now) × (opened.in_flight ≡ 0) }
+        ensures ok { OnOk result (self.new ≡ asking_at opened.asker opened.id opened.qos places.now deadline self.old) }
         ensures err { OnErr result (self.new ≡ self.old) }
     {
         let number = self.requests;
-        match self.open_with(opened, places[0].0, places[0].1, deadline) {
-            Ok(()) => {}
+        match self.heads.insert(number, opened) {
+            Ok(_) => {}
             Err(_) => return Err(OutOfMemory),
         }
-        for i in 1..places.len() {
-            match self.owe(number, places[i].0, places[i].1, deadline) {
-                Ok(()) => {}
-                Err(_) => {
-                    self.withdraw(places);
-                    return Err(OutOfMemory);
-                }
-            }
-        }
-        Ok(())
-    }
-
-    /// Each face is given its id, as the last one given there; all or none.
-    fn give_ids(&mut self, places: &[(u32, u32)], before: &[Option<u32>]) -> Result<(), OutOfMemory>
-        requires before { before.now ≡ map (λ p. at_number p.0 self.old.last_ids) places.now }
-        requires distinct { are_distinct (keys_of places.now) ≡ true }
-        ensures ok { OnOk result (self.new ≡ record self.old { last_ids = giving self.old.last_ids places.now }) }
-        ensures err { OnErr result (self.new ≡ self.old) }
-    {
-        give_all(&mut self.last_ids, places, before)
-    }
-
-    /// A new request owes an entry at each place, under the place's id as the last given there.
-    fn enter_and_give(
-        &mut self,
-        opened: Open,
-        places: &[(u32, u32)],
-        before: &[Option<u32>],
-        deadline: u64,
-    ) -> Result<(), OutOfMemory>
-        requires some { 0 < length places.now }
-        requires absent { any_pending self.old.records places.now ≡ false }
-        requires distinct { are_distinct (keys_of places.now) ≡ true }
-        requires fits { self.old.requests + 1 < 2 ^ 64 }
-        requires counts { (opened.pending ≡ 1) × (opened.in_flight ≡ 0) }
-        requires before { before.now ≡ map (λ p. at_number p.0 self.old.last_ids) places.now }
-        ensures ok { OnOk result (self.new ≡ record (entering opened.asker opened.id opened.qos places.now deadline self.old) { last_ids = giving self.old.last_ids places.now }) }
-        ensures err { OnErr result (self.new ≡ self.old) }
-    {
-        let _ = &self.alloc;
-        match self.enter(opened, places, deadline) {
-            Ok(()) => {}
-            Err(_) => return Err(OutOfMemory),
-        }
-        match self.give_ids(places, before) {
-            Ok(()) => Ok(()),
+        match self.dues.insert((deadline, number), listed) {
+            Ok(_) => {}
             Err(_) => {
-                self.withdraw(places);
-                Err(OutOfMemory)
+                let _ = self.heads.remove(&number);
+                return Err(OutOfMemory);
             }
         }
+        let owed = Owed { number, deadline };
+        match take_places(&mut self.pending, &mut self.last_ids, places, before, owed) {
+            Ok(()) => {}
+            Err(_) => {
+                let _ = self.dues.remove(&(deadline, number));
+                let _ = self.heads.remove(&number);
+                return Err(OutOfMemory);
+            }
+        }
+        self.requests += 1;
+        Ok(())
     }
 
     /// The request without a record takes its number.
@@ -214,65 +244,34 @@ impl Queries {
         self.requests += 1;
     }
 
-    /// The request's entries and its number; nothing but the number where there is no target.
-    fn open_at(
-        &mut self,
-        opened: Open,
-        targets: &[FaceId],
-        ids: &[u32],
-        deadline: u64,
-    ) -> Result<(), OutOfMemory>
-        requires ids { ids.now ≡ map (given_id self.old) targets.now }
-        requires free { lacks_number targets.now self.old ≡ false }
-        requires fits { self.old.requests + 1 < 2 ^ 64 }
-        requires distinct { are_distinct (face_numbers targets.now) ≡ true }
-        requires counts { (opened.pending ≡ 1) × (opened.in_flight ≡ 0) }
-        ensures ok { OnOk result (self.new ≡ after_ask opened.asker opened.id opened.qos targets.now deadline self.old) }
-        ensures err { OnErr result (self.new ≡ self.old) }
-    {
-        if targets.is_empty() {
-            self.skip_number();
-            return Ok(());
-        }
-        let places = self.places_of(targets, ids)?;
-        let before = self.last_ids_at(places.as_slice())?;
-        self.enter_and_give(opened, places.as_slice(), before.as_slice(), deadline)
-    }
-
-    /// Accepts a request: it has the next number, and owes an entry at each target, under the next
-    /// id there. `NoFreeId` where the number 2^64 - 1 is next or a target has no free id. A refusal
-    /// leaves all as it was. Upstream: `route_query`.
+    /// Accepts a request: it has the next number, and owes an entry at each place of the plan, whose
+    /// id is the last given there from here on. Where memory is lacking all is as it was. Upstream:
+    /// `route_query`.
     pub fn ask(
         &mut self,
         asker: FaceId,
         id: u32,
         qos: u8,
-        targets: &[FaceId],
+        plan: &Plan,
         deadline: u64,
-    ) -> Result<Asked, AskRefusal>
-        requires { are_distinct (face_numbers targets.now) ≡ true }
-        ensures number { IfOk result (λ asked. asked.number ≡ self.old.requests) }
-        ensures ids { IfOk result (λ asked. asked.ids ≡ map (given_id self.old) targets.now) }
-        ensures free { OnOk result (lacks_number targets.now self.old ≡ false) }
-        ensures after { OnOk result (self.new ≡ after_ask asker id qos targets.now deadline self.old) }
-        ensures no_free { IsErrOf result AskRefusal.NoFreeId → lacks_number targets.now self.old ≡ true }
+    ) -> Result<(), OutOfMemory>
+        requires { IsPlan self.old plan.now.places plan.now.before }
+        ensures ok { OnOk result (self.new ≡ asking_at asker id qos plan.now.places deadline self.old) }
         ensures err { OnErr result (self.new ≡ self.old) }
     {
-        let number = self.requests;
-        if number == u64::MAX {
-            return Err(AskRefusal::NoFreeId);
+        if plan.places.is_empty() {
+            self.skip_number();
+            return Ok(());
         }
-        let ids = self.next_ids(targets)?;
         let opened = Open {
             asker,
             id,
             qos,
-            pending: 1,
+            pending: plan.places.len() as u64,
             in_flight: 0,
         };
-        match self.open_at(opened, targets, ids.as_slice(), deadline) {
-            Ok(()) => Ok(Asked { number, ids }),
-            Err(_) => Err(AskRefusal::OutOfMemory),
-        }
+        let places = plan.places.as_slice();
+        let listed = copy_of(self.alloc, places)?;
+        self.enter(opened, places, plan.before.as_slice(), listed, deadline)
     }
 }

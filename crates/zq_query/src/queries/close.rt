@@ -142,7 +142,7 @@ impl Queries {
         Ok(places)
     }
 
-    /// What `close` would answer.
+    /// The finals that the closing of the face hands, by number.
     pub fn would_close(&self, face: FaceId) -> Result<FinalList, OutOfMemory>
         ensures { IfOk result (λ finals. finals ≡ closing_finals face.0 self.now) }
     {
@@ -170,17 +170,14 @@ impl Queries {
     }
 
     /// Closes a face: its entries are let go, and from here on the requests that it asked get no
-    /// reply number and no final. The finals stand by number. Where memory is lacking all is as it
-    /// was. Upstream: `close_face`.
-    pub fn close(&mut self, face: FaceId) -> Result<FinalList, OutOfMemory>
-        ensures finals { IfOk result (λ finals. finals ≡ closing_finals face.0 self.old) }
+    /// reply number and no final. Where memory is lacking all is as it was. Upstream: `close_face`.
+    pub fn close(&mut self, face: FaceId) -> Result<(), OutOfMemory>
         ensures after { OnOk result (self.new ≡ after_close face.0 self.old) }
         ensures err { OnErr result (self.new ≡ self.old) }
     {
-        let finals = self.would_close(face)?;
         let places = self.places_at(face)?;
         self.mark_closed(face)?;
         self.drop_all(places.as_slice());
-        Ok(finals)
+        Ok(())
     }
 }

@@ -1,49 +1,129 @@
 //! Polling: the entries whose deadlines have come are let go, with an error reply each.
-ghost use Rattle.std.specs.Prelude.{◌≡◌, ◌+◌, ◌-◌, ◌<◌, ◌≤◌, ◌^◌, ◌++◌, [], map, false, true, IfOk, OnOk, OnErr, IsErrOf};
-ghost use Rattle.std.specs.List.{list_any, cons_option};
-ghost use Rattle.std.specs.Map.{keys_of};
+ghost use Rattle.std.specs.Prelude.{◌≡◌, ◌∷◌, ◌||◌, if◌then◌else◌, ◌+◌, ◌-◌, ◌<◌, ◌≤◌, ◌^◌, ◌++◌, [], map, false, true, IfOk, OnOk, OnErr, IsErrOf};
+ghost use Rattle.std.specs.List.{list_any, cons_option, filter, filter_map};
+ghost use Rattle.std.specs.List.Sorted.{IsStrictlySortedBy};
 ghost use Rattle.std.specs.Option.{option_map, IsSome};
 ghost use Rattle.zq_query.specs.Records.{QueryState, request, any_entry, has_number, landing};
 ghost use Rattle.zq_query.specs.Closing.{finals_after};
 ghost use Rattle.zq_query.specs.Polling.{is_due, is_amiss, dues_at, timed_out, after_timeout, landing_from, timeouts_of, timeouts, numbers_in, lacks_replies, timing_out, after_poll, has_reply_from, lacks_record};
-ghost use Rattle.zq_query.specs.DueEntries.{dues_until};
+ghost use Rattle.zq_query.specs.Tables.{Due, due_cmp};
+ghost use Rattle.zq_query.specs.FaceEntries.{has_key};
+ghost use Rattle.zq_query.specs.DueEntries.{is_owed_at, live_until, due_at};
 
-use crate::queries::Queries;
-use crate::records::{PollRefusal, Timeout, TimeoutList};
+use crate::queries::{Owed, Queries};
+use crate::records::{PlaceList, PollRefusal, Timeout, TimeoutList};
 use std::alloc::Global;
-use std::collections::BTreeMap;
+use std::collections::{BTreeMap, BTreeSet};
 use zq_key::items::Items;
 use zq_key::memory::OutOfMemory;
 use zq_key::message::FaceId;
 
-/// Deadline, number and face of the entries that are due.
-fn dues_in(
-    alloc: Global,
-    dues: &BTreeMap<(u64, u64, u32), u32>,
-    now: u64,
-) -> Result<Vec<(u64, u64, u32)>, OutOfMemory>
-    ensures { IfOk result (λ found. found.items ≡ keys_of (dues_until now dues.now.entries)) }
+/// The place, if it is wanted.
+fn push_if(live: &mut Vec<(u32, u32)>, place: (u32, u32), wanted: bool) -> Result<(), OutOfMemory>
+    ensures { OnOk result (live.new.items ≡ live.old.items ++ (if wanted then place ∷ [] else [])) }
 {
-    let found = dues
-        .range(..=(now, u64::MAX, u32::MAX))
-        .map(|due| *due.0)
-        .collect(alloc)?;
-    Ok(found)
+    if !wanted {
+        return Ok(());
+    }
+    match live.push(place) {
+        Ok(()) => Ok(()),
+        Err(_) => Err(OutOfMemory),
+    }
+}
+
+/// Of the places those where the request still owes its entry, one after another.
+fn push_live(
+    live: &mut Vec<(u32, u32)>,
+    pending: &BTreeMap<(u32, u32), Owed>,
+    places: &[(u32, u32)],
+    number: u64,
+) -> Result<(), OutOfMemory>
+    ensures { OnOk result (live.new.items ≡ live.old.items ++ filter (is_owed_at pending.now.entries number) places.now) }
+{
+    for place in places {
+        match push_if(live, *place, is_owed_at(pending, *place, number)) {
+            Ok(()) => {}
+            Err(_) => return Err(OutOfMemory),
+        }
+    }
+    Ok(())
+}
+
+/// Whether the request owes the entry at the place.
+fn is_owed_at(pending: &BTreeMap<(u32, u32), Owed>, place: (u32, u32), number: u64) -> bool
+    ensures { result ≡ is_owed_at pending.now.entries number place }
+{
+    match pending.get(&place) {
+        Some(owed) => owed.number == number,
+        None => false,
+    }
 }
 
 /// The places of the entries that are due.
-fn places_in(
+fn live_in(
     alloc: Global,
-    dues: &BTreeMap<(u64, u64, u32), u32>,
+    pending: &BTreeMap<(u32, u32), Owed>,
+    dues: &BTreeMap<(u64, u64), PlaceList>,
     now: u64,
 ) -> Result<Vec<(u32, u32)>, OutOfMemory>
-    ensures { IfOk result (λ places. places.items ≡ map (λ e. (e.0.2, e.1)) (dues_until now dues.now.entries)) }
+    ensures { IfOk result (λ live. live.items ≡ live_until now pending.now.entries dues.now.entries) }
 {
-    let places = dues
-        .range(..=(now, u64::MAX, u32::MAX))
-        .map(|due| (due.0.2, *due.1))
-        .collect(alloc)?;
-    Ok(places)
+    let mut live = Vec::new(alloc);
+    for (due, places) in dues.range(..=(now, u64::MAX)) {
+        push_live(&mut live, pending, places.as_slice(), due.1)?;
+    }
+    Ok(live)
+}
+
+/// Deadline, number and face of what is owed at the place, if something is.
+fn put_due(
+    set: &mut BTreeSet<(u64, u64, u32)>,
+    pending: &BTreeMap<(u32, u32), Owed>,
+    place: (u32, u32),
+) -> Result<(), OutOfMemory>
+    ensures { OnOk result ((q : Due) → has_key due_cmp q set.new.keys ≡ (has_key due_cmp q set.old.keys || has_key due_cmp q (cons_option (due_at pending.now.entries place) []))) }
+{
+    let Some(owed) = pending.get(&place) else {
+        return Ok(());
+    };
+    match set.insert((owed.deadline, owed.number, place.0)) {
+        Ok(_) => Ok(()),
+        Err(_) => Err(OutOfMemory),
+    }
+}
+
+/// Deadline, number and face of what is owed at the places, as a set.
+fn dues_set(
+    alloc: Global,
+    pending: &BTreeMap<(u32, u32), Owed>,
+    places: &[(u32, u32)],
+) -> Result<BTreeSet<(u64, u64, u32)>, OutOfMemory>
+    ensures members { IfOk result (λ set. (q : Due) → has_key due_cmp q set.keys ≡ has_key due_cmp q (filter_map (due_at pending.now.entries) places.now)) }
+    ensures order { IfOk result (λ set. IsStrictlySortedBy due_cmp set.keys) }
+{
+    let mut set = BTreeSet::new(alloc);
+    for place in places {
+        match put_due(&mut set, pending, *place) {
+            Ok(()) => {}
+            Err(_) => return Err(OutOfMemory),
+        }
+    }
+    let _ = set.len();
+    Ok(set)
+}
+
+/// Deadline, number and face of what is owed at the places, in order.
+fn dues_in(
+    alloc: Global,
+    pending: &BTreeMap<(u32, u32), Owed>,
+    places: &[(u32, u32)],
+) -> Result<Vec<(u64, u64, u32)>, OutOfMemory>
+    ensures members { IfOk result (λ list. (q : Due) → has_key due_cmp q list.items ≡ has_key due_cmp q (filter_map (due_at pending.now.entries) places.now)) }
+    ensures order { IfOk result (λ list. IsStrictlySortedBy due_cmp list.items) }
+{
+    let set = dues_set(alloc, pending, places)?;
+    let list = set.into_iter().collect(alloc)?;
+    Ok(list)
 }
 
 /// One more timeout, if there is one; the answer is the reply number after it.
@@ -81,7 +161,8 @@ impl Queries {
         ensures { IfOk result (λ dues. dues.items ≡ dues_at now self.now.records) }
     {
         let _requests = self.requests;
-        let dues = dues_in(self.alloc, &self.dues, now)?;
+        let places = live_in(self.alloc, &self.pending, &self.dues, now)?;
+        let dues = dues_in(self.alloc, &self.pending, places.as_slice())?;
         Ok(dues)
     }
 
@@ -90,7 +171,7 @@ impl Queries {
         ensures { IfOk result (λ places. any_entry (is_amiss places.items now) self.now.records ≡ false) }
     {
         let _requests = self.requests;
-        let places = places_in(self.alloc, &self.dues, now)?;
+        let places = live_in(self.alloc, &self.pending, &self.dues, now)?;
         Ok(places)
     }
 
@@ -132,7 +213,9 @@ impl Queries {
         Ok(list)
     }
 
-    /// What `poll` would answer.
+    /// A timeout for each entry whose deadline is at most now, in order of deadline, number and face;
+    /// an error reply of each with an open asker takes the next number. `NoFreeId` where fewer reply
+    /// numbers are left.
     pub fn would_poll(&self, now: u64) -> Result<TimeoutList, PollRefusal>
         ensures list { IfOk result (λ list. list ≡ timeouts now self.now) }
         ensures fits { OnOk result (lacks_replies (timeouts now self.now) self.now ≡ false) }
@@ -149,10 +232,9 @@ impl Queries {
         ensures { self.new ≡ record self.old { records = landing reply self.old.records } }
     {
         let _ = &self.alloc;
-        if !self.is_in_flight(reply) {
+        if let None = self.land(reply) {
             return;
         }
-        let _ = self.land(reply);
     }
 
     /// The replies from the first on are no longer in flight.
@@ -209,27 +291,20 @@ impl Queries {
         Ok(())
     }
 
-    /// Lets go each entry whose deadline is at most now, in order of deadline, number and face; an
-    /// error reply of each with an open asker is in flight from here on. `NoFreeId` where fewer
-    /// reply numbers are left. A refusal leaves all as it was. Upstream: the timeout of a query.
-    pub fn poll(&mut self, now: u64) -> Result<TimeoutList, PollRefusal>
-        ensures list { IfOk result (λ list. list ≡ timeouts now self.old) }
-        ensures fits { OnOk result (lacks_replies (timeouts now self.old) self.old ≡ false) }
+    /// Lets go each entry whose deadline is at most now; the error reply of each timeout, as
+    /// `would_poll` answered them, is in flight from here on, if it has a number. Where memory is
+    /// lacking all is as it was. Upstream: the timeout of a query.
+    pub fn poll(&mut self, now: u64, list: &[Timeout]) -> Result<(), OutOfMemory>
+        requires list { list.now ≡ timeouts now self.old }
+        requires fits { lacks_replies (timeouts now self.old) self.old ≡ false }
         ensures after { OnOk result (self.new ≡ after_poll now self.old) }
         ensures quiet { OnOk result (finals_after (is_due now) (timing_out (timeouts now self.old) self.old).closed (timing_out (timeouts now self.old) self.old).records ≡ []) }
-        ensures no_free { IsErrOf result PollRefusal.NoFreeId → lacks_replies (timeouts now self.old) self.old ≡ true }
         ensures err { OnErr result (self.new ≡ self.old) }
     {
         let _ = &self.alloc;
-        let list = self.would_poll(now)?;
-        let Ok(places) = self.places_by(now) else {
-            return Err(PollRefusal::OutOfMemory);
-        };
-        match self.put_timeouts(list.as_slice()) {
-            Ok(()) => {}
-            Err(_) => return Err(PollRefusal::OutOfMemory),
-        }
+        let places = self.places_by(now)?;
+        self.put_timeouts(list)?;
         self.drop_all(places.as_slice());
-        Ok(list)
+        Ok(())
     }
 }

@@ -3,5 +3,5 @@ use Rattle.zq_gateway.specs.Deciding.{handed_request}
 use Rattle.zq_gateway.specs.Writing.{write}
 use Rattle.zq_gateway.proofs.handed.requests_to.Given as goal
 
-abbrev pub invariant-loop-offer : goal.invariant-loop-offer
-invariant-loop-offer l = l.handed ≡ write l.names (map (handed_request l.queries l.text l.request) (take l.offer-index l.offers))
+abbrev pub invariant-loop-i : goal.invariant-loop-i
+invariant-loop-i l = l.handed ≡ write l.names (map (handed_request l.queries l.text l.request) (take l.i l.offers))

@@ -10,6 +10,6 @@ pub returns-clause-all : goal.returns-clause-all
 returns-clause-all c =
     let s = c.args.self.now in
     ap (λ (q : Option Final). cons_option q []) c.if_open.ensures
-    ∙ ap (λ (z : QueryState). cons_option (final_if_open z.closed c.let_go-over.result) []) c.let_go-over.ensures.records
-    ∙ open_one s.closed c.let_go-over.result
-    ∙ ap (filter (has_open_asker s.closed)) c.let_go-over.ensures.only
+    ∙ ap (λ (z : QueryState). cons_option (final_if_open z.closed c.in-Some.over) []) c.in-Some.ensures.records
+    ∙ open_one s.closed c.in-Some.over
+    ∙ ap (filter (has_open_asker s.closed)) c.in-Some.ensures.only

@@ -1,7 +1,7 @@
 use Rattle.std.proofs.Common.{◌≡◌, ◌∙◌, sym, ap, true≢false, [], ◌==◌}
 use Rattle.std.specs.Cmp.{nat_eq_equiv}
 use Rattle.std.specs.Option.{is_some}
-use Rattle.zq_query.specs.Tables.{Due}
+use Rattle.zq_query.specs.Tables.{Place}
 use Rattle.zq_query.specs.Records.{QueryState, Pending, has_deadline, has_earlier, owes_any}
 use Rattle.zq_query.proofs.Fusion.{an_entry, none_earlier, owes_none, nil_from}
 use Rattle.zq_query.proofs.queries.Queries.next_deadline.Goals as goal
@@ -9,15 +9,15 @@ use Rattle.zq_query.proofs.queries.Queries.next_deadline.Goals as goal
 pub returns-in-Some-clause-there : goal.returns-in-Some-clause-there
 returns-in-Some-clause-there c =
     let i = c.self.inside in
-    let due : Due = c.in-Some.due.now in
+    let due : Place = c.in-Some.due.now in
     let is = c.self.invariant.0.entry due c.in-Some.field-0-1.now c.in-Some.ensures.value in
-    sym (ap (λ (s : QueryState). has_deadline due.0 s.records) c.self.view_is) ∙ an_entry (λ (e : Pending). e.deadline == due.0) i.heads.entries i.pending.entries i.dues.entries i.replies.entries c.self.invariant.0 due.2 c.in-Some.field-0-1.now (record { number = due.1; deadline = due.0 }) is (nat_eq_equiv.refl due.0)
+    sym (ap (λ (s : QueryState). has_deadline due.0 s.records) c.self.view_is) ∙ an_entry (λ (e : Pending). e.deadline == due.0) i.heads.entries i.pending.entries i.dues.entries i.replies.entries c.self.invariant.0 is.0.0 is.0.1 (record { number = due.1; deadline = due.0 }) is.1 (nat_eq_equiv.refl due.0)
 
 pub returns-in-Some-clause-least : goal.returns-in-Some-clause-least
 returns-in-Some-clause-least c =
     let i = c.self.inside in
-    let due : Due = c.in-Some.due.now in
-    sym (ap (λ (s : QueryState). has_earlier due.0 s.records) c.self.view_is) ∙ none_earlier i.heads.entries i.pending.entries i.dues.entries i.replies.entries c.self.invariant.0 due (λ q j is. c.in-Some.ensures.least q (ap is_some is))
+    let due : Place = c.in-Some.due.now in
+    sym (ap (λ (s : QueryState). has_earlier due.0 s.records) c.self.view_is) ∙ none_earlier i.heads.entries i.pending.entries i.dues.entries i.replies.entries c.self.invariant.0 due (λ q ps is. c.in-Some.ensures.least q (ap is_some is))
 
 pub returns-in-None-clause-none : goal.returns-in-None-clause-none
 returns-in-None-clause-none c =

@@ -13,7 +13,7 @@ use Rattle.zq_query.proofs.queries.Queries.poll.Goals as goal
 pub put_timeouts-requires-clause-there : goal.put_timeouts-requires-clause-there
 put_timeouts-requires-clause-there c =
     let s = c.args.self.now in
-    ap (lacks_record s.records) (c.as_slice.ensures ∙ c.in_ok-list.ensures.list) ∙ have_records s (dues_at c.args.now s.records)
+    ap (lacks_record s.records) c.requires.list ∙ have_records s (dues_at c.args.now s.records)
 
 pub returns-clause-after : goal.returns-clause-after
 returns-clause-after c =
@@ -21,10 +21,10 @@ returns-clause-after c =
     let i = c.self.inside in
     let now = c.args.now in
     let ts : List Timeout = timeouts now s in
-    let put : c.put_timeouts.new.self ≡ timing_out ts s = c.in-Ok-put_timeouts.ensures.ok ∙ ap (λ (l : List Timeout). timing_out l s) (c.as_slice.ensures ∙ c.in_ok-list.ensures.list) in
+    let put : c.put_timeouts.new.self ≡ timing_out ts s = c.in_ok-put_timeouts.ensures.ok ∙ ap (λ (l : List Timeout). timing_out l s) c.requires.list in
     let left : any_over s.records ≡ false = ap (λ (z : QueryState). any_over z.records) (sym c.self.view_is) ∙ none_over i.heads.entries i.pending.entries i.dues.entries i.replies.entries c.self.invariant.0 in
-    let places = c.as_slice-2.result.now in
-    let amiss = entries_stay (is_amiss places now) ts s ∙ ap (λ l. any_entry (is_amiss l now) s.records) c.as_slice-2.ensures.value ∙ c.in-Ok.ensures in
+    let places = c.as_slice.result.now in
+    let amiss = entries_stay (is_amiss places now) ts s ∙ ap (λ l. any_entry (is_amiss l now) s.records) c.as_slice.ensures.value ∙ c.in_ok-places.ensures in
     c.drop_all.ensures
     ∙ ap (λ (z : QueryState). record z { records = letting_go_all z.records places }) put
     ∙ ap (λ (l : List Record). record (timing_out ts s) { records = l }) (due_let_go places now (timing_out ts s).records (timing_none_over ts s left) amiss)

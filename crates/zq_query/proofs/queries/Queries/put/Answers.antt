@@ -1,15 +1,9 @@
 use Rattle.std.proofs.Common.{◌∙◌, ◌+◌, sym, ap, refl, List, arith}
 use Rattle.zq_query.specs.Tables.{records_of, flies_for, more_flying}
 use Rattle.zq_query.specs.Records.{QueryState, Record, has_number, after_put}
-use Rattle.std.specs.Ordering.{nat_cmp}
-use Rattle.std.specs.Cmp.{nat_cmp_total}
-use Rattle.std.specs.BTreeMap.{is_at}
-use Rattle.std.specs.Map.{remove_entry}
-use Rattle.std.proofs.lemmas.Map.Lookups.{exact_unsigned}
 use Rattle.std.specs.List.{list_any}
-use Rattle.zq_query.proofs.Owing.{undone, head_of}
+use Rattle.zq_query.proofs.Owing.{head_of}
 use Rattle.zq_query.proofs.Putting.{next_is_new, records_put, tied_put, below_put, fits_by}
-use Rattle.zq_query.proofs.Flights.{flown_in}
 use Rattle.zq_query.proofs.queries.Queries.put.Goals as goal
 
 pub fly_more-requires : goal.fly_more-requires
@@ -22,21 +16,6 @@ fly_more-requires c =
     let small = c.len.ensures.small in
     (h.0, h.1, omega (arith, flying, most, len, small))
 
-pub invariant_of-self-in-Err-insert : goal.invariant_of-self-in-Err-insert
-invariant_of-self-in-Err-insert c =
-    let i = c.self.inside in
-    let new = next_is_new i.next_reply i.replies.entries c.self.invariant.1.flights in
-    let back = c.remove.ensures.entries ∙ ap (remove_entry (is_at (nat_cmp i.next_reply))) c.in-Ok.ensures.entries ∙ undone nat_cmp_total exact_unsigned i.replies.entries i.next_reply c.args.number new in
-    rw (back, c.in-Err-insert.ensures.err) c.self.invariant
-
-pub returns-in-Err-insert-clause-err : goal.returns-in-Err-insert-clause-err
-returns-in-Err-insert-clause-err c =
-    let i = c.self.inside in
-    let shown : List Record → QueryState = λ l. record { records = l; last_ids = i.last_ids.entries; closed = i.closed.keys; requests = i.requests; replies = i.next_reply; request_ids = i.request_ids } in
-    let new = next_is_new i.next_reply i.replies.entries c.self.invariant.1.flights in
-    let back = c.remove.ensures.entries ∙ ap (remove_entry (is_at (nat_cmp i.next_reply))) c.in-Ok.ensures.entries ∙ undone nat_cmp_total exact_unsigned i.replies.entries i.next_reply c.args.number new in
-    ap (λ l. shown (records_of i.heads.entries i.pending.entries l)) back ∙ c.self.view_is
-
 pub invariant_of-self-2 : goal.invariant_of-self-2
 invariant_of-self-2 c =
     let i = c.self.inside in
@@ -45,7 +24,6 @@ invariant_of-self-2 c =
     rw (c.fly_more.ensures h.0 h.1) (
       tied_put i.heads.entries i.pending.entries i.dues.entries i.replies.entries c.self.invariant.0 i.next_reply c.args.number new h.0 (more_flying h.0) h.1 refl c.insert.new.self.entries c.in-Ok.ensures.entries c.insert.ensures.ordered c.in-Ok.ensures.updates.0,
       below_put i.heads.entries i.replies.entries c.insert.new.self.entries i.requests i.next_reply c.args.number h.0 (more_flying h.0) h.1 c.self.invariant.1 c.in-Ok.ensures.updates.0,
-      flown_in i.replies.entries i.flights.keys c.insert.new.self.entries c.insert-2.new.self.keys c.self.invariant.2 i.next_reply c.args.number new c.in-Ok.ensures.updates.0 c.in-Ok-insert.ensures.updates.0,
     )
 
 pub returns-clause-ok : goal.returns-clause-ok

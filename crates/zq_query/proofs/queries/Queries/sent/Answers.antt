@@ -6,10 +6,10 @@ use Rattle.zq_query.specs.Closing.{has_open_asker}
 use Rattle.zq_query.proofs.OneFinal.{open_one}
 use Rattle.zq_query.proofs.queries.Queries.sent.Goals as goal
 
-pub returns-clause-all : goal.returns-clause-all
-returns-clause-all c =
+pub returns-in-Some-clause-all : goal.returns-in-Some-clause-all
+returns-in-Some-clause-all c =
     let s = c.args.self.now in
     ap (λ (q : Option Final). cons_option q []) c.if_open.ensures
-    ∙ ap (λ (z : QueryState). cons_option (final_if_open z.closed c.land-over.result) []) c.land-over.ensures.records
-    ∙ open_one s.closed c.land-over.result
-    ∙ ap (filter (has_open_asker s.closed)) c.land-over.ensures.only
+    ∙ ap (λ (z : QueryState). cons_option (final_if_open z.closed c.in-Some.over) []) c.in-Some.ensures.records
+    ∙ open_one s.closed c.in-Some.over
+    ∙ ap (filter (has_open_asker s.closed)) c.in-Some.ensures.only

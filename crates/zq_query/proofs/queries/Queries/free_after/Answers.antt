@@ -1,6 +1,6 @@
 use Rattle.std.proofs.Common.{◌∙◌, ◌+◌, ◌-◌, ◌^◌, sym, refl, arith}
 use Rattle.zq_query.proofs.Ids.{goes_on, stops, ends}
-use Rattle.zq_query.proofs.queries.Queries.next_id.Goals as goal
+use Rattle.zq_query.proofs.queries.Queries.free_after.Goals as goal
 
 pub returns-then-not-is_pending : goal.returns-then-not-is_pending
 returns-then-not-is_pending c =
