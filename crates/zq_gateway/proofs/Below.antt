@@ -10,7 +10,7 @@ use Rattle.std.proofs.lemmas.List.Elements.{All-weaker, All-nil}
 use Rattle.std.proofs.lemmas.Map.{keys-set_value}
 use Rattle.std.proofs.lemmas.Map.Views.{All-keys-insert_entry, All-map-remove_entry}
 use Rattle.zq_naming.specs.Naming.{FaceKeys, NamingState, change_naming, put_naming, naming_at}
-use Rattle.zq_gateway.specs.State.{AreBelow, at}
+use Rattle.zq_machine.specs.State.{AreBelow, at}
 
 module _ {X : Type 0} where
   pub below_none : (n : ℕ) → AreBelow {X = X} n []

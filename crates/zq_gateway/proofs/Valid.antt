@@ -3,12 +3,12 @@ use Rattle.std.proofs.Common.{◌≡◌, ℕ, suc, zero, ◌<◌, Bool, true, fa
 use Rattle.std.specs.Prelude.{nat_lt}
 use Rattle.zq_key.specs.declared.message.Region.TheVariants as region
 use Rattle.zq_tables.specs.Region.{region_index}
-use Rattle.zq_gateway.specs.declared.config.Entry.{Entry}
-use Rattle.zq_gateway.specs.declared.config.Entry.TheVariants as entry
-use Rattle.zq_gateway.specs.declared.config.BadConfig.{BadConfig}
-use Rattle.zq_gateway.specs.declared.config.BadConfig.TheVariants as bad
-use Rattle.zq_gateway.specs.Configs.{bad_entry, bad_from, or_else, region_of, entry_index, is_among}
-use Rattle.zq_gateway.specs.State.{is_region}
+use Rattle.zq_machine.specs.declared.config.Entry.{Entry}
+use Rattle.zq_machine.specs.declared.config.Entry.TheVariants as entry
+use Rattle.zq_machine.specs.declared.config.BadConfig.{BadConfig}
+use Rattle.zq_machine.specs.declared.config.BadConfig.TheVariants as bad
+use Rattle.zq_machine.specs.Configs.{bad_entry, bad_from, or_else, region_of, entry_index, is_among}
+use Rattle.zq_machine.specs.State.{is_region}
 
 entry_fits : (seen : List ℕ) (e : Entry) → bad_entry seen e ≡ None → is_region (region_of e) ≡ true
 entry_fits seen (entry.North m) h = refl

@@ -1,16 +1,1 @@
-pub mod Calls
-pub mod Configs
-pub mod State
-pub mod TextCalls
-pub mod Selecting
-pub mod Messages
-pub mod Deciding
-pub mod Writing
-pub mod Hearing
-pub mod Machine
-pub mod Waiting
-pub mod Asked
-pub mod Headline
 pub mod Undoing
-pub mod Moved
-pub mod Agreeing

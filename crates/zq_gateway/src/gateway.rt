@@ -4,23 +4,23 @@ ghost use Rattle.std.specs.BTreeMap.{insert_entry};
 ghost use Rattle.std.specs.Option.{IsSome};
 ghost use Rattle.std.specs.Ordering.{nat_cmp};
 ghost use Rattle.std.specs.List.{cons_option, list_any};
-ghost use Rattle.zq_gateway.specs.Configs.{north_of};
+ghost use Rattle.zq_machine.specs.Configs.{north_of};
 ghost use Rattle.zq_query.specs.Records.{has_number, next_reply};
 ghost use Rattle.zq_query.specs.Asking.{are_distinct, face_numbers, is_full, lacks_number};
 ghost use Rattle.zq_naming.specs.Naming.{is_text};
-ghost use Rattle.zq_gateway.specs.declared.call.Call.TheVariants as call;
-ghost use Rattle.zq_gateway.specs.Calls.{declared_call, declaring_call, is_built};
-ghost use Rattle.zq_gateway.specs.Deciding.{messages_of, opened, outcome_of, seat};
-ghost use Rattle.zq_gateway.specs.Writing.{write};
-ghost use Rattle.zq_gateway.specs.Selecting.{full_text, is_unscoped, says_key, says_key_or_nothing, select_for, target_of};
-ghost use Rattle.zq_gateway.specs.Machine.{accepted_state, after, after_of, answer, done, refused_step, settle, step, step_of};
-ghost use Rattle.zq_gateway.specs.State.{at, change_hat, face_region, is_open, joined, opening_state};
+ghost use Rattle.zq_machine.specs.declared.call.Call.TheVariants as call;
+ghost use Rattle.zq_machine.specs.Calls.{declared_call, declaring_call, is_built};
+ghost use Rattle.zq_machine.specs.Deciding.{messages_of, opened, outcome_of, seat};
+ghost use Rattle.zq_machine.specs.Writing.{write};
+ghost use Rattle.zq_machine.specs.Selecting.{full_text, is_unscoped, says_key, says_key_or_nothing, select_for, target_of};
+ghost use Rattle.zq_machine.specs.Machine.{accepted_state, after, after_of, answer, done, refused_step, settle, step, step_of};
+ghost use Rattle.zq_machine.specs.State.{at, change_hat, face_region, is_open, joined, opening_state};
 ghost use Rattle.zq_naming.specs.Naming.{face_naming, text_at};
-ghost use Rattle.zq_gateway.specs.TextCalls.{asking, closing, declaring, ending, finalizing, listing, naming, opening, passing, replying, reporting, unnaming, withdrawing};
+ghost use Rattle.zq_machine.specs.TextCalls.{asking, closing, declaring, ending, finalizing, listing, naming, opening, passing, replying, reporting, unnaming, withdrawing};
 
-use crate::call::{Call, Handed, Opening, Outcome, Refusal, Step};
-use crate::config::Config;
-use crate::face::OpenFace;
+use zq_machine::call::{Call, Handed, Opening, Outcome, Refusal, Step};
+use zq_machine::config::Config;
+use zq_machine::face::OpenFace;
 use crate::handed::{
     final_in, room_for_final, written_final, written_finals, written_replies, written_requests,
     written_timeouts,
@@ -62,7 +62,7 @@ pub struct Gateway {
 }
 
 impl Model for Gateway {
-    ghost use Rattle.zq_gateway.specs.State.{AreBelow, State};
+    ghost use Rattle.zq_machine.specs.State.{AreBelow, State};
 
     ghost Value = { State };
 
@@ -256,7 +256,7 @@ impl Gateway {
 
     /// A target ends a query (upstream's `Primitives::send_response_final`); the final to the asker
     /// comes of it, or none. It takes no memory.
-    #[tactic(auto, using(crate::proofs::Writing::finals_written))]
+    #[tactic(auto, using(zq_machine::proofs::Writing::finals_written))]
     pub fn send_response_final(&mut self, face: FaceId, rid: u32) -> Result<Option<Handed>, Refusal>
         ensures handed { IfOk result (λ o. step self.old (call.ResponseFinal face rid) ≡ done (cons_option o [])) }
         ensures refused { IfErr result (λ r. step self.old (call.ResponseFinal face rid) ≡ refused_step r) }
@@ -273,7 +273,7 @@ impl Gateway {
     }
 
     /// A reply was sent; the final to the asker comes of it, or none. It takes no memory.
-    #[tactic(auto, using(crate::proofs::Writing::finals_written))]
+    #[tactic(auto, using(zq_machine::proofs::Writing::finals_written))]
     pub fn sent(&mut self, reply: u64) -> Result<Option<Handed>, Refusal>
         ensures handed { IfOk result (λ o. step self.old (call.Sent reply) ≡ done (cons_option o [])) }
         ensures refused { IfErr result (λ r. step self.old (call.Sent reply) ≡ refused_step r) }
@@ -395,7 +395,7 @@ impl Gateway {
     }
 
     // A target ends a query.
-    #[tactic(auto, using(crate::proofs::Writing::finals_written))]
+    #[tactic(auto, using(zq_machine::proofs::Writing::finals_written))]
     fn response_final(&mut self, face: FaceId, rid: u32) -> Result<Step, OutOfMemory>
         ensures step { IfOk result (λ t. t ≡ answer self.old (ending face rid)) }
         ensures after { OnOk result (self.new ≡ settle self.old (ending face rid)) }
@@ -415,7 +415,7 @@ impl Gateway {
     }
 
     // A reply was sent.
-    #[tactic(auto, using(crate::proofs::Writing::finals_written))]
+    #[tactic(auto, using(zq_machine::proofs::Writing::finals_written))]
     fn report(&mut self, reply: u64) -> Result<Step, OutOfMemory>
         ensures step { IfOk result (λ t. t ≡ answer self.old (reporting reply)) }
         ensures after { OnOk result (self.new ≡ settle self.old (reporting reply)) }
@@ -537,7 +537,7 @@ impl Gateway {
     }
 
     // A face is closed: its entries are let go, and it gives up its numbers.
-    #[tactic(auto, using(crate::proofs::Writing::closed_step, crate::proofs::Writing::closed_after))]
+    #[tactic(auto, using(zq_machine::proofs::Writing::closed_step, zq_machine::proofs::Writing::closed_after))]
     fn close(&mut self, face: FaceId) -> Result<Step, OutOfMemory>
         ensures step { IfOk result (λ t. t ≡ answer self.old (closing face)) }
         ensures after { OnOk result (self.new ≡ settle self.old (closing face)) }
@@ -612,7 +612,7 @@ impl Gateway {
     }
 
     // A moment has come: entries whose deadlines have come are let go.
-    #[tactic(auto, using(crate::proofs::Writing::polled_after))]
+    #[tactic(auto, using(zq_machine::proofs::Writing::polled_after))]
     fn pass(&mut self, now: u64) -> Result<Step, OutOfMemory>
         ensures step { IfOk result (λ t. t ≡ answer self.old (passing now)) }
         ensures after { OnOk result (self.new ≡ settle self.old (passing now)) }

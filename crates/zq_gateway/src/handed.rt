@@ -2,15 +2,15 @@
 ghost use Rattle.std.specs.Prelude.{◌≡◌, ◌<◌, [], ◌∷◌, IfOk, IfSome, Some, map, vec_capacity, vec_len};
 ghost use Rattle.std.specs.List.{cons_option};
 ghost use Rattle.zq_naming.specs.Naming.{best, face_naming, plain};
-ghost use Rattle.zq_gateway.specs.Selecting.{target_of, zid_of};
+ghost use Rattle.zq_machine.specs.Selecting.{target_of, zid_of};
 ghost use Rattle.zq_query.specs.Asking.{given_id, given_place};
 ghost use Rattle.zq_key.specs.declared.message.Message.TheVariants as message_of;
 ghost use Rattle.zq_key.specs.declared.message.ReplyBody.TheVariants as body;
-ghost use Rattle.zq_gateway.specs.Writing.{sent_final, write, written};
-ghost use Rattle.zq_gateway.specs.Deciding.{timed_out, timeout_word, handed_replies, handed_reply, handed_request, handed_requests, handed_timeout, handed_timeouts};
+ghost use Rattle.zq_machine.specs.Writing.{sent_final, write, written};
+ghost use Rattle.zq_machine.specs.Deciding.{timed_out, timeout_word, handed_replies, handed_reply, handed_request, handed_requests, handed_timeout, handed_timeouts};
 
-use crate::call::{Handed, HandedList};
-use crate::face::OpenFace;
+use zq_machine::call::{Handed, HandedList};
+use zq_machine::face::OpenFace;
 use crate::select::zid_of;
 use std::alloc::{AllocError, Global};
 use std::collections::BTreeMap;

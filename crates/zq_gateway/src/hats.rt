@@ -4,10 +4,10 @@ ghost use Rattle.std.specs.Option.{is_some, option_map_or};
 ghost use Rattle.zq_hat.specs.Kept.{clashes_at, declaration_at, is_full, registered, unregistered, without_face};
 ghost use Rattle.zq_hat.specs.Marks.{finalized};
 ghost use Rattle.zq_tables.specs.RegionMap.{with_entry};
-ghost use Rattle.zq_gateway.specs.Configs.{region_of};
-ghost use Rattle.zq_gateway.specs.State.{first_hats, with_hat, change_hat, clashes_in, has_declared_in, hat_at, is_region, joined};
+ghost use Rattle.zq_machine.specs.Configs.{region_of};
+ghost use Rattle.zq_machine.specs.State.{first_hats, with_hat, change_hat, clashes_in, has_declared_in, hat_at, is_region, joined};
 
-use crate::config::{Config, Entry, SOUTH_IDS};
+use zq_machine::config::{Config, Entry, SOUTH_IDS};
 use std::alloc::Global;
 use zq_hat::hat::Hat;
 use zq_hat::types::{FaceRecord, FinalMark, HatRefusal};

@@ -1,23 +1,25 @@
 //! The gateway: calls in, steps out.
 //!
-//! - `config`: what a gateway is made with
-//! - `call`: what it is asked, and what it answers
 //! - `gateway`: each call is one event
-//! - `replay`: whole runs, with what they promise of each request, reply and final
-//! - `laws`: what is decided moves with its texts
-//! - `face`, `hats`, `select`, `handed`, `read`, `parts`: the parts of a call
+//! - `runs`: whole runs, with what they promise of each request, reply and final
+//! - `hats`, `select`, `handed`, `read`, `parts`: the parts of a call
+//! - calls, steps and configurations are of the crate below, `zq_machine`
 #![tactic(auto)]
 
-pub mod call;
-pub mod config;
-pub mod face;
 pub mod gateway;
 mod handed;
 mod hats;
-pub mod laws;
 mod parts;
 mod read;
-pub mod replay;
+pub mod runs;
 mod select;
+
+pub use gateway::Gateway;
+pub use runs::replay;
+pub use zq_machine::{
+    BadConfig, Call, Config, ConfigRefusal, Counters, Entry, EntryList, Handed, HandedList, Opening,
+    Outcome, Refusal, Replay, Step, StepList,
+};
+
 #[cfg(test)]
 mod tests;

@@ -5,13 +5,13 @@ ghost use Rattle.std.specs.List.{list_any};
 ghost use Rattle.std.specs.Ordering.{nat_cmp};
 ghost use Rattle.zq_naming.specs.Naming.{no_keys};
 ghost use Rattle.zq_query.specs.Asking.{is_full, lacks_number};
-ghost use Rattle.zq_gateway.specs.Deciding.{opened, seat};
-ghost use Rattle.zq_gateway.specs.Selecting.{target_of};
-ghost use Rattle.zq_gateway.specs.State.{at, change_hat, joined};
+ghost use Rattle.zq_machine.specs.Deciding.{opened, seat};
+ghost use Rattle.zq_machine.specs.Selecting.{target_of};
+ghost use Rattle.zq_machine.specs.State.{at, change_hat, joined};
 ghost use Rattle.zq_gateway.specs.Undoing.{taken_back};
 
-use crate::call::Opening;
-use crate::face::OpenFace;
+use zq_machine::call::Opening;
+use zq_machine::face::OpenFace;
 use crate::hats;
 use std::alloc::{AllocError, Global};
 use std::collections::BTreeMap;

@@ -1,7 +1,7 @@
 //! What is asked of an expression that was read.
 ghost use Rattle.std.specs.Prelude.{◌≡◌};
-ghost use Rattle.zq_gateway.specs.Deciding.{marks_key};
-ghost use Rattle.zq_gateway.specs.Selecting.{full_text, is_unscoped, says_key, says_key_or_nothing};
+ghost use Rattle.zq_machine.specs.Deciding.{marks_key};
+ghost use Rattle.zq_machine.specs.Selecting.{full_text, is_unscoped, says_key, says_key_or_nothing};
 
 use zq_hat::types::FinalMark;
 use zq_key::is_key;

@@ -3,10 +3,10 @@ ghost use Rattle.std.specs.Prelude.{◌≡◌, ℕ, [], Bool, IfOk, OnOk, Some, 
 ghost use Rattle.std.specs.Map.{values_of};
 ghost use Rattle.zq_key.specs.Key.{is_key as key_of};
 ghost use Rattle.zq_query.specs.Asking.{are_distinct, face_numbers};
-ghost use Rattle.zq_gateway.specs.Selecting.{target_of, carries_between, filter_for, passes, with_part, zid_of};
+ghost use Rattle.zq_machine.specs.Selecting.{target_of, carries_between, filter_for, passes, with_part, zid_of};
 ghost use Rattle.std.specs.Prelude.{filter, fold, map, true};
 
-use crate::face::OpenFace;
+use zq_machine::face::OpenFace;
 use crate::hats::is_region;
 use std::alloc::Global;
 use std::collections::BTreeMap;
@@ -86,7 +86,7 @@ impl<'a> Asker<'a> {
 
     // A region's part joins what earlier regions gave. The offers that pass are picked out first, so
     // that the target picks among all that are left.
-    #[tactic(auto, using(crate::proofs::Routes::filter_all))]
+    #[tactic(auto, using(zq_machine::proofs::Routes::filter_all))]
     fn add_part(
         &self,
         alloc: Global,
@@ -122,7 +122,7 @@ impl<'a> Asker<'a> {
     }
 
     /// The offers that the asker's request on a key is handed to, of each face one.
-    #[tactic(auto, using(crate::proofs::Routes::route_distinct))]
+    #[tactic(auto, using(zq_machine::proofs::Routes::route_distinct))]
     pub fn select(
         &self,
         alloc: Global,

@@ -1,5 +1,5 @@
-use crate::call::{Handed, Opening, Outcome, Refusal, Step};
-use crate::config::{BadConfig, Config, ConfigRefusal, Counters, Entry};
+use zq_machine::call::{Handed, Opening, Outcome, Refusal, Step};
+use zq_machine::config::{BadConfig, Config, ConfigRefusal, Counters, Entry};
 use crate::gateway::Gateway;
 use std::alloc::Global;
 use std::test::Fail;

@@ -5,11 +5,11 @@ use Rattle.std.specs.Prelude.{◌==◌, ◌&&◌, nat_lt, codes, IfOk}
 use Rattle.std.specs.Str.{bytes_eq}
 use Rattle.std.specs.List.{AllByRecursion, onto_first}
 use Rattle.zq_key.specs.declared.message.Zid.{Zid}
-use Rattle.zq_gateway.specs.declared.call.Call.{Call}
-use Rattle.zq_gateway.specs.declared.config.Entry.{Entry}
-use Rattle.zq_gateway.specs.declared.config.Counters.{Counters}
-use Rattle.zq_gateway.specs.Calls.{is_sent, is_built}
-use Rattle.zq_gateway.specs.Configs.{Settings}
+use Rattle.zq_machine.specs.declared.call.Call.{Call}
+use Rattle.zq_machine.specs.declared.config.Entry.{Entry}
+use Rattle.zq_machine.specs.declared.config.Counters.{Counters}
+use Rattle.zq_machine.specs.Calls.{is_sent, is_built}
+use Rattle.zq_machine.specs.Configs.{Settings}
 use Rattle.zq_words.specs.Words.{◌>>=◌}
 use Rattle.zq_words.specs.Fits.{IsBytes}
 use Rattle.zq_script.specs.Fits.{FitsCall}

@@ -19,10 +19,10 @@ use Rattle.zq_key.specs.declared.message.ReplyBody.{ReplyBody}
 use Rattle.zq_key.specs.declared.message.ReplyBody.TheVariants as body
 use Rattle.zq_hat.specs.declared.types.FinalMark.{FinalMark}
 use Rattle.zq_hat.specs.declared.types.FinalMark.TheVariants as mark
-use Rattle.zq_gateway.specs.declared.call.Opening.{Opening}
+use Rattle.zq_machine.specs.declared.call.Opening.{Opening}
 use Rattle.zq_script.specs.declared.lines.Deny.{Deny}
-use Rattle.zq_gateway.specs.declared.call.Call.{Call}
-use Rattle.zq_gateway.specs.declared.call.Call.TheVariants as call
+use Rattle.zq_machine.specs.declared.call.Call.{Call}
+use Rattle.zq_machine.specs.declared.call.Call.TheVariants as call
 use Rattle.zq_words.specs.Words.{◌>>=◌, field, lacks, bytes_of, number, read_at, text_of, payload_of, payload_word, list_word, option_of, option_word}
 use Rattle.zq_words.specs.Values.{most_8, most_16, most_32, most_64, flag_of, flag_word, face_word, zid_word, wire_of, wire_word, target_word, region_word, mode_word, bound_word, zids_word, entry_word, tree_word, all_word}
 use Rattle.zq_script.specs.Lines.{deny_of, denies_of, at_side, deny_text, opening_of, close_of, key_of, unkey_of, info_at, queryable_of, unqueryable_of, interest_of, uninterest_of, mark_by, mark_at, finalize_of, manner_at, ask_of, body_at, by_of, responder_of, reply_of, final_of, sent_of, poll_of, gateways_of, network_of, nodes_of, call_by, other_by, by_first, call_of}

@@ -3,7 +3,7 @@ use Rattle.std.proofs.Common.{◌≡◌, ℕ, ◌<◌, List, [], ◌∷◌, ◌+
 use Rattle.std.proofs.lemmas.List.{append-nil}
 use Rattle.std.proofs.lemmas.Grind.{common_steps}
 use Rattle.std.specs.Prelude.{◌==◌, Result, Ok, Err}
-use Rattle.zq_gateway.specs.declared.call.Call.{Call}
+use Rattle.zq_machine.specs.declared.call.Call.{Call}
 use Rattle.zq_words.specs.Words.{len_to, after_cut, cut}
 use Rattle.zq_script.specs.Script.{lines_of, Parts, onto, new_part, onto_parts}
 use Rattle.zq_words.proofs.Split.{cut_next, after_more, after_none, some_left, some_right}

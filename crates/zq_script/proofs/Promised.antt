@@ -1,8 +1,8 @@
 -- Whatever the bytes are, the calls of their script keep what each run promises.
 use Rattle.std.proofs.Common.{ℕ, List, Option, Some, None}
 use Rattle.std.specs.Prelude.{Result, Ok, Err, IfOk, IfSome}
-use Rattle.zq_gateway.specs.Headline.{RunPromise}
-use Rattle.zq_gateway.proofs.Kept.{headline}
+use Rattle.zq_machine.specs.Headline.{RunPromise}
+use Rattle.zq_machine.proofs.Kept.{headline}
 use Rattle.zq_script.specs.declared.script.Script.{Script}
 use Rattle.zq_script.specs.Running.{first_part}
 use Rattle.zq_script.specs.Script.{lines_of, script_of}

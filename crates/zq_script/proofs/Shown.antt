@@ -2,15 +2,15 @@
 use Rattle.std.proofs.Common.{List, [], ◌∷◌, subst, sym}
 use Rattle.std.specs.List.{AllByRecursion}
 use Rattle.zq_naming.specs.Naming.{NamingState}
-use Rattle.zq_gateway.specs.declared.call.Call.{Call}
-use Rattle.zq_gateway.specs.Configs.{Settings}
-use Rattle.zq_gateway.specs.State.{State, opening_state}
-use Rattle.zq_gateway.specs.TextCalls.{read}
-use Rattle.zq_gateway.specs.Deciding.{decide}
-use Rattle.zq_gateway.specs.Machine.{after, step, steps, steps_from}
-use Rattle.zq_gateway.specs.Messages.{TextMessage, text_final, text_reply, text_request}
-use Rattle.zq_gateway.specs.Writing.{write}
-use Rattle.zq_gateway.proofs.Writing.{answers_plainly}
+use Rattle.zq_machine.specs.declared.call.Call.{Call}
+use Rattle.zq_machine.specs.Configs.{Settings}
+use Rattle.zq_machine.specs.State.{State, opening_state}
+use Rattle.zq_machine.specs.TextCalls.{read}
+use Rattle.zq_machine.specs.Deciding.{decide}
+use Rattle.zq_machine.specs.Machine.{after, step, steps, steps_from}
+use Rattle.zq_machine.specs.Messages.{TextMessage, text_final, text_reply, text_request}
+use Rattle.zq_machine.specs.Writing.{write}
+use Rattle.zq_machine.proofs.Writing.{answers_plainly}
 use Rattle.zq_script.specs.StepsFit.{ShowsHanded, ShowsStep}
 
 -- the lines of requests, replies and finals show all of them

@@ -11,9 +11,9 @@ use Rattle.zq_key.specs.declared.message.ReplyBody.{ReplyBody}
 use Rattle.zq_key.specs.declared.message.ReplyBody.TheVariants as body
 use Rattle.zq_hat.specs.declared.types.FinalMark.{FinalMark}
 use Rattle.zq_hat.specs.declared.types.FinalMark.TheVariants as mark
-use Rattle.zq_gateway.specs.declared.call.Opening.{Opening}
-use Rattle.zq_gateway.specs.declared.call.Call.{Call}
-use Rattle.zq_gateway.specs.declared.call.Call.TheVariants as call
+use Rattle.zq_machine.specs.declared.call.Opening.{Opening}
+use Rattle.zq_machine.specs.declared.call.Call.{Call}
+use Rattle.zq_machine.specs.declared.call.Call.TheVariants as call
 use Rattle.zq_words.specs.Words.{field, payload_word, list_word, option_word}
 use Rattle.zq_words.specs.Values.{flag_word, face_word, zid_word, mode_word, bound_word, target_word, region_word, wire_word, zids_word, entry_word, all_word, tree_word}
 

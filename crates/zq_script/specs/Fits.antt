@@ -10,9 +10,9 @@ use Rattle.zq_key.specs.declared.message.Request.{Request}
 use Rattle.zq_key.specs.declared.message.Response.{Response}
 use Rattle.zq_hat.specs.declared.types.Network.{Network}
 use Rattle.zq_route.specs.declared.gateways.Gateways.{Gateways}
-use Rattle.zq_gateway.specs.declared.call.Opening.{Opening}
-use Rattle.zq_gateway.specs.declared.call.Call.{Call}
-use Rattle.zq_gateway.specs.declared.call.Call.TheVariants as call
+use Rattle.zq_machine.specs.declared.call.Opening.{Opening}
+use Rattle.zq_machine.specs.declared.call.Call.{Call}
+use Rattle.zq_machine.specs.declared.call.Call.TheVariants as call
 use Rattle.zq_words.specs.Fits.{IsBytes, IsText, FitsFace, FitsZid, FitsWire, FitsOption, FitsRegion, FitsEntry, FitsTree}
 use Rattle.zq_words.specs.Values.{most_8, most_16, most_32, most_64}
 

@@ -5,11 +5,11 @@ use Rattle.zq_key.specs.declared.message.Zid.{Zid}
 use Rattle.zq_key.specs.declared.message.Mode.{Mode}
 use Rattle.zq_key.specs.declared.message.Region.{Region}
 use Rattle.zq_key.specs.declared.message.Region.TheVariants as region
-use Rattle.zq_gateway.specs.declared.config.Counters.{Counters}
-use Rattle.zq_gateway.specs.declared.config.Entry.{Entry}
-use Rattle.zq_gateway.specs.declared.config.Entry.TheVariants as entry
-use Rattle.zq_gateway.specs.declared.config.BadConfig.{BadConfig}
-use Rattle.zq_gateway.specs.Configs.{Settings, bad_config}
+use Rattle.zq_machine.specs.declared.config.Counters.{Counters}
+use Rattle.zq_machine.specs.declared.config.Entry.{Entry}
+use Rattle.zq_machine.specs.declared.config.Entry.TheVariants as entry
+use Rattle.zq_machine.specs.declared.config.BadConfig.{BadConfig}
+use Rattle.zq_machine.specs.Configs.{Settings, bad_config}
 use Rattle.zq_words.specs.Words.{◌>>=◌, len_to, cut, pieces, number, read_at, read_each, at_end}
 use Rattle.zq_words.specs.Values.{most_32, most_64, zid_of, mode_of, behind, region_of}
 use Rattle.zq_script.specs.declared.head.EntryWord.{EntryWord}

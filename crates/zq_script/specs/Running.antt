@@ -3,8 +3,8 @@ use Rattle.std.specs.Prelude.{◌≡◌, ℕ, ◌<◌, ◌≤◌, Bool, true, fa
 use Rattle.std.specs.Str.{bytes_eq}
 use Rattle.std.specs.Fmt.{decimal}
 use Rattle.std.specs.Io.KnownBytes.{Appends}
-use Rattle.zq_gateway.specs.declared.call.Call.{Call}
-use Rattle.zq_gateway.specs.Machine.{steps}
+use Rattle.zq_machine.specs.declared.call.Call.{Call}
+use Rattle.zq_machine.specs.Machine.{steps}
 use Rattle.zq_words.specs.declared.transfer.TheConstants.{LIMIT}
 use Rattle.zq_words.specs.Streams.{AppendsPrefix}
 use Rattle.zq_script.specs.Script.{lines_of, script_of}

@@ -2,9 +2,9 @@
 use Rattle.std.specs.Prelude.{ℕ, ◌+◌, ◌-◌, ◌≡◌, Bool, true, ◌&&◌, ◌==◌, nat_lt, List, [], ◌∷◌, ◌++◌, Option, Some, None, Result, Ok, Err, if◌then◌else◌, codes}
 use Rattle.std.specs.List.{onto_first, AllByRecursion}
 use Rattle.std.specs.Str.{bytes_eq}
-use Rattle.zq_gateway.specs.declared.call.Call.{Call}
-use Rattle.zq_gateway.specs.Calls.{is_sent, is_built}
-use Rattle.zq_gateway.specs.Configs.{Settings}
+use Rattle.zq_machine.specs.declared.call.Call.{Call}
+use Rattle.zq_machine.specs.Calls.{is_sent, is_built}
+use Rattle.zq_machine.specs.Configs.{Settings}
 use Rattle.zq_words.specs.Words.{◌>>=◌}
 use Rattle.zq_script.specs.Fits.{FitsCall}
 use Rattle.zq_script.specs.Lines.{call_of}

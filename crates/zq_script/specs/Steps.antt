@@ -9,12 +9,12 @@ use Rattle.zq_key.specs.declared.message.DeclareBody.{DeclareBody}
 use Rattle.zq_key.specs.declared.message.DeclareBody.TheVariants as body
 use Rattle.zq_key.specs.declared.message.Message.{Message}
 use Rattle.zq_key.specs.declared.message.Message.TheVariants as message
-use Rattle.zq_gateway.specs.declared.call.Outcome.{Outcome}
-use Rattle.zq_gateway.specs.declared.call.Outcome.TheVariants as outcome
-use Rattle.zq_gateway.specs.declared.call.Refusal.{Refusal}
-use Rattle.zq_gateway.specs.declared.call.Refusal.TheVariants as refusal
-use Rattle.zq_gateway.specs.declared.call.Handed.{Handed}
-use Rattle.zq_gateway.specs.declared.call.Step.{Step}
+use Rattle.zq_machine.specs.declared.call.Outcome.{Outcome}
+use Rattle.zq_machine.specs.declared.call.Outcome.TheVariants as outcome
+use Rattle.zq_machine.specs.declared.call.Refusal.{Refusal}
+use Rattle.zq_machine.specs.declared.call.Refusal.TheVariants as refusal
+use Rattle.zq_machine.specs.declared.call.Handed.{Handed}
+use Rattle.zq_machine.specs.declared.call.Step.{Step}
 use Rattle.zq_words.specs.Words.{field, payload_word, option_word}
 use Rattle.zq_words.specs.Values.{zid_word, target_word, wire_word, flag_word}
 use Rattle.zq_script.specs.CallLines.{info_words, body_words}

@@ -7,7 +7,7 @@ ghost use Rattle.zq_script.specs.CallLines.{deny_item, opening_words, info_words
 
 use std::alloc::{AllocError, Global};
 use std::fmt::Write;
-use zq_gateway::call::{Call, Opening};
+use zq_machine::call::{Call, Opening};
 use zq_hat::types::FinalMark;
 use zq_key::memory::OutOfMemory;
 use zq_key::message::{FaceId, QueryableInfoType, ReplyBody, Request, Response, Zid};

@@ -7,7 +7,7 @@ ghost use Rattle.zq_words.specs.Values.{most_8, most_32, most_64};
 ghost use Rattle.zq_script.specs.Fits.{FitsBody, FitsRequest, FitsResponse};
 ghost use Rattle.zq_script.specs.StepsFit.{FitsFinal, FitsInterest, FitsDeclareBody, FitsDeclare, FitsMessage, FitsOutcome, FitsHanded, FitsStep, ShowsDeclare, ShowsMessage, ShowsHanded, ShowsStep};
 
-use zq_gateway::call::{Handed, Outcome, Step};
+use zq_machine::call::{Handed, Outcome, Step};
 use zq_key::message::{
     Declare, DeclareBody, Interest, Message, ReplyBody, Request, Response, ResponseFinal, WireExpr,
     Zid,

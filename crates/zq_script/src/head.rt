@@ -7,7 +7,7 @@ ghost use Rattle.zq_script.specs.Head.{ended, entry_of, entry_word_of, entry_in,
 use crate::refusal::ScriptRefusal;
 use crate::script::next_line;
 use std::alloc::Global;
-use zq_gateway::config::{Config, ConfigRefusal, Counters, Entry, EntryList};
+use zq_machine::config::{Config, ConfigRefusal, Counters, Entry, EntryList};
 use zq_key::items::Items;
 use zq_key::memory::OutOfMemory;
 use zq_key::message::{Mode, Region, Zid};

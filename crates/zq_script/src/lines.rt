@@ -5,7 +5,7 @@ ghost use Rattle.zq_words.specs.Words.{read_at, read_each, pieces};
 ghost use Rattle.zq_script.specs.Lines.{deny_of, denies_of, at_side, deny_text, opening_of, close_of, key_of, unkey_of, info_at, queryable_of, unqueryable_of, interest_of, uninterest_of, mark_by, mark_at, finalize_of, manner_at, ask_of, body_by, body_at, by_of, responder_of, reply_of, final_of, sent_of, poll_of, gateways_of, network_of, nodes_of, call_by, other_by, call_of};
 
 use std::alloc::Global;
-use zq_gateway::call::{Call, Opening};
+use zq_machine::call::{Call, Opening};
 use zq_hat::types::{FinalMark, Network, NodeIds, Tree};
 use zq_key::items::Items;
 use zq_key::memory::OutOfMemory;

@@ -3,7 +3,7 @@ ghost use Rattle.std.specs.Prelude.{◌≡◌, ◌≢◌, ◌↔◌, ◌≤◌, 
 ghost use Rattle.std.specs.Fmt.{decimal};
 ghost use Rattle.std.specs.Io.KnownBytes.{IsAtEnd};
 ghost use Rattle.std.specs.List.{AllByRecursion};
-ghost use Rattle.zq_gateway.specs.Headline.{RunPromise};
+ghost use Rattle.zq_machine.specs.Headline.{RunPromise};
 ghost use Rattle.zq_words.specs.declared.transfer.TheConstants.{LIMIT};
 ghost use Rattle.zq_words.specs.Streams.{Rose};
 ghost use Rattle.zq_script.specs.Script.{lines_of, script_of, AllBuilt};
@@ -14,7 +14,7 @@ use crate::script::{Script, read_script};
 use crate::steps::print_steps;
 use std::alloc::Global;
 use std::fmt::Write;
-use zq_gateway::call::Call;
+use zq_machine::call::Call;
 use zq_gateway::replay::replay;
 use zq_key::memory::OutOfMemory;
 use zq_key::text::{Bytes, Text};

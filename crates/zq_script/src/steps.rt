@@ -12,7 +12,7 @@ use crate::fit::{message_fits, steps_fit};
 use crate::same::same_message;
 use std::alloc::{AllocError, Global};
 use std::fmt::Write;
-use zq_gateway::call::{Handed, Outcome, Refusal, Step};
+use zq_machine::call::{Handed, Outcome, Refusal, Step};
 use zq_key::memory::OutOfMemory;
 use zq_key::message::{Declare, DeclareBody, Interest, Message, Request, Response};
 use zq_key::text::Bytes;

@@ -7,7 +7,7 @@ use crate::steps::{print_message, print_steps};
 use crate::{MemorySink, MemorySource};
 use std::alloc::Global;
 use std::test::Fail;
-use zq_gateway::call::{Handed, Outcome, Step};
+use zq_machine::call::{Handed, Outcome, Step};
 use zq_key::items::Items;
 use zq_key::memory::OutOfMemory;
 use zq_key::message::{FaceId, Message, ResponseFinal};

@@ -1,6 +1,6 @@
 use Rattle.std.proofs.Common.{◌≡◌, map, take}
-use Rattle.zq_gateway.specs.Deciding.{handed_request}
-use Rattle.zq_gateway.specs.Writing.{write}
+use Rattle.zq_machine.specs.Deciding.{handed_request}
+use Rattle.zq_machine.specs.Writing.{write}
 use Rattle.zq_gateway.proofs.handed.requests_to.Given as goal
 
 abbrev pub invariant-loop-i : goal.invariant-loop-i

@@ -1,5 +1,5 @@
 use Rattle.std.proofs.Common.{◌≡◌, map, take}
-use Rattle.zq_gateway.specs.Writing.{sent_final}
+use Rattle.zq_machine.specs.Writing.{sent_final}
 use Rattle.zq_gateway.proofs.handed.written_finals.Given as goal
 
 abbrev pub invariant-loop-last : goal.invariant-loop-last

@@ -1,6 +1,6 @@
 use Rattle.std.proofs.Common.{◌≡◌, take}
-use Rattle.zq_gateway.specs.Deciding.{handed_timeouts}
-use Rattle.zq_gateway.specs.Writing.{write}
+use Rattle.zq_machine.specs.Deciding.{handed_timeouts}
+use Rattle.zq_machine.specs.Writing.{write}
 use Rattle.zq_gateway.proofs.handed.written_timeouts.Given as goal
 
 abbrev pub invariant-loop-timeout : goal.invariant-loop-timeout

@@ -1,5 +1,5 @@
 use Rattle.std.proofs.Common.{◌≡◌, [], fold, take}
-use Rattle.zq_gateway.specs.State.{with_hat}
+use Rattle.zq_machine.specs.State.{with_hat}
 use Rattle.zq_gateway.proofs.hats.first_hats.Given as goal
 
 abbrev pub invariant-loop-entry : goal.invariant-loop-entry

@@ -1,8 +1,8 @@
 use Rattle.std.proofs.Common.{◌≡◌, subst}
 use Rattle.std.specs.Prelude.{IfOk, OnOk}
 use Rattle.zq_naming.specs.Naming.{said_of, face_naming, text_at}
-use Rattle.zq_gateway.specs.Machine.{answer, settle}
-use Rattle.zq_gateway.specs.TextCalls.{naming}
+use Rattle.zq_machine.specs.Machine.{answer, settle}
+use Rattle.zq_machine.specs.TextCalls.{naming}
 use Rattle.zq_gateway.proofs.gateway.Gateway.name_key.Goals as goal
 
 pub returns-clause-step : goal.returns-clause-step

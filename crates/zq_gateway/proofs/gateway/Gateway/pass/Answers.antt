@@ -1,9 +1,9 @@
 use Rattle.std.proofs.Common.{◌≡◌, ◌∙◌, ap, [], false}
 use Rattle.zq_query.specs.Polling.{lacks_replies, timeouts}
-use Rattle.zq_gateway.specs.Deciding.{handed_timeouts, passing_finals}
-use Rattle.zq_gateway.specs.State.{State}
-use Rattle.zq_gateway.specs.Writing.{write}
-use Rattle.zq_gateway.proofs.Writing.{polled}
+use Rattle.zq_machine.specs.Deciding.{handed_timeouts, passing_finals}
+use Rattle.zq_machine.specs.State.{State}
+use Rattle.zq_machine.specs.Writing.{write}
+use Rattle.zq_machine.proofs.Writing.{polled}
 use Rattle.zq_gateway.proofs.gateway.Gateway.pass.Goals as goal
 
 pub returns-in-Ok-poll-clause-step : goal.returns-in-Ok-poll-clause-step

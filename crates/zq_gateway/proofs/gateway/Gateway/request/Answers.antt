@@ -2,12 +2,12 @@ use Rattle.std.proofs.Common.{◌≡◌, ◌∙◌, refl, sym, ap, map, List, So
 use Rattle.zq_hat.specs.declared.types.QueryTargetQabl.{QueryTargetQabl}
 use Rattle.zq_query.specs.Asking.{after_ask, lacks_number}
 use Rattle.zq_query.specs.Records.{QueryState}
-use Rattle.zq_gateway.specs.declared.call.Outcome.TheVariants as outcome
-use Rattle.zq_gateway.specs.Deciding.{deadline, handed_requests, with_queries}
-use Rattle.zq_gateway.specs.Selecting.{full_text, select_for, target_of}
-use Rattle.zq_gateway.specs.State.{State}
-use Rattle.zq_gateway.specs.Writing.{write}
-use Rattle.zq_gateway.proofs.Writing.{asked_step, asked_after}
+use Rattle.zq_machine.specs.declared.call.Outcome.TheVariants as outcome
+use Rattle.zq_machine.specs.Deciding.{deadline, handed_requests, with_queries}
+use Rattle.zq_machine.specs.Selecting.{full_text, select_for, target_of}
+use Rattle.zq_machine.specs.State.{State}
+use Rattle.zq_machine.specs.Writing.{write}
+use Rattle.zq_machine.proofs.Writing.{asked_step, asked_after}
 use Rattle.zq_gateway.proofs.gateway.Gateway.request.Goals as goal
 
 pub returns-in-Ok-clause-step : goal.returns-in-Ok-clause-step

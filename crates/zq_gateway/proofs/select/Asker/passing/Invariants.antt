@@ -1,6 +1,6 @@
 use Rattle.std.proofs.Common.{◌≡◌}
 use Rattle.std.specs.List.{filter}
-use Rattle.zq_gateway.specs.Selecting.{passes}
+use Rattle.zq_machine.specs.Selecting.{passes}
 use Rattle.zq_gateway.proofs.select.Asker.passing.Given as goal
 
 abbrev pub invariant-loop-offer : goal.invariant-loop-offer

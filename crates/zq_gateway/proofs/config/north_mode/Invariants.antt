@@ -1,6 +1,0 @@
-use Rattle.std.proofs.Common.{◌≡◌, drop}
-use Rattle.zq_gateway.specs.Configs.{north_of}
-use Rattle.zq_gateway.proofs.config.north_mode.Given as goal
-
-abbrev pub invariant-loop-entry : goal.invariant-loop-entry
-invariant-loop-entry l = north_of (drop l.entry-index l.entries) ≡ north_of l.entries

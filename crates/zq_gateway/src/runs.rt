@@ -1,0 +1,27 @@
+//! Whole runs.
+ghost use Rattle.std.specs.Prelude.{◌≡◌, IfOk, true};
+ghost use Rattle.std.specs.List.{AllByRecursion};
+ghost use Rattle.zq_machine.specs.Calls.{is_built};
+ghost use Rattle.zq_machine.specs.Machine.{steps};
+ghost use Rattle.zq_machine.specs.Headline.{RunPromise};
+
+use zq_machine::call::{Call, Replay};
+use zq_machine::config::Config;
+use crate::gateway::Gateway;
+use std::alloc::Global;
+use zq_key::items::Items;
+use zq_key::memory::OutOfMemory;
+
+/// The steps of a new gateway for calls, one after another; and what each run of them promises.
+pub fn replay(alloc: Global, config: &Config, calls: &[Call]) -> Result<Replay, OutOfMemory>
+    requires { AllByRecursion (λ c. is_built config.now c ≡ true) calls.now }
+    ensures machine { IfOk result (λ r. r.steps ≡ steps config.now calls.now) }
+    ensures headline { IfOk result (λ _. RunPromise config.now calls.now) }
+{
+    let mut gateway = Gateway::new(alloc, config)?;
+    let mut steps = Items::new(alloc);
+    for call in calls {
+        steps.push(gateway.call(call)?)?;
+    }
+    Ok(Replay { steps })
+}

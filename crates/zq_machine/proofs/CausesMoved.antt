@@ -1,0 +1,56 @@
+-- A call with its texts moved is refused for the cause that refuses the call.
+use Rattle.std.proofs.Common.{◌≡◌, ◌∙◌, refl, ap, ℕ, false, not, List, [], ◌∷◌, Option, Some, None}
+use Rattle.std.specs.Prelude.{◌==◌, ◌||◌, option_map}
+use Rattle.zq_key.specs.declared.message.FaceId.{FaceId}
+use Rattle.zq_hat.specs.declared.types.FinalMark.TheVariants as mark
+use Rattle.zq_hat.specs.Moved.{Keeps}
+use Rattle.zq_naming.specs.declared.said.Said.TheVariants as said
+use Rattle.zq_naming.specs.Naming.{remaps}
+use Rattle.zq_query.specs.Asking.{lacks_number}
+use Rattle.zq_query.specs.Records.{is_pending, lacks_reply}
+use Rattle.zq_machine.specs.declared.call.Refusal.TheVariants as refusal
+use Rattle.zq_machine.specs.State.{Core, hat_of, has_declared_in, clashes_in}
+use Rattle.zq_machine.specs.TextCalls.{TextCall, opening, closing, naming, unnaming, declaring, withdrawing, asking, replying, ending, reporting, passing, listing, finalizing, unbuilt}
+use Rattle.zq_machine.specs.Deciding.{first_of, clashes, has_declared, lacks_face_number, unknown_face, refusal_of}
+use Rattle.zq_machine.specs.Moved.{move_core, move_text}
+use Rattle.zq_machine.proofs.HatsMoved.{declared_moved, clashes_moved, has_moved, full_moved, own_found}
+use Rattle.zq_machine.proofs.SelectionMoved.{targets_moved}
+
+module _ (φ : List ℕ → List ℕ) (keeps : Keeps φ) (c : Core) where
+  remaps_moved : (id : ℕ) (text : List ℕ) (standing : Option (List ℕ)) → remaps id (φ text) (option_map φ standing) ≡ remaps id text standing
+  remaps_moved id text None = refl
+  remaps_moved id text (Some t) = ap (λ b. (id == 0) || not b) (keeps.same t text)
+
+  clash_moved : (face : FaceId) (id : ℕ) (text : List ℕ) → clashes face id (φ text) (move_core φ c) ≡ clashes face id text c
+  clash_moved face id text = ap (clashes_in face.0 id (φ text)) (own_found φ c face.0) ∙ clashes_moved φ keeps face.0 id text (hat_of face.0 c)
+
+  known_moved : (face : FaceId) (id : ℕ) → has_declared face id (move_core φ c) ≡ has_declared face id c
+  known_moved face id = ap (has_declared_in face.0 id) (own_found φ c face.0) ∙ declared_moved φ face.0 id (hat_of face.0 c)
+
+  pub refused_alike : (t : TextCall) → refusal_of (move_core φ c) (move_text φ t) ≡ refusal_of c t
+  refused_alike (opening o) = λ j. first_of ((not (has_moved φ c o.region j), refusal.UnknownRegion) ∷ (full_moved φ c o.region j, refusal.UpstreamInUse) ∷ (lacks_face_number c, refusal.NoFreeId) ∷ [])
+  refused_alike (closing face) = refl
+  refused_alike (naming face id said.Unscoped standing) = refl
+  refused_alike (naming face id said.Empty standing) = refl
+  refused_alike (naming face id (said.Full text) standing) =
+      λ j. first_of (unknown_face face c ∷ (false, refusal.UnknownScope) ∷ (not (keeps.key text j), refusal.InvalidKeyExpr) ∷ (remaps_moved id text standing j, refusal.Remapped) ∷ [])
+  refused_alike (unnaming face id None) = refl
+  refused_alike (unnaming face id (Some t)) = refl
+  refused_alike (declaring face id said.Unscoped info node) = refl
+  refused_alike (declaring face id said.Empty info node) = refl
+  refused_alike (declaring face id (said.Full text) info node) =
+      λ j. first_of (unknown_face face c ∷ (false, refusal.UnknownScope) ∷ (not (keeps.key text j), refusal.InvalidKeyExpr) ∷ (clash_moved face id text j, refusal.IdInUse) ∷ [])
+  refused_alike (withdrawing face id) = ap (λ b. first_of (unknown_face face c ∷ (not b, refusal.UnknownId) ∷ [])) (known_moved face id)
+  refused_alike (asking face s r now) = ap (λ fs. first_of (unknown_face face c ∷ (lacks_number fs c.queries, refusal.NoFreeId) ∷ [])) (targets_moved φ keeps c face s r)
+  refused_alike (replying face said.Unscoped r) = refl
+  refused_alike (replying face said.Empty r) = refl
+  refused_alike (replying face (said.Full text) r) =
+      ap (λ b. first_of (unknown_face face c ∷ (false, refusal.UnknownScope) ∷ (not (is_pending face.0 r.rid c.queries.records), refusal.QueryNotFound)
+      ∷ (not b, refusal.InvalidKeyExpr) ∷ (lacks_reply face.0 r.rid c.queries, refusal.NoFreeId) ∷ [])) (keeps.key text)
+  refused_alike (ending face rid) = refl
+  refused_alike (reporting reply) = refl
+  refused_alike (passing now) = refl
+  refused_alike (listing r table) = ap (λ b. first_of ((not b, refusal.UnknownRegion) ∷ [])) (has_moved φ c r)
+  refused_alike (finalizing face mark.Initial set) = refl
+  refused_alike (finalizing face (mark.Key key) set) = ap (λ b. first_of (unknown_face face c ∷ (not b, refusal.InvalidKeyExpr) ∷ [])) (keeps.key key)
+  refused_alike unbuilt = refl

@@ -1,0 +1,176 @@
+-- What is decided moves with its texts: the answer, what it hands, and what it changes.
+use Rattle.std.proofs.Common.{◌≡◌, ◌∙◌, sym, refl, ap, ℕ, Bool, true, false, cond, not, List, [], ◌∷◌, ◌++◌, map, Option, Some, None}
+use Rattle.std.specs.List.{cons_option}
+use Rattle.std.specs.Option.{option_map}
+use Rattle.std.specs.Ordering.{nat_cmp}
+use Rattle.std.specs.BTreeMap.{is_at}
+use Rattle.std.specs.Map.{remove_entry}
+use Rattle.std.proofs.lemmas.List.{map-append}
+use Rattle.zq_key.proofs.Naturals.{map-map}
+use Rattle.zq_key.specs.Key.{is_key, is_chunk}
+use Rattle.zq_key.specs.declared.message.FaceId.{FaceId}
+use Rattle.zq_key.specs.declared.message.Request.{Request}
+use Rattle.zq_key.specs.declared.message.Response.{Response}
+use Rattle.zq_hat.specs.declared.types.QueryTargetQabl.{QueryTargetQabl}
+use Rattle.zq_hat.specs.Kept.{registered, unregistered, without_face}
+use Rattle.zq_hat.specs.Marks.{finalized}
+use Rattle.zq_hat.specs.Moved.{Keeps, move_mark, move_offer}
+use Rattle.zq_query.specs.declared.records.Final.{Final}
+use Rattle.zq_query.specs.declared.records.ReplyTo.{ReplyTo}
+use Rattle.zq_query.specs.declared.records.Timeout.{Timeout}
+use Rattle.zq_query.specs.Asking.{after_ask}
+use Rattle.zq_query.specs.Closing.{after_close, closing_finals, finals_after, finals_landed}
+use Rattle.zq_query.specs.Polling.{timeouts}
+use Rattle.zq_query.specs.Records.{is_entry, is_pending, next_reply}
+use Rattle.zq_naming.specs.declared.said.Said.{Said}
+use Rattle.zq_naming.specs.declared.said.Said.TheVariants as said
+use Rattle.zq_machine.specs.declared.call.Outcome.{Outcome}
+use Rattle.zq_machine.specs.declared.call.Outcome.TheVariants as outcome
+use Rattle.zq_machine.specs.declared.call.Refusal.{Refusal}
+use Rattle.zq_machine.specs.Messages.{Decided, TextMessage, text_final}
+use Rattle.zq_machine.specs.declared.face.OpenFace.{OpenFace}
+use Rattle.zq_machine.specs.State.{Core, at, is_open, joined}
+use Rattle.zq_machine.specs.Selecting.{select_for, select}
+use Rattle.zq_machine.specs.TextCalls.{TextCall, opening, closing, naming, unnaming, declaring, withdrawing, asking, replying, ending, reporting, passing, listing, finalizing, unbuilt}
+use Rattle.zq_machine.specs.Deciding.{refusal_of, handed_request, handed_requests, handed_reply, timed_out, handed_timeouts, passing_finals, replied, granted, outcome_of, answered, decide, is_accepted, deadline, with_queries, with_open, seat, accepted}
+use Rattle.zq_machine.specs.Moved.{move_said, move_text, move_core, move_suffix, move_message, move_decided, after_text, DecidesAlike}
+use Rattle.zq_machine.proofs.HatsMoved.{finalized_moved, registered_moved, unregistered_moved, left_moved, joined_moved, hat_changed, own_changed}
+use Rattle.zq_machine.proofs.SelectionMoved.{select_moved, targets_moved}
+use Rattle.zq_machine.proofs.CausesMoved.{refused_alike}
+
+-- ---- what cannot be: a call is accepted whose second or third cause holds
+second_holds : {X : Type 0} (a : Bool) (x y : X) → cond a (Some x) (Some y) ≡ None → ⊥
+second_holds true x y e = cc
+second_holds false x y e = cc
+
+third_holds : {X : Type 0} (a b : Bool) (x y z : X) → cond a (Some x) (cond b (Some y) (Some z)) ≡ None → ⊥
+third_holds true b x y z e = cc
+third_holds false b x y z e = second_holds b y z e
+
+-- ---- the empty text is no key: no request on it is handed on, and no reply on it is accepted
+nothing_selected : (c : Core) (face : FaceId) (t : Request) (o : Option OpenFace) → select_for c face (said.Full []) t o ≡ []
+unfolding is_key is_chunk
+nothing_selected c face t None = refl
+nothing_selected c face t (Some o) = refl
+
+no_empty_reply : (c : Core) (face : FaceId) (r : Response) → refusal_of c (replying face (said.Full []) r) ≡ None → ⊥
+unfolding is_key is_chunk
+no_empty_reply c face r e = third_holds (not (is_open face.0 c)) (not (is_pending face.0 r.rid c.queries.records)) _ _ _ e
+
+module _ (φ : List ℕ → List ℕ) where
+  -- ---- what is handed
+  finals_moved : (fs : List Final) → map text_final fs ≡ map (move_message φ) (map text_final fs)
+  finals_moved fs = sym (map-map text_final (move_message φ) text_final (λ _. refl) fs)
+
+  timeouts_moved : (faces : List (ℕ × OpenFace)) (ts : List Timeout) → handed_timeouts faces ts ≡ map (move_message φ) (handed_timeouts faces ts)
+  timeouts_moved faces [] = refl
+  timeouts_moved faces (t ∷ ts) = by t.reply (timeouts_moved faces ts)
+    where
+      by : (o : Option ℕ) → handed_timeouts faces ts ≡ map (move_message φ) (handed_timeouts faces ts) → cons_option (option_map (timed_out faces t) o) [] ++ handed_timeouts faces ts ≡ map (move_message φ) (cons_option (option_map (timed_out faces t) o) [] ++ handed_timeouts faces ts)
+      by None same = same
+      by (Some k) same = ap (λ ms. timed_out faces t k ∷ ms) same
+
+  passing_moved : (faces : List (ℕ × OpenFace)) (ts : List Timeout) (fs : List Final) → handed_timeouts faces ts ++ map text_final fs ≡ map (move_message φ) (handed_timeouts faces ts ++ map text_final fs)
+  passing_moved faces ts fs =
+      (λ j. timeouts_moved faces ts j ++ finals_moved fs j) ∙ sym (map-append (move_message φ) (handed_timeouts faces ts) (map text_final fs))
+
+  reply_by : (text : List ℕ) (r : Response) (to : ReplyTo) (o : Option ℕ) → cons_option (option_map (handed_reply (move_suffix φ text) r to) o) [] ≡ map (move_message φ) (cons_option (option_map (handed_reply text r to) o) [])
+  reply_by text r to (Some k) = refl
+  reply_by text r to None = refl
+
+  replied_moved : (text : List ℕ) (r : Response) (o : Option ReplyTo) → replied (move_suffix φ text) r o ≡ map (move_message φ) (replied text r o)
+  replied_moved text r None = refl
+  replied_moved text r (Some to) = reply_by text r to to.reply
+
+  module _ (keeps : Keeps φ) (c : Core) where
+    each_moved : (text : List ℕ) (r : Request) (os : List QueryTargetQabl) → map (handed_request c.queries (move_suffix φ text) r) (map (move_offer φ) os) ≡ map (move_message φ) (map (handed_request c.queries text r) os)
+    each_moved text r os =
+        map-map (move_offer φ) (handed_request c.queries (move_suffix φ text) r) (λ o. move_message φ (handed_request c.queries text r o)) (λ _. refl) os
+        ∙ sym (map-map (handed_request c.queries text r) (move_message φ) (λ o. move_message φ (handed_request c.queries text r o)) (λ _. refl) os)
+
+    requests_moved : (face : FaceId) (text : List ℕ) (r : Request) (os : List QueryTargetQabl) → handed_requests c.queries face (move_suffix φ text) r (map (move_offer φ) os) ≡ map (move_message φ) (handed_requests c.queries face text r os)
+    requests_moved face text r [] = refl
+    requests_moved face text r (o ∷ os) = each_moved text r (o ∷ os)
+
+    asked_by : (face : FaceId) (text : List ℕ) (s : Said) (r : Request) → handed_requests c.queries face (move_suffix φ text) r (select (move_core φ c) face (move_said φ s) r) ≡ map (move_message φ) (handed_requests c.queries face text r (select c face s r))
+    asked_by face text s r = ap (handed_requests c.queries face (move_suffix φ text) r) (select_moved φ keeps c face r s) ∙ requests_moved face text r (select c face s r)
+
+    asked_none : (face : FaceId) (r : Request) → handed_requests c.queries face (φ []) r (select (move_core φ c) face (said.Full (φ [])) r) ≡ map (move_message φ) (handed_requests c.queries face [] r (select c face (said.Full []) r))
+    asked_none face r =
+        let none : select c face (said.Full []) r ≡ [] = nothing_selected c face r (at face.0 c.faces) in
+        ap (handed_requests c.queries face (φ []) r) (select_moved φ keeps c face r (said.Full []) ∙ ap (map (move_offer φ)) none)
+        ∙ sym (ap (λ os. map (move_message φ) (handed_requests c.queries face [] r os)) none)
+
+    does : Outcome → List TextMessage → Decided
+    does o ms = record { outcome = o; messages = ms; told = [] }
+
+    -- ---- what a call is answered that nothing refuses
+    granted_moved : (t : TextCall) → refusal_of c t ≡ None → granted (move_core φ c) (move_text φ t) ≡ move_decided φ (granted c t)
+    unfolding does
+    granted_moved (opening o) e = refl
+    granted_moved (closing face) e = ap (does outcome.Done) (finals_moved (closing_finals face.0 c.queries))
+    granted_moved (naming face id s standing) e = refl
+    granted_moved (unnaming face id standing) e = refl
+    granted_moved (declaring face id s info node) e = refl
+    granted_moved (withdrawing face id) e = refl
+    granted_moved (asking face said.Unscoped r now) e = ap (does (outcome_of c (asking face said.Empty r now))) (asked_by face [] said.Unscoped r)
+    granted_moved (asking face said.Empty r now) e = ap (does (outcome_of c (asking face said.Empty r now))) (asked_by face [] said.Empty r)
+    granted_moved (asking face (said.Full []) r now) e = ap (does (outcome_of c (asking face said.Empty r now))) (asked_none face r)
+    granted_moved (asking face (said.Full (b ∷ bs)) r now) e = ap (does (outcome_of c (asking face said.Empty r now))) (asked_by face (b ∷ bs) (said.Full (b ∷ bs)) r)
+    granted_moved (replying face said.Unscoped r) e = ap (does (outcome_of c (replying face said.Empty r))) (replied_moved [] r (next_reply face.0 r.rid c.queries))
+    granted_moved (replying face said.Empty r) e = ap (does (outcome_of c (replying face said.Empty r))) (replied_moved [] r (next_reply face.0 r.rid c.queries))
+    granted_moved (replying face (said.Full []) r) e = absurd (no_empty_reply c face r e)
+    granted_moved (replying face (said.Full (b ∷ bs)) r) e = ap (does (outcome_of c (replying face said.Empty r))) (replied_moved (b ∷ bs) r (next_reply face.0 r.rid c.queries))
+    granted_moved (ending face rid) e = ap (does outcome.Done) (finals_moved (finals_after (is_entry face.0 rid) c.queries.closed c.queries.records))
+    granted_moved (reporting reply) e = ap (does outcome.Done) (finals_moved (finals_landed reply c.queries.closed c.queries.records))
+    granted_moved (passing now) e = ap (does outcome.Done) (passing_moved c.faces (timeouts now c.queries) (passing_finals now c.queries))
+    granted_moved (listing r table) e = refl
+    granted_moved (finalizing face m set) e = refl
+    granted_moved unbuilt e = refl
+
+    answer_by : (t : TextCall) (o : Option Refusal) → refusal_of c t ≡ o → answered o (granted (move_core φ c) (move_text φ t)) ≡ move_decided φ (answered o (granted c t))
+    answer_by t None e = granted_moved t e
+    answer_by t (Some r) e = refl
+
+    pub answer_moved : (t : TextCall) → decide (move_core φ c) (move_text φ t) ≡ move_decided φ (decide c t)
+    answer_moved t = ap (λ o. answered o (granted (move_core φ c) (move_text φ t))) (refused_alike φ keeps c t) ∙ answer_by t (refusal_of c t) refl
+
+    -- ---- what an accepted call changes
+    pub accepted_moved : (t : TextCall) → refusal_of c t ≡ None → accepted (move_core φ c) (move_text φ t) ≡ move_core φ (accepted c t)
+    accepted_moved (opening o) e =
+        ap (λ l. record (move_core φ (with_open o c)) { hats = l }) (hat_changed φ c.hats o.region (joined (seat c.next_face o)) (joined (seat c.next_face o)) (joined_moved φ (seat c.next_face o)))
+    accepted_moved (closing face) e =
+        ap (λ (k : Core). record k { faces = remove_entry (is_at (nat_cmp face.0)) c.faces; queries = after_close face.0 c.queries })
+        (own_changed φ c (without_face face.0) (without_face face.0) (left_moved φ face.0) face.0)
+    accepted_moved (naming face id s standing) e = refl
+    accepted_moved (unnaming face id standing) e = refl
+    accepted_moved (declaring face id said.Unscoped info node) e = absurd (second_holds (not (is_open face.0 c)) _ _ e)
+    accepted_moved (declaring face id said.Empty info node) e = absurd (second_holds (not (is_open face.0 c)) _ _ e)
+    accepted_moved (declaring face id (said.Full text) info node) e =
+        own_changed φ c (registered face.0 id (φ text) info) (registered face.0 id text info) (registered_moved φ face.0 id text info) face.0
+    accepted_moved (withdrawing face id) e = own_changed φ c (unregistered face.0 id) (unregistered face.0 id) (unregistered_moved φ face.0 id) face.0
+    accepted_moved (asking face s r now) e =
+        ap (λ fs. with_queries (move_core φ c) (after_ask face r.id r.qos fs (deadline c r.timeout now) c.queries)) (targets_moved φ keeps c face s r)
+    accepted_moved (replying face s r) e = refl
+    accepted_moved (ending face rid) e = refl
+    accepted_moved (reporting reply) e = refl
+    accepted_moved (passing now) e = refl
+    accepted_moved (listing r table) e = refl
+    accepted_moved (finalizing face m set) e = own_changed φ c (finalized face.0 (move_mark φ m) set) (finalized face.0 m set) (finalized_moved φ keeps face.0 m set) face.0
+    accepted_moved unbuilt e = refl
+
+    change_by : (t : TextCall) → refusal_of c t ≡ None → (b : Bool) → cond b (accepted (move_core φ c) (move_text φ t)) (move_core φ c) ≡ move_core φ (cond b (accepted c t) c)
+    change_by t e true = accepted_moved t e
+    change_by t e false = refl
+
+    change_of : (t : TextCall) (o : Option Refusal) → refusal_of c t ≡ o
+        → cond (is_accepted (answered o (granted c t)).outcome) (accepted (move_core φ c) (move_text φ t)) (move_core φ c) ≡ move_core φ (cond (is_accepted (answered o (granted c t)).outcome) (accepted c t) c)
+    change_of t None e = change_by t e (is_accepted (granted c t).outcome)
+    change_of t (Some r) e = refl
+
+    pub change_moved : (t : TextCall) → after_text (move_core φ c) (move_text φ t) ≡ move_core φ (after_text c t)
+    change_moved t =
+        ap (λ (s : Decided). cond (is_accepted s.outcome) (accepted (move_core φ c) (move_text φ t)) (move_core φ c)) (answer_moved t) ∙ change_of t (refusal_of c t) refl
+
+pub decides_alike : (φ : List ℕ → List ℕ) → Keeps φ → DecidesAlike φ
+decides_alike φ keeps = record { answer = answer_moved φ keeps; change = change_moved φ keeps }

@@ -1,0 +1,36 @@
+-- Every run keeps its promises.
+use Rattle.std.proofs.Common.{List}
+use Rattle.zq_machine.specs.declared.call.Call.{Call}
+use Rattle.zq_machine.specs.Configs.{Settings}
+use Rattle.zq_machine.specs.State.{State, opening_state}
+use Rattle.zq_machine.specs.Machine.{state_after}
+use Rattle.zq_machine.specs.Headline.{KeepsPromises, RunPromise}
+use Rattle.zq_machine.proofs.Asking.{counted, to_askers}
+use Rattle.zq_machine.proofs.Closings.{call_closed}
+use Rattle.zq_machine.proofs.Promises.{request_promise, reply_promise, refusal_promise}
+use Rattle.zq_machine.proofs.Silent.{nothing_after}
+use Rattle.zq_machine.proofs.Settled.{final_promise, run_once}
+use Rattle.zq_machine.proofs.Waits.{call_waits}
+use Rattle.zq_machine.proofs.Finals.{opening_sound, run_sound}
+use Rattle.zq_machine.proofs.OneFinal.{one_final}
+
+kept : (config : Settings) (before : List Call) (c : Call) → KeepsPromises (state_after (opening_state config) before) c
+kept config before c =
+    let s : State = state_after (opening_state config) before in
+    record {
+      requests = request_promise s c;
+      replies = reply_promise s c;
+      waits = call_waits s c;
+      finals = λ n. final_promise n s c (run_sound before (opening_state config) (opening_sound config)) (run_once n config before);
+      closed = λ face. call_closed s face c;
+      refusals = refusal_promise s c;
+    }
+
+pub headline : (config : Settings) (calls : List Call) → RunPromise config calls
+headline config calls = record {
+  each = λ before rest c at. kept config before c;
+  numbers = counted config calls;
+  askers = λ before rest c at. to_askers config before c;
+  one_final = λ n. one_final config calls n;
+  nothing_after = λ n before rest c at ended. nothing_after config before c n ended;
+}

@@ -1,0 +1,353 @@
+-- What each call of a run promises of requests, replies and refusals.
+use Rattle.std.proofs.Common.{◌≡◌, ℕ, ◌+◌, ◌<◌, ◌^◌, Bool, true, false, cond, not, List, [], ◌∷◌, ◌++◌, map, length, Option, Some, None, refl, ap, ◌∙◌, arith, true≢false}
+use Rattle.std.specs.List.{cons_option, list_any}
+use Rattle.std.specs.Prelude.{◌||◌, ◌==◌, unwrap_or}
+use Rattle.std.specs.Option.{is_some, option_map}
+use Rattle.std.proofs.lemmas.Bool.{false≢true, or_parts}
+use Rattle.std.proofs.lemmas.List.{map-append}
+use Rattle.zq_key.specs.Key.{is_key, is_chunk}
+use Rattle.zq_key.specs.declared.message.FaceId.{FaceId}
+use Rattle.zq_key.specs.declared.message.Request.{Request}
+use Rattle.zq_key.specs.declared.message.Response.{Response}
+use Rattle.zq_hat.specs.declared.types.QueryTargetQabl.{QueryTargetQabl}
+use Rattle.zq_query.specs.declared.records.Final.{Final}
+use Rattle.zq_query.specs.declared.records.ReplyTo.{ReplyTo}
+use Rattle.zq_query.specs.declared.records.Timeout.{Timeout}
+use Rattle.zq_query.specs.Closing.{closing_finals, finals_after, finals_landed}
+use Rattle.zq_query.specs.Records.{QueryState, is_entry, is_pending, next_reply, next_id}
+use Rattle.zq_query.specs.Asking.{given_id, is_full}
+use Rattle.zq_query.specs.Polling.{timeouts}
+use Rattle.zq_query.proofs.Ids.{next_id_is_new}
+use Rattle.zq_naming.specs.Naming.{NamingState, best, face_naming}
+use Rattle.zq_naming.specs.declared.said.Said.{Said}
+use Rattle.zq_naming.specs.declared.said.Said.TheVariants as said
+use Rattle.zq_naming.proofs.Reading.{best-reads}
+use Rattle.zq_machine.specs.declared.call.Call.{Call}
+use Rattle.zq_machine.specs.declared.call.Call.TheVariants as call
+use Rattle.zq_machine.specs.declared.call.Handed.{Handed}
+use Rattle.zq_machine.specs.declared.call.Outcome.TheVariants as outcome
+use Rattle.zq_machine.specs.declared.call.Refusal.{Refusal}
+use Rattle.zq_machine.specs.declared.call.Step.{Step}
+use Rattle.zq_machine.specs.declared.face.OpenFace.{OpenFace}
+use Rattle.zq_machine.specs.State.{State, Core, at}
+use Rattle.zq_machine.specs.Selecting.{select, select_for, full_text, target_of}
+use Rattle.zq_machine.specs.TextCalls.{TextCall, opening, closing, naming, unnaming, declaring, withdrawing, asking, replying, ending, reporting, passing, listing, finalizing, unbuilt, read, said as said_by_face}
+use Rattle.zq_machine.specs.Deciding.{replied_outcome, passing_finals, Cause, first_of, causes, refusal_of, granted, answered, is_accepted, targets, handed_reply, timed_out, handed_request, handed_requests, handed_replies, handed_timeouts, replied}
+use Rattle.zq_machine.specs.Machine.{answer, accepted_state, step}
+use Rattle.zq_machine.specs.Messages.{Decided, text_final}
+use Rattle.zq_machine.specs.Writing.{sent_final, write, written}
+use Rattle.zq_machine.specs.Headline.{HandsOn, HandsEach, HandsRequest, RequestPromise, HandsReply, ReplyPromise, RefusesBy, asks, replies_to}
+use Rattle.zq_machine.proofs.Routes.{none_to_asker}
+use Rattle.zq_machine.specs.Asked.{is_own}
+use Rattle.zq_machine.proofs.Writing.{answers_plainly, by_plain, finals_written, plainly, settles_plainly}
+use Rattle.zq_machine.proofs.Replies.{next-pending}
+
+key_some : (t : List ℕ) → is_key t ≡ true → 0 < length t
+unfolding is_key is_chunk
+key_some [] h = absurd (false≢true h)
+key_some (c ∷ t) h = omega arith
+
+-- ---- causes
+pub passed : (c : Cause) (cs : List Cause) → first_of (c ∷ cs) ≡ None → (c.0 ≡ false) × (first_of cs ≡ None)
+passed c cs h = by c.0 refl h
+  where
+    by : (b : Bool) → c.0 ≡ b → cond b (Some c.1) (first_of cs) ≡ None → (c.0 ≡ false) × (first_of cs ≡ None)
+    by true e g = absurd (cc)
+    by false e g = (e, g)
+
+abbrev pub AllPassed : List Cause → Type 0
+AllPassed [] = Unit {0}
+AllPassed (c ∷ cs) = (c.0 ≡ false) × AllPassed cs
+
+pub all_passed : (cs : List Cause) → first_of cs ≡ None → AllPassed cs
+all_passed [] h = tt
+all_passed (c ∷ cs) h = let p = passed c cs h in (p.0, all_passed cs p.1)
+
+-- ---- requests
+module _ (s : State) (text : List ℕ) (r : Request) (some : 0 < length text) where
+  free : (o : QueryTargetQabl) (i : Option ℕ) → next_id s.core.queries o.face.0 ≡ i → not (is_some i) ≡ false → is_pending o.face.0 (unwrap_or i 0) s.core.queries.records ≡ false
+  free o None e h = absurd (true≢false h)
+  free o (Some id) e h = next_id_is_new s.core.queries o.face.0 id e
+
+  hands : (o : QueryTargetQabl) → is_full s.core.queries o.face ≡ false → HandsOn s text r o (written s.names (handed_request s.core.queries text r o))
+  hands o h = record {
+    to = refl;
+    number = refl;
+    reply = refl;
+    leaves = refl;
+    copy = (
+      record { id = given_id s.core.queries o.face; wire = best (face_naming o.face.0 s.names) text; target = r.target; timeout = r.timeout; node = o.node; qos = r.qos; payload = r.payload },
+      refl,
+      record {
+        free = free o (next_id s.core.queries o.face.0) refl h;
+        key = best-reads (face_naming o.face.0 s.names) text some;
+        payload = refl;
+        target = refl;
+        timeout = refl;
+        qos = refl;
+        node = refl;
+      },
+    );
+  }
+
+  hands_each : (os : List QueryTargetQabl) → list_any (is_full s.core.queries) (map target_of os) ≡ false → HandsEach s text r os (write s.names (map (handed_request s.core.queries text r) os))
+  hands_each [] h = tt
+  hands_each (o ∷ os) h =
+      let p = or_parts (is_full s.core.queries o.face) (list_any (is_full s.core.queries) (map target_of os)) h in
+      (hands o p.0, hands_each os p.1)
+
+-- what is selected is selected on a key
+selected_key : (c : Core) (asker : FaceId) (s : Said) (t : Request) (o : Option OpenFace) (x : QueryTargetQabl) (xs : List QueryTargetQabl) → select_for c asker s t o ≡ x ∷ xs → 0 < length (full_text s)
+selected_key c asker s t None x xs e = absurd (cc)
+selected_key c asker said.Unscoped t (Some f) x xs e = absurd (cc)
+selected_key c asker said.Empty t (Some f) x xs e = absurd (cc)
+selected_key c asker (said.Full text) t (Some f) x xs e = by (is_key text) refl _ e
+  where
+    by : (b : Bool) → is_key text ≡ b → (ys : List QueryTargetQabl) → cond b ys [] ≡ x ∷ xs → 0 < length text
+    by true k ys g = key_some text k
+    by false k ys g = absurd (cc)
+
+requests_handed : (s : State) (face : FaceId) (sd : Said) (r : Request) (os : List QueryTargetQabl) → select s.core face sd r ≡ os → list_any (is_full s.core.queries) (map target_of os) ≡ false
+    → HandsRequest s face (full_text sd) r os (write s.names (handed_requests s.core.queries face (full_text sd) r os))
+requests_handed s face sd r [] e h = refl
+requests_handed s face sd r (o ∷ os) e h = hands_each s (full_text sd) r (selected_key s.core face sd r (at face.0 s.core.faces) o os e) (o ∷ os) h
+
+no_full : (s : State) (face : FaceId) (sd : Said) (r : Request) (now : ℕ) → refusal_of s.core (asking face sd r now) ≡ None → list_any (is_full s.core.queries) (targets s.core face sd r) ≡ false
+no_full s face sd r now h =
+    let p = all_passed (causes s.core (asking face sd r now)) h in
+    second (s.core.queries.requests + 1 == 2 ^ 64) (list_any (is_full s.core.queries) (targets s.core face sd r)) p.1.0
+  where
+    second : (a b : Bool) → (a || b) ≡ false → b ≡ false
+    second true b e = absurd (true≢false e)
+    second false b e = e
+
+asked_promise : (s : State) (face : FaceId) (sd : Said) (r : Request) (now : ℕ) (o : Option Refusal) → refusal_of s.core (asking face sd r now) ≡ o
+    → is_accepted (plainly s.names (answered o (granted s.core (asking face sd r now)))).outcome ≡ true
+    → ((plainly s.names (answered o (granted s.core (asking face sd r now)))).outcome ≡ outcome.Asked s.core.queries.requests)
+    × HandsRequest s face (full_text sd) r (select s.core face sd r) (plainly s.names (answered o (granted s.core (asking face sd r now)))).handed
+    × (list_any (is_own face) (select s.core face sd r) ≡ false)
+asked_promise s face sd r now (Some x) e a = absurd (false≢true a)
+asked_promise s face sd r now None e a = (refl, requests_handed s face sd r (select s.core face sd r) refl (no_full s face sd r now e), none_to_asker s.core face sd r)
+
+-- ---- messages that are none of a kind
+no_finals_ask : (names : NamingState) (fs : List Final) → list_any asks (write names (map text_final fs)) ≡ false
+no_finals_ask names [] = refl
+no_finals_ask names (f ∷ fs) = no_finals_ask names fs
+
+no_finals_reply : (names : NamingState) (fs : List Final) → list_any replies_to (write names (map text_final fs)) ≡ false
+no_finals_reply names [] = refl
+no_finals_reply names (f ∷ fs) = no_finals_reply names fs
+
+no_requests_reply : (names : NamingState) (q : QueryState) (text : List ℕ) (r : Request) (os : List QueryTargetQabl) → list_any replies_to (write names (map (handed_request q text r) os)) ≡ false
+no_requests_reply names q text r [] = refl
+no_requests_reply names q text r (o ∷ os) = no_requests_reply names q text r os
+
+no_asking_replies : (names : NamingState) (q : QueryState) (face : FaceId) (text : List ℕ) (r : Request) (os : List QueryTargetQabl) → list_any replies_to (write names (handed_requests q face text r os)) ≡ false
+no_asking_replies names q face text r [] = refl
+no_asking_replies names q face text r (o ∷ os) = no_requests_reply names q text r (o ∷ os)
+
+any_both : (p : Handed → Bool) (xs ys : List Handed) → list_any p xs ≡ false → list_any p ys ≡ false → list_any p (xs ++ ys) ≡ false
+any_both p [] ys e h = h
+any_both p (x ∷ xs) ys e h = by (p x) (list_any p xs) e (any_both p xs ys)
+  where
+    by : (a b : Bool) → (a || b) ≡ false → (b ≡ false → list_any p ys ≡ false → list_any p (xs ++ ys) ≡ false) → (a || list_any p (xs ++ ys)) ≡ false
+    by true b g more = absurd (true≢false g)
+    by false b g more = more g h
+
+no_timeouts_ask : (names : NamingState) (faces : List (ℕ × OpenFace)) (ts : List Timeout) → list_any asks (write names (handed_timeouts faces ts)) ≡ false
+no_timeouts_ask names faces [] = refl
+no_timeouts_ask names faces (t ∷ ts) = by t.reply (no_timeouts_ask names faces ts)
+  where
+    by : (o : Option ℕ) → list_any asks (write names (handed_timeouts faces ts)) ≡ false → list_any asks (write names (cons_option (option_map (timed_out faces t) o) [] ++ handed_timeouts faces ts)) ≡ false
+    by None none = none
+    by (Some k) none = none
+
+no_replies_ask : (names : NamingState) (text : List ℕ) (r : Response) (to : ReplyTo) → list_any asks (write names (handed_replies text r to)) ≡ false
+no_replies_ask names text r to = by to.reply
+  where
+    by : (o : Option ℕ) → list_any asks (write names (cons_option (option_map (handed_reply text r to) o) [])) ≡ false
+    by None = refl
+    by (Some k) = refl
+
+no_replied_asks : (names : NamingState) (text : List ℕ) (r : Response) (o : Option ReplyTo) → list_any asks (write names (replied text r o)) ≡ false
+no_replied_asks names text r None = refl
+no_replied_asks names text r (Some to) = no_replies_ask names text r to
+
+unfoldable pub is_asking : TextCall → Bool
+is_asking (asking face s r now) = true
+is_asking (opening o) = false
+is_asking (closing face) = false
+is_asking (naming face id s x) = false
+is_asking (unnaming face id x) = false
+is_asking (declaring face id s i n) = false
+is_asking (withdrawing face id) = false
+is_asking (replying face s r) = false
+is_asking (ending face rid) = false
+is_asking (reporting reply) = false
+is_asking (passing now) = false
+is_asking (listing r t) = false
+is_asking (finalizing face m set) = false
+is_asking unbuilt = false
+
+granted_asks : (names : NamingState) (c : Core) (t : TextCall) → is_asking t ≡ false → list_any asks (write names (granted c t).messages) ≡ false
+unfolding is_asking
+granted_asks names c (asking face s r now) h = absurd (true≢false h)
+granted_asks names c (opening o) h = refl
+granted_asks names c (closing face) h = no_finals_ask names (closing_finals face.0 c.queries)
+granted_asks names c (naming face id s x) h = refl
+granted_asks names c (unnaming face id x) h = refl
+granted_asks names c (declaring face id s i n) h = refl
+granted_asks names c (withdrawing face id) h = refl
+granted_asks names c (replying face s r) h = no_replied_asks names (full_text s) r (next_reply face.0 r.rid c.queries)
+granted_asks names c (ending face rid) h = no_finals_ask names (finals_after (is_entry face.0 rid) c.queries.closed c.queries.records)
+granted_asks names c (reporting reply) h = no_finals_ask names (finals_landed reply c.queries.closed c.queries.records)
+granted_asks names c (passing now) h =
+    ap (list_any asks) (map-append (written names) (handed_timeouts c.faces (timeouts now c.queries)) (map text_final (passing_finals now c.queries)))
+    ∙ any_both asks (write names (handed_timeouts c.faces (timeouts now c.queries))) (write names (map text_final (passing_finals now c.queries))) (no_timeouts_ask names c.faces (timeouts now c.queries)) (no_finals_ask names (passing_finals now c.queries))
+granted_asks names c (listing r t) h = refl
+granted_asks names c (finalizing face m set) h = refl
+granted_asks names c unbuilt h = refl
+
+quiet_asks : (s : State) (t : TextCall) → is_asking t ≡ false → list_any asks (answer s t).handed ≡ false
+quiet_asks s t h = ap (λ (z : Step). list_any asks z.handed) (answers_plainly s t) ∙ by (refusal_of s.core t)
+  where
+    by : (o : Option Refusal) → list_any asks (write s.names (answered o (granted s.core t)).messages) ≡ false
+    by (Some r) = refl
+    by None = granted_asks s.names s.core t h
+
+pub request_promise : (s : State) (c : Call) → RequestPromise s c (step s c)
+unfolding is_asking
+request_promise s (call.Request face r now) =
+    by_plain (λ z _. RequestPromise s (call.Request face r now) z) s (read s (call.Request face r now))
+    (asked_promise s face (said_by_face face r.wire s) r now (refusal_of s.core (asking face (said_by_face face r.wire s) r now)) refl)
+request_promise s (call.Open o) = quiet_asks s (opening o) refl
+request_promise s (call.Close face) = quiet_asks s (closing face) refl
+request_promise s (call.DeclareKeyExpr face id wire) = quiet_asks s (read s (call.DeclareKeyExpr face id wire)) refl
+request_promise s (call.UndeclareKeyExpr face id) = quiet_asks s (read s (call.UndeclareKeyExpr face id)) refl
+request_promise s (call.DeclareQueryable face id wire info node) = quiet_asks s (read s (call.DeclareQueryable face id wire info node)) refl
+request_promise s (call.UndeclareQueryable face id wire node) = quiet_asks s (withdrawing face id) refl
+request_promise s (call.Response face r) = quiet_asks s (read s (call.Response face r)) refl
+request_promise s (call.ResponseFinal face rid) = quiet_asks s (ending face rid) refl
+request_promise s (call.Sent reply) = quiet_asks s (reporting reply) refl
+request_promise s (call.Poll now) = quiet_asks s (passing now) refl
+request_promise s (call.SetGateways r t) = quiet_asks s (listing r t) refl
+request_promise s (call.Interest face id keys wire) = quiet_asks s unbuilt refl
+request_promise s (call.InterestFinal face id) = quiet_asks s unbuilt refl
+request_promise s (call.FinalizeInterest face mark set) = quiet_asks s (finalizing face mark set) refl
+request_promise s (call.SetNetwork r net) = quiet_asks s unbuilt refl
+request_promise s (call.SetNodeIds face ids) = quiet_asks s unbuilt refl
+
+-- ---- replies
+is_replying : TextCall → Bool
+is_replying (replying face s r) = true
+is_replying (passing now) = true
+is_replying (asking face s r now) = false
+is_replying (opening o) = false
+is_replying (closing face) = false
+is_replying (naming face id s x) = false
+is_replying (unnaming face id x) = false
+is_replying (declaring face id s i n) = false
+is_replying (withdrawing face id) = false
+is_replying (ending face rid) = false
+is_replying (reporting reply) = false
+is_replying (listing r t) = false
+is_replying (finalizing face m set) = false
+is_replying unbuilt = false
+
+granted_replies : (names : NamingState) (c : Core) (t : TextCall) → is_replying t ≡ false → list_any replies_to (write names (granted c t).messages) ≡ false
+unfolding is_replying
+granted_replies names c (replying face s r) h = absurd (true≢false h)
+granted_replies names c (passing now) h = absurd (true≢false h)
+granted_replies names c (asking face s r now) h = no_asking_replies names c.queries face (full_text s) r (select c face s r)
+granted_replies names c (opening o) h = refl
+granted_replies names c (closing face) h = no_finals_reply names (closing_finals face.0 c.queries)
+granted_replies names c (naming face id s x) h = refl
+granted_replies names c (unnaming face id x) h = refl
+granted_replies names c (declaring face id s i n) h = refl
+granted_replies names c (withdrawing face id) h = refl
+granted_replies names c (ending face rid) h = no_finals_reply names (finals_after (is_entry face.0 rid) c.queries.closed c.queries.records)
+granted_replies names c (reporting reply) h = no_finals_reply names (finals_landed reply c.queries.closed c.queries.records)
+granted_replies names c (listing r t) h = refl
+granted_replies names c (finalizing face m set) h = refl
+granted_replies names c unbuilt h = refl
+
+quiet_replies : (s : State) (t : TextCall) → is_replying t ≡ false → list_any replies_to (answer s t).handed ≡ false
+quiet_replies s t h = ap (λ (z : Step). list_any replies_to z.handed) (answers_plainly s t) ∙ by (refusal_of s.core t)
+  where
+    by : (o : Option Refusal) → list_any replies_to (write s.names (answered o (granted s.core t)).messages) ≡ false
+    by (Some r) = refl
+    by None = granted_replies s.names s.core t h
+
+abbrev reply_decided : List ℕ → Response → Option ReplyTo → Decided
+reply_decided text r to = record { outcome = replied_outcome to; messages = replied text r to; told = [] }
+
+replied_promise : (s : State) (face : FaceId) (r : Response) (o : Option Refusal) (to : Option ReplyTo) → next_reply face.0 r.rid s.core.queries ≡ to
+    → is_accepted (plainly s.names (answered o (reply_decided (full_text (said_by_face face r.wire s)) r to))).outcome ≡ true
+    → HandsReply s face r (plainly s.names (answered o (reply_decided (full_text (said_by_face face r.wire s)) r to)))
+replied_promise s face r (Some x) to e a = absurd (false≢true a)
+replied_promise s face r None None e a = absurd (false≢true a)
+replied_promise s face r None (Some to) e a = record { goes = to; there = e; outcome = refl; handed = refl }
+
+timed_promise : (s : State) (now : ℕ) (o : Option Refusal) → is_accepted (plainly s.names (answered o (granted s.core (passing now)))).outcome ≡ true
+    → (plainly s.names (answered o (granted s.core (passing now)))).handed ≡ write s.names (handed_timeouts s.core.faces (timeouts now s.core.queries)) ++ map sent_final (passing_finals now s.core.queries)
+timed_promise s now (Some x) a = absurd (false≢true a)
+timed_promise s now None a =
+    map-append (written s.names) (handed_timeouts s.core.faces (timeouts now s.core.queries)) (map text_final (passing_finals now s.core.queries))
+    ∙ ap (λ l. write s.names (handed_timeouts s.core.faces (timeouts now s.core.queries)) ++ l) (finals_written s.names (passing_finals now s.core.queries))
+
+pub reply_promise : (s : State) (c : Call) → ReplyPromise s c (step s c)
+unfolding is_replying
+reply_promise s (call.Response face r) =
+    by_plain (λ z _. is_accepted z.outcome ≡ true → HandsReply s face r z) s (read s (call.Response face r))
+    (replied_promise s face r (refusal_of s.core (read s (call.Response face r))) (next_reply face.0 r.rid s.core.queries) refl)
+reply_promise s (call.Poll now) =
+    by_plain (λ z _. is_accepted z.outcome ≡ true → z.handed ≡ write s.names (handed_timeouts s.core.faces (timeouts now s.core.queries)) ++ map sent_final (passing_finals now s.core.queries)) s (passing now)
+    (timed_promise s now (refusal_of s.core (passing now)))
+reply_promise s (call.Request face r now) = quiet_replies s (read s (call.Request face r now)) refl
+reply_promise s (call.Open o) = quiet_replies s (opening o) refl
+reply_promise s (call.Close face) = quiet_replies s (closing face) refl
+reply_promise s (call.DeclareKeyExpr face id wire) = quiet_replies s (read s (call.DeclareKeyExpr face id wire)) refl
+reply_promise s (call.UndeclareKeyExpr face id) = quiet_replies s (read s (call.UndeclareKeyExpr face id)) refl
+reply_promise s (call.DeclareQueryable face id wire info node) = quiet_replies s (read s (call.DeclareQueryable face id wire info node)) refl
+reply_promise s (call.UndeclareQueryable face id wire node) = quiet_replies s (withdrawing face id) refl
+reply_promise s (call.ResponseFinal face rid) = quiet_replies s (ending face rid) refl
+reply_promise s (call.Sent reply) = quiet_replies s (reporting reply) refl
+reply_promise s (call.SetGateways r t) = quiet_replies s (listing r t) refl
+reply_promise s (call.Interest face id keys wire) = quiet_replies s unbuilt refl
+reply_promise s (call.InterestFinal face id) = quiet_replies s unbuilt refl
+reply_promise s (call.FinalizeInterest face mark set) = quiet_replies s (finalizing face mark set) refl
+reply_promise s (call.SetNetwork r net) = quiet_replies s unbuilt refl
+reply_promise s (call.SetNodeIds face ids) = quiet_replies s unbuilt refl
+
+-- ---- refusals
+pending_there : (o : Option ReplyTo) (p : Bool) → is_some o ≡ p → not p ≡ false → is_accepted (replied_outcome o) ≡ true
+pending_there None p e h = absurd (true≢false (ap not e ∙ h))
+pending_there (Some to) p e h = refl
+
+pub granted_is_accepted : (c : Core) (t : TextCall) → refusal_of c t ≡ None → is_accepted (granted c t).outcome ≡ true
+granted_is_accepted c (replying face s r) h =
+    let p = all_passed (causes c (replying face s r)) h in
+    pending_there (next_reply face.0 r.rid c.queries) (is_pending face.0 r.rid c.queries.records) (next-pending face.0 r.rid c.queries) p.1.1.0
+granted_is_accepted c (passing now) h = refl
+granted_is_accepted c (asking face s r now) h = refl
+granted_is_accepted c (opening o) h = refl
+granted_is_accepted c (closing face) h = refl
+granted_is_accepted c (naming face id s x) h = refl
+granted_is_accepted c (unnaming face id x) h = refl
+granted_is_accepted c (declaring face id s i n) h = refl
+granted_is_accepted c (withdrawing face id) h = refl
+granted_is_accepted c (ending face rid) h = refl
+granted_is_accepted c (reporting reply) h = refl
+granted_is_accepted c (listing r t) h = refl
+granted_is_accepted c (finalizing face m set) h = refl
+granted_is_accepted c unbuilt h = refl
+
+pub refusal_promise : (s : State) (c : Call) → RefusesBy (refusal_of s.core (read s c)) s c
+refusal_promise s c = by (refusal_of s.core (read s c)) refl
+  where
+    by : (o : Option Refusal) → refusal_of s.core (read s c) ≡ o → RefusesBy o s c
+    by (Some r) e = (
+      answers_plainly s (read s c) ∙ ap (λ p. plainly s.names (answered p (granted s.core (read s c)))) e,
+      settles_plainly s (read s c) ∙ ap (λ p. cond (is_accepted (answered p (granted s.core (read s c))).outcome) (accepted_state s (read s c)) s) e,
+    )
+    by None e = ap (λ p. is_accepted (answered p (granted s.core (read s c))).outcome) e ∙ granted_is_accepted s.core (read s c) e

@@ -1,0 +1,71 @@
+-- Who asked what: the requests that a run accepted, and to whom its replies and finals go.
+use Rattle.std.specs.Prelude.{◌≡◌, ℕ, ◌+◌, ◌==◌, Bool, false, ◌&&◌, List, [], ◌∷◌, ◌++◌, Option, Some, None}
+use Rattle.std.specs.List.{Contains}
+use Rattle.zq_key.specs.declared.message.FaceId.{FaceId}
+use Rattle.zq_key.specs.declared.message.Message.{Message}
+use Rattle.zq_key.specs.declared.message.Message.TheVariants as message
+use Rattle.zq_key.specs.declared.message.Request.{Request}
+use Rattle.zq_hat.specs.declared.types.QueryTargetQabl.{QueryTargetQabl}
+use Rattle.zq_query.specs.declared.records.Final.{Final}
+use Rattle.zq_machine.specs.declared.call.Call.{Call}
+use Rattle.zq_machine.specs.declared.call.Call.TheVariants as call
+use Rattle.zq_machine.specs.declared.call.Handed.{Handed}
+use Rattle.zq_machine.specs.declared.call.Outcome.{Outcome}
+use Rattle.zq_machine.specs.declared.call.Outcome.TheVariants as outcome
+use Rattle.zq_machine.specs.declared.call.Step.{Step}
+use Rattle.zq_machine.specs.Deciding.{is_accepted}
+
+-- what a face's request is accepted as: its number, its asker, and the asker's id and quality byte
+abbrev pub asked_as : FaceId → Request → Outcome → List Final
+asked_as face r (outcome.Asked number) = record { number = number; asker = face; id = r.id; qos = r.qos } ∷ []
+asked_as face r (outcome.Opened f) = []
+asked_as face r (outcome.Replied reply) = []
+asked_as face r outcome.Done = []
+asked_as face r (outcome.Refused refusal) = []
+
+-- what a call asks, if it is a request that is accepted
+abbrev pub asked_by : Call → Step → List Final
+asked_by (call.Request face r now) t = asked_as face r t.outcome
+asked_by c t = []
+
+-- what calls ask that are answered by these steps
+abbrev pub asked_in : List Call → List Step → List Final
+asked_in [] ts = []
+asked_in (c ∷ cs) [] = []
+asked_in (c ∷ cs) (t ∷ ts) = asked_by c t ++ asked_in cs ts
+
+-- the numbers count up from n
+abbrev pub AreCounted : ℕ → List Final → Type 0
+AreCounted n [] = Unit {0}
+AreCounted n (f ∷ fs) = (f.number ≡ n) × AreCounted (n + 1) fs
+
+-- the face asked the request of that number, with the id and the quality byte
+abbrev pub IsAsked : List Final → ℕ → FaceId → ℕ → ℕ → Type 0
+IsAsked asked n face id qos = Contains asked (record { number = n; asker = face; id = id; qos = qos })
+
+-- a reply or a final of request n is to the face that asked it, under its id, with its quality byte
+abbrev pub IsToAsker : List Final → ℕ → FaceId → Message → Type 0
+IsToAsker asked n to (message.Request r) = Unit {0}
+IsToAsker asked n to (message.Response r) = IsAsked asked n to r.rid r.qos
+IsToAsker asked n to (message.ResponseFinal f) = IsAsked asked n to f.rid f.qos
+IsToAsker asked n to (message.Interest i) = Unit {0}
+IsToAsker asked n to (message.InterestFinal i) = Unit {0}
+IsToAsker asked n to (message.Declare d) = Unit {0}
+
+-- what is handed is of a request, and goes to its asker if it is a reply or a final
+abbrev pub GoesToAsker : List Final → Option ℕ → FaceId → Message → Type 0
+GoesToAsker asked None to m = ⊥
+GoesToAsker asked (Some n) to m = IsToAsker asked n to m
+
+-- the same of a message as it is handed
+abbrev pub IsHandedToAsker : List Final → Handed → Type 0
+IsHandedToAsker asked h = GoesToAsker asked h.number h.to h.message
+
+-- the offer is one of the face itself
+abbrev pub is_own : FaceId → QueryTargetQabl → Bool
+is_own face o = o.face.0 == face.0
+
+-- the call closes the face
+abbrev pub closes : ℕ → Call → Step → Bool
+closes face (call.Close f) t = is_accepted t.outcome && (face == f.0)
+closes face c t = false

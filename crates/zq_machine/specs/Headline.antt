@@ -1,0 +1,173 @@
+-- What each call of a run promises: of requests, of replies, of finals and of refusals. It is said of the step that answers a call and of the lists before and after it.
+use Rattle.std.specs.Prelude.{◌≡◌, ℕ, ◌+◌, ◌<◌, ◌≤◌, Bool, true, false, ◌&&◌, ◌||◌, List, [], ◌∷◌, ◌++◌, map, length, Option, Some, None, if◌then◌else◌, nat_lt}
+use Rattle.std.specs.List.{AllByRecursion, filter, list_any}
+use Rattle.zq_key.specs.declared.message.FaceId.{FaceId}
+use Rattle.zq_key.specs.declared.message.Message.{Message}
+use Rattle.zq_key.specs.declared.message.Message.TheVariants as message
+use Rattle.zq_key.specs.declared.message.Request.{Request}
+use Rattle.zq_key.specs.declared.message.Response.{Response}
+use Rattle.zq_hat.specs.declared.types.QueryTargetQabl.{QueryTargetQabl}
+use Rattle.zq_query.specs.declared.records.ReplyTo.{ReplyTo}
+use Rattle.zq_query.specs.Records.{QueryState, is_closed, is_pending, any_over, next_reply}
+use Rattle.zq_query.specs.Balance.{owed_by}
+use Rattle.zq_query.specs.Polling.{timeouts}
+use Rattle.zq_naming.specs.declared.said.Said.TheVariants as said
+use Rattle.zq_naming.specs.Naming.{read_by, face_keys, face_naming}
+use Rattle.zq_machine.specs.declared.call.Call.{Call}
+use Rattle.zq_machine.specs.declared.call.Call.TheVariants as call
+use Rattle.zq_machine.specs.declared.call.Handed.{Handed}
+use Rattle.zq_machine.specs.declared.call.Outcome.TheVariants as outcome
+use Rattle.zq_machine.specs.declared.call.Refusal.{Refusal}
+use Rattle.zq_machine.specs.declared.call.Step.{Step}
+use Rattle.zq_machine.specs.Configs.{Settings}
+use Rattle.zq_machine.specs.State.{State, opening_state}
+use Rattle.zq_machine.specs.Selecting.{select, full_text}
+use Rattle.zq_machine.specs.TextCalls.{read, said as said_by_face}
+use Rattle.zq_machine.specs.Asked.{AreCounted, IsHandedToAsker, asked_in, closes, is_own}
+use Rattle.zq_machine.specs.Deciding.{handed_replies, handed_timeouts, passing_finals, refusal_of, is_accepted}
+use Rattle.zq_machine.specs.Waiting.{Waits, IsSettled, ends_entry, lands, until, is_of}
+use Rattle.zq_machine.specs.Machine.{step, steps, after, state_after, refused_step}
+use Rattle.zq_machine.specs.Writing.{leaving, sent_final, write}
+
+-- ---- requests
+
+-- the message asks what the request asks: under an id that is not pending at the face, on the key as the face reads it, with all else kept
+pub record IsHandedOn (s : State) (text : List ℕ) (r : Request) (o : QueryTargetQabl) (m : Request) : Type 0 where
+  pub free : is_pending o.face.0 m.id s.core.queries.records ≡ false
+  pub key : read_by (face_naming o.face.0 s.names) m.wire ≡ said.Full text
+  pub payload : m.payload ≡ r.payload
+  pub target : m.target ≡ r.target
+  pub timeout : m.timeout ≡ r.timeout
+  pub qos : m.qos ≡ r.qos
+  pub node : m.node ≡ o.node
+
+-- the request is handed to the face of an offer, under its number and none of a reply, and what leaves of it is what the face's exit lets out
+pub record HandsOn (s : State) (text : List ℕ) (r : Request) (o : QueryTargetQabl) (h : Handed) : Type 0 where
+  pub to : h.to ≡ o.face
+  pub number : h.number ≡ Some s.core.queries.requests
+  pub reply : h.reply ≡ None
+  pub leaves : h.leaves ≡ leaving (face_keys o.face.0 s.names) text h.message
+  pub copy : (m : Request) × (h.message ≡ message.Request m) × IsHandedOn s text r o m
+
+-- one message for each offer, in their order, and no other
+abbrev pub HandsEach : State → List ℕ → Request → List QueryTargetQabl → List Handed → Type 0
+HandsEach s text r [] [] = Unit {0}
+HandsEach s text r [] (h ∷ hs) = ⊥
+HandsEach s text r (o ∷ os) [] = ⊥
+HandsEach s text r (o ∷ os) (h ∷ hs) = HandsOn s text r o h × HandsEach s text r os hs
+
+-- with no offer the request is answered by its final
+abbrev pub HandsRequest : State → FaceId → List ℕ → Request → List QueryTargetQabl → List Handed → Type 0
+HandsRequest s face text r [] handed = handed ≡ sent_final (record { number = s.core.queries.requests; asker = face; id = r.id; qos = r.qos }) ∷ []
+HandsRequest s face text r (o ∷ os) handed = HandsEach s text r (o ∷ os) handed
+
+-- the message is a request
+abbrev pub is_request : Message → Bool
+is_request (message.Request r) = true
+is_request (message.Response r) = false
+is_request (message.ResponseFinal f) = false
+is_request (message.Interest i) = false
+is_request (message.InterestFinal i) = false
+is_request (message.Declare d) = false
+
+-- what is handed is a request
+abbrev pub asks : Handed → Bool
+asks h = is_request h.message
+
+-- an accepted request has the next number and is handed once to each face that the selection picks, which never picks the asker; no other call hands a request
+abbrev pub RequestPromise : State → Call → Step → Type 0
+RequestPromise s (call.Request face r now) t =
+    is_accepted t.outcome ≡ true →
+    (t.outcome ≡ outcome.Asked s.core.queries.requests)
+    × HandsRequest s face (full_text (said_by_face face r.wire s)) r (select s.core face (said_by_face face r.wire s) r) t.handed
+    × (list_any (is_own face) (select s.core face (said_by_face face r.wire s) r) ≡ false)
+RequestPromise s c t = list_any asks t.handed ≡ false
+
+-- ---- replies
+
+-- the message is a reply
+abbrev pub is_response : Message → Bool
+is_response (message.Request r) = false
+is_response (message.Response r) = true
+is_response (message.ResponseFinal f) = false
+is_response (message.Interest i) = false
+is_response (message.InterestFinal i) = false
+is_response (message.Declare d) = false
+
+-- what is handed is a reply
+abbrev pub replies_to : Handed → Bool
+replies_to h = is_response h.message
+
+-- a reply goes to the asker of the request that has the entry, under the asker's id, or to no one where the asker is closed
+pub record HandsReply (s : State) (face : FaceId) (r : Response) (t : Step) : Type 0 where
+  pub goes : ReplyTo
+  pub there : next_reply face.0 r.rid s.core.queries ≡ Some goes
+  pub outcome : t.outcome ≡ outcome.Replied goes.reply
+  pub handed : t.handed ≡ write s.names (handed_replies (full_text (said_by_face face r.wire s)) r goes)
+
+-- an accepted reply is handed to its asker alone; a moment that has come hands an error reply for each entry that was too late and whose asker is open; no other call hands a reply
+abbrev pub ReplyPromise : State → Call → Step → Type 0
+ReplyPromise s (call.Response face r) t = is_accepted t.outcome ≡ true → HandsReply s face r t
+ReplyPromise s (call.Poll now) t = is_accepted t.outcome ≡ true → t.handed ≡ write s.names (handed_timeouts s.core.faces (timeouts now s.core.queries)) ++ map sent_final (passing_finals now s.core.queries)
+ReplyPromise s c t = list_any replies_to t.handed ≡ false
+
+-- ---- finals
+
+-- the message is a final
+abbrev pub is_final : Message → Bool
+is_final (message.Request r) = false
+is_final (message.Response r) = false
+is_final (message.ResponseFinal f) = true
+is_final (message.Interest i) = false
+is_final (message.InterestFinal i) = false
+is_final (message.Declare d) = false
+
+-- what is handed is a final of the request of that number
+abbrev pub ends : ℕ → Handed → Bool
+ends n h = is_final h.message && is_of n h
+
+-- how many finals of the request a step hands
+abbrev pub finals_of : ℕ → Step → ℕ
+finals_of n t = length (filter (ends n) t.handed)
+
+-- how many finals of the request a run hands
+abbrev pub finals_over : ℕ → List Step → ℕ
+finals_over n [] = 0
+finals_over n (t ∷ ts) = finals_of n t + finals_over n ts
+
+-- the finals of the request that are still to come, of askers that `closed` does not have: one from before it is asked until its record goes
+abbrev pub to_come : List ℕ → ℕ → QueryState → ℕ
+to_come closed n q = owed_by closed n q.records + (if nat_lt n q.requests then 0 else 1)
+
+-- a final comes in exactly the call that takes the record of an open asker out (both sides count by the faces that are closed after the call, so that one that closes its asker hands none); it leaves nothing of the request pending and no reply in flight; a request with none to come is handed nothing more; and each record that stands has an entry pending or a reply in flight
+pub record FinalPromise (n : ℕ) (s : State) (c : Call) : Type 0 where
+  pub balance : finals_of n (step s c) + to_come (after s c).core.queries.closed n (after s c).core.queries ≡ to_come (after s c).core.queries.closed n s.core.queries
+  pub settled : 0 < finals_of n (step s c) → IsSettled n (after s c).core.queries
+  pub silent : to_come s.core.queries.closed n s.core.queries ≡ 0 → list_any (is_of n) (step s c).handed ≡ false
+  pub standing : any_over (after s c).core.queries.records ≡ false
+
+-- ---- refusals
+
+-- the first cause that holds refuses a call, which then hands and changes nothing; with none the call is accepted
+abbrev pub RefusesBy : Option Refusal → State → Call → Type 0
+RefusesBy (Some r) s c = (step s c ≡ refused_step r) × (after s c ≡ s)
+RefusesBy None s c = is_accepted (step s c).outcome ≡ true
+
+-- ---- all of them
+
+-- what one call promises, at any point of a run
+pub record KeepsPromises (s : State) (c : Call) : Type 0 where
+  pub requests : RequestPromise s c (step s c)
+  pub replies : ReplyPromise s c (step s c)
+  pub waits : is_accepted (step s c).outcome ≡ true → Waits (ends_entry c) (lands c) (until s c) s.core.queries.records (after s c).core.queries.records (step s c).handed
+  pub finals : (n : ℕ) → FinalPromise n s c
+  pub closed : (face : ℕ) → is_closed (after s c).core.queries.closed face ≡ (closes face c (step s c) || is_closed s.core.queries.closed face)
+  pub refusals : RefusesBy (refusal_of s.core (read s c)) s c
+
+-- what a whole run promises: each of its calls keeps its promises; accepted requests are numbered one after another; each message that it hands is of a request, and each reply and final goes to the request's asker, under the asker's id; it hands one final of a request at most, and nothing of the request afterwards
+pub record RunPromise (config : Settings) (calls : List Call) : Type 0 where
+  pub each : (before rest : List Call) (c : Call) → calls ≡ before ++ c ∷ rest → KeepsPromises (state_after (opening_state config) before) c
+  pub numbers : AreCounted config.start.requests (asked_in calls (steps config calls))
+  pub askers : (before rest : List Call) (c : Call) → calls ≡ before ++ c ∷ rest → AllByRecursion (IsHandedToAsker (asked_in (before ++ c ∷ []) (steps config (before ++ c ∷ [])))) (step (state_after (opening_state config) before) c).handed
+  pub one_final : (n : ℕ) → finals_over n (steps config calls) ≤ 1
+  pub nothing_after : (n : ℕ) (before rest : List Call) (c : Call) → calls ≡ before ++ c ∷ rest → finals_over n (steps config before) ≡ 1 → list_any (is_of n) (step (state_after (opening_state config) before) c).handed ≡ false

@@ -1,0 +1,15 @@
+pub mod Calls
+pub mod Configs
+pub mod State
+pub mod TextCalls
+pub mod Selecting
+pub mod Messages
+pub mod Deciding
+pub mod Writing
+pub mod Hearing
+pub mod Machine
+pub mod Waiting
+pub mod Asked
+pub mod Headline
+pub mod Moved
+pub mod Agreeing

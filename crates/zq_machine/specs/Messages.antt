@@ -1,0 +1,57 @@
+-- What a call decides to hand, over texts: its outcome, its messages, and what faces are told.
+use Rattle.std.specs.Prelude.{ℕ, List, Option}
+use Rattle.zq_key.specs.declared.message.FaceId.{FaceId}
+use Rattle.zq_key.specs.declared.message.QueryTarget.{QueryTarget}
+use Rattle.zq_key.specs.declared.message.QueryableInfoType.{QueryableInfoType}
+use Rattle.zq_key.specs.declared.message.ReplyBody.{ReplyBody}
+use Rattle.zq_key.specs.declared.message.Zid.{Zid}
+use Rattle.zq_query.specs.declared.records.Final.{Final}
+use Rattle.zq_machine.specs.declared.call.Outcome.{Outcome}
+
+-- a request on a text to a target, under the id that it has there
+pub record TextRequest : Type 0 where
+  pub to : FaceId
+  pub number : ℕ
+  pub id : ℕ
+  pub text : List ℕ
+  pub target : QueryTarget
+  pub timeout : Option ℕ
+  pub node : ℕ
+  pub qos : ℕ
+  pub payload : List ℕ
+
+-- a reply on a text to an asker, under the asker's id; its own number is in flight
+pub record TextReply : Type 0 where
+  pub to : FaceId
+  pub number : ℕ
+  pub reply : ℕ
+  pub id : ℕ
+  pub text : List ℕ
+  pub qos : ℕ
+  pub payload : ReplyBody
+  pub responder : Option Zid
+
+-- a message of a request; a final is what ends it for its asker
+pub data TextMessage : Type 0 where
+  text_request : TextRequest → TextMessage
+  text_reply : TextReply → TextMessage
+  text_final : Final → TextMessage
+
+-- what a face is told: of a key, under an id and with its information; that an id ended, with its key where it is told by that; that all which an interest asked for was told
+pub data TellingBody : Type 0 where
+  key_told : ℕ → List ℕ → QueryableInfoType → TellingBody
+  key_ended : ℕ → Option (List ℕ) → TellingBody
+  all_told : TellingBody
+
+-- what a face is told, in answer to an interest if one asked for it, and as a node of a tree
+pub record Telling : Type 0 where
+  pub to : FaceId
+  pub interest : Option ℕ
+  pub node : ℕ
+  pub body : TellingBody
+
+-- what a call decides: its outcome, the messages of requests, and what faces are told
+pub record Decided : Type 0 where
+  pub outcome : Outcome
+  pub messages : List TextMessage
+  pub told : List Telling

@@ -1,0 +1,87 @@
+-- Which offers a request is handed to.
+use Rattle.std.specs.Prelude.{ℕ, ◌==◌, Bool, true, false, not, ◌&&◌, List, [], fold, Option, Some, None, if◌then◌else◌}
+use Rattle.std.specs.List.{filter}
+use Rattle.std.specs.Map.{values_of}
+use Rattle.std.specs.Option.{option_map}
+use Rattle.zq_key.specs.Key.{is_key}
+use Rattle.zq_key.specs.declared.message.FaceId.{FaceId}
+use Rattle.zq_key.specs.declared.message.QueryTarget.{QueryTarget}
+use Rattle.zq_key.specs.declared.message.Request.{Request}
+use Rattle.zq_key.specs.declared.message.Zid.{Zid}
+use Rattle.zq_hat.specs.declared.types.QueryTargetQabl.{QueryTargetQabl}
+use Rattle.zq_hat.specs.State.{HatState}
+use Rattle.zq_hat.specs.Offers.{offers_of}
+use Rattle.zq_naming.specs.declared.said.Said.{Said}
+use Rattle.zq_naming.specs.declared.said.Said.TheVariants as said
+use Rattle.zq_route.specs.declared.filter.InterRegionFilter.{InterRegionFilter}
+use Rattle.zq_route.specs.declared.gateways.Gateways.{Gateways}
+use Rattle.zq_route.specs.Filter.{passes_between}
+use Rattle.zq_route.specs.Selection.{chosen, with_offers}
+use Rattle.zq_machine.specs.declared.face.OpenFace.{OpenFace}
+use Rattle.zq_machine.specs.State.{Core, at, is_region}
+
+-- the expression's scope stands for nothing
+abbrev pub is_unscoped : Said → Bool
+is_unscoped said.Unscoped = true
+is_unscoped said.Empty = false
+is_unscoped (said.Full text) = false
+
+-- the full text is a key
+abbrev pub says_key : Said → Bool
+says_key said.Unscoped = false
+says_key said.Empty = false
+says_key (said.Full text) = is_key text
+
+-- the full text is a key, or there is none to be one
+abbrev pub says_key_or_nothing : Said → Bool
+says_key_or_nothing said.Unscoped = false
+says_key_or_nothing said.Empty = true
+says_key_or_nothing (said.Full text) = is_key text
+
+-- the text that is said; the empty one where none is
+abbrev pub full_text : Said → List ℕ
+full_text said.Unscoped = []
+full_text said.Empty = []
+full_text (said.Full text) = text
+
+-- the face of an offer
+abbrev pub target_of : QueryTargetQabl → FaceId
+target_of o = o.face
+
+-- an open face's id
+abbrev pub zid_in : OpenFace → Zid
+zid_in o = o.zid
+
+-- the id of an open face
+abbrev pub zid_of : ℕ → List (ℕ × OpenFace) → Option Zid
+zid_of face faces = option_map zid_in (at face faces)
+
+-- the filter between an asker's region and an offer's
+abbrev pub filter_for : List (ℕ × OpenFace) → OpenFace → QueryTargetQabl → InterRegionFilter
+filter_for faces asker o = record { src = asker.region; dst = o.region; src_zid = Some asker.zid; fwd_zid = Some asker.zid; dst_zid = zid_of o.face.0 faces }
+
+-- the gateway is the one to carry a request between two of its regions
+abbrev pub carries_between : List (ℕ × Gateways) → Zid → InterRegionFilter → Bool
+carries_between tables own f = is_region f.src && is_region f.dst && passes_between f tables own
+
+-- the offer is for a request of the asker: it is another face's, and the gateway is the one to carry it
+abbrev pub passes : List (ℕ × OpenFace) → List (ℕ × Gateways) → Zid → FaceId → OpenFace → QueryTargetQabl → Bool
+passes faces tables own asker opened o = not (o.face.0 == asker.0) && carries_between tables own (filter_for faces opened o)
+
+-- a region's part joins what earlier regions gave: the offers that pass and that the target picks, each face once
+abbrev pub with_part : List (ℕ × OpenFace) → List (ℕ × Gateways) → Zid → FaceId → OpenFace → List ℕ → QueryTarget → List (ℕ × QueryTargetQabl) → HatState → List (ℕ × QueryTargetQabl)
+with_part faces tables own asker opened key target route h =
+    with_offers route (chosen target (filter (passes faces tables own asker opened) (offers_of h opened.region key)))
+
+-- region by region, in the order of their places
+abbrev pub route_for : Core → FaceId → OpenFace → List ℕ → Request → List (ℕ × QueryTargetQabl)
+route_for c asker opened key r = fold (with_part c.faces c.tables c.config.zid asker opened key r.target) [] (values_of c.hats)
+
+-- the offers that a request of an open face is handed to
+abbrev pub select_for : Core → FaceId → Said → Request → Option OpenFace → List QueryTargetQabl
+select_for c asker s r None = []
+select_for c asker s r (Some opened) = if says_key s then values_of (route_for c asker opened (full_text s) r) else []
+
+-- the offers that a request is handed to
+abbrev pub select : Core → FaceId → Said → Request → List QueryTargetQabl
+select c asker s r = select_for c asker s r (at asker.0 c.faces)

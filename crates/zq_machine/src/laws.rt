@@ -1,0 +1,33 @@
+//! Laws of what the gateway decides and keeps, as the contracts of calls.
+ghost use Rattle.std.specs.Prelude.{◌≡◌, ℕ, List};
+ghost use Rattle.std.specs.List.{AllByRecursion};
+ghost use Rattle.zq_hat.specs.Moved.{Keeps};
+ghost use Rattle.zq_machine.specs.declared.call.Call.{Call};
+ghost use Rattle.zq_machine.specs.Agreeing.{Agrees};
+ghost use Rattle.zq_machine.specs.Configs.{Settings};
+ghost use Rattle.zq_machine.specs.Machine.{state_after};
+ghost use Rattle.zq_machine.specs.Moved.{DecidesAlike};
+ghost use Rattle.zq_naming.specs.Naming.{NamingState};
+ghost use Rattle.zq_machine.specs.Hearing.{CanBeTold, hear};
+ghost use Rattle.zq_machine.specs.Messages.{Telling};
+ghost use Rattle.zq_machine.specs.State.{Core, opening_state};
+ghost use Rattle.zq_machine.specs.Writing.{tell};
+
+/// What is decided moves with its texts, by every map that keeps how they relate.
+#[tactic(auto, using(crate::proofs::DecidingMoved::decides_alike))]
+pub fn decides_alike()
+    ensures { (φ : List ℕ → List ℕ) → Keeps φ → DecidesAlike φ }
+{}
+
+/// At every point of every run the open faces, the hats and what stands for keys agree.
+#[tactic(auto, using(crate::proofs::Agreed::agree_always))]
+pub fn agree_always()
+    ensures { (config : Settings) (calls : List Call) → Agrees (state_after (opening_state config) calls) }
+{}
+
+/// What open faces are told is what they hear: each key is read as the text that was told, by the
+/// numbers that were declared to the face before.
+#[tactic(auto, using(crate::proofs::Hearing::told_heard))]
+pub fn told_heard()
+    ensures { (c : Core) (ts : List Telling) (names : NamingState) → AllByRecursion (CanBeTold names) ts → hear (tell c ts names).handed names ≡ ts }
+{}

@@ -1,0 +1,19 @@
+//! What a gateway is asked and answers, and what it does, as definitions: every promise of a run is
+//! proved here, of the definitions alone.
+//!
+//! - `config`: what a gateway is made with
+//! - `call`: what it is asked, and what it answers
+//! - `face`: an open face
+//! - `laws`: what every run promises, and how what is decided moves with its texts
+#![tactic(auto)]
+
+pub mod call;
+pub mod config;
+pub mod face;
+pub mod laws;
+
+pub use call::{
+    Call, Handed, HandedList, Opening, Outcome, Refusal, Replay, Step, StepList,
+};
+pub use config::{BadConfig, Config, ConfigRefusal, Counters, Entry, EntryList};
+pub use face::OpenFace;
