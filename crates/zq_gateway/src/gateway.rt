@@ -1,51 +1,43 @@
 //! The gateway: each call is one event.
-ghost use Rattle.std.specs.Prelude.{IfErr, ◌≡◌, ◌<◌, ◌+◌, ◌^◌, [], Some, None, true, false, IfOk, OnOk, OnErr, option_copied, option_map, map, option_to_list};
-ghost use Rattle.std.specs.BTreeMap.{insert_entry};
-ghost use Rattle.std.specs.Option.{IsSome};
-ghost use Rattle.std.specs.Ordering.{nat_cmp};
-ghost use Rattle.std.specs.List.{cons_option, list_any};
+//!
+//! - `faces`: faces that come and go
+//! - `keys`: numbers that faces declare for keys
+//! - `queryables`: queryables that faces declare and withdraw, and marks of what they have declared
+//! - `requests`: requests, and whom they are handed to
+//! - `replies`: replies, finals, reports that a reply was sent, and moments that have come
+ghost use Rattle.std.specs.Prelude.{IfErr, ◌≡◌, [], true, IfOk, OnOk, OnErr};
+ghost use Rattle.std.specs.List.{cons_option};
 ghost use Rattle.zq_machine.specs.Configs.{north_of};
-ghost use Rattle.zq_query.specs.Records.{has_number, next_reply};
-ghost use Rattle.zq_query.specs.Asking.{are_distinct, face_numbers, is_full, lacks_number};
-ghost use Rattle.zq_naming.specs.Naming.{is_text};
 ghost use Rattle.zq_machine.specs.declared.call.Call.TheVariants as call;
 ghost use Rattle.zq_machine.specs.Calls.{declared_call, declaring_call, is_built};
-ghost use Rattle.zq_machine.specs.Deciding.{messages_of, opened, outcome_of, seat};
-ghost use Rattle.zq_machine.specs.Writing.{write};
-ghost use Rattle.zq_machine.specs.Selecting.{full_text, is_unscoped, says_key, says_key_or_nothing, select_for, target_of};
-ghost use Rattle.zq_machine.specs.Machine.{accepted_state, after, after_of, answer, done, refused_step, settle, step, step_of};
-ghost use Rattle.zq_machine.specs.State.{at, change_hat, face_region, is_open, joined, opening_state};
-ghost use Rattle.zq_naming.specs.Naming.{face_naming, text_at};
-ghost use Rattle.zq_machine.specs.TextCalls.{asking, closing, declaring, ending, finalizing, listing, naming, opening, passing, replying, reporting, unnaming, withdrawing};
+ghost use Rattle.zq_machine.specs.Machine.{after, after_of, answer, done, refused_step, settle, step, step_of};
+ghost use Rattle.zq_machine.specs.State.{at, face_region, is_open, opening_state};
+ghost use Rattle.zq_machine.specs.TextCalls.{listing, opening};
 
-use zq_machine::call::{Call, Handed, Opening, Outcome, Refusal, Step};
-use zq_machine::config::Config;
-use zq_machine::face::OpenFace;
-use crate::handed::{
-    final_in, room_for_final, written_final, written_finals, written_replies, written_requests,
-    written_timeouts,
-};
+mod faces;
+mod keys;
+mod queryables;
+mod replies;
+mod requests;
+
+use crate::handed::written_final;
 use crate::hats;
-use crate::parts::{take_back, take_seat, targets_of};
-use crate::read::{full_text, is_unscoped, marks_key, says_key, says_key_or_nothing};
-use crate::select::Asker;
 use std::alloc::Global;
 use std::collections::BTreeMap;
 use std::marker::Model;
 use zq_hat::hat::Hat;
-use zq_hat::types::{FinalMark, HatRefusal, QueryTargetQabl};
+use zq_hat::types::FinalMark;
 use zq_key::items::Items;
 use zq_key::memory::OutOfMemory;
-use zq_key::message::{
-    Declare, DeclareBody, FaceId, Mode, QueryableInfoType, Region, Request, Response, WireExpr, Zid,
-};
-use zq_key::{Key, KeyError};
+use zq_key::message::{Declare, DeclareBody, FaceId, Mode, Region, Request, Response, Zid};
+use zq_machine::handed::Handed;
+use zq_machine::call::{Call, Opening, Outcome, Refusal, Step};
+use zq_machine::config::Config;
+use zq_machine::face::OpenFace;
 use zq_naming::naming::Naming;
-use zq_naming::said::Said;
 use zq_query::queries::Queries;
-use zq_query::records::{AskRefusal, PollRefusal, ReplyRefusal, ReplyTo};
 use zq_route::gateways::Gateways;
-use zq_tables::{NameRefusal, RegionMap};
+use zq_tables::RegionMap;
 
 /// What carries queries between faces (upstream's `Tables` with its faces): the open faces, a hat
 /// for each region, the gateways that were listed, the open queries, and the numbers of keys.
@@ -151,9 +143,10 @@ impl Gateway {
         }
     }
 
-    /// A face is opened, in its region. A namespace and deny lists are not built yet (`Call::is_built`):
-    /// the face is opened without them.
+    /// A face is opened, in its region. A namespace, deny lists and the regions of routers are not
+    /// built yet (`Call::is_built`), so that no face is opened without what it was given.
     pub fn open_face(&mut self, opening: &Opening) -> Result<Step, OutOfMemory>
+        requires { is_built self.old.core.config (call.Open opening.now) ≡ true }
         ensures step { IfOk result (λ t. t ≡ step self.old (call.Open opening.now)) }
         ensures after { OnOk result (self.new ≡ after self.old (call.Open opening.now)) }
         ensures err { OnErr result (self.new ≡ self.old) }
@@ -333,134 +326,6 @@ impl Gateway {
         }
     }
 
-    // A face declares a queryable.
-    fn declare_queryable(
-        &mut self,
-        face: FaceId,
-        id: u32,
-        said: &Said,
-        info: QueryableInfoType,
-        node: u16,
-    ) -> Result<Step, OutOfMemory>
-        ensures step { IfOk result (λ t. t ≡ answer self.old (declaring face id said.now info node)) }
-        ensures after { OnOk result (self.new ≡ settle self.old (declaring face id said.now info node)) }
-        ensures err { OnErr result (self.new ≡ self.old) }
-    {
-        let Some(region) = self.region_of(face) else {
-            return Ok(self.refused(Refusal::UnknownFace));
-        };
-        let text = match said {
-            Said::Unscoped => return Ok(self.refused(Refusal::UnknownScope)),
-            Said::Empty => return Ok(self.refused(Refusal::InvalidKeyExpr)),
-            Said::Full(text) => text,
-        };
-        let key = match Key::new(self.alloc, text.as_str()) {
-            Ok(key) => key,
-            Err(KeyError::Invalid) => return Ok(self.refused(Refusal::InvalidKeyExpr)),
-            Err(KeyError::OutOfMemory) => return Err(OutOfMemory),
-        };
-        let fresh = self.names.hold_queryable(face, id, &key)?;
-        match hats::register(&mut self.hats, region, face, id, &key, node, info) {
-            Ok(()) => Ok(self.done()),
-            Err(HatRefusal::IdInUse) => {
-                take_back(&mut self.names, face, id, fresh);
-                Ok(self.refused(Refusal::IdInUse))
-            }
-            Err(HatRefusal::OutOfMemory) => {
-                take_back(&mut self.names, face, id, fresh);
-                Err(OutOfMemory)
-            }
-            Err(HatRefusal::UnknownId) => unreachable!(),
-        }
-    }
-
-    // A face withdraws a queryable.
-    fn undeclare_queryable(&mut self, face: FaceId, id: u32, node: u16) -> Result<Step, OutOfMemory>
-        ensures step { IfOk result (λ t. t ≡ answer self.old (withdrawing face id)) }
-        ensures after { OnOk result (self.new ≡ settle self.old (withdrawing face id)) }
-        ensures err { OnErr result (self.new ≡ self.old) }
-    {
-        let Some(region) = self.region_of(face) else {
-            return Ok(self.refused(Refusal::UnknownFace));
-        };
-        match hats::withdraw(&mut self.hats, region, face, id, node) {
-            Ok(()) => {
-                self.names.release_queryable(face, id);
-                Ok(self.done())
-            }
-            Err(HatRefusal::UnknownId) => Ok(self.refused(Refusal::UnknownId)),
-            Err(HatRefusal::OutOfMemory) => Err(OutOfMemory),
-            Err(HatRefusal::IdInUse) => unreachable!(),
-        }
-    }
-
-    // A target ends a query.
-    #[tactic(auto, using(zq_machine::proofs::Writing::finals_written))]
-    fn response_final(&mut self, face: FaceId, rid: u32) -> Result<Step, OutOfMemory>
-        ensures step { IfOk result (λ t. t ≡ answer self.old (ending face rid)) }
-        ensures after { OnOk result (self.new ≡ settle self.old (ending face rid)) }
-        ensures err { OnErr result (self.new ≡ self.old) }
-    {
-        if !self.is_open(face) {
-            return Ok(self.refused(Refusal::UnknownFace));
-        }
-        let room = room_for_final(self.alloc)?;
-        match self.queries.last(face, rid) {
-            Ok(last) => Ok(Step {
-                outcome: Outcome::Done,
-                handed: final_in(self.alloc, room, last),
-            }),
-            Err(_) => Ok(self.refused(Refusal::QueryNotFound)),
-        }
-    }
-
-    // A reply was sent.
-    #[tactic(auto, using(zq_machine::proofs::Writing::finals_written))]
-    fn report(&mut self, reply: u64) -> Result<Step, OutOfMemory>
-        ensures step { IfOk result (λ t. t ≡ answer self.old (reporting reply)) }
-        ensures after { OnOk result (self.new ≡ settle self.old (reporting reply)) }
-        ensures err { OnErr result (self.new ≡ self.old) }
-    {
-        let room = room_for_final(self.alloc)?;
-        match self.queries.sent(reply) {
-            Ok(last) => Ok(Step {
-                outcome: Outcome::Done,
-                handed: final_in(self.alloc, room, last),
-            }),
-            Err(_) => Ok(self.refused(Refusal::NotInFlight)),
-        }
-    }
-
-    // A face is opened.
-    fn open(&mut self, asked: &Opening) -> Result<Step, OutOfMemory>
-        ensures step { IfOk result (λ t. t ≡ answer self.old (opening asked.now)) }
-        ensures after { OnOk result (self.new ≡ settle self.old (opening asked.now)) }
-        ensures err { OnErr result (self.new ≡ self.old) }
-    {
-        if hats::hat_at(&self.hats, asked.region).is_none() {
-            return Ok(self.refused(Refusal::UnknownRegion));
-        }
-        if hats::is_full(&self.hats, asked.region) {
-            return Ok(self.refused(Refusal::UpstreamInUse));
-        }
-        if self.next_face == u32::MAX {
-            return Ok(self.refused(Refusal::NoFreeId));
-        }
-        let face = FaceId(self.next_face);
-        take_seat(
-            &mut self.names,
-            &mut self.faces,
-            &mut self.hats,
-            face,
-            asked,
-        )?;
-        self.next_face += 1;
-        Ok(Step {
-            outcome: Outcome::Opened(face),
-            handed: Items::new(self.alloc),
-        })
-    }
-
     fn opened(&self, face: FaceId) -> Option<OpenFace>
         ensures { result ≡ at face.0 self.now.core.faces }
     {
@@ -468,234 +333,6 @@ impl Gateway {
             Some(opened) => Some(*opened),
             None => None,
         }
-    }
-
-    // The offers that a request is handed to, of each face one.
-    fn select(
-        &self,
-        face: FaceId,
-        opened: OpenFace,
-        said: &Said,
-        request: &Request,
-    ) -> Result<Vec<QueryTargetQabl>, OutOfMemory>
-        ensures offers { IfOk result (λ v. v.items ≡ select_for self.now.core face said.now request.now (Some opened)) }
-        ensures distinct { IfOk result (λ v. are_distinct (face_numbers (map target_of v.items)) ≡ true) }
-    {
-        if !says_key(said) {
-            return Ok(Vec::new(self.alloc));
-        }
-        let asker = Asker {
-            faces: &self.faces,
-            tables: &self.tables,
-            own: self.config.zid(),
-            face,
-            opened,
-        };
-        asker.select(self.alloc, &self.hats, full_text(said), request.target)
-    }
-
-    // A request of a face.
-    fn request(
-        &mut self,
-        face: FaceId,
-        said: &Said,
-        request: &Request,
-        now: u64,
-    ) -> Result<Step, OutOfMemory>
-        ensures step { IfOk result (λ t. t ≡ answer self.old (asking face said.now request.now now)) }
-        ensures after { OnOk result (self.new ≡ settle self.old (asking face said.now request.now now)) }
-        ensures err { OnErr result (self.new ≡ self.old) }
-    {
-        let Some(opened) = self.opened(face) else {
-            return Ok(self.refused(Refusal::UnknownFace));
-        };
-        let offers = self.select(face, opened, said, request)?;
-        let targets = targets_of(self.alloc, offers.as_slice())?;
-        let plan = match self.queries.plan(targets.as_slice()) {
-            Ok(plan) => plan,
-            Err(AskRefusal::NoFreeId) => return Ok(self.refused(Refusal::NoFreeId)),
-            Err(AskRefusal::OutOfMemory) => return Err(OutOfMemory),
-        };
-        let handed = written_requests(
-            self.alloc,
-            &self.queries,
-            &self.names,
-            face,
-            full_text(said),
-            request,
-            offers.as_slice(),
-            plan.places.as_slice(),
-        )?;
-        let number = self.queries.next_number();
-        let deadline = now.saturating_add(request.timeout.unwrap_or(self.config.timeout()));
-        self.queries
-            .ask(face, request.id, request.qos, &plan, deadline)?;
-        Ok(Step {
-            outcome: Outcome::Asked(number),
-            handed,
-        })
-    }
-
-    // A face is closed: its entries are let go, and it gives up its numbers.
-    #[tactic(auto, using(zq_machine::proofs::Writing::closed_step, zq_machine::proofs::Writing::closed_after))]
-    fn close(&mut self, face: FaceId) -> Result<Step, OutOfMemory>
-        ensures step { IfOk result (λ t. t ≡ answer self.old (closing face)) }
-        ensures after { OnOk result (self.new ≡ settle self.old (closing face)) }
-        ensures err { OnErr result (self.new ≡ self.old) }
-    {
-        let Some(region) = self.region_of(face) else {
-            return Ok(self.refused(Refusal::UnknownFace));
-        };
-        let finals = self.queries.would_close(face)?;
-        let handed = written_finals(self.alloc, finals.as_slice())?;
-        self.queries.close(face)?;
-        hats::leave(&mut self.hats, region, face);
-        let _ = self.faces.remove(&face.0);
-        self.names.close(face);
-        Ok(Step {
-            outcome: Outcome::Done,
-            handed,
-        })
-    }
-
-    // A reply of a target.
-    fn reply(&mut self, face: FaceId, said: &Said, response: &Response) -> Result<Step, OutOfMemory>
-        ensures step { IfOk result (λ t. t ≡ answer self.old (replying face said.now response.now)) }
-        ensures after { OnOk result (self.new ≡ settle self.old (replying face said.now response.now)) }
-        ensures err { OnErr result (self.new ≡ self.old) }
-    {
-        if !self.is_open(face) {
-            return Ok(self.refused(Refusal::UnknownFace));
-        }
-        if is_unscoped(said) {
-            return Ok(self.refused(Refusal::UnknownScope));
-        }
-        match self.queries.would_reply(face, response.rid) {
-            Ok(to) => {
-                if !says_key_or_nothing(said) {
-                    return Ok(self.refused(Refusal::InvalidKeyExpr));
-                }
-                self.put_reply(face, said, response, &to)
-            }
-            Err(ReplyRefusal::NoFreeId) => {
-                if !says_key_or_nothing(said) {
-                    return Ok(self.refused(Refusal::InvalidKeyExpr));
-                }
-                Ok(self.refused(Refusal::NoFreeId))
-            }
-            Err(ReplyRefusal::QueryNotFound) => Ok(self.refused(Refusal::QueryNotFound)),
-            Err(ReplyRefusal::OutOfMemory) => unreachable!(),
-        }
-    }
-
-    // A reply is handed to its asker and put in flight.
-    fn put_reply(
-        &mut self,
-        face: FaceId,
-        said: &Said,
-        response: &Response,
-        to: &ReplyTo,
-    ) -> Result<Step, OutOfMemory>
-        requires next { next_reply face.0 response.now.rid self.old.core.queries ≡ Some to.now }
-        requires there { list_any (has_number to.now.number) self.old.core.queries.records ≡ true }
-        requires fits { IsSome to.now.reply → self.old.core.queries.replies + 1 < 2 ^ 64 }
-        ensures step { IfOk result (λ t. t ≡ record { outcome = outcome_of self.old.core (replying face said.now response.now); handed = write self.old.names (messages_of self.old.core (replying face said.now response.now)) }) }
-        ensures after { OnOk result (self.new ≡ accepted_state self.old (replying face said.now response.now)) }
-        ensures err { OnErr result (self.new ≡ self.old) }
-    {
-        let handed = written_replies(self.alloc, &self.names, full_text(said), response, to)?;
-        self.queries.reply(to)?;
-        Ok(Step {
-            outcome: Outcome::Replied(to.reply),
-            handed,
-        })
-    }
-
-    // A moment has come: entries whose deadlines have come are let go.
-    #[tactic(auto, using(zq_machine::proofs::Writing::polled_after))]
-    fn pass(&mut self, now: u64) -> Result<Step, OutOfMemory>
-        ensures step { IfOk result (λ t. t ≡ answer self.old (passing now)) }
-        ensures after { OnOk result (self.new ≡ settle self.old (passing now)) }
-        ensures err { OnErr result (self.new ≡ self.old) }
-    {
-        let timeouts = match self.queries.would_poll(now) {
-            Ok(timeouts) => timeouts,
-            Err(PollRefusal::NoFreeId) => return Ok(self.refused(Refusal::NoFreeId)),
-            Err(PollRefusal::OutOfMemory) => return Err(OutOfMemory),
-        };
-        let handed = written_timeouts(self.alloc, &self.names, &self.faces, timeouts.as_slice())?;
-        self.queries.poll(now, timeouts.as_slice())?;
-        Ok(Step {
-            outcome: Outcome::Done,
-            handed,
-        })
-    }
-
-    // The face declares a number for a text.
-    fn declare_key(&mut self, face: FaceId, id: u16, said: &Said) -> Result<Step, OutOfMemory>
-        ensures step { IfOk result (λ t. t ≡ answer self.old (naming face id said.now (text_at id (face_naming face.0 self.old.names).theirs))) }
-        ensures after { OnOk result (self.new ≡ settle self.old (naming face id said.now (text_at id (face_naming face.0 self.old.names).theirs))) }
-        ensures err { OnErr result (self.new ≡ self.old) }
-    {
-        if !self.is_open(face) {
-            return Ok(self.refused(Refusal::UnknownFace));
-        }
-        let text = match said {
-            Said::Unscoped => return Ok(self.refused(Refusal::UnknownScope)),
-            Said::Empty => return Ok(self.refused(Refusal::InvalidKeyExpr)),
-            Said::Full(text) => text,
-        };
-        match self.names.declare(face, id, text.as_str()) {
-            Ok(()) => Ok(self.done()),
-            Err(NameRefusal::InvalidKeyExpr) => Ok(self.refused(Refusal::InvalidKeyExpr)),
-            Err(NameRefusal::Remapped) => Ok(self.refused(Refusal::Remapped)),
-            Err(NameRefusal::OutOfMemory) => Err(OutOfMemory),
-            Err(NameRefusal::UnknownScope) => unreachable!(),
-            Err(NameRefusal::UnknownId) => unreachable!(),
-        }
-    }
-
-    // The face gives a number up.
-    fn undeclare_key(&mut self, face: FaceId, id: u16) -> Result<Step, OutOfMemory>
-        ensures step { IfOk result (λ t. t ≡ answer self.old (unnaming face id (text_at id (face_naming face.0 self.old.names).theirs))) }
-        ensures after { OnOk result (self.new ≡ settle self.old (unnaming face id (text_at id (face_naming face.0 self.old.names).theirs))) }
-        ensures err { OnErr result (self.new ≡ self.old) }
-    {
-        if !self.is_open(face) {
-            return Ok(self.refused(Refusal::UnknownFace));
-        }
-        if self.names.standing(face, id).is_none() {
-            return Ok(self.refused(Refusal::UnknownId));
-        }
-        self.names.undeclare(face, id);
-        Ok(self.done())
-    }
-
-    // A number that a face declares, with its expression read.
-    fn name_key(&mut self, face: FaceId, id: u16, wire: &WireExpr) -> Result<Step, OutOfMemory>
-        ensures step { IfOk result (λ t. t ≡ step self.old (call.DeclareKeyExpr face id wire.now)) }
-        ensures after { OnOk result (self.new ≡ after self.old (call.DeclareKeyExpr face id wire.now)) }
-        ensures err { OnErr result (self.new ≡ self.old) }
-    {
-        let said = self.names.said(face, wire)?;
-        self.declare_key(face, id, &said)
-    }
-
-    // A queryable that a face declares, with its expression read.
-    fn register(
-        &mut self,
-        face: FaceId,
-        id: u32,
-        wire: &WireExpr,
-        info: QueryableInfoType,
-        node: u16,
-    ) -> Result<Step, OutOfMemory>
-        ensures step { IfOk result (λ t. t ≡ step self.old (call.DeclareQueryable face id wire.now info node)) }
-        ensures after { OnOk result (self.new ≡ after self.old (call.DeclareQueryable face id wire.now info node)) }
-        ensures err { OnErr result (self.new ≡ self.old) }
-    {
-        let said = self.names.said(face, wire)?;
-        self.declare_queryable(face, id, &said, info, node)
     }
 
     // A declaration, by its kind.
@@ -724,22 +361,6 @@ impl Gateway {
                 _ => Ok(self.done()),
             },
         }
-    }
-
-    // A mark of a face is set or unset.
-    fn finalize(&mut self, face: FaceId, mark: &FinalMark, set: bool) -> Result<Step, OutOfMemory>
-        ensures step { IfOk result (λ t. t ≡ answer self.old (finalizing face mark.now set)) }
-        ensures after { OnOk result (self.new ≡ settle self.old (finalizing face mark.now set)) }
-        ensures err { OnErr result (self.new ≡ self.old) }
-    {
-        let Some(region) = self.region_of(face) else {
-            return Ok(self.refused(Refusal::UnknownFace));
-        };
-        if !marks_key(mark) {
-            return Ok(self.refused(Refusal::InvalidKeyExpr));
-        }
-        hats::mark(&mut self.hats, region, face, mark, set)?;
-        Ok(self.done())
     }
 
     // The gateways of a region are listed.

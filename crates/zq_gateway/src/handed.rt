@@ -9,7 +9,7 @@ ghost use Rattle.zq_key.specs.declared.message.ReplyBody.TheVariants as body;
 ghost use Rattle.zq_machine.specs.Writing.{sent_final, write, written};
 ghost use Rattle.zq_machine.specs.Deciding.{timed_out, timeout_word, handed_replies, handed_reply, handed_request, handed_requests, handed_timeout, handed_timeouts};
 
-use zq_machine::call::{Handed, HandedList};
+use zq_machine::handed::{Handed, HandedList};
 use zq_machine::face::OpenFace;
 use crate::select::zid_of;
 use std::alloc::{AllocError, Global};
@@ -33,13 +33,12 @@ pub fn written_final(last: Final) -> Handed
         rid: last.id,
         qos: last.qos,
     };
-    Handed {
-        to: last.asker,
-        number: Some(last.number),
-        reply: None,
-        message: Message::ResponseFinal(message),
-        leaves: Some(Message::ResponseFinal(message)),
-    }
+    Handed::new(
+        last.asker,
+        Some(last.number),
+        None,
+        Message::ResponseFinal(message),
+    )
 }
 
 /// An empty list with room for so many messages.
@@ -125,43 +124,27 @@ pub fn written_replies(
     };
     let mut handed = room_for(alloc, 1)?;
     let message = reply_message(alloc, text, response, to)?;
-    handed.push(in_flight(alloc, to.asker, to.number, reply, message)?)?;
+    handed.push(in_flight(to.asker, to.number, reply, message))?;
     Ok(handed)
 }
 
 // A reply that its asker is handed.
-fn in_flight(
-    alloc: Global,
-    to: FaceId,
-    number: u64,
-    reply: u64,
-    message: Response,
-) -> Result<Handed, OutOfMemory>
-    ensures { IfOk result (λ h. h ≡ record { to = to; number = Some number; reply = Some reply; message = message_of.Response message; leaves = Some (message_of.Response message) }) }
+fn in_flight(to: FaceId, number: u64, reply: u64, message: Response) -> Handed
+    ensures { result ≡ record { to = to; number = Some number; reply = Some reply; message = message_of.Response message; leaves = Some (message_of.Response message) } }
 {
-    let leaves = message.copy(alloc)?;
-    Ok(Handed {
-        to,
-        number: Some(number),
-        reply: Some(reply),
-        message: Message::Response(message),
-        leaves: Some(Message::Response(leaves)),
-    })
+    Handed::new(to, Some(number), Some(reply), Message::Response(message))
 }
 
 fn request_message(
     alloc: Global,
-    queries: &Queries,
     names: &Naming,
     text: &str,
     request: &Request,
     offer: &QueryTargetQabl,
     id: u32,
 ) -> Result<Request, OutOfMemory>
-    requires { id ≡ given_id queries.now offer.now.face }
-    ensures { IfOk result (λ r. r ≡ record { id = given_id queries.now offer.now.face; wire = best (face_naming offer.now.face.0 names.now) text.now; target = request.now.target; timeout = request.now.timeout; node = offer.now.node; qos = request.now.qos; payload = request.now.payload }) }
+    ensures { IfOk result (λ r. r ≡ record { id = id; wire = best (face_naming offer.now.face.0 names.now) text.now; target = request.now.target; timeout = request.now.timeout; node = offer.now.node; qos = request.now.qos; payload = request.now.payload }) }
 {
-    let _ = queries;
     Ok(Request {
         id,
         wire: names.best(offer.face, text)?,
@@ -173,7 +156,7 @@ fn request_message(
     })
 }
 
-// A request to the face of an offer.
+// A request to the face of an offer, under the id that it is given there.
 fn written_request(
     alloc: Global,
     queries: &Queries,
@@ -186,15 +169,13 @@ fn written_request(
     requires { id ≡ given_id queries.now offer.now.face }
     ensures { IfOk result (λ h. h ≡ written names.now (handed_request queries.now text.now request.now offer.now)) }
 {
-    let message = request_message(alloc, queries, names, text, request, offer, id)?;
-    let leaves = message.copy(alloc)?;
-    Ok(Handed {
-        to: offer.face,
-        number: Some(queries.next_number()),
-        reply: None,
-        message: Message::Request(message),
-        leaves: Some(Message::Request(leaves)),
-    })
+    let message = request_message(alloc, names, text, request, offer, id)?;
+    Ok(Handed::new(
+        offer.face,
+        Some(queries.next_number()),
+        None,
+        Message::Request(message),
+    ))
 }
 
 fn requests_to(
@@ -277,7 +258,7 @@ fn written_timeout(
     ensures { IfOk result (λ h. h ≡ written names.now (timed_out faces.now.entries timeout.now reply)) }
 {
     let message = timeout_message(alloc, faces, timeout)?;
-    in_flight(alloc, timeout.asker, timeout.number, reply, message)
+    Ok(in_flight(timeout.asker, timeout.number, reply, message))
 }
 
 /// Error replies to the askers that are open.

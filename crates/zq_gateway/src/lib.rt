@@ -2,14 +2,13 @@
 //!
 //! - `gateway`: each call is one event
 //! - `runs`: whole runs, with what they promise of each request, reply and final
-//! - `hats`, `select`, `handed`, `read`, `parts`: the parts of a call
+//! - `hats`, `select`, `handed`, `read`: the parts of a call
 //! - calls, steps and configurations are of the crate below, `zq_machine`
 #![tactic(auto)]
 
 pub mod gateway;
 mod handed;
 mod hats;
-mod parts;
 mod read;
 pub mod runs;
 mod select;
@@ -17,8 +16,8 @@ mod select;
 pub use gateway::Gateway;
 pub use runs::replay;
 pub use zq_machine::{
-    BadConfig, Call, Config, ConfigRefusal, Counters, Entry, EntryList, Handed, HandedList, Opening,
-    Outcome, Refusal, Replay, Step, StepList,
+    BadConfig, Call, Config, ConfigRefusal, Counters, Entry, EntryList, Handed, HandedList, Leaves,
+    Opening, Outcome, Refusal, Replay, Step, StepList,
 };
 
 #[cfg(test)]

@@ -1,4 +1,5 @@
-use zq_machine::call::{Handed, Opening, Outcome, Refusal, Step};
+use zq_machine::handed::Handed;
+use zq_machine::call::{Opening, Outcome, Refusal, Step};
 use zq_machine::config::{BadConfig, Config, ConfigRefusal, Counters, Entry};
 use crate::gateway::Gateway;
 use std::alloc::Global;

@@ -29,7 +29,7 @@ use Rattle.zq_query.proofs.TimingOut.{rest_stays}
 use Rattle.zq_query.proofs.Balance.{letting_balance, landing_balance, closing_balance, reply_balance, poll_balance, ask_balance, letting_none_over, landing_none_over, reply_none_over, close_none_over, poll_none_over, ask_none_over}
 use Rattle.zq_naming.specs.Naming.{NamingState}
 use Rattle.zq_machine.specs.declared.call.Call.{Call}
-use Rattle.zq_machine.specs.declared.call.Handed.{Handed}
+use Rattle.zq_machine.specs.Handing.{Handed}
 use Rattle.zq_machine.specs.declared.call.Refusal.{Refusal}
 use Rattle.zq_machine.specs.declared.face.OpenFace.{OpenFace}
 use Rattle.zq_machine.specs.Configs.{Settings}

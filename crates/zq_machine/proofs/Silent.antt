@@ -20,7 +20,7 @@ use Rattle.zq_query.specs.Polling.{dues_at, has_number_for, numbers_in, timed_ou
 use Rattle.zq_query.specs.Balance.{finals_under, owed_by}
 use Rattle.zq_naming.specs.Naming.{NamingState}
 use Rattle.zq_machine.specs.declared.call.Call.{Call}
-use Rattle.zq_machine.specs.declared.call.Handed.{Handed}
+use Rattle.zq_machine.specs.Handing.{Handed}
 use Rattle.zq_machine.specs.declared.call.Refusal.{Refusal}
 use Rattle.zq_machine.specs.declared.call.Step.{Step}
 use Rattle.zq_machine.specs.declared.face.OpenFace.{OpenFace}

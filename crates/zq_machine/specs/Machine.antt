@@ -1,7 +1,7 @@
 -- One call of the gateway, and whole runs.
 use Rattle.std.specs.Prelude.{List, [], ◌∷◌, ◌++◌, map, Option, Some, None, if◌then◌else◌}
 use Rattle.zq_machine.specs.declared.call.Call.{Call}
-use Rattle.zq_machine.specs.declared.call.Handed.{Handed}
+use Rattle.zq_machine.specs.Handing.{Handed}
 use Rattle.zq_machine.specs.declared.call.Outcome.TheVariants as outcome
 use Rattle.zq_machine.specs.declared.call.Refusal.{Refusal}
 use Rattle.zq_machine.specs.declared.call.Step.{Step}

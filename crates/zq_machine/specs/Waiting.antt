@@ -9,7 +9,7 @@ use Rattle.zq_query.specs.Closing.{at_face}
 use Rattle.zq_query.specs.Polling.{is_due}
 use Rattle.zq_machine.specs.declared.call.Call.{Call}
 use Rattle.zq_machine.specs.declared.call.Call.TheVariants as call
-use Rattle.zq_machine.specs.declared.call.Handed.{Handed}
+use Rattle.zq_machine.specs.Handing.{Handed}
 use Rattle.zq_machine.specs.State.{State}
 use Rattle.zq_machine.specs.Deciding.{deadline}
 

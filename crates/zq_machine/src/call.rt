@@ -3,11 +3,12 @@ ghost use Rattle.std.specs.Prelude.{◌≡◌};
 ghost use Rattle.zq_machine.specs.Calls.{has_none, is_absent, is_built, is_plain_opening, is_sent, is_served, strategy_in};
 
 use crate::config::Config;
+use crate::handed::HandedList;
 use zq_hat::strategy::strategy_of;
 use zq_hat::types::{FinalMark, Network, NodeIds, Strategy};
 use zq_key::items::Items;
 use zq_key::message::{
-    Bound, FaceId, Message, Mode, QueryableInfoType, Region, Request, Response, TextList, WireExpr,
+    Bound, FaceId, Mode, QueryableInfoType, Region, Request, Response, TextList, WireExpr,
     Zid,
 };
 use zq_key::text::Text;
@@ -179,20 +180,6 @@ pub enum Outcome {
     Done,
     Refused(Refusal),
 }
-
-/// A message that is given to a face's exit, with the numbers of its request and of its reply, and
-/// what leaves.
-#[derive(Debug, Drop)]
-pub struct Handed {
-    pub to: FaceId,
-    pub number: Option<u64>,
-    pub reply: Option<u64>,
-    pub message: Message,
-    pub leaves: Option<Message>,
-}
-
-/// Handed messages, in order.
-pub type HandedList = Items<Handed>;
 
 /// What one call gives.
 #[derive(Debug, Drop)]

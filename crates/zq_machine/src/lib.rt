@@ -4,16 +4,19 @@
 //! - `config`: what a gateway is made with
 //! - `call`: what it is asked, and what it answers
 //! - `face`: an open face
+//! - `handed`: a message that a call hands
 //! - `laws`: what every run promises, and how what is decided moves with its texts
 #![tactic(auto)]
 
 pub mod call;
 pub mod config;
 pub mod face;
+pub mod handed;
 pub mod laws;
 
 pub use call::{
-    Call, Handed, HandedList, Opening, Outcome, Refusal, Replay, Step, StepList,
+    Call, Opening, Outcome, Refusal, Replay, Step, StepList,
 };
 pub use config::{BadConfig, Config, ConfigRefusal, Counters, Entry, EntryList};
 pub use face::OpenFace;
+pub use handed::{Handed, HandedList, Leaves};

@@ -24,7 +24,7 @@ use Rattle.zq_machine.specs.declared.call.Outcome.{Outcome}
 use Rattle.zq_machine.specs.declared.call.Outcome.TheVariants as outcome
 use Rattle.zq_machine.specs.declared.call.Refusal.{Refusal}
 use Rattle.zq_machine.specs.declared.call.Refusal.TheVariants as refusal
-use Rattle.zq_machine.specs.declared.call.Handed.{Handed}
+use Rattle.zq_machine.specs.Handing.{Handed}
 use Rattle.zq_machine.specs.declared.call.Step.{Step}
 use Rattle.zq_words.specs.Words.{◌>>=◌, field, lacks, payload_word, option_of, option_word}
 use Rattle.zq_words.specs.Values.{most_8, most_16, most_32, most_64, flag_word, zid_of, zid_word, mapping_word, target_word, wire_word}

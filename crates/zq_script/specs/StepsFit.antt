@@ -9,7 +9,7 @@ use Rattle.zq_key.specs.declared.message.Message.{Message}
 use Rattle.zq_key.specs.declared.message.Message.TheVariants as message
 use Rattle.zq_machine.specs.declared.call.Outcome.{Outcome}
 use Rattle.zq_machine.specs.declared.call.Outcome.TheVariants as outcome
-use Rattle.zq_machine.specs.declared.call.Handed.{Handed}
+use Rattle.zq_machine.specs.Handing.{Handed}
 use Rattle.zq_machine.specs.declared.call.Step.{Step}
 use Rattle.zq_words.specs.Values.{most_8, most_16, most_32, most_64}
 use Rattle.zq_words.specs.Fits.{FitsFace, FitsWire, FitsOption}

@@ -4,7 +4,7 @@ use Rattle.zq_hat.specs.declared.types.QueryTargetQabl.{QueryTargetQabl}
 use Rattle.zq_query.specs.Asking.{given_id, given_place}
 use Rattle.zq_query.proofs.Giving.{map_more}
 use Rattle.zq_query.proofs.Entries.{map_both}
-use Rattle.zq_machine.specs.declared.call.Handed.{Handed}
+use Rattle.zq_machine.specs.Handing.{Handed}
 use Rattle.zq_machine.specs.Selecting.{target_of}
 use Rattle.zq_machine.specs.Machine.{written}
 use Rattle.zq_machine.specs.Deciding.{handed_request}

@@ -1,0 +1,125 @@
+//! Faces that come and go.
+ghost use Rattle.std.specs.Prelude.{◌≡◌, None, IfOk, OnOk, OnErr};
+ghost use Rattle.std.specs.BTreeMap.{insert_entry};
+ghost use Rattle.std.specs.Ordering.{nat_cmp};
+ghost use Rattle.zq_machine.specs.Deciding.{opened, seat};
+ghost use Rattle.zq_machine.specs.Machine.{after, answer, settle, step};
+ghost use Rattle.zq_machine.specs.State.{at, change_hat, joined};
+ghost use Rattle.zq_machine.specs.TextCalls.{closing, opening};
+ghost use Rattle.zq_naming.specs.Naming.{no_keys};
+
+use crate::gateway::Gateway;
+use crate::handed::written_finals;
+use crate::hats;
+use std::collections::BTreeMap;
+use zq_hat::hat::Hat;
+use zq_hat::types::FaceRecord;
+use zq_key::items::Items;
+use zq_key::memory::OutOfMemory;
+use zq_key::message::FaceId;
+use zq_machine::call::{Opening, Outcome, Refusal, Step};
+use zq_machine::face::OpenFace;
+use zq_naming::naming::Naming;
+use zq_tables::RegionMap;
+
+// A face joins the open ones, those that have numbers, and its region's. Each of them is as before
+// where no memory is found.
+fn take_seat(
+    names: &mut Naming,
+    faces: &mut BTreeMap<u32, OpenFace>,
+    hats: &mut RegionMap<Hat>,
+    face: FaceId,
+    opening: &Opening,
+) -> Result<(), OutOfMemory>
+    requires named { at face.0 names.old ≡ None }
+    requires absent { at face.0 faces.old.entries ≡ None }
+    ensures names { OnOk result (names.new ≡ insert_entry nat_cmp names.old face.0 no_keys) }
+    ensures faces { OnOk result (faces.new.entries ≡ insert_entry nat_cmp faces.old.entries face.0 (opened opening.now)) }
+    ensures hats { OnOk result (hats.new ≡ change_hat opening.now.region (joined (seat face.0 opening.now)) hats.old) }
+    ensures no_names { OnErr result (names.new ≡ names.old) }
+    ensures no_faces { OnErr result (faces.new.entries ≡ faces.old.entries) }
+    ensures no_hats { OnErr result (hats.new ≡ hats.old) }
+{
+    names.open(face)?;
+    let open = OpenFace {
+        region: opening.region,
+        zid: opening.zid,
+        mode: opening.mode,
+        remote_bound: opening.remote_bound,
+    };
+    match faces.insert(face.0, open) {
+        Ok(_) => {}
+        Err(_) => {
+            names.close(face);
+            return Err(OutOfMemory);
+        }
+    }
+    let seat = FaceRecord {
+        face,
+        zid: opening.zid,
+        mode: opening.mode,
+        remote_bound: opening.remote_bound,
+    };
+    match hats::join(hats, opening.region, seat) {
+        Ok(()) => Ok(()),
+        Err(_) => {
+            let _ = faces.remove(&face.0);
+            names.close(face);
+            Err(OutOfMemory)
+        }
+    }
+}
+
+impl Gateway {
+    // A face is opened.
+    pub(super) fn open(&mut self, asked: &Opening) -> Result<Step, OutOfMemory>
+        ensures step { IfOk result (λ t. t ≡ answer self.old (opening asked.now)) }
+        ensures after { OnOk result (self.new ≡ settle self.old (opening asked.now)) }
+        ensures err { OnErr result (self.new ≡ self.old) }
+    {
+        if hats::hat_at(&self.hats, asked.region).is_none() {
+            return Ok(self.refused(Refusal::UnknownRegion));
+        }
+        if hats::is_full(&self.hats, asked.region) {
+            return Ok(self.refused(Refusal::UpstreamInUse));
+        }
+        if self.next_face == u32::MAX {
+            return Ok(self.refused(Refusal::NoFreeId));
+        }
+        let face = FaceId(self.next_face);
+        take_seat(
+            &mut self.names,
+            &mut self.faces,
+            &mut self.hats,
+            face,
+            asked,
+        )?;
+        self.next_face += 1;
+        Ok(Step {
+            outcome: Outcome::Opened(face),
+            handed: Items::new(self.alloc),
+        })
+    }
+
+    // A face is closed: its entries are let go, and it gives up its numbers.
+    #[tactic(auto, using(zq_machine::proofs::Writing::closed_step, zq_machine::proofs::Writing::closed_after))]
+    pub(super) fn close(&mut self, face: FaceId) -> Result<Step, OutOfMemory>
+        ensures step { IfOk result (λ t. t ≡ answer self.old (closing face)) }
+        ensures after { OnOk result (self.new ≡ settle self.old (closing face)) }
+        ensures err { OnErr result (self.new ≡ self.old) }
+    {
+        let Some(region) = self.region_of(face) else {
+            return Ok(self.refused(Refusal::UnknownFace));
+        };
+        let finals = self.queries.would_close(face)?;
+        let handed = written_finals(self.alloc, finals.as_slice())?;
+        self.queries.close(face)?;
+        hats::leave(&mut self.hats, region, face);
+        let _ = self.faces.remove(&face.0);
+        self.names.close(face);
+        Ok(Step {
+            outcome: Outcome::Done,
+            handed,
+        })
+    }
+}

@@ -1,0 +1,96 @@
+//! Requests, and whom they are handed to.
+ghost use Rattle.std.specs.Prelude.{◌≡◌, Some, true, IfOk, OnOk, OnErr, map};
+ghost use Rattle.zq_query.specs.Asking.{are_distinct, face_numbers};
+ghost use Rattle.zq_machine.specs.Deciding.{opened};
+ghost use Rattle.zq_machine.specs.Selecting.{select_for, target_of};
+ghost use Rattle.zq_machine.specs.Machine.{after, answer, settle, step};
+ghost use Rattle.zq_machine.specs.TextCalls.{asking};
+
+use crate::gateway::Gateway;
+use crate::handed::written_requests;
+use crate::hats;
+use crate::read::{full_text, says_key};
+use crate::select::Asker;
+use std::alloc::{Global, AllocError};
+use zq_hat::types::QueryTargetQabl;
+use zq_key::memory::OutOfMemory;
+use zq_key::message::{FaceId, Request};
+use zq_machine::call::{Outcome, Refusal, Step};
+use zq_machine::face::OpenFace;
+use zq_naming::said::Said;
+use zq_query::records::AskRefusal;
+
+// The faces of offers.
+fn targets_of(alloc: Global, offers: &[QueryTargetQabl]) -> Result<Vec<FaceId>, AllocError>
+    ensures { IfOk result (λ v. v.items ≡ map target_of offers.now) }
+{
+    offers.iter().map(|offer| offer.face).collect(alloc)
+}
+
+impl Gateway {
+    // The offers that a request is handed to, of each face one.
+    fn select(
+        &self,
+        face: FaceId,
+        opened: OpenFace,
+        said: &Said,
+        request: &Request,
+    ) -> Result<Vec<QueryTargetQabl>, OutOfMemory>
+        ensures offers { IfOk result (λ v. v.items ≡ select_for self.now.core face said.now request.now (Some opened)) }
+        ensures distinct { IfOk result (λ v. are_distinct (face_numbers (map target_of v.items)) ≡ true) }
+    {
+        if !says_key(said) {
+            return Ok(Vec::new(self.alloc));
+        }
+        let asker = Asker {
+            faces: &self.faces,
+            tables: &self.tables,
+            own: self.config.zid(),
+            face,
+            opened,
+        };
+        asker.select(self.alloc, &self.hats, full_text(said), request.target)
+    }
+
+    // A request of a face.
+    pub(super) fn request(
+        &mut self,
+        face: FaceId,
+        said: &Said,
+        request: &Request,
+        now: u64,
+    ) -> Result<Step, OutOfMemory>
+        ensures step { IfOk result (λ t. t ≡ answer self.old (asking face said.now request.now now)) }
+        ensures after { OnOk result (self.new ≡ settle self.old (asking face said.now request.now now)) }
+        ensures err { OnErr result (self.new ≡ self.old) }
+    {
+        let Some(opened) = self.opened(face) else {
+            return Ok(self.refused(Refusal::UnknownFace));
+        };
+        let offers = self.select(face, opened, said, request)?;
+        let targets = targets_of(self.alloc, offers.as_slice())?;
+        let plan = match self.queries.plan(targets.as_slice()) {
+            Ok(plan) => plan,
+            Err(AskRefusal::NoFreeId) => return Ok(self.refused(Refusal::NoFreeId)),
+            Err(AskRefusal::OutOfMemory) => return Err(OutOfMemory),
+        };
+        let handed = written_requests(
+            self.alloc,
+            &self.queries,
+            &self.names,
+            face,
+            full_text(said),
+            request,
+            offers.as_slice(),
+            plan.places.as_slice(),
+        )?;
+        let number = self.queries.next_number();
+        let deadline = now.saturating_add(request.timeout.unwrap_or(self.config.timeout()));
+        self.queries
+            .ask(face, request.id, request.qos, &plan, deadline)?;
+        Ok(Step {
+            outcome: Outcome::Asked(number),
+            handed,
+        })
+    }
+}
