@@ -144,7 +144,7 @@ impl Gateway {
     }
 
     /// A face is opened, in its region. A namespace, deny lists and the regions of routers are not
-    /// built yet (`Call::is_built`), so that no face is opened without what it was given.
+    /// built yet (`Opening::is_built`), so that no face is opened without what it was given.
     pub fn open_face(&mut self, opening: &Opening) -> Result<Step, OutOfMemory>
         requires { is_built self.old.core.config (call.Open opening.now) ≡ true }
         ensures step { IfOk result (λ t. t ≡ step self.old (call.Open opening.now)) }
@@ -277,6 +277,13 @@ impl Gateway {
             Ok(None) => Ok(None),
             Err(_) => Err(Refusal::NotInFlight),
         }
+    }
+
+    /// What it was made with.
+    pub fn config(&self) -> &Config
+        ensures { result.now ≡ self.now.core.config }
+    {
+        &self.config
     }
 
     /// The gateway's own id.

@@ -177,13 +177,16 @@ fn lists(gateway: &mut Gateway, alloc: Global) -> Seen {
 
 fn opens(gateway: &mut Gateway, alloc: Global, zid: u128) -> Seen {
     let opening = local(alloc, zid);
+    if !opening.is_built(gateway.config()) {
+        return None;
+    }
     seen(gateway.open_face(&opening))
 }
 
 fn is_final(handed: &Option<Handed>) -> bool {
     match handed {
         Some(handed) => {
-            handed.to == FaceId(1) && matches!(handed.message, Message::ResponseFinal(_))
+            handed.to() == FaceId(1) && matches!(handed.message(), Message::ResponseFinal(_))
         }
         None => false,
     }

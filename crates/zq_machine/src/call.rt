@@ -1,5 +1,6 @@
 //! What a gateway is asked, and what it answers.
 ghost use Rattle.std.specs.Prelude.{◌≡◌};
+ghost use Rattle.zq_machine.specs.declared.call.Call.TheVariants as call;
 ghost use Rattle.zq_machine.specs.Calls.{has_none, is_absent, is_built, is_plain_opening, is_sent, is_served, strategy_in};
 
 use crate::config::Config;
@@ -119,12 +120,7 @@ impl Call {
         ensures { result ≡ is_built config.now self.now }
     {
         match self {
-            Call::Open(opening) => {
-                if !config.has_region(opening.region) {
-                    return true;
-                }
-                is_served(config, opening.region) && opening.is_plain()
-            }
+            Call::Open(opening) => opening.is_built(config),
             Call::Interest { .. } => false,
             Call::InterestFinal { .. } => false,
             Call::SetNetwork { .. } => false,
@@ -135,6 +131,17 @@ impl Call {
 }
 
 impl Opening {
+    /// Whether the gateway opens faces in this way today: without a namespace and deny lists, and in
+    /// no region of routers; in a region that the configuration lacks it is refused.
+    pub fn is_built(&self, config: &Config) -> bool
+        ensures { result ≡ is_built config.now (call.Open self.now) }
+    {
+        if !config.has_region(self.region) {
+            return true;
+        }
+        is_served(config, self.region) && self.is_plain()
+    }
+
     fn is_plain(&self) -> bool
         ensures { result ≡ is_plain_opening self.now }
     {
