@@ -5,11 +5,13 @@
 //! - `queryables`: queryables that faces declare and withdraw, and marks of what they have declared
 //! - `requests`: requests, and whom they are handed to
 //! - `replies`: replies, finals, reports that a reply was sent, and moments that have come
-ghost use Rattle.std.specs.Prelude.{IfErr, ◌≡◌, [], true, IfOk, OnOk, OnErr};
+ghost use Rattle.std.specs.Prelude.{List, IfErr, ◌≡◌, [], true, IfOk, OnOk, OnErr};
 ghost use Rattle.std.specs.List.{cons_option};
 ghost use Rattle.zq_machine.specs.Configs.{north_of};
 ghost use Rattle.zq_machine.specs.declared.call.Call.TheVariants as call;
 ghost use Rattle.zq_machine.specs.Calls.{declared_call, declaring_call, is_built};
+ghost use Rattle.zq_machine.specs.declared.call.Call.{Call};
+ghost use Rattle.zq_machine.specs.Headline.{RunPromise};
 ghost use Rattle.zq_machine.specs.Machine.{after, after_of, answer, done, refused_step, settle, step, step_of};
 ghost use Rattle.zq_machine.specs.State.{at, face_region, is_open, opening_state};
 ghost use Rattle.zq_machine.specs.TextCalls.{listing, opening};
@@ -74,9 +76,12 @@ impl Model for Gateway {
 }
 
 impl Gateway {
-    /// A gateway of this configuration, before any call.
+    /// A gateway of this configuration, before any call. Whatever calls are made on it, one after
+    /// another, each keeps the promises of a run.
+    #[tactic(auto, using(zq_machine::proofs::Kept::headline))]
     pub fn new(alloc: Global, config: &Config) -> Result<Gateway, OutOfMemory>
-        ensures { IfOk result (λ g. g ≡ opening_state config.now) }
+        ensures opening { IfOk result (λ g. g ≡ opening_state config.now) }
+        ensures headline { IfOk result (λ _. (calls : List Call) → RunPromise config.now calls) }
     {
         let counters = *config.counters();
         Ok(Gateway {
