@@ -529,7 +529,7 @@ impl Gateway {
         let number = self.queries.next_number();
         let deadline = now.saturating_add(request.timeout.unwrap_or(self.config.timeout()));
         self.queries
-            .ask(face, request.id, request.qos, &plan, deadline)?;
+            .ask_planned(face, request.id, request.qos, plan, deadline)?;
         Ok(Step {
             outcome: Outcome::Asked(number),
             handed,
@@ -548,7 +548,7 @@ impl Gateway {
         };
         let finals = self.queries.would_close(face)?;
         let handed = written_finals(self.alloc, finals.as_slice())?;
-        self.queries.close(face)?;
+        self.queries.close_planned(face)?;
         hats::leave(&mut self.hats, region, face);
         let _ = self.faces.remove(&face.0);
         self.names.close(face);
@@ -604,7 +604,7 @@ impl Gateway {
         ensures err { OnErr result (self.new ≡ self.old) }
     {
         let handed = written_replies(self.alloc, &self.names, full_text(said), response, to)?;
-        self.queries.reply(to)?;
+        self.queries.put(to)?;
         Ok(Step {
             outcome: Outcome::Replied(to.reply),
             handed,
@@ -624,7 +624,7 @@ impl Gateway {
             Err(PollRefusal::OutOfMemory) => return Err(OutOfMemory),
         };
         let handed = written_timeouts(self.alloc, &self.names, &self.faces, timeouts.as_slice())?;
-        self.queries.poll(now, timeouts.as_slice())?;
+        self.queries.poll_planned(now, timeouts.as_slice())?;
         Ok(Step {
             outcome: Outcome::Done,
             handed,

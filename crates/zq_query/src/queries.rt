@@ -345,7 +345,7 @@ impl Queries {
     }
 
     /// A reply of the request is put in flight.
-    fn put(&mut self, number: u64) -> Result<(), OutOfMemory>
+    fn fly(&mut self, number: u64) -> Result<(), OutOfMemory>
         requires there { list_any (has_number number) self.old.records ≡ true }
         requires fits { self.old.replies + 1 < 2 ^ 64 }
         ensures ok { OnOk result (self.new ≡ after_put number self.old) }
@@ -362,16 +362,34 @@ impl Queries {
     }
 
     /// The reply that `would_reply` answered: in flight under its number, if it has one. Where memory
-    /// is lacking all is as it was. Upstream: `route_send_response`.
-    pub fn reply(&mut self, to: &ReplyTo) -> Result<(), OutOfMemory>
+    /// is lacking all is as it was.
+    pub fn put(&mut self, to: &ReplyTo) -> Result<(), OutOfMemory>
         requires there { list_any (has_number to.now.number) self.old.records ≡ true }
         requires fits { IsSome to.now.reply → self.old.replies + 1 < 2 ^ 64 }
         ensures after { OnOk result (self.new ≡ after_reply to.now self.old) }
         ensures err { OnErr result (self.new ≡ self.old) }
     {
         match to.reply {
-            Some(_) => self.put(to.number),
+            Some(_) => self.fly(to.number),
             None => Ok(()),
+        }
+    }
+
+    /// A reply to the entry: under the next reply number, and in flight, if the asker is open; without
+    /// a number if it was closed. `QueryNotFound` where the id is not pending there, `NoFreeId` where
+    /// the number 2^64 - 1 is next. A refusal leaves all as it was. Upstream: `route_send_response`.
+    pub fn reply(&mut self, face: FaceId, id: u32) -> Result<ReplyTo, ReplyRefusal>
+        ensures to { IfOk result (λ t. next_reply face.0 id self.old ≡ Some t) }
+        ensures after { IfOk result (λ t. self.new ≡ after_reply t self.old) }
+        ensures free { OnOk result (lacks_reply face.0 id self.old ≡ false) }
+        ensures not_found { IsErrOf result ReplyRefusal.QueryNotFound → next_reply face.0 id self.old ≡ None }
+        ensures no_free { IsErrOf result ReplyRefusal.NoFreeId → lacks_reply face.0 id self.old ≡ true }
+        ensures err { OnErr result (self.new ≡ self.old) }
+    {
+        let to = self.would_reply(face, id)?;
+        match self.put(&to) {
+            Ok(()) => Ok(to),
+            Err(_) => Err(ReplyRefusal::OutOfMemory),
         }
     }
 

@@ -6,10 +6,10 @@ ghost use Rattle.std.specs.Map.{keys_of};
 ghost use Rattle.std.specs.BTreeMap.{insert_entry};
 ghost use Rattle.std.specs.Ordering.{nat_cmp};
 ghost use Rattle.zq_query.specs.Tables.{at_number, filled, AreAbsent};
-ghost use Rattle.zq_query.specs.Asking.{are_distinct, face_numbers, is_full, lacks_number, given_place, giving, restoring, asking_at, IsPlan};
+ghost use Rattle.zq_query.specs.Asking.{are_distinct, face_numbers, is_full, lacks_number, given_id, given_place, giving, restoring, after_ask, asking_at, IsPlan};
 
 use crate::queries::{Open, Owed, Queries};
-use crate::records::{AskRefusal, PlaceList, Plan};
+use crate::records::{AskRefusal, Asked, PlaceList, Plan, U32List};
 use std::alloc::Global;
 use std::collections::BTreeMap;
 use zq_key::items::Items;
@@ -150,6 +150,14 @@ fn copy_of(alloc: Global, places: &[(u32, u32)]) -> Result<PlaceList, OutOfMemor
     Ok(Items::from_vec(copy))
 }
 
+/// The ids of the places.
+fn ids_in(alloc: Global, places: &[(u32, u32)]) -> Result<U32List, OutOfMemory>
+    ensures { IfOk result (λ ids. ids ≡ map (λ p. p.1) places.now) }
+{
+    let ids = places.iter().map(|place| place.1).collect(alloc)?;
+    Ok(Items::from_vec(ids))
+}
+
 impl Queries {
     /// The place of each target and the id last given there, in their order.
     fn places_for(&self, targets: &[FaceId]) -> Result<Plan, AskRefusal>
@@ -245,18 +253,17 @@ impl Queries {
     }
 
     /// Accepts a request: it has the next number, and owes an entry at each place of the plan, whose
-    /// id is the last given there from here on. Where memory is lacking all is as it was. Upstream:
-    /// `route_query`.
-    pub fn ask(
+    /// id is the last given there from here on. Where memory is lacking all is as it was.
+    pub fn ask_planned(
         &mut self,
         asker: FaceId,
         id: u32,
         qos: u8,
-        plan: &Plan,
+        plan: Plan,
         deadline: u64,
     ) -> Result<(), OutOfMemory>
-        requires { IsPlan self.old plan.now.places plan.now.before }
-        ensures ok { OnOk result (self.new ≡ asking_at asker id qos plan.now.places deadline self.old) }
+        requires { IsPlan self.old plan.places plan.before }
+        ensures ok { OnOk result (self.new ≡ asking_at asker id qos plan.places deadline self.old) }
         ensures err { OnErr result (self.new ≡ self.old) }
     {
         if plan.places.is_empty() {
@@ -273,5 +280,35 @@ impl Queries {
         let places = plan.places.as_slice();
         let listed = copy_of(self.alloc, places)?;
         self.enter(opened, places, plan.before.as_slice(), listed, deadline)
+    }
+
+    /// Accepts a request: it has the next number, and owes an entry at each target, under the next
+    /// id there. `NoFreeId` where the number 2^64 - 1 is next or a target has no free id. A refusal
+    /// leaves all as it was. Upstream: `route_query`.
+    pub fn ask(
+        &mut self,
+        asker: FaceId,
+        id: u32,
+        qos: u8,
+        targets: &[FaceId],
+        deadline: u64,
+    ) -> Result<Asked, AskRefusal>
+        requires { are_distinct (face_numbers targets.now) ≡ true }
+        ensures number { IfOk result (λ asked. asked.number ≡ self.old.requests) }
+        ensures ids { IfOk result (λ asked. asked.ids ≡ map (given_id self.old) targets.now) }
+        ensures free { OnOk result (lacks_number targets.now self.old ≡ false) }
+        ensures after { OnOk result (self.new ≡ after_ask asker id qos targets.now deadline self.old) }
+        ensures no_free { IsErrOf result AskRefusal.NoFreeId → lacks_number targets.now self.old ≡ true }
+        ensures err { OnErr result (self.new ≡ self.old) }
+    {
+        let number = self.requests;
+        let plan = self.plan(targets)?;
+        let Ok(ids) = ids_in(self.alloc, plan.places.as_slice()) else {
+            return Err(AskRefusal::OutOfMemory);
+        };
+        match self.ask_planned(asker, id, qos, plan, deadline) {
+            Ok(()) => Ok(Asked { number, ids }),
+            Err(_) => Err(AskRefusal::OutOfMemory),
+        }
     }
 }

@@ -170,8 +170,9 @@ impl Queries {
     }
 
     /// Closes a face: its entries are let go, and from here on the requests that it asked get no
-    /// reply number and no final. Where memory is lacking all is as it was. Upstream: `close_face`.
-    pub fn close(&mut self, face: FaceId) -> Result<(), OutOfMemory>
+    /// reply number and no final; those that end with it are what `would_close` answered. Where memory
+    /// is lacking all is as it was.
+    pub fn close_planned(&mut self, face: FaceId) -> Result<(), OutOfMemory>
         ensures after { OnOk result (self.new ≡ after_close face.0 self.old) }
         ensures err { OnErr result (self.new ≡ self.old) }
     {
@@ -179,5 +180,18 @@ impl Queries {
         self.mark_closed(face)?;
         self.drop_all(places.as_slice());
         Ok(())
+    }
+
+    /// Closes a face: its entries are let go, and from here on the requests that it asked get no
+    /// reply number and no final. The finals stand by number. Where memory is lacking all is as it
+    /// was. Upstream: `close_face`.
+    pub fn close(&mut self, face: FaceId) -> Result<FinalList, OutOfMemory>
+        ensures finals { IfOk result (λ finals. finals ≡ closing_finals face.0 self.old) }
+        ensures after { OnOk result (self.new ≡ after_close face.0 self.old) }
+        ensures err { OnErr result (self.new ≡ self.old) }
+    {
+        let finals = self.would_close(face)?;
+        self.close_planned(face)?;
+        Ok(finals)
     }
 }
