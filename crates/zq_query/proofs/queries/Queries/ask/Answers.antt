@@ -7,5 +7,5 @@ pub returns-in-Ok-ask_planned-clause-ids : goal.returns-in-Ok-ask_planned-clause
 returns-in-Ok-ask_planned-clause-ids c =
     let s = c.args.self.now in
     c.in-Ok.ensures
-    ∙ ap (map (λ (p : ℕ × ℕ). p.1)) (c.as_slice.ensures ∙ c.in_ok-plan.ensures.places)
+    ∙ ap (map (λ (p : ℕ × ℕ). p.1)) (c.as_slice.ensures ∙ c.in_ok-places.ensures.places)
     ∙ map_both (λ (p : ℕ × ℕ). p.1) (given_place s) c.args.targets.now
