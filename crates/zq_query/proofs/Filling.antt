@@ -171,13 +171,6 @@ module _ (heads : List (ℕ × Open)) (pending : List (Place × Owed)) (dues : D
       by_head None e none = true≢false (sym none)
       by_head (Some o) e s = let l = below.numbers m o e in absurd (omega (arith, l, same))
 
-  none_number : (q : Option Open) → at_number n heads ≡ q → at_number n heads ≡ None
-  none_number None e = e
-  none_number (Some o) e = absurd (no_head n refl (ap is_some e))
-
-  pub new_number : at_number n heads ≡ None
-  new_number = none_number _ refl
-
   none_due : (d : ℕ) (q : Option (List Place)) → at_place (d, n) dues ≡ q → at_place (d, n) dues ≡ None
   none_due d None e = e
   none_due d (Some ps) e = let there = tied.entry (d, n) ps e in absurd (no_head n refl (tied.owned there.0 (record { number = n; deadline = d }) there.1))

@@ -54,11 +54,6 @@ asked_records number asker id qos places deadline = if is_none_left places then 
 abbrev pub giving : List (ℕ × ℕ) → List (ℕ × ℕ) → List (ℕ × ℕ)
 giving last_ids places = fold (λ l p. insert_entry nat_cmp l p.0 p.1) last_ids places
 
--- the last ids with a face's as it was before
-abbrev pub restoring : ℕ → Option ℕ → List (ℕ × ℕ) → List (ℕ × ℕ)
-restoring face None ids = remove_entry (is_at (nat_cmp face)) ids
-restoring face (Some id) ids = set_value (is_at (nat_cmp face)) ids id
-
 -- the request has the next number, and its record stands last
 abbrev pub entering : FaceId → ℕ → ℕ → List (ℕ × ℕ) → ℕ → QueryState → QueryState
 entering asker id qos places deadline s = record s { records = s.records ++ asked_records s.requests asker id qos places deadline; requests = s.requests + 1 }
@@ -71,18 +66,13 @@ asking_at asker id qos places deadline s = record (entering asker id qos places 
 abbrev pub after_ask : FaceId → ℕ → ℕ → List FaceId → ℕ → QueryState → QueryState
 after_ask asker id qos targets deadline s = asking_at asker id qos (map (given_place s) targets) deadline s
 
--- some record has the number, or a greater one
-abbrev pub has_number_from : ℕ → List Record → Bool
-has_number_from number rs = list_any (λ r. not (nat_lt r.number number)) rs
-
 -- some place is pending
 abbrev pub any_pending : List Record → List (ℕ × ℕ) → Bool
 any_pending rs places = list_any (λ p. is_pending p.0 p.1 rs) places
 
--- what the next request can be given: a number, and places of distinct faces where nothing is pending; and the ids last given there
-pub record IsPlan (s : QueryState) (places : List (ℕ × ℕ)) (before : List (Option ℕ)) : Type 0 where
+-- what the next request can be given: a number, and places of distinct faces where nothing is pending
+pub record IsPlan (s : QueryState) (places : List (ℕ × ℕ)) : Type 0 where
   pub fits : s.requests + 1 < 2 ^ 64
   pub absent : any_pending s.records places ≡ false
   pub distinct : are_distinct (keys_of places) ≡ true
   pub small : AllByRecursion (λ p. (p.0 < 2 ^ 32) × (p.1 < 2 ^ 32)) places
-  pub known : before ≡ map (λ p. at_number p.0 s.last_ids) places

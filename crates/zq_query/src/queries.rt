@@ -5,15 +5,16 @@ ghost use Rattle.std.specs.Map.{remove_entry, set_value};
 ghost use Rattle.std.specs.Option.{is_some, IsSome, option_map};
 ghost use Rattle.std.specs.Ordering.{nat_cmp};
 ghost use Rattle.std.specs.List.{list_any, cons_option};
-ghost use Rattle.zq_query.specs.Tables.{dues_left, flies_for, place_cmp, due_cmp, at_number, at_place, less_owed, less_flying, more_flying, more_owed, first_record, is_spent, final_at};
+ghost use Rattle.zq_query.specs.Tables.{dues_left, flies_for, place_cmp, due_cmp, at_number, at_place, less_owed, less_flying, more_flying, is_spent, final_at};
 ghost use Rattle.zq_query.specs.declared.records.Final.{Final};
 ghost use Rattle.zq_query.specs.Closing.{finals_after, finals_landed};
-ghost use Rattle.zq_query.specs.Records.{is_pending, is_entry, is_closed, final_if_open, request, owner, next_reply, lacks_reply, after_put, after_reply, first_free, next_id, pending_count, has_number, owes_face, adding, letting_go, letting_go_all, has_deadline, has_earlier, owes_any, over_after, ending_after, ending_landed, is_in_flight, flies, landing, over_after_reply};
+ghost use Rattle.zq_query.specs.Records.{is_pending, is_entry, is_closed, final_if_open, request, owner, next_reply, lacks_reply, after_put, after_reply, first_free, next_id, pending_count, has_number, letting_go, letting_go_all, has_deadline, has_earlier, owes_any, over_after, ending_after, ending_landed, is_in_flight, flies, landing, over_after_reply};
 
 mod ask;
 mod close;
 mod poll;
 
+use crate::numbers::Numbers;
 use crate::records::{Final, NotInFlight, PlaceList, QueryNotFound, ReplyRefusal, ReplyTo};
 use std::alloc::Global;
 use std::collections::{BTreeMap, BTreeSet};
@@ -22,7 +23,7 @@ use zq_key::memory::OutOfMemory;
 use zq_key::message::FaceId;
 
 /// An open request, with the counts of what is left of it.
-#[derive(Clone, Copy, Debug, PartialEq, Eq)]
+#[derive(Clone, Copy)]
 pub struct Open {
     pub asker: FaceId,
     pub id: u32,
@@ -32,7 +33,7 @@ pub struct Open {
 }
 
 /// What a target owes.
-#[derive(Clone, Copy, Debug, PartialEq, Eq)]
+#[derive(Clone, Copy)]
 pub struct Owed {
     pub number: u64,
     pub deadline: u64,
@@ -41,11 +42,11 @@ pub struct Owed {
 #[derive(Drop)]
 pub struct Queries {
     alloc: Global,
-    heads: BTreeMap<u64, Open>,
+    heads: Numbers<Open>,
     pending: BTreeMap<(u32, u32), Owed>,
     dues: BTreeMap<(u64, u64), PlaceList>,
     replies: BTreeMap<u64, u64>,
-    last_ids: BTreeMap<u32, u32>,
+    last_ids: Numbers<u32>,
     closed: BTreeSet<u32>,
     requests: u64,
     next_reply: u64,
@@ -64,18 +65,17 @@ impl Model for Queries {
 }
 
 /// The count of the request goes down by one.
-fn owe_less(heads: &mut BTreeMap<u64, Open>, number: u64) -> Open
+fn owe_less(heads: &mut Numbers<Open>, number: u64) -> Open
     requires { (o : _) × (at_number number heads.old.entries ≡ Some o) × (0 < o.pending) }
     ensures left { option_map less_owed (at_number number heads.old.entries) ≡ Some result }
     ensures heads { heads.new.entries ≡ set_value (is_at (nat_cmp number)) heads.old.entries result }
 {
-    match heads.get_mut(&number) {
-        Some(found) => {
-            found.pending -= 1;
-            *found
-        }
-        None => unreachable!(),
-    }
+    let Some(mut left) = heads.get(number) else {
+        unreachable!()
+    };
+    left.pending -= 1;
+    heads.set(number, left);
+    left
 }
 
 /// The deadline of a request goes with its last entry.
@@ -88,29 +88,29 @@ fn due_less(dues: &mut BTreeMap<(u64, u64), PlaceList>, owed: Owed, left: Open)
 }
 
 /// The count of the request's replies in flight goes down by one.
-fn fly_less(heads: &mut BTreeMap<u64, Open>, number: u64) -> Open
+fn fly_less(heads: &mut Numbers<Open>, number: u64) -> Open
     requires { (o : _) × (at_number number heads.old.entries ≡ Some o) × (0 < o.in_flight) }
     ensures left { option_map less_flying (at_number number heads.old.entries) ≡ Some result }
     ensures heads { heads.new.entries ≡ set_value (is_at (nat_cmp number)) heads.old.entries result }
 {
-    match heads.get_mut(&number) {
-        Some(found) => {
-            found.in_flight -= 1;
-            *found
-        }
-        None => unreachable!(),
-    }
+    let Some(mut left) = heads.get(number) else {
+        unreachable!()
+    };
+    left.in_flight -= 1;
+    heads.set(number, left);
+    left
 }
 
 /// The count of the request's replies in flight goes up by one.
-fn fly_more(heads: &mut BTreeMap<u64, Open>, number: u64)
+fn fly_more(heads: &mut Numbers<Open>, number: u64)
     requires { (o : _) × (at_number number heads.old.entries ≡ Some o) × (o.in_flight + 1 < 2 ^ 64) }
     ensures { (o : _) → at_number number heads.old.entries ≡ Some o → heads.new.entries ≡ set_value (is_at (nat_cmp number)) heads.old.entries (more_flying o) }
 {
-    match heads.get_mut(&number) {
-        Some(found) => found.in_flight += 1,
-        None => unreachable!(),
-    }
+    let Some(mut more) = heads.get(number) else {
+        unreachable!()
+    };
+    more.in_flight += 1;
+    heads.set(number, more);
 }
 
 /// The first reply of the request.
@@ -126,12 +126,12 @@ fn first_of(replies: &BTreeMap<u64, u64>, number: u64) -> Option<u64>
 }
 
 /// The request is over where nothing of it is left.
-fn settle(heads: &mut BTreeMap<u64, Open>, number: u64, left: Open) -> Option<Final>
+fn settle(heads: &mut Numbers<Open>, number: u64, left: Open) -> Option<Final>
     ensures over { result ≡ (if is_spent left then Some (final_at number left) else None) }
     ensures heads { heads.new.entries ≡ (if is_spent left then remove_entry (is_at (nat_cmp number)) heads.old.entries else heads.old.entries) }
 {
     if left.pending == 0 && left.in_flight == 0 {
-        let _ = heads.remove(&number);
+        let _ = heads.remove(number);
         return Some(Final {
             number,
             asker: left.asker,
@@ -150,11 +150,11 @@ impl Queries {
     {
         Queries {
             alloc,
-            heads: BTreeMap::new(alloc),
+            heads: Numbers::new(alloc),
             pending: BTreeMap::new(alloc),
             dues: BTreeMap::new(alloc),
             replies: BTreeMap::new(alloc),
-            last_ids: BTreeMap::new(alloc),
+            last_ids: Numbers::new(alloc),
             closed: BTreeSet::new(alloc),
             requests,
             next_reply: replies,
@@ -279,7 +279,7 @@ impl Queries {
         let Some(owed) = self.pending.get(&(face, id)) else {
             return None;
         };
-        let Some(open) = self.heads.get(&owed.number) else {
+        let Some(open) = self.heads.get(owed.number) else {
             return None;
         };
         Some(Final {
@@ -333,7 +333,7 @@ impl Queries {
     fn request(&self, number: u64) -> Option<Final>
         ensures { result ≡ request number self.now.records }
     {
-        match self.heads.get(&number) {
+        match self.heads.get(number) {
             Some(open) => Some(Final {
                 number,
                 asker: open.asker,
@@ -345,7 +345,7 @@ impl Queries {
     }
 
     /// A reply of the request is put in flight.
-    fn put(&mut self, number: u64) -> Result<(), OutOfMemory>
+    fn fly(&mut self, number: u64) -> Result<(), OutOfMemory>
         requires there { list_any (has_number number) self.old.records ≡ true }
         requires fits { self.old.replies + 1 < 2 ^ 64 }
         ensures ok { OnOk result (self.new ≡ after_put number self.old) }
@@ -362,16 +362,34 @@ impl Queries {
     }
 
     /// The reply that `would_reply` answered: in flight under its number, if it has one. Where memory
-    /// is lacking all is as it was. Upstream: `route_send_response`.
-    pub fn reply(&mut self, to: &ReplyTo) -> Result<(), OutOfMemory>
+    /// is lacking all is as it was.
+    pub fn put(&mut self, to: &ReplyTo) -> Result<(), OutOfMemory>
         requires there { list_any (has_number to.now.number) self.old.records ≡ true }
         requires fits { IsSome to.now.reply → self.old.replies + 1 < 2 ^ 64 }
         ensures after { OnOk result (self.new ≡ after_reply to.now self.old) }
         ensures err { OnErr result (self.new ≡ self.old) }
     {
         match to.reply {
-            Some(_) => self.put(to.number),
+            Some(_) => self.fly(to.number),
             None => Ok(()),
+        }
+    }
+
+    /// A reply to the entry: under the next reply number, and in flight, if the asker is open; without
+    /// a number if it was closed. `QueryNotFound` where the id is not pending there, `NoFreeId` where
+    /// the number 2^64 - 1 is next. A refusal leaves all as it was. Upstream: `route_send_response`.
+    pub fn reply(&mut self, face: FaceId, id: u32) -> Result<ReplyTo, ReplyRefusal>
+        ensures to { IfOk result (λ t. next_reply face.0 id self.old ≡ Some t) }
+        ensures after { IfOk result (λ t. self.new ≡ after_reply t self.old) }
+        ensures free { OnOk result (lacks_reply face.0 id self.old ≡ false) }
+        ensures not_found { IsErrOf result ReplyRefusal.QueryNotFound → next_reply face.0 id self.old ≡ None }
+        ensures no_free { IsErrOf result ReplyRefusal.NoFreeId → lacks_reply face.0 id self.old ≡ true }
+        ensures err { OnErr result (self.new ≡ self.old) }
+    {
+        let to = self.would_reply(face, id)?;
+        match self.put(&to) {
+            Ok(()) => Ok(to),
+            Err(_) => Err(ReplyRefusal::OutOfMemory),
         }
     }
 
@@ -379,7 +397,7 @@ impl Queries {
     fn last_at(&self, face: FaceId) -> Option<u32>
         ensures { result ≡ at_number face.0 self.now.last_ids }
     {
-        self.last_ids.get(&face.0).copied()
+        self.last_ids.get(face.0 as u64)
     }
 
     /// The first id after this one, round, that is not pending at the face; none where all 2^32 are.
@@ -396,20 +414,13 @@ impl Queries {
         None
     }
 
-    /// The id that the face is given next, where this was the last one given there.
-    fn next_after(&self, face: FaceId, last: Option<u32>) -> Option<u32>
-        requires { last ≡ at_number face.0 self.now.last_ids }
-        ensures { result ≡ next_id self.now face.0 }
-    {
-        self.free_after(face, last.unwrap_or(self.request_ids))
-    }
-
     /// The id that the face is given next: the first one after the last given, round, that is not
     /// pending there; none where all 2^32 are.
-    pub fn next_id(&self, face: FaceId) -> Option<u32>
+    fn next_id(&self, face: FaceId) -> Option<u32>
         ensures { result ≡ next_id self.now face.0 }
     {
-        self.next_after(face, self.last_at(face))
+        let last = self.last_at(face).unwrap_or(self.request_ids);
+        self.free_after(face, last)
     }
 
     /// The number of the next request.
@@ -424,17 +435,16 @@ impl Queries {
         ensures after { OnOk result (self.new ≡ record self.old { last_ids = insert_entry nat_cmp self.old.last_ids face.0 last }) }
         ensures err { OnErr result (self.new ≡ self.old) }
     {
-        match self.last_ids.insert(face.0, last) {
-            Ok(_) => Ok(()),
-            Err(_) => Err(OutOfMemory),
-        }
+        self.last_ids.reserve(1)?;
+        self.last_ids.put(face.0 as u64, last);
+        Ok(())
     }
 
     /// How many entries of the request are pending: 0 where it is not open.
     pub fn pending_of(&self, number: u64) -> u64
         ensures { result ≡ pending_count number self.now.records }
     {
-        match self.heads.get(&number) {
+        match self.heads.get(number) {
             Some(open) => open.pending,
             None => 0,
         }

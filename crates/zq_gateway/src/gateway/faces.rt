@@ -113,7 +113,7 @@ impl Gateway {
         };
         let finals = self.queries.would_close(face)?;
         let handed = written_finals(self.alloc, finals.as_slice())?;
-        self.queries.close(face)?;
+        self.queries.close_planned(face)?;
         hats::leave(&mut self.hats, region, face);
         let _ = self.faces.remove(&face.0);
         self.names.close(face);

@@ -101,7 +101,7 @@ impl Gateway {
         ensures err { OnErr result (self.new ≡ self.old) }
     {
         let handed = written_replies(self.alloc, &self.names, full_text(said), response, to)?;
-        self.queries.reply(to)?;
+        self.queries.put(to)?;
         Ok(Step {
             outcome: Outcome::Replied(to.reply),
             handed,
@@ -121,7 +121,7 @@ impl Gateway {
             Err(PollRefusal::OutOfMemory) => return Err(OutOfMemory),
         };
         let handed = written_timeouts(self.alloc, &self.names, &self.faces, timeouts.as_slice())?;
-        self.queries.poll(now, timeouts.as_slice())?;
+        self.queries.poll_planned(now, timeouts.as_slice())?;
         Ok(Step {
             outcome: Outcome::Done,
             handed,

@@ -69,8 +69,8 @@ impl Gateway {
         };
         let offers = self.select(face, opened, said, request)?;
         let targets = targets_of(self.alloc, offers.as_slice())?;
-        let plan = match self.queries.plan(targets.as_slice()) {
-            Ok(plan) => plan,
+        let places = match self.queries.plan(targets.as_slice()) {
+            Ok(places) => places,
             Err(AskRefusal::NoFreeId) => return Ok(self.refused(Refusal::NoFreeId)),
             Err(AskRefusal::OutOfMemory) => return Err(OutOfMemory),
         };
@@ -82,12 +82,12 @@ impl Gateway {
             full_text(said),
             request,
             offers.as_slice(),
-            plan.places.as_slice(),
+            places.as_slice(),
         )?;
         let number = self.queries.next_number();
         let deadline = now.saturating_add(request.timeout.unwrap_or(self.config.timeout()));
         self.queries
-            .ask(face, request.id, request.qos, &plan, deadline)?;
+            .ask_planned(face, request.id, request.qos, places.as_slice(), deadline)?;
         Ok(Step {
             outcome: Outcome::Asked(number),
             handed,

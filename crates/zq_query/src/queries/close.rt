@@ -8,6 +8,7 @@ ghost use Rattle.zq_query.specs.Records.{letting_go, letting_go_all};
 ghost use Rattle.zq_query.specs.FaceEntries.{entries_of_face, ending, has_key};
 ghost use Rattle.zq_query.specs.Closing.{at_face, closed_with, closing_finals, after_close};
 
+use crate::numbers::Numbers;
 use crate::queries::{Open, Owed, Queries};
 use crate::records::{Final, FinalList};
 use std::alloc::Global;
@@ -74,14 +75,14 @@ fn in_order(alloc: Global, numbers: &[u64]) -> Result<Vec<u64>, OutOfMemory>
 
 /// The final of a request whose one entry is let go while the face closes.
 fn final_if_last(
-    heads: &BTreeMap<u64, Open>,
+    heads: &Numbers<Open>,
     closed: &BTreeSet<u32>,
     number: u64,
     face: u32,
 ) -> Option<Final>
     ensures { result ≡ ending heads.now.entries (closed_with face closed.now.keys) number }
 {
-    let open = heads.get(&number)?;
+    let open = heads.get(number)?;
     if open.pending != 1 {
         return None;
     }
@@ -115,7 +116,7 @@ fn push_some(finals: &mut FinalList, last: Option<Final>) -> Result<(), OutOfMem
 /// The finals of these requests, while the face closes.
 fn finals_in(
     alloc: Global,
-    heads: &BTreeMap<u64, Open>,
+    heads: &Numbers<Open>,
     closed: &BTreeSet<u32>,
     numbers: &[u64],
     face: u32,
@@ -170,8 +171,9 @@ impl Queries {
     }
 
     /// Closes a face: its entries are let go, and from here on the requests that it asked get no
-    /// reply number and no final. Where memory is lacking all is as it was. Upstream: `close_face`.
-    pub fn close(&mut self, face: FaceId) -> Result<(), OutOfMemory>
+    /// reply number and no final; those that end with it are what `would_close` answered. Where memory
+    /// is lacking all is as it was.
+    pub fn close_planned(&mut self, face: FaceId) -> Result<(), OutOfMemory>
         ensures after { OnOk result (self.new ≡ after_close face.0 self.old) }
         ensures err { OnErr result (self.new ≡ self.old) }
     {
@@ -179,5 +181,18 @@ impl Queries {
         self.mark_closed(face)?;
         self.drop_all(places.as_slice());
         Ok(())
+    }
+
+    /// Closes a face: its entries are let go, and from here on the requests that it asked get no
+    /// reply number and no final. The finals stand by number. Where memory is lacking all is as it
+    /// was. Upstream: `close_face`.
+    pub fn close(&mut self, face: FaceId) -> Result<FinalList, OutOfMemory>
+        ensures finals { IfOk result (λ finals. finals ≡ closing_finals face.0 self.old) }
+        ensures after { OnOk result (self.new ≡ after_close face.0 self.old) }
+        ensures err { OnErr result (self.new ≡ self.old) }
+    {
+        let finals = self.would_close(face)?;
+        self.close_planned(face)?;
+        Ok(finals)
     }
 }

@@ -266,7 +266,7 @@ impl Queries {
         ensures err { OnErr result (self.new ≡ self.old) }
     {
         match timeout.reply {
-            Some(_) => self.put(timeout.number),
+            Some(_) => self.fly(timeout.number),
             None => Ok(()),
         }
     }
@@ -293,8 +293,8 @@ impl Queries {
 
     /// Lets go each entry whose deadline is at most now; the error reply of each timeout, as
     /// `would_poll` answered them, is in flight from here on, if it has a number. Where memory is
-    /// lacking all is as it was. Upstream: the timeout of a query.
-    pub fn poll(&mut self, now: u64, list: &[Timeout]) -> Result<(), OutOfMemory>
+    /// lacking all is as it was.
+    pub fn poll_planned(&mut self, now: u64, list: &[Timeout]) -> Result<(), OutOfMemory>
         requires list { list.now ≡ timeouts now self.old }
         requires fits { lacks_replies (timeouts now self.old) self.old ≡ false }
         ensures after { OnOk result (self.new ≡ after_poll now self.old) }
@@ -306,5 +306,23 @@ impl Queries {
         self.put_timeouts(list)?;
         self.drop_all(places.as_slice());
         Ok(())
+    }
+
+    /// Lets go each entry whose deadline is at most now, in order of deadline, number and face; an
+    /// error reply of each with an open asker is in flight from here on. `NoFreeId` where fewer
+    /// reply numbers are left. A refusal leaves all as it was. Upstream: the timeout of a query.
+    pub fn poll(&mut self, now: u64) -> Result<TimeoutList, PollRefusal>
+        ensures list { IfOk result (λ list. list ≡ timeouts now self.old) }
+        ensures fits { OnOk result (lacks_replies (timeouts now self.old) self.old ≡ false) }
+        ensures after { OnOk result (self.new ≡ after_poll now self.old) }
+        ensures quiet { OnOk result (finals_after (is_due now) (timing_out (timeouts now self.old) self.old).closed (timing_out (timeouts now self.old) self.old).records ≡ []) }
+        ensures no_free { IsErrOf result PollRefusal.NoFreeId → lacks_replies (timeouts now self.old) self.old ≡ true }
+        ensures err { OnErr result (self.new ≡ self.old) }
+    {
+        let list = self.would_poll(now)?;
+        match self.poll_planned(now, list.as_slice()) {
+            Ok(()) => Ok(list),
+            Err(_) => Err(PollRefusal::OutOfMemory),
+        }
     }
 }

@@ -6,7 +6,7 @@ use Rattle.zq_query.proofs.Giving.{map_more}
 use Rattle.zq_query.proofs.Entries.{map_both}
 use Rattle.zq_machine.specs.Handing.{Handed}
 use Rattle.zq_machine.specs.Selecting.{target_of}
-use Rattle.zq_machine.specs.Machine.{written}
+use Rattle.zq_machine.specs.Writing.{written}
 use Rattle.zq_machine.specs.Deciding.{handed_request}
 use Rattle.zq_gateway.proofs.handed.requests_to.Goals as goal
 

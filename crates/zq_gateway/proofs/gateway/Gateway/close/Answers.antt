@@ -5,5 +5,5 @@ pub invariant_of-self-2 : goal.invariant_of-self-2
 invariant_of-self-2 c =
     let i = c.self.inside in (
       rw c.remove.ensures.entries (below_remove i.next_face c.args.face.0 i.faces.entries c.self.invariant.0),
-      rw c.close-2.ensures (below_remove i.next_face c.args.face.0 i.names c.self.invariant.1),
+      rw c.close.ensures (below_remove i.next_face c.args.face.0 i.names c.self.invariant.1),
     )

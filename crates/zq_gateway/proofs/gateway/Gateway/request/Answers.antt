@@ -36,7 +36,7 @@ returns-in-Ok-clause-after c =
     let targets : c.as_slice-4.result.now ≡ map target_of os = c.as_slice-4.ensures.value ∙ c.in_ok-targets.ensures ∙ ap (map target_of) (c.as_slice.ensures.value ∙ c.in_ok-offers.ensures.offers) in
     let fits : lacks_number (map target_of os) s.core.queries ≡ false = (λ j. lacks_number (sym targets j) (sym queries j)) ∙ c.in-Ok.ensures.free in
     let until : c.saturating_add-deadline.result ≡ deadline s.core r.timeout c.args.now = rw (← v, c.saturating_add-deadline.ensures, c.unwrap_or.ensures, c.timeout.ensures) refl in
-    let asked : c.ask.new.self ≡ after_ask c.args.face r.id r.qos (map target_of os) (deadline s.core r.timeout c.args.now) s.core.queries =
+    let asked : c.ask_planned.new.self ≡ after_ask c.args.face r.id r.qos (map target_of os) (deadline s.core r.timeout c.args.now) s.core.queries =
     c.in-Ok.ensures.after ∙ (λ j. after_ask c.args.face r.id r.qos (targets j) (until j) (queries j)) in
     (λ j. record { core = with_queries (v j).core (asked j); names = (v j).names })
     ∙ sym (asked_after s c.args.face c.args.said.now c.args.request.now c.args.now c.in-Some.opened (sym c.in-Some.ensures) fits)

@@ -1,5 +1,5 @@
 use Rattle.std.proofs.Common.{◌≡◌, ◌∙◌, sym, ap, None, length}
-use Rattle.std.specs.Option.{option_copied, option_map_or}
+use Rattle.std.specs.Option.{option_map_or}
 use Rattle.zq_query.specs.Tables.{at_number}
 use Rattle.zq_query.specs.Records.{QueryState, Record, pending_count}
 use Rattle.zq_query.proofs.Ids.{count_is, no_count}
@@ -8,12 +8,12 @@ use Rattle.zq_query.proofs.queries.Queries.pending_of.Goals as goal
 pub returns-in-Some : goal.returns-in-Some
 returns-in-Some c =
     let i = c.self.inside in
-    count_is i.heads.entries i.pending.entries i.dues.entries i.replies.entries c.args.number c.in-Some.open.now c.self.invariant.0 (sym c.in-Some.ensures.value)
+    count_is i.heads.entries i.pending.entries i.dues.entries i.replies.entries c.args.number c.in-Some.open c.self.invariant.0 (sym c.in-Some.ensures)
     ∙ ap (λ (s : QueryState). pending_count c.args.number s.records) c.self.view_is
 
 pub returns-in-None : goal.returns-in-None
 returns-in-None c =
     let i = c.self.inside in
-    let is : at_number c.args.number i.heads.entries ≡ None = sym c.get.ensures.value ∙ ap option_copied c.in-None.is in
+    let is : at_number c.args.number i.heads.entries ≡ None = sym c.get.ensures ∙ c.in-None.is in
     sym (ap (λ q. option_map_or (λ (r : Record). length r.pending) q 0) (no_count i.heads.entries i.pending.entries i.replies.entries c.args.number is))
     ∙ ap (λ (s : QueryState). pending_count c.args.number s.records) c.self.view_is

@@ -1,6 +1,9 @@
-use Rattle.std.proofs.Common.{◌≡◌, take}
+use Rattle.std.proofs.Common.{◌≡◌, ◌≤◌, ◌+◌, length, take}
 use Rattle.zq_query.specs.Asking.{giving}
 use Rattle.zq_query.proofs.queries.ask.give_all.Given as goal
 
-abbrev pub invariant-loop-i : goal.invariant-loop-i
-invariant-loop-i l = l.last_ids.entries ≡ giving l.fn.last_ids.entries (take l.i l.places)
+abbrev pub invariant-loop-place : goal.invariant-loop-place
+invariant-loop-place l = record {
+  given : l.last_ids.entries ≡ giving l.initial.last_ids.entries (take l.place-index l.places);
+  room : length l.places ≤ l.last_ids.spare + l.place-index;
+}

@@ -16,27 +16,27 @@ use Rattle.zq_key.proofs.Sorted.{has_put}
 
 pub returns-then-open-face : goal.returns-then-open-face
 returns-then-open-face c =
-    let o = c.in_ok-open.open.now in
+    let o = c.in_ok-open.open in
     let q = o.asker.0 in
     let closed : is_closed (closed_with c.args.face c.args.closed.now.keys) q ≡ true =
     has_put nat_cmp_total exact_unsigned q c.args.face c.args.closed.now.keys ∙ ap (λ b. b || is_closed c.args.closed.now.keys q) (ap (is_at (nat_cmp q)) (sym c.if-open-face.true) ∙ at_itself nat_cmp_total exact_unsigned q) in
-    sym (ap (option_and_then (ending_by (closed_with c.args.face c.args.closed.now.keys) c.args.number)) (sym c.in_ok-open.ensures.value)
+    sym (ap (option_and_then (ending_by (closed_with c.args.face c.args.closed.now.keys) c.args.number)) (sym c.in_ok-open.ensures)
     ∙ (λ j. cond ((eq-eqb o.pending 1 c.if-open-ne1.false j && eq-eqb o.in_flight 0 c.if-open-ne0.false j) && not (closed j)) (Some (final_at c.args.number o)) None))
 
 pub returns-then-contains : goal.returns-then-contains
 returns-then-contains c =
-    let o = c.in_ok-open.open.now in
+    let o = c.in_ok-open.open in
     let q = o.asker.0 in
     let closed : is_closed (closed_with c.args.face c.args.closed.now.keys) q ≡ true =
     has_put nat_cmp_total exact_unsigned q c.args.face c.args.closed.now.keys ∙ ap (λ b. is_at (nat_cmp q) c.args.face || b) (sym c.if-contains.ensures) ∙ or-true (is_at (nat_cmp q) c.args.face) in
-    sym (ap (option_and_then (ending_by (closed_with c.args.face c.args.closed.now.keys) c.args.number)) (sym c.in_ok-open.ensures.value)
+    sym (ap (option_and_then (ending_by (closed_with c.args.face c.args.closed.now.keys) c.args.number)) (sym c.in_ok-open.ensures)
     ∙ (λ j. cond ((eq-eqb o.pending 1 c.if-open-ne1.false j && eq-eqb o.in_flight 0 c.if-open-ne0.false j) && not (closed j)) (Some (final_at c.args.number o)) None))
 
 pub returns : goal.returns
 returns c =
-    let o = c.in_ok-open.open.now in
+    let o = c.in_ok-open.open in
     let q = o.asker.0 in
     let closed : is_closed (closed_with c.args.face c.args.closed.now.keys) q ≡ false =
     has_put nat_cmp_total exact_unsigned q c.args.face c.args.closed.now.keys ∙ (λ j. apart nat_cmp_total exact_unsigned q c.args.face c.if-open-face.false j || sym c.if-contains.ensures j) in
-    sym (ap (option_and_then (ending_by (closed_with c.args.face c.args.closed.now.keys) c.args.number)) (sym c.in_ok-open.ensures.value)
+    sym (ap (option_and_then (ending_by (closed_with c.args.face c.args.closed.now.keys) c.args.number)) (sym c.in_ok-open.ensures)
     ∙ (λ j. cond ((eq-eqb o.pending 1 c.if-open-ne1.false j && eq-eqb o.in_flight 0 c.if-open-ne0.false j) && not (closed j)) (Some (final_at c.args.number o)) None))

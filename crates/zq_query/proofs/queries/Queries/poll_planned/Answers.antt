@@ -8,7 +8,7 @@ use Rattle.zq_query.proofs.Flying.{timing_none_over, entries_stay}
 use Rattle.zq_query.proofs.TimingOut.{have_records, due_let_go}
 use Rattle.zq_query.proofs.Ids.{each_alone}
 use Rattle.zq_query.proofs.Quiet.{poll_quiet}
-use Rattle.zq_query.proofs.queries.Queries.poll.Goals as goal
+use Rattle.zq_query.proofs.queries.Queries.poll_planned.Goals as goal
 
 pub put_timeouts-requires-clause-there : goal.put_timeouts-requires-clause-there
 put_timeouts-requires-clause-there c =

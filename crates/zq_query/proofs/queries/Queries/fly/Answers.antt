@@ -4,7 +4,7 @@ use Rattle.zq_query.specs.Records.{QueryState, Record, has_number, after_put}
 use Rattle.std.specs.List.{list_any}
 use Rattle.zq_query.proofs.Owing.{head_of}
 use Rattle.zq_query.proofs.Putting.{next_is_new, records_put, tied_put, below_put, fits_by}
-use Rattle.zq_query.proofs.queries.Queries.put.Goals as goal
+use Rattle.zq_query.proofs.queries.Queries.fly.Goals as goal
 
 pub fly_more-requires : goal.fly_more-requires
 fly_more-requires c =
