@@ -78,7 +78,6 @@ impl Model for Gateway {
 impl Gateway {
     /// A gateway of this configuration, before any call. Whatever calls are made on it, one after
     /// another, each keeps the promises of a run.
-    #[tactic(auto, using(zq_machine::proofs::Kept::headline))]
     pub fn new(alloc: Global, config: &Config) -> Result<Gateway, OutOfMemory>
         ensures opening { IfOk result (λ g. g ≡ opening_state config.now) }
         ensures headline { IfOk result (λ _. (calls : List Call) → RunPromise config.now calls) }

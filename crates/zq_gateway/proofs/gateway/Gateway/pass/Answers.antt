@@ -6,12 +6,12 @@ use Rattle.zq_machine.specs.Writing.{write}
 use Rattle.zq_machine.proofs.Writing.{polled}
 use Rattle.zq_gateway.proofs.gateway.Gateway.pass.Goals as goal
 
-pub returns-in-Ok-poll-clause-step : goal.returns-in-Ok-poll-clause-step
-returns-in-Ok-poll-clause-step c =
+pub returns-clause-step : goal.returns-clause-step
+returns-clause-step c =
     let s : State = c.args.self.now in
     let i = c.self.inside in
-    let fits : lacks_replies (timeouts c.args.now s.core.queries) s.core.queries ≡ false = rw (← c.self.view_is) c.in-Ok-poll.ensures.fits in
-    let quiet : passing_finals c.args.now s.core.queries ≡ [] = rw (← c.self.view_is) c.in-Ok-poll.ensures.quiet in
+    let fits : lacks_replies (timeouts c.args.now s.core.queries) s.core.queries ≡ false = rw (← c.self.view_is) c.in-Ok.ensures.fits in
+    let quiet : passing_finals c.args.now s.core.queries ≡ [] = rw (← c.self.view_is) c.in_ok-poll_planned.ensures.quiet in
     let told : c.in_ok-handed.handed ≡ write s.names (handed_timeouts s.core.faces (timeouts c.args.now s.core.queries)) =
     rw (← c.self.view_is) (c.in_ok-handed.ensures ∙ ap (λ ts. write i.names (handed_timeouts i.faces.entries ts)) (c.as_slice.ensures ∙ c.in-Ok.ensures.list)) in
     polled s c.args.now c.in_ok-handed.handed fits quiet told

@@ -1,6 +1,6 @@
 use Rattle.std.proofs.Common.{◌≡◌, ◌∙◌, refl, sym, ap, map, List, Some, false}
 use Rattle.zq_hat.specs.declared.types.QueryTargetQabl.{QueryTargetQabl}
-use Rattle.zq_query.specs.Asking.{after_ask, lacks_number}
+use Rattle.zq_query.specs.Asking.{after_ask, asking_at, given_place, lacks_number}
 use Rattle.zq_query.specs.Records.{QueryState}
 use Rattle.zq_machine.specs.declared.call.Outcome.TheVariants as outcome
 use Rattle.zq_machine.specs.Deciding.{deadline, handed_requests, with_queries}
@@ -10,14 +10,14 @@ use Rattle.zq_machine.specs.Writing.{write}
 use Rattle.zq_machine.proofs.Writing.{asked_step, asked_after}
 use Rattle.zq_gateway.proofs.gateway.Gateway.request.Goals as goal
 
-pub returns-in-Ok-clause-step : goal.returns-in-Ok-clause-step
-returns-in-Ok-clause-step c =
+pub returns-clause-step : goal.returns-clause-step
+returns-clause-step c =
     let s : State = c.args.self.now in
     let i = c.self.inside in
     let v = c.self.view_is in
     let os : List QueryTargetQabl = select_for s.core c.args.face c.args.said.now c.args.request.now (Some c.in-Some.opened) in
     let queries : i.queries ≡ s.core.queries = ap (λ (x : State). x.core.queries) v in
-    let targets : c.as_slice-4.result.now ≡ map target_of os = c.as_slice-4.ensures.value ∙ c.in_ok-targets.ensures ∙ ap (map target_of) (c.as_slice.ensures.value ∙ c.in_ok-offers.ensures.offers) in
+    let targets : c.as_slice-2.result.now ≡ map target_of os = c.as_slice-2.ensures.value ∙ c.in_ok-targets.ensures ∙ ap (map target_of) (c.as_slice.ensures.value ∙ c.in_ok-offers.ensures.offers) in
     let fits : lacks_number (map target_of os) s.core.queries ≡ false = (λ j. lacks_number (sym targets j) (sym queries j)) ∙ c.in-Ok.ensures.free in
     let told : c.in_ok-handed.handed ≡ write s.names (handed_requests s.core.queries c.args.face (full_text c.args.said.now) c.args.request.now os) =
     c.in_ok-handed.ensures
@@ -25,18 +25,19 @@ returns-in-Ok-clause-step c =
     ap (λ n. record { outcome = outcome.Asked n; handed = c.in_ok-handed.handed }) (c.next_number-number.ensures ∙ ap (λ (q : QueryState). q.requests) queries)
     ∙ asked_step s c.args.face c.args.said.now c.args.request.now c.args.now c.in-Some.opened (sym c.in-Some.ensures) fits c.in_ok-handed.handed told
 
-pub returns-in-Ok-clause-after : goal.returns-in-Ok-clause-after
-returns-in-Ok-clause-after c =
+pub returns-clause-after : goal.returns-clause-after
+returns-clause-after c =
     let s : State = c.args.self.now in
     let i = c.self.inside in
     let v = c.self.view_is in
     let r = c.args.request.now in
     let os : List QueryTargetQabl = select_for s.core c.args.face c.args.said.now c.args.request.now (Some c.in-Some.opened) in
     let queries : i.queries ≡ s.core.queries = ap (λ (x : State). x.core.queries) v in
-    let targets : c.as_slice-4.result.now ≡ map target_of os = c.as_slice-4.ensures.value ∙ c.in_ok-targets.ensures ∙ ap (map target_of) (c.as_slice.ensures.value ∙ c.in_ok-offers.ensures.offers) in
+    let targets : c.as_slice-2.result.now ≡ map target_of os = c.as_slice-2.ensures.value ∙ c.in_ok-targets.ensures ∙ ap (map target_of) (c.as_slice.ensures.value ∙ c.in_ok-offers.ensures.offers) in
     let fits : lacks_number (map target_of os) s.core.queries ≡ false = (λ j. lacks_number (sym targets j) (sym queries j)) ∙ c.in-Ok.ensures.free in
     let until : c.saturating_add-deadline.result ≡ deadline s.core r.timeout c.args.now = rw (← v, c.saturating_add-deadline.ensures, c.unwrap_or.ensures, c.timeout.ensures) refl in
+    let places : c.as_slice-5.result.now ≡ map (given_place s.core.queries) (map target_of os) = c.as_slice-5.ensures ∙ c.in-Ok.ensures.places ∙ (λ j. map (given_place (queries j)) (targets j)) in
     let asked : c.ask_planned.new.self ≡ after_ask c.args.face r.id r.qos (map target_of os) (deadline s.core r.timeout c.args.now) s.core.queries =
-    c.in-Ok.ensures.after ∙ (λ j. after_ask c.args.face r.id r.qos (targets j) (until j) (queries j)) in
+    c.in_ok-ask_planned.ensures.ok ∙ (λ j. asking_at c.args.face r.id r.qos (places j) (until j) (queries j)) in
     (λ j. record { core = with_queries (v j).core (asked j); names = (v j).names })
     ∙ sym (asked_after s c.args.face c.args.said.now c.args.request.now c.args.now c.in-Some.opened (sym c.in-Some.ensures) fits)
