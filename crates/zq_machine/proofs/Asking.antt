@@ -37,26 +37,9 @@ use Rattle.zq_machine.specs.Writing.{write}
 use Rattle.zq_machine.specs.Selecting.{full_text, select, target_of}
 use Rattle.zq_machine.specs.State.{Core, State, opening_state}
 use Rattle.zq_machine.specs.TextCalls.{TextCall, opening, closing, naming, unnaming, declaring, withdrawing, asking, replying, ending, reporting, passing, listing, finalizing, unbuilt, read, said as said_by_face}
+use Rattle.zq_machine.proofs.Lists.{all_append, all_filter, all_weaker}
 use Rattle.zq_machine.proofs.Promises.{granted_is_accepted, is_asking}
 use Rattle.zq_machine.proofs.Writing.{by_plain, plainly}
-
--- ---- lists of which each element has a property
-module _ {X : Type 0} (P : X → Type 0) where
-  all_filter : (test : X → Bool) (xs : List X) → AllByRecursion P xs → AllByRecursion P (filter test xs)
-  all_filter test [] all = tt
-  all_filter test (x ∷ xs) all = by (test x) (all_filter test xs all.1)
-    where
-      by : (b : Bool) → AllByRecursion P (filter test xs) → AllByRecursion P (cond b (x ∷ filter test xs) (filter test xs))
-      by true rest = (all.0, rest)
-      by false rest = rest
-
-  all_append : (xs ys : List X) → AllByRecursion P xs → AllByRecursion P ys → AllByRecursion P (xs ++ ys)
-  all_append [] ys all more = more
-  all_append (x ∷ xs) ys all more = (all.0, all_append xs ys all.1 more)
-
-all_weaker : {X : Type 0} (P Q : X → Type 0) → ((x : X) → P x → Q x) → (xs : List X) → AllByRecursion P xs → AllByRecursion Q xs
-all_weaker P Q weaker [] all = tt
-all_weaker P Q weaker (x ∷ xs) all = (weaker x all.0, all_weaker P Q weaker xs all.1)
 
 -- ---- what holds of each record's number, asker, id and quality byte
 module _ (P : ℕ → FaceId → ℕ → ℕ → Type 0) where

@@ -132,7 +132,7 @@ is_there true h = refl
 is_there false h = absurd (true≢false h)
 
 -- a call that nothing refuses is one of an open face, where it is one of a face
-granted_sound : (c : Core) (t : TextCall) → refusal_of c t ≡ None → Sound c.faces c.next_face c.queries → Sound (accepted c t).faces (accepted c t).next_face (accepted c t).queries
+pub granted_sound : (c : Core) (t : TextCall) → refusal_of c t ≡ None → Sound c.faces c.next_face c.queries → Sound (accepted c t).faces (accepted c t).next_face (accepted c t).queries
 granted_sound c (opening o) h s = opened_sound c.faces c.next_face c.queries (opened o) s
 granted_sound c (closing face) h s = closed_sound c.faces c.next_face face.0 c.queries (is_there (is_open face.0 c) (all_passed (causes c (closing face)) h).0) s
 granted_sound c (naming face id sd x) h s = s

@@ -112,7 +112,7 @@ requests_handed : (s : State) (face : FaceId) (sd : Said) (r : Request) (os : Li
 requests_handed s face sd r [] e h = refl
 requests_handed s face sd r (o ∷ os) e h = hands_each s (full_text sd) r (selected_key s.core face sd r (at face.0 s.core.faces) o os e) (o ∷ os) h
 
-no_full : (s : State) (face : FaceId) (sd : Said) (r : Request) (now : ℕ) → refusal_of s.core (asking face sd r now) ≡ None → list_any (is_full s.core.queries) (targets s.core face sd r) ≡ false
+pub no_full : (s : State) (face : FaceId) (sd : Said) (r : Request) (now : ℕ) → refusal_of s.core (asking face sd r now) ≡ None → list_any (is_full s.core.queries) (targets s.core face sd r) ≡ false
 no_full s face sd r now h =
     let p = all_passed (causes s.core (asking face sd r now)) h in
     second (s.core.queries.requests + 1 == 2 ^ 64) (list_any (is_full s.core.queries) (targets s.core face sd r)) p.1.0

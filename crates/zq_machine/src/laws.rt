@@ -20,7 +20,6 @@ pub fn decides_alike()
 {}
 
 /// At every point of every run the open faces, the hats and what stands for keys agree.
-#[tactic(auto, using(crate::proofs::Agreed::agree_always))]
 pub fn agree_always()
     ensures { (config : Settings) (calls : List Call) → Agrees (state_after (opening_state config) calls) }
 {}
