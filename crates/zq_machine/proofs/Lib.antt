@@ -26,5 +26,8 @@ pub mod NewEntries
 pub mod Hats
 pub mod Targets
 pub mod Always
+pub mod Counting
+pub mod LastIds
+pub mod Handing
 pub mod Asking
 pub mod Closings

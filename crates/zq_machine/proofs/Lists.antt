@@ -12,6 +12,7 @@ use Rattle.std.proofs.lemmas.List.Elements.{filter-append}
 use Rattle.std.proofs.lemmas.List.Folds.{list_any-append}
 use Rattle.std.proofs.lemmas.Map.Lookups.{exact_unsigned}
 use Rattle.zq_key.proofs.Lookups.{less_apart}
+use Rattle.zq_key.proofs.Naturals.{map-map}
 use Rattle.zq_query.proofs.Counts.{filters_swap, length_cond}
 use Rattle.zq_query.proofs.Putting.{fits_by}
 
@@ -119,24 +120,32 @@ one_of_sorted n (m ∷ ms) s = by (m == n) refl (one_of_sorted n ms s.1)
         omega (arith, none)
     by false e ih = ih
 
--- of elements that are changed and of which some stay, each with its number, the numbers stay in order
-module _ {X : Type 0} (number : X → ℕ) (test : X → Bool) (change : X → X) (same : (x : X) → number (change x) ≡ number x) where
-  pub all_left : (P : ℕ → Type 0) (xs : List X) → AllByRecursion P (map number xs) → AllByRecursion P (map number (filter test (map change xs)))
-  all_left P [] all = tt
-  all_left P (x ∷ xs) all = by (test (change x)) (all_left P xs all.1)
+-- of elements of which some stay, each with its number, the numbers stay in order
+module _ {X : Type 0} (number : X → ℕ) (test : X → Bool) where
+  all_numbers : (P : ℕ → Type 0) (xs : List X) → AllByRecursion P (map number xs) → AllByRecursion P (map number (filter test xs))
+  all_numbers P [] all = tt
+  all_numbers P (x ∷ xs) all = by (test x) (all_numbers P xs all.1)
     where
-      by : (b : Bool) → AllByRecursion P (map number (filter test (map change xs))) → AllByRecursion P (map number (cond b (change x ∷ filter test (map change xs)) (filter test (map change xs))))
-      by true rest = (subst P (sym (same x)) all.0, rest)
+      by : (b : Bool) → AllByRecursion P (map number (filter test xs)) → AllByRecursion P (map number (cond b (x ∷ filter test xs) (filter test xs)))
+      by true rest = (all.0, rest)
       by false rest = rest
 
-  pub sorted_left : (xs : List X) → IsStrictlySortedBy nat_cmp (map number xs) → IsStrictlySortedBy nat_cmp (map number (filter test (map change xs)))
+  pub sorted_numbers : (xs : List X) → IsStrictlySortedBy nat_cmp (map number xs) → IsStrictlySortedBy nat_cmp (map number (filter test xs))
   unfolding IsStrictlySortedBy
-  sorted_left [] s = tt
-  sorted_left (x ∷ xs) s = by (test (change x)) (sorted_left xs s.1)
+  sorted_numbers [] s = tt
+  sorted_numbers (x ∷ xs) s = by (test x) (sorted_numbers xs s.1)
     where
-      by : (b : Bool) → IsStrictlySortedBy nat_cmp (map number (filter test (map change xs))) → IsStrictlySortedBy nat_cmp (map number (cond b (change x ∷ filter test (map change xs)) (filter test (map change xs))))
-      by true rest = (subst (λ n. AllByRecursion (λ m. nat_cmp n m ≡ Less) (map number (filter test (map change xs)))) (sym (same x)) (all_left (λ m. nat_cmp (number x) m ≡ Less) xs s.0), rest)
+      by : (b : Bool) → IsStrictlySortedBy nat_cmp (map number (filter test xs)) → IsStrictlySortedBy nat_cmp (map number (cond b (x ∷ filter test xs) (filter test xs)))
+      by true rest = (all_numbers (λ m. nat_cmp (number x) m ≡ Less) xs s.0, rest)
       by false rest = rest
+
+  -- also where they are changed otherwise
+  module _ (change : X → X) (same : (x : X) → number (change x) ≡ number x) where
+    pub all_left : (P : ℕ → Type 0) (xs : List X) → AllByRecursion P (map number xs) → AllByRecursion P (map number (filter test (map change xs)))
+    all_left P xs all = all_numbers P (map change xs) (subst (AllByRecursion P) (sym (map-map change number number same xs)) all)
+
+    pub sorted_left : (xs : List X) → IsStrictlySortedBy nat_cmp (map number xs) → IsStrictlySortedBy nat_cmp (map number (filter test (map change xs)))
+    sorted_left xs s = sorted_numbers (map change xs) (subst (IsStrictlySortedBy nat_cmp) (sym (map-map change number number same xs)) s)
 
 -- a number above all of them comes last
 pub sorted_more : (n : ℕ) (ms : List ℕ) → IsStrictlySortedBy nat_cmp ms → AllByRecursion (λ m. m < n) ms → IsStrictlySortedBy nat_cmp (ms ++ n ∷ [])

@@ -5,6 +5,7 @@ ghost use Rattle.zq_hat.specs.Moved.{Keeps};
 ghost use Rattle.zq_machine.specs.declared.call.Call.{Call};
 ghost use Rattle.zq_machine.specs.Agreeing.{Agrees};
 ghost use Rattle.zq_machine.specs.Configs.{Settings};
+ghost use Rattle.zq_machine.specs.Headline.{RunPromise};
 ghost use Rattle.zq_machine.specs.Machine.{state_after};
 ghost use Rattle.zq_machine.specs.Moved.{DecidesAlike};
 ghost use Rattle.zq_naming.specs.Naming.{NamingState};
@@ -22,6 +23,11 @@ pub fn decides_alike()
 /// At every point of every run the open faces, the hats and what stands for keys agree.
 pub fn agree_always()
     ensures { (config : Settings) (calls : List Call) → Agrees (state_after (opening_state config) calls) }
+{}
+
+/// Every run keeps its promises.
+pub fn run_promised()
+    ensures { (config : Settings) (calls : List Call) → RunPromise config calls }
 {}
 
 /// What open faces are told is what they hear: each key is read as the text that was told, by the
