@@ -44,7 +44,7 @@ abbrev IsTied : State → Type 0
 IsTied s = Tied s.core.faces s.core.hats s.names
 
 -- the next number is no open face's
-next_absent : (s : State) → IsSound s → at s.core.next_face s.core.faces ≡ None
+pub next_absent : (s : State) → IsSound s → at s.core.next_face s.core.faces ≡ None
 next_absent s i = by (at s.core.next_face s.core.faces) refl
   where
     by : (o : Option OpenFace) → at s.core.next_face s.core.faces ≡ o → o ≡ None
@@ -52,7 +52,7 @@ next_absent s i = by (at s.core.next_face s.core.faces) refl
     by (Some x) e = let l : s.core.next_face < s.core.next_face = i.open_below s.core.next_face (ap is_some e) in absurd (omega (arith, l))
 
 module _ (s : State) (i : IsSound s) (t : IsTied s) where
-  opened_face : (face : ℕ) → not (is_open face s.core) ≡ false → (o : OpenFace) × (at face s.core.faces ≡ Some o)
+  pub opened_face : (face : ℕ) → not (is_open face s.core) ≡ false → (o : OpenFace) × (at face s.core.faces ≡ Some o)
   opened_face face h = some_of (at face s.core.faces) (is_there (is_open face s.core) h)
 
   abbrev hats_of : (HatState → HatState) → Option OpenFace → List (ℕ × HatState)
@@ -122,7 +122,7 @@ granted_numbers s (listing r table) h i = i
 granted_numbers s (finalizing face m set) h i = i
 granted_numbers s unbuilt h i = i
 
-granted_in_order : (told : ℕ) (s : State) (x : TextCall) → refusal_of s.core x ≡ None → InOrder told s → InOrder told (accepted_state s x)
+pub granted_in_order : (told : ℕ) (s : State) (x : TextCall) → refusal_of s.core x ≡ None → InOrder told s → InOrder told (accepted_state s x)
 granted_in_order told s x h i = record {
   sound = granted_sound s.core x h i.sound;
   tied = granted_tied s i.sound i.tied x h;
@@ -168,7 +168,7 @@ opening_tied config = record {
     bare : AreBare (first_hats config)
     bare = all_bare config config.entries [] (λ r h e. absurd (let gap = (region_there r [] h e).1 in cc))
 
-opening_in_order : (config : Settings) → InOrder config.start.told (opening_state config)
+pub opening_in_order : (config : Settings) → InOrder config.start.told (opening_state config)
 opening_in_order config = record {
   sound = opening_sound config;
   tied = opening_tied config;

@@ -1,8 +1,7 @@
 -- Faces and replies are numbered one after another.
-use Rattle.std.proofs.Common.{◌≡◌, ◌∙◌, refl, sym, ap, subst, ℕ, ◌+◌, Bool, true, false, cond, List, [], ◌∷◌, ◌++◌, fold, map, length, Option, Some, None, append_assoc, append-nil, arith}
+use Rattle.std.proofs.Common.{◌≡◌, ◌∙◌, refl, sym, ap, subst, ℕ, ◌+◌, Bool, true, false, cond, List, [], ◌∷◌, ◌++◌, fold, map, Option, Some, None, append_assoc, append-nil, arith}
 use Rattle.std.specs.List.{cons_option, filter_map, flat_map}
 use Rattle.std.specs.Option.{is_some, option_map}
-use Rattle.std.proofs.lemmas.Bool.{false≢true}
 use Rattle.zq_key.specs.declared.message.FaceId.{FaceId}
 use Rattle.zq_key.specs.declared.message.Request.{Request}
 use Rattle.zq_key.specs.declared.message.Response.{Response}
@@ -11,7 +10,7 @@ use Rattle.zq_query.specs.declared.records.Final.{Final}
 use Rattle.zq_query.specs.declared.records.ReplyTo.{ReplyTo}
 use Rattle.zq_query.specs.declared.records.Timeout.{Timeout}
 use Rattle.zq_query.specs.Closing.{closing_finals, finals_after, finals_landed}
-use Rattle.zq_query.specs.Polling.{dues_at, numbers_in, timed_out, timeouts, timing_out, with_timeout}
+use Rattle.zq_query.specs.Polling.{dues_at, numbers_in, timed_out, timeouts, with_timeout}
 use Rattle.zq_query.specs.Records.{QueryState, after_put, is_closed, is_entry, next_reply, owner, reply_to, request}
 use Rattle.zq_query.specs.Tables.{Due}
 use Rattle.zq_query.proofs.Flying.{numbers_given}
@@ -24,14 +23,13 @@ use Rattle.zq_machine.specs.declared.face.OpenFace.{OpenFace}
 use Rattle.zq_machine.specs.Asked.{AreCounted, opened_by, opened_in, replies_in, replies_of, reply_number}
 use Rattle.zq_machine.specs.Configs.{Settings}
 use Rattle.zq_machine.specs.Deciding.{accepted, after_replied, granted, handed_reply, handed_request, handed_requests, handed_timeouts, passing_finals, replied, replied_outcome, timed_out as text_timeout}
-use Rattle.zq_machine.specs.Machine.{accepted_state, after, step, steps_from}
+use Rattle.zq_machine.specs.Machine.{after, step, steps_from}
 use Rattle.zq_machine.specs.Messages.{text_final}
 use Rattle.zq_machine.specs.Selecting.{full_text, select}
-use Rattle.zq_machine.specs.State.{Core, State, opening_state}
-use Rattle.zq_machine.specs.TextCalls.{TextCall, opening, closing, naming, unnaming, declaring, withdrawing, asking, replying, ending, reporting, passing, listing, finalizing, unbuilt, read}
+use Rattle.zq_machine.specs.State.{State, opening_state}
+use Rattle.zq_machine.specs.TextCalls.{TextCall, opening, closing, asking, replying, ending, reporting, passing, read}
 use Rattle.zq_machine.specs.Writing.{write}
 use Rattle.zq_machine.proofs.Always.{by_granted}
-use Rattle.zq_machine.proofs.Writing.{plainly}
 
 -- ---- what each call counts on from there, a run counts
 module _ (next : State → ℕ) (new : Step → List ℕ) (one : (s : State) (c : Call) (rest : List ℕ) → AreCounted (next (after s c)) rest → AreCounted (next s) (new (step s c) ++ rest)) where

@@ -4,7 +4,7 @@ use Rattle.zq_machine.specs.declared.call.Call.{Call}
 use Rattle.zq_machine.specs.Deciding.{accepted, decide, is_accepted}
 use Rattle.zq_machine.specs.Machine.{accepted_state, after, state_after}
 use Rattle.zq_machine.specs.State.{Core, State}
-use Rattle.zq_machine.specs.TextCalls.{TextCall, opening, closing, naming, unnaming, declaring, withdrawing, asking, replying, ending, reporting, passing, listing, finalizing, unbuilt, read}
+use Rattle.zq_machine.specs.TextCalls.{TextCall, opening, read}
 use Rattle.zq_machine.proofs.Writing.{settles_plainly}
 
 accepted_config : (c : Core) (t : TextCall) → (accepted c t).config ≡ c.config

@@ -1,7 +1,7 @@
 -- What calls hand is of the kinds that they may hand, has a reply number where it is a reply, and leaves as it is; and finals stand by number.
-use Rattle.std.proofs.Common.{◌≡◌, ◌∙◌, refl, sym, ap, subst, ℕ, Bool, true, false, cond, List, [], ◌∷◌, ◌++◌, map, Option, Some, None}
+use Rattle.std.proofs.Common.{◌≡◌, refl, sym, ap, subst, ℕ, Bool, true, false, List, [], ◌∷◌, ◌++◌, map, Option, Some, None}
 use Rattle.std.specs.Prelude.{◌||◌}
-use Rattle.std.specs.List.{AllByRecursion, cons_option, filter, filter_map}
+use Rattle.std.specs.List.{AllByRecursion, cons_option, filter}
 use Rattle.std.specs.List.Sorted.{IsStrictlySortedBy}
 use Rattle.std.specs.Option.{option_map}
 use Rattle.std.specs.Ordering.{nat_cmp}
@@ -19,17 +19,16 @@ use Rattle.zq_query.specs.Records.{QueryState, Record, final_of, is_entry, is_ov
 use Rattle.zq_naming.specs.Naming.{NamingState}
 use Rattle.zq_machine.specs.declared.call.Call.{Call}
 use Rattle.zq_machine.specs.declared.call.Call.TheVariants as call
-use Rattle.zq_machine.specs.declared.call.Handed.{Handed}
 use Rattle.zq_machine.specs.declared.face.OpenFace.{OpenFace}
 use Rattle.zq_machine.specs.Agreeing.{number_of}
 use Rattle.zq_machine.specs.Asked.{asked_number}
 use Rattle.zq_machine.specs.Deciding.{granted, handed_reply, handed_request, handed_requests, handed_timeouts, passing_finals, replied, timed_out}
-use Rattle.zq_machine.specs.Headline.{IsFit, ended_by, ended_in, is_final, is_request, is_response, may_hand}
-use Rattle.zq_machine.specs.Machine.{answer, step}
+use Rattle.zq_machine.specs.Headline.{IsFit, ended_in, is_final, is_request, is_response, may_hand}
+use Rattle.zq_machine.specs.Machine.{step}
 use Rattle.zq_machine.specs.Messages.{TextMessage, text_final}
 use Rattle.zq_machine.specs.Selecting.{full_text, select}
 use Rattle.zq_machine.specs.State.{Core, State}
-use Rattle.zq_machine.specs.TextCalls.{TextCall, opening, closing, naming, unnaming, declaring, withdrawing, asking, replying, ending, reporting, passing, listing, finalizing, unbuilt, read}
+use Rattle.zq_machine.specs.TextCalls.{TextCall, closing, asking, replying, ending, reporting, passing, read}
 use Rattle.zq_machine.specs.Writing.{write}
 use Rattle.zq_machine.proofs.Always.{by_granted}
 use Rattle.zq_machine.proofs.Lists.{sorted_left, sorted_numbers}

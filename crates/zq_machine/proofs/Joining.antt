@@ -30,7 +30,7 @@ same_place home r b e = sym (number_test (region_index home) (region_index r)) �
 
 -- ---- a face of the next number is opened
 module _ (faces : List (ℕ × OpenFace)) (hats : List (ℕ × HatState)) (names : NamingState) (t : Tied faces hats names) (n : ℕ) (o : Opening) (absent : at n faces ≡ None) (has : is_some (hat_at o.region hats) ≡ true) where
-  home : (h : HatState) × (hat_at o.region hats ≡ Some h)
+  pub home : (h : HatState) × (hat_at o.region hats ≡ Some h)
   home = some_of (hat_at o.region hats) has
 
   abbrev more_faces : List (ℕ × OpenFace)
@@ -51,13 +51,13 @@ module _ (faces : List (ℕ × OpenFace)) (hats : List (ℕ × HatState)) (names
   joined_faces : (joined (seat n o) home.0).faces ≡ insert_entry nat_cmp home.0.faces n new
   joined_faces = ap (λ b. (cond b home.0 (with_face_opened (seat n o) home.0)).faces) away
 
-  in_hat : (q : ℕ) → face_at q (joined (seat n o) home.0) ≡ cond (is_at (nat_cmp n) q) (Some new) (face_at q home.0)
+  pub in_hat : (q : ℕ) → face_at q (joined (seat n o) home.0) ≡ cond (is_at (nat_cmp n) q) (Some new) (face_at q home.0)
   in_hat q = ap (at q) joined_faces ∙ found_after_insertion nat_cmp_total exact_unsigned n q new home.0.faces
 
-  in_faces : (q : ℕ) → at q more_faces ≡ cond (is_at (nat_cmp n) q) (Some (opened o)) (at q faces)
+  pub in_faces : (q : ℕ) → at q more_faces ≡ cond (is_at (nat_cmp n) q) (Some (opened o)) (at q faces)
   in_faces q = found_after_insertion nat_cmp_total exact_unsigned n q (opened o) faces
 
-  in_names : (q : ℕ) → naming_at q more_names ≡ cond (is_at (nat_cmp n) q) (Some no_keys) (naming_at q names)
+  pub in_names : (q : ℕ) → naming_at q more_names ≡ cond (is_at (nat_cmp n) q) (Some no_keys) (naming_at q names)
   in_names q = found_after_insertion nat_cmp_total exact_unsigned n q no_keys names
 
   each : (P : HatState → Type 0) (r : Region) (h : HatState) → hat_at r more_hats ≡ Some h
@@ -137,7 +137,7 @@ module _ (faces : List (ℕ × OpenFace)) (hats : List (ℕ × HatState)) (names
 
 -- ---- an open face is closed
 module _ (faces : List (ℕ × OpenFace)) (hats : List (ℕ × HatState)) (names : NamingState) (t : Tied faces hats names) (sorted : IsStrictlySortedBy nat_cmp (keys_of faces)) (face : ℕ) (o : OpenFace) (seen : at face faces ≡ Some o) where
-  own : (h : HatState) × (hat_at o.region hats ≡ Some h)
+  pub own : (h : HatState) × (hat_at o.region hats ≡ Some h)
   own = some_of (hat_at o.region hats) (t.homes face o seen)
 
   abbrev test : ℕ → Bool
@@ -152,13 +152,13 @@ module _ (faces : List (ℕ × OpenFace)) (hats : List (ℕ × HatState)) (names
   abbrev less_names : NamingState
   less_names = remove_entry (is_at (nat_cmp face)) names
 
-  left_in_hat : (q : ℕ) → face_at q (without_face face own.0) ≡ cond (test q) None (face_at q own.0)
+  pub left_in_hat : (q : ℕ) → face_at q (without_face face own.0) ≡ cond (test q) None (face_at q own.0)
   left_in_hat q = found_after_removal nat_cmp_total exact_unsigned face q own.0.faces (t.hats_sorted o.region own.0 own.1)
 
-  left_in_faces : (q : ℕ) → at q less_faces ≡ cond (test q) None (at q faces)
+  pub left_in_faces : (q : ℕ) → at q less_faces ≡ cond (test q) None (at q faces)
   left_in_faces q = found_after_removal nat_cmp_total exact_unsigned face q faces sorted
 
-  left_in_names : (q : ℕ) → naming_at q less_names ≡ cond (test q) None (naming_at q names)
+  pub left_in_names : (q : ℕ) → naming_at q less_names ≡ cond (test q) None (naming_at q names)
   left_in_names q = found_after_removal nat_cmp_total exact_unsigned face q names t.names_sorted
 
   left_each : (P : HatState → Type 0) (r : Region) (h : HatState) → hat_at r less_hats ≡ Some h

@@ -14,6 +14,7 @@ use Rattle.zq_machine.proofs.Handing.{call_fits, call_ordered}
 use Rattle.zq_machine.proofs.LastIds.{run_last}
 use Rattle.zq_machine.proofs.Promises.{request_promise, reply_promise, refusal_promise}
 use Rattle.zq_machine.proofs.Silent.{nothing_after}
+use Rattle.zq_machine.proofs.Standing.{all_listed, all_stand}
 use Rattle.zq_machine.proofs.Settled.{final_promise, run_once}
 use Rattle.zq_machine.proofs.Waits.{call_waits}
 use Rattle.zq_machine.proofs.Finals.{opening_sound, run_sound}
@@ -37,6 +38,8 @@ pub headline : (config : Settings) (calls : List Call) → RunPromise config cal
 headline config calls = record {
   each = λ before rest c at. kept config before c;
   settings = run_config calls (opening_state config);
+  stands = λ face. all_stand config calls face;
+  listed = all_listed config calls;
   numbers = counted config calls;
   faces = faces_counted config calls;
   replies = replies_counted config calls;

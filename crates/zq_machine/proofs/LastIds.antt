@@ -1,6 +1,6 @@
 -- The id that was last given at a face is that of the last request that was handed to it.
 use Rattle.std.proofs.Common.{◌≡◌, ◌∙◌, refl, sym, ap, ℕ, Bool, true, false, cond, List, [], ◌∷◌, fold, map, Option, Some, None, unwrap_or}
-use Rattle.std.specs.Prelude.{◌==◌, ◌||◌}
+use Rattle.std.specs.Prelude.{◌==◌}
 use Rattle.std.specs.List.{list_any}
 use Rattle.std.specs.Map.{lookup}
 use Rattle.std.specs.BTreeMap.{insert_entry, is_at}
@@ -26,10 +26,10 @@ use Rattle.zq_machine.specs.declared.call.Handed.{Handed}
 use Rattle.zq_machine.specs.Asked.{asked_id, last_after, last_asked, last_with}
 use Rattle.zq_machine.specs.Deciding.{accepted, after_replied, granted, handed_request, handed_requests}
 use Rattle.zq_machine.specs.Headline.{asks, is_request}
-use Rattle.zq_machine.specs.Machine.{after, answer, settle, state_after, step, steps_from}
+use Rattle.zq_machine.specs.Machine.{after, answer, settle, state_after, steps_from}
 use Rattle.zq_machine.specs.Selecting.{full_text, select, target_of}
 use Rattle.zq_machine.specs.State.{Core, State}
-use Rattle.zq_machine.specs.TextCalls.{TextCall, opening, closing, naming, unnaming, declaring, withdrawing, asking, replying, ending, reporting, passing, listing, finalizing, unbuilt, read, said as said_by_face}
+use Rattle.zq_machine.specs.TextCalls.{TextCall, asking, replying, passing, read, said as said_by_face}
 use Rattle.zq_machine.specs.Writing.{write}
 use Rattle.zq_machine.proofs.Always.{by_granted}
 use Rattle.zq_machine.proofs.Changing.{number_test}

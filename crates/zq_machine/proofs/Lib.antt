@@ -27,6 +27,7 @@ pub mod Hats
 pub mod Targets
 pub mod Always
 pub mod Counting
+pub mod Standing
 pub mod LastIds
 pub mod Handing
 pub mod Asking
