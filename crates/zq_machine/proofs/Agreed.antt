@@ -31,7 +31,7 @@ use Rattle.zq_machine.specs.TextCalls.{TextCall, opening, closing, naming, unnam
 use Rattle.zq_machine.proofs.Agreeing.{Tied, declared_tied, marked_tied, named_tied, some_of, unnamed_tied, withdrawn_tied}
 use Rattle.zq_machine.proofs.Changing.{hat_found, itself, number_test, region_there}
 use Rattle.zq_machine.proofs.Finals.{IsSound, granted_sound, is_there, none_sorted, opening_sound}
-use Rattle.zq_machine.proofs.Hats.{AreHats, accepted_hats, opening_hats}
+use Rattle.zq_machine.proofs.Hats.{AreHatsOf, accepted_hats, opening_hats}
 use Rattle.zq_machine.proofs.Joining.{closed_tied, opened_tied}
 use Rattle.zq_machine.proofs.NewEntries.{numbered_asked}
 use Rattle.zq_machine.proofs.Numbered.{InNumbers, numbered_if_put, numbered_landed, numbered_let_go, numbered_timing}
@@ -91,11 +91,11 @@ module _ (s : State) (i : IsSound s) (t : IsTied s) where
       in_its_hat face.0 (finalized face.0 m set) s.core.faces s.names x (marked_tied s.core.faces s.core.hats s.names t face.0 x.0 x.1 m set)
   granted_tied unbuilt h = t
 
--- ---- all that holds between two calls, where faces are told this first id
-pub record InOrder (told : ℕ) (s : State) : Type 0 where
+-- ---- all that holds between two calls
+pub record InOrder (config : Settings) (s : State) : Type 0 where
   pub sound : IsSound s
   pub tied : IsTied s
-  pub hats : AreHats told s.core.hats
+  pub hats : AreHatsOf config s.core.hats
   pub numbered : InNumbers s.core.queries
   pub aims : AllAim s.core.faces s.core.queries.records
 
@@ -122,13 +122,13 @@ granted_numbers s (listing r table) h i = i
 granted_numbers s (finalizing face m set) h i = i
 granted_numbers s unbuilt h i = i
 
-pub granted_in_order : (told : ℕ) (s : State) (x : TextCall) → refusal_of s.core x ≡ None → InOrder told s → InOrder told (accepted_state s x)
-granted_in_order told s x h i = record {
+pub granted_in_order : (config : Settings) (s : State) (x : TextCall) → refusal_of s.core x ≡ None → InOrder config s → InOrder config (accepted_state s x)
+granted_in_order config s x h i = record {
   sound = granted_sound s.core x h i.sound;
   tied = granted_tied s i.sound i.tied x h;
-  hats = accepted_hats told s.core i.hats x;
+  hats = accepted_hats config.start.told (first_hats config) s.core i.hats x;
   numbered = granted_numbers s x h i.numbered;
-  aims = accepted_aims told s.core s.names i.tied i.hats i.sound.sorted i.aims x;
+  aims = accepted_aims config s.core s.names i.tied i.hats i.sound.sorted i.aims x;
 }
 
 -- ---- before any call no hat has a face
@@ -168,7 +168,7 @@ opening_tied config = record {
     bare : AreBare (first_hats config)
     bare = all_bare config config.entries [] (λ r h e. absurd (let gap = (region_there r [] h e).1 in cc))
 
-pub opening_in_order : (config : Settings) → InOrder config.start.told (opening_state config)
+pub opening_in_order : (config : Settings) → InOrder config (opening_state config)
 opening_in_order config = record {
   sound = opening_sound config;
   tied = opening_tied config;
@@ -178,12 +178,12 @@ opening_in_order config = record {
 }
 
 -- at every point of a run
-pub run_in_order : (config : Settings) (calls : List Call) → InOrder config.start.told (state_after (opening_state config) calls)
-run_in_order config calls = always (InOrder config.start.told) (granted_in_order config.start.told) calls (opening_state config) (opening_in_order config)
+pub run_in_order : (config : Settings) (calls : List Call) → InOrder config (state_after (opening_state config) calls)
+run_in_order config calls = always (InOrder config) (granted_in_order config) calls (opening_state config) (opening_in_order config)
 
 -- ---- in the words of the promise
-agrees : (told : ℕ) (s : State) → InOrder told s → Agrees s
-agrees told s x = record {
+agrees : (config : Settings) (s : State) → InOrder config s → Agrees s
+agrees config s x = record {
   apart = λ face seen. i.apart face seen;
   seats = λ r h face e. t.seats r h face e;
   homes = λ face seen.
@@ -213,4 +213,4 @@ agrees told s x = record {
         (t.held face o h f.0 seen h_at f.1).same ∙ sym (ap (λ x. option_map_or (λ (y : FaceState). map id_and_key y.declared) x []) f.1)
 
 pub agree_always : (config : Settings) (calls : List Call) → Agrees (state_after (opening_state config) calls)
-agree_always config calls = agrees config.start.told (state_after (opening_state config) calls) (run_in_order config calls)
+agree_always config calls = agrees config (state_after (opening_state config) calls) (run_in_order config calls)

@@ -1,9 +1,9 @@
--- The list of hats: in order, each at the index of its region or without a face, and each with the first id that faces are told.
+-- The list of hats: in order, each at the index of its region or without a face, and but for its faces as it was at first.
 use Rattle.std.proofs.Common.{◌≡◌, ◌∙◌, refl, sym, ap, ℕ, Bool, true, false, cond, List, [], ◌∷◌, fold, Option, Some, None, ◌⊎◌, inl, inr}
 use Rattle.std.specs.List.Sorted.{IsStrictlySortedBy}
 use Rattle.std.specs.Map.{keys_of, set_value}
 use Rattle.std.specs.BTreeMap.{is_at}
-use Rattle.std.specs.Option.{is_some, option_map_or}
+use Rattle.std.specs.Option.{is_some, option_map, option_map_or}
 use Rattle.std.specs.Ordering.{nat_cmp}
 use Rattle.std.proofs.lemmas.Cmp.{nat_cmp_total}
 use Rattle.std.proofs.lemmas.Map.Lookups.{exact_unsigned}
@@ -30,60 +30,78 @@ use Rattle.zq_key.proofs.Sorted.{sorted_in, sorted_write}
 abbrev pub IsIndex : ℕ → Type 0
 IsIndex k = (r : Region) × (is_region r ≡ true) × (region_index r ≡ k)
 
--- hats in order, each at a region's index or without a face, and of this first id
-pub record AreHats (told : ℕ) (hats : List (ℕ × HatState)) : Type 0 where
+-- a hat without its faces
+abbrev pub bare : HatState → HatState
+bare h = record h { faces = [] }
+
+-- hats in order, each at a region's index or without a face, with this first id, and but for its faces as the first hat there
+pub record AreHats (told : ℕ) (first hats : List (ℕ × HatState)) : Type 0 where
   pub sorted : IsStrictlySortedBy nat_cmp (keys_of hats)
   pub homes : (k : ℕ) (h : HatState) → at k hats ≡ Some h → (h.faces ≡ []) ⊎ IsIndex k
   pub starts : (k : ℕ) (h : HatState) → at k hats ≡ Some h → h.told_start ≡ told
+  pub shape : (k : ℕ) → option_map bare (at k hats) ≡ option_map bare (at k first)
 
--- the change leaves the first id
-abbrev pub IsTelling : (HatState → HatState) → Type 0
-IsTelling f = (h : HatState) → (f h).told_start ≡ h.told_start
+-- the hats of a gateway that was made with the configuration
+abbrev pub AreHatsOf : Settings → List (ℕ × HatState) → Type 0
+AreHatsOf config hats = AreHats config.start.told (first_hats config) hats
+
+-- the change is one of faces alone
+abbrev pub KeepsBare : (HatState → HatState) → Type 0
+KeepsBare f = (h : HatState) → bare (f h) ≡ bare h
 
 -- ---- one hat is changed
-changed_hats : (told : ℕ) (r : Region) (f : HatState → HatState) (hats : List (ℕ × HatState)) → IsTelling f → AreHats told hats → AreHats told (change_hat r f hats)
-changed_hats told r f hats keeps a = by (hat_at r hats) refl
+changed_hats : (told : ℕ) (first : List (ℕ × HatState)) (r : Region) (f : HatState → HatState) (hats : List (ℕ × HatState)) → KeepsBare f → AreHats told first hats → AreHats told first (change_hat r f hats)
+changed_hats told first r f hats keeps a = by (hat_at r hats) refl
   where
-    by : (o : Option HatState) → hat_at r hats ≡ o → AreHats told (put_hat r f hats o)
+    by : (o : Option HatState) → hat_at r hats ≡ o → AreHats told first (put_hat r f hats o)
     by None e = a
-    by (Some first) e = record {
-      sorted = sorted_write nat_cmp (is_at (nat_cmp (region_index r))) (f first) hats a.sorted;
+    by (Some was) e = record {
+      sorted = sorted_write nat_cmp (is_at (nat_cmp (region_index r))) (f was) hats a.sorted;
       homes = λ k h h_at. home k h (is_at (nat_cmp (region_index r)) k) refl (sym (found k) ∙ h_at);
       starts = λ k h h_at. same k h (is_at (nat_cmp (region_index r)) k) (sym (found k) ∙ h_at);
+      shape = λ k. ap (option_map bare) (found k) ∙ alike k (is_at (nat_cmp (region_index r)) k) refl;
     }
       where
-        there : (is_region r ≡ true) × (at (region_index r) hats ≡ Some first)
-        there = region_there r hats first e
+        there : (is_region r ≡ true) × (at (region_index r) hats ≡ Some was)
+        there = region_there r hats was e
 
-        found : (k : ℕ) → at k (set_value (is_at (nat_cmp (region_index r))) hats (f first)) ≡ cond (is_at (nat_cmp (region_index r)) k) (Some (f first)) (at k hats)
-        found k = found_after_write nat_cmp_total exact_unsigned (region_index r) k (f first) hats (ap is_some there.1)
+        found : (k : ℕ) → at k (set_value (is_at (nat_cmp (region_index r))) hats (f was)) ≡ cond (is_at (nat_cmp (region_index r)) k) (Some (f was)) (at k hats)
+        found k = found_after_write nat_cmp_total exact_unsigned (region_index r) k (f was) hats (ap is_some there.1)
 
-        home : (k : ℕ) (h : HatState) (b : Bool) → is_at (nat_cmp (region_index r)) k ≡ b → cond b (Some (f first)) (at k hats) ≡ Some h → (h.faces ≡ []) ⊎ IsIndex k
+        home : (k : ℕ) (h : HatState) (b : Bool) → is_at (nat_cmp (region_index r)) k ≡ b → cond b (Some (f was)) (at k hats) ≡ Some h → (h.faces ≡ []) ⊎ IsIndex k
         home k h true is g = inr (r, there.0, one_number (region_index r) k is)
         home k h false is g = a.homes k h g
 
-        same : (k : ℕ) (h : HatState) (b : Bool) → cond b (Some (f first)) (at k hats) ≡ Some h → h.told_start ≡ told
-        same k h true g = ap (λ (x : HatState). x.told_start) (sym (same_Some _ _ g)) ∙ keeps first ∙ a.starts (region_index r) first there.1
+        same : (k : ℕ) (h : HatState) (b : Bool) → cond b (Some (f was)) (at k hats) ≡ Some h → h.told_start ≡ told
+        same k h true g = ap (λ (x : HatState). x.told_start) (sym (same_Some _ _ g)) ∙ ap (λ (x : HatState). x.told_start) (keeps was) ∙ a.starts (region_index r) was there.1
         same k h false g = a.starts k h g
 
+        alike : (k : ℕ) (b : Bool) → is_at (nat_cmp (region_index r)) k ≡ b → option_map bare (cond b (Some (f was)) (at k hats)) ≡ option_map bare (at k first)
+        alike k true is =
+            ap Some (keeps was)
+            ∙ sym (ap (option_map bare) there.1)
+            ∙ a.shape (region_index r)
+            ∙ ap (λ m. option_map bare (at m first)) (one_number (region_index r) k is)
+        alike k false is = a.shape k
+
 -- ---- an accepted call changes one hat at most
-joined_telling : (x : FaceRecord) → IsTelling (joined x)
-joined_telling x h = by (has_face x.face.0 h)
+joined_bare : (x : FaceRecord) → KeepsBare (joined x)
+joined_bare x h = by (has_face x.face.0 h)
   where
-    by : (b : Bool) → (cond b h (with_face_opened x h)).told_start ≡ h.told_start
+    by : (b : Bool) → bare (cond b h (with_face_opened x h)) ≡ bare h
     by true = refl
     by false = refl
 
-module _ (told : ℕ) (c : Core) (a : AreHats told c.hats) where
-  in_its_hat : (face : ℕ) (f : HatState → HatState) → IsTelling f → AreHats told (option_map_or (λ (o : OpenFace). change_hat o.region f c.hats) (at face c.faces) c.hats)
+module _ (told : ℕ) (first : List (ℕ × HatState)) (c : Core) (a : AreHats told first c.hats) where
+  in_its_hat : (face : ℕ) (f : HatState → HatState) → KeepsBare f → AreHats told first (option_map_or (λ (o : OpenFace). change_hat o.region f c.hats) (at face c.faces) c.hats)
   in_its_hat face f keeps = by (at face c.faces)
     where
-      by : (o : Option OpenFace) → AreHats told (option_map_or (λ (x : OpenFace). change_hat x.region f c.hats) o c.hats)
+      by : (o : Option OpenFace) → AreHats told first (option_map_or (λ (x : OpenFace). change_hat x.region f c.hats) o c.hats)
       by None = a
-      by (Some o) = changed_hats told o.region f c.hats keeps a
+      by (Some o) = changed_hats told first o.region f c.hats keeps a
 
-  pub accepted_hats : (t : TextCall) → AreHats told (accepted c t).hats
-  accepted_hats (opening o) = changed_hats told o.region (joined (seat c.next_face o)) c.hats (joined_telling (seat c.next_face o)) a
+  pub accepted_hats : (t : TextCall) → AreHats told first (accepted c t).hats
+  accepted_hats (opening o) = changed_hats told first o.region (joined (seat c.next_face o)) c.hats (joined_bare (seat c.next_face o)) a
   accepted_hats (closing face) = in_its_hat face.0 (without_face face.0) (λ h. refl)
   accepted_hats (naming face id s x) = a
   accepted_hats (unnaming face id x) = a
@@ -103,11 +121,12 @@ module _ (config : Settings) where
   abbrev told_first : ℕ
   told_first = config.start.told
 
-  with_one : (hats : List (ℕ × HatState)) (e : Entry) → AreHats told_first hats → AreHats told_first (with_hat config hats e)
+  with_one : (hats : List (ℕ × HatState)) (e : Entry) → AreHats told_first hats hats → AreHats told_first (with_hat config hats e) (with_hat config hats e)
   with_one hats e a = record {
     sorted = sorted_in nat_cmp_total hats (region_index (region_of e)) hat a.sorted;
     homes = λ k h h_at. home k h (is_at (nat_cmp (region_index (region_of e))) k) (sym (found k) ∙ h_at);
     starts = λ k h h_at. same k h (is_at (nat_cmp (region_index (region_of e))) k) (sym (found k) ∙ h_at);
+    shape = λ k. refl;
   }
     where
       hat : HatState
@@ -124,14 +143,15 @@ module _ (config : Settings) where
       same k h true g = ap (λ (x : HatState). x.told_start) (sym (same_Some _ _ g))
       same k h false g = a.starts k h g
 
-  all_hats : (es : List Entry) (hats : List (ℕ × HatState)) → AreHats told_first hats → AreHats told_first (fold (with_hat config) hats es)
+  all_hats : (es : List Entry) (hats : List (ℕ × HatState)) → AreHats told_first hats hats → AreHats told_first (fold (with_hat config) hats es) (fold (with_hat config) hats es)
   all_hats [] hats a = a
   all_hats (e ∷ es) hats a = all_hats es (with_hat config hats e) (with_one hats e a)
 
-  pub opening_hats : AreHats told_first (first_hats config)
+  pub opening_hats : AreHatsOf config (first_hats config)
   opening_hats = all_hats config.entries []
       (record {
         sorted = none_sorted;
         homes = λ k h e. absurd (let gap : None ≡ Some h = e in cc);
         starts = λ k h e. absurd (let gap : None ≡ Some h = e in cc);
+        shape = λ k. refl;
       })

@@ -30,19 +30,19 @@ use Rattle.zq_machine.proofs.Agreeing.{Tied, some_of}
 use Rattle.zq_machine.proofs.Always.{after_kept, by_granted}
 use Rattle.zq_machine.proofs.Changing.{face_here, face_other, found_here, found_other, hat_either, hat_here, itself, naming_changed, number_test, one_number, region_there}
 use Rattle.zq_machine.proofs.Finals.{is_there}
-use Rattle.zq_machine.proofs.Hats.{AreHats}
+use Rattle.zq_machine.proofs.Hats.{AreHatsOf}
 use Rattle.zq_machine.proofs.Joining.{home, in_faces, in_hat, in_names, left_in_faces, left_in_hat, left_in_names, own}
 use Rattle.zq_machine.proofs.Promises.{all_passed, granted_is_accepted}
 
 -- what the hats have of a face that was opened so
-abbrev kept_by : ℕ → List (ℕ × HatState) → Option OpenFace → Option FaceState
+abbrev pub kept_by : ℕ → List (ℕ × HatState) → Option OpenFace → Option FaceState
 kept_by q hats o = option_and_then (face_at q) (option_and_then (λ (x : OpenFace). hat_at x.region hats) o)
 
 -- what three lists have of a face
-abbrev stand : ℕ → List (ℕ × OpenFace) → List (ℕ × HatState) → NamingState → Option Standing
+abbrev pub stand : ℕ → List (ℕ × OpenFace) → List (ℕ × HatState) → NamingState → Option Standing
 stand q faces hats names = standing_of (at q faces) (naming_at q names) (kept_by q hats (at q faces))
 
-whole : (q : ℕ) (o : OpenFace) (n : FaceKeys) (f : FaceState) (faces : List (ℕ × OpenFace)) (hats : List (ℕ × HatState)) (names : NamingState)
+pub whole : (q : ℕ) (o : OpenFace) (n : FaceKeys) (f : FaceState) (faces : List (ℕ × OpenFace)) (hats : List (ℕ × HatState)) (names : NamingState)
     → at q faces ≡ Some o → naming_at q names ≡ Some n → kept_by q hats (Some o) ≡ Some f → stand q faces hats names ≡ Some (record { opened = o; numbers = n.numbers; kept = f })
 whole q o n f faces hats names o_at n_at f_at = λ j. standing_of (o_at j) (n_at j) ((ap (kept_by q hats) o_at ∙ f_at) j)
 
@@ -117,7 +117,10 @@ module _ (faces : List (ℕ × OpenFace)) (hats : List (ℕ × HatState)) (names
   numbers_are = ap (λ x. (unwrap_or x no_keys).numbers) its_keys.1
 
 -- ---- a face is opened or closed
-module _ (told : ℕ) (faces : List (ℕ × OpenFace)) (hats : List (ℕ × HatState)) (names : NamingState) (t : Tied faces hats names) (a : AreHats told hats) (q : ℕ) where
+module _ (config : Settings) (faces : List (ℕ × OpenFace)) (hats : List (ℕ × HatState)) (names : NamingState) (t : Tied faces hats names) (a : AreHatsOf config hats) (q : ℕ) where
+  abbrev told : ℕ
+  told = config.start.told
+
   opened_stands : (n : ℕ) (o : Opening) → at n faces ≡ None → is_some (hat_at o.region hats) ≡ true
       → stand q (insert_entry nat_cmp faces n (opened o)) (change_hat o.region (joined (seat n o)) hats) (insert_entry nat_cmp names n no_keys) ≡ cond (n == q) (Some (newly_opened told q o)) (stand q faces hats names)
   opened_stands n o absent has = by (is_at (nat_cmp n) q) refl ∙ ap (λ b. cond b (Some (newly_opened told q o)) (stand q faces hats names)) (number_test n q)
@@ -189,7 +192,7 @@ module _ (told : ℕ) (faces : List (ℕ × OpenFace)) (hats : List (ℕ × HatS
       by false e = others e ∙ ap (λ b. cond b None (stand q faces hats names)) (sym e)
 
 -- ---- each call that nothing refuses
-module _ (told q : ℕ) (s : State) (i : InOrder told s) where
+module _ (config : Settings) (q : ℕ) (s : State) (i : InOrder config s) where
   abbrev its_hats : (HatState → HatState) → Option OpenFace → List (ℕ × HatState)
   its_hats f x = option_map_or (λ (o : OpenFace). change_hat o.region f s.core.hats) x s.core.hats
 
@@ -231,13 +234,13 @@ module _ (told q : ℕ) (s : State) (i : InOrder told s) where
         (makes_there c (change_hat x.0.region (change_face f.0 k) s.core.hats) others n (k keeps) n_at
         (kept_here s.core.faces s.core.hats s.names i.tied f.0 x.0 x.1 k) n_other (kept_other s.core.faces s.core.hats s.names i.tied f.0 x.0 x.1 k q) makes)
 
-  granted_stands : (c : Call) → refusal_of s.core (read s c) ≡ None → standing_at q (accepted_state s (read s c)) ≡ accepted_at told q c (granted s.core (read s c)).outcome (standing_at q s)
+  granted_stands : (c : Call) → refusal_of s.core (read s c) ≡ None → standing_at q (accepted_state s (read s c)) ≡ accepted_at config.start.told q c (granted s.core (read s c)).outcome (standing_at q s)
   granted_stands (call.Open o) h =
-      opened_stands told s.core.faces s.core.hats s.names i.tied i.hats q s.core.next_face o (next_absent s i.sound) (is_there (is_some (hat_at o.region s.core.hats)) (all_passed (causes s.core (opening o)) h).0)
+      opened_stands config s.core.faces s.core.hats s.names i.tied i.hats q s.core.next_face o (next_absent s i.sound) (is_there (is_some (hat_at o.region s.core.hats)) (all_passed (causes s.core (opening o)) h).0)
   granted_stands (call.Close f) h =
       let x = opened_face s i.sound i.tied f.0 (all_passed (causes s.core (closing f)) h).0 in
       subst (λ hats. stand q (remove_entry (is_at (nat_cmp f.0)) s.core.faces) hats (remove_entry (is_at (nat_cmp f.0)) s.names) ≡ cond (f.0 == q) None (standing_at q s)) (sym (ap (its_hats (without_face f.0)) x.1))
-      (closed_stands told s.core.faces s.core.hats s.names i.tied i.hats q f.0 x.0 x.1 i.sound.sorted)
+      (closed_stands config s.core.faces s.core.hats s.names i.tied i.hats q f.0 x.0 x.1 i.sound.sorted)
   granted_stands (call.DeclareKeyExpr f id w) h =
       let x = opened_face s i.sound i.tied f.0 (all_passed (causes s.core (read s (call.DeclareKeyExpr f id w))) h).0 in
       renamed_stands f x (call.DeclareKeyExpr f id w) (with_name id (full_text (said f w s)))
@@ -260,10 +263,10 @@ module _ (told q : ℕ) (s : State) (i : InOrder told s) where
       kept_stands f x (call.FinalizeInterest f mark set) (marked mark set) s.names (keys f x) (its_keys s.core.faces s.core.hats s.names i.tied f.0 x.0 x.1).1 (λ e. refl) refl
   granted_stands c h = refl
 
-  call_stands : (c : Call) → standing_at q (after s c) ≡ standing_after told q c (step s c) (standing_at q s)
+  call_stands : (c : Call) → standing_at q (after s c) ≡ standing_after config.start.told q c (step s c) (standing_at q s)
   call_stands c =
-      by_granted (λ t z. standing_at q z ≡ standing_after told q c t (standing_at q s)) s (read s c)
-      (λ h. granted_stands c h ∙ ap (λ b. cond b (accepted_at told q c (granted s.core (read s c)).outcome (standing_at q s)) (standing_at q s)) (sym (granted_is_accepted s.core (read s c) h)))
+      by_granted (λ t z. standing_at q z ≡ standing_after config.start.told q c t (standing_at q s)) s (read s c)
+      (λ h. granted_stands c h ∙ ap (λ b. cond b (accepted_at config.start.told q c (granted s.core (read s c)).outcome (standing_at q s)) (standing_at q s)) (sym (granted_is_accepted s.core (read s c) h)))
       (λ r. refl)
 
 -- ---- the lists of gateways
@@ -272,16 +275,18 @@ call_listed s (call.SetGateways r table) = by_granted (λ t z. z.core.tables ≡
 call_listed s c = by_granted (λ t z. z.core.tables ≡ s.core.tables) s (read s c) (λ h. refl) (λ x. refl)
 
 -- ---- a run
-run_stands : (told q : ℕ) (cs : List Call) (s : State) → InOrder told s → standing_at q (state_after s cs) ≡ standing_in told q cs (steps_from s cs) (standing_at q s)
-run_stands told q [] s i = refl
-run_stands told q (c ∷ cs) s i = run_stands told q cs (after s c) (after_kept (InOrder told) (granted_in_order told) s c i) ∙ ap (standing_in told q cs (steps_from (after s c) cs)) (call_stands told q s i c)
+run_stands : (config : Settings) (q : ℕ) (cs : List Call) (s : State) → InOrder config s → standing_at q (state_after s cs) ≡ standing_in config.start.told q cs (steps_from s cs) (standing_at q s)
+run_stands config q [] s i = refl
+run_stands config q (c ∷ cs) s i =
+    run_stands config q cs (after s c) (after_kept (InOrder config) (granted_in_order config) s c i)
+    ∙ ap (standing_in config.start.told q cs (steps_from (after s c) cs)) (call_stands config q s i c)
 
 run_listed : (cs : List Call) (s : State) → (state_after s cs).core.tables ≡ listed_in cs (steps_from s cs) s.core.tables
 run_listed [] s = refl
 run_listed (c ∷ cs) s = run_listed cs (after s c) ∙ ap (listed_in cs (steps_from (after s c) cs)) (call_listed s c)
 
 pub all_stand : (config : Settings) (calls : List Call) (face : ℕ) → standing_at face (state_after (opening_state config) calls) ≡ standing_in config.start.told face calls (steps_from (opening_state config) calls) None
-all_stand config calls face = run_stands config.start.told face calls (opening_state config) (opening_in_order config)
+all_stand config calls face = run_stands config face calls (opening_state config) (opening_in_order config)
 
 pub all_listed : (config : Settings) (calls : List Call) → (state_after (opening_state config) calls).core.tables ≡ listed_in calls (steps_from (opening_state config) calls) []
 all_listed config calls = run_listed calls (opening_state config)

@@ -34,13 +34,14 @@ use Rattle.zq_route.specs.declared.gateways.Gateways.{Gateways}
 use Rattle.zq_route.specs.Selection.{chosen}
 use Rattle.zq_machine.specs.declared.face.OpenFace.{OpenFace}
 use Rattle.zq_machine.specs.Agreeing.{all_pending, pending_of, stands_in}
+use Rattle.zq_machine.specs.Configs.{Settings}
 use Rattle.zq_machine.specs.Deciding.{accepted, after_replied, deadline, opened}
 use Rattle.zq_machine.specs.Selecting.{full_text, passes, route_for, says_key, select, select_for, target_of, with_part}
 use Rattle.zq_machine.specs.State.{Core, at}
 use Rattle.zq_machine.specs.TextCalls.{TextCall, opening, closing, naming, unnaming, declaring, withdrawing, asking, replying, ending, reporting, passing, listing, finalizing, unbuilt}
 use Rattle.zq_machine.proofs.Agreeing.{Tied}
 use Rattle.zq_machine.proofs.Changing.{hat_found, number_test}
-use Rattle.zq_machine.proofs.Hats.{AreHats, IsIndex}
+use Rattle.zq_machine.proofs.Hats.{AreHatsOf, IsIndex}
 use Rattle.zq_machine.proofs.Lists.{all_append, all_failing, all_mapped, all_passing, all_weaker}
 use Rattle.zq_machine.proofs.NewEntries.{each_entry, pending_more}
 use Rattle.zq_machine.proofs.Numbered.{all_still, put_pending}
@@ -82,7 +83,7 @@ targets_distinct c asker s r = by (at asker.0 c.faces)
         keyed false = refl
 
 -- ---- the faces of hats are open
-module _ (told : ℕ) (faces : List (ℕ × OpenFace)) (hats : List (ℕ × HatState)) (names : NamingState) (t : Tied faces hats names) (a : AreHats told hats) where
+module _ (config : Settings) (faces : List (ℕ × OpenFace)) (hats : List (ℕ × HatState)) (names : NamingState) (t : Tied faces hats names) (a : AreHatsOf config hats) where
   abbrev AllOpen : HatState → Type 0
   AllOpen h = (q : ℕ) → has_face q h ≡ true → is_some (at q faces) ≡ true
 
@@ -161,7 +162,7 @@ replied_aims : (faces : List (ℕ × OpenFace)) (q : QueryState) (o : Option Rep
 replied_aims faces q None aims = aims
 replied_aims faces q (Some to) aims = put_aims faces q to.number (is_some to.reply) aims
 
-module _ (told : ℕ) (c : Core) (names : NamingState) (t : Tied c.faces c.hats names) (a : AreHats told c.hats) (sorted : IsStrictlySortedBy nat_cmp (keys_of c.faces)) (aims : AllAim c.faces c.queries.records) where
+module _ (config : Settings) (c : Core) (names : NamingState) (t : Tied c.faces c.hats names) (a : AreHatsOf config c.hats) (sorted : IsStrictlySortedBy nat_cmp (keys_of c.faces)) (aims : AllAim c.faces c.queries.records) where
   asked_aims : (face : FaceId) (s : Said) (r : Request) (d : ℕ)
       → AllAim c.faces (c.queries.records ++ asked_records c.queries.requests face r.id r.qos (map (given_place c.queries) (map target_of (select c face s r))) d)
   asked_aims face s r d = by (is_none_left (map (given_place c.queries) (map target_of os)))
@@ -182,7 +183,7 @@ module _ (told : ℕ) (c : Core) (names : NamingState) (t : Tied c.faces c.hats 
 
       each : AllByRecursion (AimAt c.faces) new.pending
       each = each_entry (AimAt c.faces) d (map (given_place c.queries) (map target_of os))
-          (given os (all_failing _ os (none_selected (λ o. not (is_some (at o.face.0 c.faces))) c face s r (λ o. none_offered_shut told c.faces c.hats names t a o.region (full_text s)))))
+          (given os (all_failing _ os (none_selected (λ o. not (is_some (at o.face.0 c.faces))) c face s r (λ o. none_offered_shut config c.faces c.hats names t a o.region (full_text s)))))
 
       by : (b : Bool) → AllAim c.faces (c.queries.records ++ cond b [] (new ∷ []))
       by true = subst (AllAim c.faces) (sym (append-nil c.queries.records)) aims
