@@ -28,6 +28,7 @@ pub mod Targets
 pub mod Always
 pub mod Counting
 pub mod Standing
+pub mod Determined
 pub mod LastIds
 pub mod Handing
 pub mod Asking

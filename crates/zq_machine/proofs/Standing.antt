@@ -35,14 +35,14 @@ use Rattle.zq_machine.proofs.Joining.{home, in_faces, in_hat, in_names, left_in_
 use Rattle.zq_machine.proofs.Promises.{all_passed, granted_is_accepted}
 
 -- what the hats have of a face that was opened so
-abbrev pub kept_by : ℕ → List (ℕ × HatState) → Option OpenFace → Option FaceState
+abbrev kept_by : ℕ → List (ℕ × HatState) → Option OpenFace → Option FaceState
 kept_by q hats o = option_and_then (face_at q) (option_and_then (λ (x : OpenFace). hat_at x.region hats) o)
 
 -- what three lists have of a face
-abbrev pub stand : ℕ → List (ℕ × OpenFace) → List (ℕ × HatState) → NamingState → Option Standing
+abbrev stand : ℕ → List (ℕ × OpenFace) → List (ℕ × HatState) → NamingState → Option Standing
 stand q faces hats names = standing_of (at q faces) (naming_at q names) (kept_by q hats (at q faces))
 
-pub whole : (q : ℕ) (o : OpenFace) (n : FaceKeys) (f : FaceState) (faces : List (ℕ × OpenFace)) (hats : List (ℕ × HatState)) (names : NamingState)
+whole : (q : ℕ) (o : OpenFace) (n : FaceKeys) (f : FaceState) (faces : List (ℕ × OpenFace)) (hats : List (ℕ × HatState)) (names : NamingState)
     → at q faces ≡ Some o → naming_at q names ≡ Some n → kept_by q hats (Some o) ≡ Some f → stand q faces hats names ≡ Some (record { opened = o; numbers = n.numbers; kept = f })
 whole q o n f faces hats names o_at n_at f_at = λ j. standing_of (o_at j) (n_at j) ((ap (kept_by q hats) o_at ∙ f_at) j)
 
@@ -67,21 +67,24 @@ by_number face q now was change here others = by (is_at (nat_cmp face) q) refl �
 
 -- ---- an open face declares, withdraws or is marked
 module _ (faces : List (ℕ × OpenFace)) (hats : List (ℕ × HatState)) (names : NamingState) (t : Tied faces hats names) (face : ℕ) (o : OpenFace) (seen : at face faces ≡ Some o) where
-  its_hat : (h : HatState) × (hat_at o.region hats ≡ Some h)
+  pub its_hat : (h : HatState) × (hat_at o.region hats ≡ Some h)
   its_hat = some_of (hat_at o.region hats) (t.homes face o seen)
 
-  its_keys : (n : FaceKeys) × (naming_at face names ≡ Some n)
+  pub its_keys : (n : FaceKeys) × (naming_at face names ≡ Some n)
   its_keys = some_of (naming_at face names) (t.named face ∙ ap is_some seen)
 
-  its_kept : (f : FaceState) × (face_at face its_hat.0 ≡ Some f)
+  pub its_kept : (f : FaceState) × (face_at face its_hat.0 ≡ Some f)
   its_kept = some_of (face_at face its_hat.0)
       (t.seats o.region its_hat.0 face its_hat.1 ∙ ap (λ x. option_map_or (stands_in o.region) x false) seen ∙ sym (number_test (region_index o.region) (region_index o.region)) ∙ itself (region_index o.region))
 
   kept_is : kept_by face hats (Some o) ≡ Some its_kept.0
   kept_is = ap (option_and_then (face_at face)) its_hat.1 ∙ its_kept.1
 
-  abbrev before : Standing
+  abbrev pub before : Standing
   before = record { opened = o; numbers = its_keys.0.numbers; kept = its_kept.0 }
+
+  pub stands_so : stand face faces hats names ≡ Some before
+  stands_so = whole face o its_keys.0 its_kept.0 faces hats names seen its_keys.1 kept_is
 
   naming_here : (g : FaceKeys → FaceKeys) → naming_at face (change_naming face g names) ≡ Some (g its_keys.0)
   naming_here g = ap (λ (l : NamingState). naming_at face l) (naming_changed face g names) ∙ found_here face g names face (itself face) ∙ ap (option_map g) its_keys.1
@@ -109,7 +112,7 @@ module _ (faces : List (ℕ × OpenFace)) (hats : List (ℕ × HatState)) (names
     declared_stands : stand q faces more others ≡ cond (face == q) (option_map (declaring_at c) (stand q faces hats names)) (stand q faces hats names)
     declared_stands =
         by_number face q (λ m. stand m faces more others) (λ m. stand m faces hats names) (option_map (declaring_at c))
-        (whole face o n f faces more others seen n_at f_at ∙ ap Some makes ∙ sym (ap (option_map (declaring_at c)) (whole face o its_keys.0 its_kept.0 faces hats names seen its_keys.1 kept_is)))
+        (whole face o n f faces more others seen n_at f_at ∙ ap Some makes ∙ sym (ap (option_map (declaring_at c)) stands_so))
         (λ e j. standing_of (at q faces) (n_other e j) (f_other e j))
 
   -- the numbers of the face are those by which its expressions are read

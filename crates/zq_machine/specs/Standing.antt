@@ -1,5 +1,5 @@
 -- What stands of each face, and of the lists of gateways, by the calls of a run and their answers alone.
-use Rattle.std.specs.Prelude.{ℕ, ◌==◌, Bool, false, List, [], ◌∷◌, Option, Some, None, if◌then◌else◌}
+use Rattle.std.specs.Prelude.{◌≡◌, ℕ, ◌==◌, Bool, false, List, [], ◌∷◌, Option, Some, None, if◌then◌else◌}
 use Rattle.std.specs.Map.{remove_entry}
 use Rattle.std.specs.BTreeMap.{insert_entry, is_at}
 use Rattle.std.specs.Option.{option_and_then, option_map}
@@ -112,3 +112,8 @@ standing_of o n f = None
 -- what the gateway has of the face
 abbrev pub standing_at : ℕ → State → Option Standing
 standing_at face s = standing_of (at face s.core.faces) (naming_at face s.names) (kept_at face s.core)
+
+-- two gateways have the same of each face, and the same lists
+pub record StandAlike (s z : State) : Type 0 where
+  pub faces : (face : ℕ) → standing_at face s ≡ standing_at face z
+  pub lists : s.core.tables ≡ z.core.tables
