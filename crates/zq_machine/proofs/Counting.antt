@@ -17,7 +17,7 @@ use Rattle.zq_query.proofs.Flying.{numbers_given}
 use Rattle.zq_query.proofs.TimingOut.{numbers_both}
 use Rattle.zq_naming.specs.Naming.{NamingState}
 use Rattle.zq_machine.specs.declared.call.Call.{Call}
-use Rattle.zq_machine.specs.declared.call.Handed.{Handed}
+use Rattle.zq_machine.specs.Handing.{Handed}
 use Rattle.zq_machine.specs.declared.call.Step.{Step}
 use Rattle.zq_machine.specs.declared.face.OpenFace.{OpenFace}
 use Rattle.zq_machine.specs.Asked.{AreCounted, opened_by, opened_in, replies_in, replies_of, reply_number}

@@ -22,7 +22,7 @@ use Rattle.zq_query.proofs.TimingOut.{rest_stays}
 use Rattle.zq_naming.specs.Naming.{NamingState}
 use Rattle.zq_machine.specs.declared.call.Call.{Call}
 use Rattle.zq_machine.specs.declared.call.Call.TheVariants as call
-use Rattle.zq_machine.specs.declared.call.Handed.{Handed}
+use Rattle.zq_machine.specs.Handing.{Handed}
 use Rattle.zq_machine.specs.Asked.{asked_id, last_after, last_asked, last_with}
 use Rattle.zq_machine.specs.Deciding.{accepted, after_replied, granted, handed_request, handed_requests}
 use Rattle.zq_machine.specs.Headline.{asks, is_request}
