@@ -1,10 +1,11 @@
--- What calls hand is of the kinds that they may hand, has a reply number where it is a reply, and leaves as it is; and finals stand by number.
+-- Calls are answered by their kind. What they hand is of the kinds that they may hand, has a reply number where it is a reply, and leaves as it is; and finals stand by number.
 use Rattle.std.proofs.Common.{◌≡◌, refl, sym, ap, subst, ℕ, Bool, true, false, List, [], ◌∷◌, ◌++◌, map, Option, Some, None}
 use Rattle.std.specs.Prelude.{◌||◌}
 use Rattle.std.specs.List.{AllByRecursion, cons_option, filter}
 use Rattle.std.specs.List.Sorted.{IsStrictlySortedBy}
 use Rattle.std.specs.Option.{option_map}
 use Rattle.std.specs.Ordering.{nat_cmp}
+use Rattle.std.proofs.lemmas.Bool.{false≢true}
 use Rattle.zq_key.specs.declared.message.FaceId.{FaceId}
 use Rattle.zq_key.specs.declared.message.Message.{Message}
 use Rattle.zq_key.specs.declared.message.Request.{Request}
@@ -22,8 +23,8 @@ use Rattle.zq_machine.specs.declared.call.Call.TheVariants as call
 use Rattle.zq_machine.specs.declared.face.OpenFace.{OpenFace}
 use Rattle.zq_machine.specs.Agreeing.{number_of}
 use Rattle.zq_machine.specs.Asked.{asked_number}
-use Rattle.zq_machine.specs.Deciding.{granted, handed_reply, handed_request, handed_requests, handed_timeouts, passing_finals, replied, timed_out}
-use Rattle.zq_machine.specs.Headline.{IsFit, ended_in, is_final, is_request, is_response, may_hand}
+use Rattle.zq_machine.specs.Deciding.{granted, is_accepted, handed_reply, handed_request, handed_requests, handed_timeouts, passing_finals, replied, timed_out}
+use Rattle.zq_machine.specs.Headline.{AnswerPromise, IsFit, ended_in, is_final, is_request, is_response, may_hand}
 use Rattle.zq_machine.specs.Machine.{step}
 use Rattle.zq_machine.specs.Messages.{TextMessage, text_final}
 use Rattle.zq_machine.specs.Selecting.{full_text, select}
@@ -34,6 +35,15 @@ use Rattle.zq_machine.proofs.Always.{by_granted}
 use Rattle.zq_machine.proofs.Lists.{sorted_left, sorted_numbers}
 use Rattle.zq_machine.proofs.Numbered.{InNumbers, numbered_timing}
 use Rattle.zq_key.proofs.Naturals.{map-map}
+
+-- ---- answers
+granted_answer : (s : State) (c : Call) → AnswerPromise s c (granted s.core (read s c)).outcome
+granted_answer s (call.Request face r now) = tt
+granted_answer s (call.Response face r) = tt
+granted_answer s c = refl
+
+pub call_answers : (s : State) (c : Call) → is_accepted (step s c).outcome ≡ true → AnswerPromise s c (step s c).outcome
+call_answers s c = by_granted (λ z w. is_accepted z.outcome ≡ true → AnswerPromise s c z.outcome) s (read s c) (λ h a. granted_answer s c) (λ r a. absurd (false≢true a))
 
 -- ---- kinds
 may_text : TextCall → Message → Bool

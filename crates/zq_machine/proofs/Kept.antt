@@ -10,7 +10,7 @@ use Rattle.zq_machine.proofs.Asking.{counted, to_askers}
 use Rattle.zq_machine.proofs.Closings.{call_closed}
 use Rattle.zq_machine.proofs.Counting.{faces_counted, replies_counted}
 use Rattle.zq_machine.proofs.Frame.{run_config}
-use Rattle.zq_machine.proofs.Handing.{call_fits, call_ordered}
+use Rattle.zq_machine.proofs.Handing.{call_answers, call_fits, call_ordered}
 use Rattle.zq_machine.proofs.LastIds.{run_last}
 use Rattle.zq_machine.proofs.Promises.{request_promise, reply_promise, refusal_promise}
 use Rattle.zq_machine.proofs.Silent.{nothing_after}
@@ -27,6 +27,7 @@ kept config before c =
       requests = request_promise s c;
       replies = reply_promise s c;
       waits = call_waits s c;
+      answer = call_answers s c;
       fit = call_fits s c;
       ordered = call_ordered s c (run_in_order config before).numbered;
       finals = λ n. final_promise n s c (run_sound before (opening_state config) (opening_sound config)) (run_once n config before);

@@ -19,6 +19,7 @@ use Rattle.zq_naming.specs.Naming.{read_by, face_keys, face_naming}
 use Rattle.zq_machine.specs.declared.call.Call.{Call}
 use Rattle.zq_machine.specs.declared.call.Call.TheVariants as call
 use Rattle.zq_machine.specs.Handing.{Handed}
+use Rattle.zq_machine.specs.declared.call.Outcome.{Outcome}
 use Rattle.zq_machine.specs.declared.call.Outcome.TheVariants as outcome
 use Rattle.zq_machine.specs.declared.call.Refusal.{Refusal}
 use Rattle.zq_machine.specs.declared.call.Step.{Step}
@@ -151,7 +152,14 @@ pub record FinalPromise (n : ℕ) (s : State) (c : Call) : Type 0 where
   pub silent : to_come s.core.queries.closed n s.core.queries ≡ 0 → list_any (is_of n) (step s c).handed ≡ false
   pub standing : any_over (after s c).core.queries.records ≡ false
 
--- ---- what is handed
+-- ---- what is answered and handed
+
+-- an accepted opening is answered the next face; the answers of requests and replies are said with them; every other call is answered that it is done
+abbrev pub AnswerPromise : State → Call → Outcome → Type 0
+AnswerPromise s (call.Open o) answer = answer ≡ outcome.Opened (record { 0 = s.core.next_face })
+AnswerPromise s (call.Request face r now) answer = Unit {0}
+AnswerPromise s (call.Response face r) answer = Unit {0}
+AnswerPromise s c answer = answer ≡ outcome.Done
 
 -- the number of the request that a message ends, if it is a final
 abbrev pub ended_by : Handed → Option ℕ
@@ -161,7 +169,7 @@ ended_by h = if is_final h.message then h.number else None
 abbrev pub ended_in : List Handed → List ℕ
 ended_in hs = filter_map ended_by hs
 
--- the kinds of messages that a call may hand: an asked request itself or, with no offer, its final; a reply; a final of what ends; no other call hands anything
+-- what a call may hand: a request, requests or the asker's final; a reply, a reply; a moment that has come, replies and finals; the end of an entry or of a reply, and a closing, finals; any other call, nothing
 abbrev pub may_hand : Call → Message → Bool
 may_hand (call.Request face r now) m = is_request m || is_final m
 may_hand (call.Response face r) m = is_response m
@@ -192,6 +200,7 @@ pub record KeepsPromises (s : State) (c : Call) : Type 0 where
   pub replies : ReplyPromise s c (step s c)
   pub waits : is_accepted (step s c).outcome ≡ true → Waits (ends_entry c) (lands c) (until s c) s.core.queries.records (after s c).core.queries.records (step s c).handed
   pub finals : (n : ℕ) → FinalPromise n s c
+  pub answer : is_accepted (step s c).outcome ≡ true → AnswerPromise s c (step s c).outcome
   pub fit : AllByRecursion (IsFit (may_hand c)) (step s c).handed
   pub ordered : IsStrictlySortedBy nat_cmp (ended_in (step s c).handed)
   pub closed : (face : ℕ) → is_closed (after s c).core.queries.closed face ≡ (closes face c (step s c) || is_closed s.core.queries.closed face)
