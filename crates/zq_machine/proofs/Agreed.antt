@@ -5,7 +5,6 @@ use Rattle.std.specs.Ordering.{nat_cmp}
 use Rattle.std.specs.List.Sorted.{IsStrictlySortedBy}
 use Rattle.std.specs.Map.{keys_of}
 use Rattle.std.specs.BTreeMap.{is_at}
-use Rattle.std.proofs.lemmas.Bool.{false≢true}
 use Rattle.std.proofs.lemmas.Cmp.{nat_cmp_total}
 use Rattle.std.proofs.lemmas.Map.Lookups.{exact_unsigned}
 use Rattle.std.proofs.lemmas.Option.{option_and_then_some, same_Some}
@@ -14,31 +13,38 @@ use Rattle.zq_tables.specs.Region.{region_index}
 use Rattle.zq_hat.specs.State.{FaceState, HatState}
 use Rattle.zq_hat.specs.Kept.{declaration, face_at, has_face, is_apart, new_hat, registered, unregistered, without_face}
 use Rattle.zq_hat.specs.Marks.{finalized}
+use Rattle.zq_query.specs.declared.records.ReplyTo.{ReplyTo}
+use Rattle.zq_query.specs.Closing.{at_face}
+use Rattle.zq_query.specs.Polling.{is_due, timeouts, timing_out}
+use Rattle.zq_query.specs.Records.{QueryState, is_entry, next_reply}
 use Rattle.zq_naming.specs.Naming.{NamingState, face_queryables}
 use Rattle.zq_machine.specs.declared.call.Call.{Call}
-use Rattle.zq_machine.specs.declared.call.Refusal.{Refusal}
 use Rattle.zq_machine.specs.declared.config.Entry.{Entry}
 use Rattle.zq_machine.specs.declared.face.OpenFace.{OpenFace}
 use Rattle.zq_machine.specs.Agreeing.{Agrees, id_and_key, keys_in, stands_in}
 use Rattle.zq_machine.specs.Configs.{Settings, region_of, north_of}
-use Rattle.zq_machine.specs.Deciding.{causes, refusal_of, granted, answered, is_accepted}
-use Rattle.zq_machine.specs.Machine.{accepted_state, after, follow, state_after}
+use Rattle.zq_machine.specs.Deciding.{accepted, after_replied, causes, deadline, refusal_of, targets}
+use Rattle.zq_machine.specs.Machine.{accepted_state, state_after}
 use Rattle.zq_machine.specs.Selecting.{full_text}
 use Rattle.zq_machine.specs.State.{State, at, change_hat, clashes_in, first_hats, hat_at, hat_of, is_open, is_region, opening_state, with_hat}
-use Rattle.zq_machine.specs.TextCalls.{TextCall, opening, closing, naming, unnaming, declaring, withdrawing, asking, replying, ending, reporting, passing, listing, finalizing, unbuilt, read}
+use Rattle.zq_machine.specs.TextCalls.{TextCall, opening, closing, naming, unnaming, declaring, withdrawing, asking, replying, ending, reporting, passing, listing, finalizing, unbuilt}
 use Rattle.zq_machine.proofs.Agreeing.{Tied, declared_tied, marked_tied, named_tied, some_of, unnamed_tied, withdrawn_tied}
 use Rattle.zq_machine.proofs.Changing.{hat_found, itself, number_test, region_there}
-use Rattle.zq_machine.proofs.Finals.{IsSound, after_sound, is_there, none_sorted, opening_sound, run_sound}
+use Rattle.zq_machine.proofs.Finals.{IsSound, granted_sound, is_there, none_sorted, opening_sound}
+use Rattle.zq_machine.proofs.Hats.{AreHatsOf, accepted_hats, opening_hats}
 use Rattle.zq_machine.proofs.Joining.{closed_tied, opened_tied}
-use Rattle.zq_machine.proofs.Promises.{all_passed, granted_is_accepted}
-use Rattle.zq_machine.proofs.Writing.{settles_plainly}
+use Rattle.zq_machine.proofs.NewEntries.{numbered_asked}
+use Rattle.zq_machine.proofs.Numbered.{InNumbers, numbered_if_put, numbered_landed, numbered_let_go, numbered_timing}
+use Rattle.zq_machine.proofs.Promises.{all_passed, no_full}
+use Rattle.zq_machine.proofs.Targets.{AllAim, accepted_aims, targets_distinct}
+use Rattle.zq_machine.proofs.Always.{always}
 use Rattle.zq_key.proofs.Lookups.{found_after_insertion}
 
 abbrev IsTied : State → Type 0
 IsTied s = Tied s.core.faces s.core.hats s.names
 
 -- the next number is no open face's
-next_absent : (s : State) → IsSound s → at s.core.next_face s.core.faces ≡ None
+pub next_absent : (s : State) → IsSound s → at s.core.next_face s.core.faces ≡ None
 next_absent s i = by (at s.core.next_face s.core.faces) refl
   where
     by : (o : Option OpenFace) → at s.core.next_face s.core.faces ≡ o → o ≡ None
@@ -46,7 +52,7 @@ next_absent s i = by (at s.core.next_face s.core.faces) refl
     by (Some x) e = let l : s.core.next_face < s.core.next_face = i.open_below s.core.next_face (ap is_some e) in absurd (omega (arith, l))
 
 module _ (s : State) (i : IsSound s) (t : IsTied s) where
-  opened_face : (face : ℕ) → not (is_open face s.core) ≡ false → (o : OpenFace) × (at face s.core.faces ≡ Some o)
+  pub opened_face : (face : ℕ) → not (is_open face s.core) ≡ false → (o : OpenFace) × (at face s.core.faces ≡ Some o)
   opened_face face h = some_of (at face s.core.faces) (is_there (is_open face s.core) h)
 
   abbrev hats_of : (HatState → HatState) → Option OpenFace → List (ℕ × HatState)
@@ -85,16 +91,45 @@ module _ (s : State) (i : IsSound s) (t : IsTied s) where
       in_its_hat face.0 (finalized face.0 m set) s.core.faces s.names x (marked_tied s.core.faces s.core.hats s.names t face.0 x.0 x.1 m set)
   granted_tied unbuilt h = t
 
-follow_tied : (s : State) (x : TextCall) → IsSound s → IsTied s → IsTied (follow s x)
-follow_tied s x i t = by (refusal_of s.core x) refl
-  where
-    taken : (b : Bool) → b ≡ true → refusal_of s.core x ≡ None → IsTied (cond b (accepted_state s x) s)
-    taken true e h = granted_tied s i t x h
-    taken false e h = absurd (false≢true e)
+-- ---- all that holds between two calls
+pub record InOrder (config : Settings) (s : State) : Type 0 where
+  pub sound : IsSound s
+  pub tied : IsTied s
+  pub hats : AreHatsOf config s.core.hats
+  pub numbered : InNumbers s.core.queries
+  pub aims : AllAim s.core.faces s.core.queries.records
 
-    by : (o : Option Refusal) → refusal_of s.core x ≡ o → IsTied (cond (is_accepted (answered o (granted s.core x)).outcome) (accepted_state s x) s)
-    by (Some r) e = t
-    by None e = taken (is_accepted (granted s.core x).outcome) (granted_is_accepted s.core x e) e
+replied_numbers : (q : QueryState) (o : Option ReplyTo) → InNumbers q → InNumbers (after_replied o q)
+replied_numbers q None i = i
+replied_numbers q (Some to) i = numbered_if_put q to.number (is_some to.reply) i
+
+granted_numbers : (s : State) (x : TextCall) → refusal_of s.core x ≡ None → InNumbers s.core.queries → InNumbers (accepted s.core x).queries
+granted_numbers s (opening o) h i = i
+granted_numbers s (closing face) h i = numbered_let_go s.core.queries.records s.core.queries.requests s.core.queries.replies i (at_face face.0)
+granted_numbers s (naming face id sd y) h i = i
+granted_numbers s (unnaming face id y) h i = i
+granted_numbers s (declaring face id sd info node) h i = i
+granted_numbers s (withdrawing face id) h i = i
+granted_numbers s (asking face sd r now) h i =
+    numbered_asked s.core.queries face r.id r.qos (targets s.core face sd r) (deadline s.core r.timeout now) i (no_full s face sd r now h) (targets_distinct s.core face sd r)
+granted_numbers s (replying face sd r) h i = replied_numbers s.core.queries (next_reply face.0 r.rid s.core.queries) i
+granted_numbers s (ending face rid) h i = numbered_let_go s.core.queries.records s.core.queries.requests s.core.queries.replies i (is_entry face.0 rid)
+granted_numbers s (reporting reply) h i = numbered_landed s.core.queries.records s.core.queries.requests s.core.queries.replies i reply
+granted_numbers s (passing now) h i =
+    let z = timing_out (timeouts now s.core.queries) s.core.queries in
+    numbered_let_go z.records z.requests z.replies (numbered_timing (timeouts now s.core.queries) s.core.queries i) (is_due now)
+granted_numbers s (listing r table) h i = i
+granted_numbers s (finalizing face m set) h i = i
+granted_numbers s unbuilt h i = i
+
+pub granted_in_order : (config : Settings) (s : State) (x : TextCall) → refusal_of s.core x ≡ None → InOrder config s → InOrder config (accepted_state s x)
+granted_in_order config s x h i = record {
+  sound = granted_sound s.core x h i.sound;
+  tied = granted_tied s i.sound i.tied x h;
+  hats = accepted_hats config.start.told (first_hats config) s.core i.hats x;
+  numbered = granted_numbers s x h i.numbered;
+  aims = accepted_aims config s.core s.names i.tied i.hats i.sound.sorted i.aims x;
+}
 
 -- ---- before any call no hat has a face
 abbrev AreBare : List (ℕ × HatState) → Type 0
@@ -133,22 +168,40 @@ opening_tied config = record {
     bare : AreBare (first_hats config)
     bare = all_bare config config.entries [] (λ r h e. absurd (let gap = (region_there r [] h e).1 in cc))
 
-run_tied : (cs : List Call) (s : State) → IsSound s → IsTied s → IsTied (state_after s cs)
-run_tied [] s i t = t
-run_tied (c ∷ cs) s i t = run_tied cs (after s c) (after_sound s c i) (subst IsTied (sym (settles_plainly s (read s c))) (follow_tied s (read s c) i t))
+pub opening_in_order : (config : Settings) → InOrder config (opening_state config)
+opening_in_order config = record {
+  sound = opening_sound config;
+  tied = opening_tied config;
+  hats = opening_hats config;
+  numbered = record { numbers = none_sorted; below = tt; places = λ face id. omega arith; once = tt; flights = λ reply. omega arith; flown = tt };
+  aims = tt;
+}
+
+-- at every point of a run
+pub run_in_order : (config : Settings) (calls : List Call) → InOrder config (state_after (opening_state config) calls)
+run_in_order config calls = always (InOrder config) (granted_in_order config) calls (opening_state config) (opening_in_order config)
 
 -- ---- in the words of the promise
-agrees : (s : State) → IsSound s → IsTied s → Agrees s
-agrees s i t = record {
+agrees : (config : Settings) (s : State) → InOrder config s → Agrees s
+agrees config s x = record {
   apart = λ face seen. i.apart face seen;
   seats = λ r h face e. t.seats r h face e;
   homes = λ face seen.
-      let x : (o : OpenFace) × (at face s.core.faces ≡ Some o) = some_of (at face s.core.faces) seen in
-      ap (λ y. is_some (option_and_then its_hat y)) x.1 ∙ t.homes face x.0 x.1;
+      let y : (o : OpenFace) × (at face s.core.faces ≡ Some o) = some_of (at face s.core.faces) seen in
+      ap (λ z. is_some (option_and_then its_hat z)) y.1 ∙ t.homes face y.0 y.1;
   named = λ face. t.named face;
+  copies = λ face o h f seen e f_at. (t.held face o h f seen (sym (ap (option_and_then its_hat) seen) ∙ e) f_at).copy;
   held = λ face h e. option_and_then_some its_hat (at face s.core.faces) h e (λ o seen h_at. held_by face h o seen h_at);
+  targets = x.aims;
+  numbered = x.numbered;
 }
   where
+    i : IsSound s
+    i = x.sound
+
+    t : IsTied s
+    t = x.tied
+
     its_hat : OpenFace → Option HatState
     its_hat o = hat_at o.region s.core.hats
 
@@ -160,6 +213,4 @@ agrees s i t = record {
         (t.held face o h f.0 seen h_at f.1).same ∙ sym (ap (λ x. option_map_or (λ (y : FaceState). map id_and_key y.declared) x []) f.1)
 
 pub agree_always : (config : Settings) (calls : List Call) → Agrees (state_after (opening_state config) calls)
-agree_always config calls =
-    let first : State = opening_state config in
-    agrees (state_after first calls) (run_sound calls first (opening_sound config)) (run_tied calls first (opening_sound config) (opening_tied config))
+agree_always config calls = agrees config (state_after (opening_state config) calls) (run_in_order config calls)

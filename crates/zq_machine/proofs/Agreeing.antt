@@ -24,14 +24,15 @@ use Rattle.zq_hat.specs.Marks.{marked}
 use Rattle.zq_naming.specs.Naming.{FaceKeys, Names, NamingState, change_naming, face_queryables, first_stays, naming_at, no_keys, text_at, with_name, with_queryable, without_name, without_queryable}
 use Rattle.zq_naming.proofs.Entries.{insert_there}
 use Rattle.zq_machine.specs.declared.face.OpenFace.{OpenFace}
-use Rattle.zq_machine.specs.Agreeing.{id_and_key, is_open_in}
+use Rattle.zq_machine.specs.Agreeing.{IsCopy, id_and_key, is_open_in}
 use Rattle.zq_machine.specs.State.{at, hat_at, change_hat}
 use Rattle.zq_machine.proofs.Changing.{each_hat, face_here, face_other, face_stays, faces_sorted, found_here, found_other, hat_stays, itself, naming_changed, one_number, sorted_changed, there}
 use Rattle.zq_machine.proofs.EntriesMoved.{insert-map, remove-map}
 use Rattle.zq_key.proofs.Sorted.{sorted_in, sorted_out}
 
--- the queryables that hold nodes are the declared ones, which stand in order
-pub record Holds (f : FaceState) (qs : Names) : Type 0 where
+-- the hat's copy is how the face was opened; the queryables that hold nodes are the declared ones, which stand in order
+pub record Holds (o : OpenFace) (f : FaceState) (qs : Names) : Type 0 where
+  pub copy : IsCopy o f
   pub same : qs ≡ map id_and_key f.declared
   pub sorted : IsStrictlySortedBy nat_cmp (keys_of f.declared)
 
@@ -42,7 +43,7 @@ pub record Tied (faces : List (ℕ × OpenFace)) (hats : List (ℕ × HatState))
   pub seats : (r : Region) (h : HatState) (q : ℕ) → hat_at r hats ≡ Some h → has_face q h ≡ is_open_in r q faces
   pub homes : (q : ℕ) (o : OpenFace) → at q faces ≡ Some o → is_some (hat_at o.region hats) ≡ true
   pub named : (q : ℕ) → is_some (naming_at q names) ≡ is_some (at q faces)
-  pub held : (q : ℕ) (o : OpenFace) (h : HatState) (f : FaceState) → at q faces ≡ Some o → hat_at o.region hats ≡ Some h → face_at q h ≡ Some f → Holds f (face_queryables q names)
+  pub held : (q : ℕ) (o : OpenFace) (h : HatState) (f : FaceState) → at q faces ≡ Some o → hat_at o.region hats ≡ Some h → face_at q h ≡ Some f → Holds o f (face_queryables q names)
 
 abbrev pub keys_by : Option FaceKeys → Names
 keys_by o = (unwrap_or o no_keys).queryables
@@ -85,7 +86,7 @@ module _ (faces : List (ℕ × OpenFace)) (hats : List (ℕ × HatState)) (names
     seats = t.seats;
     homes = t.homes;
     named = λ q. names_found face g names q ∙ t.named q;
-    held = λ q o h f e there_at f_at. subst (Holds f) (sym (keys_kept face g names same q)) (t.held q o h f e there_at f_at);
+    held = λ q o h f e there_at f_at. subst (Holds o f) (sym (keys_kept face g names same q)) (t.held q o h f e there_at f_at);
   }
 
   pub named_tied : (face id : ℕ) (text : List ℕ) → Tied faces hats (change_naming face (with_name id text) names)
@@ -109,14 +110,14 @@ module _ (faces : List (ℕ × OpenFace)) (hats : List (ℕ × HatState)) (names
         (sorted : IsStrictlySortedBy nat_cmp (keys_of after))
         (names_same : (q : ℕ) → is_some (naming_at q after) ≡ is_some (naming_at q names))
         (others : (q : ℕ) → is_at (nat_cmp face) q ≡ false → face_queryables q after ≡ face_queryables q names)
-        (kept : (h : HatState) (f : FaceState) → hat_at o.region hats ≡ Some h → face_at face h ≡ Some f → Holds f (face_queryables face names) → Holds (k f) (face_queryables face after)) where
+        (kept : (h : HatState) (f : FaceState) → hat_at o.region hats ≡ Some h → face_at face h ≡ Some f → Holds o f (face_queryables face names) → Holds o (k f) (face_queryables face after)) where
       each : (P : HatState → Type 0) (r : Region) (h : HatState) → hat_at r (hats_with k) ≡ Some h
           → (is_at (nat_cmp (region_index o.region)) (region_index r) ≡ true → hat_at r hats ≡ Some home.0 → P (change_face face k home.0))
           → (is_at (nat_cmp (region_index o.region)) (region_index r) ≡ false → hat_at r hats ≡ Some h → P h)
           → P h
       each = each_hat o.region home.0 (change_face face k) hats home.1
 
-      changed_here : (q : ℕ) → is_at (nat_cmp face) q ≡ true → (f : FaceState) → face_at q (change_face face k home.0) ≡ Some f → Holds f (face_queryables q after)
+      changed_here : (q : ℕ) → is_at (nat_cmp face) q ≡ true → (f : FaceState) → face_at q (change_face face k home.0) ≡ Some f → Holds o f (face_queryables q after)
       changed_here q e f f_at = by (face_at face home.0) refl
         where
           one : face ≡ q
@@ -125,31 +126,32 @@ module _ (faces : List (ℕ × OpenFace)) (hats : List (ℕ × HatState)) (names
           found : option_map k (face_at face home.0) ≡ Some f
           found = ap (λ n. option_map k (face_at n home.0)) one ∙ sym (face_here face k home.0 q e) ∙ f_at
 
-          by : (x : Option FaceState) → face_at face home.0 ≡ x → Holds f (face_queryables q after)
+          by : (x : Option FaceState) → face_at face home.0 ≡ x → Holds o f (face_queryables q after)
           by None is = absurd (let gap : None ≡ Some f = sym (ap (option_map k) is) ∙ found in cc)
           by (Some x) is =
               let new : k x ≡ f = same_Some _ _ (sym (ap (option_map k) is) ∙ found) in
-              let holds : Holds (k x) (face_queryables face after) = kept home.0 x home.1 is (t.held face o home.0 x seen home.1 is) in
-              subst (λ n. Holds f (face_queryables n after)) one (subst (λ y. Holds y (face_queryables face after)) new holds)
+              let holds : Holds o (k x) (face_queryables face after) = kept home.0 x home.1 is (t.held face o home.0 x seen home.1 is) in
+              subst (λ n. Holds o f (face_queryables n after)) one (subst (λ y. Holds o y (face_queryables face after)) new holds)
 
-      changed_elsewhere : (q : ℕ) → is_at (nat_cmp face) q ≡ false → (p : OpenFace) (h : HatState) (f : FaceState) → at q faces ≡ Some p → hat_at p.region hats ≡ Some h → face_at q h ≡ Some f → Holds f (face_queryables q after)
-      changed_elsewhere q e p h f q_at h_at f_at = subst (Holds f) (sym (others q e)) (t.held q p h f q_at h_at f_at)
+      changed_elsewhere : (q : ℕ) → is_at (nat_cmp face) q ≡ false → (p : OpenFace) (h : HatState) (f : FaceState) → at q faces ≡ Some p → hat_at p.region hats ≡ Some h → face_at q h ≡ Some f → Holds p f (face_queryables q after)
+      changed_elsewhere q e p h f q_at h_at f_at = subst (Holds p f) (sym (others q e)) (t.held q p h f q_at h_at f_at)
 
       -- the face's own hat is changed
-      own_region : (q : ℕ) → is_at (nat_cmp face) q ≡ true → (p : OpenFace) → at q faces ≡ Some p → is_at (nat_cmp (region_index o.region)) (region_index p.region) ≡ true
-      own_region q e p q_at =
-          let same : o ≡ p = same_Some _ _ (sym seen ∙ ap (λ n. at n faces) (one_number face q e) ∙ q_at) in
-          ap (λ (x : OpenFace). is_at (nat_cmp (region_index o.region)) (region_index x.region)) (sym same) ∙ itself (region_index o.region)
+      itself_open : (q : ℕ) → is_at (nat_cmp face) q ≡ true → (p : OpenFace) → at q faces ≡ Some p → o ≡ p
+      itself_open q e p q_at = same_Some _ _ (sym seen ∙ ap (λ n. at n faces) (one_number face q e) ∙ q_at)
 
-      holds_after : (q : ℕ) (p : OpenFace) (h : HatState) (f : FaceState) → at q faces ≡ Some p → hat_at p.region (hats_with k) ≡ Some h → face_at q h ≡ Some f → Holds f (face_queryables q after)
+      own_region : (q : ℕ) → is_at (nat_cmp face) q ≡ true → (p : OpenFace) → at q faces ≡ Some p → is_at (nat_cmp (region_index o.region)) (region_index p.region) ≡ true
+      own_region q e p q_at = ap (λ (x : OpenFace). is_at (nat_cmp (region_index o.region)) (region_index x.region)) (sym (itself_open q e p q_at)) ∙ itself (region_index o.region)
+
+      holds_after : (q : ℕ) (p : OpenFace) (h : HatState) (f : FaceState) → at q faces ≡ Some p → hat_at p.region (hats_with k) ≡ Some h → face_at q h ≡ Some f → Holds p f (face_queryables q after)
       holds_after q p h f q_at h_at = by (is_at (nat_cmp face) q) refl
         where
           P : HatState → Type 0
-          P x = face_at q x ≡ Some f → Holds f (face_queryables q after)
+          P x = face_at q x ≡ Some f → Holds p f (face_queryables q after)
 
-          by : (b : Bool) → is_at (nat_cmp face) q ≡ b → face_at q h ≡ Some f → Holds f (face_queryables q after)
+          by : (b : Bool) → is_at (nat_cmp face) q ≡ b → face_at q h ≡ Some f → Holds p f (face_queryables q after)
           by true e = each P p.region h h_at
-              (λ b old f_at. changed_here q e f f_at)
+              (λ b old f_at. subst (λ x. Holds x f (face_queryables q after)) (itself_open q e p q_at) (changed_here q e f f_at))
               (λ b old f_at. absurd (false≢true (sym b ∙ own_region q e p q_at)))
           by false e = each P p.region h h_at
               (λ b old f_at. changed_elsewhere q e p home.0 f q_at old (sym (face_other face k home.0 q e) ∙ f_at))
@@ -166,15 +168,16 @@ module _ (faces : List (ℕ × OpenFace)) (hats : List (ℕ × HatState)) (names
       }
 
 -- ---- what a face declares, withdraws and is marked with
-keys_in_order : (f : FaceState) (qs : Names) → Holds f qs → IsStrictlySortedBy nat_cmp (keys_of qs)
-keys_in_order f qs holds = subst (IsStrictlySortedBy nat_cmp) (sym (ap keys_of holds.same ∙ keys_of-map_values (λ (d : Declaration). d.key) f.declared)) holds.sorted
+keys_in_order : (o : OpenFace) (f : FaceState) (qs : Names) → Holds o f qs → IsStrictlySortedBy nat_cmp (keys_of qs)
+keys_in_order o f qs holds = subst (IsStrictlySortedBy nat_cmp) (sym (ap keys_of holds.same ∙ keys_of-map_values (λ (d : Declaration). d.key) f.declared)) holds.sorted
 
 same_text : (id : ℕ) (text u : List ℕ) (d : Option Declaration) → option_map (λ (x : Declaration). x.key) d ≡ Some u → option_map_or (is_apart text) d false ≡ false → u ≡ text
 same_text id text u None e apart = absurd (let gap : None ≡ Some u = e in cc)
 same_text id text u (Some d) e apart = sym (same_Some _ _ e) ∙ (bytes_eq-Decides d.key text).0 (not-false (bytes_eq d.key text) apart)
 
-declared_holds : (id : ℕ) (text : List ℕ) (info : QueryableInfoType) (f : FaceState) (qs : Names) → Holds f qs → option_map_or (is_apart text) (declaration id f) false ≡ false → Holds (declare id text info f) (first_stays id text qs)
-declared_holds id text info f qs holds apart = record {
+declared_holds : (o : OpenFace) (id : ℕ) (text : List ℕ) (info : QueryableInfoType) (f : FaceState) (qs : Names) → Holds o f qs → option_map_or (is_apart text) (declaration id f) false ≡ false → Holds o (declare id text info f) (first_stays id text qs)
+declared_holds o id text info f qs holds apart = record {
+  copy = record { zid = holds.copy.zid; mode = holds.copy.mode; remote_bound = holds.copy.remote_bound };
   same = by (text_at id qs) refl;
   sorted = sorted_in nat_cmp_total f.declared id (record { key = text; info = info }) holds.sorted;
 }
@@ -190,40 +193,41 @@ declared_holds id text info f qs holds apart = record {
         let was : option_map (λ (x : Declaration). x.key) (declaration id f) ≡ Some u =
         sym (lookup-map_values (λ (d : Declaration). d.key) (is_at (nat_cmp id)) f.declared) ∙ ap (text_at id) (sym holds.same) ∙ e in
         let now : text_at id qs ≡ Some text = e ∙ ap Some (same_text id text u (declaration id f) was apart) in
-        sym (insert_there qs id u text (keys_in_order f qs holds) e ∙ set_value_same (is_at (nat_cmp id)) qs text now) ∙ inserted
+        sym (insert_there qs id u text (keys_in_order o f qs holds) e ∙ set_value_same (is_at (nat_cmp id)) qs text now) ∙ inserted
 
-withdrawn_holds : (id : ℕ) (f : FaceState) (qs : Names) → Holds f qs → Holds (withdraw id f) (remove_entry (is_at (nat_cmp id)) qs)
-withdrawn_holds id f qs holds = record {
+withdrawn_holds : (o : OpenFace) (id : ℕ) (f : FaceState) (qs : Names) → Holds o f qs → Holds o (withdraw id f) (remove_entry (is_at (nat_cmp id)) qs)
+withdrawn_holds o id f qs holds = record {
+  copy = record { zid = holds.copy.zid; mode = holds.copy.mode; remote_bound = holds.copy.remote_bound };
   same = ap (remove_entry (is_at (nat_cmp id))) holds.same ∙ remove-map (λ (d : Declaration). d.key) (is_at (nat_cmp id)) f.declared;
   sorted = sorted_out nat_cmp (is_at (nat_cmp id)) f.declared holds.sorted;
 }
 
-marked_holds : (m : FinalMark) (set : Bool) (f : FaceState) (qs : Names) → Holds f qs → Holds (marked m set f) qs
-marked_holds mark.Initial set f qs holds = record { same = holds.same; sorted = holds.sorted }
-marked_holds (mark.Key key) true f qs holds = record { same = holds.same; sorted = holds.sorted }
-marked_holds (mark.Key key) false f qs holds = record { same = holds.same; sorted = holds.sorted }
+marked_holds : (o : OpenFace) (m : FinalMark) (set : Bool) (f : FaceState) (qs : Names) → Holds o f qs → Holds o (marked m set f) qs
+marked_holds o mark.Initial set f qs holds = record { copy = record { zid = holds.copy.zid; mode = holds.copy.mode; remote_bound = holds.copy.remote_bound }; same = holds.same; sorted = holds.sorted }
+marked_holds o (mark.Key key) true f qs holds = record { copy = record { zid = holds.copy.zid; mode = holds.copy.mode; remote_bound = holds.copy.remote_bound }; same = holds.same; sorted = holds.sorted }
+marked_holds o (mark.Key key) false f qs holds = record { copy = record { zid = holds.copy.zid; mode = holds.copy.mode; remote_bound = holds.copy.remote_bound }; same = holds.same; sorted = holds.sorted }
 
 module _ (faces : List (ℕ × OpenFace)) (hats : List (ℕ × HatState)) (names : NamingState) (t : Tied faces hats names) (face : ℕ) (o : OpenFace) (seen : at face faces ≡ Some o) where
   -- the keys of the face are changed as its declarations are
   with_keys : (k : FaceState → FaceState) (g : FaceKeys → FaceKeys)
-      → ((h : HatState) (f : FaceState) (n : FaceKeys) → hat_at o.region hats ≡ Some h → face_at face h ≡ Some f → Holds f n.queryables → Holds (k f) (g n).queryables)
+      → ((h : HatState) (f : FaceState) (n : FaceKeys) → hat_at o.region hats ≡ Some h → face_at face h ≡ Some f → Holds o f n.queryables → Holds o (k f) (g n).queryables)
       → Tied faces (change_hat o.region (change_face face k) hats) (change_naming face g names)
   with_keys k g kept =
       let n : (n : FaceKeys) × (naming_at face names ≡ Some n) = its_keys faces hats names t face o seen in
       face_tied faces hats names t face o seen k (change_naming face g names)
       (names_in_order face g names t.names_sorted) (names_found face g names) (keys_elsewhere face g names)
-      (λ h f h_at f_at holds. subst (Holds (k f)) (sym (keys_here face g names n.0 n.1)) (kept h f n.0 h_at f_at (subst (Holds f) (ap keys_by n.1) holds)))
+      (λ h f h_at f_at holds. subst (Holds o (k f)) (sym (keys_here face g names n.0 n.1)) (kept h f n.0 h_at f_at (subst (Holds o f) (ap keys_by n.1) holds)))
 
   pub declared_tied : (id : ℕ) (text : List ℕ) (info : QueryableInfoType)
       → ((h : HatState) (f : FaceState) → hat_at o.region hats ≡ Some h → face_at face h ≡ Some f → option_map_or (is_apart text) (declaration id f) false ≡ false)
       → Tied faces (change_hat o.region (change_face face (declare id text info)) hats) (change_naming face (with_queryable id text) names)
   declared_tied id text info apart =
-      with_keys (declare id text info) (with_queryable id text) (λ h f n h_at f_at holds. declared_holds id text info f n.queryables holds (apart h f h_at f_at))
+      with_keys (declare id text info) (with_queryable id text) (λ h f n h_at f_at holds. declared_holds o id text info f n.queryables holds (apart h f h_at f_at))
 
   pub withdrawn_tied : (id : ℕ) → Tied faces (change_hat o.region (change_face face (withdraw id)) hats) (change_naming face (without_queryable id) names)
-  withdrawn_tied id = with_keys (withdraw id) (without_queryable id) (λ h f n h_at f_at holds. withdrawn_holds id f n.queryables holds)
+  withdrawn_tied id = with_keys (withdraw id) (without_queryable id) (λ h f n h_at f_at holds. withdrawn_holds o id f n.queryables holds)
 
   pub marked_tied : (m : FinalMark) (set : Bool) → Tied faces (change_hat o.region (change_face face (marked m set)) hats) names
   marked_tied m set =
       face_tied faces hats names t face o seen (marked m set) names t.names_sorted (λ q. refl) (λ q e. refl)
-      (λ h f h_at f_at holds. marked_holds m set f (face_queryables face names) holds)
+      (λ h f h_at f_at holds. marked_holds o m set f (face_queryables face names) holds)

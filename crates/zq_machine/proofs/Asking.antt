@@ -6,7 +6,7 @@ use Rattle.std.specs.BTreeSet.{insert_key}
 use Rattle.std.specs.Ordering.{nat_cmp}
 use Rattle.std.specs.Option.{is_some, option_map}
 use Rattle.std.proofs.lemmas.Bool.{false≢true}
-use Rattle.std.proofs.lemmas.List.{append-nil}
+use Rattle.std.proofs.lemmas.List.{append-nil, map-append}
 use Rattle.std.proofs.lemmas.List.Elements.{Contains-append_left, Contains-push}
 use Rattle.zq_key.specs.declared.message.FaceId.{FaceId}
 use Rattle.zq_key.specs.declared.message.Request.{Request}
@@ -28,7 +28,7 @@ use Rattle.zq_machine.specs.declared.call.Call.TheVariants as call
 use Rattle.zq_machine.specs.declared.call.Refusal.{Refusal}
 use Rattle.zq_machine.specs.declared.call.Step.{Step}
 use Rattle.zq_machine.specs.declared.face.OpenFace.{OpenFace}
-use Rattle.zq_machine.specs.Asked.{AreCounted, IsAsked, IsHandedToAsker, asked_by, asked_in}
+use Rattle.zq_machine.specs.Asked.{AreCounted, IsAsked, IsHandedToAsker, asked_by, asked_in, asked_number}
 use Rattle.zq_machine.specs.Configs.{Settings}
 use Rattle.zq_machine.specs.Deciding.{accepted, after_replied, answered, granted, handed_reply, handed_request, handed_requests, handed_timeouts, is_accepted, passing_finals, refusal_of, replied, timed_out as text_timeout}
 use Rattle.zq_machine.specs.Machine.{accepted_state, after, answer, settle, state_after, step, steps_from}
@@ -37,26 +37,9 @@ use Rattle.zq_machine.specs.Writing.{write}
 use Rattle.zq_machine.specs.Selecting.{full_text, select, target_of}
 use Rattle.zq_machine.specs.State.{Core, State, opening_state}
 use Rattle.zq_machine.specs.TextCalls.{TextCall, opening, closing, naming, unnaming, declaring, withdrawing, asking, replying, ending, reporting, passing, listing, finalizing, unbuilt, read, said as said_by_face}
+use Rattle.zq_machine.proofs.Lists.{all_append, all_filter, all_weaker}
 use Rattle.zq_machine.proofs.Promises.{granted_is_accepted, is_asking}
 use Rattle.zq_machine.proofs.Writing.{by_plain, plainly}
-
--- ---- lists of which each element has a property
-module _ {X : Type 0} (P : X → Type 0) where
-  all_filter : (test : X → Bool) (xs : List X) → AllByRecursion P xs → AllByRecursion P (filter test xs)
-  all_filter test [] all = tt
-  all_filter test (x ∷ xs) all = by (test x) (all_filter test xs all.1)
-    where
-      by : (b : Bool) → AllByRecursion P (filter test xs) → AllByRecursion P (cond b (x ∷ filter test xs) (filter test xs))
-      by true rest = (all.0, rest)
-      by false rest = rest
-
-  all_append : (xs ys : List X) → AllByRecursion P xs → AllByRecursion P ys → AllByRecursion P (xs ++ ys)
-  all_append [] ys all more = more
-  all_append (x ∷ xs) ys all more = (all.0, all_append xs ys all.1 more)
-
-all_weaker : {X : Type 0} (P Q : X → Type 0) → ((x : X) → P x → Q x) → (xs : List X) → AllByRecursion P xs → AllByRecursion Q xs
-all_weaker P Q weaker [] all = tt
-all_weaker P Q weaker (x ∷ xs) all = (weaker x all.0, all_weaker P Q weaker xs all.1)
 
 -- ---- what holds of each record's number, asker, id and quality byte
 module _ (P : ℕ → FaceId → ℕ → ℕ → Type 0) where
@@ -260,7 +243,7 @@ Asks asked s = Each (IsAsked asked) s.core.queries.records
 record Tells (asked new : List Final) (s s' : State) (t : Step) : Type 0 where
   records : Asks (asked ++ new) s'
   handed : AllByRecursion (IsHandedToAsker (asked ++ new)) t.handed
-  counted : (rest : List Final) → AreCounted s'.core.queries.requests rest → AreCounted s.core.queries.requests (new ++ rest)
+  counted : (rest : List ℕ) → AreCounted s'.core.queries.requests rest → AreCounted s.core.queries.requests (map asked_number new ++ rest)
 
 more_asked : (asked new : List Final) (s : State) → Asks asked s → Asks (asked ++ new) s
 more_asked asked new s all =
@@ -370,11 +353,12 @@ to_askers config before c =
     subst (λ l. AllByRecursion (IsHandedToAsker l) (step (state_after (opening_state config) before) c).handed) (asked_last before (opening_state config) c)
     (call_tells (asked_from (opening_state config) before) (state_after (opening_state config) before) (run_asks before (opening_state config) [] tt) c).handed
 
-counted_from : (cs : List Call) (s : State) (asked : List Final) → Asks asked s → AreCounted s.core.queries.requests (asked_from s cs)
+counted_from : (cs : List Call) (s : State) (asked : List Final) → Asks asked s → AreCounted s.core.queries.requests (map asked_number (asked_from s cs))
 counted_from [] s asked all = tt
 counted_from (c ∷ cs) s asked all =
     let tells = call_tells asked s all c in
-    tells.counted (asked_from (after s c) cs) (counted_from cs (after s c) (asked ++ asked_by c (step s c)) tells.records)
+    subst (AreCounted s.core.queries.requests) (sym (map-append asked_number (asked_by c (step s c)) (asked_from (after s c) cs)))
+    (tells.counted (map asked_number (asked_from (after s c) cs)) (counted_from cs (after s c) (asked ++ asked_by c (step s c)) tells.records))
 
-pub counted : (config : Settings) (calls : List Call) → AreCounted config.start.requests (asked_from (opening_state config) calls)
+pub counted : (config : Settings) (calls : List Call) → AreCounted config.start.requests (map asked_number (asked_from (opening_state config) calls))
 counted config calls = counted_from calls (opening_state config) [] tt

@@ -1,5 +1,5 @@
 -- Entries of which one is changed, and a region's hat and a face's keys so changed: what look-ups find afterwards.
-use Rattle.std.proofs.Common.{◌≡◌, ◌∙◌, refl, sym, ap, subst, ℕ, Bool, true, false, cond, eqb, List, Option, Some, None, eqb-true}
+use Rattle.std.proofs.Common.{◌≡◌, ◌∙◌, refl, sym, ap, subst, ℕ, Bool, true, false, cond, eqb, List, Option, Some, None, ◌⊎◌, inl, inr, eqb-true}
 use Rattle.std.specs.Option.{is_some, option_map, option_map_or}
 use Rattle.std.specs.Ordering.{nat_cmp}
 use Rattle.std.specs.List.Sorted.{IsStrictlySortedBy}
@@ -130,6 +130,28 @@ module _ (home : Region) (first : HatState) (g : HatState → HatState) (hats : 
           let now : Some (g first) ≡ Some h = ap (option_map g) (sym was) ∙ sym (found_here (region_index home) g hats (region_index r) is) ∙ t.1 in
           subst P (same_Some _ _ now) (mine is (hat_found r hats (Some first) t.0 was))
       by false is = other is (hat_found r hats (Some h) t.0 (sym (found_other (region_index home) g hats (region_index r) is) ∙ t.1))
+
+  -- the changed hat is found
+  pub hat_here : hat_at home (change_hat home g hats) ≡ Some (g first)
+  hat_here =
+      let t = region_there home hats first here in
+      hat_found home (change_hat home g hats) (Some (g first)) t.0
+      (ap (λ l. at (region_index home) l) hat_changed ∙ found_here (region_index home) g hats (region_index home) (itself (region_index home)) ∙ ap (option_map g) t.1)
+
+  -- the hat of a region is as it was, or it is the changed one
+  pub hat_either : (r : Region) → (hat_at r (change_hat home g hats) ≡ hat_at r hats) ⊎ ((hat_at r hats ≡ Some first) × (hat_at r (change_hat home g hats) ≡ Some (g first)))
+  hat_either r = by (is_region r) refl (at_home r) refl
+    where
+      now : at (region_index r) (change_hat home g hats) ≡ at (region_index r) (changed (region_index home) g hats)
+      now = ap (λ l. at (region_index r) l) hat_changed
+
+      by : (b : Bool) → is_region r ≡ b → (c : Bool) → at_home r ≡ c → (hat_at r (change_hat home g hats) ≡ hat_at r hats) ⊎ ((hat_at r hats ≡ Some first) × (hat_at r (change_hat home g hats) ≡ Some (g first)))
+      by false none c e = inl (ap (λ b. cond b (value_at (change_hat home g hats) r) None) none ∙ sym (ap (λ b. cond b (value_at hats r) None) none))
+      by true is true e =
+          let was : at (region_index r) hats ≡ Some first = ap (λ n. at n hats) (sym (one_number (region_index home) (region_index r) e)) ∙ (region_there home hats first here).1 in
+          inr (hat_found r hats (Some first) is was, hat_found r (change_hat home g hats) (Some (g first)) is (now ∙ found_here (region_index home) g hats (region_index r) e ∙ ap (option_map g) was))
+      by true is false e =
+          inl (hat_found r (change_hat home g hats) (at (region_index r) hats) is (now ∙ found_other (region_index home) g hats (region_index r) e) ∙ sym (hat_found r hats (at (region_index r) hats) is refl))
 
   -- a region keeps its hat
   pub hat_stays : (r : Region) → is_some (hat_at r hats) ≡ true → is_some (hat_at r (change_hat home g hats)) ≡ true

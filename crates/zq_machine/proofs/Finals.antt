@@ -37,11 +37,12 @@ use Rattle.zq_machine.specs.State.{State, Core, at, is_open, opening_state}
 use Rattle.zq_machine.specs.Selecting.{select, full_text, target_of}
 use Rattle.zq_machine.specs.TextCalls.{TextCall, opening, closing, naming, unnaming, declaring, withdrawing, asking, replying, ending, reporting, passing, listing, finalizing, unbuilt, read}
 use Rattle.zq_machine.specs.Deciding.{timed_out, causes, refusal_of, granted, answered, is_accepted, accepted, after_replied, deadline, handed_reply, handed_request, handed_requests, handed_replies, handed_timeouts, opened, passing_finals, replied}
-use Rattle.zq_machine.specs.Machine.{follow, accepted_state, after, state_after, step}
+use Rattle.zq_machine.specs.Machine.{accepted_state, after, state_after, step}
 use Rattle.zq_machine.specs.Messages.{text_final}
 use Rattle.zq_machine.specs.Writing.{sent_final, write, written}
 use Rattle.zq_machine.specs.Headline.{ends, finals_of, to_come}
-use Rattle.zq_machine.proofs.Writing.{by_plain, settles_plainly}
+use Rattle.zq_machine.proofs.Always.{after_kept, always}
+use Rattle.zq_machine.proofs.Writing.{by_plain}
 use Rattle.zq_machine.proofs.Promises.{all_passed, granted_is_accepted}
 use Rattle.zq_key.proofs.Lookups.{same_key}
 use Rattle.zq_key.proofs.Sorted.{sorted_out, sorted_in, has_put}
@@ -132,7 +133,7 @@ is_there true h = refl
 is_there false h = absurd (true≢false h)
 
 -- a call that nothing refuses is one of an open face, where it is one of a face
-granted_sound : (c : Core) (t : TextCall) → refusal_of c t ≡ None → Sound c.faces c.next_face c.queries → Sound (accepted c t).faces (accepted c t).next_face (accepted c t).queries
+pub granted_sound : (c : Core) (t : TextCall) → refusal_of c t ≡ None → Sound c.faces c.next_face c.queries → Sound (accepted c t).faces (accepted c t).next_face (accepted c t).queries
 granted_sound c (opening o) h s = opened_sound c.faces c.next_face c.queries (opened o) s
 granted_sound c (closing face) h s = closed_sound c.faces c.next_face face.0 c.queries (is_there (is_open face.0 c) (all_passed (causes c (closing face)) h).0) s
 granted_sound c (naming face id sd x) h s = s
@@ -152,19 +153,8 @@ granted_sound c unbuilt h s = s
 abbrev pub IsSound : State → Type 0
 IsSound s = Sound s.core.faces s.core.next_face s.core.queries
 
-pub follow_sound : (s : State) (t : TextCall) → IsSound s → IsSound (follow s t)
-follow_sound s t i = by (refusal_of s.core t) refl
-  where
-    taken : (b : Bool) → b ≡ true → refusal_of s.core t ≡ None → IsSound (cond b (accepted_state s t) s)
-    taken true e h = granted_sound s.core t h i
-    taken false e h = absurd (false≢true e)
-
-    by : (o : Option Refusal) → refusal_of s.core t ≡ o → IsSound (cond (is_accepted (answered o (granted s.core t)).outcome) (accepted_state s t) s)
-    by (Some r) e = i
-    by None e = taken (is_accepted (granted s.core t).outcome) (granted_is_accepted s.core t e) e
-
 pub after_sound : (s : State) (c : Call) → IsSound s → IsSound (after s c)
-after_sound s c i = subst IsSound (sym (settles_plainly s (read s c))) (follow_sound s (read s c) i)
+after_sound = after_kept IsSound (λ s t. granted_sound s.core t)
 
 pub none_sorted : IsStrictlySortedBy nat_cmp []
 unfolding IsStrictlySortedBy
@@ -180,8 +170,7 @@ opening_sound config = record {
 }
 
 pub run_sound : (cs : List Call) (s : State) → IsSound s → IsSound (state_after s cs)
-run_sound [] s i = i
-run_sound (c ∷ cs) s i = run_sound cs (after s c) (after_sound s c i)
+run_sound = always IsSound (λ s t. granted_sound s.core t)
 
 -- ---- how many finals messages are
 module _ (n : ℕ) (names : NamingState) where

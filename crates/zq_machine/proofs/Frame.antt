@@ -1,27 +1,15 @@
 -- What no call changes.
-use Rattle.std.proofs.Common.{◌≡◌, ◌∙◌, refl, ap, Bool, true, false, cond}
+use Rattle.std.proofs.Common.{◌≡◌, ◌∙◌, refl, ap, Bool, true, false, cond, List, [], ◌∷◌}
 use Rattle.zq_machine.specs.declared.call.Call.{Call}
 use Rattle.zq_machine.specs.Deciding.{accepted, decide, is_accepted}
-use Rattle.zq_machine.specs.Machine.{accepted_state, after}
+use Rattle.zq_machine.specs.Machine.{accepted_state, after, state_after}
 use Rattle.zq_machine.specs.State.{Core, State}
-use Rattle.zq_machine.specs.TextCalls.{TextCall, opening, closing, naming, unnaming, declaring, withdrawing, asking, replying, ending, reporting, passing, listing, finalizing, unbuilt, read}
+use Rattle.zq_machine.specs.TextCalls.{TextCall, opening, read}
 use Rattle.zq_machine.proofs.Writing.{settles_plainly}
 
 accepted_config : (c : Core) (t : TextCall) → (accepted c t).config ≡ c.config
 accepted_config c (opening o) = refl
-accepted_config c (closing face) = refl
-accepted_config c (naming face id s x) = refl
-accepted_config c (unnaming face id x) = refl
-accepted_config c (declaring face id s i n) = refl
-accepted_config c (withdrawing face id) = refl
-accepted_config c (asking face s r now) = refl
-accepted_config c (replying face s r) = refl
-accepted_config c (ending face rid) = refl
-accepted_config c (reporting reply) = refl
-accepted_config c (passing now) = refl
-accepted_config c (listing r t) = refl
-accepted_config c (finalizing face m set) = refl
-accepted_config c unbuilt = refl
+accepted_config c t = refl
 
 -- the configuration never changes
 pub config_kept : (s : State) (c : Call) → (after s c).core.config ≡ s.core.config
@@ -30,3 +18,7 @@ config_kept s c = ap (λ (z : State). z.core.config) (settles_plainly s (read s 
     by : (b : Bool) → (cond b (accepted_state s (read s c)) s).core.config ≡ s.core.config
     by true = accepted_config s.core (read s c)
     by false = refl
+
+pub run_config : (cs : List Call) (s : State) → (state_after s cs).core.config ≡ s.core.config
+run_config [] s = refl
+run_config (c ∷ cs) s = run_config cs (after s c) ∙ config_kept s c

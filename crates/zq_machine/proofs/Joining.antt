@@ -30,7 +30,7 @@ same_place home r b e = sym (number_test (region_index home) (region_index r)) �
 
 -- ---- a face of the next number is opened
 module _ (faces : List (ℕ × OpenFace)) (hats : List (ℕ × HatState)) (names : NamingState) (t : Tied faces hats names) (n : ℕ) (o : Opening) (absent : at n faces ≡ None) (has : is_some (hat_at o.region hats) ≡ true) where
-  home : (h : HatState) × (hat_at o.region hats ≡ Some h)
+  pub home : (h : HatState) × (hat_at o.region hats ≡ Some h)
   home = some_of (hat_at o.region hats) has
 
   abbrev more_faces : List (ℕ × OpenFace)
@@ -51,13 +51,13 @@ module _ (faces : List (ℕ × OpenFace)) (hats : List (ℕ × HatState)) (names
   joined_faces : (joined (seat n o) home.0).faces ≡ insert_entry nat_cmp home.0.faces n new
   joined_faces = ap (λ b. (cond b home.0 (with_face_opened (seat n o) home.0)).faces) away
 
-  in_hat : (q : ℕ) → face_at q (joined (seat n o) home.0) ≡ cond (is_at (nat_cmp n) q) (Some new) (face_at q home.0)
+  pub in_hat : (q : ℕ) → face_at q (joined (seat n o) home.0) ≡ cond (is_at (nat_cmp n) q) (Some new) (face_at q home.0)
   in_hat q = ap (at q) joined_faces ∙ found_after_insertion nat_cmp_total exact_unsigned n q new home.0.faces
 
-  in_faces : (q : ℕ) → at q more_faces ≡ cond (is_at (nat_cmp n) q) (Some (opened o)) (at q faces)
+  pub in_faces : (q : ℕ) → at q more_faces ≡ cond (is_at (nat_cmp n) q) (Some (opened o)) (at q faces)
   in_faces q = found_after_insertion nat_cmp_total exact_unsigned n q (opened o) faces
 
-  in_names : (q : ℕ) → naming_at q more_names ≡ cond (is_at (nat_cmp n) q) (Some no_keys) (naming_at q names)
+  pub in_names : (q : ℕ) → naming_at q more_names ≡ cond (is_at (nat_cmp n) q) (Some no_keys) (naming_at q names)
   in_names q = found_after_insertion nat_cmp_total exact_unsigned n q no_keys names
 
   each : (P : HatState → Type 0) (r : Region) (h : HatState) → hat_at r more_hats ≡ Some h
@@ -100,27 +100,27 @@ module _ (faces : List (ℕ × OpenFace)) (hats : List (ℕ × HatState)) (names
       by false = t.named q
 
   -- it has declared nothing
-  new_holds : (q : ℕ) (h : HatState) (f : FaceState) → is_at (nat_cmp n) q ≡ true → hat_at o.region more_hats ≡ Some h → face_at q h ≡ Some f → Holds f (face_queryables q more_names)
-  new_holds q h f e h_at = each (λ x. face_at q x ≡ Some f → Holds f (face_queryables q more_names)) o.region h h_at
-      (λ b old f_at. subst (λ x. Holds x (face_queryables q more_names)) (same_Some _ _ (sym (in_hat q ∙ ap (λ c. cond c (Some new) (face_at q home.0)) e) ∙ f_at)) fresh)
+  new_holds : (q : ℕ) (h : HatState) (f : FaceState) → is_at (nat_cmp n) q ≡ true → hat_at o.region more_hats ≡ Some h → face_at q h ≡ Some f → Holds (opened o) f (face_queryables q more_names)
+  new_holds q h f e h_at = each (λ x. face_at q x ≡ Some f → Holds (opened o) f (face_queryables q more_names)) o.region h h_at
+      (λ b old f_at. subst (λ x. Holds (opened o) x (face_queryables q more_names)) (same_Some _ _ (sym (in_hat q ∙ ap (λ c. cond c (Some new) (face_at q home.0)) e) ∙ f_at)) fresh)
       (λ b old f_at. absurd (false≢true (sym b ∙ itself (region_index o.region))))
     where
-      fresh : Holds new (face_queryables q more_names)
-      fresh = subst (Holds new) (sym (ap keys_by (in_names q ∙ ap (λ c. cond c (Some no_keys) (naming_at q names)) e))) (record { same = refl; sorted = none_sorted })
+      fresh : Holds (opened o) new (face_queryables q more_names)
+      fresh = subst (Holds (opened o) new) (sym (ap keys_by (in_names q ∙ ap (λ c. cond c (Some no_keys) (naming_at q names)) e))) (record { copy = record { zid = refl; mode = refl; remote_bound = refl }; same = refl; sorted = none_sorted })
 
-  old_holds : (q : ℕ) (p : OpenFace) (h : HatState) (f : FaceState) → is_at (nat_cmp n) q ≡ false → at q faces ≡ Some p → hat_at p.region more_hats ≡ Some h → face_at q h ≡ Some f → Holds f (face_queryables q more_names)
-  old_holds q p h f e q_at h_at = each (λ x. face_at q x ≡ Some f → Holds f (face_queryables q more_names)) p.region h h_at
+  old_holds : (q : ℕ) (p : OpenFace) (h : HatState) (f : FaceState) → is_at (nat_cmp n) q ≡ false → at q faces ≡ Some p → hat_at p.region more_hats ≡ Some h → face_at q h ≡ Some f → Holds p f (face_queryables q more_names)
+  old_holds q p h f e q_at h_at = each (λ x. face_at q x ≡ Some f → Holds p f (face_queryables q more_names)) p.region h h_at
       (λ b old f_at. as_before home.0 old (sym (in_hat q ∙ ap (λ c. cond c (Some new) (face_at q home.0)) e) ∙ f_at))
       (λ b old f_at. as_before h old f_at)
     where
-      as_before : (x : HatState) → hat_at p.region hats ≡ Some x → face_at q x ≡ Some f → Holds f (face_queryables q more_names)
-      as_before x x_at f_at = subst (Holds f) (sym (ap keys_by (in_names q ∙ ap (λ c. cond c (Some no_keys) (naming_at q names)) e))) (t.held q p x f q_at x_at f_at)
+      as_before : (x : HatState) → hat_at p.region hats ≡ Some x → face_at q x ≡ Some f → Holds p f (face_queryables q more_names)
+      as_before x x_at f_at = subst (Holds p f) (sym (ap keys_by (in_names q ∙ ap (λ c. cond c (Some no_keys) (naming_at q names)) e))) (t.held q p x f q_at x_at f_at)
 
-  all_hold : (q : ℕ) (p : OpenFace) (h : HatState) (f : FaceState) → at q more_faces ≡ Some p → hat_at p.region more_hats ≡ Some h → face_at q h ≡ Some f → Holds f (face_queryables q more_names)
+  all_hold : (q : ℕ) (p : OpenFace) (h : HatState) (f : FaceState) → at q more_faces ≡ Some p → hat_at p.region more_hats ≡ Some h → face_at q h ≡ Some f → Holds p f (face_queryables q more_names)
   all_hold q p h f q_at h_at f_at = by (is_at (nat_cmp n) q) refl (sym (in_faces q) ∙ q_at)
     where
-      by : (c : Bool) → is_at (nat_cmp n) q ≡ c → cond c (Some (opened o)) (at q faces) ≡ Some p → Holds f (face_queryables q more_names)
-      by true e g = new_holds q h f e (ap (λ (x : OpenFace). hat_at x.region more_hats) (same_Some _ _ g) ∙ h_at) f_at
+      by : (c : Bool) → is_at (nat_cmp n) q ≡ c → cond c (Some (opened o)) (at q faces) ≡ Some p → Holds p f (face_queryables q more_names)
+      by true e g = subst (λ x. Holds x f (face_queryables q more_names)) (same_Some _ _ g) (new_holds q h f e (ap (λ (x : OpenFace). hat_at x.region more_hats) (same_Some _ _ g) ∙ h_at) f_at)
       by false e g = old_holds q p h f e g h_at f_at
 
   pub opened_tied : Tied more_faces more_hats more_names
@@ -137,7 +137,7 @@ module _ (faces : List (ℕ × OpenFace)) (hats : List (ℕ × HatState)) (names
 
 -- ---- an open face is closed
 module _ (faces : List (ℕ × OpenFace)) (hats : List (ℕ × HatState)) (names : NamingState) (t : Tied faces hats names) (sorted : IsStrictlySortedBy nat_cmp (keys_of faces)) (face : ℕ) (o : OpenFace) (seen : at face faces ≡ Some o) where
-  own : (h : HatState) × (hat_at o.region hats ≡ Some h)
+  pub own : (h : HatState) × (hat_at o.region hats ≡ Some h)
   own = some_of (hat_at o.region hats) (t.homes face o seen)
 
   abbrev test : ℕ → Bool
@@ -152,13 +152,13 @@ module _ (faces : List (ℕ × OpenFace)) (hats : List (ℕ × HatState)) (names
   abbrev less_names : NamingState
   less_names = remove_entry (is_at (nat_cmp face)) names
 
-  left_in_hat : (q : ℕ) → face_at q (without_face face own.0) ≡ cond (test q) None (face_at q own.0)
+  pub left_in_hat : (q : ℕ) → face_at q (without_face face own.0) ≡ cond (test q) None (face_at q own.0)
   left_in_hat q = found_after_removal nat_cmp_total exact_unsigned face q own.0.faces (t.hats_sorted o.region own.0 own.1)
 
-  left_in_faces : (q : ℕ) → at q less_faces ≡ cond (test q) None (at q faces)
+  pub left_in_faces : (q : ℕ) → at q less_faces ≡ cond (test q) None (at q faces)
   left_in_faces q = found_after_removal nat_cmp_total exact_unsigned face q faces sorted
 
-  left_in_names : (q : ℕ) → naming_at q less_names ≡ cond (test q) None (naming_at q names)
+  pub left_in_names : (q : ℕ) → naming_at q less_names ≡ cond (test q) None (naming_at q names)
   left_in_names q = found_after_removal nat_cmp_total exact_unsigned face q names t.names_sorted
 
   left_each : (P : HatState → Type 0) (r : Region) (h : HatState) → hat_at r less_hats ≡ Some h
@@ -195,15 +195,15 @@ module _ (faces : List (ℕ × OpenFace)) (hats : List (ℕ × HatState)) (names
       by true = refl
       by false = t.named q
 
-  left_hold : (q : ℕ) (p : OpenFace) (h : HatState) (f : FaceState) → at q less_faces ≡ Some p → hat_at p.region less_hats ≡ Some h → face_at q h ≡ Some f → Holds f (face_queryables q less_names)
+  left_hold : (q : ℕ) (p : OpenFace) (h : HatState) (f : FaceState) → at q less_faces ≡ Some p → hat_at p.region less_hats ≡ Some h → face_at q h ≡ Some f → Holds p f (face_queryables q less_names)
   left_hold q p h f q_at h_at f_at = by (test q) refl (sym (left_in_faces q) ∙ q_at)
     where
-      as_before : (x : HatState) → test q ≡ false → at q faces ≡ Some p → hat_at p.region hats ≡ Some x → face_at q x ≡ Some f → Holds f (face_queryables q less_names)
-      as_before x e g x_at at_x = subst (Holds f) (sym (ap keys_by (left_in_names q ∙ ap (λ c. cond c None (naming_at q names)) e))) (t.held q p x f g x_at at_x)
+      as_before : (x : HatState) → test q ≡ false → at q faces ≡ Some p → hat_at p.region hats ≡ Some x → face_at q x ≡ Some f → Holds p f (face_queryables q less_names)
+      as_before x e g x_at at_x = subst (Holds p f) (sym (ap keys_by (left_in_names q ∙ ap (λ c. cond c None (naming_at q names)) e))) (t.held q p x f g x_at at_x)
 
-      by : (c : Bool) → test q ≡ c → cond c None (at q faces) ≡ Some p → Holds f (face_queryables q less_names)
+      by : (c : Bool) → test q ≡ c → cond c None (at q faces) ≡ Some p → Holds p f (face_queryables q less_names)
       by true e g = absurd (let gap : None ≡ Some p = g in cc)
-      by false e g = left_each (λ x. face_at q x ≡ Some f → Holds f (face_queryables q less_names)) p.region h h_at
+      by false e g = left_each (λ x. face_at q x ≡ Some f → Holds p f (face_queryables q less_names)) p.region h h_at
           (λ b old at_x. as_before own.0 e g old (sym (left_in_hat q ∙ ap (λ c. cond c None (face_at q own.0)) e) ∙ at_x))
           (λ b old at_x. as_before h e g old at_x)
           f_at

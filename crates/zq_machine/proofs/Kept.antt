@@ -5,10 +5,16 @@ use Rattle.zq_machine.specs.Configs.{Settings}
 use Rattle.zq_machine.specs.State.{State, opening_state}
 use Rattle.zq_machine.specs.Machine.{state_after}
 use Rattle.zq_machine.specs.Headline.{KeepsPromises, RunPromise}
+use Rattle.zq_machine.proofs.Agreed.{run_in_order}
 use Rattle.zq_machine.proofs.Asking.{counted, to_askers}
 use Rattle.zq_machine.proofs.Closings.{call_closed}
+use Rattle.zq_machine.proofs.Counting.{faces_counted, replies_counted}
+use Rattle.zq_machine.proofs.Frame.{run_config}
+use Rattle.zq_machine.proofs.Handing.{call_answers, call_fits, call_ordered}
+use Rattle.zq_machine.proofs.LastIds.{run_last}
 use Rattle.zq_machine.proofs.Promises.{request_promise, reply_promise, refusal_promise}
 use Rattle.zq_machine.proofs.Silent.{nothing_after}
+use Rattle.zq_machine.proofs.Standing.{all_listed, all_stand}
 use Rattle.zq_machine.proofs.Settled.{final_promise, run_once}
 use Rattle.zq_machine.proofs.Waits.{call_waits}
 use Rattle.zq_machine.proofs.Finals.{opening_sound, run_sound}
@@ -21,6 +27,9 @@ kept config before c =
       requests = request_promise s c;
       replies = reply_promise s c;
       waits = call_waits s c;
+      answer = call_answers s c;
+      fit = call_fits s c;
+      ordered = call_ordered s c (run_in_order config before).numbered;
       finals = λ n. final_promise n s c (run_sound before (opening_state config) (opening_sound config)) (run_once n config before);
       closed = λ face. call_closed s face c;
       refusals = refusal_promise s c;
@@ -29,7 +38,13 @@ kept config before c =
 pub headline : (config : Settings) (calls : List Call) → RunPromise config calls
 headline config calls = record {
   each = λ before rest c at. kept config before c;
+  settings = run_config calls (opening_state config);
+  stands = λ face. all_stand config calls face;
+  listed = all_listed config calls;
   numbers = counted config calls;
+  faces = faces_counted config calls;
+  replies = replies_counted config calls;
+  last_ids = λ face. run_last face calls (opening_state config);
   askers = λ before rest c at. to_askers config before c;
   one_final = λ n. one_final config calls n;
   nothing_after = λ n before rest c at ended. nothing_after config before c n ended;

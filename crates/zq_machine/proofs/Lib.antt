@@ -1,3 +1,4 @@
+pub mod Lists
 pub mod Writing
 pub mod Hearing
 pub mod Frame
@@ -20,5 +21,15 @@ pub mod Changing
 pub mod Agreeing
 pub mod Joining
 pub mod Agreed
+pub mod Numbered
+pub mod NewEntries
+pub mod Hats
+pub mod Targets
+pub mod Always
+pub mod Counting
+pub mod Standing
+pub mod Determined
+pub mod LastIds
+pub mod Handing
 pub mod Asking
 pub mod Closings

@@ -69,6 +69,10 @@ module _ (s : State) (text : List ℕ) (r : Request) (some : 0 < length text) wh
   free o None e h = absurd (true≢false h)
   free o (Some id) e h = next_id_is_new s.core.queries o.face.0 id e
 
+  next : (i : Option ℕ) → not (is_some i) ≡ false → i ≡ Some (unwrap_or i 0)
+  next None h = absurd (true≢false h)
+  next (Some id) h = refl
+
   hands : (o : QueryTargetQabl) → is_full s.core.queries o.face ≡ false → HandsOn s text r o (written s.names (handed_request s.core.queries text r o))
   hands o h = record {
     to = refl;
@@ -79,6 +83,7 @@ module _ (s : State) (text : List ℕ) (r : Request) (some : 0 < length text) wh
       record { id = given_id s.core.queries o.face; wire = best (face_naming o.face.0 s.names) text; target = r.target; timeout = r.timeout; node = o.node; qos = r.qos; payload = r.payload },
       refl,
       record {
+        next = next (next_id s.core.queries o.face.0) h;
         free = free o (next_id s.core.queries o.face.0) refl h;
         key = best-reads (face_naming o.face.0 s.names) text some;
         payload = refl;
@@ -112,7 +117,7 @@ requests_handed : (s : State) (face : FaceId) (sd : Said) (r : Request) (os : Li
 requests_handed s face sd r [] e h = refl
 requests_handed s face sd r (o ∷ os) e h = hands_each s (full_text sd) r (selected_key s.core face sd r (at face.0 s.core.faces) o os e) (o ∷ os) h
 
-no_full : (s : State) (face : FaceId) (sd : Said) (r : Request) (now : ℕ) → refusal_of s.core (asking face sd r now) ≡ None → list_any (is_full s.core.queries) (targets s.core face sd r) ≡ false
+pub no_full : (s : State) (face : FaceId) (sd : Said) (r : Request) (now : ℕ) → refusal_of s.core (asking face sd r now) ≡ None → list_any (is_full s.core.queries) (targets s.core face sd r) ≡ false
 no_full s face sd r now h =
     let p = all_passed (causes s.core (asking face sd r now)) h in
     second (s.core.queries.requests + 1 == 2 ^ 64) (list_any (is_full s.core.queries) (targets s.core face sd r)) p.1.0
@@ -189,7 +194,7 @@ is_asking (listing r t) = false
 is_asking (finalizing face m set) = false
 is_asking unbuilt = false
 
-granted_asks : (names : NamingState) (c : Core) (t : TextCall) → is_asking t ≡ false → list_any asks (write names (granted c t).messages) ≡ false
+pub granted_asks : (names : NamingState) (c : Core) (t : TextCall) → is_asking t ≡ false → list_any asks (write names (granted c t).messages) ≡ false
 unfolding is_asking
 granted_asks names c (asking face s r now) h = absurd (true≢false h)
 granted_asks names c (opening o) h = refl

@@ -85,7 +85,7 @@ module _ (faces : List (ℕ × OpenFace)) (tables : List (ℕ × Gateways)) (own
 
 -- ---- the asker is not among them
 module _ {X : Type 0} (p : X → Bool) where
-  none_filtered : (test : X → Bool) (xs : List X) → list_any p xs ≡ false → list_any p (filter test xs) ≡ false
+  pub none_filtered : (test : X → Bool) (xs : List X) → list_any p xs ≡ false → list_any p (filter test xs) ≡ false
   none_filtered test [] e = refl
   none_filtered test (x ∷ xs) e = by (test x) (none_filtered test xs parts.1)
     where
@@ -113,7 +113,7 @@ module _ {X : Type 0} (p : X → Bool) where
       let parts = or_parts (p x.1) (list_any p (values_of r)) none in
       rw (parts.0, none_pushed r e parts.1 h) refl
 
-none_chosen : (p : QueryTargetQabl → Bool) (target : QueryTarget) (os : List QueryTargetQabl) → list_any p os ≡ false → list_any p (chosen target os) ≡ false
+pub none_chosen : (p : QueryTargetQabl → Bool) (target : QueryTarget) (os : List QueryTargetQabl) → list_any p os ≡ false → list_any p (chosen target os) ≡ false
 none_chosen p mode.All os e = e
 none_chosen p mode.AllComplete os e = none_filtered p may_be_complete os e
 none_chosen p mode.BestMatching os e = none_found p is_complete os os e e
@@ -125,7 +125,7 @@ none_first p r o none h = by (has_face o.face.0 r)
     by true = none
     by false = none_pushed p r (by_face o) none h
 
-none_offered : (p : QueryTargetQabl → Bool) (os : List QueryTargetQabl) (r : List (ℕ × QueryTargetQabl)) → list_any p (values_of r) ≡ false → list_any p os ≡ false → list_any p (values_of (with_offers r os)) ≡ false
+pub none_offered : (p : QueryTargetQabl → Bool) (os : List QueryTargetQabl) (r : List (ℕ × QueryTargetQabl)) → list_any p (values_of r) ≡ false → list_any p os ≡ false → list_any p (values_of (with_offers r os)) ≡ false
 none_offered p [] r none h = none
 none_offered p (o ∷ os) r none h =
     let parts = or_parts (p o) (list_any p os) h in

@@ -1,6 +1,6 @@
 -- Who asked what: the requests that a run accepted, and to whom its replies and finals go.
-use Rattle.std.specs.Prelude.{◌≡◌, ℕ, ◌+◌, ◌==◌, Bool, false, ◌&&◌, List, [], ◌∷◌, ◌++◌, Option, Some, None}
-use Rattle.std.specs.List.{Contains}
+use Rattle.std.specs.Prelude.{◌≡◌, ℕ, ◌+◌, ◌==◌, Bool, false, ◌&&◌, List, [], ◌∷◌, ◌++◌, fold, Option, Some, None, if◌then◌else◌, unwrap_or}
+use Rattle.std.specs.List.{Contains, filter_map, flat_map}
 use Rattle.zq_key.specs.declared.message.FaceId.{FaceId}
 use Rattle.zq_key.specs.declared.message.Message.{Message}
 use Rattle.zq_key.specs.declared.message.Message.TheVariants as message
@@ -34,10 +34,57 @@ asked_in [] ts = []
 asked_in (c ∷ cs) [] = []
 asked_in (c ∷ cs) (t ∷ ts) = asked_by c t ++ asked_in cs ts
 
+-- the number of a request that was asked
+abbrev pub asked_number : Final → ℕ
+asked_number f = f.number
+
 -- the numbers count up from n
-abbrev pub AreCounted : ℕ → List Final → Type 0
+abbrev pub AreCounted : ℕ → List ℕ → Type 0
 AreCounted n [] = Unit {0}
-AreCounted n (f ∷ fs) = (f.number ≡ n) × AreCounted (n + 1) fs
+AreCounted n (m ∷ ms) = (m ≡ n) × AreCounted (n + 1) ms
+
+-- the number of the face that an outcome opens
+abbrev pub opened_by : Outcome → List ℕ
+opened_by (outcome.Opened f) = f.0 ∷ []
+opened_by (outcome.Asked number) = []
+opened_by (outcome.Replied reply) = []
+opened_by outcome.Done = []
+opened_by (outcome.Refused refusal) = []
+
+-- the faces that steps open
+abbrev pub opened_in : List Step → List ℕ
+opened_in ts = flat_map (λ (t : Step). opened_by t.outcome) ts
+
+-- the number of a reply
+abbrev pub reply_number : Handed → Option ℕ
+reply_number h = h.reply
+
+-- the replies that a step hands, and those that steps hand
+abbrev pub replies_of : Step → List ℕ
+replies_of t = filter_map reply_number t.handed
+
+abbrev pub replies_in : List Step → List ℕ
+replies_in ts = flat_map replies_of ts
+
+-- the id of a request
+abbrev pub asked_id : Message → Option ℕ
+asked_id (message.Request r) = Some r.id
+asked_id (message.Response r) = None
+asked_id (message.ResponseFinal f) = None
+asked_id (message.Interest i) = None
+asked_id (message.InterestFinal i) = None
+asked_id (message.Declare d) = None
+
+-- the id that was last given at the face, once this is handed
+abbrev pub last_with : ℕ → ℕ → Handed → ℕ
+last_with face id h = if h.to.0 == face then unwrap_or (asked_id h.message) id else id
+
+-- and after a step, and steps
+abbrev pub last_after : ℕ → ℕ → Step → ℕ
+last_after face id t = fold (last_with face) id t.handed
+
+abbrev pub last_asked : ℕ → ℕ → List Step → ℕ
+last_asked face id ts = fold (last_after face) id ts
 
 -- the face asked the request of that number, with the id and the quality byte
 abbrev pub IsAsked : List Final → ℕ → FaceId → ℕ → ℕ → Type 0

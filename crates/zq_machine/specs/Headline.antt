@@ -1,6 +1,9 @@
 -- What each call of a run promises: of requests, of replies, of finals and of refusals. It is said of the step that answers a call and of the lists before and after it.
 use Rattle.std.specs.Prelude.{◌≡◌, ℕ, ◌+◌, ◌<◌, ◌≤◌, Bool, true, false, ◌&&◌, ◌||◌, List, [], ◌∷◌, ◌++◌, map, length, Option, Some, None, if◌then◌else◌, nat_lt}
-use Rattle.std.specs.List.{AllByRecursion, filter, list_any}
+use Rattle.std.specs.List.{AllByRecursion, filter, filter_map, list_any}
+use Rattle.std.specs.List.Sorted.{IsStrictlySortedBy}
+use Rattle.std.specs.Option.{is_some}
+use Rattle.std.specs.Ordering.{nat_cmp}
 use Rattle.zq_key.specs.declared.message.FaceId.{FaceId}
 use Rattle.zq_key.specs.declared.message.Message.{Message}
 use Rattle.zq_key.specs.declared.message.Message.TheVariants as message
@@ -8,7 +11,7 @@ use Rattle.zq_key.specs.declared.message.Request.{Request}
 use Rattle.zq_key.specs.declared.message.Response.{Response}
 use Rattle.zq_hat.specs.declared.types.QueryTargetQabl.{QueryTargetQabl}
 use Rattle.zq_query.specs.declared.records.ReplyTo.{ReplyTo}
-use Rattle.zq_query.specs.Records.{QueryState, is_closed, is_pending, any_over, next_reply}
+use Rattle.zq_query.specs.Records.{QueryState, is_closed, is_pending, any_over, last_given, next_id, next_reply}
 use Rattle.zq_query.specs.Balance.{owed_by}
 use Rattle.zq_query.specs.Polling.{timeouts}
 use Rattle.zq_naming.specs.declared.said.Said.TheVariants as said
@@ -16,6 +19,7 @@ use Rattle.zq_naming.specs.Naming.{read_by, face_keys, face_naming}
 use Rattle.zq_machine.specs.declared.call.Call.{Call}
 use Rattle.zq_machine.specs.declared.call.Call.TheVariants as call
 use Rattle.zq_machine.specs.Handing.{Handed}
+use Rattle.zq_machine.specs.declared.call.Outcome.{Outcome}
 use Rattle.zq_machine.specs.declared.call.Outcome.TheVariants as outcome
 use Rattle.zq_machine.specs.declared.call.Refusal.{Refusal}
 use Rattle.zq_machine.specs.declared.call.Step.{Step}
@@ -23,16 +27,18 @@ use Rattle.zq_machine.specs.Configs.{Settings}
 use Rattle.zq_machine.specs.State.{State, opening_state}
 use Rattle.zq_machine.specs.Selecting.{select, full_text}
 use Rattle.zq_machine.specs.TextCalls.{read, said as said_by_face}
-use Rattle.zq_machine.specs.Asked.{AreCounted, IsHandedToAsker, asked_in, closes, is_own}
+use Rattle.zq_machine.specs.Asked.{AreCounted, IsHandedToAsker, asked_in, asked_number, closes, is_own, last_asked, opened_in, replies_in}
 use Rattle.zq_machine.specs.Deciding.{handed_replies, handed_timeouts, passing_finals, refusal_of, is_accepted}
 use Rattle.zq_machine.specs.Waiting.{Waits, IsSettled, ends_entry, lands, until, is_of}
+use Rattle.zq_machine.specs.Standing.{listed_in, standing_at, standing_in}
 use Rattle.zq_machine.specs.Machine.{step, steps, after, state_after, refused_step}
 use Rattle.zq_machine.specs.Writing.{leaving, sent_final, write}
 
 -- ---- requests
 
--- the message asks what the request asks: under an id that is not pending at the face, on the key as the face reads it, with all else kept
+-- the message asks what the request asks: under the next id of the face, which is the first after the one that was last given there, in the circle, that is not pending; on the key as the face reads it, with all else kept
 pub record IsHandedOn (s : State) (text : List ℕ) (r : Request) (o : QueryTargetQabl) (m : Request) : Type 0 where
+  pub next : next_id s.core.queries o.face.0 ≡ Some m.id
   pub free : is_pending o.face.0 m.id s.core.queries.records ≡ false
   pub key : read_by (face_naming o.face.0 s.names) m.wire ≡ said.Full text
   pub payload : m.payload ≡ r.payload
@@ -146,6 +152,39 @@ pub record FinalPromise (n : ℕ) (s : State) (c : Call) : Type 0 where
   pub silent : to_come s.core.queries.closed n s.core.queries ≡ 0 → list_any (is_of n) (step s c).handed ≡ false
   pub standing : any_over (after s c).core.queries.records ≡ false
 
+-- ---- what is answered and handed
+
+-- an accepted opening is answered the next face; the answers of requests and replies are said with them; every other call is answered that it is done
+abbrev pub AnswerPromise : State → Call → Outcome → Type 0
+AnswerPromise s (call.Open o) answer = answer ≡ outcome.Opened (record { 0 = s.core.next_face })
+AnswerPromise s (call.Request face r now) answer = Unit {0}
+AnswerPromise s (call.Response face r) answer = Unit {0}
+AnswerPromise s c answer = answer ≡ outcome.Done
+
+-- the number of the request that a message ends, if it is a final
+abbrev pub ended_by : Handed → Option ℕ
+ended_by h = if is_final h.message then h.number else None
+
+-- the numbers of the requests that messages end
+abbrev pub ended_in : List Handed → List ℕ
+ended_in hs = filter_map ended_by hs
+
+-- what a call may hand: a request, requests or the asker's final; a reply, a reply; a moment that has come, replies and finals; the end of an entry or of a reply, and a closing, finals; any other call, nothing
+abbrev pub may_hand : Call → Message → Bool
+may_hand (call.Request face r now) m = is_request m || is_final m
+may_hand (call.Response face r) m = is_response m
+may_hand (call.ResponseFinal face rid) m = is_final m
+may_hand (call.Sent reply) m = is_final m
+may_hand (call.Poll now) m = is_response m || is_final m
+may_hand (call.Close face) m = is_final m
+may_hand c m = false
+
+-- what is handed has a reply number exactly where it is a reply, leaves as it is (as long as no face has an exit of its own), and is of a kind that the call may hand
+pub record IsFit (may : Message → Bool) (h : Handed) : Type 0 where
+  pub flying : is_some h.reply ≡ replies_to h
+  pub out : h.leaves ≡ Some h.message
+  pub kind : may h.message ≡ true
+
 -- ---- refusals
 
 -- the first cause that holds refuses a call, which then hands and changes nothing; with none the call is accepted
@@ -161,13 +200,22 @@ pub record KeepsPromises (s : State) (c : Call) : Type 0 where
   pub replies : ReplyPromise s c (step s c)
   pub waits : is_accepted (step s c).outcome ≡ true → Waits (ends_entry c) (lands c) (until s c) s.core.queries.records (after s c).core.queries.records (step s c).handed
   pub finals : (n : ℕ) → FinalPromise n s c
+  pub answer : is_accepted (step s c).outcome ≡ true → AnswerPromise s c (step s c).outcome
+  pub fit : AllByRecursion (IsFit (may_hand c)) (step s c).handed
+  pub ordered : IsStrictlySortedBy nat_cmp (ended_in (step s c).handed)
   pub closed : (face : ℕ) → is_closed (after s c).core.queries.closed face ≡ (closes face c (step s c) || is_closed s.core.queries.closed face)
   pub refusals : RefusesBy (refusal_of s.core (read s c)) s c
 
--- what a whole run promises: each of its calls keeps its promises; accepted requests are numbered one after another; each message that it hands is of a request, and each reply and final goes to the request's asker, under the asker's id; it hands one final of a request at most, and nothing of the request afterwards
+-- what a whole run promises: each of its calls keeps its promises; the configuration stays, and what stands of each face and which lists of gateways there are is what the calls and their answers made of it; accepted requests, opened faces and replies are numbered one after another, and the id that was last given at a face is that of the last request handed to it; each message that it hands is of a request, and each reply and final goes to the request's asker, under the asker's id; it hands one final of a request at most, and nothing of the request afterwards
 pub record RunPromise (config : Settings) (calls : List Call) : Type 0 where
   pub each : (before rest : List Call) (c : Call) → calls ≡ before ++ c ∷ rest → KeepsPromises (state_after (opening_state config) before) c
-  pub numbers : AreCounted config.start.requests (asked_in calls (steps config calls))
+  pub settings : (state_after (opening_state config) calls).core.config ≡ config
+  pub stands : (face : ℕ) → standing_at face (state_after (opening_state config) calls) ≡ standing_in config.start.told face calls (steps config calls) None
+  pub listed : (state_after (opening_state config) calls).core.tables ≡ listed_in calls (steps config calls) []
+  pub numbers : AreCounted config.start.requests (map asked_number (asked_in calls (steps config calls)))
+  pub faces : AreCounted config.start.faces (opened_in (steps config calls))
+  pub replies : AreCounted config.start.replies (replies_in (steps config calls))
+  pub last_ids : (face : ℕ) → last_given (state_after (opening_state config) calls).core.queries face ≡ last_asked face config.start.request_ids (steps config calls)
   pub askers : (before rest : List Call) (c : Call) → calls ≡ before ++ c ∷ rest → AllByRecursion (IsHandedToAsker (asked_in (before ++ c ∷ []) (steps config (before ++ c ∷ [])))) (step (state_after (opening_state config) before) c).handed
   pub one_final : (n : ℕ) → finals_over n (steps config calls) ≤ 1
   pub nothing_after : (n : ℕ) (before rest : List Call) (c : Call) → calls ≡ before ++ c ∷ rest → finals_over n (steps config before) ≡ 1 → list_any (is_of n) (step (state_after (opening_state config) before) c).handed ≡ false

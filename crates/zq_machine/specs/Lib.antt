@@ -11,6 +11,7 @@ pub mod Hearing
 pub mod Machine
 pub mod Waiting
 pub mod Asked
+pub mod Standing
 pub mod Headline
 pub mod Moved
 pub mod Agreeing

@@ -9,8 +9,7 @@ use zq_hat::strategy::strategy_of;
 use zq_hat::types::{FinalMark, Network, NodeIds, Strategy};
 use zq_key::items::Items;
 use zq_key::message::{
-    Bound, FaceId, Mode, QueryableInfoType, Region, Request, Response, TextList, WireExpr,
-    Zid,
+    Bound, FaceId, Mode, QueryableInfoType, Region, Request, Response, TextList, WireExpr, Zid,
 };
 use zq_key::text::Text;
 use zq_route::gateways::Gateways;

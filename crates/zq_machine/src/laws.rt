@@ -5,9 +5,15 @@ ghost use Rattle.zq_hat.specs.Moved.{Keeps};
 ghost use Rattle.zq_machine.specs.declared.call.Call.{Call};
 ghost use Rattle.zq_machine.specs.Agreeing.{Agrees};
 ghost use Rattle.zq_machine.specs.Configs.{Settings};
+ghost use Rattle.zq_machine.specs.Headline.{RunPromise};
 ghost use Rattle.zq_machine.specs.Machine.{state_after};
 ghost use Rattle.zq_machine.specs.Moved.{DecidesAlike};
 ghost use Rattle.zq_naming.specs.Naming.{NamingState};
+ghost use Rattle.zq_key.specs.declared.message.FaceId.{FaceId};
+ghost use Rattle.zq_key.specs.declared.message.Request.{Request};
+ghost use Rattle.zq_naming.specs.declared.said.Said.{Said};
+ghost use Rattle.zq_machine.specs.Selecting.{select};
+ghost use Rattle.zq_machine.specs.Standing.{StandAlike};
 ghost use Rattle.zq_machine.specs.Hearing.{CanBeTold, hear};
 ghost use Rattle.zq_machine.specs.Messages.{Telling};
 ghost use Rattle.zq_machine.specs.State.{Core, opening_state};
@@ -20,9 +26,20 @@ pub fn decides_alike()
 {}
 
 /// At every point of every run the open faces, the hats and what stands for keys agree.
-#[tactic(auto, using(crate::proofs::Agreed::agree_always))]
 pub fn agree_always()
     ensures { (config : Settings) (calls : List Call) → Agrees (state_after (opening_state config) calls) }
+{}
+
+/// Every run keeps its promises.
+pub fn run_promised()
+    ensures { (config : Settings) (calls : List Call) → RunPromise config calls }
+{}
+
+/// What a request is handed to is determined by what stands of the faces and by the lists of
+/// gateways, that is (by `stands` and `listed` of `run_promised`) by the calls of a run and their
+/// answers: two runs of one configuration that leave the same of both select the same.
+pub fn select_determined()
+    ensures { (config : Settings) (calls others : List Call) → StandAlike (state_after (opening_state config) calls) (state_after (opening_state config) others) → (asker : FaceId) (s : Said) (r : Request) → select (state_after (opening_state config) calls).core asker s r ≡ select (state_after (opening_state config) others).core asker s r }
 {}
 
 /// What open faces are told is what they hear: each key is read as the text that was told, by the

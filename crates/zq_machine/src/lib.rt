@@ -14,9 +14,7 @@ pub mod face;
 pub mod handed;
 pub mod laws;
 
-pub use call::{
-    Call, Opening, Outcome, Refusal, Replay, Step, StepList,
-};
+pub use call::{Call, Opening, Outcome, Refusal, Replay, Step, StepList};
 pub use config::{BadConfig, Config, ConfigRefusal, Counters, Entry, EntryList};
 pub use face::OpenFace;
 pub use handed::{Handed, HandedList, Leaves};

@@ -1,0 +1,190 @@
+-- Calls are answered by their kind. What they hand is of the kinds that they may hand, has a reply number where it is a reply, and leaves as it is; and finals stand by number.
+use Rattle.std.proofs.Common.{◌≡◌, refl, sym, ap, subst, ℕ, Bool, true, false, List, [], ◌∷◌, ◌++◌, map, Option, Some, None}
+use Rattle.std.specs.Prelude.{◌||◌}
+use Rattle.std.specs.List.{AllByRecursion, cons_option, filter}
+use Rattle.std.specs.List.Sorted.{IsStrictlySortedBy}
+use Rattle.std.specs.Option.{option_map}
+use Rattle.std.specs.Ordering.{nat_cmp}
+use Rattle.std.proofs.lemmas.Bool.{false≢true}
+use Rattle.zq_key.specs.declared.message.FaceId.{FaceId}
+use Rattle.zq_key.specs.declared.message.Message.{Message}
+use Rattle.zq_key.specs.declared.message.Request.{Request}
+use Rattle.zq_key.specs.declared.message.Response.{Response}
+use Rattle.zq_hat.specs.declared.types.QueryTargetQabl.{QueryTargetQabl}
+use Rattle.zq_query.specs.declared.records.Final.{Final}
+use Rattle.zq_query.specs.declared.records.ReplyTo.{ReplyTo}
+use Rattle.zq_query.specs.declared.records.Timeout.{Timeout}
+use Rattle.zq_query.specs.Closing.{at_face, closed_with, closing_finals, finals_after, finals_landed, has_open_asker}
+use Rattle.zq_query.specs.Polling.{is_due, timeouts, timing_out}
+use Rattle.zq_query.specs.Records.{QueryState, Record, final_of, is_entry, is_over, next_reply, without, without_reply}
+use Rattle.zq_naming.specs.Naming.{NamingState}
+use Rattle.zq_machine.specs.declared.call.Call.{Call}
+use Rattle.zq_machine.specs.declared.call.Call.TheVariants as call
+use Rattle.zq_machine.specs.declared.face.OpenFace.{OpenFace}
+use Rattle.zq_machine.specs.Agreeing.{number_of}
+use Rattle.zq_machine.specs.Asked.{asked_number}
+use Rattle.zq_machine.specs.Deciding.{granted, is_accepted, handed_reply, handed_request, handed_requests, handed_timeouts, passing_finals, replied, timed_out}
+use Rattle.zq_machine.specs.Headline.{AnswerPromise, IsFit, ended_in, is_final, is_request, is_response, may_hand}
+use Rattle.zq_machine.specs.Machine.{step}
+use Rattle.zq_machine.specs.Messages.{TextMessage, text_final}
+use Rattle.zq_machine.specs.Selecting.{full_text, select}
+use Rattle.zq_machine.specs.State.{Core, State}
+use Rattle.zq_machine.specs.TextCalls.{TextCall, closing, asking, replying, ending, reporting, passing, read}
+use Rattle.zq_machine.specs.Writing.{write}
+use Rattle.zq_machine.proofs.Always.{by_granted}
+use Rattle.zq_machine.proofs.Lists.{sorted_left, sorted_numbers}
+use Rattle.zq_machine.proofs.Numbered.{InNumbers, numbered_timing}
+use Rattle.zq_key.proofs.Naturals.{map-map}
+
+-- ---- answers
+granted_answer : (s : State) (c : Call) → AnswerPromise s c (granted s.core (read s c)).outcome
+granted_answer s (call.Request face r now) = tt
+granted_answer s (call.Response face r) = tt
+granted_answer s c = refl
+
+pub call_answers : (s : State) (c : Call) → is_accepted (step s c).outcome ≡ true → AnswerPromise s c (step s c).outcome
+call_answers s c = by_granted (λ z w. is_accepted z.outcome ≡ true → AnswerPromise s c z.outcome) s (read s c) (λ h a. granted_answer s c) (λ r a. absurd (false≢true a))
+
+-- ---- kinds
+may_text : TextCall → Message → Bool
+may_text (asking face s r now) m = is_request m || is_final m
+may_text (replying face s r) m = is_response m
+may_text (ending face rid) m = is_final m
+may_text (reporting reply) m = is_final m
+may_text (passing now) m = is_response m || is_final m
+may_text (closing face) m = is_final m
+may_text t m = false
+
+may_read : (s : State) (c : Call) (m : Message) → may_text (read s c) m ≡ may_hand c m
+unfolding may_text
+may_read s (call.Poll now) m = refl
+may_read s c m = refl
+
+module _ (names : NamingState) (may : Message → Bool) where
+  abbrev AllFit : List TextMessage → Type 0
+  AllFit ms = AllByRecursion (IsFit may) (write names ms)
+
+  finals_fit : ((m : Message) → is_final m ≡ true → may m ≡ true) → (fs : List Final) → AllFit (map text_final fs)
+  finals_fit gives [] = tt
+  finals_fit gives (f ∷ fs) = (record { flying = refl; out = refl; kind = gives _ refl }, finals_fit gives fs)
+
+  requests_fit : ((m : Message) → is_request m ≡ true → may m ≡ true) → (q : QueryState) (text : List ℕ) (r : Request) (os : List QueryTargetQabl) → AllFit (map (handed_request q text r) os)
+  requests_fit gives q text r [] = tt
+  requests_fit gives q text r (o ∷ os) = (record { flying = refl; out = refl; kind = gives _ refl }, requests_fit gives q text r os)
+
+  replied_fit : ((m : Message) → is_response m ≡ true → may m ≡ true) → (text : List ℕ) (r : Response) (o : Option ReplyTo) → AllFit (replied text r o)
+  replied_fit gives text r None = tt
+  replied_fit gives text r (Some to) = by to.reply
+    where
+      by : (o : Option ℕ) → AllFit (cons_option (option_map (handed_reply text r to) o) [])
+      by None = tt
+      by (Some k) = (record { flying = refl; out = refl; kind = gives _ refl }, tt)
+
+  passed_fit : ((m : Message) → is_response m ≡ true → may m ≡ true) → (faces : List (ℕ × OpenFace)) (ts : List Timeout) (rest : List TextMessage) → AllFit rest → AllFit (handed_timeouts faces ts ++ rest)
+  passed_fit gives faces [] rest fit = fit
+  passed_fit gives faces (t ∷ ts) rest fit = by t.reply (passed_fit gives faces ts rest fit)
+    where
+      by : (o : Option ℕ) → AllFit (handed_timeouts faces ts ++ rest) → AllFit ((cons_option (option_map (timed_out faces t) o) [] ++ handed_timeouts faces ts) ++ rest)
+      by None ih = ih
+      by (Some k) ih = (record { flying = refl; out = refl; kind = gives _ refl }, ih)
+
+  requested_fit : ((m : Message) → is_request m ≡ true → may m ≡ true) → ((m : Message) → is_final m ≡ true → may m ≡ true) → (q : QueryState) (face : FaceId) (text : List ℕ) (r : Request) (os : List QueryTargetQabl) → AllFit (handed_requests q face text r os)
+  requested_fit gives ends q face text r [] = (record { flying = refl; out = refl; kind = ends _ refl }, tt)
+  requested_fit gives ends q face text r (o ∷ os) = requests_fit gives q text r (o ∷ os)
+
+or_left : (a b : Bool) → a ≡ true → (a || b) ≡ true
+or_left true b e = refl
+or_left false b e = absurd (let gap : false ≡ true = e in cc)
+
+or_right : (a b : Bool) → b ≡ true → (a || b) ≡ true
+or_right true b e = refl
+or_right false b e = e
+
+granted_fit : (names : NamingState) (c : Core) (t : TextCall) → AllFit names (may_text t) (granted c t).messages
+unfolding may_text
+granted_fit names c (closing face) = finals_fit names is_final (λ m e. e) (closing_finals face.0 c.queries)
+granted_fit names c (asking face s r now) =
+    requested_fit names (λ m. is_request m || is_final m) (λ m e. or_left (is_request m) (is_final m) e) (λ m e. or_right (is_request m) (is_final m) e) c.queries face (full_text s) r (select c face s r)
+granted_fit names c (replying face s r) = replied_fit names is_response (λ m e. e) (full_text s) r (next_reply face.0 r.rid c.queries)
+granted_fit names c (ending face rid) = finals_fit names is_final (λ m e. e) (finals_after (is_entry face.0 rid) c.queries.closed c.queries.records)
+granted_fit names c (reporting reply) = finals_fit names is_final (λ m e. e) (finals_landed reply c.queries.closed c.queries.records)
+granted_fit names c (passing now) =
+    passed_fit names (λ m. is_response m || is_final m) (λ m e. or_left (is_response m) (is_final m) e) c.faces (timeouts now c.queries) (map text_final (passing_finals now c.queries))
+    (finals_fit names (λ m. is_response m || is_final m) (λ m e. or_right (is_response m) (is_final m) e) (passing_finals now c.queries))
+granted_fit names c t = tt
+
+pub call_fits : (s : State) (c : Call) → AllByRecursion (IsFit (may_hand c)) (step s c).handed
+call_fits s c =
+    subst (λ may. AllByRecursion (IsFit may) (step s c).handed) (λ j m. may_read s c m j)
+    (by_granted (λ z w. AllByRecursion (IsFit (may_text (read s c))) z.handed) s (read s c) (λ h. granted_fit s.names s.core (read s c)) (λ r. tt))
+
+-- ---- finals stand by number
+module _ (names : NamingState) where
+  finals_end : (fs : List Final) → ended_in (write names (map text_final fs)) ≡ map asked_number fs
+  finals_end [] = refl
+  finals_end (f ∷ fs) = ap (λ l. f.number ∷ l) (finals_end fs)
+
+  requests_end : (q : QueryState) (text : List ℕ) (r : Request) (os : List QueryTargetQabl) → ended_in (write names (map (handed_request q text r) os)) ≡ []
+  requests_end q text r [] = refl
+  requests_end q text r (o ∷ os) = requests_end q text r os
+
+  replied_end : (text : List ℕ) (r : Response) (o : Option ReplyTo) → ended_in (write names (replied text r o)) ≡ []
+  replied_end text r None = refl
+  replied_end text r (Some to) = by to.reply
+    where
+      by : (o : Option ℕ) → ended_in (write names (cons_option (option_map (handed_reply text r to) o) [])) ≡ []
+      by None = refl
+      by (Some k) = refl
+
+  passed_end : (faces : List (ℕ × OpenFace)) (fs : List Final) (ts : List Timeout) → ended_in (write names (handed_timeouts faces ts ++ map text_final fs)) ≡ map asked_number fs
+  passed_end faces fs [] = finals_end fs
+  passed_end faces fs (t ∷ ts) = by t.reply (passed_end faces fs ts)
+    where
+      by : (o : Option ℕ) → ended_in (write names (handed_timeouts faces ts ++ map text_final fs)) ≡ map asked_number fs
+          → ended_in (write names ((cons_option (option_map (timed_out faces t) o) [] ++ handed_timeouts faces ts) ++ map text_final fs)) ≡ map asked_number fs
+      by None ih = ih
+      by (Some k) ih = ih
+
+abbrev Rise : List ℕ → Type 0
+Rise ns = IsStrictlySortedBy nat_cmp ns
+
+no_rise : Rise []
+unfolding IsStrictlySortedBy
+no_rise = tt
+
+one_rises : (n : ℕ) → Rise (n ∷ [])
+unfolding IsStrictlySortedBy
+one_rises n = (tt, tt)
+
+-- the finals of records that a change leaves with nothing
+finals_rise : (change : Record → Record) → ((r : Record) → number_of (change r) ≡ number_of r) → (closed : List ℕ) (rs : List Record) → Rise (map number_of rs)
+    → Rise (map asked_number (filter (has_open_asker closed) (map final_of (filter is_over (map change rs)))))
+finals_rise change same closed rs s =
+    sorted_numbers asked_number (has_open_asker closed) (map final_of (filter is_over (map change rs)))
+    (subst Rise (sym (map-map final_of asked_number number_of (λ r. refl) (filter is_over (map change rs)))) (sorted_left number_of is_over change same rs s))
+
+granted_rises : (s : State) (t : TextCall) → InNumbers s.core.queries → Rise (ended_in (write s.names (granted s.core t).messages))
+granted_rises s (closing face) i =
+    subst Rise (sym (finals_end s.names (closing_finals face.0 s.core.queries)))
+    (finals_rise (without (at_face face.0)) (λ r. refl) (closed_with face.0 s.core.queries.closed) s.core.queries.records i.numbers)
+granted_rises s (asking face sd r now) i = by (select s.core face sd r)
+  where
+    by : (os : List QueryTargetQabl) → Rise (ended_in (write s.names (handed_requests s.core.queries face (full_text sd) r os)))
+    by [] = one_rises s.core.queries.requests
+    by (o ∷ os) = subst Rise (sym (requests_end s.names s.core.queries (full_text sd) r (o ∷ os))) no_rise
+granted_rises s (replying face sd r) i = subst Rise (sym (replied_end s.names (full_text sd) r (next_reply face.0 r.rid s.core.queries))) no_rise
+granted_rises s (ending face rid) i =
+    subst Rise (sym (finals_end s.names (finals_after (is_entry face.0 rid) s.core.queries.closed s.core.queries.records)))
+    (finals_rise (without (is_entry face.0 rid)) (λ r. refl) s.core.queries.closed s.core.queries.records i.numbers)
+granted_rises s (reporting reply) i =
+    subst Rise (sym (finals_end s.names (finals_landed reply s.core.queries.closed s.core.queries.records)))
+    (finals_rise (without_reply reply) (λ r. refl) s.core.queries.closed s.core.queries.records i.numbers)
+granted_rises s (passing now) i =
+    let ts = timeouts now s.core.queries in
+    let z = timing_out ts s.core.queries in
+    subst Rise (sym (passed_end s.names s.core.faces (passing_finals now s.core.queries) ts))
+    (finals_rise (without (is_due now)) (λ r. refl) z.closed z.records (numbered_timing ts s.core.queries i).numbers)
+granted_rises s t i = no_rise
+
+pub call_ordered : (s : State) (c : Call) → InNumbers s.core.queries → IsStrictlySortedBy nat_cmp (ended_in (step s c).handed)
+call_ordered s c i = by_granted (λ z w. Rise (ended_in z.handed)) s (read s c) (λ h. granted_rises s (read s c) i) (λ r. no_rise)

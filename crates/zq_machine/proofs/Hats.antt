@@ -1,0 +1,157 @@
+-- The list of hats: in order, each at the index of its region or without a face, and but for its faces as it was at first.
+use Rattle.std.proofs.Common.{◌≡◌, ◌∙◌, refl, sym, ap, ℕ, Bool, true, false, cond, List, [], ◌∷◌, fold, Option, Some, None, ◌⊎◌, inl, inr}
+use Rattle.std.specs.List.Sorted.{IsStrictlySortedBy}
+use Rattle.std.specs.Map.{keys_of, set_value}
+use Rattle.std.specs.BTreeMap.{is_at}
+use Rattle.std.specs.Option.{is_some, option_map, option_map_or}
+use Rattle.std.specs.Ordering.{nat_cmp}
+use Rattle.std.proofs.lemmas.Cmp.{nat_cmp_total}
+use Rattle.std.proofs.lemmas.Map.Lookups.{exact_unsigned}
+use Rattle.std.proofs.lemmas.Option.{same_Some}
+use Rattle.zq_key.specs.declared.message.Region.{Region}
+use Rattle.zq_tables.specs.Region.{region_index}
+use Rattle.zq_hat.specs.State.{HatState}
+use Rattle.zq_hat.specs.declared.types.FaceRecord.{FaceRecord}
+use Rattle.zq_hat.specs.Kept.{has_face, new_hat, registered, unregistered, with_face_opened, without_face}
+use Rattle.zq_hat.specs.Marks.{finalized}
+use Rattle.zq_machine.specs.declared.config.Entry.{Entry}
+use Rattle.zq_machine.specs.declared.face.OpenFace.{OpenFace}
+use Rattle.zq_machine.specs.Configs.{Settings, north_of, region_of}
+use Rattle.zq_machine.specs.Deciding.{accepted, seat}
+use Rattle.zq_machine.specs.Selecting.{full_text}
+use Rattle.zq_machine.specs.State.{Core, at, change_hat, first_hats, hat_at, is_region, joined, put_hat, with_hat}
+use Rattle.zq_machine.specs.TextCalls.{TextCall, opening, closing, naming, unnaming, declaring, withdrawing, asking, replying, ending, reporting, passing, listing, finalizing, unbuilt}
+use Rattle.zq_machine.proofs.Changing.{one_number, region_there}
+use Rattle.zq_machine.proofs.Finals.{none_sorted}
+use Rattle.zq_key.proofs.Lookups.{found_after_insertion, found_after_write}
+use Rattle.zq_key.proofs.Sorted.{sorted_in, sorted_write}
+
+-- the index is that of a region of an id that regions have
+abbrev pub IsIndex : ℕ → Type 0
+IsIndex k = (r : Region) × (is_region r ≡ true) × (region_index r ≡ k)
+
+-- a hat without its faces
+abbrev pub bare : HatState → HatState
+bare h = record h { faces = [] }
+
+-- hats in order, each at a region's index or without a face, with this first id, and but for its faces as the first hat there
+pub record AreHats (told : ℕ) (first hats : List (ℕ × HatState)) : Type 0 where
+  pub sorted : IsStrictlySortedBy nat_cmp (keys_of hats)
+  pub homes : (k : ℕ) (h : HatState) → at k hats ≡ Some h → (h.faces ≡ []) ⊎ IsIndex k
+  pub starts : (k : ℕ) (h : HatState) → at k hats ≡ Some h → h.told_start ≡ told
+  pub shape : (k : ℕ) → option_map bare (at k hats) ≡ option_map bare (at k first)
+
+-- the hats of a gateway that was made with the configuration
+abbrev pub AreHatsOf : Settings → List (ℕ × HatState) → Type 0
+AreHatsOf config hats = AreHats config.start.told (first_hats config) hats
+
+-- the change is one of faces alone
+abbrev pub KeepsBare : (HatState → HatState) → Type 0
+KeepsBare f = (h : HatState) → bare (f h) ≡ bare h
+
+-- ---- one hat is changed
+changed_hats : (told : ℕ) (first : List (ℕ × HatState)) (r : Region) (f : HatState → HatState) (hats : List (ℕ × HatState)) → KeepsBare f → AreHats told first hats → AreHats told first (change_hat r f hats)
+changed_hats told first r f hats keeps a = by (hat_at r hats) refl
+  where
+    by : (o : Option HatState) → hat_at r hats ≡ o → AreHats told first (put_hat r f hats o)
+    by None e = a
+    by (Some was) e = record {
+      sorted = sorted_write nat_cmp (is_at (nat_cmp (region_index r))) (f was) hats a.sorted;
+      homes = λ k h h_at. home k h (is_at (nat_cmp (region_index r)) k) refl (sym (found k) ∙ h_at);
+      starts = λ k h h_at. same k h (is_at (nat_cmp (region_index r)) k) (sym (found k) ∙ h_at);
+      shape = λ k. ap (option_map bare) (found k) ∙ alike k (is_at (nat_cmp (region_index r)) k) refl;
+    }
+      where
+        there : (is_region r ≡ true) × (at (region_index r) hats ≡ Some was)
+        there = region_there r hats was e
+
+        found : (k : ℕ) → at k (set_value (is_at (nat_cmp (region_index r))) hats (f was)) ≡ cond (is_at (nat_cmp (region_index r)) k) (Some (f was)) (at k hats)
+        found k = found_after_write nat_cmp_total exact_unsigned (region_index r) k (f was) hats (ap is_some there.1)
+
+        home : (k : ℕ) (h : HatState) (b : Bool) → is_at (nat_cmp (region_index r)) k ≡ b → cond b (Some (f was)) (at k hats) ≡ Some h → (h.faces ≡ []) ⊎ IsIndex k
+        home k h true is g = inr (r, there.0, one_number (region_index r) k is)
+        home k h false is g = a.homes k h g
+
+        same : (k : ℕ) (h : HatState) (b : Bool) → cond b (Some (f was)) (at k hats) ≡ Some h → h.told_start ≡ told
+        same k h true g = ap (λ (x : HatState). x.told_start) (sym (same_Some _ _ g)) ∙ ap (λ (x : HatState). x.told_start) (keeps was) ∙ a.starts (region_index r) was there.1
+        same k h false g = a.starts k h g
+
+        alike : (k : ℕ) (b : Bool) → is_at (nat_cmp (region_index r)) k ≡ b → option_map bare (cond b (Some (f was)) (at k hats)) ≡ option_map bare (at k first)
+        alike k true is =
+            ap Some (keeps was)
+            ∙ sym (ap (option_map bare) there.1)
+            ∙ a.shape (region_index r)
+            ∙ ap (λ m. option_map bare (at m first)) (one_number (region_index r) k is)
+        alike k false is = a.shape k
+
+-- ---- an accepted call changes one hat at most
+joined_bare : (x : FaceRecord) → KeepsBare (joined x)
+joined_bare x h = by (has_face x.face.0 h)
+  where
+    by : (b : Bool) → bare (cond b h (with_face_opened x h)) ≡ bare h
+    by true = refl
+    by false = refl
+
+module _ (told : ℕ) (first : List (ℕ × HatState)) (c : Core) (a : AreHats told first c.hats) where
+  in_its_hat : (face : ℕ) (f : HatState → HatState) → KeepsBare f → AreHats told first (option_map_or (λ (o : OpenFace). change_hat o.region f c.hats) (at face c.faces) c.hats)
+  in_its_hat face f keeps = by (at face c.faces)
+    where
+      by : (o : Option OpenFace) → AreHats told first (option_map_or (λ (x : OpenFace). change_hat x.region f c.hats) o c.hats)
+      by None = a
+      by (Some o) = changed_hats told first o.region f c.hats keeps a
+
+  pub accepted_hats : (t : TextCall) → AreHats told first (accepted c t).hats
+  accepted_hats (opening o) = changed_hats told first o.region (joined (seat c.next_face o)) c.hats (joined_bare (seat c.next_face o)) a
+  accepted_hats (closing face) = in_its_hat face.0 (without_face face.0) (λ h. refl)
+  accepted_hats (naming face id s x) = a
+  accepted_hats (unnaming face id x) = a
+  accepted_hats (declaring face id s i n) = in_its_hat face.0 (registered face.0 id (full_text s) i) (λ h. refl)
+  accepted_hats (withdrawing face id) = in_its_hat face.0 (unregistered face.0 id) (λ h. refl)
+  accepted_hats (asking face s r now) = a
+  accepted_hats (replying face s r) = a
+  accepted_hats (ending face rid) = a
+  accepted_hats (reporting reply) = a
+  accepted_hats (passing now) = a
+  accepted_hats (listing r t) = a
+  accepted_hats (finalizing face m set) = in_its_hat face.0 (finalized face.0 m set) (λ h. refl)
+  accepted_hats unbuilt = a
+
+-- ---- before any call
+module _ (config : Settings) where
+  abbrev told_first : ℕ
+  told_first = config.start.told
+
+  with_one : (hats : List (ℕ × HatState)) (e : Entry) → AreHats told_first hats hats → AreHats told_first (with_hat config hats e) (with_hat config hats e)
+  with_one hats e a = record {
+    sorted = sorted_in nat_cmp_total hats (region_index (region_of e)) hat a.sorted;
+    homes = λ k h h_at. home k h (is_at (nat_cmp (region_index (region_of e))) k) (sym (found k) ∙ h_at);
+    starts = λ k h h_at. same k h (is_at (nat_cmp (region_index (region_of e))) k) (sym (found k) ∙ h_at);
+    shape = λ k. refl;
+  }
+    where
+      hat : HatState
+      hat = new_hat (region_of e) (north_of config.entries) config.zid told_first
+
+      found : (k : ℕ) → at k (with_hat config hats e) ≡ cond (is_at (nat_cmp (region_index (region_of e))) k) (Some hat) (at k hats)
+      found k = found_after_insertion nat_cmp_total exact_unsigned (region_index (region_of e)) k hat hats
+
+      home : (k : ℕ) (h : HatState) (b : Bool) → cond b (Some hat) (at k hats) ≡ Some h → (h.faces ≡ []) ⊎ IsIndex k
+      home k h true g = inl (ap (λ (x : HatState). x.faces) (sym (same_Some _ _ g)))
+      home k h false g = a.homes k h g
+
+      same : (k : ℕ) (h : HatState) (b : Bool) → cond b (Some hat) (at k hats) ≡ Some h → h.told_start ≡ told_first
+      same k h true g = ap (λ (x : HatState). x.told_start) (sym (same_Some _ _ g))
+      same k h false g = a.starts k h g
+
+  all_hats : (es : List Entry) (hats : List (ℕ × HatState)) → AreHats told_first hats hats → AreHats told_first (fold (with_hat config) hats es) (fold (with_hat config) hats es)
+  all_hats [] hats a = a
+  all_hats (e ∷ es) hats a = all_hats es (with_hat config hats e) (with_one hats e a)
+
+  pub opening_hats : AreHatsOf config (first_hats config)
+  opening_hats = all_hats config.entries []
+      (record {
+        sorted = none_sorted;
+        homes = λ k h e. absurd (let gap : None ≡ Some h = e in cc);
+        starts = λ k h e. absurd (let gap : None ≡ Some h = e in cc);
+        shape = λ k. refl;
+      })

@@ -1,0 +1,295 @@
+-- What the gateway has of each face, and of the lists of gateways, is what the calls of the run and their answers make of it.
+use Rattle.std.proofs.Common.{◌≡◌, ◌∙◌, refl, sym, ap, subst, ℕ, Bool, true, false, cond, List, [], ◌∷◌, Option, Some, None, ◌⊎◌, inl, inr, unwrap_or}
+use Rattle.std.specs.Prelude.{◌==◌}
+use Rattle.std.specs.List.Sorted.{IsStrictlySortedBy}
+use Rattle.std.specs.Map.{keys_of, remove_entry}
+use Rattle.std.specs.BTreeMap.{insert_entry, is_at}
+use Rattle.std.specs.Option.{is_some, option_and_then, option_map, option_map_or}
+use Rattle.std.specs.Ordering.{nat_cmp}
+use Rattle.zq_key.specs.declared.message.FaceId.{FaceId}
+use Rattle.zq_key.specs.declared.message.Region.{Region}
+use Rattle.zq_tables.specs.Region.{region_index}
+use Rattle.zq_hat.specs.State.{FaceState, HatState}
+use Rattle.zq_hat.specs.Kept.{change_face, declare, face_at, new_face, withdraw, without_face}
+use Rattle.zq_hat.specs.Marks.{marked}
+use Rattle.zq_naming.specs.Naming.{FaceKeys, FaceNaming, NamingState, change_naming, face_naming, naming_at, no_keys, said_of, with_name, with_queryable, without_name, without_queryable}
+use Rattle.zq_machine.specs.declared.call.Call.{Call}
+use Rattle.zq_machine.specs.declared.call.Call.TheVariants as call
+use Rattle.zq_machine.specs.declared.call.Opening.{Opening}
+use Rattle.zq_machine.specs.declared.face.OpenFace.{OpenFace}
+use Rattle.zq_machine.specs.Agreeing.{stands_in}
+use Rattle.zq_machine.specs.Configs.{Settings}
+use Rattle.zq_machine.specs.Deciding.{causes, granted, opened, refusal_of, seat}
+use Rattle.zq_machine.specs.Machine.{accepted_state, after, state_after, step, steps_from}
+use Rattle.zq_machine.specs.Selecting.{full_text}
+use Rattle.zq_machine.specs.Standing.{Standing, accepted_at, declaring_at, listed_after, listed_in, newly_opened, standing_after, standing_at, standing_in, standing_of}
+use Rattle.zq_machine.specs.State.{State, at, change_hat, hat_at, joined, opening_state}
+use Rattle.zq_machine.specs.TextCalls.{closing, finalizing, opening, read, said, withdrawing}
+use Rattle.zq_machine.proofs.Agreed.{InOrder, granted_in_order, next_absent, opened_face, opening_in_order}
+use Rattle.zq_machine.proofs.Agreeing.{Tied, some_of}
+use Rattle.zq_machine.proofs.Always.{after_kept, by_granted}
+use Rattle.zq_machine.proofs.Changing.{face_here, face_other, found_here, found_other, hat_either, hat_here, itself, naming_changed, number_test, one_number, region_there}
+use Rattle.zq_machine.proofs.Finals.{is_there}
+use Rattle.zq_machine.proofs.Hats.{AreHatsOf}
+use Rattle.zq_machine.proofs.Joining.{home, in_faces, in_hat, in_names, left_in_faces, left_in_hat, left_in_names, own}
+use Rattle.zq_machine.proofs.Promises.{all_passed, granted_is_accepted}
+
+-- what the hats have of a face that was opened so
+abbrev kept_by : ℕ → List (ℕ × HatState) → Option OpenFace → Option FaceState
+kept_by q hats o = option_and_then (face_at q) (option_and_then (λ (x : OpenFace). hat_at x.region hats) o)
+
+-- what three lists have of a face
+abbrev stand : ℕ → List (ℕ × OpenFace) → List (ℕ × HatState) → NamingState → Option Standing
+stand q faces hats names = standing_of (at q faces) (naming_at q names) (kept_by q hats (at q faces))
+
+whole : (q : ℕ) (o : OpenFace) (n : FaceKeys) (f : FaceState) (faces : List (ℕ × OpenFace)) (hats : List (ℕ × HatState)) (names : NamingState)
+    → at q faces ≡ Some o → naming_at q names ≡ Some n → kept_by q hats (Some o) ≡ Some f → stand q faces hats names ≡ Some (record { opened = o; numbers = n.numbers; kept = f })
+whole q o n f faces hats names o_at n_at f_at = λ j. standing_of (o_at j) (n_at j) ((ap (kept_by q hats) o_at ∙ f_at) j)
+
+-- ---- one hat is changed
+module _ (place : Region) (first : HatState) (g : HatState → HatState) (hats : List (ℕ × HatState)) (here : hat_at place hats ≡ Some first) where
+  kept_same : (q : ℕ) → face_at q (g first) ≡ face_at q first → (o : Option OpenFace) → kept_by q (change_hat place g hats) o ≡ kept_by q hats o
+  kept_same q same None = refl
+  kept_same q same (Some o) = by (hat_either place first g hats here o.region)
+    where
+      by : (hat_at o.region (change_hat place g hats) ≡ hat_at o.region hats) ⊎ ((hat_at o.region hats ≡ Some first) × (hat_at o.region (change_hat place g hats) ≡ Some (g first)))
+          → option_and_then (face_at q) (hat_at o.region (change_hat place g hats)) ≡ option_and_then (face_at q) (hat_at o.region hats)
+      by (inl e) = ap (option_and_then (face_at q)) e
+      by (inr e) = ap (option_and_then (face_at q)) e.1 ∙ same ∙ sym (ap (option_and_then (face_at q)) e.0)
+
+-- what is changed at one number alone
+by_number : (face q : ℕ) (now was : ℕ → Option Standing) (change : Option Standing → Option Standing) → now face ≡ change (was face) → (is_at (nat_cmp face) q ≡ false → now q ≡ was q) → now q ≡ cond (face == q) (change (was q)) (was q)
+by_number face q now was change here others = by (is_at (nat_cmp face) q) refl ∙ ap (λ b. cond b (change (was q)) (was q)) (number_test face q)
+  where
+    by : (b : Bool) → is_at (nat_cmp face) q ≡ b → now q ≡ cond (is_at (nat_cmp face) q) (change (was q)) (was q)
+    by true e = subst (λ m. now m ≡ change (was m)) (one_number face q e) here ∙ ap (λ b. cond b (change (was q)) (was q)) (sym e)
+    by false e = others e ∙ ap (λ b. cond b (change (was q)) (was q)) (sym e)
+
+-- ---- an open face declares, withdraws or is marked
+module _ (faces : List (ℕ × OpenFace)) (hats : List (ℕ × HatState)) (names : NamingState) (t : Tied faces hats names) (face : ℕ) (o : OpenFace) (seen : at face faces ≡ Some o) where
+  pub its_hat : (h : HatState) × (hat_at o.region hats ≡ Some h)
+  its_hat = some_of (hat_at o.region hats) (t.homes face o seen)
+
+  pub its_keys : (n : FaceKeys) × (naming_at face names ≡ Some n)
+  its_keys = some_of (naming_at face names) (t.named face ∙ ap is_some seen)
+
+  pub its_kept : (f : FaceState) × (face_at face its_hat.0 ≡ Some f)
+  its_kept = some_of (face_at face its_hat.0)
+      (t.seats o.region its_hat.0 face its_hat.1 ∙ ap (λ x. option_map_or (stands_in o.region) x false) seen ∙ sym (number_test (region_index o.region) (region_index o.region)) ∙ itself (region_index o.region))
+
+  kept_is : kept_by face hats (Some o) ≡ Some its_kept.0
+  kept_is = ap (option_and_then (face_at face)) its_hat.1 ∙ its_kept.1
+
+  abbrev pub before : Standing
+  before = record { opened = o; numbers = its_keys.0.numbers; kept = its_kept.0 }
+
+  pub stands_so : stand face faces hats names ≡ Some before
+  stands_so = whole face o its_keys.0 its_kept.0 faces hats names seen its_keys.1 kept_is
+
+  naming_here : (g : FaceKeys → FaceKeys) → naming_at face (change_naming face g names) ≡ Some (g its_keys.0)
+  naming_here g = ap (λ (l : NamingState). naming_at face l) (naming_changed face g names) ∙ found_here face g names face (itself face) ∙ ap (option_map g) its_keys.1
+
+  naming_other : (g : FaceKeys → FaceKeys) (q : ℕ) → is_at (nat_cmp face) q ≡ false → naming_at q (change_naming face g names) ≡ naming_at q names
+  naming_other g q e = ap (λ (l : NamingState). naming_at q l) (naming_changed face g names) ∙ found_other face g names q e
+
+  abbrev hats_with : (FaceState → FaceState) → List (ℕ × HatState)
+  hats_with k = change_hat o.region (change_face face k) hats
+
+  kept_here : (k : FaceState → FaceState) → kept_by face (hats_with k) (Some o) ≡ Some (k its_kept.0)
+  kept_here k =
+      ap (option_and_then (face_at face)) (hat_here o.region its_hat.0 (change_face face k) hats its_hat.1)
+      ∙ face_here face k its_hat.0 face (itself face)
+      ∙ ap (option_map k) its_kept.1
+
+  kept_other : (k : FaceState → FaceState) (q : ℕ) → is_at (nat_cmp face) q ≡ false → kept_by q (hats_with k) (at q faces) ≡ kept_by q hats (at q faces)
+  kept_other k q e = kept_same o.region its_hat.0 (change_face face k) hats its_hat.1 q (face_other face k its_hat.0 q e) (at q faces)
+
+  -- what a call of the face makes there, and elsewhere nothing
+  module _ (c : Call) (q : ℕ) (more : List (ℕ × HatState)) (others : NamingState) (n : FaceKeys) (f : FaceState)
+      (n_at : naming_at face others ≡ Some n) (f_at : kept_by face more (Some o) ≡ Some f)
+      (n_other : is_at (nat_cmp face) q ≡ false → naming_at q others ≡ naming_at q names) (f_other : is_at (nat_cmp face) q ≡ false → kept_by q more (at q faces) ≡ kept_by q hats (at q faces))
+      (makes : record { opened = o; numbers = n.numbers; kept = f } ≡ declaring_at c before) where
+    declared_stands : stand q faces more others ≡ cond (face == q) (option_map (declaring_at c) (stand q faces hats names)) (stand q faces hats names)
+    declared_stands =
+        by_number face q (λ m. stand m faces more others) (λ m. stand m faces hats names) (option_map (declaring_at c))
+        (whole face o n f faces more others seen n_at f_at ∙ ap Some makes ∙ sym (ap (option_map (declaring_at c)) stands_so))
+        (λ e j. standing_of (at q faces) (n_other e j) (f_other e j))
+
+  -- the numbers of the face are those by which its expressions are read
+  numbers_are : face_naming face names ≡ its_keys.0.numbers
+  numbers_are = ap (λ x. (unwrap_or x no_keys).numbers) its_keys.1
+
+-- ---- a face is opened or closed
+module _ (config : Settings) (faces : List (ℕ × OpenFace)) (hats : List (ℕ × HatState)) (names : NamingState) (t : Tied faces hats names) (a : AreHatsOf config hats) (q : ℕ) where
+  abbrev told : ℕ
+  told = config.start.told
+
+  opened_stands : (n : ℕ) (o : Opening) → at n faces ≡ None → is_some (hat_at o.region hats) ≡ true
+      → stand q (insert_entry nat_cmp faces n (opened o)) (change_hat o.region (joined (seat n o)) hats) (insert_entry nat_cmp names n no_keys) ≡ cond (n == q) (Some (newly_opened told q o)) (stand q faces hats names)
+  opened_stands n o absent has = by (is_at (nat_cmp n) q) refl ∙ ap (λ b. cond b (Some (newly_opened told q o)) (stand q faces hats names)) (number_test n q)
+    where
+      place : (h : HatState) × (hat_at o.region hats ≡ Some h)
+      place = home faces hats names t n o absent has
+
+      now : ℕ → Option Standing
+      now m = stand m (insert_entry nat_cmp faces n (opened o)) (change_hat o.region (joined (seat n o)) hats) (insert_entry nat_cmp names n no_keys)
+
+      first_told : place.0.told_start ≡ told
+      first_told = a.starts (region_index o.region) place.0 (region_there o.region hats place.0 place.1).1
+
+      kept_new : kept_by n (change_hat o.region (joined (seat n o)) hats) (Some (opened o)) ≡ Some (new_face (seat n o) told)
+      kept_new =
+          ap (option_and_then (face_at n)) (hat_here o.region place.0 (joined (seat n o)) hats place.1)
+          ∙ in_hat faces hats names t n o absent has n
+          ∙ ap (λ b. cond b (Some (new_face (seat n o) place.0.told_start)) (face_at n place.0)) (itself n)
+          ∙ ap (λ m. Some (new_face (seat n o) m)) first_told
+
+      here : now n ≡ Some (newly_opened told n o)
+      here = whole n (opened o) no_keys (new_face (seat n o) told) _ _ _
+          (in_faces faces hats names t n o absent has n ∙ ap (λ b. cond b (Some (opened o)) (at n faces)) (itself n))
+          (in_names faces hats names t n o absent has n ∙ ap (λ b. cond b (Some no_keys) (naming_at n names)) (itself n))
+          kept_new
+
+      others : is_at (nat_cmp n) q ≡ false → now q ≡ stand q faces hats names
+      others e = λ j. standing_of (faces_same j) ((in_names faces hats names t n o absent has q ∙ ap (λ b. cond b (Some no_keys) (naming_at q names)) e) j) (kept_old j)
+        where
+          faces_same : at q (insert_entry nat_cmp faces n (opened o)) ≡ at q faces
+          faces_same = in_faces faces hats names t n o absent has q ∙ ap (λ b. cond b (Some (opened o)) (at q faces)) e
+
+          kept_old : kept_by q (change_hat o.region (joined (seat n o)) hats) (at q (insert_entry nat_cmp faces n (opened o))) ≡ kept_by q hats (at q faces)
+          kept_old =
+              ap (kept_by q (change_hat o.region (joined (seat n o)) hats)) faces_same
+              ∙ kept_same o.region place.0 (joined (seat n o)) hats place.1 q (in_hat faces hats names t n o absent has q ∙ ap (λ b. cond b (Some (new_face (seat n o) place.0.told_start)) (face_at q place.0)) e) (at q faces)
+
+      by : (b : Bool) → is_at (nat_cmp n) q ≡ b → now q ≡ cond (is_at (nat_cmp n) q) (Some (newly_opened told q o)) (stand q faces hats names)
+      by true e = subst (λ m. now m ≡ Some (newly_opened told m o)) (one_number n q e) here ∙ ap (λ b. cond b (Some (newly_opened told q o)) (stand q faces hats names)) (sym e)
+      by false e = others e ∙ ap (λ b. cond b (Some (newly_opened told q o)) (stand q faces hats names)) (sym e)
+
+  closed_stands : (face : ℕ) (o : OpenFace) → at face faces ≡ Some o → IsStrictlySortedBy nat_cmp (keys_of faces)
+      → stand q (remove_entry (is_at (nat_cmp face)) faces) (change_hat o.region (without_face face) hats) (remove_entry (is_at (nat_cmp face)) names) ≡ cond (face == q) None (stand q faces hats names)
+  closed_stands face o seen sorted = by (is_at (nat_cmp face) q) refl ∙ ap (λ b. cond b None (stand q faces hats names)) (number_test face q)
+    where
+      place : (h : HatState) × (hat_at o.region hats ≡ Some h)
+      place = own faces hats names t sorted face o seen
+
+      now : Option Standing
+      now = stand q (remove_entry (is_at (nat_cmp face)) faces) (change_hat o.region (without_face face) hats) (remove_entry (is_at (nat_cmp face)) names)
+
+      gone : is_at (nat_cmp face) q ≡ true → now ≡ None
+      gone e = ap (λ x. standing_of x (naming_at q (remove_entry (is_at (nat_cmp face)) names)) (kept_by q (change_hat o.region (without_face face) hats) (at q (remove_entry (is_at (nat_cmp face)) faces))))
+          (left_in_faces faces hats names t sorted face o seen q ∙ ap (λ b. cond b None (at q faces)) e)
+
+      others : is_at (nat_cmp face) q ≡ false → now ≡ stand q faces hats names
+      others e = λ j. standing_of (faces_same j) ((left_in_names faces hats names t sorted face o seen q ∙ ap (λ b. cond b None (naming_at q names)) e) j) (kept_old j)
+        where
+          faces_same : at q (remove_entry (is_at (nat_cmp face)) faces) ≡ at q faces
+          faces_same = left_in_faces faces hats names t sorted face o seen q ∙ ap (λ b. cond b None (at q faces)) e
+
+          kept_old : kept_by q (change_hat o.region (without_face face) hats) (at q (remove_entry (is_at (nat_cmp face)) faces)) ≡ kept_by q hats (at q faces)
+          kept_old =
+              ap (kept_by q (change_hat o.region (without_face face) hats)) faces_same
+              ∙ kept_same o.region place.0 (without_face face) hats place.1 q (left_in_hat faces hats names t sorted face o seen q ∙ ap (λ b. cond b None (face_at q place.0)) e) (at q faces)
+
+      by : (b : Bool) → is_at (nat_cmp face) q ≡ b → now ≡ cond (is_at (nat_cmp face) q) None (stand q faces hats names)
+      by true e = gone e ∙ ap (λ b. cond b None (stand q faces hats names)) (sym e)
+      by false e = others e ∙ ap (λ b. cond b None (stand q faces hats names)) (sym e)
+
+-- ---- each call that nothing refuses
+module _ (config : Settings) (q : ℕ) (s : State) (i : InOrder config s) where
+  abbrev its_hats : (HatState → HatState) → Option OpenFace → List (ℕ × HatState)
+  its_hats f x = option_map_or (λ (o : OpenFace). change_hat o.region f s.core.hats) x s.core.hats
+
+  abbrev Makes : Call → List (ℕ × HatState) → NamingState → FaceId → Type 0
+  Makes c hats names f = stand q s.core.faces hats names ≡ cond (f.0 == q) (option_map (declaring_at c) (standing_at q s)) (standing_at q s)
+
+  module _ (f : FaceId) (x : (o : OpenFace) × (at f.0 s.core.faces ≡ Some o)) where
+    abbrev makes_there : (c : Call) (more : List (ℕ × HatState)) (others : NamingState) (n : FaceKeys) (k : FaceState)
+        → naming_at f.0 others ≡ Some n → kept_by f.0 more (Some x.0) ≡ Some k
+        → (is_at (nat_cmp f.0) q ≡ false → naming_at q others ≡ naming_at q s.names) → (is_at (nat_cmp f.0) q ≡ false → kept_by q more (at q s.core.faces) ≡ kept_by q s.core.hats (at q s.core.faces))
+        → record { opened = x.0; numbers = n.numbers; kept = k } ≡ declaring_at c (before s.core.faces s.core.hats s.names i.tied f.0 x.0 x.1)
+        → Makes c more others f
+    makes_there c = declared_stands s.core.faces s.core.hats s.names i.tied f.0 x.0 x.1 c q
+
+    abbrev keys : FaceKeys
+    keys = (its_keys s.core.faces s.core.hats s.names i.tied f.0 x.0 x.1).0
+
+    abbrev keeps : FaceState
+    keeps = (its_kept s.core.faces s.core.hats s.names i.tied f.0 x.0 x.1).0
+
+    abbrev reads : face_naming f.0 s.names ≡ keys.numbers
+    reads = numbers_are s.core.faces s.core.hats s.names i.tied f.0 x.0 x.1
+
+    -- its numbers are changed
+    renamed_stands : (c : Call) (g : FaceKeys → FaceKeys) → record { opened = x.0; numbers = (g keys).numbers; kept = keeps } ≡ declaring_at c (before s.core.faces s.core.hats s.names i.tied f.0 x.0 x.1)
+        → Makes c s.core.hats (change_naming f.0 g s.names) f
+    renamed_stands c g makes =
+        makes_there c s.core.hats (change_naming f.0 g s.names) (g keys) keeps
+        (naming_here s.core.faces s.core.hats s.names i.tied f.0 x.0 x.1 g) (kept_is s.core.faces s.core.hats s.names i.tied f.0 x.0 x.1)
+        (naming_other s.core.faces s.core.hats s.names i.tied f.0 x.0 x.1 g q) (λ e. refl) makes
+
+    -- what its hat keeps of it is changed, and its keys with it or not
+    kept_stands : (c : Call) (k : FaceState → FaceState) (others : NamingState) (n : FaceKeys)
+        → naming_at f.0 others ≡ Some n → (is_at (nat_cmp f.0) q ≡ false → naming_at q others ≡ naming_at q s.names)
+        → record { opened = x.0; numbers = n.numbers; kept = k keeps } ≡ declaring_at c (before s.core.faces s.core.hats s.names i.tied f.0 x.0 x.1)
+        → Makes c (its_hats (change_face f.0 k) (at f.0 s.core.faces)) others f
+    kept_stands c k others n n_at n_other makes =
+        subst (λ hats. Makes c hats others f) (sym (ap (its_hats (change_face f.0 k)) x.1))
+        (makes_there c (change_hat x.0.region (change_face f.0 k) s.core.hats) others n (k keeps) n_at
+        (kept_here s.core.faces s.core.hats s.names i.tied f.0 x.0 x.1 k) n_other (kept_other s.core.faces s.core.hats s.names i.tied f.0 x.0 x.1 k q) makes)
+
+  granted_stands : (c : Call) → refusal_of s.core (read s c) ≡ None → standing_at q (accepted_state s (read s c)) ≡ accepted_at config.start.told q c (granted s.core (read s c)).outcome (standing_at q s)
+  granted_stands (call.Open o) h =
+      opened_stands config s.core.faces s.core.hats s.names i.tied i.hats q s.core.next_face o (next_absent s i.sound) (is_there (is_some (hat_at o.region s.core.hats)) (all_passed (causes s.core (opening o)) h).0)
+  granted_stands (call.Close f) h =
+      let x = opened_face s i.sound i.tied f.0 (all_passed (causes s.core (closing f)) h).0 in
+      subst (λ hats. stand q (remove_entry (is_at (nat_cmp f.0)) s.core.faces) hats (remove_entry (is_at (nat_cmp f.0)) s.names) ≡ cond (f.0 == q) None (standing_at q s)) (sym (ap (its_hats (without_face f.0)) x.1))
+      (closed_stands config s.core.faces s.core.hats s.names i.tied i.hats q f.0 x.0 x.1 i.sound.sorted)
+  granted_stands (call.DeclareKeyExpr f id w) h =
+      let x = opened_face s i.sound i.tied f.0 (all_passed (causes s.core (read s (call.DeclareKeyExpr f id w))) h).0 in
+      renamed_stands f x (call.DeclareKeyExpr f id w) (with_name id (full_text (said f w s)))
+      (ap (λ (m : FaceNaming). record { opened = x.0; numbers = (with_name id (full_text (said_of m w)) (keys f x)).numbers; kept = keeps f x }) (reads f x))
+  granted_stands (call.UndeclareKeyExpr f id) h =
+      let x = opened_face s i.sound i.tied f.0 (all_passed (causes s.core (read s (call.UndeclareKeyExpr f id))) h).0 in
+      renamed_stands f x (call.UndeclareKeyExpr f id) (without_name id) refl
+  granted_stands (call.DeclareQueryable f id w info node) h =
+      let x = opened_face s i.sound i.tied f.0 (all_passed (causes s.core (read s (call.DeclareQueryable f id w info node))) h).0 in
+      let g : FaceKeys → FaceKeys = with_queryable id (full_text (said f w s)) in
+      kept_stands f x (call.DeclareQueryable f id w info node) (declare id (full_text (said f w s)) info) (change_naming f.0 g s.names) (g (keys f x))
+      (naming_here s.core.faces s.core.hats s.names i.tied f.0 x.0 x.1 g) (naming_other s.core.faces s.core.hats s.names i.tied f.0 x.0 x.1 g q)
+      (ap (λ (m : FaceNaming). record { opened = x.0; numbers = (keys f x).numbers; kept = declare id (full_text (said_of m w)) info (keeps f x) }) (reads f x))
+  granted_stands (call.UndeclareQueryable f id w node) h =
+      let x = opened_face s i.sound i.tied f.0 (all_passed (causes s.core (withdrawing f id)) h).0 in
+      kept_stands f x (call.UndeclareQueryable f id w node) (withdraw id) (change_naming f.0 (without_queryable id) s.names) (without_queryable id (keys f x))
+      (naming_here s.core.faces s.core.hats s.names i.tied f.0 x.0 x.1 (without_queryable id)) (naming_other s.core.faces s.core.hats s.names i.tied f.0 x.0 x.1 (without_queryable id) q) refl
+  granted_stands (call.FinalizeInterest f mark set) h =
+      let x = opened_face s i.sound i.tied f.0 (all_passed (causes s.core (finalizing f mark set)) h).0 in
+      kept_stands f x (call.FinalizeInterest f mark set) (marked mark set) s.names (keys f x) (its_keys s.core.faces s.core.hats s.names i.tied f.0 x.0 x.1).1 (λ e. refl) refl
+  granted_stands c h = refl
+
+  call_stands : (c : Call) → standing_at q (after s c) ≡ standing_after config.start.told q c (step s c) (standing_at q s)
+  call_stands c =
+      by_granted (λ t z. standing_at q z ≡ standing_after config.start.told q c t (standing_at q s)) s (read s c)
+      (λ h. granted_stands c h ∙ ap (λ b. cond b (accepted_at config.start.told q c (granted s.core (read s c)).outcome (standing_at q s)) (standing_at q s)) (sym (granted_is_accepted s.core (read s c) h)))
+      (λ r. refl)
+
+-- ---- the lists of gateways
+call_listed : (s : State) (c : Call) → (after s c).core.tables ≡ listed_after c (step s c) s.core.tables
+call_listed s (call.SetGateways r table) = by_granted (λ t z. z.core.tables ≡ listed_after (call.SetGateways r table) t s.core.tables) s (read s (call.SetGateways r table)) (λ h. refl) (λ x. refl)
+call_listed s c = by_granted (λ t z. z.core.tables ≡ s.core.tables) s (read s c) (λ h. refl) (λ x. refl)
+
+-- ---- a run
+run_stands : (config : Settings) (q : ℕ) (cs : List Call) (s : State) → InOrder config s → standing_at q (state_after s cs) ≡ standing_in config.start.told q cs (steps_from s cs) (standing_at q s)
+run_stands config q [] s i = refl
+run_stands config q (c ∷ cs) s i =
+    run_stands config q cs (after s c) (after_kept (InOrder config) (granted_in_order config) s c i)
+    ∙ ap (standing_in config.start.told q cs (steps_from (after s c) cs)) (call_stands config q s i c)
+
+run_listed : (cs : List Call) (s : State) → (state_after s cs).core.tables ≡ listed_in cs (steps_from s cs) s.core.tables
+run_listed [] s = refl
+run_listed (c ∷ cs) s = run_listed cs (after s c) ∙ ap (listed_in cs (steps_from (after s c) cs)) (call_listed s c)
+
+pub all_stand : (config : Settings) (calls : List Call) (face : ℕ) → standing_at face (state_after (opening_state config) calls) ≡ standing_in config.start.told face calls (steps_from (opening_state config) calls) None
+all_stand config calls face = run_stands config face calls (opening_state config) (opening_in_order config)
+
+pub all_listed : (config : Settings) (calls : List Call) → (state_after (opening_state config) calls).core.tables ≡ listed_in calls (steps_from (opening_state config) calls) []
+all_listed config calls = run_listed calls (opening_state config)

@@ -1,0 +1,119 @@
+-- What stands of each face, and of the lists of gateways, by the calls of a run and their answers alone.
+use Rattle.std.specs.Prelude.{◌≡◌, ℕ, ◌==◌, Bool, false, List, [], ◌∷◌, Option, Some, None, if◌then◌else◌}
+use Rattle.std.specs.Map.{remove_entry}
+use Rattle.std.specs.BTreeMap.{insert_entry, is_at}
+use Rattle.std.specs.Option.{option_and_then, option_map}
+use Rattle.std.specs.Ordering.{nat_cmp}
+use Rattle.zq_key.specs.declared.message.WireExpr.{WireExpr}
+use Rattle.zq_tables.specs.RegionMap.{with_entry}
+use Rattle.zq_hat.specs.Kept.{declare, face_at, new_face, withdraw}
+use Rattle.zq_hat.specs.Marks.{marked}
+use Rattle.zq_hat.specs.State.{FaceState}
+use Rattle.zq_naming.specs.Naming.{FaceKeys, FaceNaming, Names, naming_at, no_names, said_of}
+use Rattle.zq_route.specs.declared.gateways.Gateways.{Gateways}
+use Rattle.zq_machine.specs.declared.call.Call.{Call}
+use Rattle.zq_machine.specs.declared.call.Call.TheVariants as call
+use Rattle.zq_machine.specs.declared.call.Opening.{Opening}
+use Rattle.zq_machine.specs.declared.call.Outcome.{Outcome}
+use Rattle.zq_machine.specs.declared.call.Outcome.TheVariants as outcome
+use Rattle.zq_machine.specs.declared.call.Step.{Step}
+use Rattle.zq_machine.specs.declared.face.OpenFace.{OpenFace}
+use Rattle.zq_machine.specs.Deciding.{is_accepted, opened, seat}
+use Rattle.zq_machine.specs.Selecting.{full_text}
+use Rattle.zq_machine.specs.State.{Core, State, at, hat_of}
+
+-- what stands of an open face: how it was opened, the numbers that stand for keys there, and what its region's hat keeps of it
+pub record Standing : Type 0 where
+  pub opened : OpenFace
+  pub numbers : FaceNaming
+  pub kept : FaceState
+
+-- ---- by the calls and their answers
+
+-- a face that was just opened: it has no numbers, and has declared nothing
+abbrev pub newly_opened : (told face : ℕ) → Opening → Standing
+newly_opened told face o = record { opened = opened o; numbers = no_names; kept = new_face (seat face o) told }
+
+-- the answer opens the face
+abbrev pub opens : ℕ → Outcome → Bool
+opens face (outcome.Opened f) = f.0 == face
+opens face (outcome.Asked number) = false
+opens face (outcome.Replied reply) = false
+opens face outcome.Done = false
+opens face (outcome.Refused r) = false
+
+-- with other numbers of the face's own
+abbrev pub with_own : Standing → Names → Standing
+with_own s names = record s { numbers = record s.numbers { theirs = names } }
+
+-- with other things kept of it
+abbrev pub with_kept : Standing → FaceState → Standing
+with_kept s f = record s { kept = f }
+
+-- the text that the face says
+abbrev pub text_said : Standing → WireExpr → List ℕ
+text_said s w = full_text (said_of s.numbers w)
+
+-- what an accepted call of a face makes of what stands there
+abbrev pub declaring_at : Call → Standing → Standing
+declaring_at (call.DeclareKeyExpr f id w) s = with_own s (insert_entry nat_cmp s.numbers.theirs id (text_said s w))
+declaring_at (call.UndeclareKeyExpr f id) s = with_own s (remove_entry (is_at (nat_cmp id)) s.numbers.theirs)
+declaring_at (call.DeclareQueryable f id w info node) s = with_kept s (declare id (text_said s w) info s.kept)
+declaring_at (call.UndeclareQueryable f id w node) s = with_kept s (withdraw id s.kept)
+declaring_at (call.FinalizeInterest f mark set) s = with_kept s (marked mark set s.kept)
+declaring_at c s = s
+
+-- the face makes the call, which is one of those
+abbrev pub is_by : ℕ → Call → Bool
+is_by face (call.DeclareKeyExpr f id w) = f.0 == face
+is_by face (call.UndeclareKeyExpr f id) = f.0 == face
+is_by face (call.DeclareQueryable f id w info node) = f.0 == face
+is_by face (call.UndeclareQueryable f id w node) = f.0 == face
+is_by face (call.FinalizeInterest f mark set) = f.0 == face
+is_by face c = false
+
+-- what stands of a face after an accepted call, and its answer
+abbrev pub accepted_at : (told face : ℕ) → Call → Outcome → Option Standing → Option Standing
+accepted_at told face (call.Open o) answer was = if opens face answer then Some (newly_opened told face o) else was
+accepted_at told face (call.Close f) answer was = if f.0 == face then None else was
+accepted_at told face c answer was = if is_by face c then option_map (declaring_at c) was else was
+
+-- after any call; a refused one changes nothing
+abbrev pub standing_after : (told face : ℕ) → Call → Step → Option Standing → Option Standing
+standing_after told face c t was = if is_accepted t.outcome then accepted_at told face c t.outcome was else was
+
+-- after calls that are answered by these steps
+abbrev pub standing_in : (told face : ℕ) → List Call → List Step → Option Standing → Option Standing
+standing_in told face [] ts was = was
+standing_in told face (c ∷ cs) [] was = was
+standing_in told face (c ∷ cs) (t ∷ ts) was = standing_in told face cs ts (standing_after told face c t was)
+
+-- the lists of gateways after a call, and after calls
+abbrev pub listed_after : Call → Step → List (ℕ × Gateways) → List (ℕ × Gateways)
+listed_after (call.SetGateways r table) t was = if is_accepted t.outcome then with_entry was r table else was
+listed_after c t was = was
+
+abbrev pub listed_in : List Call → List Step → List (ℕ × Gateways) → List (ℕ × Gateways)
+listed_in [] ts was = was
+listed_in (c ∷ cs) [] was = was
+listed_in (c ∷ cs) (t ∷ ts) was = listed_in cs ts (listed_after c t was)
+
+-- ---- what the gateway has of it
+
+-- what the hat of a face keeps of it
+abbrev pub kept_at : ℕ → Core → Option FaceState
+kept_at face c = option_and_then (face_at face) (hat_of face c)
+
+-- all of it, where all is there
+abbrev pub standing_of : Option OpenFace → Option FaceKeys → Option FaceState → Option Standing
+standing_of (Some o) (Some n) (Some f) = Some (record { opened = o; numbers = n.numbers; kept = f })
+standing_of o n f = None
+
+-- what the gateway has of the face
+abbrev pub standing_at : ℕ → State → Option Standing
+standing_at face s = standing_of (at face s.core.faces) (naming_at face s.names) (kept_at face s.core)
+
+-- two gateways have the same of each face, and the same lists
+pub record StandAlike (s z : State) : Type 0 where
+  pub faces : (face : ℕ) → standing_at face s ≡ standing_at face z
+  pub lists : s.core.tables ≡ z.core.tables
