@@ -6,8 +6,8 @@ ghost use Rattle.zq_names.specs.Closing.{Closes, ClosesBelow, IsRun};
 use crate::edit::remove_at;
 use crate::node::Node;
 use crate::order::lower_bound;
-use crate::tree::Tree;
 use slab::Slab;
+use zq_rows::Tree;
 
 // The first place below the text at a place, and the first one after those.
 fn run_of(nodes: &Slab<Node>, order: &Tree, place: usize) -> (usize, usize)
