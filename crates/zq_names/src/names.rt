@@ -1,14 +1,14 @@
 //! The table of names.
 ghost use Rattle.std.specs.Prelude.{◌≡◌, ◌≢◌, ℕ, ◌+◌, ◌<◌, ◌^◌, ◌++◌, ◌↔◌, [], ◌∷◌, IsTrue, IfOk, IfErr, ◌⊎◌, IfSome, IfNone, OnOk, OnErr, Err, Some, true, false, slice_get, length, drop, map, filter};
-ghost use Rattle.std.specs.List.{All, Contains};
+ghost use Rattle.std.specs.List.{All, AllPairs, Contains};
 ghost use Rattle.std.specs.String.{string_bytes};
 ghost use Rattle.zq_key.specs.Key.{is_key as key_of};
-ghost use Rattle.zq_names.specs.Names.{IsLive, entry_at, entry_of, change_at, with_hold, without_hold, with_context, texts, text_at, HasText, Adds, Makes, Cleans, Rises, ids};
+ghost use Rattle.zq_names.specs.Names.{IsLive, IsNames, entry_at, entry_of, change_at, with_hold, without_hold, with_context, texts, HasText, Adds, Makes, Cleans, ids};
 ghost use Rattle.zq_names.specs.Closing.{Closes};
 ghost use Rattle.zq_names.specs.Linking.{HasContext, matched};
 ghost use Rattle.zq_names.specs.Keeping.{AllStay, ChangesAt, NoneCome};
 ghost use Rattle.zq_names.specs.Idle.{IdleAt, NoneIdle};
-ghost use Rattle.zq_names.specs.Texts.{IsBelow, heads, last_part, nonwild};
+ghost use Rattle.zq_names.specs.Texts.{heads, last_part, nonwild};
 ghost use Rattle.zq_names.specs.Matching.{number, is_match};
 
 use crate::close::close_at;
@@ -96,15 +96,10 @@ impl Names {
     }
 
     /// How many texts there are.
-    ///
-    /// They begin with the root's, rise, and but for it are keys. With a text, each part of it that ends before a `/` is there.
     pub fn len(&self) -> usize
         ensures len { result ≡ length self.now }
-        ensures rising { Rises self.now }
-        ensures root { slice_get (texts self.now) 0 ≡ Some [] }
-        ensures distinct { (i j : ℕ) → i < j → j < length self.now → text_at self.now i ≢ text_at self.now j }
-        ensures closed { (s t : _) → Contains (texts self.now) t → IsBelow s t → Contains (texts self.now) s }
-        ensures keys { (t : _) → Contains (texts self.now) t → 0 < length t → key_of t ≡ true }
+        ensures names { IsNames (ids self.now) (texts self.now) }
+        ensures distinct { AllPairs ◌≢◌ (texts self.now) }
     {
         self.order.len()
     }
@@ -224,6 +219,7 @@ impl Names {
         ensures found { IfOk result (λ r. HasText self.now r ((entry_at self.now from.0).text ++ suffix.now)) }
         ensures only { IfOk result (λ r. (i : ℕ) → Contains (ids self.now) i → (entry_at self.now i).text ≡ (entry_at self.now from.0).text ++ suffix.now → i ≡ r.0) }
         ensures absent { OnErr result (Contains (texts self.now) ((entry_at self.now from.0).text ++ suffix.now) → ⊥) }
+        ensures names { IsNames (ids self.now) (texts self.now) }
     {
         let head = self.expr(from);
         match search(&self.nodes, &self.order, head, suffix) {
@@ -238,6 +234,7 @@ impl Names {
         ensures found { IfSome result (λ r. HasText self.now r ((entry_at self.now from.0).text ++ suffix.now)) }
         ensures only { IfSome result (λ r. (i : ℕ) → Contains (ids self.now) i → (entry_at self.now i).text ≡ (entry_at self.now from.0).text ++ suffix.now → i ≡ r.0) }
         ensures absent { IfNone result (Contains (texts self.now) ((entry_at self.now from.0).text ++ suffix.now) → ⊥) }
+        ensures names { IsNames (ids self.now) (texts self.now) }
     {
         match self.find(from, suffix) {
             Ok(r) => Some(r),
@@ -333,10 +330,12 @@ impl Names {
         close_at(&mut self.nodes, &mut self.order, place);
     }
 
-    /// The node's matches.
+    /// The node's matches. Each has a context, and so has a node that has any.
     pub fn matches(&self, r: ResourceId) -> &[ResourceId]
         requires { IsLive self.now r }
-        ensures { result.now ≡ (entry_at self.now r.0).matches }
+        ensures matches { result.now ≡ (entry_at self.now r.0).matches }
+        ensures contexts { All (HasContext self.now) result.now }
+        ensures none { (entry_at self.now r.0).context ≡ false → result.now ≡ [] }
     {
         let node = &self.nodes[r.0 as usize];
         &node.matches
