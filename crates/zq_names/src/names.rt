@@ -164,7 +164,6 @@ impl Names {
         ensures none { IfNone result.0 ((nonwild (entry_at self.now r.0).text ≡ []) × (0 < length (entry_at self.now r.0).text)) }
         ensures rest { result.1.now ≡ drop (length (nonwild (entry_at self.now r.0).text)) (entry_at self.now r.0).text }
     {
-        let _table = &self.order;
         let text = self.expr(r);
         match cut_before_star(text) {
             None => (Some(r), ""),
@@ -236,10 +235,7 @@ impl Names {
         ensures absent { IfNone result (Contains (texts self.now) ((entry_at self.now from.0).text ++ suffix.now) → ⊥) }
         ensures names { IsNames (ids self.now) (texts self.now) }
     {
-        match self.find(from, suffix) {
-            Ok(r) => Some(r),
-            Err(_) => None,
-        }
+        self.find(from, suffix).ok()
     }
 
     /// The same as `get_resource`, which takes no memory either.
@@ -259,7 +255,6 @@ impl Names {
         ensures key { IfOk result (λ _. key_of ((entry_at self.now from.0).text ++ suffix.now) ≡ true) }
     {
         let r = self.find(from, suffix)?;
-        let _table = &self.order;
         match self.keyexpr(r) {
             Some(_) => Ok(r),
             None => Err(0),

@@ -151,10 +151,7 @@ fn stands(nodes: &Slab<Node>, order: &Tree, text: &str) -> bool
     requires rising { Rises (rows nodes.now.slots order.now) }
     ensures { result ≡ true → Contains (texts (rows nodes.now.slots order.now)) text.now }
 {
-    match search(nodes, order, text, "") {
-        Ok(_) => true,
-        Err(_) => false,
-    }
+    matches!(search(nodes, order, text, ""), Ok(_))
 }
 
 // The first place with a `/` among some.
@@ -170,7 +167,7 @@ fn slash_between(text: &[u8], low: usize, high: usize) -> Option<usize>
     None
 }
 
-// A place up to which all parts of the text that end before a `/` are there. It is the last one.
+// A place up to which all parts of the text that end before a `/` are there: the last one, which no clause says.
 // The longest part is looked for near a place first.
 pub(crate) fn known_end(nodes: &Slab<Node>, order: &Tree, near: usize, text: &str) -> usize
     requires table { IsTable nodes.now.slots order.now }

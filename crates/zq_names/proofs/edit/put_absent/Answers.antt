@@ -1,7 +1,7 @@
 use Rattle.std.proofs.Common.{Some}
 use Rattle.zq_names.specs.Names.{entry_of}
 use Rattle.zq_names.proofs.Adding.{Adds-put}
-use Rattle.zq_names.proofs.edit.ensure.Goals as goal
+use Rattle.zq_names.proofs.edit.put_absent.Goals as goal
 
 pub returns-in-Err-clause-adds : goal.returns-in-Err-clause-adds
 returns-in-Err-clause-adds c =
