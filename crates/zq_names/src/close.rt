@@ -36,7 +36,7 @@ fn take_run(nodes: &mut Slab<Node>, order: &mut Tree, place: usize, low: usize, 
     let mut end = high;
     while low < end {
         end -= 1;
-        let _text = remove_at(nodes, order, end);
+        remove_at(nodes, order, end);
     }
 }
 
@@ -50,6 +50,6 @@ pub(crate) fn close_at(nodes: &mut Slab<Node>, order: &mut Tree, place: usize)
     let (low, high) = run_of(nodes, order, place);
     take_run(nodes, order, place, low, high);
     if place != 0 {
-        let _text = remove_at(nodes, order, place);
+        remove_at(nodes, order, place);
     }
 }

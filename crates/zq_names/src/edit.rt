@@ -64,10 +64,10 @@ fn put_absent(nodes: &mut Slab<Node>, order: &mut Tree, last: usize, newcomer: N
 {
     let Newcomer { node, seat } = newcomer;
     match search_near(nodes, order, last, node.text.as_str()) {
-        Ok(at) => at,
-        Err(at) => {
-            let _id = put(nodes, order, at, node, seat);
-            at
+        Ok(place) => place,
+        Err(gap) => {
+            put(nodes, order, gap, node, seat);
+            gap
         }
     }
 }
