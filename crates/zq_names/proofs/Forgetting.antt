@@ -6,7 +6,7 @@ use Rattle.std.proofs.lemmas.Bool.Decides.{nat_tests}
 use Rattle.std.proofs.lemmas.List.Elements.{Contains-append_left, Contains-append_right, Contains-append_cases}
 use Rattle.zq_names.specs.declared.node.Node.{Node}
 use Rattle.zq_names.specs.declared.node.ResourceId.{ResourceId}
-use Rattle.zq_names.specs.Names.{NameEntry, IsTable, IsNames, IsLinked, slot, slot_matches, slot_former, row, rows, texts, without_match}
+use Rattle.zq_names.specs.Names.{NameEntry, IsTable, IsNames, IsLinked, slot, slot_context, slot_matches, slot_former, row, rows, texts, without_match}
 use Rattle.zq_names.specs.Forgetting.{Drops}
 use Rattle.zq_names.proofs.Table.{Changes-with_value, each_slot}
 
@@ -170,7 +170,7 @@ holds_nothing old middle new i node linked forgets j m is has =
     let before = was_there old middle new i node forgets j m has in
     let holder : ResourceId = record { 0 = j } in
     let H : Option Node → Type 0 = λ (o : Option Node). Contains (slot_matches o ++ slot_former o) holder in
-    let held = linked m holder before.1 in
+    let held = linked.both_ways m holder before.1 in
     forgets.drops.gone holder m (subst H (ap (slot old) is ∙ forgets.was) held) is has
 
 entry-forgot : (i : ℕ) (e e' : NameEntry) → without_match i e' ≡ without_match i e → ((m : ResourceId) → m.0 ≡ i → Contains e'.matches m → ⊥) → e' ≡ without_match i e
@@ -197,14 +197,25 @@ IsTable-forgot old middle new order i node linked forgets table =
     }
 
 pub IsLinked-forgot : (old middle new : List (Option Node)) (i : ℕ) (node : Node) → IsLinked old → Forgets old middle new i node → IsLinked new
-IsLinked-forgot old middle new i node linked forgets a b has =
-    let before = was_there old middle new i node forgets b.0 a has in
-    let apart : a.0 ≢ i = λ is. holds_nothing old middle new i node linked forgets b.0 a is has in
-    let C : List ResourceId → Type 0 = λ (l : List ResourceId). Contains l b in
-    let here = forgets.others a.0 apart in
-    let kept : others_of i (slot_matches (slot old a.0)) ≡ others_of i (slot_matches (slot new a.0)) =
-    ap (λ (o : Option Node). others_of i (slot_matches o)) (sym here) ∙ sym (ap (λ (e : NameEntry). e.matches) (forgets.drops.same a.0)) in
-    elim (Contains-append_cases (slot_matches (slot old a.0)) (slot_former (slot old a.0)) b (linked a b before.1)) [
-      | inl among ↦ Contains-append_left (slot_matches (slot new a.0)) (slot_former (slot new a.0)) b (from_others i (slot_matches (slot new a.0)) b (subst C kept (to_others i (slot_matches (slot old a.0)) b before.0 among)))
-      | inr once ↦ Contains-append_right (slot_matches (slot new a.0)) (slot_former (slot new a.0)) b (subst C (ap slot_former (sym here) ∙ sym (forgets.drops.former a.0)) once)
-    ]
+IsLinked-forgot old middle new i node linked forgets = record {
+  both_ways = λ a b has.
+      let before = was_there old middle new i node forgets b.0 a has in
+      let C : List ResourceId → Type 0 = λ (l : List ResourceId). Contains l b in
+      let here = forgets.others a.0 (apart a b has) in
+      let kept : others_of i (slot_matches (slot old a.0)) ≡ others_of i (slot_matches (slot new a.0)) =
+      ap (λ (o : Option Node). others_of i (slot_matches o)) (sym here) ∙ sym (ap (λ (e : NameEntry). e.matches) (forgets.drops.same a.0)) in
+      elim (Contains-append_cases (slot_matches (slot old a.0)) (slot_former (slot old a.0)) b (linked.both_ways a b before.1)) [
+        | inl among ↦ Contains-append_left (slot_matches (slot new a.0)) (slot_former (slot new a.0)) b (from_others i (slot_matches (slot new a.0)) b (subst C kept (to_others i (slot_matches (slot old a.0)) b before.0 among)))
+        | inr once ↦ Contains-append_right (slot_matches (slot new a.0)) (slot_former (slot new a.0)) b (subst C (ap slot_former (sym here) ∙ sym (forgets.drops.former a.0)) once)
+      ];
+  contexts = λ a b has.
+      let before = was_there old middle new i node forgets b.0 a has in
+      let both = linked.contexts a b before.1 in
+      (context b.0 before.0 ∙ both.0, context a.0 (apart a b has) ∙ both.1);
+}
+  where
+    apart : (a b : ResourceId) → Contains (slot_matches (slot new b.0)) a → a.0 ≢ i
+    apart a b has is = holds_nothing old middle new i node linked forgets b.0 a is has
+
+    context : (k : ℕ) → k ≢ i → slot_context (slot new k) ≡ slot_context (slot old k)
+    context k differ = ap (λ (e : NameEntry). e.context) (forgets.drops.same k) ∙ ap slot_context (forgets.others k differ)

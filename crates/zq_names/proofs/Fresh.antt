@@ -10,7 +10,7 @@ use Rattle.std.proofs.lemmas.Map.Keys.{sorted_from_all_adjacent}
 use Rattle.zq_names.specs.declared.node.Node.{Node}
 use Rattle.zq_names.specs.Texts.{IsBelow}
 use Rattle.zq_names.specs.declared.node.ResourceId.{ResourceId}
-use Rattle.zq_names.specs.Names.{IsTable, IsNames, IsLinked, slot, rows, texts}
+use Rattle.zq_names.specs.Names.{IsTable, IsNames, IsLinked, slot, slot_matches, rows, texts}
 
 only_root : (s t : List ℕ) → Contains ([] ∷ []) t → IsBelow s t → Contains ([] ∷ []) s
 only_root s t (suc k, lt, is) below = absurd (omega arith)
@@ -48,10 +48,13 @@ IsTable-root old new i node empty first text is others =
     )
 
 pub IsLinked-root : (old new : List (Option Node)) (i : ℕ) (node : Node) → old ≡ [] → node.matches.items ≡ [] → slot new i ≡ Some node → ((j : ℕ) → j ≢ i → slot new j ≡ slot old j) → IsLinked new
-IsLinked-root old new i node empty bare is others a b has = elim (cases_eq b.0 i) [
-  | inl same ↦ absurd (nothing_in a (rw (same, is, bare) at has))
-  | inr differ ↦ absurd (nothing_in a (rw (others b.0 differ, empty) at has))
-]
+IsLinked-root old new i node empty bare is others = record { both_ways = λ a b has. absurd (none a b has); contexts = λ a b has. absurd (none a b has) }
   where
     nothing_in : (x : ResourceId) → Contains [] x → ⊥
     nothing_in x (k, lt, e) = omega arith
+
+    none : (a b : ResourceId) → Contains (slot_matches (slot new b.0)) a → ⊥
+    none a b has = elim (cases_eq b.0 i) [
+      | inl same ↦ nothing_in a (rw (same, is, bare) at has)
+      | inr differ ↦ nothing_in a (rw (others b.0 differ, empty) at has)
+    ]

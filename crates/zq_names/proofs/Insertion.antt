@@ -149,13 +149,15 @@ empty_slot : (o : Option Node) → o ≡ None → (m : ResourceId) → Contains 
 empty_slot o none m has = nothing_in m (rw none at has)
 
 pub IsLinked-put : (old new : List (Option Node)) (i : ℕ) (node : Node) → node.matches.items ≡ [] → slot old i ≡ None → slot new i ≡ Some node → ((j : ℕ) → j ≢ i → slot new j ≡ slot old j) → IsLinked old → IsLinked new
-IsLinked-put old new i node bare fresh is others linked a b has =
-    elim (cases_eq b.0 i) [
+IsLinked-put old new i node bare fresh is others linked = record {
+  both_ways = λ a b has. let before = was a b has in rw (others a.0 before.1.0) (linked.both_ways a b before.1.1);
+  contexts = λ a b has. let before = was a b has in let both = linked.contexts a b before.1.1 in (rw (others b.0 before.0) both.0, rw (others a.0 before.1.0) both.1);
+}
+  where
+    was : (a b : ResourceId) → Contains (slot_matches (slot new b.0)) a → (b.0 ≢ i) × ((a.0 ≢ i) × Contains (slot_matches (slot old b.0)) a)
+    was a b has = elim (cases_eq b.0 i) [
       | inl same ↦ absurd (nothing_in a (rw (same, is, bare) at has))
       | inr differ ↦
-          let before = linked a b (rw (others b.0 differ) at has) in
-          elim (cases_eq a.0 i) [
-            | inl same ↦ absurd (empty_slot (slot old a.0) (ap (slot old) same ∙ fresh) b before)
-            | inr apart ↦ rw (others a.0 apart) before
-          ]
+          let before : Contains (slot_matches (slot old b.0)) a = rw (others b.0 differ) at has in
+          (differ, (λ same. empty_slot (slot old a.0) (ap (slot old) same ∙ fresh) b (linked.both_ways a b before), before))
     ]

@@ -19,6 +19,5 @@ pub mod LinkLemmas
 pub mod KeepingLemmas
 pub mod ClosingLemmas
 pub mod Idling
-mod TreeLists
 mod KnownLemmas
 mod Descent

@@ -8,7 +8,7 @@ use Rattle.std.proofs.lemmas.List.Folds.{list_any-append, list_any_at}
 use Rattle.std.proofs.lemmas.List.Elements.{Contains-append_left, Contains-append_right, Contains-append_cases, Contains-push, Contains-push_cases}
 use Rattle.zq_names.specs.declared.node.Node.{Node}
 use Rattle.zq_names.specs.declared.node.ResourceId.{ResourceId}
-use Rattle.zq_names.specs.Names.{NameEntry, IsSound, slot, slot_matches, slot_former, rows, texts, ids, entry_of, entry_at}
+use Rattle.zq_names.specs.Names.{NameEntry, IsLinked, IsSound, slot, slot_context, slot_matches, slot_former, rows, texts, ids, entry_of, entry_at}
 use Rattle.zq_names.specs.Keeping.{AllStay}
 use Rattle.zq_names.specs.Linking.{has_number, with_member, with_match, joined, matched, HasRoom, IsReadyFor, IsRoomier, Joins, HasBoth, Links}
 use Rattle.zq_names.proofs.Same.{SameSlot, IsTable-same}
@@ -32,6 +32,11 @@ from_number (m ∷ ms) x has = by (eqb m.0 x.0) refl has (from_number ms x)
         let R : ℕ → ResourceId = λ (n : ℕ). record { 0 = n } in
         (zero, omega arith, ap R number)
     by false e h later = Contains-append_right (m ∷ []) ms x (later h)
+
+-- a list with no number in it is empty
+pub no_members : (ms : List ResourceId) → ((x : ResourceId) → Contains ms x → ⊥) → ms ≡ []
+no_members [] none = refl
+no_members (m ∷ ms) none = absurd (none m (zero, omega arith, refl))
 
 -- ---- a list with one number more
 
@@ -320,7 +325,7 @@ IsLinked-linked old new order r members links sound i j has =
           let among = subst M (ap (λ (k : ℕ). slot_matches (slot new k)) own ∙ own_matches old new r members links) has in
           subst J (ap R (sym own)) (Contains-append_left (slot_matches (slot new i.0)) (slot_former (slot new i.0)) r (member_link old new r members i links among))
       | inr differ ↦ elim (joined_matches r members (entry_of j.0 (slot old j.0)) i (subst M (other_matches old new r members j.0 differ links) has)) [
-        | inl before ↦ kept_link old new r members i j links (sound.linked i j before)
+        | inl before ↦ kept_link old new r members i j links (sound.linked.both_ways i j before)
         | inr came ↦
             let K : List ResourceId → Type 0 = λ (l : List ResourceId). Contains l j in
             let own : slot_matches (slot new i.0) ≡ members = ap (λ (x : ResourceId). slot_matches (slot new x.0)) (sym came.1) ∙ own_matches old new r members links in
@@ -328,8 +333,30 @@ IsLinked-linked old new order r members links sound i j has =
       ]
     ]
 
-pub IsSound-linked : (old new : List (Option Node)) (order : List ℕ) (r : ResourceId) (members : List ResourceId) → Links old new r members → IsSound old order → IsSound new order
-IsSound-linked old new order r members links sound = record {
+-- nobody is met but nodes with a context
+contexts_linked : (old new : List (Option Node)) (r : ResourceId) (members : List ResourceId) → Links old new r members → IsLinked old → slot_context (slot old r.0) ≡ true → ((m : ResourceId) → Contains members m → slot_context (slot old m.0) ≡ true)
+    → (i j : ResourceId) → Contains (slot_matches (slot new j.0)) i → (slot_context (slot new j.0) ≡ true) × (slot_context (slot new i.0) ≡ true)
+contexts_linked old new r members links linked own_context member_context i j has = elim (cases_eq j.0 r.0) [
+  | inl own ↦
+      let among = subst M (ap (λ (k : ℕ). slot_matches (slot new k)) own ∙ own_matches old new r members links) has in
+      (context j.0 (ap (λ (k : ℕ). slot_context (slot old k)) own ∙ own_context), context i.0 (member_context i among))
+  | inr differ ↦ elim (joined_matches r members (entry_of j.0 (slot old j.0)) i (subst M (other_matches old new r members j.0 differ links) has)) [
+    | inl before ↦ let both = linked.contexts i j before in (context j.0 both.0, context i.0 both.1)
+    | inr came ↦ (context j.0 (member_context j (from_number members j came.0)), context i.0 (ap (λ (x : ResourceId). slot_context (slot old x.0)) (sym came.1) ∙ own_context))
+  ]
+]
+  where
+    M : List ResourceId → Type 0
+    M l = Contains l i
+
+    context : (k : ℕ) → slot_context (slot old k) ≡ true → slot_context (slot new k) ≡ true
+    context k is = ap (λ (e : NameEntry). e.context) (links.matched k) ∙ matched-keeps (λ (x : NameEntry). x.context) (λ x ms. refl) r members (entry_of k (slot old k)) ∙ is
+
+pub IsSound-linked : (old new : List (Option Node)) (order : List ℕ) (r : ResourceId) (members : List ResourceId) → Links old new r members → slot_context (slot old r.0) ≡ true → ((m : ResourceId) → Contains members m → slot_context (slot old m.0) ≡ true) → IsSound old order → IsSound new order
+IsSound-linked old new order r members links own_context member_context sound = record {
   table = IsTable-same old new order (ap texts (rows-linked old new order r members links) ∙ map-matched (λ (x : NameEntry). x.text) (λ x ms. refl) r members (rows old order)) links.live sound.table;
-  linked = λ i j has. IsLinked-linked old new order r members links sound i j has;
+  linked = record {
+    both_ways = IsLinked-linked old new order r members links sound;
+    contexts = contexts_linked old new r members links sound.linked own_context member_context;
+  };
 }

@@ -1,15 +1,17 @@
 -- A table by its numbers, and what a change of one node leaves.
 use Rattle.std.proofs.Common.{◌≡◌, ◌≢◌, ℕ, ◌<◌, true, false, eqb, List, [], ◌∷◌, ◌++◌, length, get_or, set, Option, subst, sym, ap, ◌∙◌, refl, arith, suc, zero, Some, None, IsSome, inl, inr}
 use Rattle.std.specs.List.{Contains}
-use Rattle.std.proofs.lemmas.Bool.{cases_eq}
+use Rattle.std.proofs.lemmas.Bool.{cases_eq, false≢true}
 use Rattle.std.proofs.lemmas.Bool.Decides.{nat_tests}
 use Rattle.std.proofs.lemmas.List.{get_or-set_same, get_or-set_other, get_or_default}
 use Rattle.std.proofs.lemmas.List.Elements.{All-contains}
 use Rattle.std.proofs.lemmas.Option.{none-some}
 use Rattle.zq_names.specs.declared.node.Node.{Node}
+use Rattle.zq_names.specs.Linking.{HasContext}
 use Rattle.zq_names.proofs.Rows.{length-rows, text_at-rows}
+use Rattle.zq_names.proofs.Same.{IsLinked-same}
 use Rattle.zq_names.specs.declared.node.ResourceId.{ResourceId}
-use Rattle.zq_names.specs.Names.{NameEntry, IsPlaceOf, HasText, slot, slot_matches, slot_former, IsSound, IsTable, IsNames, entry_of, row, rows, texts, ids, entry_at, change_at, text_at}
+use Rattle.zq_names.specs.Names.{NameEntry, IsPlaceOf, HasText, slot, slot_context, slot_matches, slot_former, IsSound, IsTable, IsNames, entry_of, row, rows, texts, ids, entry_at, change_at, text_at}
 
 pub ids-rows : (nodes : List (Option Node)) (order : List ℕ) → ids (rows nodes order) ≡ order
 ids-rows nodes [] = refl
@@ -114,25 +116,19 @@ view_written nodes order i before after f was made = rows-change nodes (set node
 pub table_written : (nodes : List (Option Node)) (order : List ℕ) (i : ℕ) (before after : Node) → slot nodes i ≡ Some before → after.text ≡ before.text → IsTable nodes order → IsTable (set nodes i (Some after)) order
 table_written nodes order i before after was same table = IsTable-change nodes (set nodes i (Some after)) order i before after (Changes-with_value nodes i before after was) same table
 
-pub sound_written : (nodes : List (Option Node)) (order : List ℕ) (i : ℕ) (before after : Node) → slot nodes i ≡ Some before → after.text ≡ before.text → after.matches.items ≡ before.matches.items → after.former.items ≡ before.former.items → IsSound nodes order → IsSound (set nodes i (Some after)) order
-sound_written nodes order i before after was same matches former sound =
+-- a write that keeps the text, the matches and a context that there was keeps the table sound
+pub sound_written : (nodes : List (Option Node)) (order : List ℕ) (i : ℕ) (before after : Node) → slot nodes i ≡ Some before → after.text ≡ before.text → after.matches.items ≡ before.matches.items → after.former.items ≡ before.former.items → (before.context ≡ true → after.context ≡ true) → IsSound nodes order → IsSound (set nodes i (Some after)) order
+sound_written nodes order i before after was same matches former context sound =
     let new = set nodes i (Some after) in
     let changes = Changes-with_value nodes i before after was in
-    let matches_stay : (j : ℕ) → slot_matches (slot new j) ≡ slot_matches (slot nodes j) = λ j. elim (cases_eq j i) [
-      | inl here ↦ rw (here, changes.is, was) matches
-      | inr differ ↦ rw (changes.others j differ)
-    ] in
-    let former_stay : (j : ℕ) → slot_former (slot new j) ≡ slot_former (slot nodes j) = λ j. elim (cases_eq j i) [
-      | inl here ↦ rw (here, changes.is, was) former
-      | inr differ ↦ rw (changes.others j differ)
-    ] in
     record {
       table = table_written nodes order i before after was same sound.table;
-      linked = λ a b has.
-          let M : List ResourceId → Type 0 = λ (l : List ResourceId). Contains l a in
-          let L : List ResourceId → Type 0 = λ (l : List ResourceId). Contains (l ++ slot_former (slot new a.0)) b in
-          let F : List ResourceId → Type 0 = λ (l : List ResourceId). Contains (slot_matches (slot nodes a.0) ++ l) b in
-          subst L (sym (matches_stay a.0)) (subst F (sym (former_stay a.0)) (sound.linked a b (subst M (matches_stay b.0) has)));
+      linked = IsLinked-same nodes new (each_slot slot_matches nodes new i before after changes matches) (each_slot slot_former nodes new i before after changes former)
+          (λ j is. elim (cases_eq j i) [
+            | inl here ↦ rw (here, changes.is) (context (rw (here, was) at is))
+            | inr differ ↦ rw (changes.others j differ) is
+          ])
+          sound.linked;
     }
 
 -- ---- what a method knows of a number that is live
@@ -186,3 +182,24 @@ place_id nodes order t at id place is =
 
 pub number_live : (nodes : List (Option Node)) (order : List ℕ) (i : ℕ) → Contains order i → Contains (ids (rows nodes order)) i
 number_live nodes order i has = let C : List ℕ → Type 0 = λ (is : List ℕ). Contains is i in subst C (sym (ids-rows nodes order)) has
+
+-- the entry of a number that is live is its node's
+pub entry_live : (nodes : List (Option Node)) (order : List ℕ) (ns : List NameEntry) (i : ℕ) → rows nodes order ≡ ns → Contains (ids ns) i → entry_at ns i ≡ row nodes i
+entry_live nodes order ns i view live = ap (λ (v : List NameEntry). entry_at v i) (sym view) ∙ entry_at-rows nodes order i (in_order nodes order ns i view live)
+
+-- what callers see of a table's texts
+pub names_in_view : (nodes : List (Option Node)) (order : List ℕ) (ns : List NameEntry) → rows nodes order ≡ ns → IsTable nodes order → IsNames (ids ns) (texts ns)
+names_in_view nodes order ns view table =
+    let N : List NameEntry → Type 0 = λ (v : List NameEntry). IsNames (ids v) (texts v) in
+    let I : List ℕ → Type 0 = λ (is : List ℕ). IsNames is (texts (rows nodes order)) in
+    subst N view (subst I (sym (ids-rows nodes order)) table.names)
+
+-- a number whose node has a context is live, and has one
+pub context_live : (nodes : List (Option Node)) (order : List ℕ) (ns : List NameEntry) (m : ResourceId) → rows nodes order ≡ ns → IsTable nodes order → slot_context (slot nodes m.0) ≡ true → HasContext ns m
+context_live nodes order ns m view table is =
+    let live = live_number nodes order ns m.0 view table (node_there (slot nodes m.0) is) in
+    record { live = live; context = ap (λ (e : NameEntry). e.context) (entry_live nodes order ns m.0 view live) ∙ is }
+  where
+    node_there : (o : Option Node) → slot_context o ≡ true → IsSome o
+    node_there None is = absurd (false≢true is)
+    node_there (Some n) is = refl

@@ -7,6 +7,4 @@ pub mod Keeping
 pub mod Closing
 pub mod Idle
 pub mod Linking
-pub mod Tree
-pub mod TreeFalls
 pub mod Coming

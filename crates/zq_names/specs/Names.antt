@@ -97,9 +97,10 @@ pub record IsTable (nodes : List (Option Node)) (order : List ℕ) : Type 0 wher
   pub covered : (i : ℕ) → IsSome (slot nodes i) → Contains order i
   pub names : IsNames order (texts (rows nodes order))
 
--- a node among the matches of another has that one among its own matches, or among its former ones
-abbrev pub IsLinked : List (Option Node) → Type 0
-IsLinked nodes = (i j : ResourceId) → Contains (slot_matches (slot nodes j.0)) i → Contains (slot_matches (slot nodes i.0) ++ slot_former (slot nodes i.0)) j
+-- a node among the matches of another has that one among its own matches, or among its former ones, and both have a context
+pub record IsLinked (nodes : List (Option Node)) : Type 0 where
+  pub both_ways : (i j : ResourceId) → Contains (slot_matches (slot nodes j.0)) i → Contains (slot_matches (slot nodes i.0) ++ slot_former (slot nodes i.0)) j
+  pub contexts : (i j : ResourceId) → Contains (slot_matches (slot nodes j.0)) i → (slot_context (slot nodes j.0) ≡ true) × (slot_context (slot nodes i.0) ≡ true)
 
 -- what holds of the fields of every table
 pub record IsSound (nodes : List (Option Node)) (order : List ℕ) : Type 0 where

@@ -6,8 +6,8 @@ ghost use Rattle.zq_names.specs.Closing.{Closes, ClosesBelow, IsRun};
 use crate::edit::remove_at;
 use crate::node::Node;
 use crate::order::lower_bound;
-use crate::tree::Tree;
 use slab::Slab;
+use zq_rows::Tree;
 
 // The first place below the text at a place, and the first one after those.
 fn run_of(nodes: &Slab<Node>, order: &Tree, place: usize) -> (usize, usize)
@@ -36,7 +36,7 @@ fn take_run(nodes: &mut Slab<Node>, order: &mut Tree, place: usize, low: usize, 
     let mut end = high;
     while low < end {
         end -= 1;
-        let _text = remove_at(nodes, order, end);
+        remove_at(nodes, order, end);
     }
 }
 
@@ -50,6 +50,6 @@ pub(crate) fn close_at(nodes: &mut Slab<Node>, order: &mut Tree, place: usize)
     let (low, high) = run_of(nodes, order, place);
     take_run(nodes, order, place, low, high);
     if place != 0 {
-        let _text = remove_at(nodes, order, place);
+        remove_at(nodes, order, place);
     }
 }

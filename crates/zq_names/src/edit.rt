@@ -11,10 +11,10 @@ use crate::forget::forget;
 use crate::node::Node;
 use crate::order::{has_below, known_end, last_slash, search_near};
 use crate::part::Part;
-use crate::tree::{Seat, Tree};
 use slab::Slab;
 use std::alloc::Global;
 use zq_key::memory::OutOfMemory;
+use zq_rows::{Seat, Tree};
 
 // A node that is to come, and the memory for its place.
 #[derive(Drop)]
@@ -50,7 +50,7 @@ pub(crate) fn put(
 }
 
 // Puts a node where its text isn't there yet, and gives its place. It is looked for behind the last one first.
-fn ensure(nodes: &mut Slab<Node>, order: &mut Tree, last: usize, newcomer: Newcomer) -> usize
+fn put_absent(nodes: &mut Slab<Node>, order: &mut Tree, last: usize, newcomer: Newcomer) -> usize
     requires table { IsTable nodes.old.slots order.old }
     requires bare { IsBareNode newcomer.node }
     requires closed { (s : _) → IsBelow s newcomer.node.text → Contains (texts (rows nodes.old.slots order.old)) s }
@@ -64,10 +64,10 @@ fn ensure(nodes: &mut Slab<Node>, order: &mut Tree, last: usize, newcomer: Newco
 {
     let Newcomer { node, seat } = newcomer;
     match search_near(nodes, order, last, node.text.as_str()) {
-        Ok(at) => at,
-        Err(at) => {
-            let _id = put(nodes, order, at, node, seat);
-            at
+        Ok(place) => place,
+        Err(gap) => {
+            put(nodes, order, gap, node, seat);
+            gap
         }
     }
 }
@@ -91,7 +91,7 @@ pub(crate) fn put_all(
 {
     let mut last = near;
     for newcomer in pending {
-        last = ensure(nodes, order, last, newcomer);
+        last = put_absent(nodes, order, last, newcomer);
     }
     last
 }
@@ -129,10 +129,8 @@ fn add_piece(alloc: Global, made: &mut Vec<Newcomer>, text: Part) -> Result<(), 
         matches: Vec::new(alloc),
         former: Vec::new(alloc),
     };
-    match made.push(Newcomer { node, seat }) {
-        Ok(()) => Ok(()),
-        Err(_) => Err(OutOfMemory),
-    }
+    made.push(Newcomer { node, seat })?;
+    Ok(())
 }
 
 // Adds the text and the parts of it that end before a `/`. They are looked for right behind a place first. Room is made first, so want of memory changes nothing.

@@ -3,7 +3,6 @@
 //! - `node`: what is kept of a text, and the number that names it
 //! - `refusal`: why a name or an id is refused
 //! - `part`: texts, of which those that begin one text share its memory
-//! - `tree`: numbers in a row, as a balanced tree
 //! - `order`: the nodes in the order of their texts, and the search in it
 //! - `edit`: how nodes come and go
 //! - `close`: how all nodes below a text go
@@ -23,7 +22,6 @@ pub mod node;
 mod order;
 mod part;
 pub mod refusal;
-mod tree;
 
 pub use names::Names;
 pub use node::{ResourceId, ResourceList};

@@ -9,11 +9,11 @@ ghost use Rattle.zq_names.specs.Matching.{number, is_match, is_wild, IsApartAt};
 
 use crate::node::{Node, ResourceId};
 use crate::order::lower_bound;
-use crate::tree::Tree;
 use slab::Slab;
 use std::alloc::Global;
 use zq_key::intersects;
 use zq_key::memory::OutOfMemory;
+use zq_rows::Tree;
 
 // Whether a byte may be of a `*` or of a `$*`.
 fn may_be_wild(byte: u8) -> bool

@@ -1,14 +1,14 @@
 //! The table of names.
 ghost use Rattle.std.specs.Prelude.{◌≡◌, ◌≢◌, ℕ, ◌+◌, ◌<◌, ◌^◌, ◌++◌, ◌↔◌, [], ◌∷◌, IsTrue, IfOk, IfErr, ◌⊎◌, IfSome, IfNone, OnOk, OnErr, Err, Some, true, false, slice_get, length, drop, map, filter};
-ghost use Rattle.std.specs.List.{All, Contains};
+ghost use Rattle.std.specs.List.{All, AllPairs, Contains};
 ghost use Rattle.std.specs.String.{string_bytes};
 ghost use Rattle.zq_key.specs.Key.{is_key as key_of};
-ghost use Rattle.zq_names.specs.Names.{IsLive, entry_at, entry_of, change_at, with_hold, without_hold, with_context, texts, text_at, HasText, Adds, Makes, Cleans, Rises, ids};
+ghost use Rattle.zq_names.specs.Names.{IsLive, IsNames, entry_at, entry_of, change_at, with_hold, without_hold, with_context, texts, HasText, Adds, Makes, Cleans, ids};
 ghost use Rattle.zq_names.specs.Closing.{Closes};
 ghost use Rattle.zq_names.specs.Linking.{HasContext, matched};
 ghost use Rattle.zq_names.specs.Keeping.{AllStay, ChangesAt, NoneCome};
 ghost use Rattle.zq_names.specs.Idle.{IdleAt, NoneIdle};
-ghost use Rattle.zq_names.specs.Texts.{IsBelow, heads, last_part, nonwild};
+ghost use Rattle.zq_names.specs.Texts.{heads, last_part, nonwild};
 ghost use Rattle.zq_names.specs.Matching.{number, is_match};
 
 use crate::close::close_at;
@@ -19,12 +19,12 @@ use crate::node::{Node, ResourceId, ResourceList};
 use crate::order::{cut_before_star, last_slash, place_of, search};
 use crate::part::Part;
 use crate::refusal::NameRefusal;
-use crate::tree::{Seat, Tree};
 use slab::Slab;
 use std::alloc::Global;
 use std::marker::Model;
 use zq_key::is_key;
 use zq_key::memory::OutOfMemory;
+use zq_rows::{Seat, Tree};
 
 /// The texts that stand for something, in order, each with its marks: whether it has a context, how often it is held, and its matches.
 ///
@@ -96,15 +96,10 @@ impl Names {
     }
 
     /// How many texts there are.
-    ///
-    /// They begin with the root's, rise, and but for it are keys. With a text, each part of it that ends before a `/` is there.
     pub fn len(&self) -> usize
         ensures len { result ≡ length self.now }
-        ensures rising { Rises self.now }
-        ensures root { slice_get (texts self.now) 0 ≡ Some [] }
-        ensures distinct { (i j : ℕ) → i < j → j < length self.now → text_at self.now i ≢ text_at self.now j }
-        ensures closed { (s t : _) → Contains (texts self.now) t → IsBelow s t → Contains (texts self.now) s }
-        ensures keys { (t : _) → Contains (texts self.now) t → 0 < length t → key_of t ≡ true }
+        ensures names { IsNames (ids self.now) (texts self.now) }
+        ensures distinct { AllPairs ◌≢◌ (texts self.now) }
     {
         self.order.len()
     }
@@ -169,7 +164,6 @@ impl Names {
         ensures none { IfNone result.0 ((nonwild (entry_at self.now r.0).text ≡ []) × (0 < length (entry_at self.now r.0).text)) }
         ensures rest { result.1.now ≡ drop (length (nonwild (entry_at self.now r.0).text)) (entry_at self.now r.0).text }
     {
-        let _table = &self.order;
         let text = self.expr(r);
         match cut_before_star(text) {
             None => (Some(r), ""),
@@ -224,6 +218,7 @@ impl Names {
         ensures found { IfOk result (λ r. HasText self.now r ((entry_at self.now from.0).text ++ suffix.now)) }
         ensures only { IfOk result (λ r. (i : ℕ) → Contains (ids self.now) i → (entry_at self.now i).text ≡ (entry_at self.now from.0).text ++ suffix.now → i ≡ r.0) }
         ensures absent { OnErr result (Contains (texts self.now) ((entry_at self.now from.0).text ++ suffix.now) → ⊥) }
+        ensures names { IsNames (ids self.now) (texts self.now) }
     {
         let head = self.expr(from);
         match search(&self.nodes, &self.order, head, suffix) {
@@ -238,11 +233,9 @@ impl Names {
         ensures found { IfSome result (λ r. HasText self.now r ((entry_at self.now from.0).text ++ suffix.now)) }
         ensures only { IfSome result (λ r. (i : ℕ) → Contains (ids self.now) i → (entry_at self.now i).text ≡ (entry_at self.now from.0).text ++ suffix.now → i ≡ r.0) }
         ensures absent { IfNone result (Contains (texts self.now) ((entry_at self.now from.0).text ++ suffix.now) → ⊥) }
+        ensures names { IsNames (ids self.now) (texts self.now) }
     {
-        match self.find(from, suffix) {
-            Ok(r) => Some(r),
-            Err(_) => None,
-        }
+        self.find(from, suffix).ok()
     }
 
     /// The same as `get_resource`, which takes no memory either.
@@ -262,7 +255,6 @@ impl Names {
         ensures key { IfOk result (λ _. key_of ((entry_at self.now from.0).text ++ suffix.now) ≡ true) }
     {
         let r = self.find(from, suffix)?;
-        let _table = &self.order;
         match self.keyexpr(r) {
             Some(_) => Ok(r),
             None => Err(0),
@@ -333,10 +325,12 @@ impl Names {
         close_at(&mut self.nodes, &mut self.order, place);
     }
 
-    /// The node's matches.
+    /// The node's matches. Each has a context, and so has a node that has any.
     pub fn matches(&self, r: ResourceId) -> &[ResourceId]
         requires { IsLive self.now r }
-        ensures { result.now ≡ (entry_at self.now r.0).matches }
+        ensures matches { result.now ≡ (entry_at self.now r.0).matches }
+        ensures contexts { All (HasContext self.now) result.now }
+        ensures none { (entry_at self.now r.0).context ≡ false → result.now ≡ [] }
     {
         let node = &self.nodes[r.0 as usize];
         &node.matches

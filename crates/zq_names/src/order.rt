@@ -6,9 +6,9 @@ ghost use Rattle.zq_names.specs.Texts.{text_cmp, is_star_byte, IsBelow, IsCutBef
 ghost use Rattle.zq_names.specs.Names.{AreLive, Rises, SplitsAt, slot, row, rows, texts, IsGapAt, IsPlaceOf, HasBelow, IsTable};
 
 use crate::node::Node;
-use crate::tree::{Branch, Tree, count};
 use slab::Slab;
 use std::cmp::Ordering;
+use zq_rows::Tree;
 
 // Compares the text to the head followed by the tail.
 fn compare_joined(text: &[u8], head: &[u8], tail: &[u8]) -> Ordering
@@ -34,29 +34,7 @@ pub(crate) fn lower_bound(nodes: &Slab<Node>, order: &Tree, head: &[u8], tail: &
     requires rising { Rises (rows nodes.now.slots order.now) }
     ensures { SplitsAt (rows nodes.now.slots order.now) (head.now ++ tail.now) result }
 {
-    match &order.top {
-        None => 0,
-        Some(b) => lower_bound_under(nodes, b, head, tail),
-    }
-}
-
-fn lower_bound_under(nodes: &Slab<Node>, b: &Branch, head: &[u8], tail: &[u8]) -> usize
-    requires live { AreLive nodes.now.slots b.now }
-    requires rising { Rises (rows nodes.now.slots b.now) }
-    ensures { SplitsAt (rows nodes.now.slots b.now) (head.now ++ tail.now) result }
-{
-    let _len = b.len();
-    if is_before(nodes, b.id, head, tail) {
-        let past = count(&b.left) + 1;
-        return match &b.right {
-            None => past,
-            Some(r) => past + lower_bound_under(nodes, r, head, tail),
-        };
-    }
-    match &b.left {
-        None => 0,
-        Some(l) => lower_bound_under(nodes, l, head, tail),
-    }
+    order.partition_point(|id| is_before(nodes, id, head, tail))
 }
 
 // Whether the node's text is the head followed by the tail.
@@ -173,10 +151,7 @@ fn stands(nodes: &Slab<Node>, order: &Tree, text: &str) -> bool
     requires rising { Rises (rows nodes.now.slots order.now) }
     ensures { result ≡ true → Contains (texts (rows nodes.now.slots order.now)) text.now }
 {
-    match search(nodes, order, text, "") {
-        Ok(_) => true,
-        Err(_) => false,
-    }
+    matches!(search(nodes, order, text, ""), Ok(_))
 }
 
 // The first place with a `/` among some.
@@ -192,7 +167,7 @@ fn slash_between(text: &[u8], low: usize, high: usize) -> Option<usize>
     None
 }
 
-// A place up to which all parts of the text that end before a `/` are there. It is the last one.
+// A place up to which all parts of the text that end before a `/` are there: the last one, which no clause says.
 // The longest part is looked for near a place first.
 pub(crate) fn known_end(nodes: &Slab<Node>, order: &Tree, near: usize, text: &str) -> usize
     requires table { IsTable nodes.now.slots order.now }

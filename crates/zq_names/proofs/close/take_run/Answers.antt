@@ -5,8 +5,8 @@ use Rattle.zq_names.specs.Closing.ClosesBelow.{more}
 use Rattle.zq_names.proofs.ClosingLemmas.{lonely-last, run-shorter, closed-run}
 use Rattle.zq_names.proofs.close.take_run.Goals as goal
 
-pub remove_at-text-requires-clause-lonely : goal.remove_at-text-requires-clause-lonely
-remove_at-text-requires-clause-lonely c =
+pub remove_at-requires-clause-lonely : goal.remove_at-requires-clause-lonely
+remove_at-requires-clause-lonely c =
     let old = c.loop-end.invariant in
     let end = c.loop-end.end in
     let le : c.args.low ≤ end - 1 = omega arith in
@@ -23,11 +23,11 @@ loop-end-preserved c =
     let last : end - 1 + 1 ≡ end = omega arith in
     let R : List NameEntry → Type 0 = λ (v : List NameEntry). IsRun v t c.args.place c.args.low (end - 1) in
     record {
-      sound = c.remove_at-text.ensures.sound;
-      run = subst R (sym c.remove_at-text.ensures.rows) (run-shorter ns t c.args.place c.args.low end (end - 1) old.run le last);
+      sound = c.remove_at.ensures.sound;
+      run = subst R (sym c.remove_at.ensures.rows) (run-shorter ns t c.args.place c.args.low end (end - 1) old.run le last);
       rest = λ new closes.
           let C : List NameEntry → Type 0 = λ (v : List NameEntry). ClosesBelow v t new in
-          old.rest new (more ns new t (end - 1) (omega (arith, old.run.in_range)) (old.run.inside (end - 1) le (omega arith)) (subst C c.remove_at-text.ensures.rows closes));
+          old.rest new (more ns new t (end - 1) (omega (arith, old.run.in_range)) (old.run.inside (end - 1) le (omega arith)) (subst C c.remove_at.ensures.rows closes));
     }
 
 empty_run : (ns : List NameEntry) (t : List ℕ) (place low end : ℕ) → end ≤ low → IsRun ns t place low end → IsRun ns t place low low

@@ -9,8 +9,8 @@ use Rattle.zq_names.specs.Coming.{coming}
 use Rattle.zq_names.proofs.Adding.{Adds-more, kept_text}
 use Rattle.zq_names.proofs.edit.put_all.Goals as goal
 
-pub ensure-last-requires-clause-closed : goal.ensure-last-requires-clause-closed
-ensure-last-requires-clause-closed c s below =
+pub put_absent-last-requires-clause-closed : goal.put_absent-last-requires-clause-closed
+put_absent-last-requires-clause-closed c s below =
     let gives = c.into_iter-newcomer-iterator.ensures.into_iter_gives in
     let all = c.args.pending.items in
     let turn = YieldsList-turn (YieldsList-from_vec all gives.0 (gives.1 ∙ c.args.pending.ok.0)) c.loop-newcomer.yielded c.loop-newcomer.newcomer-iterator c.loop-newcomer.yielded_by c.next.result c.next.new.self c.in-Some.newcomer c.in-Some.is c.next.ensures.steps in
@@ -34,7 +34,7 @@ loop-newcomer-preserved c =
     let done = c.loop-newcomer.yielded in
     let n = length_push done c.in-Some.newcomer in
     let old = c.loop-newcomer.invariant in
-    let made = c.ensure-last.ensures in
+    let made = c.put_absent-last.ensures in
     record {
       can = tt;
       ends = tt;

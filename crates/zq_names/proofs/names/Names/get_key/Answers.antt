@@ -11,5 +11,4 @@ returns-in-Some-clause-adds c =
     let t = (entry_at ns c.args.from.0).text ++ c.args.suffix.now in
     let named = c.in_ok-r.ensures.found in
     let H : List ℕ → Type 0 = Contains (texts ns) in
-    let K : List NameEntry → Type 0 = λ (v : List NameEntry). (s u : List ℕ) → Contains (texts v) u → IsBelow s u → Contains (texts v) s in
-    Adds-heads ns t (subst K c.self.view_is c.self.invariant.table.names.closed) (subst H named.text (Contains-text ns c.in_ok-r.r.0 named.live))
+    Adds-heads ns t c.in_ok-r.ensures.names.closed (subst H named.text (Contains-text ns c.in_ok-r.r.0 named.live))

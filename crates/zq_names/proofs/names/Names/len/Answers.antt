@@ -1,19 +1,15 @@
-use Rattle.std.proofs.Common.{List, length, sym, ap, subst, ◌∙◌, arith}
-use Rattle.zq_names.specs.Names.{NameEntry, IsNames, texts}
-use Rattle.zq_names.proofs.Rows.{length-rows, length-texts}
-use Rattle.zq_names.proofs.TextOrder.{apart_texts}
+use Rattle.std.proofs.Common.{length, sym, ap, ◌∙◌}
+use Rattle.zq_names.specs.Names.{texts}
+use Rattle.zq_names.proofs.Rows.{length-rows}
+use Rattle.zq_names.proofs.Table.{names_in_view}
+use Rattle.zq_names.proofs.TextOrder.{distinct_texts}
 use Rattle.zq_names.proofs.names.Names.len.Goals as goal
 
 pub returns : goal.returns
 returns c =
-    let ns = c.args.self.now in
-    let N : List NameEntry → Type 0 = λ (v : List NameEntry). IsNames c.self.inside.order (texts v) in
-    let names = subst N c.self.view_is c.self.invariant.table.names in
+    let names = names_in_view _ _ _ c.self.view_is c.self.invariant.table in
     record {
       len = c.len.ensures ∙ sym (length-rows c.self.inside.nodes.slots c.self.inside.order) ∙ ap length c.self.view_is;
-      rising = names.rising;
-      root = names.root_text;
-      distinct = λ i j less lt. apart_texts (texts ns) i j names.rising less (omega (arith, lt, length-texts ns));
-      closed = names.closed;
-      keys = names.keys;
+      names = names;
+      distinct = distinct_texts (texts c.args.self.now) names.rising;
     }

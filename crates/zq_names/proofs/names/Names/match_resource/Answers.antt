@@ -1,10 +1,10 @@
-use Rattle.std.proofs.Common.{◌≡◌, List, map, Result, Ok, Err, OnErr, IsSome, sym, ap, subst, ◌∙◌}
-use Rattle.std.specs.List.{All}
-use Rattle.std.proofs.lemmas.List.Elements.{All-weaker}
+use Rattle.std.proofs.Common.{◌≡◌, ℕ, true, List, map, Result, Ok, Err, OnErr, IsSome, sym, ap, subst, ◌∙◌}
+use Rattle.std.specs.List.{All, Contains}
+use Rattle.std.proofs.lemmas.List.Elements.{All-weaker, All-contains}
 use Rattle.zq_names.specs.declared.node.ResourceId.{ResourceId}
-use Rattle.zq_names.specs.Names.{slot, rows}
+use Rattle.zq_names.specs.Names.{NameEntry, slot, slot_context, rows}
 use Rattle.zq_names.specs.Linking.{HasContext, matched}
-use Rattle.zq_names.proofs.Table.{has_node}
+use Rattle.zq_names.proofs.Table.{has_node, entry_live}
 use Rattle.zq_names.proofs.Same.{rows-same, IsSound-same}
 use Rattle.zq_names.proofs.LinkLemmas.{same_slots, rows-linked, IsSound-linked, AllStay-matched}
 use Rattle.zq_names.proofs.names.Names.match_resource.Goals as goal
@@ -29,7 +29,13 @@ pub returns-in_err-link-clause-err : goal.returns-in_err-link-clause-err
 returns-in_err-link-clause-err c = on_err c.from_residual.result _ (rows-same _ _ c.self.inside.order (same_slots _ _ c.in_err-link.ensures.err) ∙ c.self.view_is)
 
 pub invariant_of-self-2 : goal.invariant_of-self-2
-invariant_of-self-2 c = IsSound-linked _ _ c.self.inside.order c.args.r _ c.in_ok-link.ensures.ok c.self.invariant
+invariant_of-self-2 c =
+    let nodes = c.self.inside.nodes.slots in
+    let has_context : (m : ResourceId) → HasContext c.args.self.now m → slot_context (slot nodes m.0) ≡ true = λ m has. sym (ap (λ (e : NameEntry). e.context) (entry_live nodes c.self.inside.order c.args.self.now m.0 c.self.view_is has.live)) ∙ has.context in
+    let M : List ResourceId → Type 0 = λ (l : List ResourceId). (m : ResourceId) → Contains l m → slot_context (slot nodes m.0) ≡ true in
+    IsSound-linked _ _ c.self.inside.order c.args.r _ c.in_ok-link.ensures.ok (has_context c.args.r c.requires.node)
+    (subst M (sym c.into_vec.ensures) (λ m among. has_context m (All-contains (HasContext c.args.self.now) c.args.matches m c.requires.members among)))
+    c.self.invariant
 
 pub returns-clause-ok : goal.returns-clause-ok
 returns-clause-ok c =

@@ -9,7 +9,7 @@ pub index_mut-node-requires : goal.index_mut-node-requires
 index_mut-node-requires c = has_node _ _ _ _ c.self.view_is c.self.invariant.table c.requires
 
 pub invariant_of-self : goal.invariant_of-self
-invariant_of-self c = sound_written _ _ _ c.index_mut-node.result.now _ c.index_mut-node.ensures.value refl refl refl c.self.invariant
+invariant_of-self c = sound_written _ _ _ c.index_mut-node.result.now _ c.index_mut-node.ensures.value refl refl refl (λ is. refl) c.self.invariant
 
 pub returns-clause-all : goal.returns-clause-all
 returns-clause-all c = rw (← c.self.view_is) (view_written _ _ _ c.index_mut-node.result.now _ with_context c.index_mut-node.ensures.value refl)

@@ -1,12 +1,12 @@
 use Rattle.std.proofs.Common.{◌++◌, sym, ap, ◌∙◌, arith}
-use Rattle.zq_names.specs.Tree.{side}
-use Rattle.zq_names.proofs.TreeLists.{remove_past, remove_here, first_before}
-use Rattle.zq_names.proofs.tree.+removed.Goals as goal
+use Rattle.zq_rows.specs.Branch.{side}
+use Rattle.zq_rows.proofs.Edits.{remove_past, remove_here, first_before}
+use Rattle.zq_rows.proofs.branch.+removed.Goals as goal
 
 pub returns-then-at-before-2-clause-rest : goal.returns-then-at-before-2-clause-rest
 returns-then-at-before-2-clause-rest t c =
     let p = c.parts-left.result in
-    rw (c.balanced-then-at-before-2.ensures, c.removed-id-then-at-before-2.ensures.rest, c.in-Some.is, c.parts-left.ensures) (sym (remove_past (side p.0) p.1 (side p.2) c.count-before.result c.args.at c.count-before.ensures (omega (arith, c.if-at-before-2.true))))
+    rw (c.balanced-then-at-before-2.ensures, c.removed-number-then-at-before-2.ensures.rest, c.in-Some.is, c.parts-left.ensures) (sym (remove_past (side p.0) p.1 (side p.2) c.count-before.result c.args.at c.count-before.ensures (omega (arith, c.if-at-before-2.true))))
 
 pub returns-clause-rest : goal.returns-clause-rest
 returns-clause-rest t c =
