@@ -18,10 +18,9 @@ use Rattle.std.proofs.lemmas.Map.Keys.{sorted_head, sorted_tail}
 use Rattle.std.proofs.lemmas.Map.Text.{is_eq-slice_cmp}
 use Rattle.std.proofs.lemmas.List.{drop_more, take_more, take-append-drop}
 use Rattle.zq_key.specs.Key.{intersects}
-use Rattle.zq_names.specs.Matching.{is_apart, IsApartAt}
-use Rattle.zq_names.proofs.Apart.{is_apart-longer, apart_misses}
-use Rattle.zq_names.proofs.Pruning.{Begins, squeezed_run, run_is_less}
-use Rattle.zq_names.proofs.TextOrder.{not_below_itself}
+use Rattle.zq_key.specs.Apart.{is_apart, IsApartAt}
+use Rattle.zq_key.proofs.Apart.{is_apart-longer, apart_misses}
+use Rattle.zq_key.proofs.Runs.{Begins, squeezed_run, run_is_less, not_below_itself}
 use Rattle.zq_hat.specs.Kept.{text_cmp}
 use Rattle.zq_hat.specs.Holders.{texts_of}
 use Rattle.zq_hat.specs.Skipping.{Skips}

@@ -19,11 +19,11 @@ use std::alloc::Global;
 use std::cmp::Ordering;
 use std::collections::BTreeMap;
 use std::ops::RangeFull;
+use zq_key::pruning::apart;
 use zq_key::memory::OutOfMemory;
 use zq_key::message::{Bound, FaceId, QueryableInfoType, Region};
 use zq_key::text::Text;
 use zq_key::{includes, intersects};
-use zq_names::matching::apart;
 
 /// A face's number, and what it declared on a key, merged.
 type Group = (u32, QueryableInfoType);

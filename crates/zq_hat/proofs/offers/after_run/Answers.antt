@@ -1,7 +1,7 @@
 use Rattle.std.proofs.Common.{◌≡◌, refl, ap, subst, ◌+◌, ◌++◌, ◌∷◌, [], get_or, take, List, ℕ, arith}
 use native.Mathlib.Numerals.{unary_clauses}
 use Rattle.std.specs.String.{string_bytes}
-use Rattle.zq_names.specs.Matching.{IsApartAt}
+use Rattle.zq_key.specs.Apart.{IsApartAt}
 use Rattle.zq_hat.proofs.Skipping.{run_skipped}
 use Rattle.zq_hat.proofs.offers.after_run.Goals as goal
 

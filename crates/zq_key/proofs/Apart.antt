@@ -9,7 +9,7 @@ use Rattle.std.proofs.lemmas.List.{take_more, drop_more, take_all, take-append-d
 use Rattle.zq_key.specs.Match.{meets_by}
 use Rattle.zq_key.specs.Key.{chunks, parts, parts_meet, is_verbatim, is_star, is_stars, chunk_meets, intersects}
 use Rattle.zq_key.proofs.Plain.{has_wild, plain-stars}
-use Rattle.zq_names.specs.Matching.{is_wild, is_apart}
+use Rattle.zq_key.specs.Apart.{is_wild, is_apart}
 
 three_parts : (a b c : Bool) → (a && b && c) ≡ true → (a ≡ true) × (b ≡ true) × (c ≡ true)
 three_parts a b c h = let outer = and_parts (a && b) c h in let inner = and_parts a b outer.0 in (inner.0, inner.1, outer.1)
