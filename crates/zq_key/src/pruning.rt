@@ -2,8 +2,8 @@
 ghost use Rattle.std.specs.Prelude.{◌≡◌, IfSome};
 ghost use Rattle.zq_key.specs.Apart.{is_wild, IsApartAt};
 
-// Whether a byte may be of a `*` or of a `$*`.
-fn may_be_wild(byte: u8) -> bool
+/// Whether a byte may be of a `*` or of a `$*`.
+pub fn may_be_wild(byte: u8) -> bool
     ensures { result ≡ is_wild byte }
 {
     byte == b'*' || byte == b'$'
