@@ -14,3 +14,4 @@ pub mod Marking
 pub mod Skipping
 pub mod OfferLaws
 pub mod OffersMoved
+pub mod ForkLemmas

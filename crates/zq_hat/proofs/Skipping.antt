@@ -1,50 +1,158 @@
 -- Declared keys that are passed over: none of them meets the request's key.
-use Rattle.std.proofs.Common.{◌≡◌, ◌≢◌, ◌∙◌, sym, ap, subst, refl, ℕ, ◌+◌, Bool, true, false, cond, List, [], ◌∷◌, ◌++◌, take, drop, get_or, append_assoc}
+use Rattle.std.proofs.Common.{◌≡◌, ◌≢◌, ◌∙◌, sym, ap, subst, refl, arith, ℕ, ◌+◌, ◌<◌, ◌≤◌, length, Bool, true, false, cond, inl, inr, Option, Some, None, List, [], ◌∷◌, ◌++◌, take, drop, get_or, append_assoc}
 use Rattle.std.specs.Prelude.{◌&&◌, String}
 use Rattle.std.specs.declared.alloc.Global.{Global}
 use Rattle.std.specs.declared.cmp.Ordering.{Ordering}
 use Rattle.std.specs.declared.cmp.Ordering.TheVariants.{Less, Equal, Greater}
 use Rattle.std.specs.declared.ops.Bound.TheVariants.{Included, Unbounded}
-use Rattle.std.specs.Ordering.{is_le, is_eq, ordering_reverse}
+use Rattle.std.specs.Ordering.{nat_cmp, ordering_then, is_le, is_eq, ordering_reverse}
 use Rattle.std.specs.Cmp.Lexicographic.{bytes_decides}
+use Rattle.std.specs.Option.{IfSome}
 use Rattle.std.specs.List.{AllByRecursion, flat_map}
 use Rattle.std.specs.List.Sorted.{IsStrictlySortedBy}
 use Rattle.std.specs.Map.{keys_of}
 use Rattle.std.specs.BTreeMap.Range.{entries_between, range_contains}
 use Rattle.std.specs.String.{string_bytes, string_cmp}
 use Rattle.std.proofs.lemmas.Bool.{false≢true}
-use Rattle.std.proofs.lemmas.Cmp.{nat_list_cmp_total}
+use Rattle.std.proofs.lemmas.Cmp.{nat_list_cmp_total, ranked}
 use Rattle.std.proofs.lemmas.Map.Keys.{sorted_head, sorted_tail}
 use Rattle.std.proofs.lemmas.Map.Text.{is_eq-slice_cmp}
 use Rattle.std.proofs.lemmas.List.{drop_more, take_more, take-append-drop}
 use Rattle.zq_key.specs.Key.{intersects}
-use Rattle.zq_names.specs.Matching.{is_apart, IsApartAt}
-use Rattle.zq_names.proofs.Apart.{is_apart-longer, apart_misses}
-use Rattle.zq_names.proofs.Pruning.{Begins, squeezed_run, run_is_less}
-use Rattle.zq_names.proofs.TextOrder.{not_below_itself}
+use Rattle.zq_key.specs.Apart.{is_wild}
+use Rattle.zq_hat.specs.Forks.{IsForkAt, IsLast, IsNext}
+use Rattle.zq_key.proofs.Runs.{Begins, squeezed_run, run_is_less, not_below_itself}
 use Rattle.zq_hat.specs.Kept.{text_cmp}
 use Rattle.zq_hat.specs.Holders.{texts_of}
-use Rattle.zq_hat.specs.Skipping.{Skips}
+use Rattle.zq_hat.specs.Skipping.{Skips, IsBoundAt, IsPlaceAbove}
 
--- ---- a run of texts that begin alike
+-- ---- texts between two that begin alike
+same_front : (p xs ys : List ℕ) → text_cmp (p ++ xs) (p ++ ys) ≡ text_cmp xs ys
+same_front [] xs ys = refl
+same_front (d ∷ ds) xs ys = by (nat_cmp d d) refl (same_front ds xs ys)
+  where
+    by : (o : Ordering) → o ≡ nat_cmp d d → text_cmp (ds ++ xs) (ds ++ ys) ≡ text_cmp xs ys → ordering_then o (text_cmp (ds ++ xs) (ds ++ ys)) ≡ text_cmp xs ys
+    by Less is later = absurd (omega (arith, ranked d d Less is))
+    by Equal is later = later
+    by Greater is later = absurd (omega (arith, ranked d d Greater is))
 
-pub run_skipped : (t q bound : List ℕ) (k b : ℕ) → IsApartAt t q k → get_or t k 0 ≡ b → bound ≡ take k t ++ (b + 1) ∷ [] → Skips q t bound
-run_skipped t q bound k b apart is cut =
-    let p = take k t in
+-- what lies between begins so, too
+fronted : (p x r : List ℕ) (b c : ℕ) → text_cmp x (p ++ b ∷ r) ≢ Less → text_cmp x (p ++ c ∷ []) ≡ Less → (m : List ℕ) × (x ≡ p ++ m)
+fronted [] x r b c above below = (x, refl)
+fronted (d ∷ ds) [] r b c above below = absurd (above refl)
+fronted (d ∷ ds) (a ∷ cs) r b c above below = by (nat_cmp a d) refl above below (fronted ds cs r b c)
+  where
+    by : (o : Ordering) → o ≡ nat_cmp a d → ordering_then o (text_cmp cs (ds ++ b ∷ r)) ≢ Less → ordering_then o (text_cmp cs (ds ++ c ∷ [])) ≡ Less
+        → (text_cmp cs (ds ++ b ∷ r) ≢ Less → text_cmp cs (ds ++ c ∷ []) ≡ Less → (m : List ℕ) × (cs ≡ ds ++ m)) → (m : List ℕ) × (a ∷ cs ≡ d ∷ ds ++ m)
+    by Less is above below deeper = absurd (above refl)
+    by Equal is above below deeper = let m = deeper above below in (m.0, rw (ranked a d Equal is, m.1) refl)
+    by Greater is above below deeper = cc
+
+-- a text that is not below one that begins with a byte
+pub record Above (m : List ℕ) (b : ℕ) : Type 0 where
+  pub byte : ℕ
+  pub more : List ℕ
+  pub is : m ≡ byte ∷ more
+  pub least : b ≤ byte
+
+above_byte : (m r : List ℕ) (b : ℕ) → text_cmp m (b ∷ r) ≢ Less → Above m b
+above_byte [] r b above = absurd (above refl)
+above_byte (d ∷ more) r b above = by (nat_cmp d b) refl above
+  where
+    by : (o : Ordering) → o ≡ nat_cmp d b → ordering_then o (text_cmp more r) ≢ Less → Above (d ∷ more) b
+    by Less is above = absurd (above refl)
+    by Equal is above = let e = ranked d b Equal is in record { byte = d; more = more; is = refl; least = omega (arith, e) }
+    by Greater is above = let e = ranked d b Greater is in record { byte = d; more = more; is = refl; least = omega (arith, e) }
+
+nothing_less : (ys : List ℕ) → text_cmp ys [] ≡ Less → ⊥
+nothing_less [] e = cc
+nothing_less (y ∷ ys) e = cc
+
+below_byte : (d c : ℕ) (more : List ℕ) → text_cmp (d ∷ more) (c ∷ []) ≡ Less → d < c
+below_byte d c more below = by (nat_cmp d c) refl below
+  where
+    by : (o : Ordering) → o ≡ nat_cmp d c → ordering_then o (text_cmp more []) ≡ Less → d < c
+    by Less is below = ranked d c Less is
+    by Equal is below = absurd (nothing_less more below)
+    by Greater is below = cc
+
+less_byte : (b c : ℕ) (r : List ℕ) → b < c → text_cmp (b ∷ r) (c ∷ []) ≡ Less
+less_byte b c r lt = by (nat_cmp b c) refl
+  where
+    by : (o : Ordering) → o ≡ nat_cmp b c → ordering_then o (text_cmp r []) ≡ Less
+    by Less is = refl
+    by Equal is = absurd (omega (arith, lt, ranked b c Equal is))
+    by Greater is = absurd (omega (arith, lt, ranked b c Greater is))
+
+-- ---- bounds
+module _ (t q : List ℕ) (k want : ℕ) (fork : IsForkAt t q k want) where
+  abbrev byte : ℕ
+  byte = get_or t k 0
+
+  whole : t ≡ take k t ++ byte ∷ drop (k + 1) t
+  whole = sym (take-append-drop k t) ∙ ap (λ l. take k t ++ l) (drop_more t k 0 fork.in_range)
+
+  -- what begins like t and goes on not below it
+  begins_above : (x m : List ℕ) → text_cmp x t ≢ Less → x ≡ take k t ++ m → Above m byte
+  begins_above x m above is = above_byte m (drop (k + 1) t) byte (λ less. above (ap (text_cmp x) whole ∙ ap (λ y. text_cmp y (take k t ++ byte ∷ drop (k + 1) t)) is ∙ same_front (take k t) m (byte ∷ drop (k + 1) t) ∙ less))
+
+  dead_above : (x m : List ℕ) → x ≡ take k t ++ m → (a : Above m byte) → (is_wild a.byte ≡ false) × (a.byte ≢ want) → intersects x q ≡ false
+  dead_above x m is a facts = ap (λ y. intersects y q) (is ∙ ap (λ l. take k t ++ l) a.is) ∙ fork.dead a.byte a.more facts.0 facts.1
+
+  pub fork_skipped : (c : ℕ) → IsNext byte want c → Skips q t (take k t ++ c ∷ [])
+  fork_skipped c next = record {
+    after = ap (λ y. text_cmp y (take k t ++ c ∷ [])) whole ∙ same_front (take k t) (byte ∷ drop (k + 1) t) (c ∷ []) ∙ less_byte byte c (drop (k + 1) t) next.after;
+    none = λ x above below.
+        let front = fronted (take k t) x (drop (k + 1) t) byte c (λ less. above (ap (text_cmp x) whole ∙ less)) below in
+        let a = begins_above x front.0 above front.1 in
+        let under : text_cmp (a.byte ∷ a.more) (c ∷ []) ≡ Less =
+        ap (λ m. text_cmp m (c ∷ [])) (sym a.is) ∙ sym (same_front (take k t) front.0 (c ∷ [])) ∙ ap (λ y. text_cmp y (take k t ++ c ∷ [])) (sym front.1) ∙ below in
+        dead_above x front.0 front.1 a (next.none a.byte a.least (below_byte a.byte c a.more under));
+  }
+
+  -- by the next byte alone
+  pub step_skipped : Skips q t (take k t ++ (byte + 1) ∷ [])
+  step_skipped = fork_skipped (byte + 1) record {
+    after = omega arith;
+    none = λ d least less. let same : d ≡ byte = omega arith in (rw same fork.tame, rw same fork.other);
+  }
+
+-- where nothing goes on, those that begin with a byte less are passed over
+pub level_skipped : (t q : List ℕ) (k want : ℕ) → IsForkAt t q (k + 1) want → IsLast (get_or t (k + 1) 0) want → Skips q t (take k t ++ (get_or t k 0 + 1) ∷ [])
+level_skipped t q k want fork last =
+    let lt : k < length t = omega (arith, fork.in_range) in
+    let b = get_or t k 0 in
     let rest = drop (k + 1) t in
-    let whole : t ≡ p ++ b ∷ rest = sym (take-append-drop k t) ∙ ap (λ l. p ++ l) (drop_more t k 0 apart.in_range) ∙ ap (λ x. p ++ x ∷ rest) is in
-    let front : take (k + 1) t ≡ p ++ b ∷ [] = take_more t k 0 apart.in_range ∙ ap (λ x. p ++ x ∷ []) is in
-    let dead : (more : List ℕ) → intersects (p ++ b ∷ more) q ≡ false = λ more.
-    let longer : is_apart (p ++ b ∷ more) q ≡ true =
-    ap (λ x. is_apart x q) (sym (append_assoc p (b ∷ []) more))
-    ∙ is_apart-longer (p ++ b ∷ []) more q (ap (λ x. is_apart x q) (sym front) ∙ apart.apart) in
-    apart_misses (p ++ b ∷ more) q longer in
+    let cut : t ≡ take k t ++ b ∷ rest = sym (take-append-drop k t) ∙ ap (λ l. take k t ++ l) (drop_more t k 0 lt) in
+    let front : take (k + 1) t ≡ take k t ++ b ∷ [] = take_more t k 0 lt in
     record {
-      after = (λ i. text_cmp (whole i) (cut i)) ∙ run_is_less p rest b;
+      after = (λ i. text_cmp (cut i) (take k t ++ (b + 1) ∷ [])) ∙ run_is_less (take k t) rest b;
       none = λ x above below.
-          let begins : Begins p b x = squeezed_run p x rest b (λ less. above (ap (text_cmp x) whole ∙ less)) (ap (text_cmp x) (sym cut) ∙ below) in
-          ap (λ y. intersects y q) begins.1 ∙ dead begins.0;
+          let begins : Begins (take k t) b x = squeezed_run (take k t) x rest b (λ less. above (ap (text_cmp x) cut ∙ less)) below in
+          let is : x ≡ take (k + 1) t ++ begins.0 = begins.1 ∙ sym (append_assoc (take k t) (b ∷ []) begins.0) ∙ ap (λ p. p ++ begins.0) (sym front) in
+          let a = begins_above t q (k + 1) want fork x begins.0 above is in
+          dead_above t q (k + 1) want fork x begins.0 is a (last a.byte a.least);
     }
+
+pub is_above : (t q : List ℕ) (k want : ℕ) → IsForkAt t q k want → IsLast (get_or t k 0) want → (r : Option (ℕ × ℕ)) → IfSome r (λ p. IsPlaceAbove t k p.0 p.1) → IfSome r (λ p. IsBoundAt t q p.0 p.1)
+is_above t q k want fork last None p = p
+is_above t q k want fork last (Some (at, byte)) p = elim p.place [
+  | inl below ↦ record {
+    in_range = omega (arith, below, fork.in_range);
+    ascii = p.ascii;
+    after = omega (arith, p.next);
+    skips =
+        let there : IsForkAt t q (at + 1) want = subst (λ n. IsForkAt t q n want) (sym below) fork in
+        let done : IsLast (get_or t (at + 1) 0) want = subst (λ n. IsLast (get_or t n 0) want) (sym below) last in
+        subst (λ b. Skips q t (take at t ++ b ∷ [])) (sym p.next) (level_skipped t q at want there done);
+  }
+  | inr same ↦ record {
+    in_range = omega (arith, same, fork.in_range);
+    ascii = p.ascii;
+    after = omega (arith, p.next);
+    skips = subst (λ b. Skips q t (take at t ++ b ∷ [])) (sym p.next) (step_skipped t q at want (subst (λ n. IsForkAt t q n want) (sym same) fork));
+  }
+]
 
 -- ---- entries in order, from a bound on
 

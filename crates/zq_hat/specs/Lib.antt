@@ -7,3 +7,4 @@ pub mod Offers
 pub mod Skipping
 pub mod Holders
 pub mod Moved
+pub mod Forks

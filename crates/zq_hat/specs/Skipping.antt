@@ -1,5 +1,5 @@
 -- Which declared keys need no test against a request's key.
-use Rattle.std.specs.Prelude.{◌≡◌, ◌≢◌, ℕ, false, List}
+use Rattle.std.specs.Prelude.{◌≡◌, ◌≢◌, ℕ, ◌+◌, ◌<◌, ◌≤◌, ◌⊎◌, false, List, [], ◌∷◌, ◌++◌, length, take, slice_index}
 use Rattle.std.specs.declared.cmp.Ordering.TheVariants.{Less}
 use Rattle.zq_key.specs.Key.{intersects}
 use Rattle.zq_hat.specs.Kept.{text_cmp}
@@ -8,3 +8,16 @@ use Rattle.zq_hat.specs.Kept.{text_cmp}
 pub record Skips (q key bound : List ℕ) : Type 0 where
   pub after : text_cmp key bound ≡ Less
   pub none : (t : List ℕ) → text_cmp t key ≢ Less → text_cmp t bound ≡ Less → intersects t q ≡ false
+
+-- the key's first bytes and one more, greater than the key's there, are a bound
+pub record IsBoundAt (key q : List ℕ) (at byte : ℕ) : Type 0 where
+  pub in_range : at < length key
+  pub ascii : byte < 128
+  pub after : slice_index key at < byte
+  pub skips : Skips q key (take at key ++ byte ∷ [])
+
+-- the byte after that at the place before, or after that at the place
+pub record IsPlaceAbove (key : List ℕ) (k at byte : ℕ) : Type 0 where
+  pub ascii : byte < 128
+  pub next : byte ≡ slice_index key at + 1
+  pub place : (at + 1 ≡ k) ⊎ (at ≡ k)

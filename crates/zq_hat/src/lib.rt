@@ -5,10 +5,12 @@
 //! - `strategy`: how a region keeps and offers queryables
 //! - `face`: what one face declared
 //! - `offers`: what a region offers for the key of a request
+//! - `forks`: where a text and a key part, chunk by chunk
 //! - `hat`: the hat of one region
 #![tactic(auto)]
 
 mod face;
+mod forks;
 pub mod hat;
 mod holders;
 pub mod info;

@@ -1,5 +1,5 @@
 //! What a region offers for the key of a request.
-ghost use Rattle.std.specs.Prelude.{◌≡◌, ◌<◌, ◌≤◌, ◌-◌, ◌∷◌, ℕ, IfOk, IfSome, OnOk, Some, None, fold, map, length, true, false, slice_index_or, IsTrue};
+ghost use Rattle.std.specs.Prelude.{◌≡◌, ◌<◌, ◌≤◌, ◌-◌, ◌++◌, ◌∷◌, [], ℕ, IfOk, IfSome, OnOk, Some, None, fold, map, length, true, false, slice_index_or, IsTrue};
 ghost use Rattle.std.specs.List.{AllByRecursion, flat_map, suffix_len};
 ghost use Rattle.std.specs.Option.{option_to_list};
 ghost use Rattle.std.specs.Ordering.{is_lt};
@@ -7,10 +7,11 @@ ghost use Rattle.std.specs.String.{string_bytes};
 ghost use Rattle.zq_key.specs.Key.{is_key};
 ghost use Rattle.zq_hat.specs.Kept.{text_cmp};
 ghost use Rattle.zq_hat.specs.Offers.{bare_offers, bare_on, may_have, offer_cmp, place, sorted, distance};
-ghost use Rattle.zq_hat.specs.Skipping.{Skips};
+ghost use Rattle.zq_hat.specs.Skipping.{IsBoundAt, IsPlaceAbove, Skips};
 ghost use Rattle.zq_hat.specs.Holders.{Holdings, IsKeyed, groups_from, group_offer, holder_offers, texts_of};
 
 use crate::face::HatFace;
+use crate::forks::{fork, next_byte};
 use crate::holders::{Holders, KeyHolders};
 use crate::info::merge_qabl_infos;
 use crate::strategy::is_north;
@@ -23,7 +24,6 @@ use zq_key::memory::OutOfMemory;
 use zq_key::message::{Bound, FaceId, QueryableInfoType, Region};
 use zq_key::text::Text;
 use zq_key::{includes, intersects};
-use zq_names::matching::apart;
 
 /// A face's number, and what it declared on a key, merged.
 type Group = (u32, QueryableInfoType);
@@ -227,21 +227,56 @@ fn add_key_offers(
     }
 }
 
-/// Where the first bytes of the key already show that it does not meet the request's, a text after
-/// all the keys that begin with these bytes.
-fn after_run(alloc: Global, key: &str, q: &str) -> Result<Option<String>, OutOfMemory>
-    ensures { IfOk result (λ o. IfSome o (λ bound. Skips q.now key.now (string_bytes bound))) }
+/// The bound behind the keys that begin like this one, up to a place; none of them goes on by a
+/// byte by which a key that meets the request's does.
+fn place_above(key: &[u8], at: usize) -> Option<(usize, u8)>
+    requires { at < length key.now }
+    ensures { IfSome result (λ r. IsPlaceAbove key.now at r.0 r.1) }
 {
-    let Some(k) = apart(key.as_bytes(), q.as_bytes()) else {
-        return Ok(None);
-    };
-    let byte = key.as_bytes()[k];
-    if byte >= 127 {
-        return Ok(None);
+    if at > 0 && key[at - 1] < 127 {
+        return Some((at - 1, key[at - 1] + 1));
     }
-    let mut bound = String::from_str(alloc, &key[..k])?;
-    bound.push((byte + 1) as char)?;
-    Ok(Some(bound))
+    if key[at] < 127 {
+        return Some((at, key[at] + 1));
+    }
+    None
+}
+
+/// The first bytes of the key, by their number, and the byte that, put after them, makes a bound of
+/// the keys from this one on that do not meet the request's. None says nothing.
+fn bound_place(key: &[u8], q: &[u8]) -> Option<(usize, u8)>
+    ensures { IfSome result (λ r. IsBoundAt key.now q.now r.0 r.1) }
+{
+    let parting = fork(key, q)?;
+    let at = parting.at;
+    match next_byte(key[at], parting.wanted) {
+        Some(next) => { if next < 128 { Some((at, next)) } else { None } }
+        None => place_above(key, at),
+    }
+}
+
+/// Writes a text and a byte.
+fn write_bound(bound: &mut String, front: &str, byte: u8) -> Result<(), OutOfMemory>
+    requires { byte < 128 }
+    ensures { OnOk result (string_bytes bound.new ≡ front.now ++ byte ∷ []) }
+{
+    bound.clear();
+    bound.push_str(front)?;
+    bound.push(byte as char)?;
+    Ok(())
+}
+
+/// Writes the bound before which, from the key on, no key meets the request's. False says nothing.
+fn after_run(bound: &mut String, key: &str, q: &str) -> Result<bool, OutOfMemory>
+    ensures { IfOk result (λ found. found ≡ true → Skips q.now key.now (string_bytes bound.new)) }
+{
+    match bound_place(key.as_bytes(), q.as_bytes()) {
+        Some((at, byte)) => {
+            write_bound(bound, &key[..at], byte)?;
+            Ok(true)
+        }
+        None => Ok(false),
+    }
 }
 
 /// The offers by declarations, in order. Keys that begin with bytes with which no key that meets the
@@ -259,11 +294,13 @@ fn offers_on_keys(
     ensures { IfOk result (λ o. o.items ≡ sorted offer_cmp (flat_map (holder_offers region q.now) (texts_of keys.now.entries))) }
 {
     let mut offers = Vec::new(alloc);
+    let mut bound = String::new(alloc);
     let mut rest = keys.range::<RangeFull>(..);
     while let Some((key, holders)) = rest.next() {
-        match after_run(alloc, key.as_str(), q)? {
-            Some(bound) => rest = keys.range(&bound..),
-            None => add_key_offers(&mut offers, alloc, region, key.as_str(), holders, q)?,
+        if after_run(&mut bound, key.as_str(), q)? {
+            rest = keys.range(&bound..);
+        } else {
+            add_key_offers(&mut offers, alloc, region, key.as_str(), holders, q)?;
         }
     }
     Ok(offers)

@@ -19,3 +19,5 @@ pub mod Naturals
 pub mod Truth
 pub mod Lookups
 pub mod Sorted
+pub mod Apart
+pub mod Runs

@@ -6,3 +6,4 @@ pub mod Checks
 pub mod KeyRefusals
 pub mod Space
 pub mod Changes
+pub mod Apart

@@ -7,6 +7,7 @@
 //! - `check`: which texts are keys, and which keys are plain
 //! - `matching`, `chunk`, `key`: whether two keys intersect, and whether one includes the other,
 //!   without memory and in time that is at most the product of their lengths
+//! - `pruning`: where the first bytes of a text show that it does not meet a key
 //! - `laws`: that keys intersect both ways alike, and include and intersect themselves
 //! - `space`: texts cut by chunks, and texts behind a prefix
 #![tactic(auto)]
@@ -20,6 +21,7 @@ mod matching;
 pub mod memory;
 pub mod message;
 mod name;
+pub mod pruning;
 pub mod space;
 pub mod text;
 

@@ -18,9 +18,9 @@ use Rattle.zq_names.proofs.KeepingLemmas.{Once, once_removed_at, none_come-remov
 use Rattle.zq_names.specs.Closing.{LiesBelow, IsRun, ClosesBelow, TakesOwn, Closes}
 use Rattle.zq_names.specs.Closing.ClosesBelow.{done, more}
 use Rattle.zq_names.proofs.Rows.{length-texts}
-use Rattle.zq_names.proofs.TextOrder.{Less-trans, not_below_itself}
+use Rattle.zq_names.proofs.TextOrder.{Less-trans}
+use Rattle.zq_key.proofs.Runs.{not_below_itself, squeezed_run, run_is_less}
 use Rattle.zq_names.proofs.Below.{not_less_longer}
-use Rattle.zq_names.proofs.Pruning.{squeezed_run, run_is_less}
 use Rattle.zq_names.proofs.Removal.{map-remove}
 use Rattle.zq_names.proofs.Cleaning.{texts-removed_at}
 

@@ -15,7 +15,7 @@ use Rattle.zq_names.specs.Texts.{text_cmp, IsBelow, heads_to, heads, parent_of, 
 use Rattle.zq_names.specs.Names.{NameEntry, IsNames, IsIdle, IsPlaceOf, HasBelow, Adds, Cleans, texts, text_at, ids, entry_at, entry_of, removed_at, without_match, change_at, with_context}
 use Rattle.zq_names.specs.Names.Cleans.{stops, goes}
 use Rattle.zq_names.specs.Idle.{NoneIdle, IdleAt}
-use Rattle.zq_names.proofs.TextOrder.{not_below_itself}
+use Rattle.zq_key.proofs.Runs.{not_below_itself}
 use Rattle.zq_names.proofs.Below.{below_at}
 use Rattle.zq_names.proofs.Heads.{cut_from_below, head_at}
 use Rattle.zq_names.proofs.Rows.{length-texts}

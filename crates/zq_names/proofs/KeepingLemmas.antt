@@ -13,7 +13,7 @@ use Rattle.zq_names.proofs.Table.{ids-rows, entry_at-rows}
 use Rattle.zq_names.proofs.Adding.{Contains-map}
 use Rattle.std.proofs.lemmas.Map.Keys.{Less-from_sorted}
 use Rattle.zq_names.specs.Texts.{text_cmp}
-use Rattle.zq_names.proofs.TextOrder.{not_below_itself}
+use Rattle.zq_key.proofs.Runs.{not_below_itself}
 use Rattle.zq_names.proofs.Rows.{length-rows, length-texts-rows, text_at-rows}
 use Rattle.zq_names.proofs.Removal.{one_place, map-remove, Contains-remove, from_Contains-remove}
 

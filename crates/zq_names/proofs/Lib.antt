@@ -8,7 +8,6 @@ pub mod Heads
 pub mod Removal
 pub mod Below
 pub mod Cleaning
-pub mod Apart
 pub mod Pruning
 pub mod Forgetting
 pub mod Fresh

@@ -14,10 +14,12 @@ use Rattle.zq_names.specs.Texts.{text_cmp}
 use Rattle.zq_names.specs.Names.{NameEntry, SplitsAt, IsTable, rows, texts, text_at, ids}
 use Rattle.zq_names.specs.declared.node.Node.{Node}
 use Rattle.zq_key.specs.Key.{is_key, is_chunk, intersects}
-use Rattle.zq_names.specs.Matching.{is_match, meets_key, is_apart, IsApartAt}
-use Rattle.zq_names.proofs.Apart.{is_apart-longer, apart_misses}
+use Rattle.zq_names.specs.Matching.{is_match, meets_key}
+use Rattle.zq_key.specs.Apart.{is_apart, IsApartAt}
+use Rattle.zq_key.proofs.Apart.{is_apart-longer, apart_misses}
+use Rattle.zq_key.proofs.Runs.{Begins, squeezed_run, run_is_less, not_below_itself}
 use Rattle.zq_names.proofs.Rows.{length-texts, length-texts-rows}
-use Rattle.zq_names.proofs.TextOrder.{not_below_itself, Less-trans}
+use Rattle.zq_names.proofs.TextOrder.{Less-trans}
 
 pub one_entry : {X : Type 0} (ns : List X) (i : ℕ) (d : X) → i < length ns → drop i (take (i + 1) ns) ≡ get_or ns i d ∷ []
 one_entry ns i d lt = rw (take_more ns i d lt) (drop_at (take i ns) (get_or ns i d ∷ []) i (length-take-le i ns (omega arith)))
@@ -28,49 +30,6 @@ filter_one p x b e = rw e
 pub filter_none : {X : Type 0} (p : X → Bool) (xs : List X) → All (λ x. p x ≡ false) xs → filter p xs ≡ []
 filter_none p [] all = refl
 filter_none p (x ∷ xs) all = rw (All-head (λ x. p x ≡ false) x xs all) (filter_none p xs (All-tail (λ x. p x ≡ false) x xs all))
-
--- x begins with p and the byte b
-abbrev pub Begins : List ℕ → ℕ → List ℕ → Type 0
-Begins p b x = (more : List ℕ) × (x ≡ p ++ b ∷ more)
-
-nothing_less : (ys : List ℕ) → text_cmp ys [] ≡ Less → ⊥
-nothing_less [] e = cc
-nothing_less (y ∷ ys) e = cc
-
--- what isn't less than p and b and more, and is less than p and the byte after b, begins with p and b
-pub squeezed_run : (p x r : List ℕ) (b : ℕ) → text_cmp x (p ++ b ∷ r) ≢ Less → text_cmp x (p ++ (b + 1) ∷ []) ≡ Less → Begins p b x
-squeezed_run [] [] r b above below = absurd (above refl)
-squeezed_run [] (a ∷ cs) r b above below = by (nat_cmp a b) (nat_cmp a (b + 1)) refl refl above below
-  where
-    by : (o u : Ordering) → o ≡ nat_cmp a b → u ≡ nat_cmp a (b + 1) → ordering_then o (text_cmp cs r) ≢ Less → ordering_then u (text_cmp cs []) ≡ Less → (m : List ℕ) × (a ∷ cs ≡ b ∷ m)
-    by Less u o_is u_is above below = absurd (above refl)
-    by Equal u o_is u_is above below = (cs, rw (ranked a b Equal o_is))
-    by Greater Less o_is u_is above below = absurd (omega (arith, ranked a b Greater o_is, ranked a (b + 1) Less u_is))
-    by Greater Equal o_is u_is above below = absurd (nothing_less cs below)
-    by Greater Greater o_is u_is above below = cc
-squeezed_run (d ∷ ds) [] r b above below = absurd (above refl)
-squeezed_run (d ∷ ds) (a ∷ cs) r b above below = by (nat_cmp a d) refl above below (squeezed_run ds cs r b)
-  where
-    by : (o : Ordering) → o ≡ nat_cmp a d → ordering_then o (text_cmp cs (ds ++ b ∷ r)) ≢ Less → ordering_then o (text_cmp cs (ds ++ (b + 1) ∷ [])) ≡ Less
-        → (text_cmp cs (ds ++ b ∷ r) ≢ Less → text_cmp cs (ds ++ (b + 1) ∷ []) ≡ Less → Begins ds b cs) → Begins (d ∷ ds) b (a ∷ cs)
-    by Less is above below later = absurd (above refl)
-    by Equal is above below later = let deeper = later above below in (deeper.0, rw (ranked a d Equal is, deeper.1))
-    by Greater is above below later = cc
-
--- what begins with p and b comes before p and the byte after b
-pub run_is_less : (p r : List ℕ) (b : ℕ) → text_cmp (p ++ b ∷ r) (p ++ (b + 1) ∷ []) ≡ Less
-run_is_less [] r b = by (nat_cmp b (b + 1)) refl
-  where
-    by : (o : Ordering) → o ≡ nat_cmp b (b + 1) → ordering_then o (text_cmp r []) ≡ Less
-    by Less is = refl
-    by Equal is = absurd (omega (arith, ranked b (b + 1) Equal is))
-    by Greater is = absurd (omega (arith, ranked b (b + 1) Greater is))
-run_is_less (d ∷ ds) r b = by (nat_cmp d d) refl (run_is_less ds r b)
-  where
-    by : (o : Ordering) → o ≡ nat_cmp d d → text_cmp (ds ++ b ∷ r) (ds ++ (b + 1) ∷ []) ≡ Less → ordering_then o (text_cmp (ds ++ b ∷ r) (ds ++ (b + 1) ∷ [])) ≡ Less
-    by Less is later = refl
-    by Equal is later = later
-    by Greater is later = absurd (omega (arith, ranked d d Greater is))
 
 not_less_back : (x y : List ℕ) → text_cmp x y ≡ Less → text_cmp y x ≢ Less
 not_less_back x y less back = not_below_itself x (Less-trans x y x less back)

@@ -13,7 +13,7 @@ use Rattle.zq_names.specs.declared.node.Node.{Node}
 use Rattle.zq_names.specs.Texts.{text_cmp, IsBelow}
 use Rattle.zq_names.specs.Names.{NameEntry, IsTable, IsNames, slot, row, rows, texts, text_at}
 use Rattle.zq_names.proofs.Rows.{length-texts-rows, text_at-rows}
-use Rattle.zq_names.proofs.TextOrder.{not_below_itself}
+use Rattle.zq_key.proofs.Runs.{not_below_itself}
 
 -- ---- lists without one place
 

@@ -16,7 +16,7 @@ mod close;
 mod edit;
 mod forget;
 mod linking;
-pub mod matching;
+mod matching;
 pub mod names;
 pub mod node;
 mod order;

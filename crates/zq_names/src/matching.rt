@@ -2,10 +2,10 @@
 //!
 //! The nodes are looked at in the order of their texts. Where the first bytes of a text already show that it doesn't meet the key,
 //! all texts that begin with these bytes are passed over by one search, so that a plain key isn't compared to every plain text.
-ghost use Rattle.std.specs.Prelude.{◌≡◌, ◌+◌, ◌<◌, ◌≤◌, ◌++◌, ◌∷◌, [], true, length, map, take, drop, filter, slice_index, IfOk, IfSome};
+ghost use Rattle.std.specs.Prelude.{◌≡◌, ◌+◌, ◌<◌, ◌≤◌, ◌++◌, ◌∷◌, [], true, length, map, take, drop, filter, slice_index, IfOk};
 ghost use Rattle.zq_key.specs.Key.{is_key};
 ghost use Rattle.zq_names.specs.Names.{IsTable, NameEntry, rows, ids, SplitsAt};
-ghost use Rattle.zq_names.specs.Matching.{number, is_match, is_wild, IsApartAt};
+ghost use Rattle.zq_names.specs.Matching.{number, is_match};
 
 use crate::node::{Node, ResourceId};
 use crate::order::lower_bound;
@@ -13,40 +13,8 @@ use slab::Slab;
 use std::alloc::Global;
 use zq_key::intersects;
 use zq_key::memory::OutOfMemory;
+use zq_key::pruning::apart;
 use zq_rows::Tree;
-
-// Whether a byte may be of a `*` or of a `$*`.
-fn may_be_wild(byte: u8) -> bool
-    ensures { result ≡ is_wild byte }
-{
-    byte == b'*' || byte == b'$'
-}
-
-/// The place of the first byte that shows that the text, and any that begins like it up to there,
-/// doesn't meet the key. None says nothing.
-pub fn apart(text: &[u8], key: &[u8]) -> Option<usize>
-    ensures { IfSome result (IsApartAt text.now key.now) }
-{
-    for k in 0..text.len() {
-        let byte = text[k];
-        if may_be_wild(byte) || byte == 255 {
-            return None;
-        }
-        if k >= key.len() {
-            if byte == b'/' {
-                return None;
-            }
-            return Some(k);
-        }
-        if may_be_wild(key[k]) {
-            return None;
-        }
-        if byte != key[k] {
-            return Some(k);
-        }
-    }
-    None
-}
 
 // The first place after those whose texts begin with the head and the byte.
 fn after_run(nodes: &Slab<Node>, order: &Tree, head: &[u8], byte: u8) -> usize

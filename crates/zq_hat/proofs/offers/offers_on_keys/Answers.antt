@@ -2,11 +2,10 @@ use Rattle.std.proofs.Common.{◌≡◌, ◌≢◌, ◌∙◌, sym, ap, subst, c
 use Rattle.std.specs.Prelude.{String}
 use Rattle.std.specs.declared.alloc.Global.{Global}
 use Rattle.std.specs.declared.cmp.Ordering.TheVariants.{Less}
-use Rattle.std.specs.Option.{IfSome}
 use Rattle.std.specs.List.{AllByRecursion, flat_map}
 use Rattle.std.specs.String.{string_bytes}
 use Rattle.std.proofs.lemmas.List.{length-append}
-use Rattle.zq_names.proofs.TextOrder.{not_below_itself}
+use Rattle.zq_key.proofs.Runs.{not_below_itself}
 use Rattle.zq_hat.specs.Kept.{text_cmp}
 use Rattle.zq_hat.specs.Offers.{place, offer_cmp}
 use Rattle.zq_hat.specs.Holders.{Holdings, IsKeyed, group_offer, groups_from, holder_offers, texts_of}
@@ -32,33 +31,31 @@ loop-key-init c =
     }
 
 -- ---- keys are passed over
-skips : (c : goal.After-drop-bound) → Skips c.args.q.now (string_bytes c.in-Some.key.now) (string_bytes c.in-Some-2.bound)
-skips c =
-    subst (λ (t : List ℕ). Skips c.args.q.now t (string_bytes c.in-Some-2.bound)) c.as_str.ensures.value
-    (subst (λ o. IfSome o (λ bound. Skips c.args.q.now c.as_str.result.now (string_bytes bound))) c.in-Some-2.is c.in_ok-bound.ensures)
+skips : (c : goal.After-range-rest-then-branch) → Skips c.args.q.now (string_bytes c.in-Some.key.now) (string_bytes c.after_run.new.bound)
+skips c = subst (λ (t : List ℕ). Skips c.args.q.now t (string_bytes c.after_run.new.bound)) c.as_str.ensures.value (c.in_ok-after_run.ensures c.if-branch.true)
 
-dead : (c : goal.After-drop-bound) (t : List ℕ) → text_cmp t (string_bytes c.in-Some.key.now) ≢ Less → text_cmp t (string_bytes c.in-Some-2.bound) ≡ Less → (hs : Holdings) → holder_offers c.args.region c.args.q.now (t, hs) ≡ []
+dead : (c : goal.After-range-rest-then-branch) (t : List ℕ) → text_cmp t (string_bytes c.in-Some.key.now) ≢ Less → text_cmp t (string_bytes c.after_run.new.bound) ≡ Less → (hs : Holdings) → holder_offers c.args.region c.args.q.now (t, hs) ≡ []
 dead c t above below hs = ap (λ b. cond b (map (group_offer c.args.region c.args.q.now t) (groups_from None hs)) []) ((skips c).none t above below)
 
-walked : (c : goal.After-drop-bound) → IsPassed (holder_offers c.args.region c.args.q.now) c.args.keys.now.entries c.next.new.self c.range-rest-in-Some-2.result
+walked : (c : goal.After-range-rest-then-branch) → IsPassed (holder_offers c.args.region c.args.q.now) c.args.keys.now.entries c.next.new.self c.range-rest-then-branch.result
 walked c =
     let f = holder_offers c.args.region c.args.q.now in
     let es = c.args.keys.now.entries in
     let e : Entry = (c.in-Some.key.now, c.in-Some.holders.now) in
     let end = c.loop-key.invariant.end in
-    let same : c.range-rest-in-Some-2.result ≡ from_bound c.in-Some-2.bound es = c.range-rest-in-Some-2.ensures.between tt in
+    let same : c.range-rest-then-branch.result ≡ from_bound c.after_run.new.bound es = c.range-rest-then-branch.ensures.between tt in
     subst (IsPassed f es c.next.new.self) (sym same)
-    (passed f c.in-Some-2.bound es end.0 c.next.new.self e (end.1 ∙ ap (λ l. end.0 ++ l) c.in-Some.ensures.steps) c.range-rest.ensures.ordered (skips c).after (dead c))
+    (passed f c.after_run.new.bound es end.0 c.next.new.self e (end.1 ∙ ap (λ l. end.0 ++ l) c.in-Some.ensures.steps) c.range-rest.ensures.ordered (skips c).after (dead c))
 
-pub loop-key-smaller-in-Some-2 : goal.loop-key-smaller-in-Some-2
-loop-key-smaller-in-Some-2 c =
+pub loop-key-smaller-then-branch : goal.loop-key-smaller-then-branch
+loop-key-smaller-then-branch c =
     let split = (walked c).split in
-    omega (arith, ap length c.in-Some.ensures.steps, ap length split.whole, length-append split.over c.range-rest-in-Some-2.result)
+    omega (arith, ap length c.in-Some.ensures.steps, ap length split.whole, length-append split.over c.range-rest-then-branch.result)
 
-pub loop-key-preserved-in-Some-2 : goal.loop-key-preserved-in-Some-2
-loop-key-preserved-in-Some-2 c =
+pub loop-key-preserved-then-branch : goal.loop-key-preserved-then-branch
+loop-key-preserved-then-branch c =
     let f = holder_offers c.args.region c.args.q.now in
-    let new = c.range-rest-in-Some-2.result in
+    let new = c.range-rest-then-branch.result in
     let e : Entry = (c.in-Some.key.now, c.in-Some.holders.now) in
     let p = walked c in
     let lost = nothing_lost f c.args.keys.now.entries c.next.new.self new e p (dead c (string_bytes e.0) (not_below_itself (string_bytes e.0)) (skips c).after e.1) in
@@ -80,7 +77,7 @@ loop-key-preserved c =
     let rest = c.next.new.self in
     let e : Entry = (c.in-Some.key.now, c.in-Some.holders.now) in
     let end = c.loop-key.invariant.end in
-    let put = c.in_ok-add_key_offers-in-None.ensures ∙ ap (λ (t : List ℕ). fold (place offer_cmp) c.loop-key.offers.items (f (t, e.1))) c.as_str-in-None.ensures.value in
+    let put = c.in_ok-add_key_offers.ensures ∙ ap (λ (t : List ℕ). fold (place offer_cmp) c.loop-key.offers.items (f (t, e.1))) c.as_str-else-branch.ensures.value in
     let keyed = subst (λ l. AllByRecursion IsKeyed (texts_of l)) c.in-Some.ensures.steps c.loop-key.invariant.keys in
     record {
       next = tt;

@@ -4,7 +4,8 @@ use Rattle.std.proofs.lemmas.List.{append-nil, map_push, get_or_default, nil_fro
 use Rattle.zq_key.specs.Key.{is_key, intersects}
 use Rattle.zq_names.specs.declared.node.Node.{Node}
 use Rattle.zq_names.specs.Names.{NameEntry, IsTable, slot, rows, row, ids, text_at, entry_of, slot_context, slot_text}
-use Rattle.zq_names.specs.Matching.{is_match, meets_key, number, IsApartAt}
+use Rattle.zq_names.specs.Matching.{is_match, meets_key, number}
+use Rattle.zq_key.specs.Apart.{IsApartAt}
 use Rattle.zq_names.proofs.Rows.{length-rows, text_there, row_at}
 use Rattle.zq_names.proofs.Pruning.{one_look, jump, no_meeting, key_there, empty_no_key}
 use Rattle.zq_names.proofs.matching.look.Goals as goal

@@ -1,6 +1,6 @@
 use Rattle.std.proofs.Common.{arith, sym}
-use Rattle.zq_names.proofs.Apart.{apart_here, apart_past}
-use Rattle.zq_names.proofs.matching.apart.Goals as goal
+use Rattle.zq_key.proofs.Apart.{apart_here, apart_past}
+use Rattle.zq_key.proofs.pruning.apart.Goals as goal
 
 pub returns-then-k-key : goal.returns-then-k-key
 returns-then-k-key c = record {

@@ -1,6 +1,6 @@
 use Rattle.std.proofs.Common.{◌≤◌, length}
-use Rattle.zq_names.proofs.Apart.{AgreesTo}
-use Rattle.zq_names.proofs.matching.apart.Given as goal
+use Rattle.zq_key.proofs.Apart.{AgreesTo}
+use Rattle.zq_key.proofs.pruning.apart.Given as goal
 
 abbrev pub invariant-loop-k : goal.invariant-loop-k
 invariant-loop-k l = record {

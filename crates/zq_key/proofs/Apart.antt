@@ -8,8 +8,7 @@ use Rattle.std.proofs.lemmas.Slice.Eq.{bytes_eq-Decides}
 use Rattle.std.proofs.lemmas.List.{take_more, drop_more, take_all, take-append-drop, append_assoc, append-nil}
 use Rattle.zq_key.specs.Match.{meets_by}
 use Rattle.zq_key.specs.Key.{chunks, parts, parts_meet, is_verbatim, is_star, is_stars, chunk_meets, intersects}
-use Rattle.zq_key.proofs.Plain.{has_wild, plain-stars}
-use Rattle.zq_names.specs.Matching.{is_wild, is_apart}
+use Rattle.zq_key.specs.Apart.{is_wild, is_apart, differs, chunks_meet, Misses}
 
 three_parts : (a b c : Bool) → (a && b && c) ≡ true → (a ≡ true) × (b ≡ true) × (c ≡ true)
 three_parts a b c h = let outer = and_parts (a && b) c h in let inner = and_parts a b outer.0 in (inner.0, inner.1, outer.1)
@@ -27,13 +26,6 @@ is_apart-longer (x ∷ t) rest (y ∷ u) h = by (is_wild x) (is_wild y) (eqb x y
     by false false false h later = refl
 
 -- ---- chunks
-
--- two chunks agree up to a byte, without anything wild, and differ there
-abbrev differs : List ℕ → List ℕ → Bool
-differs [] [] = false
-differs [] (y ∷ g) = not (is_wild y)
-differs (x ∷ h) [] = not (is_wild x)
-differs (x ∷ h) (y ∷ g) = not (is_wild x) && not (is_wild y) && (not (eqb x y) || differs h g)
 
 parts-tame : (x : ℕ) (h : List ℕ) → is_wild x ≡ false → parts (x ∷ h) ≡ Some x ∷ parts h
 parts-tame x [] w = refl
@@ -83,37 +75,32 @@ chunk_miss h g d = by (is_verbatim h || is_verbatim g)
 
 -- ---- lists of chunks
 
-abbrev chunks_meet : List (List ℕ) → List (List ℕ) → Bool
-chunks_meet a b = meets_by is_stars is_verbatim chunk_meets a b
-
--- the first chunks differ, or are one chunk without anything wild, and the others don't meet
-abbrev Misses : List (List ℕ) → List (List ℕ) → Type 0
-Misses [] gs = ⊥
-Misses (h ∷ hs) [] = ⊥
-Misses (h ∷ hs) (g ∷ gs) = (differs h g ≡ true) ⊎ ((h ≡ g) × (has_wild h ≡ false) × (chunks_meet hs gs ≡ false))
-
 both_false : (a b : Bool) → b ≡ false → (a && b) ≡ false
 both_false true b e = e
 both_false false b e = refl
 
-misses_meet : (hs gs : List (List ℕ)) → Misses hs gs → chunks_meet hs gs ≡ false
+-- lists of which this holds don't meet
+pub misses_meet : (hs gs : List (List ℕ)) → Misses hs gs → chunks_meet hs gs ≡ false
 unfolding meets_by
 misses_meet [] gs m = absurd m
-misses_meet (h ∷ hs) [] m = absurd m
+misses_meet (h ∷ hs) [] m = rw m refl
 misses_meet (h ∷ hs) (g ∷ gs) (inl d) = rw (begins_left h g (42 ∷ []) d, begins_right h g (42 ∷ []) d, chunk_miss h g d) refl
-misses_meet (h ∷ hs) (g ∷ gs) (inr (same, tame, later)) = rw (plain-stars h tame, plain-stars g (rw same at tame)) (both_false (chunk_meets h g) (chunks_meet hs gs) later)
+misses_meet (h ∷ hs) (g ∷ gs) (inr (open_h, open_g, later)) = rw (open_h, open_g) (both_false (chunk_meets h g) (chunks_meet hs gs) later)
 
-Misses-onto : (x : ℕ) (ps qs : List (List ℕ)) → is_wild x ≡ false → Misses ps qs → Misses (onto_first x ps) (onto_first x qs)
-Misses-onto x [] qs w m = absurd m
-Misses-onto x (h ∷ hs) [] w m = absurd m
-Misses-onto x (h ∷ hs) (g ∷ gs) w (inl d) = let same : eqb x x ≡ true = grind (arith, nat_tests) in inl (rw (w, same) d)
-Misses-onto x (h ∷ hs) (g ∷ gs) w (inr (same, tame, later)) = inr (ap (λ (c : List ℕ). x ∷ c) same, rw (w, tame) refl, later)
+-- a chunk that begins otherwise than with `*` is not `**`
+pub not_stars : (x : ℕ) (h : List ℕ) → eqb x 42 ≡ false → is_stars (x ∷ h) ≡ false
+not_stars x h e = rw e refl
+
+pub Misses-onto : (x : ℕ) (ps : List (List ℕ)) (g : List ℕ) (gs : List (List ℕ)) → is_wild x ≡ false → Misses ps (g ∷ gs) → Misses (onto_first x ps) ((x ∷ g) ∷ gs)
+Misses-onto x [] g gs w m = absurd m
+Misses-onto x (h ∷ hs) g gs w (inl d) = let same : eqb x x ≡ true = grind (arith, nat_tests) in inl (rw (w, same) d)
+Misses-onto x (h ∷ hs) g gs w (inr (open_h, open_g, later)) = let q = or_parts (eqb x 42) (eqb x 36) w in inr (not_stars x h q.0, not_stars x g q.0, later)
 
 -- a text has a first chunk
-abbrev HasFirst : List ℕ → Type 0
+abbrev pub HasFirst : List ℕ → Type 0
 HasFirst t = (h : List ℕ) × (hs : List (List ℕ)) × (chunks t ≡ h ∷ hs)
 
-has_first : (t : List ℕ) → HasFirst t
+pub has_first : (t : List ℕ) → HasFirst t
 has_first [] = ([], [], refl)
 has_first (x ∷ t) = by (eqb x 47) (has_first t)
   where
@@ -121,26 +108,27 @@ has_first (x ∷ t) = by (eqb x 47) (has_first t)
     by true first = ([], chunks t, refl)
     by false (h, hs, is) = (x ∷ h, hs, rw is refl)
 
-apart_step : (x y : ℕ) (t u : List ℕ) (e a b : Bool) → eqb x y ≡ e → eqb x 47 ≡ a → eqb y 47 ≡ b → is_wild x ≡ false → is_wild y ≡ false
+pub apart_step : (x y : ℕ) (t u : List ℕ) (e a b : Bool) → eqb x y ≡ e → eqb x 47 ≡ a → eqb y 47 ≡ b → is_wild x ≡ false → is_wild y ≡ false
     → (not e || is_apart t u) ≡ true → (is_apart t u ≡ true → Misses (chunks t) (chunks u)) → HasFirst t → HasFirst u
     → Misses (cond a ([] ∷ chunks t) (onto_first x (chunks t))) (cond b ([] ∷ chunks u) (onto_first y (chunks u)))
 apart_step x y t u true true true xy xa yb wx wy h later first second = inr (refl, refl, misses_meet (chunks t) (chunks u) (later h))
 apart_step x y t u true true false xy xa yb wx wy h later first second = absurd (false≢true (sym yb ∙ grind (arith, nat_tests)))
 apart_step x y t u true false true xy xa yb wx wy h later first second = absurd (false≢true (sym xa ∙ grind (arith, nat_tests)))
-apart_step x y t u true false false xy xa yb wx wy h later first second =
+apart_step x y t u true false false xy xa yb wx wy h later first (g, gs, is) =
     let same : x ≡ y = grind (arith, nat_tests) in
     let M : ℕ → Type 0 = λ (z : ℕ). Misses (onto_first x (chunks t)) (onto_first z (chunks u)) in
-    subst M same (Misses-onto x (chunks t) (chunks u) wx (later h))
+    let missed : Misses (chunks t) (g ∷ gs) = subst (Misses (chunks t)) is (later h) in
+    subst M same (subst (λ c. Misses (onto_first x (chunks t)) (onto_first x c)) (sym is) (Misses-onto x (chunks t) g gs wx missed))
 apart_step x y t u false true true xy xa yb wx wy h later first second = absurd (false≢true (sym xy ∙ grind (arith, nat_tests)))
 apart_step x y t u false true false xy xa yb wx wy h later first (g, gs, is) = rw is (inl (rw wy refl))
 apart_step x y t u false false true xy xa yb wx wy h later (g, gs, is) second = rw is (inl (rw wx refl))
 apart_step x y t u false false false xy xa yb wx wy h later (p, ps, is) (q, qs, qis) = rw (is, qis) (inl (rw (wx, wy, xy) refl))
 
-apart_end : (x : ℕ) (t : List ℕ) (a : Bool) → eqb x 47 ≡ a → (not (is_wild x) && not a) ≡ true → HasFirst t → Misses (cond a ([] ∷ chunks t) (onto_first x (chunks t))) ([] ∷ [])
+pub apart_end : (x : ℕ) (t : List ℕ) (a : Bool) → eqb x 47 ≡ a → (not (is_wild x) && not a) ≡ true → HasFirst t → Misses (cond a ([] ∷ chunks t) (onto_first x (chunks t))) ([] ∷ [])
 apart_end x t true e h first = let p = and_parts (not (is_wild x)) false h in absurd (false≢true p.1)
 apart_end x t false e h (p, ps, is) = let parts = and_parts (not (is_wild x)) true h in rw is (inl parts.0)
 
-misses : (t u : List ℕ) → is_apart t u ≡ true → Misses (chunks t) (chunks u)
+pub misses : (t u : List ℕ) → is_apart t u ≡ true → Misses (chunks t) (chunks u)
 misses [] u h = absurd (false≢true h)
 misses (x ∷ t) [] h = apart_end x t (eqb x 47) refl h (has_first t)
 misses (x ∷ t) (y ∷ u) h =
