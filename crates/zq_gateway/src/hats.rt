@@ -3,7 +3,7 @@ ghost use Rattle.std.specs.Prelude.{◌≡◌, true, false, Some, None, IfOk, On
 ghost use Rattle.std.specs.Option.{is_some, option_map_or};
 ghost use Rattle.zq_hat.specs.Kept.{clashes_at, declaration_at, is_full, registered, unregistered, without_face};
 ghost use Rattle.zq_hat.specs.Marks.{finalized};
-ghost use Rattle.zq_tables.specs.RegionMap.{with_entry};
+ghost use Rattle.zq_regions.specs.RegionMap.{with_entry};
 ghost use Rattle.zq_machine.specs.Configs.{region_of};
 ghost use Rattle.zq_machine.specs.State.{first_hats, with_hat, change_hat, clashes_in, has_declared_in, hat_at, is_region, joined};
 

@@ -9,7 +9,7 @@ use Rattle.std.proofs.lemmas.Cmp.{nat_cmp_total}
 use Rattle.std.proofs.lemmas.Map.Lookups.{exact_unsigned}
 use Rattle.std.proofs.lemmas.Option.{option_and_then_some, same_Some}
 use Rattle.zq_key.specs.declared.message.Region.{Region}
-use Rattle.zq_tables.specs.Region.{region_index}
+use Rattle.zq_regions.specs.Region.{region_index}
 use Rattle.zq_hat.specs.State.{FaceState, HatState}
 use Rattle.zq_hat.specs.Kept.{declaration, face_at, has_face, is_apart, new_hat, registered, unregistered, without_face}
 use Rattle.zq_hat.specs.Marks.{finalized}

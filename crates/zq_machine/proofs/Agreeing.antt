@@ -14,7 +14,7 @@ use Rattle.std.proofs.lemmas.Option.{same_Some}
 use Rattle.std.proofs.lemmas.Slice.Eq.{bytes_eq-Decides}
 use Rattle.zq_key.specs.declared.message.QueryableInfoType.{QueryableInfoType}
 use Rattle.zq_key.specs.declared.message.Region.{Region}
-use Rattle.zq_tables.specs.Region.{region_index}
+use Rattle.zq_regions.specs.Region.{region_index}
 use Rattle.zq_hat.specs.declared.types.Declaration.{Declaration}
 use Rattle.zq_hat.specs.declared.types.FinalMark.{FinalMark}
 use Rattle.zq_hat.specs.declared.types.FinalMark.TheVariants as mark

@@ -10,8 +10,8 @@ use Rattle.std.proofs.lemmas.Cmp.{nat_cmp_total}
 use Rattle.std.proofs.lemmas.Map.Lookups.{exact_unsigned}
 use Rattle.std.proofs.lemmas.Option.{same_Some}
 use Rattle.zq_key.specs.declared.message.Region.{Region}
-use Rattle.zq_tables.specs.Region.{region_index}
-use Rattle.zq_tables.specs.RegionMap.{value_at}
+use Rattle.zq_regions.specs.Region.{region_index}
+use Rattle.zq_regions.specs.RegionMap.{value_at}
 use Rattle.zq_hat.specs.State.{FaceState, HatState}
 use Rattle.zq_hat.specs.Kept.{change_face, face_at, has_face}
 use Rattle.zq_naming.specs.Naming.{FaceKeys, NamingState, change_naming, naming_at, put_naming}

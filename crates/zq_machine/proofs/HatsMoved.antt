@@ -8,8 +8,8 @@ use Rattle.std.specs.BTreeMap.{is_at}
 use Rattle.std.proofs.lemmas.Map.Made.{lookup-map_values}
 use Rattle.zq_key.specs.declared.message.QueryableInfoType.{QueryableInfoType}
 use Rattle.zq_key.specs.declared.message.Region.{Region}
-use Rattle.zq_tables.specs.Region.{region_index}
-use Rattle.zq_tables.specs.RegionMap.{value_at}
+use Rattle.zq_regions.specs.Region.{region_index}
+use Rattle.zq_regions.specs.RegionMap.{value_at}
 use Rattle.zq_hat.specs.declared.types.Declaration.{Declaration}
 use Rattle.zq_hat.specs.declared.types.FaceRecord.{FaceRecord}
 use Rattle.zq_hat.specs.declared.types.FinalMark.{FinalMark}

@@ -8,7 +8,7 @@ use Rattle.std.specs.Option.{is_some, option_and_then, option_map, option_map_or
 use Rattle.std.specs.Ordering.{nat_cmp}
 use Rattle.zq_key.specs.declared.message.FaceId.{FaceId}
 use Rattle.zq_key.specs.declared.message.Region.{Region}
-use Rattle.zq_tables.specs.Region.{region_index}
+use Rattle.zq_regions.specs.Region.{region_index}
 use Rattle.zq_hat.specs.State.{FaceState, HatState}
 use Rattle.zq_hat.specs.Kept.{change_face, declare, face_at, new_face, withdraw, without_face}
 use Rattle.zq_hat.specs.Marks.{marked}

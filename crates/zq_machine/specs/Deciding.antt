@@ -10,7 +10,7 @@ use Rattle.zq_key.specs.declared.message.ReplyBody.TheVariants as body
 use Rattle.zq_key.specs.declared.message.Request.{Request}
 use Rattle.zq_key.specs.declared.message.Response.{Response}
 use Rattle.zq_key.specs.Key.{is_key}
-use Rattle.zq_tables.specs.RegionMap.{with_entry}
+use Rattle.zq_regions.specs.RegionMap.{with_entry}
 use Rattle.zq_hat.specs.declared.types.FaceRecord.{FaceRecord}
 use Rattle.zq_hat.specs.declared.types.QueryTargetQabl.{QueryTargetQabl}
 use Rattle.zq_hat.specs.declared.types.FinalMark.{FinalMark}

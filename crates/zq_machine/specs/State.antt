@@ -7,8 +7,8 @@ use Rattle.std.specs.BTreeMap.{is_at}
 use Rattle.std.specs.Ordering.{nat_cmp}
 use Rattle.zq_key.specs.declared.message.Region.{Region}
 use Rattle.zq_key.specs.declared.message.Region.TheVariants as region
-use Rattle.zq_tables.specs.Region.{region_index}
-use Rattle.zq_tables.specs.RegionMap.{value_at, with_entry}
+use Rattle.zq_regions.specs.Region.{region_index}
+use Rattle.zq_regions.specs.RegionMap.{value_at, with_entry}
 use Rattle.zq_hat.specs.State.{HatState}
 use Rattle.zq_hat.specs.declared.types.FaceRecord.{FaceRecord}
 use Rattle.zq_hat.specs.Kept.{clashes_at, declaration_at, has_face, is_full, new_hat, with_face_opened}

@@ -5,7 +5,7 @@ use Rattle.std.specs.Option.{option_and_then}
 use Rattle.zq_key.specs.declared.message.Region.{Region}
 use Rattle.zq_key.specs.declared.message.Zid.{Zid}
 use Rattle.zq_hat.specs.Regions.{is_north}
-use Rattle.zq_tables.specs.RegionMap.{value_at}
+use Rattle.zq_regions.specs.RegionMap.{value_at}
 use Rattle.zq_route.specs.declared.gateways.GatewayEntry.{GatewayEntry}
 use Rattle.zq_route.specs.declared.gateways.Gateways.{Gateways}
 use Rattle.zq_route.specs.declared.filter.InterRegionFilter.{InterRegionFilter}

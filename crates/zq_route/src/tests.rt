@@ -8,7 +8,7 @@ use zq_key::items::Items;
 use zq_key::memory::OutOfMemory;
 use zq_key::message::{FaceId, Mode, QueryTarget, QueryableInfoType, Region, Zid};
 use zq_key::text::Text;
-use zq_tables::map::RegionMap;
+use zq_regions::RegionMap;
 
 #[test]
 fn builds_each_face_once(rt: HostRuntime) {

@@ -1,6 +1,6 @@
 use Rattle.std.specs.Ordering.{nat_cmp}
 use Rattle.std.specs.BTreeMap.{is_at}
-use Rattle.zq_tables.specs.Region.{region_index}
+use Rattle.zq_regions.specs.Region.{region_index}
 use Rattle.zq_gateway.proofs.Lent.{kept_back}
 use Rattle.zq_gateway.proofs.hats.mark.Goals as goal
 
