@@ -7,6 +7,7 @@ ghost use Rattle.std.specs.Ordering.{nat_cmp};
 ghost use Rattle.std.specs.List.{list_any, cons_option};
 ghost use Rattle.zq_query.specs.Tables.{dues_left, flies_for, place_cmp, due_cmp, at_number, at_place, less_owed, less_flying, more_flying, is_spent, final_at};
 ghost use Rattle.zq_query.specs.declared.records.Final.{Final};
+ghost use Rattle.zq_query.specs.Orderly.{IsOrderly};
 ghost use Rattle.zq_query.specs.Closing.{finals_after, finals_landed};
 ghost use Rattle.zq_query.specs.Records.{is_pending, is_entry, is_closed, final_if_open, request, owner, next_reply, lacks_reply, after_put, after_reply, first_free, next_id, pending_count, has_number, letting_go, letting_go_all, has_deadline, has_earlier, owes_any, over_after, ending_after, ending_landed, is_in_flight, flies, landing, over_after_reply};
 
@@ -162,6 +163,13 @@ impl Queries {
         }
     }
 
+    /// What holds of the open requests after every call. It does nothing.
+    pub fn facts(&self)
+        ensures { IsOrderly self.now }
+    {
+        let _ = &self.alloc;
+    }
+
     /// Whether the id is pending at the face.
     pub fn is_pending(&self, face: FaceId, id: u32) -> bool
         ensures { result ≡ is_pending face.0 id self.now.records }
@@ -202,13 +210,6 @@ impl Queries {
         let left = owe_less(&mut self.heads, owed.number);
         due_less(&mut self.dues, owed, left);
         Some(settle(&mut self.heads, owed.number, left))
-    }
-
-    /// Whether the reply is in flight.
-    pub fn is_in_flight(&self, reply: u64) -> bool
-        ensures { result ≡ is_in_flight reply self.now.records }
-    {
-        self.replies.contains_key(&reply)
     }
 
     /// The reply is no longer in flight, if it was: the request's final, if nothing of it is left.

@@ -38,7 +38,7 @@ fn a_query_ends_with_its_last_report(rt: HostRuntime) -> Result<(), Fail> {
     let _ = queries.reply(FAR, 1)?;
     assert_eq!(rt; queries.last(FAR, 1)?, None);
     assert_eq!(rt; queries.last(FAR, 1), Err(QueryNotFound));
-    assert!(rt; queries.is_in_flight(9));
+    assert_eq!(rt; queries.first_in_flight(5), Some(9));
     assert_eq!(rt; queries.sent(9)?, last_of(5));
     assert_eq!(rt; queries.sent(9), Err(NotInFlight));
     Ok(())
