@@ -1,3 +1,6 @@
+ghost use Rattle.std.specs.Prelude.{◌≡◌, true};
+ghost use Rattle.zq_names.specs.Linking.{HasContext};
+
 use crate::{NameRefusal, Names, ResourceId, ResourceList};
 use std::alloc::Global;
 use std::test::Fail;
@@ -77,6 +80,12 @@ fn texts_come_and_go(rt: HostRuntime) -> Result<(), Fail> {
     Ok(())
 }
 
+fn may_meet(names: &Names, r: ResourceId) -> bool
+    ensures { result ≡ true → HasContext names.now r }
+{
+    names.is_live(r) && names.has_context(r)
+}
+
 // Makes b the one match of a.
 fn meet(
     alloc: Global,
@@ -84,16 +93,7 @@ fn meet(
     a: ResourceId,
     b: ResourceId,
 ) -> Result<bool, OutOfMemory> {
-    if !names.is_live(a) {
-        return Ok(false);
-    }
-    if !names.is_live(b) {
-        return Ok(false);
-    }
-    if !names.has_context(a) {
-        return Ok(false);
-    }
-    if !names.has_context(b) {
+    if !may_meet(names, a) || !may_meet(names, b) {
         return Ok(false);
     }
     let mut list = ResourceList::new(alloc);
@@ -106,20 +106,11 @@ fn matches_of(names: &Names, r: ResourceId, other: ResourceId) -> usize {
     if !names.is_live(r) {
         return 0;
     }
-    let mut count = 0;
-    for m in names.matches(r) {
-        if m.0 == other.0 && count < 9 {
-            count += 1;
-        }
-    }
-    count
+    names.matches(r).iter().filter(|m| m.0 == other.0).count()
 }
 
 fn met(alloc: Global, names: &mut Names, a: ResourceId, b: ResourceId) -> bool {
-    match meet(alloc, names, a, b) {
-        Ok(met) => met,
-        Err(_) => false,
-    }
+    meet(alloc, names, a, b).unwrap_or(false)
 }
 
 // A wild key and two that it meets.

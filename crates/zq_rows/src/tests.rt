@@ -13,5 +13,6 @@ fn numbers_come_and_go_by_place(rt: HostRuntime) -> Result<(), Fail> {
     assert_eq!(rt; row.remove(1), 8);
     assert_eq!(rt; row.get(1), 9);
     assert_eq!(rt; copy.len(), 3);
+    assert!(rt; !copy.is_empty());
     Ok(())
 }

@@ -1,5 +1,5 @@
 //! A row of numbers, and the memory for one more.
-ghost use Rattle.std.specs.Prelude.{◌≡◌, ◌+◌, ◌<◌, ◌≤◌, ◌^◌, [], length, slice_index, slice_index_or, IfOk, true, false};
+ghost use Rattle.std.specs.Prelude.{◌≡◌, ◌↔◌, IsTrue, ◌+◌, ◌<◌, ◌≤◌, ◌^◌, [], length, slice_index, slice_index_or, IfOk, true, false};
 ghost use Rattle.std.specs.List.{All, insert, remove};
 ghost use Rattle.zq_rows.specs.Border.{IsBorder};
 
@@ -51,6 +51,13 @@ impl Tree {
         ensures { result ≡ length self.now }
     {
         count(&self.top)
+    }
+
+    /// Whether there is none.
+    pub fn is_empty(&self) -> bool
+        ensures { IsTrue result ↔ (length self.now ≡ 0) }
+    {
+        self.len() == 0
     }
 
     /// The number at a place.
