@@ -1,29 +1,30 @@
 //! How calls are written.
-ghost use Rattle.std.specs.Prelude.{◌≡◌, ◌++◌, IfOk, OnOk, Some, string_bytes};
+ghost use Rattle.std.specs.Prelude.{◌≡◌, ◌++◌, IfOk, OnOk, Some};
 ghost use Rattle.std.specs.List.{flat_map};
 ghost use Rattle.zq_script.specs.Lines.{call_of};
 ghost use Rattle.zq_script.specs.Fits.{FitsCall};
 ghost use Rattle.zq_script.specs.CallLines.{deny_item, opening_words, info_words, mark_words, body_words, by_words, first_words, ids_words, declaring_words, ask_words, reply_words, asking_words, table_words, call_words};
 
 use std::alloc::{AllocError, Global};
-use std::fmt::Write;
 use zq_gateway::call::{Call, Opening};
 use zq_hat::types::FinalMark;
 use zq_key::memory::OutOfMemory;
 use zq_key::message::{FaceId, QueryableInfoType, ReplyBody, Request, Response, Zid};
 use zq_key::text::{Bytes, Text};
 use zq_words::show::{Shown, push_field, push_flag};
+use zq_words::words::push_text;
 
 /// Writes an item of a deny list, behind the name of its side.
-fn push_deny(out: &mut String, side: &str, text: &Text) -> Result<(), AllocError>
-    ensures { OnOk result (string_bytes out.new ≡ string_bytes out.old ++ deny_item side.now text.now) }
+fn push_deny(out: &mut Vec<u8>, side: &str, text: &Text) -> Result<(), AllocError>
+    ensures { OnOk result (out.new.items ≡ out.old.items ++ deny_item side.now text.now) }
 {
-    write!(out, " {side}")?;
+    push_text(out, " ")?;
+    push_text(out, side)?;
     text.show(out)
 }
 
-fn push_denies(out: &mut String, side: &str, texts: &[Text]) -> Result<(), AllocError>
-    ensures { OnOk result (string_bytes out.new ≡ string_bytes out.old ++ flat_map (deny_item side.now) texts.now) }
+fn push_denies(out: &mut Vec<u8>, side: &str, texts: &[Text]) -> Result<(), AllocError>
+    ensures { OnOk result (out.new.items ≡ out.old.items ++ flat_map (deny_item side.now) texts.now) }
 {
     for text in texts {
         push_deny(out, side, text)?;
@@ -31,8 +32,8 @@ fn push_denies(out: &mut String, side: &str, texts: &[Text]) -> Result<(), Alloc
     Ok(())
 }
 
-fn push_opening(out: &mut String, opening: &Opening) -> Result<(), AllocError>
-    ensures { OnOk result (string_bytes out.new ≡ string_bytes out.old ++ opening_words opening.now) }
+fn push_opening(out: &mut Vec<u8>, opening: &Opening) -> Result<(), AllocError>
+    ensures { OnOk result (out.new.items ≡ out.old.items ++ opening_words opening.now) }
 {
     push_field(out, &opening.region)?;
     push_field(out, &opening.zid)?;
@@ -44,47 +45,47 @@ fn push_opening(out: &mut String, opening: &Opening) -> Result<(), AllocError>
 }
 
 /// Writes c or p, and a distance.
-pub fn push_info(out: &mut String, info: &QueryableInfoType) -> Result<(), AllocError>
-    ensures { OnOk result (string_bytes out.new ≡ string_bytes out.old ++ info_words info.now) }
+pub fn push_info(out: &mut Vec<u8>, info: &QueryableInfoType) -> Result<(), AllocError>
+    ensures { OnOk result (out.new.items ≡ out.old.items ++ info_words info.now) }
 {
     push_flag(out, "c", "p", info.complete)?;
     push_field(out, &info.distance)
 }
 
-fn push_mark(out: &mut String, mark: &FinalMark) -> Result<(), AllocError>
-    ensures { OnOk result (string_bytes out.new ≡ string_bytes out.old ++ mark_words mark.now) }
+fn push_mark(out: &mut Vec<u8>, mark: &FinalMark) -> Result<(), AllocError>
+    ensures { OnOk result (out.new.items ≡ out.old.items ++ mark_words mark.now) }
 {
     match mark {
-        FinalMark::Initial => write!(out, " initial"),
+        FinalMark::Initial => push_text(out, " initial"),
         FinalMark::Key(text) => {
-            write!(out, " key")?;
+            push_text(out, " key")?;
             push_field(out, text)
         }
     }
 }
 
 /// Writes what a reply brings.
-pub fn push_body(out: &mut String, body: &ReplyBody) -> Result<(), AllocError>
-    ensures { OnOk result (string_bytes out.new ≡ string_bytes out.old ++ body_words body.now) }
+pub fn push_body(out: &mut Vec<u8>, body: &ReplyBody) -> Result<(), AllocError>
+    ensures { OnOk result (out.new.items ≡ out.old.items ++ body_words body.now) }
 {
     match body {
         ReplyBody::Reply(payload) => {
-            write!(out, " ok")?;
+            push_text(out, " ok")?;
             push_field(out, payload)
         }
         ReplyBody::Err(payload) => {
-            write!(out, " err")?;
+            push_text(out, " err")?;
             push_field(out, payload)
         }
     }
 }
 
-fn push_by(out: &mut String, responder: &Option<Zid>) -> Result<(), AllocError>
-    ensures { OnOk result (string_bytes out.new ≡ string_bytes out.old ++ by_words responder.now) }
+fn push_by(out: &mut Vec<u8>, responder: &Option<Zid>) -> Result<(), AllocError>
+    ensures { OnOk result (out.new.items ≡ out.old.items ++ by_words responder.now) }
 {
     match responder {
         Some(zid) => {
-            write!(out, " by:")?;
+            push_text(out, " by:")?;
             zid.show(out)
         }
         None => Ok(()),
@@ -92,24 +93,24 @@ fn push_by(out: &mut String, responder: &Option<Zid>) -> Result<(), AllocError>
 }
 
 /// Writes the name of a call, and its one field or its first.
-fn push_first<T: Shown>(out: &mut String, name: &str, x: &T) -> Result<(), AllocError>
-    ensures { OnOk result (string_bytes out.new ≡ string_bytes out.old ++ first_words name.now (T.word x.now)) }
+fn push_first<T: Shown>(out: &mut Vec<u8>, name: &str, x: &T) -> Result<(), AllocError>
+    ensures { OnOk result (out.new.items ≡ out.old.items ++ first_words name.now (T.word x.now)) }
 {
-    out.push_str(name)?;
+    push_text(out, name)?;
     push_field(out, x)
 }
 
 /// Writes the name of a call, its face and its id.
-fn push_ids<T: Shown>(out: &mut String, name: &str, face: FaceId, id: &T) -> Result<(), AllocError>
-    ensures { OnOk result (string_bytes out.new ≡ string_bytes out.old ++ ids_words name.now face (T.word id.now)) }
+fn push_ids<T: Shown>(out: &mut Vec<u8>, name: &str, face: FaceId, id: &T) -> Result<(), AllocError>
+    ensures { OnOk result (out.new.items ≡ out.old.items ++ ids_words name.now face (T.word id.now)) }
 {
     push_first(out, name, &face)?;
     push_field(out, id)
 }
 
 /// Writes the line of a declaration or of its end, and nothing for another call.
-fn push_declaring(out: &mut String, call: &Call) -> Result<(), AllocError>
-    ensures { OnOk result (string_bytes out.new ≡ string_bytes out.old ++ declaring_words call.now) }
+fn push_declaring(out: &mut Vec<u8>, call: &Call) -> Result<(), AllocError>
+    ensures { OnOk result (out.new.items ≡ out.old.items ++ declaring_words call.now) }
 {
     match call {
         Call::DeclareKeyExpr { face, id, wire } => {
@@ -143,8 +144,8 @@ fn push_declaring(out: &mut String, call: &Call) -> Result<(), AllocError>
     }
 }
 
-fn push_ask(out: &mut String, face: FaceId, request: &Request, now: u64) -> Result<(), AllocError>
-    ensures { OnOk result (string_bytes out.new ≡ string_bytes out.old ++ ask_words face request.now now) }
+fn push_ask(out: &mut Vec<u8>, face: FaceId, request: &Request, now: u64) -> Result<(), AllocError>
+    ensures { OnOk result (out.new.items ≡ out.old.items ++ ask_words face request.now now) }
 {
     push_ids(out, "ask", face, &request.id)?;
     push_field(out, &request.wire)?;
@@ -156,8 +157,8 @@ fn push_ask(out: &mut String, face: FaceId, request: &Request, now: u64) -> Resu
     push_field(out, &now)
 }
 
-fn push_reply(out: &mut String, face: FaceId, response: &Response) -> Result<(), AllocError>
-    ensures { OnOk result (string_bytes out.new ≡ string_bytes out.old ++ reply_words face response.now) }
+fn push_reply(out: &mut Vec<u8>, face: FaceId, response: &Response) -> Result<(), AllocError>
+    ensures { OnOk result (out.new.items ≡ out.old.items ++ reply_words face response.now) }
 {
     push_ids(out, "reply", face, &response.rid)?;
     push_field(out, &response.wire)?;
@@ -166,8 +167,8 @@ fn push_reply(out: &mut String, face: FaceId, response: &Response) -> Result<(),
 }
 
 /// Writes the line of a request, of what answers it, or of a moment; else of a declaration.
-fn push_asking(out: &mut String, call: &Call) -> Result<(), AllocError>
-    ensures { OnOk result (string_bytes out.new ≡ string_bytes out.old ++ asking_words call.now) }
+fn push_asking(out: &mut Vec<u8>, call: &Call) -> Result<(), AllocError>
+    ensures { OnOk result (out.new.items ≡ out.old.items ++ asking_words call.now) }
 {
     match call {
         Call::Request { face, request, now } => push_ask(out, *face, request, *now),
@@ -180,8 +181,8 @@ fn push_asking(out: &mut String, call: &Call) -> Result<(), AllocError>
 }
 
 /// Writes the line of a region's table or of a face's; else of a request or a declaration.
-fn push_table(out: &mut String, call: &Call) -> Result<(), AllocError>
-    ensures { OnOk result (string_bytes out.new ≡ string_bytes out.old ++ table_words call.now) }
+fn push_table(out: &mut Vec<u8>, call: &Call) -> Result<(), AllocError>
+    ensures { OnOk result (out.new.items ≡ out.old.items ++ table_words call.now) }
 {
     match call {
         Call::SetGateways { region, table } => {
@@ -204,12 +205,12 @@ fn push_table(out: &mut String, call: &Call) -> Result<(), AllocError>
 }
 
 /// Writes a call as a line.
-pub fn push_call(out: &mut String, call: &Call) -> Result<(), AllocError>
-    ensures { OnOk result (string_bytes out.new ≡ string_bytes out.old ++ call_words call.now) }
+pub fn push_call(out: &mut Vec<u8>, call: &Call) -> Result<(), AllocError>
+    ensures { OnOk result (out.new.items ≡ out.old.items ++ call_words call.now) }
 {
     match call {
         Call::Open(opening) => {
-            write!(out, "open")?;
+            push_text(out, "open")?;
             push_opening(out, opening)
         }
         Call::Close { face } => push_first(out, "close", face),
@@ -239,7 +240,7 @@ pub fn print_call(alloc: Global, call: &Call) -> Result<Bytes, OutOfMemory>
     ensures words { IfOk result (λ b. b ≡ call_words call.now) }
     ensures back { FitsCall call.now → call_of (call_words call.now) ≡ Some call.now }
 {
-    let mut out = String::new(alloc);
+    let mut out = Vec::new(alloc);
     push_call(&mut out, call)?;
-    Ok(Bytes::from_vec(out.into_bytes()))
+    Ok(Bytes::from_vec(out))
 }

@@ -13,13 +13,13 @@ use crate::refusal::ScriptRefusal;
 use crate::script::{Script, read_script};
 use crate::steps::print_steps;
 use std::alloc::Global;
-use std::fmt::Write;
 use zq_gateway::call::Call;
 use zq_gateway::replay::replay;
 use zq_key::memory::OutOfMemory;
 use zq_key::text::{Bytes, Text};
 use zq_words::streams::{Sink, Source};
 use zq_words::transfer::{ReadRefusal, read_all, write_all};
+use zq_words::words::{push_number, push_text};
 
 /// How a run ended.
 #[derive(Clone, Copy, Debug, PartialEq, Eq)]
@@ -93,9 +93,11 @@ fn print_script(alloc: Global, script: &Script) -> Result<Bytes, OutOfMemory>
 fn print_bad_line(alloc: Global, number: u64) -> Result<Bytes, OutOfMemory>
     ensures { IfOk result (λ b. b ≡ codes "bad line " ++ decimal number ++ 10 ∷ []) }
 {
-    let mut out = String::new(alloc);
-    writeln!(out, "bad line {number}")?;
-    Ok(Bytes::from_vec(out.into_bytes()))
+    let mut out = Vec::new(alloc);
+    push_text(&mut out, "bad line ")?;
+    push_number(&mut out, number)?;
+    push_text(&mut out, "\n")?;
+    Ok(Bytes::from_vec(out))
 }
 
 /// What is printed for the bytes, and the status where the print is taken.

@@ -5,7 +5,7 @@ ghost use Rattle.std.specs.Fmt.{decimal};
 ghost use Rattle.zq_words.specs.Words.{cut, number, text_of, bytes_of, read_at, option_of, list_of, payload_word};
 ghost use Rattle.zq_words.specs.Values.{most_8, most_16, most_32, most_64, most_128, flag_of, face_of, zid_of, mode_of, bound_of, target_of, behind, south_of, region_of, mapping_of, wire_of, zids_of, entry_of, all_of, direction_of, tree_of};
 
-use crate::words::{Word, cut, is, list_of, number, read_word, text_of, word_at};
+use crate::words::{Word, cut, is, list_of, number, read_word, text_of, wide_number, word_at};
 use std::alloc::Global;
 use zq_hat::types::Tree;
 use zq_key::items::Items;
@@ -51,10 +51,7 @@ impl Word for u64 {
     ghost of = { number most_64 };
 
     fn read(_alloc: Global, word: &[u8]) -> Result<Option<u64>, OutOfMemory> {
-        match number(18_446_744_073_709_551_615, word) {
-            Some(n) => Ok(Some(n as u64)),
-            None => Ok(None),
-        }
+        Ok(number(u64::MAX, word))
     }
 }
 
@@ -73,7 +70,7 @@ impl Word for Zid {
     ghost of = { zid_of };
 
     fn read(_alloc: Global, word: &[u8]) -> Result<Option<Zid>, OutOfMemory> {
-        match number(u128::MAX, word) {
+        match wide_number(word) {
             Some(n) => Ok(Some(Zid(n))),
             None => Ok(None),
         }
