@@ -234,31 +234,31 @@ nodes_of bytes = do
   ids ← read_at zids_of face.1
   at_end ids.1 (call.SetNodeIds face.0 (record { ids = ids.0 }))
 
--- the calls of requests and tables
+-- the calls that stand seldom, by their names
 unfoldable pub other_by : List ℕ → List ℕ → Option Call
 other_by head bytes =
-    if bytes_eq head (codes "ask") then ask_of bytes
-    else (if bytes_eq head (codes "reply") then reply_of bytes
-    else (if bytes_eq head (codes "final") then final_of bytes
-    else (if bytes_eq head (codes "sent") then sent_of bytes
-    else (if bytes_eq head (codes "poll") then poll_of bytes
+    if bytes_eq head (codes "open") then opening_of bytes
+    else (if bytes_eq head (codes "close") then close_of bytes
+    else (if bytes_eq head (codes "interest") then interest_of bytes
+    else (if bytes_eq head (codes "uninterest") then uninterest_of bytes
+    else (if bytes_eq head (codes "finalize") then finalize_of bytes
     else (if bytes_eq head (codes "gateways") then gateways_of bytes
     else (if bytes_eq head (codes "network") then network_of bytes
     else (if bytes_eq head (codes "nodes") then nodes_of bytes
     else None)))))))
 
--- the call that a line says, by its first word
+-- a call by its name and its fields
 unfoldable pub call_by : List ℕ → List ℕ → Option Call
 call_by head bytes =
-    if bytes_eq head (codes "open") then opening_of bytes
-    else (if bytes_eq head (codes "close") then close_of bytes
-    else (if bytes_eq head (codes "key") then key_of bytes
-    else (if bytes_eq head (codes "unkey") then unkey_of bytes
+    if bytes_eq head (codes "ask") then ask_of bytes
+    else (if bytes_eq head (codes "reply") then reply_of bytes
+    else (if bytes_eq head (codes "final") then final_of bytes
+    else (if bytes_eq head (codes "sent") then sent_of bytes
+    else (if bytes_eq head (codes "poll") then poll_of bytes
     else (if bytes_eq head (codes "queryable") then queryable_of bytes
     else (if bytes_eq head (codes "unqueryable") then unqueryable_of bytes
-    else (if bytes_eq head (codes "interest") then interest_of bytes
-    else (if bytes_eq head (codes "uninterest") then uninterest_of bytes
-    else (if bytes_eq head (codes "finalize") then finalize_of bytes
+    else (if bytes_eq head (codes "key") then key_of bytes
+    else (if bytes_eq head (codes "unkey") then unkey_of bytes
     else other_by head bytes))))))))
 
 -- by the first word, and by what follows it

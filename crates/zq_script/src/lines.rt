@@ -586,16 +586,16 @@ fn nodes_of(alloc: Global, bytes: &[u8]) -> Result<Option<Call>, OutOfMemory>
 fn other_by(alloc: Global, head: &[u8], bytes: &[u8]) -> Result<Option<Call>, OutOfMemory>
     ensures { IfOk result (λ c. c ≡ other_by head.now bytes.now) }
 {
-    if is(head, "ask") {
-        ask_of(alloc, bytes)
-    } else if is(head, "reply") {
-        reply_of(alloc, bytes)
-    } else if is(head, "final") {
-        final_of(alloc, bytes)
-    } else if is(head, "sent") {
-        sent_of(alloc, bytes)
-    } else if is(head, "poll") {
-        poll_of(alloc, bytes)
+    if is(head, "open") {
+        opening_of(alloc, bytes)
+    } else if is(head, "close") {
+        close_of(alloc, bytes)
+    } else if is(head, "interest") {
+        interest_of(alloc, bytes)
+    } else if is(head, "uninterest") {
+        uninterest_of(alloc, bytes)
+    } else if is(head, "finalize") {
+        finalize_of(alloc, bytes)
     } else if is(head, "gateways") {
         gateways_of(alloc, bytes)
     } else if is(head, "network") {
@@ -607,28 +607,29 @@ fn other_by(alloc: Global, head: &[u8], bytes: &[u8]) -> Result<Option<Call>, Ou
     }
 }
 
+/// The kinds of calls that a long script is made of come first.
 #[tactic(auto, unfolding(crate::specs::Lines::call_by))]
 fn call_by(alloc: Global, head: &[u8], bytes: &[u8]) -> Result<Option<Call>, OutOfMemory>
     ensures { IfOk result (λ c. c ≡ call_by head.now bytes.now) }
 {
-    if is(head, "open") {
-        opening_of(alloc, bytes)
-    } else if is(head, "close") {
-        close_of(alloc, bytes)
-    } else if is(head, "key") {
-        key_of(alloc, bytes)
-    } else if is(head, "unkey") {
-        unkey_of(alloc, bytes)
+    if is(head, "ask") {
+        ask_of(alloc, bytes)
+    } else if is(head, "reply") {
+        reply_of(alloc, bytes)
+    } else if is(head, "final") {
+        final_of(alloc, bytes)
+    } else if is(head, "sent") {
+        sent_of(alloc, bytes)
+    } else if is(head, "poll") {
+        poll_of(alloc, bytes)
     } else if is(head, "queryable") {
         queryable_of(alloc, bytes)
     } else if is(head, "unqueryable") {
         unqueryable_of(alloc, bytes)
-    } else if is(head, "interest") {
-        interest_of(alloc, bytes)
-    } else if is(head, "uninterest") {
-        uninterest_of(alloc, bytes)
-    } else if is(head, "finalize") {
-        finalize_of(alloc, bytes)
+    } else if is(head, "key") {
+        key_of(alloc, bytes)
+    } else if is(head, "unkey") {
+        unkey_of(alloc, bytes)
     } else {
         other_by(alloc, head, bytes)
     }
