@@ -5,6 +5,8 @@ pub mod Built
 pub mod Given
 pub mod GivenLines
 pub mod Promised
+pub mod Printed
+pub mod Loaded
 pub mod Completed
 pub mod StepsBack
 pub mod Shown

@@ -175,7 +175,8 @@ fn outcome_fits(outcome: Outcome)
     }
 }
 
-fn step_fits(step: &Step)
+/// A step fits where its lines show all of it.
+pub fn step_fits(step: &Step)
     ensures { ShowsStep step.now → FitsStep step.now }
 {
     outcome_fits(step.outcome);

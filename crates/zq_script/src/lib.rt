@@ -8,6 +8,8 @@
 //! - `refusal`: why bytes are no script.
 //! - `same`: whether what leaves is what was handed.
 //! - `steps`: how messages and steps are printed, which read back as those.
+//! - `printing`: the print of a script, made while its lines are read.
+//! - `load`: the generated load, and what is counted of it.
 //! - `run`: reads a script from a source, and gives the print of its steps to a sink.
 //!
 //! Words and streams stand in `zq_words`; what users of scripts need of them is passed on here.
@@ -17,6 +19,8 @@ pub mod calls;
 mod fit;
 mod head;
 pub mod lines;
+mod load;
+mod printing;
 pub mod refusal;
 #[cfg(test)]
 mod rows;

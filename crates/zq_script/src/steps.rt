@@ -203,7 +203,8 @@ fn push_handed(out: &mut Vec<u8>, handed: &Handed) -> Result<(), AllocError>
     push_leaving(out, &handed.message, &handed.leaves)
 }
 
-fn push_step(out: &mut Vec<u8>, step: &Step) -> Result<(), AllocError>
+/// Writes the line of an answer, and the lines of what is handed.
+pub fn push_step(out: &mut Vec<u8>, step: &Step) -> Result<(), AllocError>
     ensures { OnOk result (out.new.items ≡ out.old.items ++ step_words step.now) }
 {
     push_text(out, "= ")?;

@@ -4,7 +4,7 @@ use crate::refusal::ScriptRefusal;
 use crate::run::{Status, run};
 use crate::script::read_script;
 use crate::steps::{print_message, print_steps};
-use crate::{MemorySink, MemorySource};
+use crate::{LIMIT, MemorySink, MemorySource};
 use std::alloc::Global;
 use std::test::Fail;
 use zq_gateway::call::{Handed, Outcome, Step};
@@ -137,15 +137,24 @@ fn steps_are_printed(rt: HostRuntime) -> Result<(), Fail> {
     Ok(())
 }
 
+fn texts(alloc: Global, words: &[&str]) -> Result<Vec<Text>, OutOfMemory> {
+    let mut texts = Vec::new(alloc);
+    for word in words {
+        texts.push(Text::new(alloc, word)?)?;
+    }
+    Ok(texts)
+}
+
+/// Runs on a source whose read and a sink whose write of this number fails.
 fn run_on(
     alloc: Global,
-    word: &str,
+    words: &[&str],
     script: &[u8],
     fails: u64,
 ) -> Result<(Status, MemorySink), OutOfMemory> {
-    let words = vec![in alloc; Text::new(alloc, word)?]?;
-    let mut source = MemorySource::new(Bytes::new(alloc, script)?, vec![in alloc; fails]?, 16);
-    let mut sink = MemorySink::new(alloc, 1000, Vec::new(alloc), 8)?;
+    let words = texts(alloc, words)?;
+    let mut source = MemorySource::new(Bytes::new(alloc, script)?, vec![in alloc; fails]?, 1 << 20);
+    let mut sink = MemorySink::new(alloc, 1000, vec![in alloc; fails]?, 8)?;
     let status = run(alloc, words.as_slice(), &mut source, &mut sink);
     Ok((status, sink))
 }
@@ -154,15 +163,50 @@ fn run_on(
 fn runs_end(rt: HostRuntime) -> Result<(), Fail> {
     let alloc = rt.alloc();
     let config = "config 1 10000 north:client local\n";
-    for (word, script, fails, status, code, print) in [
-        ("replay", "", 9, Status::Script, 2, "bad line 1\n"),
-        ("replay", config, 1, Status::ReadFault, 3, ""),
-        ("play", config, 9, Status::Words, 1, ""),
+    let late = "config 1 10000 north:client local\npoll 0\npoll 0\npoll";
+    for (words, script, fails, status, code, print) in [
+        (
+            ["replay"].as_slice(),
+            "",
+            9,
+            Status::Script,
+            2,
+            "bad line 1\n",
+        ),
+        (&["replay"], late, 9, Status::Script, 2, "bad line 4\n"),
+        (&["replay"], config, 1, Status::ReadFault, 3, ""),
+        (&["replay"], "", 1, Status::WriteFault, 4, "bad line"),
+        (&["play"], config, 9, Status::Words, 1, ""),
+        (&["load"], config, 9, Status::Words, 1, ""),
+        (&["load", "0"], config, 9, Status::Words, 1, ""),
+        (&["load", "10001"], config, 9, Status::Words, 1, ""),
+        (&["load", "01"], config, 9, Status::Words, 1, ""),
+        (&["load", "+1"], config, 9, Status::Words, 1, ""),
+        (
+            &["load", "3"],
+            config,
+            9,
+            Status::Done,
+            0,
+            "calls 24 handed 9 requests 3 responses 3 finals 3\n",
+        ),
+        (&["load", "1"], config, 0, Status::WriteFault, 4, ""),
     ] {
-        let (ended, sink) = run_on(alloc, word, script.as_bytes(), fails)?;
+        let (ended, sink) = run_on(alloc, words, script.as_bytes(), fails)?;
         assert_eq!(rt; ended, status);
         assert_eq!(rt; ended.code(), code);
         assert_eq!(rt; sink.taken(), print.as_bytes());
     }
+    Ok(())
+}
+
+#[test]
+fn long_scripts_are_refused(rt: HostRuntime) -> Result<(), Fail> {
+    let alloc = rt.alloc();
+    let bytes = vec![in alloc; b'\n'; LIMIT + 1]?;
+    let (ended, sink) = run_on(alloc, &["replay"], bytes.as_slice(), u64::MAX)?;
+    assert_eq!(rt; ended, Status::TooLong);
+    assert_eq!(rt; ended.code(), 6);
+    assert!(rt; sink.taken().is_empty());
     Ok(())
 }
