@@ -1,9 +1,6 @@
-pub mod LinesBack
 pub mod Sameness
 pub mod Parts
 pub mod Built
-pub mod Given
-pub mod GivenLines
 pub mod Promised
 pub mod Printed
 pub mod Loaded

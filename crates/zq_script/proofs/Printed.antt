@@ -9,7 +9,7 @@ use Rattle.zq_gateway.specs.Machine.{after, step, steps_from}
 use Rattle.zq_gateway.specs.State.{State, opening_state}
 use Rattle.zq_words.proofs.Back.{same_bytes}
 use Rattle.zq_script.specs.Head.{Head, head_of}
-use Rattle.zq_script.specs.Lines.{call_by, other_by}
+use Rattle.zq_lines.specs.Lines.{call_by, other_by}
 use Rattle.zq_script.specs.Printing.{FitsRun, printed, printed_by, printed_on}
 use Rattle.zq_script.specs.Running.{ReadsBack}
 use Rattle.zq_script.specs.Script.{Parts, lines_of, made, onto, onto_parts, parts_from, script_call, script_of, with_line, with_parts}

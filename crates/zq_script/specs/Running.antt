@@ -5,8 +5,8 @@ use Rattle.std.specs.Fmt.{decimal}
 use Rattle.std.specs.Io.KnownBytes.{Appends}
 use Rattle.zq_gateway.specs.declared.call.Call.{Call}
 use Rattle.zq_gateway.specs.Machine.{steps}
-use Rattle.zq_words.specs.declared.transfer.TheConstants.{LIMIT}
-use Rattle.zq_words.specs.Streams.{AppendsPrefix}
+use Rattle.zq_streams.specs.declared.transfer.TheConstants.{LIMIT}
+use Rattle.zq_streams.specs.Streams.{AppendsPrefix}
 use Rattle.zq_words.specs.Words.{◌>>=◌, number}
 use Rattle.zq_script.specs.Load.{load_line}
 use Rattle.zq_script.specs.Script.{lines_of, script_of}

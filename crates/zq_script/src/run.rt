@@ -3,8 +3,8 @@ ghost use Rattle.std.specs.Prelude.{◌≡◌, ◌≢◌, ◌↔◌, ◌≤◌, 
 ghost use Rattle.std.specs.Fmt.{decimal};
 ghost use Rattle.std.specs.Io.KnownBytes.{IsAtEnd};
 ghost use Rattle.zq_gateway.specs.Headline.{RunPromise};
-ghost use Rattle.zq_words.specs.declared.transfer.TheConstants.{LIMIT};
-ghost use Rattle.zq_words.specs.Streams.{Rose};
+ghost use Rattle.zq_streams.specs.declared.transfer.TheConstants.{LIMIT};
+ghost use Rattle.zq_streams.specs.Streams.{Rose};
 ghost use Rattle.zq_script.specs.Script.{lines_of, script_of};
 ghost use Rattle.zq_script.specs.Running.{amount_of, command_of, load_of, first_part, print_of, EndsWell, IsFit, IsReplay, ReadsBack, IsEnd, Leaves, LeavesLoad, wrote, status_code};
 
@@ -14,8 +14,8 @@ use crate::refusal::ScriptRefusal;
 use std::alloc::Global;
 use zq_key::memory::OutOfMemory;
 use zq_key::text::{Bytes, Text};
-use zq_words::streams::{Sink, Source};
-use zq_words::transfer::{ReadRefusal, read_all, write_all};
+use zq_streams::streams::{Sink, Source};
+use zq_streams::transfer::{ReadRefusal, read_all, write_all};
 use zq_words::words::{number, push_number, push_text};
 
 /// How a run ended.

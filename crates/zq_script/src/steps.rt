@@ -7,7 +7,6 @@ ghost use Rattle.zq_script.specs.Steps.{request_words, response_words, interest_
 ghost use Rattle.zq_script.specs.StepsRead.{message_of, steps_of};
 ghost use Rattle.zq_script.specs.StepsFit.{ShowsMessage, ShowsStep};
 
-use crate::calls::{push_body, push_info};
 use crate::fit::{message_fits, steps_fit};
 use crate::same::same_message;
 use std::alloc::{AllocError, Global};
@@ -15,6 +14,7 @@ use zq_gateway::call::{Handed, Outcome, Refusal, Step};
 use zq_key::memory::OutOfMemory;
 use zq_key::message::{Declare, DeclareBody, Interest, Message, Request, Response};
 use zq_key::text::Bytes;
+use zq_lines::calls::{push_body, push_info};
 use zq_words::show::{Shown, push_field, push_flag};
 use zq_words::words::{push_number, push_text};
 

@@ -2,15 +2,13 @@
 ghost use Rattle.std.specs.Prelude.{◌≡◌, ℕ, List, ◌++◌, OnOk};
 ghost use Rattle.std.specs.Fmt.{decimal};
 ghost use Rattle.zq_words.specs.Words.{payload_word, list_word, rest_word, list_words, option_word, field};
-ghost use Rattle.zq_words.specs.Values.{face_word, zid_word, mode_word, bound_word, target_word, region_word, mapping_word, wire_word, zids_word, entry_word, all_word, direction_word, tree_word, flag_word};
+ghost use Rattle.zq_words.specs.Values.{face_word, zid_word, mode_word, bound_word, target_word, region_word, mapping_word, wire_word, zids_word, all_word, direction_word, flag_word};
 
 use crate::words::{push_number, push_text, push_word};
 use std::alloc::AllocError;
-use zq_hat::types::Tree;
 use zq_key::items::Items;
 use zq_key::message::{Bound, FaceId, Mapping, Mode, QueryTarget, Region, WireExpr, Zid};
 use zq_key::text::{Bytes, Text};
-use zq_route::gateways::GatewayEntry;
 
 /// What is written as one word.
 pub trait Shown {
@@ -277,42 +275,6 @@ impl Shown for Items<Option<u32>> {
 
     fn show(&self, out: &mut Vec<u8>) -> Result<(), AllocError> {
         push_list(out, ",", self.as_slice())
-    }
-}
-
-impl Shown for Tree {
-    ghost word = { tree_word };
-
-    fn show(&self, out: &mut Vec<u8>) -> Result<(), AllocError> {
-        self.children.show(out)?;
-        push_text(out, "/")?;
-        self.directions.show(out)
-    }
-}
-
-impl Shown for GatewayEntry {
-    ghost word = { entry_word };
-
-    fn show(&self, out: &mut Vec<u8>) -> Result<(), AllocError> {
-        self.node.show(out)?;
-        push_text(out, "=")?;
-        self.gateways.show(out)
-    }
-}
-
-impl Shown for Items<Tree> {
-    ghost word = { list_word 59 tree_word };
-
-    fn show(&self, out: &mut Vec<u8>) -> Result<(), AllocError> {
-        push_list(out, ";", self.as_slice())
-    }
-}
-
-impl Shown for Items<GatewayEntry> {
-    ghost word = { list_word 59 entry_word };
-
-    fn show(&self, out: &mut Vec<u8>) -> Result<(), AllocError> {
-        push_list(out, ";", self.as_slice())
     }
 }
 

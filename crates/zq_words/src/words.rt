@@ -206,21 +206,24 @@ pub fn text_of(alloc: Global, word: &[u8]) -> Result<Option<Text>, OutOfMemory>
 }
 
 /// What one word can stand for.
-pub trait Word: Sized {
+pub trait Word {
+    /// The type of what a word stands for, which mostly is the type that has the words.
+    type Value: Drop;
+
     /// What a word stands for, if it does.
-    ghost of: { List ℕ → Option Self };
+    ghost of: { List ℕ → Option Self.Value };
 
     /// Reads a whole word.
-    fn read(alloc: Global, word: &[u8]) -> Result<Option<Self>, OutOfMemory>
+    fn read(alloc: Global, word: &[u8]) -> Result<Option<Self::Value>, OutOfMemory>
         ensures { IfOk result (λ o. o ≡ of word.now) };
 }
 
 /// A space, a word that stands for something, and what follows the word.
 #[tactic(auto, unfolding(crate::specs::Words::read_at))]
-pub fn read_at<T: Word + Drop>(
+pub fn read_at<T: Word>(
     alloc: Global,
     bytes: &[u8],
-) -> Result<Option<(T, &[u8])>, OutOfMemory>
+) -> Result<Option<(T::Value, &[u8])>, OutOfMemory>
     ensures { IfOk result (λ o. option_map (λ t. (t.0, t.1.now)) o ≡ read_at T.of bytes.now) }
 {
     let Some((word, rest)) = word_at(bytes) else {
@@ -234,14 +237,14 @@ pub fn read_at<T: Word + Drop>(
 
 /// The pieces of a word, each of which stands for something.
 #[tactic(auto, using(crate::proofs::Split::pieces_cut, crate::proofs::Split::pieces_whole, crate::proofs::Split::put_step))]
-pub fn read_each<T: Word + Drop>(
+pub fn read_each<T: Word>(
     alloc: Global,
     byte: u8,
     word: &[u8],
-) -> Result<Option<Items<T>>, OutOfMemory>
+) -> Result<Option<Items<T::Value>>, OutOfMemory>
     ensures { IfOk result (λ o. o ≡ read_each T.of (pieces byte word.now)) }
 {
-    let mut items: Items<T> = Items::new(alloc);
+    let mut items: Items<T::Value> = Items::new(alloc);
     let mut left = word;
     'pieces: while let Some((piece, rest)) = cut(byte, left) {
         match T::read(alloc, piece)? {
@@ -260,15 +263,15 @@ pub fn read_each<T: Word + Drop>(
 }
 
 /// A list joined by a byte, or a dash for the empty one.
-pub fn list_of<T: Word + Drop>(
+pub fn list_of<T: Word>(
     alloc: Global,
     byte: u8,
     word: &[u8],
-) -> Result<Option<Items<T>>, OutOfMemory>
+) -> Result<Option<Items<T::Value>>, OutOfMemory>
     ensures { IfOk result (λ o. o ≡ list_of byte T.of word.now) }
 {
     if is(word, "-") {
         return Ok(Some(Items::new(alloc)));
     }
-    read_each(alloc, byte, word)
+    read_each::<T>(alloc, byte, word)
 }
