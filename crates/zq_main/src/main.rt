@@ -1,4 +1,4 @@
-//! The command: replays a script from standard input to standard output.
+//! The command: replays a script from standard input to standard output, or makes a load.
 #![tactic(auto)]
 
 ghost use Rattle.std.specs.Prelude.{◌≡◌};
@@ -10,14 +10,17 @@ use std::rt::Env;
 use std::{env, io};
 use zq_key::text::Text;
 use zq_script::run::{Status, run};
-use zq_words::streams::{ReadSource, WriteSink};
+use zq_streams::streams::{ReadSource, WriteSink};
 
 const VERSION: &str = "zq 0.1.0, a port of zenoh 1.10.2's query gateway";
 
 const USAGE: &str = "usage: zq replay < SCRIPT
+       zq load N
 
-Reads a script from standard input, one call a line, and prints what a gateway
-answers to each call and the messages that it hands out.
+zq replay reads a script from standard input, one call a line, and prints what
+a gateway answers to each call and the messages that it hands out.
+zq load N makes the calls of N queries, 1 to 10000, and prints how many
+messages they hand out.
 
   zq --help       prints this text
   zq --version    prints the version
@@ -77,7 +80,7 @@ fn sentence(status: Status) -> &'static str {
     }
 }
 
-fn replay(rt: &HostRuntime, alloc: Global, words: &[Text]) -> ExitCode {
+fn run_words(rt: &HostRuntime, alloc: Global, words: &[Text]) -> ExitCode {
     let mut source = ReadSource::new(rt.stdin());
     let mut sink = WriteSink::new(rt.stdout());
     let status = run(alloc, words, &mut source, &mut sink);
@@ -104,7 +107,7 @@ fn main(rt: HostRuntime) -> ExitCode {
         Ok(words) => match read_words(words.as_slice()) {
             Asked::Help => say(&rt, USAGE),
             Asked::Version => say(&rt, VERSION),
-            Asked::Run => replay(&rt, alloc, words.as_slice()),
+            Asked::Run => run_words(&rt, alloc, words.as_slice()),
         },
         Err(status) => ended(&rt, status),
     }

@@ -12,15 +12,14 @@ use Rattle.zq_machine.specs.Calls.{is_sent, is_built}
 use Rattle.zq_machine.specs.Configs.{Settings}
 use Rattle.zq_words.specs.Words.{◌>>=◌}
 use Rattle.zq_words.specs.Fits.{IsBytes}
-use Rattle.zq_script.specs.Fits.{FitsCall}
-use Rattle.zq_script.specs.Lines.{call_of}
+use Rattle.zq_lines.specs.Fits.{FitsCall}
+use Rattle.zq_lines.specs.Lines.{call_of}
 use Rattle.zq_script.specs.Head.{Head, start_of, config_of, start_at, no_counts, ended, configured, headed, with_start, with_config, head_of}
-use Rattle.zq_script.specs.Script.{Parts, lines_of, onto, new_part, with_line, unless_sent, script_call, parts_from, onto_parts, made, with_parts, script_of, Gives, AllBuilt, Holds}
-use Rattle.zq_script.specs.Running.{first_part}
+use Rattle.zq_script.specs.Script.{Parts, lines_of, onto, new_part, with_line, unless_sent, script_call, parts_from, onto_parts, made, with_parts, script_of, Gives, Holds}
 use Rattle.zq_script.specs.declared.refusal.ScriptRefusal.{ScriptRefusal}
 use Rattle.zq_script.specs.declared.script.Script.{Script}
-use Rattle.zq_script.proofs.Given.{Given, no_one, one, bind, either, any_given}
-use Rattle.zq_script.proofs.GivenLines.{call_given}
+use Rattle.zq_lines.proofs.Given.{Given, no_one, one, bind, either, any_given}
+use Rattle.zq_lines.proofs.GivenLines.{call_given}
 
 -- the call of a line
 call_built : (config : Settings) (shared : Bool) (line : List ℕ) → Given (λ c. is_built config c ≡ true) (script_call config shared line)
@@ -121,7 +120,3 @@ script_holds workers bytes s a e = subst HoldsScript e (with_holds workers (head
 pub given_holds : (workers : ℕ) (bytes : List ℕ) (r : Result Script ScriptRefusal) → IsBytes bytes → Gives r (script_of workers (lines_of bytes)) → IfOk r Holds
 given_holds workers bytes (Ok s) a g = script_holds workers bytes s a g
 given_holds workers bytes (Err e) a g = tt
-
-pub first_built : (config : Settings) (parts : List (List Call)) → AllByRecursion (AllBuilt config) parts → AllBuilt config (first_part parts)
-first_built config [] a = tt
-first_built config (calls ∷ parts) a = a.0

@@ -1,10 +1,9 @@
-pub mod LinesBack
 pub mod Sameness
 pub mod Parts
 pub mod Built
-pub mod Given
-pub mod GivenLines
 pub mod Promised
+pub mod Printed
+pub mod Loaded
 pub mod Completed
 pub mod StepsBack
 pub mod Shown

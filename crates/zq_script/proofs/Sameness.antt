@@ -1,5 +1,5 @@
 -- The tests of sameness decide equality.
-use Rattle.std.proofs.Common.{◌≡◌, ℕ, Bool, true, false, List, Option, Some, None, refl, ap, ◌∙◌}
+use Rattle.std.proofs.Common.{◌≡◌, ℕ, Bool, true, false, List, [], Option, Some, None, refl, ap, ◌∙◌}
 use Rattle.zq_key.specs.declared.message.Zid.{Zid}
 use Rattle.zq_key.specs.declared.message.Mapping.{Mapping}
 use Rattle.zq_key.specs.declared.message.Mapping.TheVariants as mapping
@@ -22,6 +22,7 @@ use Rattle.std.specs.Bool.{Decides}
 use Rattle.std.specs.Option.{option_eq}
 use Rattle.std.proofs.lemmas.Bool.Decides.{Decides-and, Decides-like, Decides-eqb}
 use Rattle.std.proofs.lemmas.Slice.Eq.{bytes_eq-Decides}
+use Rattle.zq_script.specs.Steps.{leaving_words}
 use Rattle.zq_script.specs.Same.{same_number, same_flag, same_zid, same_mapping, same_target, same_reply, same_wire, same_info, same_request, same_response, same_final, same_interest, same_body, same_declare, same_message}
 
 -- two that differ in kind
@@ -224,3 +225,7 @@ message_same (message.ResponseFinal i) (message.Declare j) = other (λ e. cc)
 message_same (message.ResponseFinal i) (message.Request j) = other (λ e. cc)
 message_same (message.ResponseFinal i) (message.Response j) = other (λ e. cc)
 message_same (message.ResponseFinal i) (message.ResponseFinal j) = Decides-like _ (λ e. ap message.ResponseFinal e) (λ e. cc) (final_same i j)
+
+-- what leaves as it was handed says nothing more
+pub says_nothing : (m : Message) → leaving_words m (Some m) ≡ []
+says_nothing m = rw ((message_same m m).1 refl) refl

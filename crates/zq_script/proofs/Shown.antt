@@ -20,12 +20,5 @@ written_shows names (text_request r ∷ ms) = ((tt, tt), written_shows names ms)
 written_shows names (text_reply r ∷ ms) = ((tt, tt), written_shows names ms)
 written_shows names (text_final f ∷ ms) = ((tt, tt), written_shows names ms)
 
-step_shows : (s : State) (c : Call) → ShowsStep (step s c)
+pub step_shows : (s : State) (c : Call) → ShowsStep (step s c)
 step_shows s c = subst ShowsStep (sym (answers_plainly s (read s c))) (written_shows s.names (decide s.core (read s c)).messages)
-
-from_show : (s : State) (calls : List Call) → AllByRecursion ShowsStep (steps_from s calls)
-from_show s [] = tt
-from_show s (c ∷ calls) = (step_shows s c, from_show (after s c) calls)
-
-pub steps_show : (config : Settings) (calls : List Call) → AllByRecursion ShowsStep (steps config calls)
-steps_show config calls = from_show (opening_state config) calls

@@ -1,5 +1,5 @@
 -- The lines before the calls: the configuration, and the counters.
-use Rattle.std.specs.Prelude.{ℕ, ◌==◌, List, [], ◌∷◌, ◌++◌, Option, Some, None, Result, Ok, Err, if◌then◌else◌, codes, take, drop, map}
+use Rattle.std.specs.Prelude.{ℕ, ◌==◌, List, [], ◌∷◌, ◌++◌, Option, Some, None, Result, Ok, Err, if◌then◌else◌, codes, take, drop}
 use Rattle.std.specs.Str.{bytes_eq}
 use Rattle.zq_key.specs.declared.message.Zid.{Zid}
 use Rattle.zq_key.specs.declared.message.Mode.{Mode}
@@ -12,7 +12,6 @@ use Rattle.zq_machine.specs.declared.config.BadConfig.{BadConfig}
 use Rattle.zq_machine.specs.Configs.{Settings, bad_config}
 use Rattle.zq_words.specs.Words.{◌>>=◌, len_to, cut, pieces, number, read_at, read_each, at_end}
 use Rattle.zq_words.specs.Values.{most_32, most_64, zid_of, mode_of, behind, region_of}
-use Rattle.zq_script.specs.declared.head.EntryWord.{EntryWord}
 
 -- a line and a newline
 abbrev pub ended : List ℕ → List ℕ
@@ -44,18 +43,10 @@ or_south word None = south_entry word
 unfoldable pub entry_of : List ℕ → Option Entry
 entry_of word = if bytes_eq word (codes "local") then Some entry.Local else or_south word (north_of word)
 
--- an entry that one word says
-abbrev pub entry_word_of : List ℕ → Option EntryWord
-entry_word_of word = entry_of word >>= (λ e. Some (record { 0 = e }))
-
--- the entry that the word says
-abbrev pub entry_in : EntryWord → Entry
-entry_in word = word.0
-
 -- one or more entries up to the end of the line
 abbrev pub entries_of : List ℕ → Option (List Entry)
 entries_of [] = None
-entries_of (b ∷ bytes) = if b == 32 then read_each entry_word_of (pieces 32 bytes) >>= (λ words. Some (map entry_in words)) else None
+entries_of (b ∷ bytes) = if b == 32 then read_each entry_of (pieces 32 bytes) else None
 
 -- the five counters
 unfoldable pub counters_of : List ℕ → Option Counters

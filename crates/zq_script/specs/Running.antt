@@ -1,24 +1,48 @@
 -- What a run reads and writes.
-use Rattle.std.specs.Prelude.{◌≡◌, ℕ, ◌<◌, ◌≤◌, Bool, true, false, List, [], ◌∷◌, ◌++◌, Option, Some, Result, Ok, Err, codes, length}
+use Rattle.std.specs.Prelude.{◌≡◌, ℕ, ◌<◌, ◌≤◌, Bool, true, false, List, [], ◌∷◌, ◌++◌, Option, Some, None, Result, Ok, Err, ◌==◌, if◌then◌else◌, codes, length}
 use Rattle.std.specs.Str.{bytes_eq}
 use Rattle.std.specs.Fmt.{decimal}
 use Rattle.std.specs.Io.KnownBytes.{Appends}
 use Rattle.zq_machine.specs.declared.call.Call.{Call}
 use Rattle.zq_machine.specs.Machine.{steps}
-use Rattle.zq_words.specs.declared.transfer.TheConstants.{LIMIT}
-use Rattle.zq_words.specs.Streams.{AppendsPrefix}
+use Rattle.zq_streams.specs.declared.transfer.TheConstants.{LIMIT}
+use Rattle.zq_streams.specs.Streams.{AppendsPrefix}
+use Rattle.zq_words.specs.Words.{◌>>=◌, number}
+use Rattle.zq_script.specs.Load.{load_line}
 use Rattle.zq_script.specs.Script.{lines_of, script_of}
 use Rattle.zq_script.specs.Steps.{steps_words}
 use Rattle.zq_script.specs.StepsRead.{steps_of}
 use Rattle.zq_script.specs.declared.script.Script.{Script}
+use Rattle.zq_script.specs.declared.run.Command.{Command}
+use Rattle.zq_script.specs.declared.run.Command.TheVariants as command
 use Rattle.zq_script.specs.declared.run.Status.{Status}
 use Rattle.zq_script.specs.declared.run.Status.TheVariants as status
 
--- the words that a run takes: `replay` alone
-abbrev pub is_command : List (List ℕ) → Bool
-is_command [] = false
-is_command (word ∷ []) = bytes_eq word (codes "replay")
-is_command (word ∷ other ∷ words) = false
+-- the number of queries of a load, from 1 to 10000
+unfoldable pub amount_of : List ℕ → Option ℕ
+amount_of word = do
+  amount ← number 10000 word
+  if amount == 0 then None else Some amount
+
+-- what the words of a run ask for: `replay`, or `load N`
+abbrev pub command_of : List (List ℕ) → Option Command
+command_of [] = None
+command_of (word ∷ []) = if bytes_eq word (codes "replay") then Some command.Replay else None
+command_of (word ∷ amount ∷ []) = if bytes_eq word (codes "load") then amount_of amount >>= (λ n. Some (command.Load n)) else None
+command_of (word ∷ amount ∷ other ∷ words) = None
+
+-- the words are `replay`
+abbrev pub IsReplay : List (List ℕ) → Type 0
+IsReplay words = command_of words ≡ Some command.Replay
+
+-- how many queries a command makes, if it is a load
+abbrev pub amount_in : Command → Option ℕ
+amount_in command.Replay = None
+amount_in (command.Load n) = Some n
+
+-- how many queries the words ask for, if they ask for a load
+abbrev pub load_of : List (List ℕ) → Option ℕ
+load_of words = command_of words >>= amount_in
 
 -- the calls before the first line `worker`
 abbrev pub first_part : List (List Call) → List Call
@@ -73,6 +97,17 @@ Leaves status.WriteFault input old new = (length input ≤ LIMIT) × AppendsPref
 Leaves status.Memory input old new = Unit {0}
 Leaves status.TooLong input old new = LIMIT < length input
 Leaves status.LinkFault input old new = ⊥
+
+-- a load of so many queries that ended so, and what the sink had and has taken
+abbrev pub LeavesLoad : Status → ℕ → Option (List ℕ) → Option (List ℕ) → Type 0
+LeavesLoad status.Done amount old new = Appends old new (load_line amount)
+LeavesLoad status.Words amount old new = ⊥
+LeavesLoad status.Script amount old new = ⊥
+LeavesLoad status.ReadFault amount old new = ⊥
+LeavesLoad status.WriteFault amount old new = AppendsPrefix old new (load_line amount)
+LeavesLoad status.Memory amount old new = Unit {0}
+LeavesLoad status.TooLong amount old new = ⊥
+LeavesLoad status.LinkFault amount old new = ⊥
 
 -- only these ends come after a write
 abbrev pub wrote : Status → Bool

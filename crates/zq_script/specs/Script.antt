@@ -6,8 +6,8 @@ use Rattle.zq_machine.specs.declared.call.Call.{Call}
 use Rattle.zq_machine.specs.Calls.{is_sent, is_built}
 use Rattle.zq_machine.specs.Configs.{Settings}
 use Rattle.zq_words.specs.Words.{◌>>=◌}
-use Rattle.zq_script.specs.Fits.{FitsCall}
-use Rattle.zq_script.specs.Lines.{call_of}
+use Rattle.zq_lines.specs.Fits.{FitsCall}
+use Rattle.zq_lines.specs.Lines.{call_of}
 use Rattle.zq_script.specs.Head.{Head, head_of}
 use Rattle.zq_script.specs.declared.script.Script.{Script}
 use Rattle.zq_script.specs.declared.refusal.ScriptRefusal.{ScriptRefusal}

@@ -13,7 +13,7 @@ use Rattle.zq_machine.specs.Handing.{Handed}
 use Rattle.zq_machine.specs.declared.call.Step.{Step}
 use Rattle.zq_words.specs.Values.{most_8, most_16, most_32, most_64}
 use Rattle.zq_words.specs.Fits.{FitsFace, FitsWire, FitsOption}
-use Rattle.zq_script.specs.Fits.{FitsRequest, FitsResponse}
+use Rattle.zq_lines.specs.Fits.{FitsRequest, FitsResponse}
 
 -- a final
 pub record FitsFinal (f : ResponseFinal) : Type 0 where

@@ -2,12 +2,14 @@
 //! it a number is read, and no byte of a text or of a payload is looked at.
 ghost use Rattle.std.specs.Prelude.{◌≤◌};
 ghost use Rattle.std.specs.List.{AllByRecursion};
+ghost use Rattle.std.specs.Option.{option_copied};
 ghost use Rattle.zq_words.specs.Fits.{IsBytes, IsText, FitsWire, FitsOption, FitsZid};
 ghost use Rattle.zq_words.specs.Values.{most_8, most_32, most_64};
-ghost use Rattle.zq_script.specs.Fits.{FitsBody, FitsRequest, FitsResponse};
+ghost use Rattle.zq_lines.specs.Fits.{FitsBody, FitsRequest, FitsResponse};
 ghost use Rattle.zq_script.specs.StepsFit.{FitsFinal, FitsInterest, FitsDeclareBody, FitsDeclare, FitsMessage, FitsOutcome, FitsHanded, FitsStep, ShowsDeclare, ShowsMessage, ShowsHanded, ShowsStep};
 
-use zq_machine::call::{Handed, Outcome, Step};
+use zq_machine::call::{Outcome, Step};
+use zq_machine::handed::Handed;
 use zq_key::message::{
     Declare, DeclareBody, Interest, Message, ReplyBody, Request, Response, ResponseFinal, WireExpr,
     Zid,
@@ -145,8 +147,8 @@ pub fn message_fits(message: &Message)
     }
 }
 
-fn leaving_fits(leaves: &Option<Message>)
-    ensures { FitsOption ShowsMessage leaves.now → FitsOption FitsMessage leaves.now }
+fn leaving_fits(leaves: Option<&Message>)
+    ensures { FitsOption ShowsMessage (option_copied leaves.entry) → FitsOption FitsMessage (option_copied leaves.entry) }
 {
     if let Some(message) = leaves {
         message_fits(message);
@@ -156,11 +158,11 @@ fn leaving_fits(leaves: &Option<Message>)
 fn handed_fits(handed: &Handed)
     ensures { ShowsHanded handed.now → FitsHanded handed.now }
 {
-    let _to = handed.to.0;
-    number_fits(handed.number);
-    number_fits(handed.reply);
-    message_fits(&handed.message);
-    leaving_fits(&handed.leaves);
+    let _to = handed.to().0;
+    number_fits(handed.number());
+    number_fits(handed.reply());
+    message_fits(handed.message());
+    leaving_fits(handed.leaves());
 }
 
 fn outcome_fits(outcome: Outcome)
@@ -175,7 +177,8 @@ fn outcome_fits(outcome: Outcome)
     }
 }
 
-fn step_fits(step: &Step)
+/// A step fits where its lines show all of it.
+pub fn step_fits(step: &Step)
     ensures { ShowsStep step.now → FitsStep step.now }
 {
     outcome_fits(step.outcome);

@@ -1,14 +1,13 @@
 //! The lines before the calls: the configuration, and the counters.
-ghost use Rattle.std.specs.Prelude.{◌≡◌, ◌≤◌, ◌+◌, ◌++◌, IfOk, IfSome, MatchOption, MatchResult, OnOk, Ok, length, map};
+ghost use Rattle.std.specs.Prelude.{◌≡◌, ◌≤◌, ◌+◌, ◌++◌, IfOk, IfSome, MatchOption, MatchResult, OnOk, Ok, length};
 ghost use Rattle.std.specs.Option.{option_map};
 ghost use Rattle.zq_script.specs.Script.{lines_of, Gives, Refuses};
-ghost use Rattle.zq_script.specs.Head.{ended, entry_of, entry_word_of, entry_in, north_of, south_entry, entries_of, counters_of, after_name, start_of, config_of, start_at, no_counts, configured, head_of};
+ghost use Rattle.zq_script.specs.Head.{ended, entry_of, north_of, south_entry, entries_of, counters_of, after_name, start_of, config_of, start_at, no_counts, configured, head_of};
 
 use crate::refusal::ScriptRefusal;
 use crate::script::next_line;
 use std::alloc::Global;
 use zq_machine::config::{Config, ConfigRefusal, Counters, Entry, EntryList};
-use zq_key::items::Items;
 use zq_key::memory::OutOfMemory;
 use zq_key::message::{Mode, Region, Zid};
 use zq_key::text::Bytes;
@@ -23,31 +22,23 @@ const NO_COUNTS: Counters = Counters {
     request_ids: 0,
 };
 
-/// An entry of the configuration, as one word says it.
-#[derive(Clone, Copy, Debug, PartialEq, Eq)]
-pub struct EntryWord(pub Entry);
+/// The word of an entry of the configuration.
+pub struct EntryOf;
 
-impl Word for EntryWord {
-    ghost of = { entry_word_of };
+impl Word for EntryOf {
+    type Value = Entry;
 
-    fn read(alloc: Global, word: &[u8]) -> Result<Option<EntryWord>, OutOfMemory> {
-        match entry_of(alloc, word)? {
-            Some(entry) => Ok(Some(EntryWord(entry))),
-            None => Ok(None),
+    ghost of = { entry_of };
+
+    #[tactic(auto, unfolding(crate::specs::Head::entry_of))]
+    fn read(alloc: Global, word: &[u8]) -> Result<Option<Entry>, OutOfMemory> {
+        if is(word, "local") {
+            return Ok(Some(Entry::Local));
         }
-    }
-}
-
-#[tactic(auto, unfolding(crate::specs::Head::entry_of))]
-fn entry_of(alloc: Global, word: &[u8]) -> Result<Option<Entry>, OutOfMemory>
-    ensures { IfOk result (λ o. o ≡ entry_of word.now) }
-{
-    if is(word, "local") {
-        return Ok(Some(Entry::Local));
-    }
-    match north_of(alloc, word)? {
-        Some(mode) => Ok(Some(Entry::North(mode))),
-        None => south_entry(alloc, word),
+        match north_of(alloc, word)? {
+            Some(mode) => Ok(Some(Entry::North(mode))),
+            None => south_entry(alloc, word),
+        }
     }
 }
 
@@ -73,17 +64,6 @@ fn south_entry(alloc: Global, word: &[u8]) -> Result<Option<Entry>, OutOfMemory>
     }
 }
 
-/// The entries that the words say.
-fn entries_in(alloc: Global, words: &[EntryWord]) -> Result<EntryList, OutOfMemory>
-    ensures { IfOk result (λ l. l ≡ map entry_in words.now) }
-{
-    let mut entries = Items::new(alloc);
-    for word in words {
-        entries.push(word.0)?;
-    }
-    Ok(entries)
-}
-
 /// One or more entries up to the end of the line.
 fn entries_of(alloc: Global, bytes: &[u8]) -> Result<Option<EntryList>, OutOfMemory>
     ensures { IfOk result (λ o. o ≡ entries_of bytes.now) }
@@ -91,10 +71,7 @@ fn entries_of(alloc: Global, bytes: &[u8]) -> Result<Option<EntryList>, OutOfMem
     let [b' ', rest @ ..] = bytes else {
         return Ok(None);
     };
-    match read_each::<EntryWord>(alloc, b' ', rest)? {
-        Some(words) => Ok(Some(entries_in(alloc, words.as_slice())?)),
-        None => Ok(None),
-    }
+    read_each::<EntryOf>(alloc, b' ', rest)
 }
 
 #[tactic(auto, unfolding(crate::specs::Head::counters_of))]

@@ -1,22 +1,23 @@
 //! Scripts of calls, the prints of steps, and the call that runs a script.
 //!
-//! - `lines`: which call a line says.
-//! - `calls`: how a call is written as a line, which reads back as that call.
 //! - `fit`: that what lies in memory fits the fields of a print.
 //! - `head`: the lines before the calls.
 //! - `script`: a whole script: its head, and its calls in parts.
 //! - `refusal`: why bytes are no script.
 //! - `same`: whether what leaves is what was handed.
 //! - `steps`: how messages and steps are printed, which read back as those.
+//! - `printing`: the print of a script, made while its lines are read.
+//! - `load`: the generated load, and what is counted of it.
 //! - `run`: reads a script from a source, and gives the print of its steps to a sink.
 //!
-//! Words and streams stand in `zq_words`; what users of scripts need of them is passed on here.
+//! Words stand in `zq_words`, streams in `zq_streams`, and the lines of calls in `zq_lines`; what users
+//! of scripts need of them is passed on here.
 #![tactic(auto)]
 
-pub mod calls;
 mod fit;
 mod head;
-pub mod lines;
+mod load;
+mod printing;
 pub mod refusal;
 #[cfg(test)]
 mod rows;
@@ -27,7 +28,8 @@ pub mod steps;
 #[cfg(test)]
 mod tests;
 
-pub use zq_words::stored::{MemorySink, MemorySource, SureSink, SureSource};
-pub use zq_words::streams::{Failed, ReadSource, Sink, Source, WriteSink};
-pub use zq_words::transfer::{LIMIT, ReadRefusal, WriteFault, read_all, write_all};
+pub use zq_lines::calls::print_call;
+pub use zq_streams::stored::{MemorySink, MemorySource, SureSink, SureSource};
+pub use zq_streams::streams::{Failed, ReadSource, Sink, Source, WriteSink};
+pub use zq_streams::transfer::{LIMIT, ReadRefusal, WriteFault, read_all, write_all};
 pub use zq_words::words::{print_word, read_word};

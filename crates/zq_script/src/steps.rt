@@ -1,37 +1,39 @@
 //! How messages and steps are printed.
-ghost use Rattle.std.specs.Prelude.{◌≡◌, ◌++◌, ◌∷◌, [], IfOk, OnOk, Some, string_bytes};
+ghost use Rattle.std.specs.Prelude.{◌≡◌, ◌++◌, ◌∷◌, [], IfOk, OnOk, Some};
 ghost use Rattle.std.specs.Fmt.{decimal};
 ghost use Rattle.std.specs.List.{AllByRecursion};
+ghost use Rattle.zq_machine.specs.Handing.{left};
 ghost use Rattle.zq_words.specs.Words.{field, option_word};
 ghost use Rattle.zq_script.specs.Steps.{request_words, response_words, interest_words, declare_words, message_words, refusal_name, outcome_words, leaving_words, handed_words, step_words, steps_words};
 ghost use Rattle.zq_script.specs.StepsRead.{message_of, steps_of};
 ghost use Rattle.zq_script.specs.StepsFit.{ShowsMessage, ShowsStep};
 
-use crate::calls::{push_body, push_info};
 use crate::fit::{message_fits, steps_fit};
 use crate::same::same_message;
 use std::alloc::{AllocError, Global};
-use std::fmt::Write;
-use zq_machine::call::{Handed, Outcome, Refusal, Step};
+use zq_machine::call::{Outcome, Refusal, Step};
+use zq_machine::handed::{Handed, Leaves};
 use zq_key::memory::OutOfMemory;
 use zq_key::message::{Declare, DeclareBody, Interest, Message, Request, Response};
 use zq_key::text::Bytes;
+use zq_lines::calls::{push_body, push_info};
 use zq_words::show::{Shown, push_field, push_flag};
+use zq_words::words::{push_number, push_text};
 
 /// Writes the id of an interest, or a dash.
-fn push_id(out: &mut String, id: Option<u32>) -> Result<(), AllocError>
-    ensures { OnOk result (string_bytes out.new ≡ string_bytes out.old ++ field (option_word decimal id)) }
+fn push_id(out: &mut Vec<u8>, id: Option<u32>) -> Result<(), AllocError>
+    ensures { OnOk result (out.new.items ≡ out.old.items ++ field (option_word decimal id)) }
 {
     match id {
-        Some(id) => write!(out, " {id}"),
-        None => write!(out, " -"),
+        Some(id) => push_field(out, &id),
+        None => push_text(out, " -"),
     }
 }
 
-fn push_request(out: &mut String, request: &Request) -> Result<(), AllocError>
-    ensures { OnOk result (string_bytes out.new ≡ string_bytes out.old ++ request_words request.now) }
+fn push_request(out: &mut Vec<u8>, request: &Request) -> Result<(), AllocError>
+    ensures { OnOk result (out.new.items ≡ out.old.items ++ request_words request.now) }
 {
-    write!(out, "request")?;
+    push_text(out, "request")?;
     push_field(out, &request.id)?;
     push_field(out, &request.wire)?;
     push_field(out, &request.target)?;
@@ -41,10 +43,10 @@ fn push_request(out: &mut String, request: &Request) -> Result<(), AllocError>
     push_field(out, &request.payload)
 }
 
-fn push_response(out: &mut String, response: &Response) -> Result<(), AllocError>
-    ensures { OnOk result (string_bytes out.new ≡ string_bytes out.old ++ response_words response.now) }
+fn push_response(out: &mut Vec<u8>, response: &Response) -> Result<(), AllocError>
+    ensures { OnOk result (out.new.items ≡ out.old.items ++ response_words response.now) }
 {
-    write!(out, "response")?;
+    push_text(out, "response")?;
     push_field(out, &response.rid)?;
     push_field(out, &response.wire)?;
     push_field(out, &response.qos)?;
@@ -52,30 +54,30 @@ fn push_response(out: &mut String, response: &Response) -> Result<(), AllocError
     push_field(out, &response.responder)
 }
 
-fn push_interest(out: &mut String, interest: &Interest) -> Result<(), AllocError>
-    ensures { OnOk result (string_bytes out.new ≡ string_bytes out.old ++ interest_words interest.now) }
+fn push_interest(out: &mut Vec<u8>, interest: &Interest) -> Result<(), AllocError>
+    ensures { OnOk result (out.new.items ≡ out.old.items ++ interest_words interest.now) }
 {
-    write!(out, "interest")?;
+    push_text(out, "interest")?;
     push_field(out, &interest.id)?;
     push_field(out, &interest.wire)?;
     push_flag(out, "k", "n", interest.keys)
 }
 
-fn push_declare(out: &mut String, declare: &Declare) -> Result<(), AllocError>
-    ensures { OnOk result (string_bytes out.new ≡ string_bytes out.old ++ declare_words declare.now.interest declare.now.node declare.now.body) }
+fn push_declare(out: &mut Vec<u8>, declare: &Declare) -> Result<(), AllocError>
+    ensures { OnOk result (out.new.items ≡ out.old.items ++ declare_words declare.now.interest declare.now.node declare.now.body) }
 {
     match &declare.body {
         DeclareBody::DeclareKeyExpr { id, wire } => {
-            write!(out, "key")?;
+            push_text(out, "key")?;
             push_field(out, id)?;
             push_field(out, wire)
         }
         DeclareBody::UndeclareKeyExpr { id } => {
-            write!(out, "unkey")?;
+            push_text(out, "unkey")?;
             push_field(out, id)
         }
         DeclareBody::DeclareQueryable { id, wire, info } => {
-            write!(out, "queryable")?;
+            push_text(out, "queryable")?;
             push_field(out, id)?;
             push_field(out, wire)?;
             push_info(out, info)?;
@@ -83,34 +85,34 @@ fn push_declare(out: &mut String, declare: &Declare) -> Result<(), AllocError>
             push_id(out, declare.interest)
         }
         DeclareBody::UndeclareQueryable { id, wire } => {
-            write!(out, "unqueryable")?;
+            push_text(out, "unqueryable")?;
             push_field(out, id)?;
             push_field(out, wire)?;
             push_field(out, &declare.node)
         }
         DeclareBody::DeclareFinal => {
-            write!(out, "declfinal")?;
+            push_text(out, "declfinal")?;
             push_id(out, declare.interest)
         }
     }
 }
 
 /// Writes the words of a message.
-fn push_message(out: &mut String, message: &Message) -> Result<(), AllocError>
-    ensures { OnOk result (string_bytes out.new ≡ string_bytes out.old ++ message_words message.now) }
+fn push_message(out: &mut Vec<u8>, message: &Message) -> Result<(), AllocError>
+    ensures { OnOk result (out.new.items ≡ out.old.items ++ message_words message.now) }
 {
     match message {
         Message::Request(request) => push_request(out, request),
         Message::Response(response) => push_response(out, response),
         Message::ResponseFinal(last) => {
-            write!(out, "final")?;
+            push_text(out, "final")?;
             push_field(out, &last.rid)?;
             push_field(out, &last.qos)
         }
         Message::Declare(declare) => push_declare(out, declare),
         Message::Interest(interest) => push_interest(out, interest),
         Message::InterestFinal(id) => {
-            write!(out, "uninterest")?;
+            push_text(out, "uninterest")?;
             push_field(out, id)
         }
     }
@@ -123,9 +125,9 @@ pub fn print_message(alloc: Global, message: &Message) -> Result<Bytes, OutOfMem
     ensures back { IfOk result (λ b. ShowsMessage message.now → message_of b ≡ Some message.now) }
 {
     message_fits(message);
-    let mut out = String::new(alloc);
+    let mut out = Vec::new(alloc);
     push_message(&mut out, message)?;
-    Ok(Bytes::from_vec(out.into_bytes()))
+    Ok(Bytes::from_vec(out))
 }
 
 fn refusal_name(refusal: Refusal) -> &'static str
@@ -147,58 +149,74 @@ fn refusal_name(refusal: Refusal) -> &'static str
     }
 }
 
-fn push_outcome(out: &mut String, outcome: &Outcome) -> Result<(), AllocError>
-    ensures { OnOk result (string_bytes out.new ≡ string_bytes out.old ++ outcome_words outcome.now) }
+fn push_outcome(out: &mut Vec<u8>, outcome: &Outcome) -> Result<(), AllocError>
+    ensures { OnOk result (out.new.items ≡ out.old.items ++ outcome_words outcome.now) }
 {
     match outcome {
-        Outcome::Opened(face) => write!(out, "opened {}", face.0),
-        Outcome::Asked(number) => write!(out, "asked {number}"),
+        Outcome::Opened(face) => {
+            push_text(out, "opened ")?;
+            push_number(out, face.0)
+        }
+        Outcome::Asked(number) => {
+            push_text(out, "asked ")?;
+            push_number(out, *number)
+        }
         Outcome::Replied(reply) => {
-            write!(out, "replied ")?;
+            push_text(out, "replied ")?;
             reply.show(out)
         }
-        Outcome::Done => write!(out, "done"),
-        Outcome::Refused(refusal) => write!(out, "refused {}", refusal_name(*refusal)),
+        Outcome::Done => push_text(out, "done"),
+        Outcome::Refused(refusal) => {
+            push_text(out, "refused ")?;
+            push_text(out, refusal_name(*refusal))
+        }
     }
+}
+
+/// Writes what leaves in the place of a message, on a line of its own, where it isn't the same.
+fn push_other(out: &mut Vec<u8>, message: &Message, other: &Message) -> Result<(), AllocError>
+    ensures { OnOk result (out.new.items ≡ out.old.items ++ leaving_words message.now (Some other.now)) }
+{
+    if same_message(message, other) {
+        return Ok(());
+    }
+    push_text(out, "< ")?;
+    push_message(out, other)?;
+    push_text(out, "\n")
 }
 
 /// Writes what leaves, on a line of its own, where it isn't what was handed.
-fn push_leaving(
-    out: &mut String,
-    message: &Message,
-    leaves: &Option<Message>,
-) -> Result<(), AllocError>
-    ensures { OnOk result (string_bytes out.new ≡ string_bytes out.old ++ leaving_words message.now leaves.now) }
+#[tactic(auto, using(crate::proofs::Sameness::says_nothing))]
+fn push_leaving(out: &mut Vec<u8>, message: &Message, leaves: &Leaves) -> Result<(), AllocError>
+    ensures { OnOk result (out.new.items ≡ out.old.items ++ leaving_words message.now (left message.now leaves.now)) }
 {
-    let Some(leaving) = leaves else {
-        return write!(out, "< -\n");
-    };
-    if same_message(message, leaving) {
-        return Ok(());
+    match leaves {
+        Leaves::Same => Ok(()),
+        Leaves::Other(other) => push_other(out, message, other),
+        Leaves::Nothing => push_text(out, "< -\n"),
     }
-    write!(out, "< ")?;
-    push_message(out, leaving)?;
-    writeln!(out)
 }
 
-fn push_handed(out: &mut String, handed: &Handed) -> Result<(), AllocError>
-    ensures { OnOk result (string_bytes out.new ≡ string_bytes out.old ++ handed_words handed.now) }
+fn push_handed(out: &mut Vec<u8>, handed: &Handed) -> Result<(), AllocError>
+    ensures { OnOk result (out.new.items ≡ out.old.items ++ handed_words handed.now) }
 {
-    write!(out, "> {}", handed.to.0)?;
-    push_field(out, &handed.number)?;
-    push_field(out, &handed.reply)?;
-    write!(out, " ")?;
-    push_message(out, &handed.message)?;
-    writeln!(out)?;
-    push_leaving(out, &handed.message, &handed.leaves)
+    push_text(out, "> ")?;
+    push_number(out, handed.to().0)?;
+    push_field(out, &handed.number())?;
+    push_field(out, &handed.reply())?;
+    push_text(out, " ")?;
+    push_message(out, handed.message())?;
+    push_text(out, "\n")?;
+    push_leaving(out, handed.message(), handed.leaving())
 }
 
-fn push_step(out: &mut String, step: &Step) -> Result<(), AllocError>
-    ensures { OnOk result (string_bytes out.new ≡ string_bytes out.old ++ step_words step.now) }
+/// Writes the line of an answer, and the lines of what is handed.
+pub fn push_step(out: &mut Vec<u8>, step: &Step) -> Result<(), AllocError>
+    ensures { OnOk result (out.new.items ≡ out.old.items ++ step_words step.now) }
 {
-    write!(out, "= ")?;
+    push_text(out, "= ")?;
     push_outcome(out, &step.outcome)?;
-    writeln!(out)?;
+    push_text(out, "\n")?;
     for handed in step.handed.as_slice() {
         push_handed(out, handed)?;
     }
@@ -212,9 +230,9 @@ pub fn print_steps(alloc: Global, steps: &[Step]) -> Result<Bytes, OutOfMemory>
     ensures back { IfOk result (λ b. AllByRecursion ShowsStep steps.now → steps_of b ≡ Some steps.now) }
 {
     steps_fit(steps);
-    let mut out = String::new(alloc);
+    let mut out = Vec::new(alloc);
     for step in steps {
         push_step(&mut out, step)?;
     }
-    Ok(Bytes::from_vec(out.into_bytes()))
+    Ok(Bytes::from_vec(out))
 }

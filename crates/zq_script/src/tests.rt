@@ -1,70 +1,16 @@
-use crate::calls::print_call;
-use crate::lines::call_of;
 use crate::refusal::ScriptRefusal;
 use crate::run::{Status, run};
 use crate::script::read_script;
 use crate::steps::{print_message, print_steps};
-use crate::{MemorySink, MemorySource};
+use crate::{LIMIT, MemorySink, MemorySource};
 use std::alloc::Global;
 use std::test::Fail;
-use zq_machine::call::{Handed, Outcome, Step};
+use zq_machine::call::{Outcome, Step};
+use zq_machine::handed::{Handed, Leaves};
 use zq_key::items::Items;
 use zq_key::memory::OutOfMemory;
 use zq_key::message::{FaceId, Message, ResponseFinal};
 use zq_key::text::{Bytes, Text};
-
-/// One line of each call, in the form in which it is printed.
-const LINES: [&str; 20] = [
-    "open local 10 client north -",
-    "open south:256:router 11 peer south a/b in:k in:%25 out:-",
-    "close 4294967295",
-    "key 0 65535 0:s:%C8%B2/a",
-    "unkey 0 5",
-    "queryable 0 1 5:r:- c 65535 0",
-    "unqueryable 0 1 - 0",
-    "interest 1 5 0:s:a/* n",
-    "uninterest 1 5",
-    "finalize 0 initial 1",
-    "finalize 0 key %2D 0",
-    "ask 1 7 0:s:k best 18446744073709551615 9 255 %FF 3",
-    "reply 0 1 0:s:k ok yo by:340282366920938463463374607431768211455",
-    "reply 0 1 0:s:- err -",
-    "final 0 1",
-    "sent 18446744073709551615",
-    "poll 0",
-    "gateways south:3:client 1=2,3;4=- none",
-    "network north 1,2 1/x,1;-/x,x 0,10",
-    "nodes 0 2,3",
-];
-
-#[test]
-fn calls_come_back(rt: HostRuntime) -> Result<(), Fail> {
-    let alloc = rt.alloc();
-    for line in LINES {
-        match call_of(alloc, line.as_bytes())? {
-            Some(call) => {
-                assert_eq!(rt; print_call(alloc, &call)?.as_slice(), line.as_bytes());
-            }
-            None => assert!(rt; false, "{line}"),
-        }
-    }
-    for line in [
-        "",
-        "close",
-        "close 01",
-        "close 4294967296",
-        "close  1",
-        "close 1 ",
-        "poll +1",
-        "ask 1 7 0:s:k some - 0 0 - 0",
-        "open local 10 client north - in",
-        "key 0 1 0:s",
-        "queryable 0 1 0:s:%C8 c 0 0",
-    ] {
-        assert!(rt; call_of(alloc, line.as_bytes())?.is_none(), "{line}");
-    }
-    Ok(())
-}
 
 #[test]
 fn first_bad_lines(rt: HostRuntime) -> Result<(), Fail> {
@@ -99,53 +45,58 @@ fn first_bad_lines(rt: HostRuntime) -> Result<(), Fail> {
     Ok(())
 }
 
-/// A final that leaves as it is, or doesn't leave.
-fn handed(rid: u32, leaves: Option<u32>) -> Handed {
+/// A final of which this leaves.
+fn handed(rid: u32, leaves: Leaves) -> Handed {
     let message = Message::ResponseFinal(ResponseFinal { rid, qos: 0 });
-    let leaves = match leaves {
-        Some(rid) => Some(Message::ResponseFinal(ResponseFinal { rid, qos: 0 })),
-        None => None,
-    };
-    Handed {
-        to: FaceId(1),
-        number: Some(0),
-        reply: None,
-        message,
-        leaves,
-    }
+    Handed::through(FaceId(1), Some(0), None, message, leaves)
+}
+
+/// A final that leaves in the place of another.
+fn other(rid: u32) -> Leaves {
+    Leaves::Other(Message::ResponseFinal(ResponseFinal { rid, qos: 0 }))
 }
 
 #[test]
 fn steps_are_printed(rt: HostRuntime) -> Result<(), Fail> {
     let alloc = rt.alloc();
     let mut list = Items::new(alloc);
-    for leaves in [Some(7), Some(8), None] {
-        list.push(handed(7, leaves))?;
-    }
+    list.push(handed(7, Leaves::Same))?;
+    list.push(handed(7, other(7)))?;
+    list.push(handed(7, other(8)))?;
+    list.push(handed(7, Leaves::Nothing))?;
     let step = Step {
         outcome: Outcome::Replied(None),
         handed: list,
     };
     let printed = print_steps(alloc, vec![in alloc; step]?.as_slice())?;
     let want =
-        b"= replied -\n> 1 0 - final 7 0\n> 1 0 - final 7 0\n< final 8 0\n> 1 0 - final 7 0\n< -\n";
+        b"= replied -\n> 1 0 - final 7 0\n> 1 0 - final 7 0\n> 1 0 - final 7 0\n< final 8 0\n> 1 0 - final 7 0\n< -\n";
     assert_eq!(rt; printed.as_slice(), want.as_slice());
     assert_eq!(rt;
-        print_message(alloc, &handed(7, None).message)?.as_slice(),
+        print_message(alloc, handed(7, Leaves::Same).message())?.as_slice(),
         b"final 7 0".as_slice()
     );
     Ok(())
 }
 
+fn texts(alloc: Global, words: &[&str]) -> Result<Vec<Text>, OutOfMemory> {
+    let mut texts = Vec::new(alloc);
+    for word in words {
+        texts.push(Text::new(alloc, word)?)?;
+    }
+    Ok(texts)
+}
+
+/// Runs on a source whose read and a sink whose write of this number fails.
 fn run_on(
     alloc: Global,
-    word: &str,
+    words: &[&str],
     script: &[u8],
     fails: u64,
 ) -> Result<(Status, MemorySink), OutOfMemory> {
-    let words = vec![in alloc; Text::new(alloc, word)?]?;
-    let mut source = MemorySource::new(Bytes::new(alloc, script)?, vec![in alloc; fails]?, 16);
-    let mut sink = MemorySink::new(alloc, 1000, Vec::new(alloc), 8)?;
+    let words = texts(alloc, words)?;
+    let mut source = MemorySource::new(Bytes::new(alloc, script)?, vec![in alloc; fails]?, 1 << 20);
+    let mut sink = MemorySink::new(alloc, 1000, vec![in alloc; fails]?, 8)?;
     let status = run(alloc, words.as_slice(), &mut source, &mut sink);
     Ok((status, sink))
 }
@@ -154,15 +105,50 @@ fn run_on(
 fn runs_end(rt: HostRuntime) -> Result<(), Fail> {
     let alloc = rt.alloc();
     let config = "config 1 10000 north:client local\n";
-    for (word, script, fails, status, code, print) in [
-        ("replay", "", 9, Status::Script, 2, "bad line 1\n"),
-        ("replay", config, 1, Status::ReadFault, 3, ""),
-        ("play", config, 9, Status::Words, 1, ""),
+    let late = "config 1 10000 north:client local\npoll 0\npoll 0\npoll";
+    for (words, script, fails, status, code, print) in [
+        (
+            ["replay"].as_slice(),
+            "",
+            9,
+            Status::Script,
+            2,
+            "bad line 1\n",
+        ),
+        (&["replay"], late, 9, Status::Script, 2, "bad line 4\n"),
+        (&["replay"], config, 1, Status::ReadFault, 3, ""),
+        (&["replay"], "", 1, Status::WriteFault, 4, "bad line"),
+        (&["play"], config, 9, Status::Words, 1, ""),
+        (&["load"], config, 9, Status::Words, 1, ""),
+        (&["load", "0"], config, 9, Status::Words, 1, ""),
+        (&["load", "10001"], config, 9, Status::Words, 1, ""),
+        (&["load", "01"], config, 9, Status::Words, 1, ""),
+        (&["load", "+1"], config, 9, Status::Words, 1, ""),
+        (
+            &["load", "3"],
+            config,
+            9,
+            Status::Done,
+            0,
+            "calls 24 handed 9 requests 3 responses 3 finals 3\n",
+        ),
+        (&["load", "1"], config, 0, Status::WriteFault, 4, ""),
     ] {
-        let (ended, sink) = run_on(alloc, word, script.as_bytes(), fails)?;
+        let (ended, sink) = run_on(alloc, words, script.as_bytes(), fails)?;
         assert_eq!(rt; ended, status);
         assert_eq!(rt; ended.code(), code);
         assert_eq!(rt; sink.taken(), print.as_bytes());
     }
+    Ok(())
+}
+
+#[test]
+fn long_scripts_are_refused(rt: HostRuntime) -> Result<(), Fail> {
+    let alloc = rt.alloc();
+    let bytes = vec![in alloc; b'\n'; LIMIT + 1]?;
+    let (ended, sink) = run_on(alloc, &["replay"], bytes.as_slice(), u64::MAX)?;
+    assert_eq!(rt; ended, Status::TooLong);
+    assert_eq!(rt; ended.code(), 6);
+    assert!(rt; sink.taken().is_empty());
     Ok(())
 }

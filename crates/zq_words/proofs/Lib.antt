@@ -3,4 +3,3 @@ pub mod Back
 pub mod Split
 pub mod Lists
 pub mod ValuesBack
-pub mod Transfers

@@ -16,11 +16,9 @@ use Rattle.zq_key.specs.declared.message.Region.{Region}
 use Rattle.zq_key.specs.declared.message.Region.TheVariants as region
 use Rattle.zq_key.specs.declared.message.QueryTarget.{QueryTarget}
 use Rattle.zq_key.specs.declared.message.QueryTarget.TheVariants as target
-use Rattle.zq_hat.specs.declared.types.Tree.{Tree}
-use Rattle.zq_route.specs.declared.gateways.GatewayEntry.{GatewayEntry}
 use Rattle.zq_words.specs.Words.{is_digit, number, payload_word, list_of, list_word, lacks}
-use Rattle.zq_words.specs.Values.{most_16, most_32, most_128, face_of, face_word, zid_of, zid_word, mode_of, mode_word, bound_of, bound_word, target_of, target_word, south_of, region_of, region_word, mapping_of, mapping_word, wire_of, wire_word, zids_of, zids_word, entry_of, entry_word, all_of, all_word, direction_of, direction_word, tree_of, tree_word}
-use Rattle.zq_words.specs.Fits.{FitsFace, FitsZid, FitsWire, FitsOption, FitsRegion, FitsEntry, FitsTree}
+use Rattle.zq_words.specs.Values.{most_16, most_32, most_128, face_of, face_word, zid_of, zid_word, mode_of, mode_word, bound_of, bound_word, target_of, target_word, south_of, region_of, region_word, mapping_of, mapping_word, wire_of, wire_word, zids_of, zids_word, all_of, all_word, direction_of, direction_word}
+use Rattle.zq_words.specs.Fits.{FitsFace, FitsZid, FitsWire, FitsOption, FitsRegion}
 use Rattle.zq_words.proofs.Back.{lacks_append, cut_back, Reads, number_value, decimal_lacks, decimal_some, text_back, payload_lacks, space_escaped}
 use Rattle.zq_words.proofs.Lists.{Piece, not_name, list_back, list_reads, list_lacks}
 
@@ -31,7 +29,7 @@ face_reads face f = record {
   value = rw (number_value most_32 face.0 f (omega arith)) refl;
 }
 
-zid_value : (zid : Zid) → FitsZid zid → zid_of (zid_word zid) ≡ Some zid
+pub zid_value : (zid : Zid) → FitsZid zid → zid_of (zid_word zid) ≡ Some zid
 zid_value zid f = rw (number_value most_128 zid.0 f (omega arith)) refl
 
 pub zid_reads : (zid : Zid) → FitsZid zid → Reads zid_of (zid_word zid) zid
@@ -60,10 +58,10 @@ mapping_lacks mapping.Sender = (refl, refl)
 mapping_lacks mapping.Receiver = (refl, refl)
 
 -- a byte between two words
-lacks_between : (byte other : ℕ) (u w : List ℕ) → (byte == other) ≡ false → lacks other u ≡ true → lacks other w ≡ true → lacks other (u ++ byte ∷ w) ≡ true
+pub lacks_between : (byte other : ℕ) (u w : List ℕ) → (byte == other) ≡ false → lacks other u ≡ true → lacks other w ≡ true → lacks other (u ++ byte ∷ w) ≡ true
 lacks_between byte other u w e f g = lacks_append other u (byte ∷ w) f (rw (e, g) refl)
 
-some_between : (u w : List ℕ) (byte : ℕ) → 0 < length (u ++ byte ∷ w)
+pub some_between : (u w : List ℕ) (byte : ℕ) → 0 < length (u ++ byte ∷ w)
 some_between u w byte = omega (arith, length-append {A = ℕ})
 
 wire_value : (w : WireExpr) → FitsWire w → wire_of (wire_word w) ≡ Some w
@@ -106,14 +104,14 @@ zid_pieces : (zids : List Zid) → AllByRecursion FitsZid zids → AllByRecursio
 zid_pieces [] a = tt
 zid_pieces (z ∷ zs) a = (zid_piece 44 z (decimal_lacks 44 z.0 (omega (arith, a.0)) refl) a.0, zid_pieces zs a.1)
 
-zids_apart : (byte : ℕ) (zids : List Zid) → is_digit byte ≡ false → AllByRecursion FitsZid zids → AllByRecursion (λ z. lacks byte (zid_word z) ≡ true) zids
+pub zids_apart : (byte : ℕ) (zids : List Zid) → is_digit byte ≡ false → AllByRecursion FitsZid zids → AllByRecursion (λ z. lacks byte (zid_word z) ≡ true) zids
 zids_apart byte [] e a = tt
 zids_apart byte (z ∷ zs) e a = (decimal_lacks byte z.0 (omega (arith, a.0)) e, zids_apart byte zs e a.1)
 
 pub zids_reads : (zids : List Zid) → AllByRecursion FitsZid zids → Reads zids_of (zids_word zids) zids
 zids_reads zids a = list_reads 44 zid_of zid_word zids refl refl (zid_pieces zids a)
 
-number_pieces : (most : ℕ) (ns : List ℕ) → most < 10 ^ 64 → AllByRecursion (λ n. n ≤ most) ns → AllByRecursion (Piece 44 (number most) decimal) ns
+pub number_pieces : (most : ℕ) (ns : List ℕ) → most < 10 ^ 64 → AllByRecursion (λ n. n ≤ most) ns → AllByRecursion (Piece 44 (number most) decimal) ns
 number_pieces most [] l a = tt
 number_pieces most (n ∷ ns) l a =
     let fits : n ≤ most = a.0 in
@@ -126,31 +124,6 @@ direction_back : (d : Option ℕ) → FitsOption (λ n. n ≤ most_32) d → dir
 direction_back None f = refl
 direction_back (Some n) f = rw (not_name (number most_32) (decimal n) (codes "x") n refl (number_value most_32 n f (omega arith)), number_value most_32 n f (omega arith)) refl
 
--- entries of tables
-entry_value : (e : GatewayEntry) → FitsEntry e → entry_of (entry_word e) ≡ Some e
-unfolding entry_of
-entry_value e f = rw (cut_back 61 (zid_word e.node) (zids_word e.gateways) (decimal_lacks 61 e.node.0 (omega (arith, f.node)) refl), zid_value e.node f.node, (zids_reads e.gateways f.gateways).value) refl
-
-entry_lacks : (byte : ℕ) (e : GatewayEntry) → is_digit byte ≡ false → (45 == byte) ≡ false → (44 == byte) ≡ false → (61 == byte) ≡ false → FitsEntry e → lacks byte (entry_word e) ≡ true
-entry_lacks byte e d h k s f =
-    lacks_between 61 byte (zid_word e.node) _ s (decimal_lacks byte e.node.0 (omega (arith, f.node)) d) (list_lacks byte 44 zid_word e.gateways h k (zids_apart byte e.gateways d f.gateways))
-
-entry_pieces : (es : List GatewayEntry) → AllByRecursion FitsEntry es → AllByRecursion (Piece 59 entry_of entry_word) es
-entry_pieces [] a = tt
-entry_pieces (e ∷ es) a = (
-  record {
-    apart = entry_lacks 59 e refl refl refl refl a.0;
-    whole = entry_lacks 32 e refl refl refl refl a.0;
-    some = some_between (zid_word e.node) _ 61;
-    value = entry_value e a.0;
-  },
-  entry_pieces es a.1,
-)
-
-pub entries_reads : (es : List GatewayEntry) → AllByRecursion FitsEntry es → Reads (list_of 59 entry_of) (list_word 59 entry_word es) es
-unfolding entry_of
-entries_reads es a = list_reads 59 entry_of entry_word es refl refl (entry_pieces es a)
-
 direction_lacks : (byte : ℕ) (d : Option ℕ) → is_digit byte ≡ false → (120 == byte) ≡ false → FitsOption (λ n. n ≤ most_32) d → lacks byte (direction_word d) ≡ true
 direction_lacks byte None e x f = rw x refl
 direction_lacks byte (Some n) e x f = decimal_lacks byte n (omega arith) e
@@ -159,7 +132,7 @@ direction_some : (d : Option ℕ) → FitsOption (λ n. n ≤ most_32) d → 0 <
 direction_some None f = omega arith
 direction_some (Some n) f = decimal_some n (omega arith)
 
-direction_pieces : (ds : List (Option ℕ)) → AllByRecursion (FitsOption (λ n. n ≤ most_32)) ds → AllByRecursion (Piece 44 direction_of direction_word) ds
+pub direction_pieces : (ds : List (Option ℕ)) → AllByRecursion (FitsOption (λ n. n ≤ most_32)) ds → AllByRecursion (Piece 44 direction_of direction_word) ds
 direction_pieces [] a = tt
 direction_pieces (d ∷ ds) a = (
   record {
@@ -171,44 +144,13 @@ direction_pieces (d ∷ ds) a = (
   direction_pieces ds a.1,
 )
 
-directions_apart : (byte : ℕ) (ds : List (Option ℕ)) → is_digit byte ≡ false → (120 == byte) ≡ false → AllByRecursion (FitsOption (λ n. n ≤ most_32)) ds → AllByRecursion (λ d. lacks byte (direction_word d) ≡ true) ds
+pub directions_apart : (byte : ℕ) (ds : List (Option ℕ)) → is_digit byte ≡ false → (120 == byte) ≡ false → AllByRecursion (FitsOption (λ n. n ≤ most_32)) ds → AllByRecursion (λ d. lacks byte (direction_word d) ≡ true) ds
 directions_apart byte [] e x a = tt
 directions_apart byte (d ∷ ds) e x a = (direction_lacks byte d e x a.0, directions_apart byte ds e x a.1)
 
-numbers_apart : (byte most : ℕ) (ns : List ℕ) → is_digit byte ≡ false → most < 10 ^ 64 → AllByRecursion (λ n. n ≤ most) ns → AllByRecursion (λ n. lacks byte (decimal n) ≡ true) ns
+pub numbers_apart : (byte most : ℕ) (ns : List ℕ) → is_digit byte ≡ false → most < 10 ^ 64 → AllByRecursion (λ n. n ≤ most) ns → AllByRecursion (λ n. lacks byte (decimal n) ≡ true) ns
 numbers_apart byte most [] e l a = tt
 numbers_apart byte most (n ∷ ns) e l a = let fits : n ≤ most = a.0 in (decimal_lacks byte n (omega arith) e, numbers_apart byte most ns e l a.1)
-
-tree_value : (t : Tree) → FitsTree t → tree_of (tree_word t) ≡ Some t
-unfolding tree_of
-tree_value t f =
-    rw (
-      cut_back 47 (list_word 44 decimal t.children) (list_word 44 direction_word t.directions) (list_lacks 47 44 decimal t.children refl refl (numbers_apart 47 most_32 t.children refl (omega arith) f.children)),
-      list_back 44 (number most_32) decimal t.children refl (number_pieces most_32 t.children (omega arith) f.children),
-      list_back 44 direction_of direction_word t.directions refl (direction_pieces t.directions f.directions),
-    ) refl
-
-tree_lacks : (byte : ℕ) (t : Tree) → is_digit byte ≡ false → (120 == byte) ≡ false → (45 == byte) ≡ false → (44 == byte) ≡ false → (47 == byte) ≡ false → FitsTree t → lacks byte (tree_word t) ≡ true
-tree_lacks byte t e x d c s f =
-    lacks_between 47 byte (list_word 44 decimal t.children) _ s
-    (list_lacks byte 44 decimal t.children d c (numbers_apart byte most_32 t.children e (omega arith) f.children))
-    (list_lacks byte 44 direction_word t.directions d c (directions_apart byte t.directions e x f.directions))
-
-tree_pieces : (ts : List Tree) → AllByRecursion FitsTree ts → AllByRecursion (Piece 59 tree_of tree_word) ts
-tree_pieces [] a = tt
-tree_pieces (t ∷ ts) a = (
-  record {
-    apart = tree_lacks 59 t refl refl refl refl refl a.0;
-    whole = tree_lacks 32 t refl refl refl refl refl a.0;
-    some = some_between (list_word 44 decimal t.children) _ 47;
-    value = tree_value t a.0;
-  },
-  tree_pieces ts a.1,
-)
-
-pub trees_reads : (ts : List Tree) → AllByRecursion FitsTree ts → Reads (list_of 59 tree_of) (list_word 59 tree_word ts) ts
-unfolding tree_of
-trees_reads ts a = list_reads 59 tree_of tree_word ts refl refl (tree_pieces ts a)
 
 pub all_reads : (o : Option (List Zid)) → FitsOption (AllByRecursion FitsZid) o → Reads all_of (all_word o) o
 all_reads None f = record { whole = refl; some = omega arith; value = refl }

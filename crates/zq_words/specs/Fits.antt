@@ -7,8 +7,6 @@ use Rattle.zq_key.specs.declared.message.Zid.{Zid}
 use Rattle.zq_key.specs.declared.message.WireExpr.{WireExpr}
 use Rattle.zq_key.specs.declared.message.Region.{Region}
 use Rattle.zq_key.specs.declared.message.Region.TheVariants as region
-use Rattle.zq_hat.specs.declared.types.Tree.{Tree}
-use Rattle.zq_route.specs.declared.gateways.GatewayEntry.{GatewayEntry}
 use Rattle.zq_words.specs.Values.{most_16, most_32, most_128}
 
 -- bytes
@@ -43,13 +41,3 @@ abbrev pub FitsRegion : Region → Type 0
 FitsRegion region.North = ⊤
 FitsRegion region.Local = ⊤
 FitsRegion (region.South id strategy) = id ≤ most_32
-
--- the gateways of one node
-pub record FitsEntry (entry : GatewayEntry) : Type 0 where
-  pub node : FitsZid entry.node
-  pub gateways : AllByRecursion FitsZid entry.gateways
-
--- a tree
-pub record FitsTree (tree : Tree) : Type 0 where
-  pub children : AllByRecursion (λ n. n ≤ most_32) tree.children
-  pub directions : AllByRecursion (FitsOption (λ n. n ≤ most_32)) tree.directions

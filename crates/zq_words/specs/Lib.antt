@@ -1,4 +1,3 @@
 pub mod Words
 pub mod Values
 pub mod Fits
-pub mod Streams

@@ -15,8 +15,6 @@ use Rattle.zq_key.specs.declared.message.Region.{Region}
 use Rattle.zq_key.specs.declared.message.Region.TheVariants as region
 use Rattle.zq_key.specs.declared.message.QueryTarget.{QueryTarget}
 use Rattle.zq_key.specs.declared.message.QueryTarget.TheVariants as target
-use Rattle.zq_hat.specs.declared.types.Tree.{Tree}
-use Rattle.zq_route.specs.declared.gateways.GatewayEntry.{GatewayEntry}
 use Rattle.zq_words.specs.Words.{◌>>=◌, cut, number, text_of, payload_word, list_of, list_word}
 
 -- the greatest number of 8 bits
@@ -159,18 +157,6 @@ zids_of word = list_of 44 zid_of word
 abbrev pub zids_word : List Zid → List ℕ
 zids_word zids = list_word 44 zid_word zids
 
--- the gateways of one node
-unfoldable pub entry_of : List ℕ → Option GatewayEntry
-entry_of word = do
-  parts ← cut 61 word
-  node ← zid_of parts.0
-  gateways ← zids_of parts.1
-  Some (record { node = node; gateways = gateways })
-
--- how the gateways of one node are written
-abbrev pub entry_word : GatewayEntry → List ℕ
-entry_word entry = zid_word entry.node ++ 61 ∷ zids_word entry.gateways
-
 -- the gateways of all other nodes
 abbrev pub all_of : List ℕ → Option (Option (List Zid))
 all_of word = if bytes_eq word (codes "none") then Some None else zids_of word >>= (λ zids. Some (Some zids))
@@ -188,15 +174,3 @@ direction_of word = if bytes_eq word (codes "x") then Some None else number most
 abbrev pub direction_word : Option ℕ → List ℕ
 direction_word None = codes "x"
 direction_word (Some n) = decimal n
-
--- `CHILDREN/DIRECTIONS`
-unfoldable pub tree_of : List ℕ → Option Tree
-tree_of word = do
-  parts ← cut 47 word
-  children ← list_of 44 (number most_32) parts.0
-  directions ← list_of 44 direction_of parts.1
-  Some (record { children = children; directions = directions })
-
--- how a tree is written
-abbrev pub tree_word : Tree → List ℕ
-tree_word tree = list_word 44 decimal tree.children ++ 47 ∷ list_word 44 direction_word tree.directions

@@ -1,17 +1,14 @@
 //! How values are written, each as one word.
-ghost use Rattle.std.specs.Prelude.{◌≡◌, ℕ, List, ◌++◌, OnOk, string_bytes};
+ghost use Rattle.std.specs.Prelude.{◌≡◌, ℕ, List, ◌++◌, OnOk};
 ghost use Rattle.std.specs.Fmt.{decimal};
 ghost use Rattle.zq_words.specs.Words.{payload_word, list_word, rest_word, list_words, option_word, field};
-ghost use Rattle.zq_words.specs.Values.{face_word, zid_word, mode_word, bound_word, target_word, region_word, mapping_word, wire_word, zids_word, entry_word, all_word, direction_word, tree_word, flag_word};
+ghost use Rattle.zq_words.specs.Values.{face_word, zid_word, mode_word, bound_word, target_word, region_word, mapping_word, wire_word, zids_word, all_word, direction_word, flag_word};
 
-use crate::words::push_word;
+use crate::words::{push_number, push_text, push_word};
 use std::alloc::AllocError;
-use std::fmt::Write;
-use zq_hat::types::Tree;
 use zq_key::items::Items;
 use zq_key::message::{Bound, FaceId, Mapping, Mode, QueryTarget, Region, WireExpr, Zid};
 use zq_key::text::{Bytes, Text};
-use zq_route::gateways::GatewayEntry;
 
 /// What is written as one word.
 pub trait Shown {
@@ -19,70 +16,70 @@ pub trait Shown {
     ghost word: { Self → List ℕ };
 
     /// Appends the word.
-    fn show(&self, out: &mut String) -> Result<(), AllocError>
-        ensures { OnOk result (string_bytes out.new ≡ string_bytes out.old ++ word self.now) };
+    fn show(&self, out: &mut Vec<u8>) -> Result<(), AllocError>
+        ensures { OnOk result (out.new.items ≡ out.old.items ++ word self.now) };
 }
 
 /// Writes a space and a word.
-pub fn push_field<T: Shown>(out: &mut String, x: &T) -> Result<(), AllocError>
-    ensures { OnOk result (string_bytes out.new ≡ string_bytes out.old ++ field (T.word x.now)) }
+pub fn push_field<T: Shown>(out: &mut Vec<u8>, x: &T) -> Result<(), AllocError>
+    ensures { OnOk result (out.new.items ≡ out.old.items ++ field (T.word x.now)) }
 {
-    write!(out, " ")?;
+    push_text(out, " ")?;
     x.show(out)
 }
 
 impl Shown for u8 {
     ghost word = { decimal };
 
-    fn show(&self, out: &mut String) -> Result<(), AllocError> {
-        write!(out, "{self}")
+    fn show(&self, out: &mut Vec<u8>) -> Result<(), AllocError> {
+        push_number(out, *self)
     }
 }
 
 impl Shown for u16 {
     ghost word = { decimal };
 
-    fn show(&self, out: &mut String) -> Result<(), AllocError> {
-        write!(out, "{self}")
+    fn show(&self, out: &mut Vec<u8>) -> Result<(), AllocError> {
+        push_number(out, *self)
     }
 }
 
 impl Shown for u32 {
     ghost word = { decimal };
 
-    fn show(&self, out: &mut String) -> Result<(), AllocError> {
-        write!(out, "{self}")
+    fn show(&self, out: &mut Vec<u8>) -> Result<(), AllocError> {
+        push_number(out, *self)
     }
 }
 
 impl Shown for u64 {
     ghost word = { decimal };
 
-    fn show(&self, out: &mut String) -> Result<(), AllocError> {
-        write!(out, "{self}")
+    fn show(&self, out: &mut Vec<u8>) -> Result<(), AllocError> {
+        push_number(out, *self)
     }
 }
 
 impl Shown for FaceId {
     ghost word = { face_word };
 
-    fn show(&self, out: &mut String) -> Result<(), AllocError> {
-        write!(out, "{}", self.0)
+    fn show(&self, out: &mut Vec<u8>) -> Result<(), AllocError> {
+        push_number(out, self.0)
     }
 }
 
 impl Shown for Zid {
     ghost word = { zid_word };
 
-    fn show(&self, out: &mut String) -> Result<(), AllocError> {
-        write!(out, "{}", self.0)
+    fn show(&self, out: &mut Vec<u8>) -> Result<(), AllocError> {
+        push_number(out, self.0)
     }
 }
 
 impl Shown for Text {
     ghost word = { payload_word };
 
-    fn show(&self, out: &mut String) -> Result<(), AllocError> {
+    fn show(&self, out: &mut Vec<u8>) -> Result<(), AllocError> {
         push_word(out, self.as_str().as_bytes())
     }
 }
@@ -90,7 +87,7 @@ impl Shown for Text {
 impl Shown for Bytes {
     ghost word = { payload_word };
 
-    fn show(&self, out: &mut String) -> Result<(), AllocError> {
+    fn show(&self, out: &mut Vec<u8>) -> Result<(), AllocError> {
         push_word(out, self.as_slice())
     }
 }
@@ -98,11 +95,11 @@ impl Shown for Bytes {
 impl Shown for Mode {
     ghost word = { mode_word };
 
-    fn show(&self, out: &mut String) -> Result<(), AllocError> {
+    fn show(&self, out: &mut Vec<u8>) -> Result<(), AllocError> {
         match self {
-            Mode::Router => write!(out, "router"),
-            Mode::Peer => write!(out, "peer"),
-            Mode::Client => write!(out, "client"),
+            Mode::Router => push_text(out, "router"),
+            Mode::Peer => push_text(out, "peer"),
+            Mode::Client => push_text(out, "client"),
         }
     }
 }
@@ -110,10 +107,10 @@ impl Shown for Mode {
 impl Shown for Bound {
     ghost word = { bound_word };
 
-    fn show(&self, out: &mut String) -> Result<(), AllocError> {
+    fn show(&self, out: &mut Vec<u8>) -> Result<(), AllocError> {
         match self {
-            Bound::North => write!(out, "north"),
-            Bound::South => write!(out, "south"),
+            Bound::North => push_text(out, "north"),
+            Bound::South => push_text(out, "south"),
         }
     }
 }
@@ -121,11 +118,11 @@ impl Shown for Bound {
 impl Shown for QueryTarget {
     ghost word = { target_word };
 
-    fn show(&self, out: &mut String) -> Result<(), AllocError> {
+    fn show(&self, out: &mut Vec<u8>) -> Result<(), AllocError> {
         match self {
-            QueryTarget::All => write!(out, "all"),
-            QueryTarget::AllComplete => write!(out, "complete"),
-            QueryTarget::BestMatching => write!(out, "best"),
+            QueryTarget::All => push_text(out, "all"),
+            QueryTarget::AllComplete => push_text(out, "complete"),
+            QueryTarget::BestMatching => push_text(out, "best"),
         }
     }
 }
@@ -133,10 +130,10 @@ impl Shown for QueryTarget {
 impl Shown for Mapping {
     ghost word = { mapping_word };
 
-    fn show(&self, out: &mut String) -> Result<(), AllocError> {
+    fn show(&self, out: &mut Vec<u8>) -> Result<(), AllocError> {
         match self {
-            Mapping::Sender => write!(out, "s"),
-            Mapping::Receiver => write!(out, "r"),
+            Mapping::Sender => push_text(out, "s"),
+            Mapping::Receiver => push_text(out, "r"),
         }
     }
 }
@@ -144,12 +141,14 @@ impl Shown for Mapping {
 impl Shown for Region {
     ghost word = { region_word };
 
-    fn show(&self, out: &mut String) -> Result<(), AllocError> {
+    fn show(&self, out: &mut Vec<u8>) -> Result<(), AllocError> {
         match self {
-            Region::North => write!(out, "north"),
-            Region::Local => write!(out, "local"),
+            Region::North => push_text(out, "north"),
+            Region::Local => push_text(out, "local"),
             Region::South { id, mode } => {
-                write!(out, "south:{id}:")?;
+                push_text(out, "south:")?;
+                push_number(out, *id)?;
+                push_text(out, ":")?;
                 mode.show(out)
             }
         }
@@ -159,10 +158,11 @@ impl Shown for Region {
 impl Shown for WireExpr {
     ghost word = { wire_word };
 
-    fn show(&self, out: &mut String) -> Result<(), AllocError> {
-        write!(out, "{}:", self.scope)?;
+    fn show(&self, out: &mut Vec<u8>) -> Result<(), AllocError> {
+        push_number(out, self.scope)?;
+        push_text(out, ":")?;
         self.mapping.show(out)?;
-        write!(out, ":")?;
+        push_text(out, ":")?;
         self.suffix.show(out)
     }
 }
@@ -170,10 +170,10 @@ impl Shown for WireExpr {
 impl Shown for Option<u64> {
     ghost word = { option_word decimal };
 
-    fn show(&self, out: &mut String) -> Result<(), AllocError> {
+    fn show(&self, out: &mut Vec<u8>) -> Result<(), AllocError> {
         match self {
             Some(x) => x.show(out),
-            None => write!(out, "-"),
+            None => push_text(out, "-"),
         }
     }
 }
@@ -181,10 +181,10 @@ impl Shown for Option<u64> {
 impl Shown for Option<WireExpr> {
     ghost word = { option_word wire_word };
 
-    fn show(&self, out: &mut String) -> Result<(), AllocError> {
+    fn show(&self, out: &mut Vec<u8>) -> Result<(), AllocError> {
         match self {
             Some(x) => x.show(out),
-            None => write!(out, "-"),
+            None => push_text(out, "-"),
         }
     }
 }
@@ -192,10 +192,10 @@ impl Shown for Option<WireExpr> {
 impl Shown for Option<Zid> {
     ghost word = { option_word zid_word };
 
-    fn show(&self, out: &mut String) -> Result<(), AllocError> {
+    fn show(&self, out: &mut Vec<u8>) -> Result<(), AllocError> {
         match self {
             Some(x) => x.show(out),
-            None => write!(out, "-"),
+            None => push_text(out, "-"),
         }
     }
 }
@@ -203,10 +203,10 @@ impl Shown for Option<Zid> {
 impl Shown for Option<Text> {
     ghost word = { option_word payload_word };
 
-    fn show(&self, out: &mut String) -> Result<(), AllocError> {
+    fn show(&self, out: &mut Vec<u8>) -> Result<(), AllocError> {
         match self {
             Some(x) => x.show(out),
-            None => write!(out, "-"),
+            None => push_text(out, "-"),
         }
     }
 }
@@ -214,42 +214,42 @@ impl Shown for Option<Text> {
 impl Shown for Option<u32> {
     ghost word = { direction_word };
 
-    fn show(&self, out: &mut String) -> Result<(), AllocError> {
+    fn show(&self, out: &mut Vec<u8>) -> Result<(), AllocError> {
         match self {
             Some(x) => x.show(out),
-            None => write!(out, "x"),
+            None => push_text(out, "x"),
         }
     }
 }
 
 /// Writes what follows the first item of a list.
-fn push_rest<T: Shown>(out: &mut String, byte: &str, items: &[T]) -> Result<(), AllocError>
-    ensures { OnOk result (string_bytes out.new ≡ string_bytes out.old ++ rest_word byte.now T.word items.now) }
+fn push_rest<T: Shown>(out: &mut Vec<u8>, byte: &str, items: &[T]) -> Result<(), AllocError>
+    ensures { OnOk result (out.new.items ≡ out.old.items ++ rest_word byte.now T.word items.now) }
 {
     for item in items {
-        out.push_str(byte)?;
+        push_text(out, byte)?;
         item.show(out)?;
     }
     Ok(())
 }
 
 /// Writes a list joined by a byte, or a dash for the empty one.
-fn push_list<T: Shown>(out: &mut String, byte: &str, items: &[T]) -> Result<(), AllocError>
-    ensures { OnOk result (string_bytes out.new ≡ string_bytes out.old ++ list_words byte.now T.word items.now) }
+fn push_list<T: Shown>(out: &mut Vec<u8>, byte: &str, items: &[T]) -> Result<(), AllocError>
+    ensures { OnOk result (out.new.items ≡ out.old.items ++ list_words byte.now T.word items.now) }
 {
     match items.split_first() {
         Some((first, rest)) => {
             first.show(out)?;
             push_rest(out, byte, rest)
         }
-        None => write!(out, "-"),
+        None => push_text(out, "-"),
     }
 }
 
 impl Shown for Items<Zid> {
     ghost word = { zids_word };
 
-    fn show(&self, out: &mut String) -> Result<(), AllocError> {
+    fn show(&self, out: &mut Vec<u8>) -> Result<(), AllocError> {
         push_list(out, ",", self.as_slice())
     }
 }
@@ -257,7 +257,7 @@ impl Shown for Items<Zid> {
 impl Shown for Items<u16> {
     ghost word = { list_word 44 decimal };
 
-    fn show(&self, out: &mut String) -> Result<(), AllocError> {
+    fn show(&self, out: &mut Vec<u8>) -> Result<(), AllocError> {
         push_list(out, ",", self.as_slice())
     }
 }
@@ -265,7 +265,7 @@ impl Shown for Items<u16> {
 impl Shown for Items<u32> {
     ghost word = { list_word 44 decimal };
 
-    fn show(&self, out: &mut String) -> Result<(), AllocError> {
+    fn show(&self, out: &mut Vec<u8>) -> Result<(), AllocError> {
         push_list(out, ",", self.as_slice())
     }
 }
@@ -273,66 +273,30 @@ impl Shown for Items<u32> {
 impl Shown for Items<Option<u32>> {
     ghost word = { list_word 44 direction_word };
 
-    fn show(&self, out: &mut String) -> Result<(), AllocError> {
+    fn show(&self, out: &mut Vec<u8>) -> Result<(), AllocError> {
         push_list(out, ",", self.as_slice())
-    }
-}
-
-impl Shown for Tree {
-    ghost word = { tree_word };
-
-    fn show(&self, out: &mut String) -> Result<(), AllocError> {
-        self.children.show(out)?;
-        write!(out, "/")?;
-        self.directions.show(out)
-    }
-}
-
-impl Shown for GatewayEntry {
-    ghost word = { entry_word };
-
-    fn show(&self, out: &mut String) -> Result<(), AllocError> {
-        self.node.show(out)?;
-        write!(out, "=")?;
-        self.gateways.show(out)
-    }
-}
-
-impl Shown for Items<Tree> {
-    ghost word = { list_word 59 tree_word };
-
-    fn show(&self, out: &mut String) -> Result<(), AllocError> {
-        push_list(out, ";", self.as_slice())
-    }
-}
-
-impl Shown for Items<GatewayEntry> {
-    ghost word = { list_word 59 entry_word };
-
-    fn show(&self, out: &mut String) -> Result<(), AllocError> {
-        push_list(out, ";", self.as_slice())
     }
 }
 
 impl Shown for Option<Items<Zid>> {
     ghost word = { all_word };
 
-    fn show(&self, out: &mut String) -> Result<(), AllocError> {
+    fn show(&self, out: &mut Vec<u8>) -> Result<(), AllocError> {
         match self {
             Some(x) => x.show(out),
-            None => write!(out, "none"),
+            None => push_text(out, "none"),
         }
     }
 }
 
 /// Writes a space and one of two words.
-pub fn push_flag(out: &mut String, first: &str, other: &str, flag: bool) -> Result<(), AllocError>
-    ensures { OnOk result (string_bytes out.new ≡ string_bytes out.old ++ field (flag_word first.now other.now flag)) }
+pub fn push_flag(out: &mut Vec<u8>, first: &str, other: &str, flag: bool) -> Result<(), AllocError>
+    ensures { OnOk result (out.new.items ≡ out.old.items ++ field (flag_word first.now other.now flag)) }
 {
-    write!(out, " ")?;
+    push_text(out, " ")?;
     if flag {
-        out.push_str(first)
+        push_text(out, first)
     } else {
-        out.push_str(other)
+        push_text(out, other)
     }
 }

@@ -3,18 +3,18 @@ ghost use Rattle.std.specs.Prelude.{◌≡◌, IfOk, OnOk, ◌++◌, string_byte
 ghost use Rattle.std.specs.Option.{option_map};
 ghost use Rattle.std.specs.Fmt.{decimal};
 ghost use Rattle.zq_words.specs.Words.{cut, number, text_of, bytes_of, read_at, option_of, list_of, payload_word};
-ghost use Rattle.zq_words.specs.Values.{most_8, most_16, most_32, most_64, most_128, flag_of, face_of, zid_of, mode_of, bound_of, target_of, behind, south_of, region_of, mapping_of, wire_of, zids_of, entry_of, all_of, direction_of, tree_of};
+ghost use Rattle.zq_words.specs.Values.{most_8, most_16, most_32, most_64, most_128, flag_of, face_of, zid_of, mode_of, bound_of, target_of, behind, south_of, region_of, mapping_of, wire_of, zids_of, all_of, direction_of};
 
-use crate::words::{Word, cut, is, list_of, number, read_word, text_of, word_at};
+use crate::words::{Word, cut, is, list_of, number, read_word, text_of, wide_number, word_at};
 use std::alloc::Global;
-use zq_hat::types::Tree;
 use zq_key::items::Items;
 use zq_key::memory::OutOfMemory;
 use zq_key::message::{Bound, FaceId, Mapping, Mode, QueryTarget, Region, WireExpr, Zid};
 use zq_key::text::{Bytes, Text};
-use zq_route::gateways::GatewayEntry;
 
 impl Word for u8 {
+    type Value = u8;
+
     ghost of = { number most_8 };
 
     fn read(_alloc: Global, word: &[u8]) -> Result<Option<u8>, OutOfMemory> {
@@ -26,6 +26,8 @@ impl Word for u8 {
 }
 
 impl Word for u16 {
+    type Value = u16;
+
     ghost of = { number most_16 };
 
     fn read(_alloc: Global, word: &[u8]) -> Result<Option<u16>, OutOfMemory> {
@@ -37,6 +39,8 @@ impl Word for u16 {
 }
 
 impl Word for u32 {
+    type Value = u32;
+
     ghost of = { number most_32 };
 
     fn read(_alloc: Global, word: &[u8]) -> Result<Option<u32>, OutOfMemory> {
@@ -48,17 +52,18 @@ impl Word for u32 {
 }
 
 impl Word for u64 {
+    type Value = u64;
+
     ghost of = { number most_64 };
 
     fn read(_alloc: Global, word: &[u8]) -> Result<Option<u64>, OutOfMemory> {
-        match number(18_446_744_073_709_551_615, word) {
-            Some(n) => Ok(Some(n as u64)),
-            None => Ok(None),
-        }
+        Ok(number(u64::MAX, word))
     }
 }
 
 impl Word for FaceId {
+    type Value = FaceId;
+
     ghost of = { face_of };
 
     fn read(_alloc: Global, word: &[u8]) -> Result<Option<FaceId>, OutOfMemory> {
@@ -70,10 +75,12 @@ impl Word for FaceId {
 }
 
 impl Word for Zid {
+    type Value = Zid;
+
     ghost of = { zid_of };
 
     fn read(_alloc: Global, word: &[u8]) -> Result<Option<Zid>, OutOfMemory> {
-        match number(u128::MAX, word) {
+        match wide_number(word) {
             Some(n) => Ok(Some(Zid(n))),
             None => Ok(None),
         }
@@ -81,6 +88,8 @@ impl Word for Zid {
 }
 
 impl Word for Text {
+    type Value = Text;
+
     ghost of = { text_of };
 
     fn read(alloc: Global, word: &[u8]) -> Result<Option<Text>, OutOfMemory> {
@@ -89,6 +98,8 @@ impl Word for Text {
 }
 
 impl Word for Bytes {
+    type Value = Bytes;
+
     ghost of = { bytes_of };
 
     fn read(alloc: Global, word: &[u8]) -> Result<Option<Bytes>, OutOfMemory> {
@@ -111,6 +122,8 @@ fn mode_of(word: &[u8]) -> Option<Mode>
 }
 
 impl Word for Mode {
+    type Value = Mode;
+
     ghost of = { mode_of };
 
     fn read(_alloc: Global, word: &[u8]) -> Result<Option<Mode>, OutOfMemory> {
@@ -136,6 +149,8 @@ fn south_of(word: &[u8]) -> Option<Region>
 }
 
 impl Word for Region {
+    type Value = Region;
+
     ghost of = { region_of };
 
     fn read(_alloc: Global, word: &[u8]) -> Result<Option<Region>, OutOfMemory> {
@@ -163,6 +178,8 @@ fn mapping_of(word: &[u8]) -> Option<Mapping>
 
 /// The scope and the mapping of an expression, and its suffix as a word.
 impl Word for WireExpr {
+    type Value = WireExpr;
+
     ghost of = { wire_of };
 
     #[tactic(auto, unfolding(crate::specs::Values::wire_of))]
@@ -191,6 +208,8 @@ impl Word for WireExpr {
 }
 
 impl Word for QueryTarget {
+    type Value = QueryTarget;
+
     ghost of = { target_of };
 
     fn read(_alloc: Global, word: &[u8]) -> Result<Option<QueryTarget>, OutOfMemory> {
@@ -207,6 +226,8 @@ impl Word for QueryTarget {
 }
 
 impl Word for Bound {
+    type Value = Bound;
+
     ghost of = { bound_of };
 
     fn read(_alloc: Global, word: &[u8]) -> Result<Option<Bound>, OutOfMemory> {
@@ -244,6 +265,8 @@ pub fn flag_at<'a>(first: &str, other: &str, bytes: &'a [u8]) -> Option<(bool, &
 }
 
 impl Word for Option<u64> {
+    type Value = Option<u64>;
+
     ghost of = { option_of (number most_64) };
 
     fn read(alloc: Global, word: &[u8]) -> Result<Option<Option<u64>>, OutOfMemory> {
@@ -258,6 +281,8 @@ impl Word for Option<u64> {
 }
 
 impl Word for Option<WireExpr> {
+    type Value = Option<WireExpr>;
+
     ghost of = { option_of wire_of };
 
     fn read(alloc: Global, word: &[u8]) -> Result<Option<Option<WireExpr>>, OutOfMemory> {
@@ -272,6 +297,8 @@ impl Word for Option<WireExpr> {
 }
 
 impl Word for Option<Text> {
+    type Value = Option<Text>;
+
     ghost of = { option_of text_of };
 
     fn read(alloc: Global, word: &[u8]) -> Result<Option<Option<Text>>, OutOfMemory> {
@@ -287,6 +314,8 @@ impl Word for Option<Text> {
 
 /// A direction of a tree.
 impl Word for Option<u32> {
+    type Value = Option<u32>;
+
     ghost of = { direction_of };
 
     fn read(alloc: Global, word: &[u8]) -> Result<Option<Option<u32>>, OutOfMemory> {
@@ -301,86 +330,37 @@ impl Word for Option<u32> {
 }
 
 impl Word for Items<Zid> {
+    type Value = Items<Zid>;
+
     ghost of = { zids_of };
 
     fn read(alloc: Global, word: &[u8]) -> Result<Option<Items<Zid>>, OutOfMemory> {
-        list_of(alloc, b',', word)
+        list_of::<Zid>(alloc, b',', word)
     }
 }
 
 impl Word for Items<u16> {
+    type Value = Items<u16>;
+
     ghost of = { list_of 44 (number most_16) };
 
     fn read(alloc: Global, word: &[u8]) -> Result<Option<Items<u16>>, OutOfMemory> {
-        list_of(alloc, b',', word)
+        list_of::<u16>(alloc, b',', word)
     }
 }
 
 impl Word for Option<Items<Zid>> {
+    type Value = Option<Items<Zid>>;
+
     ghost of = { all_of };
 
     fn read(alloc: Global, word: &[u8]) -> Result<Option<Option<Items<Zid>>>, OutOfMemory> {
         if is(word, "none") {
             return Ok(Some(None));
         }
-        match list_of(alloc, b',', word)? {
+        match list_of::<Zid>(alloc, b',', word)? {
             Some(zids) => Ok(Some(Some(zids))),
             None => Ok(None),
         }
-    }
-}
-
-impl Word for GatewayEntry {
-    ghost of = { entry_of };
-
-    #[tactic(auto, unfolding(crate::specs::Values::entry_of))]
-    fn read(alloc: Global, word: &[u8]) -> Result<Option<GatewayEntry>, OutOfMemory> {
-        let Some((node, gateways)) = cut(b'=', word) else {
-            return Ok(None);
-        };
-        let Some(node) = Zid::read(alloc, node)? else {
-            return Ok(None);
-        };
-        match list_of(alloc, b',', gateways)? {
-            Some(gateways) => Ok(Some(GatewayEntry { node, gateways })),
-            None => Ok(None),
-        }
-    }
-}
-
-impl Word for Tree {
-    ghost of = { tree_of };
-
-    #[tactic(auto, unfolding(crate::specs::Values::tree_of))]
-    fn read(alloc: Global, word: &[u8]) -> Result<Option<Tree>, OutOfMemory> {
-        let Some((children, directions)) = cut(b'/', word) else {
-            return Ok(None);
-        };
-        let Some(children) = list_of(alloc, b',', children)? else {
-            return Ok(None);
-        };
-        match list_of(alloc, b',', directions)? {
-            Some(directions) => Ok(Some(Tree {
-                children,
-                directions,
-            })),
-            None => Ok(None),
-        }
-    }
-}
-
-impl Word for Items<Tree> {
-    ghost of = { list_of 59 tree_of };
-
-    fn read(alloc: Global, word: &[u8]) -> Result<Option<Items<Tree>>, OutOfMemory> {
-        list_of(alloc, b';', word)
-    }
-}
-
-impl Word for Items<GatewayEntry> {
-    ghost of = { list_of 59 entry_of };
-
-    fn read(alloc: Global, word: &[u8]) -> Result<Option<Items<GatewayEntry>>, OutOfMemory> {
-        list_of(alloc, b';', word)
     }
 }

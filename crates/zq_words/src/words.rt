@@ -1,12 +1,15 @@
 //! Words of a line, and what they say.
-ghost use Rattle.std.specs.Prelude.{◌≡◌, ◌<◌, ℕ, List, Option, IfOk, OnOk, map, length, ◌≤◌, ◌++◌, position, IfSome, ◌+◌, string_bytes};
+ghost use Rattle.std.specs.Prelude.{◌≡◌, ◌<◌, ℕ, List, Option, IfOk, OnOk, map, length, ◌≤◌, ◌++◌, position, IfSome, ◌+◌};
 ghost use Rattle.std.specs.Option.{option_map};
 ghost use Rattle.std.specs.Str.{bytes_eq};
+ghost use Rattle.percent_encoding.specs.Percent.{percent_encode};
+ghost use Rattle.zq_words.specs.Values.{most_128};
 ghost use Rattle.zq_words.specs.Words.{pieces, read_each, is_byte, len_to, cut, number_from, number, payload_of, payload_word, text_of, word_at, read_at, list_of, option_of, IsWord};
 
+use itoa::{Buffer, Integer};
 use percent_encoding::{AsciiSet, CONTROLS, ascii_set, percent_decode, percent_encode};
 use std::alloc::{AllocError, Global};
-use std::fmt::Write;
+use std::borrow::CowSlice;
 use zq_key::items::Items;
 use zq_key::memory::OutOfMemory;
 use zq_key::text::{Bytes, Text};
@@ -67,16 +70,16 @@ pub fn word_at(bytes: &[u8]) -> Option<(&[u8], &[u8])>
     }
 }
 
-fn number_from(most: u128, word: &[u8]) -> Option<u128>
+fn number_from(most: u64, word: &[u8]) -> Option<u64>
     ensures value { result ≡ number_from most 0 word.now }
     ensures bound { IfSome result (λ n. n ≤ most) }
 {
-    let mut number: u128 = 0;
+    let mut number: u64 = 0;
     'digits: for c in word {
         if !c.is_ascii_digit() {
             return None;
         }
-        let digit = u128::from(*c - b'0');
+        let digit = u64::from(*c - b'0');
         number = number.checked_mul(10)?.checked_add(digit)?;
         if number > most {
             return None;
@@ -86,7 +89,7 @@ fn number_from(most: u128, word: &[u8]) -> Option<u128>
 }
 
 /// Decimal digits without a leading zero.
-pub fn number(most: u128, word: &[u8]) -> Option<u128>
+pub fn number(most: u64, word: &[u8]) -> Option<u64>
     ensures value { result ≡ number most word.now }
     ensures bound { IfSome result (λ n. n ≤ most) }
 {
@@ -97,15 +100,41 @@ pub fn number(most: u128, word: &[u8]) -> Option<u128>
     }
 }
 
+fn wide_number_from(word: &[u8]) -> Option<u128>
+    ensures { result ≡ number_from most_128 0 word.now }
+{
+    let mut number: u128 = 0;
+    'digits: for c in word {
+        if !c.is_ascii_digit() {
+            return None;
+        }
+        let digit = u128::from(*c - b'0');
+        number = number.checked_mul(10)?.checked_add(digit)?;
+    }
+    Some(number)
+}
+
+/// Decimal digits of a number of 128 bits, without a leading zero.
+pub fn wide_number(word: &[u8]) -> Option<u128>
+    ensures { result ≡ number most_128 word.now }
+{
+    match word {
+        [b'0', _, ..] | [] => None,
+        _ => wide_number_from(word),
+    }
+}
+
 /// The bytes that a PAYLOAD word stands for, which a vector holds.
 fn decoded(alloc: Global, word: &[u8]) -> Result<Vec<u8>, OutOfMemory>
     ensures { IfOk result (λ b. b.items ≡ payload_of word.now) }
 {
-    let mut bytes = Vec::new(alloc);
-    if !is(word, "-") {
-        percent_decode(word).append_to(&mut bytes)?;
+    if is(word, "-") {
+        return Ok(Vec::new(alloc));
     }
-    Ok(bytes)
+    match percent_decode(word).into_cow(alloc)? {
+        CowSlice::Borrowed(bytes) => Ok(Vec::from_slice(alloc, bytes)?),
+        CowSlice::Owned(bytes) => Ok(bytes),
+    }
 }
 
 /// The bytes that a PAYLOAD word stands for.
@@ -115,17 +144,42 @@ pub fn read_word(alloc: Global, word: &[u8]) -> Result<Bytes, OutOfMemory>
     Ok(Bytes::from_vec(decoded(alloc, word)?))
 }
 
+/// Writes a text as it is.
+pub fn push_text(out: &mut Vec<u8>, text: &str) -> Result<(), AllocError>
+    ensures { OnOk result (out.new.items ≡ out.old.items ++ text.now) }
+{
+    out.extend_from_slice(text.as_bytes())
+}
+
+/// Writes a number in decimal digits.
+pub fn push_number<N: Integer>(out: &mut Vec<u8>, number: N) -> Result<(), AllocError>
+    ensures { OnOk result (out.new.items ≡ out.old.items ++ N.text number) }
+{
+    let mut buffer = Buffer::new();
+    push_text(out, buffer.format(number))
+}
+
+/// Writes bytes, of which those are escaped that have to be.
+fn push_escaped(out: &mut Vec<u8>, bytes: &[u8]) -> Result<(), AllocError>
+    ensures { OnOk result (out.new.items ≡ out.old.items ++ percent_encode ESCAPED bytes.now) }
+{
+    'pieces: for piece in percent_encode(bytes, ESCAPED) {
+        push_text(out, piece)?;
+    }
+    Ok(())
+}
+
 /// Writes the word of bytes.
-pub fn push_word(out: &mut String, bytes: &[u8]) -> Result<(), AllocError>
-    ensures { OnOk result (string_bytes out.new ≡ string_bytes out.old ++ payload_word bytes.now) }
+pub fn push_word(out: &mut Vec<u8>, bytes: &[u8]) -> Result<(), AllocError>
+    ensures { OnOk result (out.new.items ≡ out.old.items ++ payload_word bytes.now) }
 {
     if bytes.is_empty() {
-        return write!(out, "-");
+        return push_text(out, "-");
     }
     if is(bytes, "-") {
-        return write!(out, "%2D");
+        return push_text(out, "%2D");
     }
-    percent_encode(bytes, ESCAPED).append_to(out)
+    push_escaped(out, bytes)
 }
 
 /// The word of bytes: what `read_word` reads back.
@@ -135,9 +189,9 @@ pub fn print_word(alloc: Global, bytes: &[u8]) -> Result<Bytes, OutOfMemory>
     ensures word { IfOk result (λ w. IsWord w) }
     ensures back { IfOk result (λ w. payload_of w ≡ bytes.now) }
 {
-    let mut out = String::new(alloc);
+    let mut out = Vec::new(alloc);
     push_word(&mut out, bytes)?;
-    Ok(Bytes::from_vec(out.into_bytes()))
+    Ok(Bytes::from_vec(out))
 }
 
 /// The text that a TEXT word stands for; none where its bytes are no UTF-8.
@@ -152,21 +206,24 @@ pub fn text_of(alloc: Global, word: &[u8]) -> Result<Option<Text>, OutOfMemory>
 }
 
 /// What one word can stand for.
-pub trait Word: Sized {
+pub trait Word {
+    /// The type of what a word stands for, which mostly is the type that has the words.
+    type Value: Drop;
+
     /// What a word stands for, if it does.
-    ghost of: { List ℕ → Option Self };
+    ghost of: { List ℕ → Option Self.Value };
 
     /// Reads a whole word.
-    fn read(alloc: Global, word: &[u8]) -> Result<Option<Self>, OutOfMemory>
+    fn read(alloc: Global, word: &[u8]) -> Result<Option<Self::Value>, OutOfMemory>
         ensures { IfOk result (λ o. o ≡ of word.now) };
 }
 
 /// A space, a word that stands for something, and what follows the word.
 #[tactic(auto, unfolding(crate::specs::Words::read_at))]
-pub fn read_at<T: Word + Drop>(
+pub fn read_at<T: Word>(
     alloc: Global,
     bytes: &[u8],
-) -> Result<Option<(T, &[u8])>, OutOfMemory>
+) -> Result<Option<(T::Value, &[u8])>, OutOfMemory>
     ensures { IfOk result (λ o. option_map (λ t. (t.0, t.1.now)) o ≡ read_at T.of bytes.now) }
 {
     let Some((word, rest)) = word_at(bytes) else {
@@ -180,14 +237,14 @@ pub fn read_at<T: Word + Drop>(
 
 /// The pieces of a word, each of which stands for something.
 #[tactic(auto, using(crate::proofs::Split::pieces_cut, crate::proofs::Split::pieces_whole, crate::proofs::Split::put_step))]
-pub fn read_each<T: Word + Drop>(
+pub fn read_each<T: Word>(
     alloc: Global,
     byte: u8,
     word: &[u8],
-) -> Result<Option<Items<T>>, OutOfMemory>
+) -> Result<Option<Items<T::Value>>, OutOfMemory>
     ensures { IfOk result (λ o. o ≡ read_each T.of (pieces byte word.now)) }
 {
-    let mut items: Items<T> = Items::new(alloc);
+    let mut items: Items<T::Value> = Items::new(alloc);
     let mut left = word;
     'pieces: while let Some((piece, rest)) = cut(byte, left) {
         match T::read(alloc, piece)? {
@@ -206,15 +263,15 @@ pub fn read_each<T: Word + Drop>(
 }
 
 /// A list joined by a byte, or a dash for the empty one.
-pub fn list_of<T: Word + Drop>(
+pub fn list_of<T: Word>(
     alloc: Global,
     byte: u8,
     word: &[u8],
-) -> Result<Option<Items<T>>, OutOfMemory>
+) -> Result<Option<Items<T::Value>>, OutOfMemory>
     ensures { IfOk result (λ o. o ≡ list_of byte T.of word.now) }
 {
     if is(word, "-") {
         return Ok(Some(Items::new(alloc)));
     }
-    read_each(alloc, byte, word)
+    read_each::<T>(alloc, byte, word)
 }

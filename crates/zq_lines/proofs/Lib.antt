@@ -1,0 +1,4 @@
+pub mod TablesBack
+pub mod Given
+pub mod GivenLines
+pub mod LinesBack

@@ -1,0 +1,6 @@
+use Rattle.std.proofs.Common.{◌≡◌, ◌++◌, ◌∷◌, [], take}
+use Rattle.zq_words.specs.Words.{rest_word}
+use Rattle.zq_lines.proofs.tables.push_rest.Given as goal
+
+abbrev pub invariant-loop-item : goal.invariant-loop-item
+invariant-loop-item g l = l.out.items ≡ l.fn.out.items ++ rest_word (59 ∷ []) g.T.Item.piece (take l.item-index l.items)

@@ -1,0 +1,4 @@
+pub mod Tables
+pub mod Lines
+pub mod CallLines
+pub mod Fits

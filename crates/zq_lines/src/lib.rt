@@ -1,0 +1,13 @@
+//! Lines of calls: which call a line says, and how a call is written as a line, which reads back as
+//! that call.
+//!
+//! - `tables`: the words of the gateways of nodes, and of trees.
+//! - `lines`: which call a line says.
+//! - `calls`: how a call is written.
+#![tactic(auto)]
+
+pub mod calls;
+pub mod lines;
+pub mod tables;
+#[cfg(test)]
+mod tests;

@@ -1,0 +1,56 @@
+-- The counts so far, and those of the calls that are left.
+use Rattle.std.proofs.Common.{◌≡◌, ℕ, ◌+◌, ◌*◌, ◌-◌, ◌<◌, ◌==◌, List, [], ◌∷◌, ◌++◌, refl, ap, sym, ◌∙◌, Bool, true, false, cond, zero, suc, arith, length, length-append, add_assoc}
+use Rattle.std.proofs.lemmas.List.Sums.{count_by-append}
+use Rattle.std.specs.List.{count_by}
+use Rattle.std.specs.Prelude.{nat_lt, ◌/◌, ◌%◌}
+use Rattle.zq_machine.specs.declared.call.Call.{Call}
+use Rattle.zq_machine.specs.Handing.{Handed}
+use Rattle.zq_machine.specs.Calls.{is_built}
+use Rattle.zq_machine.specs.Headline.{asks, replies_to}
+use Rattle.zq_machine.specs.Machine.{after, step, steps_from}
+use Rattle.zq_machine.specs.State.{State}
+use Rattle.zq_script.specs.declared.load.Counts.{Counts}
+use Rattle.zq_script.specs.Load.{calls_from, count, declare_call, handed_over, is_end, load_call, load_calls, load_config, open_call, plus, query_call, ask_call, reply_call, final_call, sent_call}
+
+-- the next call of those that are left
+next_by : (number left : ℕ) → calls_from number (left + 1) ≡ load_call number ∷ calls_from (number + 1) left
+next_by number left = let e : left + 1 ≡ suc left = omega arith in rw e refl
+
+pub next_calls : (number end : ℕ) → number < end → calls_from number (end - number) ≡ load_call number ∷ calls_from (number + 1) (end - (number + 1))
+next_calls number end l = let e : end - number ≡ end - (number + 1) + 1 = omega arith in rw e (next_by number (end - (number + 1)))
+
+-- none is left
+pub none_counted : (c : Counts) (s : State) (number end : ℕ) → number ≡ end → plus c (count (handed_over (steps_from s (calls_from number (end - number))))) ≡ c
+none_counted c s number end e = let z : end - number ≡ 0 = omega arith in rw z (omega arith)
+
+count_append : (xs ys : List Handed) → count (xs ++ ys) ≡ plus (count xs) (count ys)
+count_append xs ys = rw (length-append xs ys, count_by-append asks xs ys, count_by-append replies_to xs ys, count_by-append is_end xs ys) refl
+
+plus_assoc : (a b c : Counts) → plus (plus a b) c ≡ plus a (plus b c)
+plus_assoc a b c = rw (add_assoc a.handed b.handed c.handed, add_assoc a.requests b.requests c.requests, add_assoc a.responses b.responses c.responses, add_assoc a.finals b.finals c.finals) refl
+
+-- a call is made and counted
+pub call_counted : (c : Counts) (s : State) (k : Call) (calls : List Call) → plus (plus c (count (step s k).handed)) (count (handed_over (steps_from (after s k) calls))) ≡ plus c (count (handed_over (steps_from s (k ∷ calls))))
+call_counted c s k calls =
+    plus_assoc c (count (step s k).handed) (count (handed_over (steps_from (after s k) calls)))
+    ∙ ap (plus c) (sym (count_append (step s k).handed (handed_over (steps_from (after s k) calls))))
+
+-- the gateway answers each of the calls
+either_built : (b : Bool) (x y : Call) → is_built load_config x ≡ true → is_built load_config y ≡ true → is_built load_config (cond b x y) ≡ true
+either_built true x y e f = e
+either_built false x y e f = f
+
+query_built : (query part : ℕ) → is_built load_config (query_call query part) ≡ true
+query_built query part =
+    either_built (part == 0) (ask_call query) _ refl (either_built (part == 1) (reply_call query) _ refl (either_built (part == 2) (final_call query) (sent_call query) refl refl))
+
+pub call_built : (number : ℕ) → is_built load_config (load_call number) ≡ true
+call_built number =
+    either_built (nat_lt number 8) (open_call number) _ refl (either_built (nat_lt number 12) (declare_call (number - 8)) _ refl (query_built ((number - 12) / 4) ((number - 12) % 4)))
+
+many_from : (number left : ℕ) → length (calls_from number left) ≡ left
+many_from number zero = refl
+many_from number (suc left) = omega (arith, many_from (number + 1) left)
+
+pub how_many : (amount : ℕ) → length (load_calls amount) ≡ 12 + 4 * amount
+how_many amount = many_from 0 (12 + 4 * amount)

@@ -1,0 +1,55 @@
+-- The print so far, and what is printed of the lines that are left.
+use Rattle.std.proofs.Common.{◌≡◌, ℕ, ◌+◌, ◌-◌, List, [], ◌∷◌, ◌++◌, Option, Some, None, Result, Ok, Err, refl, ap, sym, ◌∙◌, Bool, true, false, cond, append_assoc}
+use Rattle.std.proofs.lemmas.List.{append-nil}
+use Rattle.std.specs.Prelude.{nat_lt, codes, IfOk}
+use Rattle.std.specs.Str.{bytes_eq}
+use Rattle.zq_machine.specs.declared.call.Call.{Call}
+use Rattle.zq_machine.specs.Configs.{Settings}
+use Rattle.zq_machine.specs.Machine.{after, step, steps_from}
+use Rattle.zq_machine.specs.State.{State, opening_state}
+use Rattle.zq_words.proofs.Back.{same_bytes}
+use Rattle.zq_script.specs.Head.{Head, head_of}
+use Rattle.zq_lines.specs.Lines.{call_by, other_by}
+use Rattle.zq_script.specs.Printing.{FitsRun, printed, printed_by, printed_on}
+use Rattle.zq_script.specs.Running.{ReadsBack}
+use Rattle.zq_script.specs.Script.{Parts, lines_of, made, onto, onto_parts, parts_from, script_call, script_of, with_line, with_parts}
+use Rattle.zq_script.specs.Steps.{step_words, steps_words}
+use Rattle.zq_script.specs.StepsFit.{FitsStep}
+use Rattle.zq_script.proofs.StepsBack.{steps_back}
+
+worker_call : (config : Settings) → script_call config false (codes "worker") ≡ None
+unfolding call_by other_by
+worker_call config = refl
+
+-- without workers a line `worker` is a bad line like another
+line_by : (t : Bool) (config : Settings) (n : ℕ) (line : List ℕ) (lines : List (List ℕ)) → bytes_eq line (codes "worker") ≡ t → parts_from config n false 0 (line ∷ lines) ≡ with_line n (script_call config false line) (parts_from config (n + 1) false 0 lines)
+line_by true config n line lines e =
+    rw (same_bytes line (codes "worker") e) (rw (worker_call config) refl)
+line_by false config n line lines e = rw e refl
+
+pub line_read : (config : Settings) (n : ℕ) (line : List ℕ) (lines : List (List ℕ)) → parts_from config n false 0 (line ∷ lines) ≡ with_line n (script_call config false line) (parts_from config (n + 1) false 0 lines)
+line_read config n line lines = line_by (bytes_eq line (codes "worker")) config n line lines refl
+
+-- a call is answered and printed
+pub call_printed : (print : List ℕ) (s : State) (c : Call) (r : Result Parts ℕ) → printed_on (print ++ step_words (step s c)) (printed_by (after s c) r) ≡ printed_on print (printed_by s (onto c r))
+call_printed print s c (Ok parts) = ap (λ x. Ok x) (append_assoc print (step_words (step s c)) (steps_words (steps_from (after s c) parts.0)))
+call_printed print s c (Err n) = refl
+
+pub call_fits : (s : State) (c : Call) (r : Result Parts ℕ) → FitsStep (step s c) → FitsRun (after s c) r → FitsRun s (onto c r)
+call_fits s c (Ok parts) f g = (f, g)
+call_fits s c (Err n) f g = tt
+
+-- a script of this head
+script_by : (head : Head) (r : Result Parts ℕ) → printed (made head (onto_parts [] [] r)) ≡ printed_by (opening_state head.0) r
+script_by head (Ok parts) = refl
+script_by head (Err n) = refl
+
+pub script_printed : (lines : List (List ℕ)) (head : Head) → head_of lines ≡ Ok head → printed (script_of 0 lines) ≡ printed_by (opening_state head.0) (parts_from head.0 head.2 false 0 head.3)
+script_printed lines head e = rw e (script_by head (parts_from head.0 head.2 false 0 head.3))
+
+back_by : (head : Head) (r : Result Parts ℕ) → FitsRun (opening_state head.0) r → IfOk (made head (onto_parts [] [] r)) ReadsBack
+back_by head (Ok parts) f = steps_back (steps_from (opening_state head.0) parts.0) f
+back_by head (Err n) f = tt
+
+pub script_back : (lines : List (List ℕ)) (head : Head) → head_of lines ≡ Ok head → FitsRun (opening_state head.0) (parts_from head.0 head.2 false 0 head.3) → IfOk (script_of 0 lines) ReadsBack
+script_back lines head e f = rw e (back_by head (parts_from head.0 head.2 false 0 head.3) f)

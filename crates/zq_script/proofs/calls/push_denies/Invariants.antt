@@ -1,8 +1,0 @@
-use Rattle.std.proofs.Common.{◌≡◌, ◌++◌, take}
-use Rattle.std.specs.List.{flat_map}
-use Rattle.std.specs.String.{string_bytes}
-use Rattle.zq_script.specs.CallLines.{deny_item}
-use Rattle.zq_script.proofs.calls.push_denies.Given as goal
-
-abbrev pub invariant-loop-text : goal.invariant-loop-text
-invariant-loop-text l = string_bytes l.out ≡ string_bytes l.fn.out ++ flat_map (deny_item l.side) (take l.text-index l.texts)

@@ -1,0 +1,244 @@
+//! The generated load: its calls by their number, and what is counted of the messages that they
+//! hand.
+ghost use Rattle.std.specs.Prelude.{◌≡◌, ◌+◌, ◌*◌, ◌-◌, ◌^◌, ◌<◌, IfOk};
+ghost use Rattle.std.specs.Fmt.{decimal};
+ghost use Rattle.zq_machine.specs.Machine.{steps};
+ghost use Rattle.zq_script.specs.Load.{IsBelow, ask_call, asked_key, count, declare_call, declared_key, final_call, handed_over, load_call, load_calls, load_config, load_line, open_call, plain_wire, plus, query_call, reply_call, sent_call};
+
+use std::alloc::Global;
+use zq_machine::call::{Call, Opening};
+use zq_machine::handed::Handed;
+use zq_machine::config::{Config, ConfigRefusal, Counters, Entry};
+use zq_gateway::gateway::Gateway;
+use zq_key::items::Items;
+use zq_key::memory::OutOfMemory;
+use zq_key::message::{
+    Bound, FaceId, Mapping, Message, Mode, QueryTarget, QueryableInfoType, Region, ReplyBody,
+    Request, Response, WireExpr, Zid,
+};
+use zq_key::text::{Bytes, Text};
+use zq_words::words::{push_number, push_text};
+
+/// How many messages were handed, and of which kinds.
+#[derive(Clone, Copy, Debug, Default, PartialEq, Eq)]
+pub struct Counts {
+    pub handed: u128,
+    pub requests: u128,
+    pub responses: u128,
+    pub finals: u128,
+}
+
+impl Counts {
+    /// Counts these messages, too.
+    fn add(&mut self, handed: &[Handed])
+        requires { IsBelow (2 ^ 128 - 2 ^ 64) self.old }
+        ensures { self.new ≡ plus self.old (count handed.now) }
+    {
+        self.handed += handed.len() as u128;
+        self.requests += count_requests(handed) as u128;
+        self.responses += count_responses(handed) as u128;
+        self.finals += count_finals(handed) as u128;
+    }
+}
+
+fn count_requests(handed: &[Handed]) -> usize
+    ensures { result ≡ (count handed.now).requests }
+{
+    handed
+        .iter()
+        .filter(|h| matches!(h.message(), Message::Request(_)))
+        .count()
+}
+
+fn count_responses(handed: &[Handed]) -> usize
+    ensures { result ≡ (count handed.now).responses }
+{
+    handed
+        .iter()
+        .filter(|h| matches!(h.message(), Message::Response(_)))
+        .count()
+}
+
+fn count_finals(handed: &[Handed]) -> usize
+    ensures { result ≡ (count handed.now).finals }
+{
+    handed
+        .iter()
+        .filter(|h| matches!(h.message(), Message::ResponseFinal(_)))
+        .count()
+}
+
+/// The configuration of the load: North as a client, and Local.
+fn load_config(alloc: Global) -> Result<Config, OutOfMemory>
+    ensures { IfOk result (λ c. c ≡ load_config) }
+{
+    let entries = [Entry::North(Mode::Client), Entry::Local];
+    match Config::new(alloc, Zid(1), &entries, 10_000, Counters::default()) {
+        Ok(config) => Ok(config),
+        Err(ConfigRefusal::OutOfMemory) => Err(OutOfMemory),
+        Err(ConfigRefusal::BadConfig(_)) => unreachable!(),
+    }
+}
+
+fn plain_wire(suffix: Text) -> WireExpr
+    ensures { result ≡ plain_wire suffix }
+{
+    WireExpr {
+        scope: 0,
+        mapping: Mapping::Sender,
+        suffix,
+    }
+}
+
+/// The key on which a face declares its queryable.
+fn declared_key(alloc: Global, face: u32) -> Result<Text, OutOfMemory>
+    ensures { IfOk result (λ t. t ≡ declared_key face) }
+{
+    Ok(Text::from_string(format!(in alloc; "load/{face}/**")?))
+}
+
+/// The key of a query.
+fn asked_key(alloc: Global, query: u32) -> Result<Text, OutOfMemory>
+    ensures { IfOk result (λ t. t ≡ asked_key query) }
+{
+    let face = query % 4;
+    Ok(Text::from_string(format!(in alloc; "load/{face}/{query}")?))
+}
+
+/// The payload of a query, and of its reply.
+fn payload(alloc: Global, query: u32) -> Result<Bytes, OutOfMemory>
+    ensures { IfOk result (λ b. b ≡ decimal query) }
+{
+    let mut digits = Vec::new(alloc);
+    push_number(&mut digits, query)?;
+    Ok(Bytes::from_vec(digits))
+}
+
+fn open_call(alloc: Global, face: u32) -> Call
+    ensures { result ≡ open_call face }
+{
+    Call::Open(Opening {
+        region: Region::Local,
+        zid: Zid(100 + u128::from(face)),
+        mode: Mode::Client,
+        remote_bound: Bound::North,
+        namespace: None,
+        entry_deny: Items::new(alloc),
+        exit_deny: Items::new(alloc),
+    })
+}
+
+fn declare_call(alloc: Global, face: u32) -> Result<Call, OutOfMemory>
+    ensures { IfOk result (λ c. c ≡ declare_call face) }
+{
+    Ok(Call::DeclareQueryable {
+        face: FaceId(face),
+        id: 1,
+        wire: plain_wire(declared_key(alloc, face)?),
+        info: QueryableInfoType {
+            complete: true,
+            distance: 0,
+        },
+        node: 0,
+    })
+}
+
+fn ask_call(alloc: Global, query: u32) -> Result<Call, OutOfMemory>
+    ensures { IfOk result (λ c. c ≡ ask_call query) }
+{
+    Ok(Call::Request {
+        face: FaceId(4 + query % 4),
+        request: Request {
+            id: query,
+            wire: plain_wire(asked_key(alloc, query)?),
+            target: QueryTarget::All,
+            timeout: None,
+            node: 0,
+            qos: 0,
+            payload: payload(alloc, query)?,
+        },
+        now: u64::from(query),
+    })
+}
+
+fn reply_call(alloc: Global, query: u32) -> Result<Call, OutOfMemory>
+    ensures { IfOk result (λ c. c ≡ reply_call query) }
+{
+    Ok(Call::Response {
+        face: FaceId(query % 4),
+        response: Response {
+            rid: query / 4 + 1,
+            wire: plain_wire(asked_key(alloc, query)?),
+            qos: 0,
+            payload: ReplyBody::Reply(payload(alloc, query)?),
+            responder: None,
+        },
+    })
+}
+
+/// One of the four calls of a query.
+fn query_call(alloc: Global, query: u32, part: u32) -> Result<Call, OutOfMemory>
+    ensures { IfOk result (λ c. c ≡ query_call query part) }
+{
+    match part {
+        0 => ask_call(alloc, query),
+        1 => reply_call(alloc, query),
+        2 => Ok(Call::ResponseFinal {
+            face: FaceId(query % 4),
+            rid: query / 4 + 1,
+        }),
+        _ => Ok(Call::Sent {
+            reply: u64::from(query),
+        }),
+    }
+}
+
+/// A call of the load, by its number.
+fn load_call(alloc: Global, number: u32) -> Result<Call, OutOfMemory>
+    ensures { IfOk result (λ c. c ≡ load_call number) }
+{
+    if number < 8 {
+        Ok(open_call(alloc, number))
+    } else if number < 12 {
+        declare_call(alloc, number - 8)
+    } else {
+        query_call(alloc, (number - 12) / 4, (number - 12) % 4)
+    }
+}
+
+/// What the load's calls hand. A call and its step are let go before the next.
+#[tactic(auto, using(crate::proofs::Loaded::next_calls, crate::proofs::Loaded::call_counted, crate::proofs::Loaded::call_built, crate::proofs::Loaded::none_counted))]
+fn count_load(alloc: Global, amount: u16) -> Result<Counts, OutOfMemory>
+    ensures { IfOk result (λ c. c ≡ count (handed_over (steps load_config (load_calls amount)))) }
+{
+    let config = load_config(alloc)?;
+    let mut gateway = Gateway::new(alloc, &config)?;
+    let mut counts = Counts::default();
+    'calls: for number in 0..12 + 4 * u32::from(amount) {
+        let call = load_call(alloc, number)?;
+        let step = gateway.call(&call)?;
+        counts.add(step.handed.as_slice());
+    }
+    Ok(counts)
+}
+
+/// The line that says what was counted.
+#[tactic(auto, using(crate::proofs::Loaded::how_many))]
+pub fn print_load(alloc: Global, amount: u16) -> Result<Bytes, OutOfMemory>
+    ensures { IfOk result (λ b. b ≡ load_line amount) }
+{
+    let counts = count_load(alloc, amount)?;
+    let mut print = Vec::new(alloc);
+    push_text(&mut print, "calls ")?;
+    push_number(&mut print, 12 + 4 * u32::from(amount))?;
+    push_text(&mut print, " handed ")?;
+    push_number(&mut print, counts.handed)?;
+    push_text(&mut print, " requests ")?;
+    push_number(&mut print, counts.requests)?;
+    push_text(&mut print, " responses ")?;
+    push_number(&mut print, counts.responses)?;
+    push_text(&mut print, " finals ")?;
+    push_number(&mut print, counts.finals)?;
+    push_text(&mut print, "\n")?;
+    Ok(Bytes::from_vec(print))
+}

@@ -1,0 +1,75 @@
+//! The print of a script, made while its lines are read: no call is kept once it is answered, and
+//! no step once it is printed.
+ghost use Rattle.std.specs.Prelude.{◌≡◌, ◌<◌, ◌+◌, ◌^◌, ◌++◌, IfOk, OnOk, length, true, false};
+ghost use Rattle.zq_machine.specs.Calls.{is_built};
+ghost use Rattle.zq_machine.specs.Machine.{after, step};
+ghost use Rattle.zq_machine.specs.State.{opening_state};
+ghost use Rattle.zq_script.specs.Printing.{FitsRun, printed, printed_by};
+ghost use Rattle.zq_script.specs.Running.{ReadsBack};
+ghost use Rattle.zq_script.specs.Script.{lines_of, parts_from, script_of, Gives};
+ghost use Rattle.zq_script.specs.Steps.{step_words};
+ghost use Rattle.zq_script.specs.StepsFit.{FitsStep};
+
+use crate::fit::step_fits;
+use crate::head::head_of;
+use crate::refusal::ScriptRefusal;
+use crate::script::{next_line, script_call};
+use crate::steps::push_step;
+use std::alloc::Global;
+use zq_machine::call::Call;
+use zq_machine::config::Config;
+use zq_gateway::gateway::Gateway;
+use zq_key::memory::OutOfMemory;
+use zq_key::text::Bytes;
+
+/// Makes a call, and prints its step.
+#[tactic(auto, using(crate::proofs::Shown::step_shows))]
+fn print_step(gateway: &mut Gateway, print: &mut Vec<u8>, call: &Call) -> Result<(), OutOfMemory>
+    requires { is_built gateway.old.core.config call.now ≡ true }
+    ensures print { OnOk result (print.new.items ≡ print.old.items ++ step_words (step gateway.old call.now)) }
+    ensures fits { OnOk result (FitsStep (step gateway.old call.now)) }
+    ensures after { OnOk result (gateway.new ≡ after gateway.old call.now) }
+{
+    let step = gateway.call(call)?;
+    step_fits(&step);
+    push_step(print, &step)?;
+    Ok(())
+}
+
+/// The print of the steps of the lines' calls, the lines numbered from `first` on.
+#[tactic(auto, using(crate::proofs::Printed::line_read, crate::proofs::Printed::line_bad, crate::proofs::Printed::call_printed, crate::proofs::Printed::call_fits, crate::proofs::Printed::all_printed))]
+fn print_calls(
+    alloc: Global,
+    config: &Config,
+    first: u64,
+    bytes: &[u8],
+) -> Result<Bytes, ScriptRefusal>
+    requires { first + length bytes.now < 2 ^ 64 }
+    ensures print { Gives result (printed_by (opening_state config.now) (parts_from config.now first false 0 (lines_of bytes.now))) }
+    ensures fits { IfOk result (λ _. FitsRun (opening_state config.now) (parts_from config.now first false 0 (lines_of bytes.now))) }
+{
+    let mut gateway = Gateway::new(alloc, config)?;
+    let mut print = Vec::new(alloc);
+    let mut number = first;
+    let mut rest = bytes;
+    'lines: while let Some((line, after)) = next_line(rest) {
+        match script_call(alloc, config, false, line)? {
+            Some(call) => print_step(&mut gateway, &mut print, &call)?,
+            None => return Err(ScriptRefusal::BadLine(number)),
+        }
+        number += 1;
+        rest = after;
+    }
+    Ok(Bytes::from_vec(print))
+}
+
+/// The print of the steps of a script, which is read back as those steps. Refused is the first bad
+/// line, wherever it stands.
+#[tactic(auto, using(crate::proofs::Printed::script_printed, crate::proofs::Printed::script_back))]
+pub fn print_script(alloc: Global, bytes: &[u8]) -> Result<Bytes, ScriptRefusal>
+    ensures print { Gives result (printed (script_of 0 (lines_of bytes.now))) }
+    ensures back { IfOk result (λ _. IfOk (script_of 0 (lines_of bytes.now)) ReadsBack) }
+{
+    let (config, _, first, rest) = head_of(alloc, bytes)?;
+    print_calls(alloc, &config, first, rest)
+}
