@@ -9,8 +9,6 @@ ghost use Rattle.zq_key.specs.declared.message.ReplyBody.TheVariants as body;
 ghost use Rattle.zq_machine.specs.Writing.{sent_final, write, written};
 ghost use Rattle.zq_machine.specs.Deciding.{timed_out, timeout_word, handed_replies, handed_reply, handed_request, handed_requests, handed_timeout, handed_timeouts};
 
-use zq_machine::handed::{Handed, HandedList};
-use zq_machine::face::OpenFace;
 use crate::select::zid_of;
 use std::alloc::{AllocError, Global};
 use std::collections::BTreeMap;
@@ -21,6 +19,8 @@ use zq_key::message::{
     FaceId, Mapping, Message, ReplyBody, Request, Response, ResponseFinal, WireExpr,
 };
 use zq_key::text::{Bytes, Text};
+use zq_machine::face::OpenFace;
+use zq_machine::handed::{Handed, HandedList};
 use zq_naming::naming::Naming;
 use zq_query::queries::Queries;
 use zq_query::records::{Final, ReplyTo, Timeout};

@@ -7,13 +7,13 @@ ghost use Rattle.zq_regions.specs.RegionMap.{with_entry};
 ghost use Rattle.zq_machine.specs.Configs.{region_of};
 ghost use Rattle.zq_machine.specs.State.{first_hats, with_hat, change_hat, clashes_in, has_declared_in, hat_at, is_region, joined};
 
-use zq_machine::config::{Config, Entry, SOUTH_IDS};
 use std::alloc::Global;
 use zq_hat::hat::Hat;
 use zq_hat::types::{FaceRecord, FinalMark, HatRefusal};
 use zq_key::Key;
 use zq_key::memory::OutOfMemory;
 use zq_key::message::{FaceId, QueryableInfoType, Region};
+use zq_machine::config::{Config, Entry, SOUTH_IDS};
 use zq_route::gateways::Gateways;
 use zq_tables::RegionMap;
 

@@ -5,12 +5,12 @@ ghost use Rattle.zq_machine.specs.Calls.{is_built};
 ghost use Rattle.zq_machine.specs.Machine.{steps};
 ghost use Rattle.zq_machine.specs.Headline.{RunPromise};
 
-use zq_machine::call::{Call, Replay};
-use zq_machine::config::Config;
 use crate::gateway::Gateway;
 use std::alloc::Global;
 use zq_key::items::Items;
 use zq_key::memory::OutOfMemory;
+use zq_machine::call::{Call, Replay};
+use zq_machine::config::Config;
 
 /// The steps of a new gateway for calls, one after another; and what each run of them promises.
 pub fn replay(alloc: Global, config: &Config, calls: &[Call]) -> Result<Replay, OutOfMemory>

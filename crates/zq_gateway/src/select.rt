@@ -6,7 +6,6 @@ ghost use Rattle.zq_query.specs.Asking.{are_distinct, face_numbers};
 ghost use Rattle.zq_machine.specs.Selecting.{target_of, carries_between, filter_for, passes, with_part, zid_of};
 ghost use Rattle.std.specs.Prelude.{filter, fold, map, true};
 
-use zq_machine::face::OpenFace;
 use crate::hats::is_region;
 use std::alloc::Global;
 use std::collections::BTreeMap;
@@ -15,6 +14,7 @@ use zq_hat::types::{OfferList, QueryTargetQabl};
 use zq_key::items::Items;
 use zq_key::memory::OutOfMemory;
 use zq_key::message::{FaceId, QueryTarget, Zid};
+use zq_machine::face::OpenFace;
 use zq_route::builder::RouteBuilder;
 use zq_route::filter::InterRegionFilter;
 use zq_route::gateways::Gateways;

@@ -1,6 +1,3 @@
-use zq_machine::handed::Handed;
-use zq_machine::call::{Opening, Outcome, Refusal, Step};
-use zq_machine::config::{BadConfig, Config, ConfigRefusal, Counters, Entry};
 use crate::gateway::Gateway;
 use std::alloc::Global;
 use std::test::Fail;
@@ -12,6 +9,9 @@ use zq_key::message::{
     Region, ReplyBody, Request, Response, WireExpr, Zid,
 };
 use zq_key::text::{Bytes, Text};
+use zq_machine::call::{Opening, Outcome, Refusal, Step};
+use zq_machine::config::{BadConfig, Config, ConfigRefusal, Counters, Entry};
+use zq_machine::handed::Handed;
 use zq_route::gateways::Gateways;
 
 const FIRST: Counters = Counters {

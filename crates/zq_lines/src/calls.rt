@@ -7,11 +7,11 @@ ghost use Rattle.zq_lines.specs.CallLines.{deny_item, opening_words, info_words,
 
 use crate::tables::push_items;
 use std::alloc::{AllocError, Global};
-use zq_machine::call::{Call, Opening};
 use zq_hat::types::FinalMark;
 use zq_key::memory::OutOfMemory;
 use zq_key::message::{FaceId, QueryableInfoType, ReplyBody, Request, Response, Zid};
 use zq_key::text::{Bytes, Text};
+use zq_machine::call::{Call, Opening};
 use zq_words::show::{Shown, push_field, push_flag};
 use zq_words::words::push_text;
 

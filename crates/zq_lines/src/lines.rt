@@ -6,7 +6,6 @@ ghost use Rattle.zq_lines.specs.Lines.{deny_of, denies_of, at_side, deny_text, o
 
 use crate::tables::{EntriesOf, TreesOf};
 use std::alloc::Global;
-use zq_machine::call::{Call, Opening};
 use zq_hat::types::{FinalMark, Network, NodeIds};
 use zq_key::items::Items;
 use zq_key::memory::OutOfMemory;
@@ -15,6 +14,7 @@ use zq_key::message::{
     TextList, WireExpr, Zid,
 };
 use zq_key::text::{Bytes, Text};
+use zq_machine::call::{Call, Opening};
 use zq_route::gateways::Gateways;
 use zq_words::values::{flag_at, flag_of};
 use zq_words::words::{Word, cut, is, len_to, read_at, read_each, text_of, word_at};

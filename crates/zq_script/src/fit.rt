@@ -8,12 +8,12 @@ ghost use Rattle.zq_words.specs.Values.{most_8, most_32, most_64};
 ghost use Rattle.zq_lines.specs.Fits.{FitsBody, FitsRequest, FitsResponse};
 ghost use Rattle.zq_script.specs.StepsFit.{FitsFinal, FitsInterest, FitsDeclareBody, FitsDeclare, FitsMessage, FitsOutcome, FitsHanded, FitsStep, ShowsDeclare, ShowsMessage, ShowsHanded, ShowsStep};
 
-use zq_machine::call::{Outcome, Step};
-use zq_machine::handed::Handed;
 use zq_key::message::{
     Declare, DeclareBody, Interest, Message, ReplyBody, Request, Response, ResponseFinal, WireExpr,
     Zid,
 };
+use zq_machine::call::{Outcome, Step};
+use zq_machine::handed::Handed;
 
 fn bytes_fit(bytes: &[u8])
     ensures { IsBytes bytes.now }

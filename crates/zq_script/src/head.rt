@@ -7,10 +7,10 @@ ghost use Rattle.zq_script.specs.Head.{ended, entry_of, north_of, south_entry, e
 use crate::refusal::ScriptRefusal;
 use crate::script::next_line;
 use std::alloc::Global;
-use zq_machine::config::{Config, ConfigRefusal, Counters, Entry, EntryList};
 use zq_key::memory::OutOfMemory;
 use zq_key::message::{Mode, Region, Zid};
 use zq_key::text::Bytes;
+use zq_machine::config::{Config, ConfigRefusal, Counters, Entry, EntryList};
 use zq_words::words::{Word, cut, is, len_to, read_at, read_each};
 
 /// The counters where no line `start` stands.

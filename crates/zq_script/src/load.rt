@@ -6,9 +6,6 @@ ghost use Rattle.zq_machine.specs.Machine.{steps};
 ghost use Rattle.zq_script.specs.Load.{IsBelow, ask_call, asked_key, count, declare_call, declared_key, final_call, handed_over, load_call, load_calls, load_config, load_line, open_call, plain_wire, plus, query_call, reply_call, sent_call};
 
 use std::alloc::Global;
-use zq_machine::call::{Call, Opening};
-use zq_machine::handed::Handed;
-use zq_machine::config::{Config, ConfigRefusal, Counters, Entry};
 use zq_gateway::gateway::Gateway;
 use zq_key::items::Items;
 use zq_key::memory::OutOfMemory;
@@ -17,6 +14,9 @@ use zq_key::message::{
     Request, Response, WireExpr, Zid,
 };
 use zq_key::text::{Bytes, Text};
+use zq_machine::call::{Call, Opening};
+use zq_machine::config::{Config, ConfigRefusal, Counters, Entry};
+use zq_machine::handed::Handed;
 use zq_words::words::{push_number, push_text};
 
 /// How many messages were handed, and of which kinds.

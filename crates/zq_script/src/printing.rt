@@ -16,11 +16,11 @@ use crate::refusal::ScriptRefusal;
 use crate::script::{next_line, script_call};
 use crate::steps::push_step;
 use std::alloc::Global;
-use zq_machine::call::Call;
-use zq_machine::config::Config;
 use zq_gateway::gateway::Gateway;
 use zq_key::memory::OutOfMemory;
 use zq_key::text::Bytes;
+use zq_machine::call::Call;
+use zq_machine::config::Config;
 
 /// Makes a call, and prints its step.
 #[tactic(auto, using(crate::proofs::Shown::step_shows))]

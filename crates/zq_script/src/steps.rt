@@ -11,12 +11,12 @@ ghost use Rattle.zq_script.specs.StepsFit.{ShowsMessage, ShowsStep};
 use crate::fit::{message_fits, steps_fit};
 use crate::same::same_message;
 use std::alloc::{AllocError, Global};
-use zq_machine::call::{Outcome, Refusal, Step};
-use zq_machine::handed::{Handed, Leaves};
 use zq_key::memory::OutOfMemory;
 use zq_key::message::{Declare, DeclareBody, Interest, Message, Request, Response};
 use zq_key::text::Bytes;
 use zq_lines::calls::{push_body, push_info};
+use zq_machine::call::{Outcome, Refusal, Step};
+use zq_machine::handed::{Handed, Leaves};
 use zq_words::show::{Shown, push_field, push_flag};
 use zq_words::words::{push_number, push_text};
 

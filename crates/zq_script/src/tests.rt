@@ -5,12 +5,12 @@ use crate::steps::{print_message, print_steps};
 use crate::{LIMIT, MemorySink, MemorySource};
 use std::alloc::Global;
 use std::test::Fail;
-use zq_machine::call::{Outcome, Step};
-use zq_machine::handed::{Handed, Leaves};
 use zq_key::items::Items;
 use zq_key::memory::OutOfMemory;
 use zq_key::message::{FaceId, Message, ResponseFinal};
 use zq_key::text::{Bytes, Text};
+use zq_machine::call::{Outcome, Step};
+use zq_machine::handed::{Handed, Leaves};
 
 #[test]
 fn first_bad_lines(rt: HostRuntime) -> Result<(), Fail> {

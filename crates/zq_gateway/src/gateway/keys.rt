@@ -54,7 +54,12 @@ impl Gateway {
     }
 
     // A number that a face declares, with its expression read.
-    pub(super) fn name_key(&mut self, face: FaceId, id: u16, wire: &WireExpr) -> Result<Step, OutOfMemory>
+    pub(super) fn name_key(
+        &mut self,
+        face: FaceId,
+        id: u16,
+        wire: &WireExpr,
+    ) -> Result<Step, OutOfMemory>
         ensures step { IfOk result (λ t. t ≡ step self.old (call.DeclareKeyExpr face id wire.now)) }
         ensures after { OnOk result (self.new ≡ after self.old (call.DeclareKeyExpr face id wire.now)) }
         ensures err { OnErr result (self.new ≡ self.old) }

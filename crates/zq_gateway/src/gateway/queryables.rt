@@ -68,7 +68,12 @@ impl Gateway {
     }
 
     // A face withdraws a queryable.
-    pub(super) fn undeclare_queryable(&mut self, face: FaceId, id: u32, node: u16) -> Result<Step, OutOfMemory>
+    pub(super) fn undeclare_queryable(
+        &mut self,
+        face: FaceId,
+        id: u32,
+        node: u16,
+    ) -> Result<Step, OutOfMemory>
         ensures step { IfOk result (λ t. t ≡ answer self.old (withdrawing face id)) }
         ensures after { OnOk result (self.new ≡ settle self.old (withdrawing face id)) }
         ensures err { OnErr result (self.new ≡ self.old) }
@@ -105,7 +110,12 @@ impl Gateway {
     }
 
     // A mark of a face is set or unset.
-    pub(super) fn finalize(&mut self, face: FaceId, mark: &FinalMark, set: bool) -> Result<Step, OutOfMemory>
+    pub(super) fn finalize(
+        &mut self,
+        face: FaceId,
+        mark: &FinalMark,
+        set: bool,
+    ) -> Result<Step, OutOfMemory>
         ensures step { IfOk result (λ t. t ≡ answer self.old (finalizing face mark.now set)) }
         ensures after { OnOk result (self.new ≡ settle self.old (finalizing face mark.now set)) }
         ensures err { OnErr result (self.new ≡ self.old) }

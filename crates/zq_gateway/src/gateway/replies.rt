@@ -56,7 +56,12 @@ impl Gateway {
     }
 
     // A reply of a target.
-    pub(super) fn reply(&mut self, face: FaceId, said: &Said, response: &Response) -> Result<Step, OutOfMemory>
+    pub(super) fn reply(
+        &mut self,
+        face: FaceId,
+        said: &Said,
+        response: &Response,
+    ) -> Result<Step, OutOfMemory>
         ensures step { IfOk result (λ t. t ≡ answer self.old (replying face said.now response.now)) }
         ensures after { OnOk result (self.new ≡ settle self.old (replying face said.now response.now)) }
         ensures err { OnErr result (self.new ≡ self.old) }

@@ -11,7 +11,7 @@ use crate::handed::written_requests;
 use crate::hats;
 use crate::read::{full_text, says_key};
 use crate::select::Asker;
-use std::alloc::{Global, AllocError};
+use std::alloc::{AllocError, Global};
 use zq_hat::types::QueryTargetQabl;
 use zq_key::memory::OutOfMemory;
 use zq_key::message::{FaceId, Request};
