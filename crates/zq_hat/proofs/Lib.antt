@@ -15,3 +15,4 @@ pub mod Skipping
 pub mod OfferLaws
 pub mod OffersMoved
 pub mod ForkLemmas
+pub mod Listed

@@ -68,7 +68,7 @@ sorted_nil : {K : Type 0} (R : K → K → Ordering) → IsStrictlySortedBy R []
 unfolding IsStrictlySortedBy
 sorted_nil R = tt
 
-sorted_texts : {X : Type 0} (es : List (String Global × X)) → IsStrictlySortedBy string_cmp (keys_of es) → IsStrictlySortedBy text_cmp (keys_of (texts_of es))
+pub sorted_texts : {X : Type 0} (es : List (String Global × X)) → IsStrictlySortedBy string_cmp (keys_of es) → IsStrictlySortedBy text_cmp (keys_of (texts_of es))
 sorted_texts [] s = sorted_nil text_cmp
 sorted_texts (e ∷ es) s = sorted_cons text_cmp (string_bytes e.0) (keys_of (texts_of es)) (texts_above e.0 es (sorted_head string_cmp e.0 (keys_of es) s)) (sorted_texts es (sorted_tail string_cmp e.0 (keys_of es) s))
 

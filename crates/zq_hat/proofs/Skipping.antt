@@ -1,11 +1,11 @@
 -- Declared keys that are passed over: none of them meets the request's key.
-use Rattle.std.proofs.Common.{◌≡◌, ◌≢◌, ◌∙◌, sym, ap, subst, refl, arith, ℕ, ◌+◌, ◌<◌, ◌≤◌, length, Bool, true, false, cond, inl, inr, Option, Some, None, List, [], ◌∷◌, ◌++◌, take, drop, get_or, append_assoc}
+use Rattle.std.proofs.Common.{◌≡◌, ◌≢◌, ◌∙◌, sym, ap, subst, refl, arith, ℕ, ◌+◌, ◌<◌, ◌≤◌, length, Bool, true, false, cond, ◌⊎◌, inl, inr, Option, Some, None, List, [], ◌∷◌, ◌++◌, take, drop, get_or, append_assoc}
 use Rattle.std.specs.Prelude.{◌&&◌, String}
 use Rattle.std.specs.declared.alloc.Global.{Global}
 use Rattle.std.specs.declared.cmp.Ordering.{Ordering}
 use Rattle.std.specs.declared.cmp.Ordering.TheVariants.{Less, Equal, Greater}
 use Rattle.std.specs.declared.ops.Bound.TheVariants.{Included, Unbounded}
-use Rattle.std.specs.Ordering.{nat_cmp, ordering_then, is_le, is_eq, ordering_reverse}
+use Rattle.std.specs.Ordering.{nat_cmp, ordering_then, is_le, is_lt, is_eq, ordering_reverse}
 use Rattle.std.specs.Cmp.Lexicographic.{bytes_decides}
 use Rattle.std.specs.Option.{IfSome}
 use Rattle.std.specs.List.{AllByRecursion, flat_map}
@@ -13,18 +13,22 @@ use Rattle.std.specs.List.Sorted.{IsStrictlySortedBy}
 use Rattle.std.specs.Map.{keys_of}
 use Rattle.std.specs.BTreeMap.Range.{entries_between, range_contains}
 use Rattle.std.specs.String.{string_bytes, string_cmp}
-use Rattle.std.proofs.lemmas.Bool.{false≢true}
+use Rattle.std.proofs.lemmas.Bool.{false≢true, false_from_ne_true}
 use Rattle.std.proofs.lemmas.Cmp.{nat_list_cmp_total, ranked}
 use Rattle.std.proofs.lemmas.Map.Keys.{sorted_head, sorted_tail}
 use Rattle.std.proofs.lemmas.Map.Text.{is_eq-slice_cmp}
 use Rattle.std.proofs.lemmas.List.{drop_more, take_more, take-append-drop}
-use Rattle.zq_key.specs.Key.{intersects}
+use Rattle.zq_key.specs.Key.{intersects, is_plain}
+use Rattle.zq_key.proofs.Plain.{intersects-plain}
+use Rattle.std.specs.Str.{bytes_eq}
+use Rattle.std.proofs.lemmas.Slice.Eq.{bytes_eq-Decides}
 use Rattle.zq_key.specs.Apart.{is_wild}
 use Rattle.zq_hat.specs.Forks.{IsForkAt, IsLast, IsNext}
 use Rattle.zq_key.proofs.Runs.{Begins, squeezed_run, run_is_less, not_below_itself}
 use Rattle.zq_hat.specs.Kept.{text_cmp}
-use Rattle.zq_hat.specs.Holders.{texts_of}
-use Rattle.zq_hat.specs.Skipping.{Skips, IsBoundAt, IsPlaceAbove}
+use Rattle.zq_hat.specs.Holders.{has_text, texts_of, IsListed, IsFirstAfter, NoneAfter}
+use Rattle.zq_hat.proofs.Held.{text_exact}
+use Rattle.zq_hat.specs.Skipping.{SkipsListed, NoneFrom, Skips, IsBoundAt, IsPlaceAbove}
 
 -- ---- texts between two that begin alike
 same_front : (p xs ys : List ℕ) → text_cmp (p ++ xs) (p ++ ys) ≡ text_cmp xs ys
@@ -190,23 +194,23 @@ above_less bound k (e ∷ es) all from = ap (λ b. cond b (e ∷ from_bound boun
         ap (λ r. is_le r && true) (ap (λ b. text_cmp b (string_bytes x)) same ∙ less)
     from_above bound k x Greater is from less = absurd (false≢true (sym (ap (λ r. is_le r && true) is) ∙ from))
 
-module _ {X A : Type 0} (f : List ℕ × X → List A) (bound : String Global) where
+module _ {X A : Type 0} (P : List ℕ → Type 0) (f : List ℕ × X → List A) (bound : String Global) where
   abbrev Dead : List ℕ → Type 0
-  Dead key = (t : List ℕ) → text_cmp t key ≢ Less → text_cmp t (string_bytes bound) ≡ Less → (x : X) → f (t, x) ≡ []
+  Dead key = (t : List ℕ) → text_cmp t key ≢ Less → text_cmp t (string_bytes bound) ≡ Less → P t → (x : X) → f (t, x) ≡ []
 
   later : (k x : String Global) → string_cmp k x ≡ Less → Dead (string_bytes k) → Dead (string_bytes x)
-  later k x less dead t above below v = dead t (λ before. above (nat_list_cmp_total.trans t (string_bytes k) (string_bytes x) before less)) below v
+  later k x less dead t above below p v = dead t (λ before. above (nat_list_cmp_total.trans t (string_bytes k) (string_bytes x) before less)) below p v
 
   not_before : (k x : String Global) → string_cmp k x ≡ Less → text_cmp (string_bytes x) (string_bytes k) ≢ Less
   not_before k x less back = not_below_itself (string_bytes k) (nat_list_cmp_total.trans (string_bytes k) (string_bytes x) (string_bytes k) less back)
 
   -- of the entries after a key, those before the bound give nothing, and the others are those from the bound on
-  pub run_split : (k : String Global) (es : List (String Global × X)) → IsStrictlySortedBy string_cmp (k ∷ keys_of es) → Dead (string_bytes k) → IsSplit f es (from_bound bound es)
-  run_split k [] s dead = record { over = []; whole = refl; nothing = refl }
-  run_split k (e ∷ es) s dead =
+  pub run_split : (k : String Global) (es : List (String Global × X)) → IsStrictlySortedBy string_cmp (k ∷ keys_of es) → AllByRecursion (λ e. P e.0) (texts_of es) → Dead (string_bytes k) → IsSplit f es (from_bound bound es)
+  run_split k [] s all dead = record { over = []; whole = refl; nothing = refl }
+  run_split k (e ∷ es) s all dead =
       let above = sorted_head string_cmp k (keys_of (e ∷ es)) s in
       let rest = sorted_tail string_cmp k (keys_of (e ∷ es)) s in
-      by (is_from bound e.0) refl above.0 rest (run_split e.0 es rest (later k e.0 above.0 dead))
+      by (is_from bound e.0) refl above.0 rest (run_split e.0 es rest all.1 (later k e.0 above.0 dead))
     where
       by : (b : Bool) → is_from bound e.0 ≡ b → string_cmp k e.0 ≡ Less → IsStrictlySortedBy string_cmp (e.0 ∷ keys_of es) → IsSplit f es (from_bound bound es) → IsSplit f (e ∷ es) (cond b (e ∷ from_bound bound es) (from_bound bound es))
       by true is less rest more = record { over = []; whole = ap (λ l. e ∷ l) (sym (above_less bound e.0 es (sorted_head string_cmp e.0 (keys_of es) rest) is)); nothing = refl }
@@ -215,7 +219,7 @@ module _ {X A : Type 0} (f : List ℕ × X → List A) (bound : String Global) w
           record {
             over = e ∷ more.over;
             whole = ap (λ l. e ∷ l) more.whole;
-            nothing = λ i. dead (string_bytes e.0) (not_before k e.0 less) before e.1 i ++ more.nothing i;
+            nothing = λ i. dead (string_bytes e.0) (not_before k e.0 less) before all.0 e.1 i ++ more.nothing i;
           }
 
 -- the list ends with these
@@ -226,7 +230,7 @@ pub unbounded : {X : Type 0} (es : List (String Global × X)) → entries_betwee
 unbounded [] = refl
 unbounded (e ∷ es) = ap (λ l. e ∷ l) (unbounded es)
 
-sorted_end : {X : Type 0} (front es : List (String Global × X)) → IsStrictlySortedBy string_cmp (keys_of (front ++ es)) → IsStrictlySortedBy string_cmp (keys_of es)
+pub sorted_end : {X : Type 0} (front es : List (String Global × X)) → IsStrictlySortedBy string_cmp (keys_of (front ++ es)) → IsStrictlySortedBy string_cmp (keys_of es)
 sorted_end [] es s = s
 sorted_end (x ∷ front) es s = sorted_end front es (sorted_tail string_cmp x.0 (keys_of (front ++ es)) s)
 
@@ -249,17 +253,27 @@ pub record IsPassed {X A : Type 0} (f : List ℕ × X → List A) (es rest new :
   pub split : IsSplit f rest new
   pub end : IsEnd es new
 
-module _ {X A : Type 0} (f : List ℕ × X → List A) (bound : String Global) (es front rest : List (String Global × X)) (e : String Global × X) where
-  pub passed : es ≡ front ++ e ∷ rest → IsStrictlySortedBy string_cmp (keys_of es) → string_cmp e.0 bound ≡ Less
-      → ((t : List ℕ) → text_cmp t (string_bytes e.0) ≢ Less → text_cmp t (string_bytes bound) ≡ Less → (x : X) → f (t, x) ≡ []) → IsPassed f es rest (from_bound bound es)
-  passed is s less dead =
+module _ {X A : Type 0} (P : List ℕ → Type 0) (f : List ℕ × X → List A) (bound : String Global) (es front rest : List (String Global × X)) (e : String Global × X) where
+  pub passed : es ≡ front ++ e ∷ rest → IsStrictlySortedBy string_cmp (keys_of es) → AllByRecursion (λ e. P e.0) (texts_of rest) → string_cmp e.0 bound ≡ Less
+      → ((t : List ℕ) → text_cmp t (string_bytes e.0) ≢ Less → text_cmp t (string_bytes bound) ≡ Less → P t → (x : X) → f (t, x) ≡ []) → IsPassed f es rest (from_bound bound es)
+  passed is s all less dead =
       let sorted : IsStrictlySortedBy string_cmp (keys_of (front ++ e ∷ rest)) = subst (λ l. IsStrictlySortedBy string_cmp (keys_of l)) is s in
       let same : from_bound bound es ≡ from_bound bound rest = ap (from_bound bound) is ∙ dropped bound e rest less front sorted in
-      let split = run_split f bound e.0 rest (sorted_end front (e ∷ rest) sorted) dead in
+      let split = run_split P f bound e.0 rest (sorted_end front (e ∷ rest) sorted) all dead in
       record {
         split = subst (IsSplit f rest) (sym same) split;
         end = (front ++ e ∷ split.over, is ∙ ap (λ l. front ++ e ∷ l) (split.whole ∙ ap (λ l. split.over ++ l) (sym same)) ∙ sym (append_assoc front (e ∷ split.over) (from_bound bound es)));
       }
+
+-- where none from an entry on gives anything, nothing is left
+module _ {X A : Type 0} (P : List ℕ → Type 0) (f : List ℕ × X → List A) where
+  pub none_left : (k : String Global) (es : List (String Global × X)) → IsStrictlySortedBy string_cmp (k ∷ keys_of es) → AllByRecursion (λ e. P e.0) (texts_of es)
+      → ((t : List ℕ) → text_cmp t (string_bytes k) ≢ Less → P t → (x : X) → f (t, x) ≡ []) → flat_map f (texts_of es) ≡ []
+  none_left k [] s all dead = refl
+  none_left k (e ∷ es) s all dead =
+      let less : string_cmp k e.0 ≡ Less = (sorted_head string_cmp k (keys_of (e ∷ es)) s).0 in
+      let more = none_left e.0 es (sorted_tail string_cmp k (keys_of (e ∷ es)) s) all.1 (λ t above p x. dead t (λ before. above (nat_list_cmp_total.trans t (string_bytes k) (string_bytes e.0) before less)) p x) in
+      λ i. dead (string_bytes e.0) (λ back. not_below_itself (string_bytes k) (nat_list_cmp_total.trans (string_bytes k) (string_bytes e.0) (string_bytes k) less back)) all.0 e.1 i ++ more i
 
 module _ {X A : Type 0} (f : List ℕ × X → List A) where
   joined : (xs ys : List (String Global × X)) → flat_map f (texts_of (xs ++ ys)) ≡ flat_map f (texts_of xs) ++ flat_map f (texts_of ys)
@@ -277,3 +291,60 @@ module _ {X A : Type 0} (f : List ℕ × X → List A) where
 pub all_at_end : {X : Type 0} (P : List ℕ × X → Type 0) (xs ys : List (String Global × X)) → AllByRecursion P (texts_of (xs ++ ys)) → AllByRecursion P (texts_of ys)
 all_at_end P [] ys all = all
 all_at_end P (x ∷ xs) ys all = all_at_end P xs ys all.1
+
+-- ---- the step at a plain key
+pub is_less : (r : Ordering) → is_lt r ≡ true → r ≡ Less
+is_less Less h = refl
+is_less Equal h = absurd (false≢true h)
+is_less Greater h = absurd (false≢true h)
+
+pub not_less : (r : Ordering) → is_lt r ≡ false → r ≢ Less
+not_less Less h e = absurd (false≢true (sym h))
+not_less Equal h e = cc
+not_less Greater h e = cc
+
+above_from : (t k : List ℕ) → text_cmp t k ≢ Less → (t ≡ k → ⊥) → text_cmp k t ≡ Less
+above_from t k not_below differ = by (text_cmp t k) refl not_below
+  where
+    by : (r : Ordering) → text_cmp t k ≡ r → r ≢ Less → text_cmp k t ≡ Less
+    by Less is ne = absurd (ne refl)
+    by Equal is ne = absurd (differ (text_exact t k is))
+    by Greater is ne = nat_list_cmp_total.antisymm k t ∙ ap ordering_reverse is
+
+below_from_not : (t k b : List ℕ) → text_cmp t k ≡ Less → text_cmp b k ≢ Less → text_cmp t b ≡ Less
+below_from_not t k b less not_below = by (text_cmp b k) refl not_below
+  where
+    by : (r : Ordering) → text_cmp b k ≡ r → r ≢ Less → text_cmp t b ≡ Less
+    by Less is ne = absurd (ne refl)
+    by Equal is ne = ap (text_cmp t) (text_exact b k is) ∙ less
+    by Greater is ne = nat_list_cmp_total.trans t k b less (nat_list_cmp_total.antisymm k b ∙ ap ordering_reverse is)
+
+module _ (texts : List (List ℕ)) (q key : List ℕ) (q_plain : is_plain q ≡ true) (key_plain : is_plain key ≡ true) where
+  misses_plain : (t : List ℕ) → text_cmp t key ≢ Less → IsListed texts t → (t ≡ q → ⊥) → (has_text t texts ≡ true → text_cmp key t ≡ Less → ⊥) → intersects t q ≡ false
+  misses_plain t above listed other unlisted = by (is_plain t) refl
+    where
+      by : (b : Bool) → is_plain t ≡ b → intersects t q ≡ false
+      by true plain = intersects-plain t q plain q_plain ∙ false_from_ne_true (bytes_eq t q) (λ e. other ((bytes_eq-Decides t q).0 e))
+      by false wild = absurd (unlisted (listed wild) (above_from t key above (λ same. false≢true (sym wild ∙ ap is_plain same ∙ key_plain))))
+
+  pub to_listed : (first : List ℕ) → IsFirstAfter texts key first → (text_cmp q key ≡ Less) ⊎ (text_cmp first q ≡ Less) → SkipsListed texts q key first
+  to_listed first is out = record {
+    after = is.after;
+    none = λ t above below listed. misses_plain t above listed (other t above below out) (λ has after. is.none t has after below);
+  }
+    where
+      other : (t : List ℕ) → text_cmp t key ≢ Less → text_cmp t first ≡ Less → (text_cmp q key ≡ Less) ⊎ (text_cmp first q ≡ Less) → t ≡ q → ⊥
+      other t above below (inl less) same = above (ap (λ x. text_cmp x key) same ∙ less)
+      other t above below (inr less) same = not_below_itself t (nat_list_cmp_total.trans t first t below (ap (text_cmp first) same ∙ less))
+
+  pub to_request : text_cmp key q ≡ Less → ((t : List ℕ) → has_text t texts ≡ true → text_cmp key t ≡ Less → text_cmp t q ≢ Less) → SkipsListed texts q key q
+  to_request less none = record {
+    after = less;
+    none = λ t above below listed. misses_plain t above listed (λ same. not_below_itself t (ap (text_cmp t) same ∙ below)) (λ has after. none t has after below);
+  }
+
+  pub none_from : text_cmp q key ≡ Less → NoneAfter texts key → NoneFrom texts q key
+  none_from less none t above listed = misses_plain t above listed (λ same. above (ap (λ x. text_cmp x key) same ∙ less)) (λ has after. none t has after)
+
+pub past_request : (texts : List (List ℕ)) (q key first : List ℕ) → IsFirstAfter texts key first → text_cmp first q ≢ Less → (t : List ℕ) → has_text t texts ≡ true → text_cmp key t ≡ Less → text_cmp t q ≢ Less
+past_request texts q key first is out t has after below = is.none t has after (below_from_not t q first below out)

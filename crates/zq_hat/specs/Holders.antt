@@ -1,16 +1,17 @@
 -- Who declared each key, as the hat keeps it beside the faces' own lists.
-use Rattle.std.specs.Prelude.{ℕ, Bool, not, false, ◌≡◌, ◌==◌, true, List, [], ◌∷◌, Option, Some, None, map, filter, if◌then◌else◌}
+use Rattle.std.specs.Prelude.{ℕ, Bool, not, false, ◌≡◌, ◌≢◌, ◌==◌, true, List, [], ◌∷◌, Option, Some, None, map, filter, if◌then◌else◌}
 use Rattle.std.specs.List.{flat_map, list_any}
 use Rattle.std.specs.List.Sorted.{IsStrictlySortedBy}
-use Rattle.std.specs.Option.{option_map_or, option_and_then, option_to_list}
+use Rattle.std.specs.Option.{is_some, option_map_or, option_and_then, option_to_list}
 use Rattle.std.specs.Map.{lookup, keys_of, remove_entry, set_value}
 use Rattle.std.specs.BTreeMap.{insert_entry, is_at}
 use Rattle.std.specs.declared.cmp.Ordering.{Ordering}
+use Rattle.std.specs.declared.cmp.Ordering.TheVariants.{Less}
 use Rattle.std.specs.Ordering.{nat_cmp, bool_cmp, ordering_then}
 use Rattle.std.specs.Str.{bytes_eq}
 use Rattle.std.specs.Prelude.{String, string_bytes}
 use Rattle.std.specs.declared.alloc.Global.{Global}
-use Rattle.zq_key.specs.Key.{is_key, intersects}
+use Rattle.zq_key.specs.Key.{is_key, is_plain, intersects}
 use Rattle.zq_key.specs.declared.message.QueryableInfoType.{QueryableInfoType}
 use Rattle.zq_hat.specs.declared.types.Declaration.{Declaration}
 use Rattle.zq_hat.specs.Kept.{text_cmp, at_id, is_on, declaration}
@@ -151,3 +152,24 @@ IsKeyed e = is_key e.0 ≡ true
 -- the entries by the bytes of their strings
 abbrev pub texts_of : {X : Type 0} → List (String Global × X) → List (List ℕ × X)
 texts_of es = map (λ e. (string_bytes e.0, e.1)) es
+
+-- the text is among the texts
+abbrev pub has_text : List ℕ → List (List ℕ) → Bool
+has_text t texts = list_any (is_at (text_cmp t)) texts
+
+-- the text is among the texts, if it is not a plain key
+abbrev pub IsListed : List (List ℕ) → List ℕ → Type 0
+IsListed texts t = is_plain t ≡ false → has_text t texts ≡ true
+
+-- the texts have each key of the index that is not plain
+abbrev pub AreListed : Index → List (List ℕ) → Type 0
+AreListed index texts = (t : List ℕ) → is_some (at_text t index) ≡ true → IsListed texts t
+
+-- none of the texts comes after t
+abbrev pub NoneAfter : List (List ℕ) → List ℕ → Type 0
+NoneAfter texts t = (s : List ℕ) → has_text s texts ≡ true → text_cmp t s ≢ Less
+
+-- the text comes after t, and none of the texts comes between
+pub record IsFirstAfter (texts : List (List ℕ)) (t first : List ℕ) : Type 0 where
+  pub after : text_cmp t first ≡ Less
+  pub none : (s : List ℕ) → has_text s texts ≡ true → text_cmp t s ≡ Less → text_cmp s first ≢ Less

@@ -4,7 +4,7 @@ pub mod Regions
 pub mod Kept
 pub mod Marks
 pub mod Offers
-pub mod Skipping
 pub mod Holders
+pub mod Skipping
 pub mod Moved
 pub mod Forks

@@ -3,6 +3,9 @@ use Rattle.std.specs.Prelude.{◌≡◌, ◌≢◌, ℕ, ◌+◌, ◌<◌, ◌�
 use Rattle.std.specs.declared.cmp.Ordering.TheVariants.{Less}
 use Rattle.zq_key.specs.Key.{intersects}
 use Rattle.zq_hat.specs.Kept.{text_cmp}
+use Rattle.zq_hat.specs.Holders.{IsListed}
+use Rattle.zq_hat.specs.declared.offers.Step.{Step}
+use Rattle.zq_hat.specs.declared.offers.Step.TheVariants.{Look, Jump, End}
 
 -- the bound comes after the key, and no text from the key on and before the bound meets q
 pub record Skips (q key bound : List ℕ) : Type 0 where
@@ -21,3 +24,18 @@ pub record IsPlaceAbove (key : List ℕ) (k at byte : ℕ) : Type 0 where
   pub ascii : byte < 128
   pub next : byte ≡ slice_index key at + 1
   pub place : (at + 1 ≡ k) ⊎ (at ≡ k)
+
+-- the bound comes after the key, and no text from the key on and before the bound that is listed, if it is not a plain key, meets q
+pub record SkipsListed (texts : List (List ℕ)) (q key bound : List ℕ) : Type 0 where
+  pub after : text_cmp key bound ≡ Less
+  pub none : (t : List ℕ) → text_cmp t key ≢ Less → text_cmp t bound ≡ Less → IsListed texts t → intersects t q ≡ false
+
+-- no text from the key on that is listed, if it is not a plain key, meets q
+abbrev pub NoneFrom : List (List ℕ) → List ℕ → List ℕ → Type 0
+NoneFrom texts q key = (t : List ℕ) → text_cmp t key ≢ Less → IsListed texts t → intersects t q ≡ false
+
+-- what the next step of a search is: to look at the key; to go on at the bound, before which none meets q; or to end
+abbrev pub StepIs : List (List ℕ) → List ℕ → List ℕ → List ℕ → Step → Type 0
+StepIs texts q key bound Look = Unit {0}
+StepIs texts q key bound Jump = SkipsListed texts q key bound
+StepIs texts q key bound End = NoneFrom texts q key

@@ -1,13 +1,10 @@
 //! One face of a hat.
 ghost use Rattle.std.specs.Prelude.{◌≡◌, OnOk, OnErr, IfOk, map, None};
 ghost use Rattle.std.specs.Option.{option_copied, option_map};
-ghost use Rattle.std.specs.BTreeMap.{is_at};
-ghost use Rattle.std.specs.BTreeSet.{insert_key};
-ghost use Rattle.std.specs.Set.{remove_key};
-ghost use Rattle.std.specs.String.{string_bytes};
-ghost use Rattle.zq_hat.specs.Kept.{declaration, declare, withdraw, new_face, key_of, text_cmp};
+ghost use Rattle.zq_hat.specs.Kept.{declaration, declare, withdraw, new_face, key_of};
 ghost use Rattle.zq_hat.specs.Marks.{is_finalized, marked};
 
+use crate::text_set::{copy_texts, put_text, take_text};
 use crate::types::{Declaration, FaceRecord, FinalMark};
 use std::alloc::Global;
 use std::collections::{BTreeMap, BTreeSet};
@@ -76,25 +73,6 @@ fn copy_declared(
     Ok(made)
 }
 
-/// The text joins the others.
-#[tactic(auto, using(crate::proofs::Texts::texts_put))]
-fn put_text(texts: &mut BTreeSet<String>, alloc: Global, text: &str) -> Result<(), OutOfMemory>
-    ensures ok { OnOk result (map string_bytes texts.new.keys ≡ insert_key text_cmp (map string_bytes texts.old.keys) text.now) }
-    ensures err { OnErr result (texts.new.keys ≡ texts.old.keys) }
-{
-    match texts.insert(String::from_str(alloc, text)?) {
-        Ok(_) => Ok(()),
-        Err(_) => Err(OutOfMemory),
-    }
-}
-
-/// The text leaves the others.
-fn take_text(texts: &mut BTreeSet<String>, text: &str)
-    ensures { map string_bytes texts.new.keys ≡ remove_key (is_at (text_cmp text.now)) (map string_bytes texts.old.keys) }
-{
-    let _ = texts.remove(text);
-}
-
 impl HatFace {
     /// A face that has declared nothing and was told nothing.
     pub fn new(alloc: Global, opened: FaceRecord, told_start: u32) -> HatFace
@@ -112,7 +90,6 @@ impl HatFace {
     }
 
     /// An equal face.
-    #[tactic(auto, using(crate::proofs::Texts::texts_same))]
     pub fn copy(&self, alloc: Global) -> Result<HatFace, OutOfMemory>
         ensures { IfOk result (λ f. f ≡ self.now) }
     {
@@ -123,7 +100,7 @@ impl HatFace {
             declared: copy_declared(&self.declared, alloc)?,
             last_told: self.last_told,
             initial: self.initial,
-            finalized: self.finalized.clone()?,
+            finalized: copy_texts(&self.finalized)?,
         })
     }
 

@@ -1,16 +1,18 @@
 //! Who declared each key, kept beside the faces' own lists so that a key is found by its text.
-ghost use Rattle.std.specs.Prelude.{◌≡◌, [], OnOk, OnErr, IfOk, Some, None, true, is_some, fold, length, ◌==◌};
+ghost use Rattle.std.specs.Prelude.{◌≡◌, [], OnOk, OnErr, IfOk, Some, None, true, is_some, fold, length, map, List, ℕ, ◌==◌};
 ghost use Rattle.std.specs.Option.{option_copied};
 ghost use Rattle.std.specs.Map.{remove_entry, set_value};
 ghost use Rattle.std.specs.BTreeMap.{insert_entry, is_at};
 ghost use Rattle.std.specs.String.{string_bytes};
 ghost use Rattle.zq_hat.specs.Kept.{text_cmp};
-ghost use Rattle.zq_hat.specs.Holders.{place_cmp, at_text, with_holding, without_holding, with_held, texts_of, rank_of, Holdings};
+ghost use Rattle.zq_hat.specs.Holders.{place_cmp, at_text, has_text, AreListed, IsListed, with_holding, without_holding, with_held, texts_of, rank_of, Holdings};
 
 use crate::info::same_info;
+use crate::text_set::{copy_texts, put_text, take_text};
 use std::alloc::Global;
 use std::collections::{BTreeMap, BTreeSet};
 use std::marker::Model;
+use zq_key::is_plain;
 use zq_key::memory::OutOfMemory;
 use zq_key::message::QueryableInfoType;
 
@@ -128,18 +130,23 @@ impl Holders {
     }
 }
 
-/// The declarations on each key, by the key's text.
+/// The declarations on each key, by the key's text; the keys that are not plain stand in a set, too.
 #[derive(Drop)]
 pub struct KeyHolders {
     keys: BTreeMap<String, Holders>,
+    wild: BTreeSet<String>,
 }
 
 impl Model for KeyHolders {
-    ghost use Rattle.zq_hat.specs.Holders.{Index, texts_of};
+    ghost use Rattle.std.specs.Prelude.{map};
+    ghost use Rattle.std.specs.String.{string_bytes};
+    ghost use Rattle.zq_hat.specs.Holders.{AreListed, Index, texts_of};
 
     ghost Value = { Index };
 
     ghost view = { λ k. texts_of k.keys.entries };
+
+    ghost invariant = { λ k. AreListed (texts_of k.keys.entries) (map string_bytes k.wild.keys) };
 }
 
 /// The declaration is added to those on a key that has some.
@@ -153,6 +160,7 @@ fn put_beside(
     requires { is_some (at_text key.now (texts_of keys.old.entries)) ≡ true }
     ensures ok { OnOk result (texts_of keys.new.entries ≡ with_holding key.now place info (texts_of keys.old.entries)) }
     ensures err { OnErr result (texts_of keys.new.entries ≡ texts_of keys.old.entries) }
+    ensures listed { (texts : List (List ℕ)) → AreListed (texts_of keys.old.entries) texts → AreListed (texts_of keys.new.entries) texts }
 {
     match keys.get_mut(key) {
         Some(holders) => match holders.put(place, info) {
@@ -185,11 +193,49 @@ fn put_first(
     }
 }
 
+/// The key is listed if it is not plain.
+fn list_key(wild: &mut BTreeSet<String>, alloc: Global, key: &str) -> Result<(), OutOfMemory>
+    ensures ok { OnOk result (IsListed (map string_bytes wild.new.keys) key.now) }
+    ensures wider { (t : List ℕ) → has_text t (map string_bytes wild.old.keys) ≡ true → has_text t (map string_bytes wild.new.keys) ≡ true }
+{
+    if is_plain(key) {
+        return Ok(());
+    }
+    match put_text(wild, alloc, key) {
+        Ok(()) => Ok(()),
+        Err(error) => Err(error),
+    }
+}
+
+/// The first declaration on a key, which is listed if it is not plain. After want of memory the list
+/// may have it without a declaration.
+fn put_new(
+    keys: &mut BTreeMap<String, Holders>,
+    wild: &mut BTreeSet<String>,
+    alloc: Global,
+    key: &str,
+    place: (u32, u32),
+    info: QueryableInfoType,
+) -> Result<(), OutOfMemory>
+    requires absent { at_text key.now (texts_of keys.old.entries) ≡ None }
+    requires listed { AreListed (texts_of keys.old.entries) (map string_bytes wild.old.keys) }
+    ensures ok { OnOk result (texts_of keys.new.entries ≡ with_holding key.now place info (texts_of keys.old.entries)) }
+    ensures err { OnErr result (texts_of keys.new.entries ≡ texts_of keys.old.entries) }
+    ensures listed { AreListed (texts_of keys.new.entries) (map string_bytes wild.new.keys) }
+{
+    list_key(wild, alloc, key)?;
+    match put_first(keys, alloc, key, place, info) {
+        Ok(()) => Ok(()),
+        Err(error) => Err(error),
+    }
+}
+
 /// The declaration of the place goes; answers whether the key has none left.
 #[tactic(auto, using(crate::proofs::Texts::text_lookup, crate::proofs::Texts::text_set))]
 fn take_from(keys: &mut BTreeMap<String, Holders>, key: &str, place: (u32, u32)) -> bool
     requires { is_some (at_text key.now (texts_of keys.old.entries)) ≡ true }
-    ensures { (hs : Holdings) → at_text key.now (texts_of keys.old.entries) ≡ Some hs → (result ≡ (length (remove_entry (is_at (place_cmp place)) hs) == 0)) × (texts_of keys.new.entries ≡ set_value (is_at (text_cmp key.now)) (texts_of keys.old.entries) (remove_entry (is_at (place_cmp place)) hs)) }
+    ensures after { (hs : Holdings) → at_text key.now (texts_of keys.old.entries) ≡ Some hs → (result ≡ (length (remove_entry (is_at (place_cmp place)) hs) == 0)) × (texts_of keys.new.entries ≡ set_value (is_at (text_cmp key.now)) (texts_of keys.old.entries) (remove_entry (is_at (place_cmp place)) hs)) }
+    ensures listed { (texts : List (List ℕ)) → AreListed (texts_of keys.old.entries) texts → AreListed (texts_of keys.new.entries) texts }
 {
     match keys.get_mut(key) {
         Some(holders) => holders.take(place),
@@ -200,9 +246,20 @@ fn take_from(keys: &mut BTreeMap<String, Holders>, key: &str, place: (u32, u32))
 /// The key goes.
 #[tactic(auto, using(crate::proofs::Texts::text_remove))]
 fn drop_key(keys: &mut BTreeMap<String, Holders>, key: &str)
-    ensures { texts_of keys.new.entries ≡ remove_entry (is_at (text_cmp key.now)) (texts_of keys.old.entries) }
+    ensures after { texts_of keys.new.entries ≡ remove_entry (is_at (text_cmp key.now)) (texts_of keys.old.entries) }
+    ensures gone { at_text key.now (texts_of keys.new.entries) ≡ None }
 {
     let _ = keys.remove(key);
+}
+
+/// The key goes from the list, too.
+fn drop_last(keys: &mut BTreeMap<String, Holders>, wild: &mut BTreeSet<String>, key: &str)
+    requires { AreListed (texts_of keys.old.entries) (map string_bytes wild.old.keys) }
+    ensures after { texts_of keys.new.entries ≡ remove_entry (is_at (text_cmp key.now)) (texts_of keys.old.entries) }
+    ensures listed { AreListed (texts_of keys.new.entries) (map string_bytes wild.new.keys) }
+{
+    drop_key(keys, key);
+    take_text(wild, key);
 }
 
 /// An equal entry is put in its place.
@@ -244,6 +301,7 @@ impl KeyHolders {
     {
         Ok(KeyHolders {
             keys: copy_keys(&self.keys, alloc)?,
+            wild: copy_texts(&self.wild)?,
         })
     }
 
@@ -252,6 +310,7 @@ impl KeyHolders {
     {
         KeyHolders {
             keys: BTreeMap::new(alloc),
+            wild: BTreeSet::new(alloc),
         }
     }
 
@@ -260,6 +319,13 @@ impl KeyHolders {
         ensures { texts_of result.now.entries ≡ self.now }
     {
         &self.keys
+    }
+
+    /// The keys that are not plain.
+    pub fn wild(&self) -> &BTreeSet<String>
+        ensures { AreListed self.now (map string_bytes result.now.keys) }
+    {
+        &self.wild
     }
 
     /// The declarations on the key.
@@ -289,9 +355,12 @@ impl KeyHolders {
         ensures err { OnErr result (self.new ≡ self.old) }
     {
         if self.has(key) {
-            return put_beside(&mut self.keys, key, place, info);
+            return match put_beside(&mut self.keys, key, place, info) {
+                Ok(()) => Ok(()),
+                Err(error) => Err(error),
+            };
         }
-        put_first(&mut self.keys, alloc, key, place, info)
+        put_new(&mut self.keys, &mut self.wild, alloc, key, place, info)
     }
 
     /// Takes out the declaration of the place on the key.
@@ -302,7 +371,7 @@ impl KeyHolders {
             return;
         }
         if take_from(&mut self.keys, key, place) {
-            drop_key(&mut self.keys, key);
+            drop_last(&mut self.keys, &mut self.wild, key);
         }
     }
 }

@@ -6,6 +6,7 @@
 //! - `face`: what one face declared
 //! - `offers`: what a region offers for the key of a request
 //! - `forks`: where a text and a key part, chunk by chunk
+//! - `text_set`: texts that are kept in order
 //! - `hat`: the hat of one region
 #![tactic(auto)]
 
@@ -18,4 +19,5 @@ mod offers;
 pub mod strategy;
 #[cfg(test)]
 mod tests;
+mod text_set;
 pub mod types;

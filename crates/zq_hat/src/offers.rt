@@ -4,26 +4,27 @@ ghost use Rattle.std.specs.List.{AllByRecursion, flat_map, suffix_len};
 ghost use Rattle.std.specs.Option.{option_to_list};
 ghost use Rattle.std.specs.Ordering.{is_lt};
 ghost use Rattle.std.specs.String.{string_bytes};
-ghost use Rattle.zq_key.specs.Key.{is_key};
+ghost use Rattle.zq_key.specs.Key.{is_key, is_plain};
 ghost use Rattle.zq_hat.specs.Kept.{text_cmp};
 ghost use Rattle.zq_hat.specs.Offers.{bare_offers, bare_on, may_have, offer_cmp, place, sorted, distance};
-ghost use Rattle.zq_hat.specs.Skipping.{IsBoundAt, IsPlaceAbove, Skips};
-ghost use Rattle.zq_hat.specs.Holders.{Holdings, IsKeyed, groups_from, group_offer, holder_offers, texts_of};
+ghost use Rattle.zq_hat.specs.Skipping.{IsBoundAt, IsPlaceAbove, Skips, StepIs};
+ghost use Rattle.zq_hat.specs.Holders.{Holdings, AreListed, IsKeyed, groups_from, group_offer, holder_offers, texts_of};
 
 use crate::face::HatFace;
 use crate::forks::{fork, next_byte};
 use crate::holders::{Holders, KeyHolders};
 use crate::info::merge_qabl_infos;
 use crate::strategy::is_north;
+use crate::text_set::first_after;
 use crate::types::{QueryTargetQabl, Strategy};
 use std::alloc::Global;
 use std::cmp::Ordering;
-use std::collections::BTreeMap;
+use std::collections::{BTreeMap, BTreeSet};
 use std::ops::RangeFull;
 use zq_key::memory::OutOfMemory;
 use zq_key::message::{Bound, FaceId, QueryableInfoType, Region};
 use zq_key::text::Text;
-use zq_key::{includes, intersects};
+use zq_key::{includes, intersects, is_plain};
 
 /// A face's number, and what it declared on a key, merged.
 type Group = (u32, QueryableInfoType);
@@ -32,6 +33,12 @@ fn compare(a: &str, b: &str) -> Ordering
     ensures { result ≡ text_cmp a.now b.now }
 {
     a.cmp(b)
+}
+
+fn comes_before(a: &str, b: &str) -> bool
+    ensures { result ≡ is_lt (text_cmp a.now b.now) }
+{
+    compare(a, b) == Ordering::Less
 }
 
 fn distance(offer: &QueryTargetQabl) -> u16
@@ -279,28 +286,111 @@ fn after_run(bound: &mut String, key: &str, q: &str) -> Result<bool, OutOfMemory
     }
 }
 
-/// The offers by declarations, in order. Keys that begin with bytes with which no key that meets the
-/// request's begins are passed over by one search, so that a plain key is not tested against every
-/// plain key that was declared.
+/// The next step of a search for what meets a request's key.
+#[derive(Clone, Copy)]
+pub enum Step {
+    /// To look at the key.
+    Look,
+    /// To go on at a bound.
+    Jump,
+    /// None is left.
+    End,
+}
+
+/// Writes the bound.
+fn set_bound(bound: &mut String, text: &str) -> Result<(), OutOfMemory>
+    ensures { OnOk result (string_bytes bound.new ≡ text.now) }
+{
+    bound.clear();
+    bound.push_str(text)?;
+    Ok(())
+}
+
+/// The step at a plain key where the request's is plain: on to this one, or to the next that is not
+/// plain.
+fn plain_step(
+    bound: &mut String,
+    wild: &BTreeSet<String>,
+    key: &String,
+    q: &str,
+) -> Result<Step, OutOfMemory>
+    requires plain { is_plain q.now ≡ true }
+    requires plain_key { is_plain (string_bytes key.now) ≡ true }
+    ensures { IfOk result (StepIs (map string_bytes wild.now.keys) q.now (string_bytes key.now) (string_bytes bound.new)) }
+{
+    let next = first_after(wild, key);
+    match compare(key.as_str(), q) {
+        Ordering::Equal => Ok(Step::Look),
+        Ordering::Less => match next {
+            Some(listed) => {
+                if comes_before(listed.as_str(), q) {
+                    set_bound(bound, listed.as_str())?;
+                    Ok(Step::Jump)
+                } else {
+                    set_bound(bound, q)?;
+                    Ok(Step::Jump)
+                }
+            }
+            None => {
+                set_bound(bound, q)?;
+                Ok(Step::Jump)
+            }
+        },
+        Ordering::Greater => match next {
+            Some(listed) => {
+                set_bound(bound, listed.as_str())?;
+                Ok(Step::Jump)
+            }
+            None => Ok(Step::End),
+        },
+    }
+}
+
+/// The step at a key.
+fn next_step(
+    bound: &mut String,
+    wild: &BTreeSet<String>,
+    plain: bool,
+    key: &String,
+    q: &str,
+) -> Result<Step, OutOfMemory>
+    requires { plain ≡ is_plain q.now }
+    ensures { IfOk result (StepIs (map string_bytes wild.now.keys) q.now (string_bytes key.now) (string_bytes bound.new)) }
+{
+    if plain && is_plain(key.as_str()) {
+        return plain_step(bound, wild, key, q);
+    }
+    if after_run(bound, key.as_str(), q)? {
+        Ok(Step::Jump)
+    } else {
+        Ok(Step::Look)
+    }
+}
+
+/// The offers by declarations, in order. Keys of which the first bytes show that they do not meet the
+/// request's are passed over by one search; a plain request passes over all plain keys but its own.
 #[tactic(auto, using(crate::proofs::Folds::fold_joined))]
 fn offers_on_keys(
     alloc: Global,
     region: Region,
     keys: &BTreeMap<String, Holders>,
+    wild: &BTreeSet<String>,
     q: &str,
 ) -> Result<Vec<QueryTargetQabl>, OutOfMemory>
     requires keys { AllByRecursion IsKeyed (texts_of keys.now.entries) }
+    requires listed { AreListed (texts_of keys.now.entries) (map string_bytes wild.now.keys) }
     requires asked { IsTrue (is_key q.now) }
     ensures { IfOk result (λ o. o.items ≡ sorted offer_cmp (flat_map (holder_offers region q.now) (texts_of keys.now.entries))) }
 {
+    let plain = is_plain(q);
     let mut offers = Vec::new(alloc);
     let mut bound = String::new(alloc);
     let mut rest = keys.range::<RangeFull>(..);
     while let Some((key, holders)) = rest.next() {
-        if after_run(&mut bound, key.as_str(), q)? {
-            rest = keys.range(&bound..);
-        } else {
-            add_key_offers(&mut offers, alloc, region, key.as_str(), holders, q)?;
+        match next_step(&mut bound, wild, plain, key, q)? {
+            Step::Look => add_key_offers(&mut offers, alloc, region, key.as_str(), holders, q)?,
+            Step::Jump => rest = keys.range(&bound..),
+            Step::End => return Ok(offers),
         }
     }
     Ok(offers)
@@ -317,7 +407,7 @@ pub fn declared_offers(
     requires asked { IsTrue (is_key q.now) }
     ensures { IfOk result (λ o. o.items ≡ sorted offer_cmp (flat_map (holder_offers region q.now) index.now)) }
 {
-    offers_on_keys(alloc, region, index.keys(), q)
+    offers_on_keys(alloc, region, index.keys(), index.wild(), q)
 }
 
 /// Whether the face may have a queryable on the key that it has not declared.

@@ -1,9 +1,10 @@
-use Rattle.std.proofs.Common.{◌≡◌, ◌∙◌, sym, ap, Some, [], ◌∷◌}
+use Rattle.std.proofs.Common.{◌≡◌, ◌∙◌, sym, ap, subst, Some, [], ◌∷◌}
 use Rattle.std.specs.Option.{option_map_or}
 use Rattle.std.specs.Map.{set_value}
 use Rattle.std.specs.BTreeMap.{is_at, insert_entry}
 use Rattle.zq_hat.specs.Kept.{text_cmp}
-use Rattle.zq_hat.specs.Holders.{texts_of, at_text, place_cmp}
+use Rattle.zq_hat.specs.Holders.{AreListed, Index, texts_of, at_text, place_cmp}
+use Rattle.zq_hat.proofs.Listed.{listed_beside}
 use Rattle.zq_hat.proofs.Texts.{text_lookup, text_set}
 use Rattle.zq_hat.proofs.holders.put_beside.Goals as goal
 
@@ -16,3 +17,8 @@ returns-in-Ok-clause-ok c =
     ∙ text_set test c.args.keys.now.entries c.put.new.self
     ∙ ap (set_value test index) c.in-Ok.ensures.ok
     ∙ sym (ap (λ o. option_map_or (λ hs. set_value test index (insert_entry place_cmp hs c.args.place c.args.info)) o (insert_entry text_cmp index c.args.key.now ((c.args.place, c.args.info) ∷ []))) there)
+
+pub returns-in-Ok-clause-listed : goal.returns-in-Ok-clause-listed
+returns-in-Ok-clause-listed c texts listed =
+    subst (λ (es : Index). AreListed es texts) (sym (returns-in-Ok-clause-ok c))
+    (listed_beside c.args.key.now c.args.place c.args.info (texts_of c.args.keys.now.entries) texts c.requires listed)
