@@ -41,17 +41,19 @@ pub record IsCopy (o : OpenFace) (f : FaceState) : Type 0 where
 abbrev pub number_of : Record → ℕ
 number_of r = r.number
 
--- the entries of a record, and of all
+-- the entries of a record
 abbrev pub pending_of : Record → List Pending
 pending_of r = r.pending
 
+-- the entries of all records
 abbrev pub all_pending : List Record → List Pending
 all_pending rs = flat_map pending_of rs
 
--- the replies of a record that are in flight, and those of all
+-- the replies of a record that are in flight
 abbrev pub in_flight_of : Record → List ℕ
 in_flight_of r = r.in_flight
 
+-- the replies of all records that are in flight
 abbrev pub all_in_flight : List Record → List ℕ
 all_in_flight rs = flat_map in_flight_of rs
 

@@ -51,22 +51,23 @@ opened_by (outcome.Replied reply) = []
 opened_by outcome.Done = []
 opened_by (outcome.Refused refusal) = []
 
--- the faces that steps open
+-- the numbers of the faces that steps open
 abbrev pub opened_in : List Step → List ℕ
 opened_in ts = flat_map (λ (t : Step). opened_by t.outcome) ts
 
--- the number of a reply
+-- the number of a message that is a reply
 abbrev pub reply_number : Handed → Option ℕ
 reply_number h = h.reply
 
--- the replies that a step hands, and those that steps hand
+-- the numbers of the replies that a step hands
 abbrev pub replies_of : Step → List ℕ
 replies_of t = filter_map reply_number t.handed
 
+-- the numbers of the replies that steps hand
 abbrev pub replies_in : List Step → List ℕ
 replies_in ts = flat_map replies_of ts
 
--- the id of a request
+-- the id of a message that is a request
 abbrev pub asked_id : Message → Option ℕ
 asked_id (message.Request r) = Some r.id
 asked_id (message.Response r) = None
@@ -75,16 +76,17 @@ asked_id (message.Interest i) = None
 asked_id (message.InterestFinal i) = None
 asked_id (message.Declare d) = None
 
--- the id that was last given at the face, once this is handed
+-- the id that was last given at the face, once this is handed too
 abbrev pub last_with : ℕ → ℕ → Handed → ℕ
 last_with face id h = if h.to.0 == face then unwrap_or (asked_id h.message) id else id
 
--- and after a step, and steps
+-- the same after a step
 abbrev pub last_after : ℕ → ℕ → Step → ℕ
 last_after face id t = fold (last_with face) id t.handed
 
+-- the id of the last request that steps hand to the face; the default where they hand none
 abbrev pub last_asked : ℕ → ℕ → List Step → ℕ
-last_asked face id ts = fold (last_after face) id ts
+last_asked face default ts = fold (last_after face) default ts
 
 -- the face asked the request of that number, with the id and the quality byte
 abbrev pub IsAsked : List Final → ℕ → FaceId → ℕ → ℕ → Type 0

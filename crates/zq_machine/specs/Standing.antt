@@ -72,27 +72,28 @@ is_by face (call.UndeclareQueryable f id w node) = f.0 == face
 is_by face (call.FinalizeInterest f mark set) = f.0 == face
 is_by face c = false
 
--- what stands of a face after an accepted call, and its answer
+-- what stands of the face after an accepted call, by its answer
 abbrev pub accepted_at : (told face : ℕ) → Call → Outcome → Option Standing → Option Standing
 accepted_at told face (call.Open o) answer was = if opens face answer then Some (newly_opened told face o) else was
 accepted_at told face (call.Close f) answer was = if f.0 == face then None else was
 accepted_at told face c answer was = if is_by face c then option_map (declaring_at c) was else was
 
--- after any call; a refused one changes nothing
+-- what stands of the face after a call; a refused one changes nothing
 abbrev pub standing_after : (told face : ℕ) → Call → Step → Option Standing → Option Standing
 standing_after told face c t was = if is_accepted t.outcome then accepted_at told face c t.outcome was else was
 
--- after calls that are answered by these steps
+-- what stands of the face after calls that are answered by these steps
 abbrev pub standing_in : (told face : ℕ) → List Call → List Step → Option Standing → Option Standing
 standing_in told face [] ts was = was
 standing_in told face (c ∷ cs) [] was = was
 standing_in told face (c ∷ cs) (t ∷ ts) was = standing_in told face cs ts (standing_after told face c t was)
 
--- the lists of gateways after a call, and after calls
+-- the lists of gateways after a call
 abbrev pub listed_after : Call → Step → List (ℕ × Gateways) → List (ℕ × Gateways)
 listed_after (call.SetGateways r table) t was = if is_accepted t.outcome then with_entry was r table else was
 listed_after c t was = was
 
+-- the lists of gateways after calls that are answered by these steps
 abbrev pub listed_in : List Call → List Step → List (ℕ × Gateways) → List (ℕ × Gateways)
 listed_in [] ts was = was
 listed_in (c ∷ cs) [] was = was
@@ -104,7 +105,7 @@ listed_in (c ∷ cs) (t ∷ ts) was = listed_in cs ts (listed_after c t was)
 abbrev pub kept_at : ℕ → Core → Option FaceState
 kept_at face c = option_and_then (face_at face) (hat_of face c)
 
--- all of it, where all is there
+-- what stands of a face by its three parts, where all are there
 abbrev pub standing_of : Option OpenFace → Option FaceKeys → Option FaceState → Option Standing
 standing_of (Some o) (Some n) (Some f) = Some (record { opened = o; numbers = n.numbers; kept = f })
 standing_of o n f = None
