@@ -21,9 +21,13 @@ use zq_words::words::{push_number, push_text};
 /// How many messages were handed, and of which kinds.
 #[derive(Clone, Copy, Debug, Default, PartialEq, Eq)]
 pub struct Counts {
+    /// All messages.
     pub handed: u128,
+    /// Requests among them.
     pub requests: u128,
+    /// Replies among them.
     pub responses: u128,
+    /// Finals among them.
     pub finals: u128,
 }
 
