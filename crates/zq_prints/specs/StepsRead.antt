@@ -14,7 +14,7 @@ use Rattle.zq_gateway.specs.declared.call.Step.{Step}
 use Rattle.zq_words.specs.Words.{◌>>=◌, number, read_at, at_end, bytes_of, option_of}
 use Rattle.zq_words.specs.Values.{most_8, most_16, most_32, most_64, flag_of, face_of, zid_of, wire_of}
 use Rattle.zq_lines.specs.Lines.{info_at, manner_at, body_at, by_first}
-use Rattle.zq_script.specs.Script.{lines_of}
+use Rattle.zq_lines.specs.Split.{lines_of}
 
 -- a space, and then the whole rest of the line
 abbrev pub rest_at : {X : Type 0} → (List ℕ → Option X) → List ℕ → Option X

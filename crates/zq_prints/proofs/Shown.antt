@@ -11,7 +11,7 @@ use Rattle.zq_gateway.specs.Machine.{after, step, steps, steps_from}
 use Rattle.zq_gateway.specs.Messages.{TextMessage, text_final, text_reply, text_request}
 use Rattle.zq_gateway.specs.Writing.{write}
 use Rattle.zq_gateway.proofs.Writing.{answers_plainly}
-use Rattle.zq_script.specs.StepsFit.{ShowsHanded, ShowsStep}
+use Rattle.zq_prints.specs.StepsFit.{ShowsHanded, ShowsStep}
 
 -- the lines of requests, replies and finals show all of them
 written_shows : (names : NamingState) (ms : List TextMessage) → AllByRecursion ShowsHanded (write names ms)

@@ -5,7 +5,7 @@ ghost use Rattle.std.specs.List.{AllByRecursion};
 ghost use Rattle.zq_words.specs.Fits.{IsBytes, IsText, FitsWire, FitsOption, FitsZid};
 ghost use Rattle.zq_words.specs.Values.{most_8, most_32, most_64};
 ghost use Rattle.zq_lines.specs.Fits.{FitsBody, FitsRequest, FitsResponse};
-ghost use Rattle.zq_script.specs.StepsFit.{FitsFinal, FitsInterest, FitsDeclareBody, FitsDeclare, FitsMessage, FitsOutcome, FitsHanded, FitsStep, ShowsDeclare, ShowsMessage, ShowsHanded, ShowsStep};
+ghost use Rattle.zq_prints.specs.StepsFit.{FitsFinal, FitsInterest, FitsDeclareBody, FitsDeclare, FitsMessage, FitsOutcome, FitsHanded, FitsStep, ShowsDeclare, ShowsMessage, ShowsHanded, ShowsStep};
 
 use zq_gateway::call::{Handed, Outcome, Step};
 use zq_key::message::{

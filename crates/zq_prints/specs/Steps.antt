@@ -18,7 +18,7 @@ use Rattle.zq_gateway.specs.declared.call.Step.{Step}
 use Rattle.zq_words.specs.Words.{field, payload_word, option_word}
 use Rattle.zq_words.specs.Values.{zid_word, target_word, wire_word, flag_word}
 use Rattle.zq_lines.specs.CallLines.{info_words, body_words}
-use Rattle.zq_script.specs.Same.{same_message}
+use Rattle.zq_prints.specs.Same.{same_message}
 
 -- the words of a request
 abbrev pub request_words : Request → List ℕ

@@ -1,5 +1,5 @@
 use Rattle.std.proofs.lemmas.Str.{is_utf8-from_IsUtf8}
-use Rattle.zq_script.proofs.fit.text_fits.Goals as goal
+use Rattle.zq_prints.proofs.fit.text_fits.Goals as goal
 
 pub returns : goal.returns
 returns c = record {

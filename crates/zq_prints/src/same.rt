@@ -1,7 +1,7 @@
 //! Whether two messages are the same.
 ghost use Rattle.std.specs.Prelude.{◌≡◌, Decides};
 ghost use Rattle.std.specs.Option.{option_eq};
-ghost use Rattle.zq_script.specs.Same.{same_mapping, same_target, same_wire, same_info, same_reply, same_request, same_response, same_interest, same_body, same_declare, same_message};
+ghost use Rattle.zq_prints.specs.Same.{same_mapping, same_target, same_wire, same_info, same_reply, same_request, same_response, same_interest, same_body, same_declare, same_message};
 
 use zq_key::message::{
     Declare, DeclareBody, Interest, Mapping, Message, QueryTarget, QueryableInfoType, ReplyBody,

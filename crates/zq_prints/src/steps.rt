@@ -3,9 +3,9 @@ ghost use Rattle.std.specs.Prelude.{◌≡◌, ◌++◌, ◌∷◌, [], IfOk, On
 ghost use Rattle.std.specs.Fmt.{decimal};
 ghost use Rattle.std.specs.List.{AllByRecursion};
 ghost use Rattle.zq_words.specs.Words.{field, option_word};
-ghost use Rattle.zq_script.specs.Steps.{request_words, response_words, interest_words, declare_words, message_words, refusal_name, outcome_words, leaving_words, handed_words, step_words, steps_words};
-ghost use Rattle.zq_script.specs.StepsRead.{message_of, steps_of};
-ghost use Rattle.zq_script.specs.StepsFit.{ShowsMessage, ShowsStep};
+ghost use Rattle.zq_prints.specs.Steps.{request_words, response_words, interest_words, declare_words, message_words, refusal_name, outcome_words, leaving_words, handed_words, step_words, steps_words};
+ghost use Rattle.zq_prints.specs.StepsRead.{message_of, steps_of};
+ghost use Rattle.zq_prints.specs.StepsFit.{ShowsMessage, ShowsStep};
 
 use crate::fit::{message_fits, steps_fit};
 use crate::same::same_message;

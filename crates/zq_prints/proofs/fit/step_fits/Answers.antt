@@ -1,7 +1,7 @@
 use Rattle.std.proofs.Common.{arith}
-use Rattle.zq_script.specs.StepsFit.{FitsHanded, ShowsHanded}
-use Rattle.zq_script.proofs.EachFits.{one_more, each_fit}
-use Rattle.zq_script.proofs.fit.step_fits.Goals as goal
+use Rattle.zq_prints.specs.StepsFit.{FitsHanded, ShowsHanded}
+use Rattle.zq_prints.proofs.EachFits.{one_more, each_fit}
+use Rattle.zq_prints.proofs.fit.step_fits.Goals as goal
 
 pub loop-handed-preserved : goal.loop-handed-preserved
 loop-handed-preserved c = one_more ShowsHanded FitsHanded _ c.loop-handed.handed-index c.handed-item.result (omega arith) c.handed-item.is c.handed_fits.ensures c.loop-handed.invariant

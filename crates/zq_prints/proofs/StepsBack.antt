@@ -34,15 +34,15 @@ use Rattle.zq_words.proofs.Lists.{not_name, OptionReads, option_reads}
 use Rattle.zq_words.proofs.ValuesBack.{face_reads, zid_reads, wire_reads}
 use Rattle.zq_lines.specs.CallLines.{info_words, body_words}
 use Rattle.zq_lines.specs.Fits.{FitsRequest, FitsResponse}
-use Rattle.zq_script.specs.Same.{same_message}
+use Rattle.zq_prints.specs.Same.{same_message}
 use Rattle.zq_lines.specs.Lines.{by_first}
-use Rattle.zq_script.specs.Script.{lines_of}
-use Rattle.zq_script.specs.Steps.{request_words, response_words, interest_words, declare_words, message_words, refusal_name, outcome_words, leaving_words, handed_words, step_words, steps_words}
-use Rattle.zq_script.specs.StepsRead.{last_at, request_of, response_of, final_of, interest_of, uninterest_of, declared, key_of, unkey_of, queryable_of, unqueryable_of, declfinal_of, message_by, message_of, refusal_of, outcome_by, outcome_of, leaves_by, handed_of, Told, answered, told_by, told_of, steps_of}
-use Rattle.zq_script.specs.StepsFit.{FitsFinal, FitsInterest, FitsDeclare, FitsMessage, FitsOutcome, FitsHanded, FitsStep}
+use Rattle.zq_lines.specs.Split.{lines_of}
+use Rattle.zq_prints.specs.Steps.{request_words, response_words, interest_words, declare_words, message_words, refusal_name, outcome_words, leaving_words, handed_words, step_words, steps_words}
+use Rattle.zq_prints.specs.StepsRead.{last_at, request_of, response_of, final_of, interest_of, uninterest_of, declared, key_of, unkey_of, queryable_of, unqueryable_of, declfinal_of, message_by, message_of, refusal_of, outcome_by, outcome_of, leaves_by, handed_of, Told, answered, told_by, told_of, steps_of}
+use Rattle.zq_prints.specs.StepsFit.{FitsFinal, FitsInterest, FitsDeclare, FitsMessage, FitsOutcome, FitsHanded, FitsStep}
 use Rattle.zq_lines.proofs.LinesBack.{then_last, first_back, on, k_reads, info_back, option_wire, option_number, option_plain, bytes_reads, manner_back, body_back, body_ends, nest3, nest5, nest7}
-use Rattle.zq_script.proofs.Parts.{lines_cut}
-use Rattle.zq_script.proofs.Sameness.{message_same}
+use Rattle.zq_lines.proofs.Split.{lines_cut}
+use Rattle.zq_prints.proofs.Sameness.{message_same}
 
 -- the last word of a line
 last_back : {X Y : Type 0} {read : List ℕ → Option X} {w : List ℕ} {x : X} {y : Y} (f : X → Option Y) → Reads read w x → f x ≡ Some y → (last_at read (32 ∷ w) >>= f) ≡ Some y

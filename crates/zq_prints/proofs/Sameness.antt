@@ -22,8 +22,8 @@ use Rattle.std.specs.Bool.{Decides}
 use Rattle.std.specs.Option.{option_eq}
 use Rattle.std.proofs.lemmas.Bool.Decides.{Decides-and, Decides-like, Decides-eqb}
 use Rattle.std.proofs.lemmas.Slice.Eq.{bytes_eq-Decides}
-use Rattle.zq_script.specs.Steps.{leaving_words}
-use Rattle.zq_script.specs.Same.{same_number, same_flag, same_zid, same_mapping, same_target, same_reply, same_wire, same_info, same_request, same_response, same_final, same_interest, same_body, same_declare, same_message}
+use Rattle.zq_prints.specs.Steps.{leaving_words}
+use Rattle.zq_prints.specs.Same.{same_number, same_flag, same_zid, same_mapping, same_target, same_reply, same_wire, same_info, same_request, same_response, same_final, same_interest, same_body, same_declare, same_message}
 
 -- two that differ in kind
 other : {X : Type 0} {a b : X} → (a ≡ b → ⊥) → Decides false (a ≡ b)
