@@ -1,3 +1,4 @@
+pub mod Split
 pub mod TablesBack
 pub mod Given
 pub mod GivenLines

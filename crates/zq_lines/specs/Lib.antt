@@ -1,3 +1,4 @@
+pub mod Split
 pub mod Tables
 pub mod Lines
 pub mod CallLines

@@ -1,10 +1,6 @@
-pub mod Sameness
 pub mod Parts
 pub mod Built
 pub mod Promised
 pub mod Printed
 pub mod Loaded
 pub mod Completed
-pub mod StepsBack
-pub mod Shown
-pub mod EachFits

@@ -12,10 +12,11 @@ use Rattle.zq_script.specs.Head.{Head, head_of}
 use Rattle.zq_lines.specs.Lines.{call_by, other_by}
 use Rattle.zq_script.specs.Printing.{FitsRun, printed, printed_by, printed_on}
 use Rattle.zq_script.specs.Running.{ReadsBack}
-use Rattle.zq_script.specs.Script.{Parts, lines_of, made, onto, onto_parts, parts_from, script_call, script_of, with_line, with_parts}
-use Rattle.zq_script.specs.Steps.{step_words, steps_words}
-use Rattle.zq_script.specs.StepsFit.{FitsStep}
-use Rattle.zq_script.proofs.StepsBack.{steps_back}
+use Rattle.zq_lines.specs.Split.{lines_of}
+use Rattle.zq_script.specs.Script.{Parts, made, onto, onto_parts, parts_from, script_call, script_of, with_line, with_parts}
+use Rattle.zq_prints.specs.Steps.{step_words, steps_words}
+use Rattle.zq_prints.specs.StepsFit.{FitsStep}
+use Rattle.zq_prints.proofs.StepsBack.{steps_back}
 
 worker_call : (config : Settings) → script_call config false (codes "worker") ≡ None
 unfolding call_by other_by

@@ -5,7 +5,8 @@ use Rattle.zq_machine.specs.Headline.{RunPromise}
 use Rattle.zq_machine.proofs.Kept.{headline}
 use Rattle.zq_script.specs.declared.script.Script.{Script}
 use Rattle.zq_script.specs.Running.{first_part}
-use Rattle.zq_script.specs.Script.{lines_of, script_of}
+use Rattle.zq_lines.specs.Split.{lines_of}
+use Rattle.zq_script.specs.Script.{script_of}
 
 pub promised : (given : Option (List ℕ)) → IfSome given (λ input. IfOk (script_of 0 (lines_of input)) (λ s. RunPromise s.config (first_part s.parts)))
 promised None = tt

@@ -9,9 +9,10 @@ use Rattle.zq_streams.specs.declared.transfer.TheConstants.{LIMIT}
 use Rattle.zq_streams.specs.Streams.{AppendsPrefix}
 use Rattle.zq_words.specs.Words.{◌>>=◌, number}
 use Rattle.zq_script.specs.Load.{load_line}
-use Rattle.zq_script.specs.Script.{lines_of, script_of}
-use Rattle.zq_script.specs.Steps.{steps_words}
-use Rattle.zq_script.specs.StepsRead.{steps_of}
+use Rattle.zq_lines.specs.Split.{lines_of}
+use Rattle.zq_script.specs.Script.{script_of}
+use Rattle.zq_prints.specs.Steps.{steps_words}
+use Rattle.zq_prints.specs.StepsRead.{steps_of}
 use Rattle.zq_script.specs.declared.script.Script.{Script}
 use Rattle.zq_script.specs.declared.run.Command.{Command}
 use Rattle.zq_script.specs.declared.run.Command.TheVariants as command

@@ -1,6 +1,6 @@
 -- Scripts: the lines, and the calls in parts.
 use Rattle.std.specs.Prelude.{ℕ, ◌+◌, ◌-◌, ◌≡◌, Bool, true, ◌&&◌, ◌==◌, nat_lt, List, [], ◌∷◌, ◌++◌, Option, Some, None, Result, Ok, Err, if◌then◌else◌, codes}
-use Rattle.std.specs.List.{onto_first, AllByRecursion}
+use Rattle.std.specs.List.{AllByRecursion}
 use Rattle.std.specs.Str.{bytes_eq}
 use Rattle.zq_machine.specs.declared.call.Call.{Call}
 use Rattle.zq_machine.specs.Calls.{is_sent, is_built}
@@ -12,11 +12,6 @@ use Rattle.zq_script.specs.Head.{Head, head_of}
 use Rattle.zq_script.specs.declared.script.Script.{Script}
 use Rattle.zq_script.specs.declared.refusal.ScriptRefusal.{ScriptRefusal}
 use Rattle.zq_script.specs.declared.refusal.ScriptRefusal.TheVariants as refusal
-
--- the lines, of which the last may lack its newline
-abbrev pub lines_of : List ℕ → List (List ℕ)
-lines_of [] = []
-lines_of (b ∷ bytes) = if b == 10 then [] ∷ lines_of bytes else onto_first b (lines_of bytes)
 
 -- `sent` is bad where there are workers
 abbrev pub unless_sent : Bool → Call → Option Call

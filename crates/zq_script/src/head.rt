@@ -1,15 +1,16 @@
 //! The lines before the calls: the configuration, and the counters.
 ghost use Rattle.std.specs.Prelude.{◌≡◌, ◌≤◌, ◌+◌, ◌++◌, IfOk, IfSome, MatchOption, MatchResult, OnOk, Ok, length};
 ghost use Rattle.std.specs.Option.{option_map};
-ghost use Rattle.zq_script.specs.Script.{lines_of, Gives, Refuses};
+ghost use Rattle.zq_lines.specs.Split.{lines_of};
+ghost use Rattle.zq_script.specs.Script.{Gives, Refuses};
 ghost use Rattle.zq_script.specs.Head.{ended, entry_of, north_of, south_entry, entries_of, counters_of, after_name, start_of, config_of, start_at, no_counts, configured, head_of};
 
 use crate::refusal::ScriptRefusal;
-use crate::script::next_line;
 use std::alloc::Global;
 use zq_key::memory::OutOfMemory;
 use zq_key::message::{Mode, Region, Zid};
 use zq_key::text::Bytes;
+use zq_lines::split::next_line;
 use zq_machine::config::{Config, ConfigRefusal, Counters, Entry, EntryList};
 use zq_words::words::{Word, cut, is, len_to, read_at, read_each};
 

@@ -3,7 +3,8 @@
 ghost use Rattle.std.specs.Prelude.{◌≡◌, ◌+◌, ◌*◌, ◌-◌, ◌^◌, ◌<◌, IfOk};
 ghost use Rattle.std.specs.Fmt.{decimal};
 ghost use Rattle.zq_machine.specs.Machine.{steps};
-ghost use Rattle.zq_script.specs.Load.{IsBelow, ask_call, asked_key, count, declare_call, declared_key, final_call, handed_over, load_call, load_calls, load_config, load_line, open_call, plain_wire, plus, query_call, reply_call, sent_call};
+ghost use Rattle.zq_script.specs.Load.{IsBelow, ask_call, asked_key, count, declare_call, declared_key, final_call, handed_over, load_call, load_calls, load_config, load_line, open_call, plain_wire, plus, query_call, reply_call, sent_call, is_end};
+ghost use Rattle.zq_machine.specs.Headline.{asks, replies_to};
 
 use std::alloc::Global;
 use zq_gateway::gateway::Gateway;
@@ -22,9 +23,13 @@ use zq_words::words::{push_number, push_text};
 /// How many messages were handed, and of which kinds.
 #[derive(Clone, Copy, Debug, Default, PartialEq, Eq)]
 pub struct Counts {
+    /// All messages.
     pub handed: u128,
+    /// Requests among them.
     pub requests: u128,
+    /// Replies among them.
     pub responses: u128,
+    /// Finals among them.
     pub finals: u128,
 }
 
@@ -41,31 +46,43 @@ impl Counts {
     }
 }
 
+// Whether it is a request.
+fn asks(handed: &Handed) -> bool
+    ensures { result ≡ asks handed.now }
+{
+    matches!(handed.message(), Message::Request(_))
+}
+
+// Whether it is a reply.
+fn replies_to(handed: &Handed) -> bool
+    ensures { result ≡ replies_to handed.now }
+{
+    matches!(handed.message(), Message::Response(_))
+}
+
+// Whether it is a final.
+fn is_end(handed: &Handed) -> bool
+    ensures { result ≡ is_end handed.now }
+{
+    matches!(handed.message(), Message::ResponseFinal(_))
+}
+
 fn count_requests(handed: &[Handed]) -> usize
     ensures { result ≡ (count handed.now).requests }
 {
-    handed
-        .iter()
-        .filter(|h| matches!(h.message(), Message::Request(_)))
-        .count()
+    handed.iter().filter(|h| asks(h)).count()
 }
 
 fn count_responses(handed: &[Handed]) -> usize
     ensures { result ≡ (count handed.now).responses }
 {
-    handed
-        .iter()
-        .filter(|h| matches!(h.message(), Message::Response(_)))
-        .count()
+    handed.iter().filter(|h| replies_to(h)).count()
 }
 
 fn count_finals(handed: &[Handed]) -> usize
     ensures { result ≡ (count handed.now).finals }
 {
-    handed
-        .iter()
-        .filter(|h| matches!(h.message(), Message::ResponseFinal(_)))
-        .count()
+    handed.iter().filter(|h| is_end(h)).count()
 }
 
 /// The configuration of the load: North as a client, and Local.

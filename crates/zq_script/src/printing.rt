@@ -6,24 +6,26 @@ ghost use Rattle.zq_machine.specs.Machine.{after, step};
 ghost use Rattle.zq_machine.specs.State.{opening_state};
 ghost use Rattle.zq_script.specs.Printing.{FitsRun, printed, printed_by};
 ghost use Rattle.zq_script.specs.Running.{ReadsBack};
-ghost use Rattle.zq_script.specs.Script.{lines_of, parts_from, script_of, Gives};
-ghost use Rattle.zq_script.specs.Steps.{step_words};
-ghost use Rattle.zq_script.specs.StepsFit.{FitsStep};
+ghost use Rattle.zq_lines.specs.Split.{lines_of};
+ghost use Rattle.zq_script.specs.Script.{parts_from, script_of, Gives};
+ghost use Rattle.zq_prints.specs.Steps.{step_words};
+ghost use Rattle.zq_prints.specs.StepsFit.{FitsStep};
 
-use crate::fit::step_fits;
 use crate::head::head_of;
 use crate::refusal::ScriptRefusal;
-use crate::script::{next_line, script_call};
-use crate::steps::push_step;
+use crate::script::script_call;
 use std::alloc::Global;
 use zq_gateway::gateway::Gateway;
 use zq_key::memory::OutOfMemory;
 use zq_key::text::Bytes;
+use zq_lines::split::next_line;
 use zq_machine::call::Call;
 use zq_machine::config::Config;
+use zq_prints::fit::step_fits;
+use zq_prints::steps::push_step;
 
 /// Makes a call, and prints its step.
-#[tactic(auto, using(crate::proofs::Shown::step_shows))]
+#[tactic(auto, using(zq_prints::proofs::Shown::step_shows))]
 fn print_step(gateway: &mut Gateway, print: &mut Vec<u8>, call: &Call) -> Result<(), OutOfMemory>
     requires { is_built gateway.old.core.config call.now ≡ true }
     ensures print { OnOk result (print.new.items ≡ print.old.items ++ step_words (step gateway.old call.now)) }

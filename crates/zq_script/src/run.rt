@@ -5,7 +5,8 @@ ghost use Rattle.std.specs.Io.KnownBytes.{IsAtEnd};
 ghost use Rattle.zq_machine.specs.Headline.{RunPromise};
 ghost use Rattle.zq_streams.specs.declared.transfer.TheConstants.{LIMIT};
 ghost use Rattle.zq_streams.specs.Streams.{Rose};
-ghost use Rattle.zq_script.specs.Script.{lines_of, script_of};
+ghost use Rattle.zq_lines.specs.Split.{lines_of};
+ghost use Rattle.zq_script.specs.Script.{script_of};
 ghost use Rattle.zq_script.specs.Running.{amount_of, command_of, load_of, first_part, print_of, EndsWell, IsFit, IsReplay, ReadsBack, IsEnd, Leaves, LeavesLoad, wrote, status_code};
 
 use crate::load::print_load;

@@ -1,16 +1,11 @@
 use crate::refusal::ScriptRefusal;
 use crate::run::{Status, run};
 use crate::script::read_script;
-use crate::steps::{print_message, print_steps};
 use crate::{LIMIT, MemorySink, MemorySource};
 use std::alloc::Global;
 use std::test::Fail;
-use zq_key::items::Items;
 use zq_key::memory::OutOfMemory;
-use zq_key::message::{FaceId, Message, ResponseFinal};
 use zq_key::text::{Bytes, Text};
-use zq_machine::call::{Outcome, Step};
-use zq_machine::handed::{Handed, Leaves};
 
 #[test]
 fn first_bad_lines(rt: HostRuntime) -> Result<(), Fail> {
@@ -42,40 +37,6 @@ fn first_bad_lines(rt: HostRuntime) -> Result<(), Fail> {
         }
         Err(_) => assert!(rt; false),
     }
-    Ok(())
-}
-
-/// A final of which this leaves.
-fn handed(rid: u32, leaves: Leaves) -> Handed {
-    let message = Message::ResponseFinal(ResponseFinal { rid, qos: 0 });
-    Handed::through(FaceId(1), Some(0), None, message, leaves)
-}
-
-/// A final that leaves in the place of another.
-fn other(rid: u32) -> Leaves {
-    Leaves::Other(Message::ResponseFinal(ResponseFinal { rid, qos: 0 }))
-}
-
-#[test]
-fn steps_are_printed(rt: HostRuntime) -> Result<(), Fail> {
-    let alloc = rt.alloc();
-    let mut list = Items::new(alloc);
-    list.push(handed(7, Leaves::Same))?;
-    list.push(handed(7, other(7)))?;
-    list.push(handed(7, other(8)))?;
-    list.push(handed(7, Leaves::Nothing))?;
-    let step = Step {
-        outcome: Outcome::Replied(None),
-        handed: list,
-    };
-    let printed = print_steps(alloc, vec![in alloc; step]?.as_slice())?;
-    let want =
-        b"= replied -\n> 1 0 - final 7 0\n> 1 0 - final 7 0\n> 1 0 - final 7 0\n< final 8 0\n> 1 0 - final 7 0\n< -\n";
-    assert_eq!(rt; printed.as_slice(), want.as_slice());
-    assert_eq!(rt;
-        print_message(alloc, handed(7, Leaves::Same).message())?.as_slice(),
-        b"final 7 0".as_slice()
-    );
     Ok(())
 }
 

@@ -1,7 +1,8 @@
 use Rattle.std.proofs.Common.{◌≡◌, ◌+◌, ◌≤◌, length, false}
 use Rattle.zq_machine.specs.State.{opening_state}
 use Rattle.zq_script.specs.Printing.{FitsRun, printed_by, printed_on}
-use Rattle.zq_script.specs.Script.{lines_of, parts_from}
+use Rattle.zq_lines.specs.Split.{lines_of}
+use Rattle.zq_script.specs.Script.{parts_from}
 use Rattle.zq_script.proofs.printing.print_calls.Given as goal
 
 abbrev pub invariant-lines : goal.invariant-lines

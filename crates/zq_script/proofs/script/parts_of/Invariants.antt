@@ -1,6 +1,7 @@
 use Rattle.std.proofs.Common.{◌≡◌, ◌+◌, ◌≤◌, [], length}
 use Rattle.std.specs.Prelude.{nat_lt}
-use Rattle.zq_script.specs.Script.{lines_of, parts_from, onto_parts}
+use Rattle.zq_lines.specs.Split.{lines_of}
+use Rattle.zq_script.specs.Script.{parts_from, onto_parts}
 use Rattle.zq_script.proofs.script.parts_of.Given as goal
 
 abbrev pub invariant-lines : goal.invariant-lines

@@ -1,0 +1,4 @@
+pub mod Sameness
+pub mod StepsBack
+pub mod Shown
+pub mod EachFits

@@ -1,0 +1,4 @@
+pub mod Same
+pub mod Steps
+pub mod StepsRead
+pub mod StepsFit
