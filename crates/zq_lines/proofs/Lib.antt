@@ -1,4 +1,4 @@
-pub mod Split
+pub mod Splitting
 pub mod TablesBack
 pub mod Given
 pub mod GivenLines

@@ -41,7 +41,7 @@ use Rattle.zq_prints.specs.Steps.{request_words, response_words, interest_words,
 use Rattle.zq_prints.specs.StepsRead.{last_at, request_of, response_of, final_of, interest_of, uninterest_of, declared, key_of, unkey_of, queryable_of, unqueryable_of, declfinal_of, message_by, message_of, refusal_of, outcome_by, outcome_of, leaves_by, handed_of, Told, answered, told_by, told_of, steps_of}
 use Rattle.zq_prints.specs.StepsFit.{FitsFinal, FitsInterest, FitsDeclare, FitsMessage, FitsOutcome, FitsHanded, FitsStep}
 use Rattle.zq_lines.proofs.LinesBack.{then_last, first_back, on, k_reads, info_back, option_wire, option_number, option_plain, bytes_reads, manner_back, body_back, body_ends, nest3, nest5, nest7}
-use Rattle.zq_lines.proofs.Split.{lines_cut}
+use Rattle.zq_lines.proofs.Splitting.{lines_cut}
 use Rattle.zq_prints.proofs.Sameness.{message_same}
 
 -- the last word of a line
