@@ -5,7 +5,7 @@ ghost use Rattle.zq_lines.specs.Split.{lines_of};
 use zq_words::words::cut;
 
 /// The first line, and what follows it.
-#[tactic(auto, using(crate::proofs::Split::lines_cut, crate::proofs::Split::lines_last))]
+#[tactic(auto, using(crate::proofs::Splitting::lines_cut, crate::proofs::Splitting::lines_last))]
 pub fn next_line(bytes: &[u8]) -> Option<(&[u8], &[u8])>
     ensures value { MatchOption result (lines_of bytes.now ≡ []) (λ t. lines_of bytes.now ≡ t.0.now ∷ lines_of t.1.now) }
     ensures shorter { IfSome result (λ t. length t.1.now < length bytes.now) }
