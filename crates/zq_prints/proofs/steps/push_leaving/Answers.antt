@@ -1,7 +1,11 @@
-use Rattle.std.proofs.Common.{◌∙◌, ◌++◌, sym, ap, append-nil}
+use Rattle.std.proofs.Common.{◌≡◌, ◌∙◌, ◌++◌, sym, ap, append-nil}
+use Rattle.zq_machine.specs.Handing.{left}
+use Rattle.zq_prints.specs.Steps.{leaving_words}
 use Rattle.zq_prints.proofs.Sameness.{says_nothing}
 use Rattle.zq_prints.proofs.steps.push_leaving.Goals as goal
 
 pub returns-in-Same : goal.returns-in-Same
 returns-in-Same c =
-    sym (append-nil c.args.out.now.items) ∙ ap (λ l. c.args.out.now.items ++ l) (sym (says_nothing c.args.message.now))
+    let out = c.args.out.now.items in
+    let m = c.args.message.now in
+    sym (append-nil out) ∙ ap (λ l. out ++ l) (sym (says_nothing m)) ∙ ap (λ x. out ++ leaving_words m (left m x)) (sym c.in-Same.is)
