@@ -1,6 +1,8 @@
 -- The counts so far, and those of the calls that are left.
-use Rattle.std.proofs.Common.{◌≡◌, ℕ, ◌+◌, ◌*◌, ◌-◌, ◌<◌, ◌==◌, List, [], ◌∷◌, ◌++◌, refl, ap, sym, ◌∙◌, Bool, true, false, cond, zero, suc, arith, length, length-append, add_assoc}
-use Rattle.std.proofs.lemmas.List.Sums.{count_by-append}
+use Rattle.std.proofs.Common.{◌≡◌, ℕ, ◌+◌, ◌*◌, ◌-◌, ◌<◌, ◌==◌, List, [], ◌∷◌, ◌++◌, refl, ap, sym, ◌∙◌, Bool, true, false, cond, zero, suc, arith, get_or, take, length, ◌≤◌, ◌^◌, length-append, add_assoc}
+use Rattle.std.proofs.Math.Nat.{add-zero}
+use Rattle.std.proofs.lemmas.List.{length-take-le}
+use Rattle.std.proofs.lemmas.List.Sums.{sum_by-append, count_by_more_yes, count_by_more_no, count_by-le-length}
 use Rattle.std.specs.List.{count_by}
 use Rattle.std.specs.Prelude.{nat_lt, ◌/◌, ◌%◌}
 use Rattle.zq_machine.specs.declared.call.Call.{Call}
@@ -21,10 +23,11 @@ next_calls number end l = let e : end - number ≡ end - (number + 1) + 1 = omeg
 
 -- none is left
 pub none_counted : (c : Counts) (s : State) (number end : ℕ) → number ≡ end → plus c (count (handed_over (steps_from s (calls_from number (end - number))))) ≡ c
-none_counted c s number end e = let z : end - number ≡ 0 = omega arith in rw z (omega arith)
+none_counted c s number end e = let z : end - number ≡ 0 = omega arith in rw z (rw (add-zero c.handed, add-zero c.requests, add-zero c.responses, add-zero c.finals) refl)
 
 count_append : (xs ys : List Handed) → count (xs ++ ys) ≡ plus (count xs) (count ys)
-count_append xs ys = rw (length-append xs ys, count_by-append asks xs ys, count_by-append replies_to xs ys, count_by-append is_end xs ys) refl
+count_append xs ys =
+    rw (length-append xs ys, sum_by-append (λ h. cond (asks h) 1 0) xs ys, sum_by-append (λ h. cond (replies_to h) 1 0) xs ys, sum_by-append (λ h. cond (is_end h) 1 0) xs ys) refl
 
 plus_assoc : (a b c : Counts) → plus (plus a b) c ≡ plus a (plus b c)
 plus_assoc a b c = rw (add_assoc a.handed b.handed c.handed, add_assoc a.requests b.requests c.requests, add_assoc a.responses b.responses c.responses, add_assoc a.finals b.finals c.finals) refl
@@ -54,3 +57,15 @@ many_from number (suc left) = omega (arith, many_from (number + 1) left)
 
 pub how_many : (amount : ℕ) → length (load_calls amount) ≡ 12 + 4 * amount
 how_many amount = many_from 0 (12 + 4 * amount)
+
+-- one more of the messages is looked at
+pub counted_more : (p : Handed → Bool) (xs : List Handed) (i : ℕ) (d : Handed) → i < length xs → cond (p (get_or xs i d)) (count_by p (take i xs) + 1) (count_by p (take i xs)) ≡ count_by p (take (i + 1) xs)
+counted_more p xs i d l = by (p (get_or xs i d)) refl
+  where
+    by : (b : Bool) → p (get_or xs i d) ≡ b → cond b (count_by p (take i xs) + 1) (count_by p (take i xs)) ≡ count_by p (take (i + 1) xs)
+    by true e = sym (count_by_more_yes p xs i d l e)
+    by false e = sym (count_by_more_no p xs i d l e)
+
+-- no more are counted than were looked at
+pub few_counted : (p : Handed → Bool) (xs : List Handed) (i : ℕ) → i ≤ length xs → count_by p (take i xs) ≤ i
+few_counted p xs i l = let a = count_by-le-length p (take i xs) in let b = length-take-le i xs l in omega (arith, a, b)

@@ -15,6 +15,8 @@ use Rattle.zq_machine.specs.Handing.{Handed}
 use Rattle.zq_machine.specs.declared.call.Step.{Step}
 use Rattle.zq_machine.specs.declared.config.Entry.TheVariants as entry
 use Rattle.zq_machine.specs.Configs.{Settings}
+use Rattle.zq_script.specs.declared.load.Kind.{Kind}
+use Rattle.zq_script.specs.declared.load.Kind.TheVariants as kind
 use Rattle.zq_machine.specs.Headline.{asks, is_final, replies_to}
 use Rattle.zq_machine.specs.Machine.{steps}
 use Rattle.zq_script.specs.declared.load.Counts.{Counts}
@@ -91,6 +93,12 @@ handed_over steps = flat_map (λ t. t.handed) steps
 -- a final is handed
 abbrev pub is_end : Handed → Bool
 is_end h = is_final h.message
+
+-- whether a message is of a kind that is counted
+abbrev pub kind_test : Kind → Handed → Bool
+kind_test kind.Request = asks
+kind_test kind.Response = replies_to
+kind_test kind.Final = is_end
 
 -- how many messages, and of which kinds
 abbrev pub count : List Handed → Counts

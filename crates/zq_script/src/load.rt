@@ -1,10 +1,10 @@
 //! The generated load: its calls by their number, and what is counted of the messages that they
 //! hand.
-ghost use Rattle.std.specs.Prelude.{◌≡◌, ◌+◌, ◌*◌, ◌-◌, ◌^◌, ◌<◌, IfOk};
+ghost use Rattle.std.specs.Prelude.{if◌then◌else◌, ◌≡◌, ◌+◌, ◌*◌, ◌-◌, ◌^◌, ◌<◌, IfOk};
 ghost use Rattle.std.specs.Fmt.{decimal};
+ghost use Rattle.std.specs.List.{count_by};
 ghost use Rattle.zq_machine.specs.Machine.{steps};
-ghost use Rattle.zq_script.specs.Load.{IsBelow, ask_call, asked_key, count, declare_call, declared_key, final_call, handed_over, load_call, load_calls, load_config, load_line, open_call, plain_wire, plus, query_call, reply_call, sent_call, is_end};
-ghost use Rattle.zq_machine.specs.Headline.{asks, replies_to};
+ghost use Rattle.zq_script.specs.Load.{IsBelow, ask_call, asked_key, count, declare_call, declared_key, final_call, handed_over, load_call, load_calls, load_config, load_line, open_call, plain_wire, plus, query_call, reply_call, sent_call, kind_test};
 
 use std::alloc::Global;
 use zq_gateway::gateway::Gateway;
@@ -40,49 +40,51 @@ impl Counts {
         ensures { self.new ≡ plus self.old (count handed.now) }
     {
         self.handed += handed.len() as u128;
-        self.requests += count_requests(handed) as u128;
-        self.responses += count_responses(handed) as u128;
-        self.finals += count_finals(handed) as u128;
+        self.requests += count_of(Kind::Request, handed) as u128;
+        self.responses += count_of(Kind::Response, handed) as u128;
+        self.finals += count_of(Kind::Final, handed) as u128;
     }
 }
 
-// Whether it is a request.
-fn asks(handed: &Handed) -> bool
-    ensures { result ≡ asks handed.now }
-{
-    matches!(handed.message(), Message::Request(_))
+// A kind of message that is counted.
+#[derive(Clone, Copy)]
+enum Kind {
+    Request,
+    Response,
+    Final,
 }
 
-// Whether it is a reply.
-fn replies_to(handed: &Handed) -> bool
-    ensures { result ≡ replies_to handed.now }
+fn is_kind(kind: Kind, handed: &Handed) -> bool
+    ensures { result ≡ kind_test kind handed.now }
 {
-    matches!(handed.message(), Message::Response(_))
+    match kind {
+        Kind::Request => matches!(handed.message(), Message::Request(_)),
+        Kind::Response => matches!(handed.message(), Message::Response(_)),
+        Kind::Final => matches!(handed.message(), Message::ResponseFinal(_)),
+    }
 }
 
-// Whether it is a final.
-fn is_end(handed: &Handed) -> bool
-    ensures { result ≡ is_end handed.now }
+// One more, if it counts.
+fn more(count: usize, counts: bool) -> usize
+    requires { count + 1 < 2 ^ 64 }
+    ensures { result ≡ (if counts then count + 1 else count) }
 {
-    matches!(handed.message(), Message::ResponseFinal(_))
+    if counts {
+        return count + 1;
+    }
+    count
 }
 
-fn count_requests(handed: &[Handed]) -> usize
-    ensures { result ≡ (count handed.now).requests }
+// How many of the messages are of the kind.
+#[tactic(auto, using(crate::proofs::Loaded::counted_more, crate::proofs::Loaded::few_counted))]
+fn count_of(kind: Kind, handed: &[Handed]) -> usize
+    ensures { result ≡ count_by (kind_test kind) handed.now }
 {
-    handed.iter().filter(|h| asks(h)).count()
-}
-
-fn count_responses(handed: &[Handed]) -> usize
-    ensures { result ≡ (count handed.now).responses }
-{
-    handed.iter().filter(|h| replies_to(h)).count()
-}
-
-fn count_finals(handed: &[Handed]) -> usize
-    ensures { result ≡ (count handed.now).finals }
-{
-    handed.iter().filter(|h| is_end(h)).count()
+    let mut count = 0;
+    for h in handed {
+        count = more(count, is_kind(kind, h));
+    }
+    count
 }
 
 /// The configuration of the load: North as a client, and Local.

@@ -1,17 +1,11 @@
 use Rattle.zq_script.proofs.Promised.{promised}
 use Rattle.zq_script.proofs.run.run.Goals as goal
 
-pub returns-then-not-is_command-clause-headline : goal.returns-then-not-is_command-clause-headline
-returns-then-not-is_command-clause-headline g c = promised (g.S.Source.left c.args.source.now)
+pub returns-in-Some-Replay-clause-headline : goal.returns-in-Some-Replay-clause-headline
+returns-in-Some-Replay-clause-headline g c = promised (g.S.Source.left c.args.source.now)
 
-pub returns-in-Ok-clause-headline : goal.returns-in-Ok-clause-headline
-returns-in-Ok-clause-headline g c = promised (g.S.Source.left c.args.source.now)
+pub returns-in-Some-Load-clause-headline : goal.returns-in-Some-Load-clause-headline
+returns-in-Some-Load-clause-headline g c = promised (g.S.Source.left c.args.source.now)
 
-pub returns-in-Err-ReadFault-clause-headline : goal.returns-in-Err-ReadFault-clause-headline
-returns-in-Err-ReadFault-clause-headline g c = promised (g.S.Source.left c.args.source.now)
-
-pub returns-in-Err-TooLong-clause-headline : goal.returns-in-Err-TooLong-clause-headline
-returns-in-Err-TooLong-clause-headline g c = promised (g.S.Source.left c.args.source.now)
-
-pub returns-in-Err-OutOfMemory-clause-headline : goal.returns-in-Err-OutOfMemory-clause-headline
-returns-in-Err-OutOfMemory-clause-headline g c = promised (g.S.Source.left c.args.source.now)
+pub returns-in-None-clause-headline : goal.returns-in-None-clause-headline
+returns-in-None-clause-headline g c = promised (g.S.Source.left c.args.source.now)
