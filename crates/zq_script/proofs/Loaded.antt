@@ -12,7 +12,7 @@ use Rattle.zq_machine.specs.Headline.{asks, replies_to}
 use Rattle.zq_machine.specs.Machine.{after, step, steps_from}
 use Rattle.zq_machine.specs.State.{State}
 use Rattle.zq_script.specs.declared.load.Counts.{Counts}
-use Rattle.zq_script.specs.Load.{calls_from, count, declare_call, handed_over, is_end, load_call, load_calls, load_config, open_call, plus, query_call, ask_call, reply_call, final_call, sent_call}
+use Rattle.zq_script.specs.Load.{IsBelow, calls_from, count, declare_call, handed_over, is_end, load_call, load_calls, load_config, open_call, plus, query_call, ask_call, reply_call, final_call, sent_call}
 
 -- the next call of those that are left
 next_by : (number left : ℕ) → calls_from number (left + 1) ≡ load_call number ∷ calls_from (number + 1) left
@@ -22,8 +22,8 @@ pub next_calls : (number end : ℕ) → number < end → calls_from number (end 
 next_calls number end l = let e : end - number ≡ end - (number + 1) + 1 = omega arith in rw e (next_by number (end - (number + 1)))
 
 -- none is left
-pub none_counted : (c : Counts) (s : State) (number end : ℕ) → number ≡ end → plus c (count (handed_over (steps_from s (calls_from number (end - number))))) ≡ c
-none_counted c s number end e = let z : end - number ≡ 0 = omega arith in rw z (rw (add-zero c.handed, add-zero c.requests, add-zero c.responses, add-zero c.finals) refl)
+pub none_counted : (c : Counts) (s : State) (number end : ℕ) → end ≤ number → plus c (count (handed_over (steps_from s (calls_from number (end - number))))) ≡ c
+none_counted c s number end e = let z : end - number ≡ 0 = omega (arith, e) in rw z (rw (add-zero c.handed, add-zero c.requests, add-zero c.responses, add-zero c.finals) refl)
 
 count_append : (xs ys : List Handed) → count (xs ++ ys) ≡ plus (count xs) (count ys)
 count_append xs ys =
@@ -69,3 +69,17 @@ counted_more p xs i d l = by (p (get_or xs i d)) refl
 -- no more are counted than were looked at
 pub few_counted : (p : Handed → Bool) (xs : List Handed) (i : ℕ) → i ≤ length xs → count_by p (take i xs) ≤ i
 few_counted p xs i l = let a = count_by-le-length p (take i xs) in let b = length-take-le i xs l in omega (arith, a, b)
+
+-- what one more call hands is fewer than 2^64 messages of each kind
+pub more_below : (n : ℕ) (c : Counts) (hs : List Handed) → IsBelow (n * 2 ^ 64) c → length hs < 2 ^ 64 → IsBelow ((n + 1) * 2 ^ 64) (plus c (count hs))
+more_below n c hs b l =
+    let r = count_by-le-length asks hs in
+    let p = count_by-le-length replies_to hs in
+    let f = count_by-le-length is_end hs in
+    let bh = b.handed in let br = b.requests in let bp = b.responses in let bf = b.finals in
+    record {
+      handed = omega (arith, bh, l);
+      requests = omega (arith, br, r, l);
+      responses = omega (arith, bp, p, l);
+      finals = omega (arith, bf, f, l);
+    }

@@ -1,9 +1,9 @@
 //! The generated load: its calls by their number, and what is counted of the messages that they
 //! hand.
-ghost use Rattle.std.specs.Prelude.{if◌then◌else◌, ◌≡◌, ◌+◌, ◌*◌, ◌-◌, ◌^◌, ◌<◌, IfOk};
+ghost use Rattle.std.specs.Prelude.{OnOk, if◌then◌else◌, ◌≡◌, ◌+◌, ◌*◌, ◌-◌, ◌^◌, ◌<◌, IfOk};
 ghost use Rattle.std.specs.Fmt.{decimal};
 ghost use Rattle.std.specs.List.{count_by};
-ghost use Rattle.zq_machine.specs.Machine.{steps};
+ghost use Rattle.zq_machine.specs.Machine.{after, step, steps};
 ghost use Rattle.zq_script.specs.Load.{IsBelow, ask_call, asked_key, count, declare_call, declared_key, final_call, handed_over, load_call, load_calls, load_config, load_line, open_call, plain_wire, plus, query_call, reply_call, sent_call, kind_test};
 
 use std::alloc::Global;
@@ -225,8 +225,27 @@ fn load_call(alloc: Global, number: u32) -> Result<Call, OutOfMemory>
     }
 }
 
-/// What the load's calls hand. A call and its step are let go before the next.
-#[tactic(auto, using(crate::proofs::Loaded::next_calls, crate::proofs::Loaded::call_counted, crate::proofs::Loaded::call_built, crate::proofs::Loaded::none_counted))]
+// The call of the number is made, and what it hands is counted. It and its step are let go.
+#[tactic(auto, using(crate::proofs::Loaded::call_built, crate::proofs::Loaded::more_below))]
+fn count_call(
+    alloc: Global,
+    gateway: &mut Gateway,
+    counts: &mut Counts,
+    number: u32,
+) -> Result<(), OutOfMemory>
+    requires config { gateway.old.core.config ≡ load_config }
+    requires below { IsBelow (number * 2 ^ 64) counts.old }
+    ensures after { OnOk result (gateway.new ≡ after gateway.old (load_call number)) }
+    ensures counted { OnOk result (counts.new ≡ plus counts.old (count (step gateway.old (load_call number)).handed)) }
+    ensures below { OnOk result (IsBelow ((number + 1) * 2 ^ 64) counts.new) }
+{
+    let call = load_call(alloc, number)?;
+    let step = gateway.call(&call)?;
+    counts.add(step.handed.as_slice());
+    Ok(())
+}
+
+/// What the load's calls hand.
 fn count_load(alloc: Global, amount: u16) -> Result<Counts, OutOfMemory>
     ensures { IfOk result (λ c. c ≡ count (handed_over (steps load_config (load_calls amount)))) }
 {
@@ -234,9 +253,7 @@ fn count_load(alloc: Global, amount: u16) -> Result<Counts, OutOfMemory>
     let mut gateway = Gateway::new(alloc, &config)?;
     let mut counts = Counts::default();
     'calls: for number in 0..12 + 4 * u32::from(amount) {
-        let call = load_call(alloc, number)?;
-        let step = gateway.call(&call)?;
-        counts.add(step.handed.as_slice());
+        count_call(alloc, &mut gateway, &mut counts, number)?;
     }
     Ok(counts)
 }
