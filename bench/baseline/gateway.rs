@@ -2,6 +2,7 @@
 
 use std::borrow::Cow;
 use std::collections::{BTreeMap, BTreeSet, HashMap, HashSet};
+use std::rc::Rc;
 
 use crate::keys::{includes, is_key, parent, Hat};
 use crate::words::*;
@@ -18,8 +19,8 @@ struct Face {
     is_upstream: bool,
     told: bool,
     told_of: HashSet<String>,
-    texts: HashMap<u16, String>,
-    numbers: HashMap<String, BTreeSet<u16>>,
+    texts: HashMap<u16, Rc<str>>,
+    numbers: HashMap<Rc<str>, BTreeSet<u16>>,
     queryables: HashMap<u32, (usize, bool)>,
     pending: HashMap<u32, u64>,
     last_id: u32,
@@ -32,7 +33,7 @@ impl Face {
             return Ok(wire.suffix);
         }
         let text = self.texts.get(&wire.scope).filter(|_| wire.of_sender).ok_or("UnknownScope")?;
-        Ok(Cow::Owned([text, &*wire.suffix].concat()))
+        Ok(Cow::Owned([&**text, &*wire.suffix].concat()))
     }
 
     fn key<'a>(&self, wire: Wire<'a>) -> Result<Cow<'a, str>, &'static str> {
@@ -275,12 +276,12 @@ impl Gateway {
 
     fn name(&mut self, face: u32, number: u16, wire: Wire) -> Answer {
         let face = self.face(face)?;
-        let text = face.key(wire)?;
+        let text: Rc<str> = face.key(wire)?.into();
         if number == 0 || face.texts.get(&number).is_some_and(|old| *old != text) {
             return Err("Remapped");
         }
-        face.numbers.entry(text.to_string()).or_default().insert(number);
-        face.texts.insert(number, text.into_owned());
+        face.numbers.entry(text.clone()).or_default().insert(number);
+        face.texts.insert(number, text);
         self.done()
     }
 

@@ -1,26 +1,26 @@
 //! Keys, and those that are declared in a region.
 
-use std::collections::{BTreeMap, HashMap, HashSet};
+use std::collections::{BTreeMap, HashMap};
+use std::iter::Filter;
+use std::str::Split;
+
+fn is_special(byte: u8) -> bool {
+    matches!(byte, b'#' | b'?' | b'*' | b'$')
+}
 
 fn is_chunk(chunk: &str) -> bool {
     match chunk {
-        "" => false,
+        "" | "$*" => false,
         "*" | "**" => true,
-        _ if !chunk.contains(['#', '?', '*', '$']) => true,
-        _ => {
-            let is_plain = |piece: &str| !piece.contains(['#', '?', '*', '$']);
-            chunk != "$*" && !chunk.contains("$*$*") && chunk.split("$*").all(is_plain)
-        }
+        _ => !chunk.contains("$*$*") && chunk.split("$*").all(|piece| !piece.bytes().any(is_special)),
     }
 }
 
 pub fn is_key(text: &str) -> bool {
-    let mut after_stars = false;
-    text.split('/').all(|chunk| {
-        let fits = is_chunk(chunk) && !(after_stars && (chunk == "*" || chunk == "**"));
-        after_stars = chunk == "**";
-        fits
-    })
+    if !text.bytes().any(is_special) {
+        return !text.is_empty() && !text.starts_with('/') && !text.ends_with('/') && !text.contains("//");
+    }
+    !text.contains("**/*") && text.split('/').all(is_chunk)
 }
 
 /// What stands before the last `/`.
@@ -75,10 +75,17 @@ fn chunk_includes(a: &str, b: &str) -> bool {
     a == b || !is_other && (a == "*" || a != "**" && has(a, b))
 }
 
-/// Whether the first key includes the second. Where it goes on differently, its last `**` takes one chunk more.
-pub fn includes(a: &str, b: &str) -> bool {
-    let (mut left, mut right) = (a.split('/'), b.split('/'));
-    let mut stars = None;
+/// The chunks of a text, of which the empty text has none.
+type Chunks<'a> = Filter<Split<'a, char>, fn(&&'a str) -> bool>;
+
+fn chunks(text: &str) -> Chunks<'_> {
+    text.split('/').filter(|chunk| !chunk.is_empty())
+}
+
+/// Whether chunks stand for others, of which each takes one that agrees with it, and `**` any number of them that do not
+/// begin with `@`. Where they go on differently, the last `**` takes one more.
+fn covers(a: Chunks, b: Chunks, agree: impl Fn(&str, &str) -> bool) -> bool {
+    let (mut left, mut right, mut stars) = (a, b, None);
     loop {
         let (mut after_left, mut after_right) = (left.clone(), right.clone());
         match (after_left.next(), after_right.next()) {
@@ -88,7 +95,7 @@ pub fn includes(a: &str, b: &str) -> bool {
                 left = after_left;
             }
             (Some(_), None) => return false,
-            (Some(x), Some(y)) if chunk_includes(x, y) => (left, right) = (after_left, after_right),
+            (Some(x), Some(y)) if agree(x, y) => (left, right) = (after_left, after_right),
             _ => {
                 let Some((behind, taken)) = &mut stars else { return false };
                 if taken.next().is_none_or(|chunk| chunk.starts_with('@')) {
@@ -97,6 +104,64 @@ pub fn includes(a: &str, b: &str) -> bool {
                 (left, right) = (behind.clone(), taken.clone());
             }
         }
+    }
+}
+
+/// Whether the first key includes the second.
+pub fn includes(a: &str, b: &str) -> bool {
+    covers(chunks(a), chunks(b), chunk_includes)
+}
+
+/// Whether chunks meet of which none begins with `@`. If both have a `**`, what stands between the first and the last of
+/// them meets in any case.
+fn free_meet(mut a: Chunks, mut b: Chunks) -> bool {
+    let has_stars = |mut chunks: Chunks| chunks.any(|chunk| chunk == "**");
+    match (has_stars(a.clone()), has_stars(b.clone())) {
+        (true, true) => {}
+        (false, true) => return covers(b, a, chunks_meet),
+        (_, false) => return covers(a, b, chunks_meet),
+    }
+    while let (Some(x), Some(y)) = (a.next(), b.next()) {
+        if x == "**" || y == "**" {
+            break;
+        }
+        if !chunks_meet(x, y) {
+            return false;
+        }
+    }
+    while let (Some(x), Some(y)) = (a.next_back(), b.next_back()) {
+        if x == "**" || y == "**" {
+            break;
+        }
+        if !chunks_meet(x, y) {
+            return false;
+        }
+    }
+    true
+}
+
+/// A text up to its first chunk that begins with `@`, and from there on.
+fn cut_at_verbatim(text: &str) -> (&str, &str) {
+    let at = if text.starts_with('@') { Some(0) } else { text.find("/@").map(|at| at + 1) };
+    text.split_at(at.unwrap_or(text.len()))
+}
+
+/// Whether two keys meet: each chunk that begins with `@` by itself alone, and what stands between those.
+fn keys_meet(mut a: &str, mut b: &str) -> bool {
+    loop {
+        let ((a_free, a_rest), (b_free, b_rest)) = (cut_at_verbatim(a), cut_at_verbatim(b));
+        if !free_meet(chunks(a_free), chunks(b_free)) {
+            return false;
+        }
+        if a_rest.is_empty() || b_rest.is_empty() {
+            return a_rest == b_rest;
+        }
+        let (x, a_behind) = a_rest.split_once('/').unwrap_or((a_rest, ""));
+        let (y, b_behind) = b_rest.split_once('/').unwrap_or((b_rest, ""));
+        if x != y {
+            return false;
+        }
+        (a, b) = (a_behind, b_behind);
     }
 }
 
@@ -117,7 +182,6 @@ struct Node {
     fixed: HashMap<Box<str>, usize>,
     wild: HashMap<Box<str>, usize>,
     stars: Option<usize>,
-    is_stars: bool,
     declared: Option<Box<Declared>>,
 }
 
@@ -150,7 +214,7 @@ impl Hat {
     }
 
     fn add(&mut self, parent: usize, chunk: &str) -> usize {
-        let node = Node { parent, is_stars: chunk == "**", ..Node::default() };
+        let node = Node { parent, ..Node::default() };
         let at = self.free.pop().unwrap_or(self.nodes.len());
         if at == self.nodes.len() {
             self.nodes.push(node);
@@ -212,78 +276,58 @@ impl Hat {
     }
 
     /// The declared keys that meet the key, in order.
-    pub fn matches(&self, key: &str) -> Vec<&Declared> {
-        let mut search = Search { key, todo: vec![(ROOT, 0)], seen: HashSet::new(), found: Vec::new() };
-        while let Some((at, from)) = search.todo.pop() {
-            search.visit(&self.nodes, at, from);
+    pub fn matches<'a>(&'a self, key: &'a str) -> Vec<&'a Declared> {
+        let mut search = Search { hat: self, todo: vec![(ROOT, 0, key)], found: Vec::new() };
+        while let Some((at, length, rest)) = search.todo.pop() {
+            search.visit(&self.nodes[at], length, rest);
         }
-        let mut found: Vec<_> = search.found.into_iter().filter_map(|at| self.nodes[at].declared.as_deref()).collect();
-        if found.len() > 1 {
-            found.sort_unstable_by_key(|declared| &declared.key);
-            found.dedup_by_key(|declared| &declared.key);
-        }
-        found
+        search.found.sort_unstable_by_key(|declared| &declared.key);
+        search.found
     }
 }
 
-/// A search for the keys that meet one: nodes to visit, each with a place of the key, up to which its chunks are taken.
+/// A search for the keys that meet one: nodes to visit, each with the length of its text and what is left of the key.
 struct Search<'a> {
-    key: &'a str,
-    todo: Vec<(usize, usize)>,
-    seen: HashSet<(usize, usize)>,
-    found: Vec<usize>,
+    hat: &'a Hat,
+    todo: Vec<(usize, usize, &'a str)>,
+    found: Vec<&'a Declared>,
 }
 
-impl Search<'_> {
-    fn visit(&mut self, nodes: &[Node], at: usize, from: usize) {
-        let node = &nodes[at];
-        let Some(rest) = self.key.get(from..) else { return self.end(node, at) };
-        if node.is_stars && node.is_leaf() {
-            if !rest.starts_with('@') && !rest.contains("/@") {
-                self.found.push(at);
-            }
-            return;
-        }
-        let chunk = rest.split('/').next().unwrap_or(rest);
-        let behind = from + chunk.len() + 1;
-        // There is more than one way to a node or a place behind a `**`.
-        if (node.is_stars || chunk == "**") && !self.seen.insert((at, from)) {
-            return;
-        }
-        if node.is_stars && !chunk.starts_with('@') {
-            self.todo.push((at, behind));
-        }
-        self.todo.extend(node.stars.map(|next| (next, from)));
-        self.take(nodes, node, chunk, from, behind);
+impl<'a> Search<'a> {
+    fn visit(&mut self, node: &'a Node, length: usize, rest: &'a str) {
+        let (chunk, behind) = rest.split_once('/').unwrap_or((rest, ""));
         if chunk == "**" {
-            self.todo.push((at, behind));
+            return self.compare(node, length, rest);
         }
-    }
-
-    /// At the end of the key.
-    fn end(&mut self, node: &Node, at: usize) {
-        if node.declared.is_some() {
-            self.found.push(at);
+        if let Some(below) = node.stars {
+            self.compare(&self.hat.nodes[below], length, rest);
         }
-        self.todo.extend(node.stars.map(|next| (next, self.key.len() + 1)));
-    }
-
-    /// The nodes below that take the chunk. If it is `**` it may take more, which no node needs that ends before the key.
-    fn take(&mut self, nodes: &[Node], node: &Node, chunk: &str, from: usize, behind: usize) {
-        if is_fixed(chunk) {
-            self.todo.extend(node.fixed.get(chunk).map(|next| (*next, behind)));
+        if rest.is_empty() {
+            self.found.extend(node.declared.as_deref());
+        } else if is_fixed(chunk) {
+            self.take(node.fixed.get_key_value(chunk), length, behind);
             if !chunk.starts_with('@') {
-                let wild = node.wild.iter().filter(|(other, _)| chunks_meet(other, chunk));
-                self.todo.extend(wild.map(|(_, next)| (*next, behind)));
+                self.take(node.wild.iter().filter(|(other, _)| chunks_meet(other, chunk)), length, behind);
             }
-            return;
-        }
-        let all = node.fixed.iter().filter(|(other, _)| !other.starts_with('@')).chain(&node.wild);
-        if chunk == "**" {
-            let goes_on = |next: &usize| behind > self.key.len() || !nodes[*next].is_leaf();
-            self.todo.extend(all.map(|(_, next)| *next).filter(goes_on).map(|next| (next, from)));
         } else {
-            self.todo.extend(all.filter(|(other, _)| chunks_meet(other, chunk)).map(|(_, next)| (*next, behind)));
+            let free = node.fixed.iter().filter(|(other, _)| !other.starts_with('@')).chain(&node.wild);
+            self.take(free.filter(|(other, _)| chunks_meet(other, chunk)), length, behind);
+        }
+    }
+
+    /// Goes on at the nodes below by these chunks.
+    fn take(&mut self, nodes: impl IntoIterator<Item = (&'a Box<str>, &'a usize)>, length: usize, rest: &'a str) {
+        self.todo.extend(nodes.into_iter().map(|(chunk, at)| (*at, length + chunk.len() + 1, rest)));
+    }
+
+    /// From a `**` on each key is compared for itself: all from a node on, whose texts are alike up to a length.
+    fn compare(&mut self, node: &'a Node, length: usize, rest: &str) {
+        let mut todo = vec![node];
+        while let Some(node) = todo.pop() {
+            let declared = node.declared.as_deref();
+            self.found.extend(declared.filter(|it| keys_meet(it.key.get(length..).unwrap_or(""), rest)));
+            let below = node.fixed.values().chain(node.wild.values()).chain(&node.stars);
+            todo.extend(below.map(|at| &self.hat.nodes[*at]));
         }
     }
 }
