@@ -1,0 +1,252 @@
+#!/usr/bin/env python3
+"""The scripts that bench/run times, by name: `bench/scripts.py load` prints one.
+
+Each function here makes a script, as its lines. With a number it has so many requests, keys or faces.
+"""
+
+import sys
+
+CONFIG = 'config 1 10000 north:client local'
+
+
+def faces(count):
+    """The head of a script, with so many faces, from number 0 on."""
+    yield CONFIG
+    for face in range(count):
+        yield f'open local {face + 10} client north -'
+
+
+# Four scripts of 200,000 lines
+
+def load(requests=49_996):
+    """Eight faces, of which four declare. Each request is replied to, ended and reported as sent before the next."""
+    yield from faces(8)
+    for face in range(4):
+        yield f'queryable {face} 1 0:s:load/{face}/** c 0 0'
+    for i in range(requests):
+        yield from exchange(4 + i % 4, i % 4, i, i // 4 + 1, i, f'load/{i % 4}/{i}')
+
+
+def exchange(asker, face, number, pending_id, reply, key):
+    """A request with its one reply and its end."""
+    yield f'ask {asker} {number} 0:s:{key} all - 0 0 {number} {number}'
+    yield f'reply {face} {pending_id} 0:s:{key} ok {number}'
+    yield f'final {face} {pending_id}'
+    yield f'sent {reply}'
+
+
+def fanout(requests=9_514):
+    """A hundred faces declare one key. Each request is handed to all; ten of them, in turn, reply and end."""
+    yield from faces(101)
+    for face in range(100):
+        yield f'queryable {face} 1 0:s:k/** c 0 0'
+    for i in range(requests):
+        yield f'ask 100 {i} 0:s:k/0 all - 0 0 hi {i}'
+        for face in range(10 * i, 10 * i + 10):
+            yield f'reply {face % 100} {i + 1} 0:s:k/0 ok yo'
+            yield f'final {face % 100} {i + 1}'
+
+
+def keys(requests=179_979):
+    """Twenty faces declare 20,000 keys, of which each eleventh has a `*`. Half of the requests ask on what is not declared."""
+    yield from faces(20)
+    for n in range(20_000):
+        middle = '*' if n % 11 == 10 else f'r{n // 10}'
+        yield f'queryable {n % 20} {n} 0:s:h{n // 10}/{middle}/t{n % 10} {"cp"[n % 2]} 0 0'
+    for i in range(requests):
+        n = i * 7919 % 40_000
+        middle = (f'r{n // 10}', '*', '**')[i % 3]
+        target = ('all', 'complete', 'best')[i // 3 % 3]
+        yield f'ask {i % 20} {i} 0:s:h{n // 10}/{middle}/t{n % 10} {target} - 0 0 - 0'
+
+
+def timeouts(requests=66_665):
+    """Requests that stay open side by side, each with a deadline of its own. Then polls, each of which lets one target go,
+    and after each the report that its error was sent."""
+    yield from faces(2)
+    yield 'queryable 0 1 0:s:k c 0 0'
+    for i in range(requests):
+        yield f'ask 1 {i} 0:s:k all {i + 1} 0 0 hi 0'
+    for i in range(requests):
+        yield f'poll {i + 1}'
+        yield f'sent {i}'
+
+
+# What one more costs: of each pair the first script has so many, and the second the same and CALLS more
+
+CALLS = 100_000
+
+
+def open_requests(count):
+    """So many open requests."""
+    yield from faces(2)
+    yield 'queryable 0 1 0:s:k c 0 0'
+    for i in range(count):
+        yield f'ask 1 {i} 0:s:k all - 0 0 hi 0'
+
+
+def open_requests_more(count):
+    yield from open_requests(count)
+    for i in range(CALLS // 2):
+        yield from exchange(1, 0, count + i, count + i + 1, i, 'k')
+
+
+def key(n):
+    return f'building/{n % 10}/floor/{n % 100}/sensor/{n}'
+
+
+def declared(count):
+    """So many keys of one face."""
+    yield from faces(2)
+    for n in range(count):
+        yield f'queryable 0 {n} 0:s:{key(n)} c 0 0'
+
+
+def declared_and_withdrawn(count):
+    yield from declared(count)
+    for n in range(CALLS):
+        yield f'queryable 0 {count + n} 0:s:{key(count + n)} c 0 0'
+        yield f'unqueryable 0 {count + n} - 0'
+
+
+def declared_and_asked(count):
+    yield from declared(count)
+    for i in range(CALLS):
+        yield f'ask 1 {i} 0:s:{key(i * 7919 % count)} all - 0 0 - 0'
+
+
+def on_one_key(count):
+    """So many queryables on one key."""
+    yield from faces(1)
+    for n in range(count):
+        yield f'queryable 0 {n} 0:s:k c 0 0'
+
+
+def on_one_key_and_withdrawn(count):
+    yield from on_one_key(count)
+    for n in range(CALLS):
+        yield f'queryable 0 {count + n} 0:s:k c 0 0'
+        yield f'unqueryable 0 {count + n} - 0'
+
+
+def numbers(count):
+    """So many numbers for keys, half of them at each of two faces."""
+    yield from faces(2)
+    for n in range(count):
+        yield f'key {n % 2} {n // 2 + 1} 0:s:{key(n)}'
+
+
+def numbers_and_given_back(count):
+    yield from numbers(count)
+    for n in range(count, count + CALLS):
+        yield f'key 0 {count // 2 + 1} 0:s:{key(n)}'
+        yield f'unkey 0 {count // 2 + 1}'
+
+
+def faces_with_one(count):
+    """So many faces, of which one declares."""
+    yield from faces(count)
+    yield 'queryable 0 1 0:s:k c 0 0'
+
+
+def faces_and_asked(count):
+    yield from faces_with_one(count)
+    for i in range(CALLS):
+        yield f'ask {i * 7919 % (count - 1) + 1} {i} 0:s:k all - 0 0 hi 0'
+
+
+# Scripts that are made to be slow, or to take much memory
+
+def long_key(size=65_536):
+    return 'a/' * (size // 2 - 1) + 'a'
+
+
+def long_key_declared():
+    """A key of 64 KiB, declared."""
+    yield from faces(2)
+    yield f'queryable 0 1 0:s:{long_key()} c 0 0'
+
+
+def long_key_named():
+    """The same key, for which a face gives a number."""
+    yield from faces(2)
+    yield f'key 0 1 0:s:{long_key()}'
+
+
+def long_key_asked():
+    """The same key, named and declared by one face and asked by another."""
+    yield from long_key_named()
+    yield 'queryable 0 1 1:s:- c 0 0'
+    yield f'ask 1 1 0:s:{long_key()} all - 0 0 - 0'
+
+
+def wild_fronts():
+    """10,000 keys `*/xN/**` and 20,000 requests."""
+    yield from faces(2)
+    for n in range(10_000):
+        yield f'queryable 0 {n} 0:s:*/x{n}/** c 0 0'
+    for i in range(20_000):
+        yield f'ask 1 {i} 0:s:a/x{i * 7919 % 10_000}/b all - 0 0 - 0'
+
+
+def wild_chunks():
+    """10,000 keys `**/a$*b$*cN` and 5,000 requests."""
+    yield from faces(2)
+    for n in range(10_000):
+        yield f'queryable 0 {n} 0:s:**/a$*b$*c{n} c 0 0'
+    for i in range(5_000):
+        yield f'ask 1 {i} 0:s:{"aab" * 12}c{i * 7919 % 10_000} all - 0 0 - 0'
+
+
+def many_wild_chunks():
+    """A key of 5,000 chunks `a$*b` behind a `**`, and 20 requests that it nearly meets."""
+    yield from faces(2)
+    yield f'queryable 0 1 0:s:**/{"a$*b/" * 2_500}x c 0 0'
+    for i in range(20):
+        yield f'ask 1 {i} 0:s:{"accb/" * 5_000}y all - 0 0 - 0'
+
+
+def long_payloads():
+    """1,000 faces and 50 requests of 10 kB, each handed to all."""
+    yield from faces(1_001)
+    for face in range(1_000):
+        yield f'queryable {face} 1 0:s:k c 0 0'
+    for i in range(50):
+        yield f'ask 1000 {i} 0:s:k all - 0 0 {"p" * 10_000} 0'
+
+
+def nested_numbers():
+    """30,000 numbers, each for the text of the one before and a chunk more."""
+    yield from faces(1)
+    yield 'key 0 1 0:s:a'
+    for n in range(2, 30_001):
+        yield f'key 0 {n} {n - 1}:s:/a'
+
+
+def poll_of_many():
+    """A poll at which 100,000 requests run out of time."""
+    yield from open_requests(100_000)
+    yield 'poll 20000'
+
+
+def close_of_many():
+    """A face closes to which 100,000 requests were handed."""
+    yield from open_requests(100_000)
+    yield 'close 0'
+
+
+def nearly_alike(part, size=1_024):
+    """A thousand requests on a key that differs from the declared one in its last letter alone. Both repeat a part."""
+    text = (part * size)[:(size - 1) // len(part) * len(part)].ljust(size - 1, 'a')
+    yield from faces(2)
+    yield f'queryable 0 1 0:s:{text}x c 0 0'
+    for i in range(1_000):
+        yield f'ask 1 {i} 0:s:{text}y all - 0 0 - 0'
+
+
+if __name__ == '__main__':
+    made = globals().get(sys.argv[1] if len(sys.argv) > 1 else '')
+    if not callable(made):
+        sys.exit(f'usage: bench/scripts.py {"|".join(name for name, it in globals().items() if callable(it))} [NUMBER]')
+    for line in made(*map(int, sys.argv[2:])):
+        print(line)

@@ -1,0 +1,39 @@
+/* Counts what a program asks of malloc, calloc and realloc, and refuses the one of the number REFUSE.
+   At the end the count goes to the file ASKED. */
+
+#include <fcntl.h>
+#include <stdio.h>
+#include <stdlib.h>
+
+void *__libc_malloc(size_t size);
+void *__libc_calloc(size_t count, size_t size);
+void *__libc_realloc(void *old, size_t size);
+
+static unsigned long asked;
+
+static int is_refused(void) {
+    const char *refused = getenv("REFUSE");
+    asked += 1;
+    return refused && asked == strtoul(refused, NULL, 10);
+}
+
+void *malloc(size_t size) {
+    return is_refused() ? NULL : __libc_malloc(size);
+}
+
+void *calloc(size_t count, size_t size) {
+    return is_refused() ? NULL : __libc_calloc(count, size);
+}
+
+void *realloc(void *old, size_t size) {
+    return is_refused() ? NULL : __libc_realloc(old, size);
+}
+
+__attribute__((destructor)) static void tell(void) {
+    const char *path = getenv("ASKED");
+    unsigned long count = asked;
+    int file = path ? open(path, O_WRONLY | O_CREAT | O_TRUNC, 0600) : -1;
+    if (file >= 0) {
+        dprintf(file, "%lu\n", count);
+    }
+}
