@@ -1,11 +1,12 @@
 -- The print of a script, and of the lines that are still to be read.
-use Rattle.std.specs.Prelude.{ℕ, List, ◌++◌, Result, Ok, Err}
+use Rattle.std.specs.Prelude.{◌≡◌, ℕ, List, ◌++◌, Option, Result, Ok, Err}
 use Rattle.std.specs.List.{AllByRecursion}
+use Rattle.zq_machine.specs.declared.call.Call.{Call}
 use Rattle.zq_machine.specs.State.{State}
 use Rattle.zq_machine.specs.Machine.{steps_from}
 use Rattle.zq_script.specs.declared.script.Script.{Script}
 use Rattle.zq_script.specs.Running.{script_print}
-use Rattle.zq_script.specs.Script.{Parts}
+use Rattle.zq_script.specs.Script.{Parts, with_line}
 use Rattle.zq_prints.specs.Steps.{steps_words}
 use Rattle.zq_prints.specs.StepsFit.{FitsStep}
 
@@ -28,3 +29,9 @@ printed_on print (Err n) = Err n
 abbrev pub FitsRun : State → Result Parts ℕ → Type 0
 FitsRun s (Ok parts) = AllByRecursion FitsStep (steps_from s parts.0)
 FitsRun s (Err n) = Unit {0}
+
+-- the call of a line, if it is one, is answered and printed: what is printed then of any other lines is what is printed before of the line and those
+pub record Prints (o : Option Call) (s : State) (print : List ℕ) (then : State) (more : List ℕ) : Type 0 where
+  pub told : (n : ℕ) (r : Result Parts ℕ) → printed_on more (printed_by then r) ≡ printed_on print (printed_by s (with_line n o r))
+  pub fits : (n : ℕ) (r : Result Parts ℕ) → FitsRun then r → FitsRun s (with_line n o r)
+  pub same : then.core.config ≡ s.core.config

@@ -1,13 +1,13 @@
 //! The print of a script, made while its lines are read: no call is kept once it is answered, and
 //! no step once it is printed.
-ghost use Rattle.std.specs.Prelude.{◌≡◌, ◌<◌, ◌+◌, ◌^◌, ◌++◌, IfOk, OnOk, length, true, false};
+ghost use Rattle.std.specs.Prelude.{◌≡◌, ◌<◌, ◌+◌, ◌^◌, ◌++◌, IfOk, OnOk, Ok, None, length, true, false};
 ghost use Rattle.zq_machine.specs.Calls.{is_built};
 ghost use Rattle.zq_machine.specs.Machine.{after, step};
 ghost use Rattle.zq_machine.specs.State.{opening_state};
-ghost use Rattle.zq_script.specs.Printing.{FitsRun, printed, printed_by};
+ghost use Rattle.zq_script.specs.Printing.{FitsRun, Prints, printed, printed_by};
 ghost use Rattle.zq_script.specs.Running.{ReadsBack};
 ghost use Rattle.zq_lines.specs.Split.{lines_of};
-ghost use Rattle.zq_script.specs.Script.{parts_from, script_of, Gives};
+ghost use Rattle.zq_script.specs.Script.{parts_from, script_call, script_of, Gives};
 ghost use Rattle.zq_prints.specs.Steps.{step_words};
 ghost use Rattle.zq_prints.specs.StepsFit.{FitsStep};
 
@@ -38,8 +38,28 @@ fn print_step(gateway: &mut Gateway, print: &mut Vec<u8>, call: &Call) -> Result
     Ok(())
 }
 
+/// Reads a line, makes its call and prints its step; false where the line is no call.
+#[tactic(auto, using(crate::proofs::Printed::call_prints))]
+fn print_line(
+    alloc: Global,
+    config: &Config,
+    gateway: &mut Gateway,
+    print: &mut Vec<u8>,
+    line: &[u8],
+) -> Result<bool, OutOfMemory>
+    requires { gateway.old.core.config ≡ config.now }
+    ensures called { result ≡ Ok true → Prints (script_call config.now false line.now) gateway.old print.old.items gateway.new print.new.items }
+    ensures bad { result ≡ Ok false → script_call config.now false line.now ≡ None }
+{
+    let Some(call) = script_call(alloc, config, false, line)? else {
+        return Ok(false);
+    };
+    print_step(gateway, print, &call)?;
+    Ok(true)
+}
+
 /// The print of the steps of the lines' calls, the lines numbered from `first` on.
-#[tactic(auto, using(crate::proofs::Printed::line_read, crate::proofs::Printed::line_bad, crate::proofs::Printed::call_printed, crate::proofs::Printed::call_fits, crate::proofs::Printed::all_printed))]
+#[tactic(auto, using(crate::proofs::Printed::next_told, crate::proofs::Printed::next_fits, crate::proofs::Printed::line_bad))]
 fn print_calls(
     alloc: Global,
     config: &Config,
@@ -55,9 +75,8 @@ fn print_calls(
     let mut number = first;
     let mut rest = bytes;
     'lines: while let Some((line, after)) = next_line(rest) {
-        match script_call(alloc, config, false, line)? {
-            Some(call) => print_step(&mut gateway, &mut print, &call)?,
-            None => return Err(ScriptRefusal::BadLine(number)),
+        if !print_line(alloc, config, &mut gateway, &mut print, line)? {
+            return Err(ScriptRefusal::BadLine(number));
         }
         number += 1;
         rest = after;

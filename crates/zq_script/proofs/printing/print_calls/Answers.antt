@@ -1,0 +1,19 @@
+use Rattle.std.proofs.Common.{◌≡◌, ◌∙◌, ap, arith, true, false, rules}
+use Rattle.std.proofs.lemmas.Bool.Decides.{nat_tests}
+use Rattle.std.proofs.lemmas.Grind.{common_steps}
+use Rattle.zq_lines.specs.Split.{lines_of}
+use Rattle.zq_script.specs.Printing.{Prints}
+use Rattle.zq_script.specs.Script.{script_call}
+use Rattle.zq_script.proofs.Printed.{next_fits, next_told}
+use Rattle.zq_script.proofs.printing.print_calls.Goals as goal
+
+pub lines-preserved : goal.lines-preserved
+lines-preserved c =
+    let ok : c.in_ok-print_line.field-0 ≡ true = first_of ((cc), (search rules), (grind (arith, nat_tests, common_steps))) in
+    let prints : Prints (script_call c.args.config.now false c.in-Some.line.now) c.lines.gateway c.lines.print.items c.print_line.new.gateway c.print_line.new.print.items = c.in_ok-print_line.ensures.called (first_of ((cc), (search rules), (grind (arith, common_steps)))) in
+    record {
+      told = next_told c.args.config.now c.lines.number c.in-Some.line.now (lines_of c.in-Some.after.now) (lines_of c.lines.rest.now) c.lines.gateway c.print_line.new.gateway c.lines.print.items c.print_line.new.print.items _ c.in-Some.ensures.value prints c.lines.invariant.told;
+      fits = next_fits c.args.config.now c.lines.number c.in-Some.line.now (lines_of c.in-Some.after.now) (lines_of c.lines.rest.now) c.lines.gateway c.print_line.new.gateway c.lines.print.items c.print_line.new.print.items _ c.in-Some.ensures.value prints c.lines.invariant.fits;
+      same = prints.same ∙ c.lines.invariant.same;
+      counted = omega (arith, c.in-Some.ensures.shorter, c.lines.invariant.counted);
+    }
