@@ -1,9 +1,10 @@
 #!/usr/bin/env python3
 """The scripts that bench/run times, by name: `bench/scripts.py load` prints one.
 
-Each function here makes a script, as its lines. With a number it has so many requests, keys or faces.
+Each generator here makes a script, line by line; the number that some take says how many requests, keys or faces.
 """
 
+import inspect
 import sys
 
 CONFIG = 'config 1 10000 north:client local'
@@ -29,10 +30,8 @@ def load(requests=49_996):
 
 def exchange(asker, face, number, pending_id, reply, key):
     """A request with its one reply and its end."""
-    yield f'ask {asker} {number} 0:s:{key} all - 0 0 {number} {number}'
-    yield f'reply {face} {pending_id} 0:s:{key} ok {number}'
-    yield f'final {face} {pending_id}'
-    yield f'sent {reply}'
+    return (f'ask {asker} {number} 0:s:{key} all - 0 0 {number} {number}',
+            f'reply {face} {pending_id} 0:s:{key} ok {number}', f'final {face} {pending_id}', f'sent {reply}')
 
 
 def fanout(requests=9_514):
@@ -245,8 +244,8 @@ def nearly_alike(part, size=1_024):
 
 
 if __name__ == '__main__':
-    made = globals().get(sys.argv[1] if len(sys.argv) > 1 else '')
-    if not callable(made):
-        sys.exit(f'usage: bench/scripts.py {"|".join(name for name, it in globals().items() if callable(it))} [NUMBER]')
-    for line in made(*map(int, sys.argv[2:])):
+    made = {name: it for name, it in globals().items() if inspect.isgeneratorfunction(it)}
+    if len(sys.argv) < 2 or sys.argv[1] not in made:
+        sys.exit(f'usage: bench/scripts.py {"|".join(made)} [NUMBER]')
+    for line in made[sys.argv[1]](*map(int, sys.argv[2:])):
         print(line)

@@ -28,6 +28,10 @@ pub fn parent(text: &str) -> Option<&str> {
     text.rfind('/').map(|end| &text[..end])
 }
 
+fn last_chunk(text: &str) -> &str {
+    text.rsplit('/').next().unwrap_or(text)
+}
+
 /// Whether a chunk is met by equal ones and by wild ones alone.
 fn is_fixed(chunk: &str) -> bool {
     chunk.starts_with('@') || !chunk.contains(['*', '$'])
@@ -146,8 +150,17 @@ fn cut_at_verbatim(text: &str) -> (&str, &str) {
     text.split_at(at.unwrap_or(text.len()))
 }
 
+/// Whether the last chunks of two keys let them meet.
+fn ends_meet(a: &str, b: &str) -> bool {
+    let (x, y) = (last_chunk(a), last_chunk(b));
+    x == y || x == "**" || y == "**" || !(x.starts_with('@') || y.starts_with('@')) && chunks_meet(x, y)
+}
+
 /// Whether two keys meet: each chunk that begins with `@` by itself alone, and what stands between those.
 fn keys_meet(mut a: &str, mut b: &str) -> bool {
+    if !ends_meet(a, b) {
+        return false;
+    }
     loop {
         let ((a_free, a_rest), (b_free, b_rest)) = (cut_at_verbatim(a), cut_at_verbatim(b));
         if !free_meet(chunks(a_free), chunks(b_free)) {
@@ -260,7 +273,7 @@ impl Hat {
     /// Drops a node of no use, and those above it that are of none without it.
     fn prune(&mut self, mut at: usize, mut key: &str) {
         while at != ROOT && self.nodes[at].is_leaf() && self.nodes[at].declared.is_none() {
-            let chunk = parent(key).map_or(key, |front| &key[front.len() + 1..]);
+            let chunk = last_chunk(key);
             key = parent(key).unwrap_or("");
             let above = self.nodes[at].parent;
             let node = &mut self.nodes[above];
