@@ -126,6 +126,17 @@ fn first_of(replies: &BTreeMap<u64, u64>, number: u64) -> Option<u64>
     None
 }
 
+/// The members of a set, in order.
+fn listed<K: Copy + Ord>(alloc: Global, set: &BTreeSet<K>) -> Result<Vec<K>, OutOfMemory>
+    ensures { IfOk result (λ list. list.items ≡ set.now.keys) }
+{
+    let mut list = Vec::with_capacity(alloc, set.len())?;
+    for member in set {
+        list.push(*member)?;
+    }
+    Ok(list)
+}
+
 /// The request is over where nothing of it is left.
 fn settle(heads: &mut Numbers<Open>, number: u64, left: Open) -> Option<Final>
     ensures over { result ≡ (if is_spent left then Some (final_at number left) else None) }

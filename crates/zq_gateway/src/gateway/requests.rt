@@ -24,7 +24,11 @@ use zq_query::records::AskRefusal;
 fn targets_of(alloc: Global, offers: &[QueryTargetQabl]) -> Result<Vec<FaceId>, AllocError>
     ensures { IfOk result (λ v. v.items ≡ map target_of offers.now) }
 {
-    offers.iter().map(|offer| offer.face).collect(alloc)
+    let mut targets = Vec::with_capacity(alloc, offers.len())?;
+    for offer in offers {
+        targets.push(offer.face)?;
+    }
+    Ok(targets)
 }
 
 impl Gateway {

@@ -71,15 +71,17 @@ fn place_of(face: u32, id: u32) -> (u32, u32)
 fn copy_of(alloc: Global, places: &[(u32, u32)]) -> Result<PlaceList, OutOfMemory>
     ensures { IfOk result (λ copy. copy ≡ places.now) }
 {
-    let copy = places.iter().copied().collect(alloc)?;
-    Ok(Items::from_vec(copy))
+    Ok(Items::from_vec(Vec::from_slice(alloc, places)?))
 }
 
 /// The ids of the places.
 fn ids_in(alloc: Global, places: &[(u32, u32)]) -> Result<U32List, OutOfMemory>
     ensures { IfOk result (λ ids. ids ≡ map (λ p. p.1) places.now) }
 {
-    let ids = places.iter().map(|place| place.1).collect(alloc)?;
+    let mut ids = Vec::with_capacity(alloc, places.len())?;
+    for (_, id) in places {
+        ids.push(*id)?;
+    }
     Ok(Items::from_vec(ids))
 }
 

@@ -9,7 +9,7 @@ ghost use Rattle.zq_query.specs.FaceEntries.{entries_of_face, ending, has_key};
 ghost use Rattle.zq_query.specs.Closing.{at_face, closed_with, closing_finals, after_close};
 
 use crate::numbers::Numbers;
-use crate::queries::{Open, Owed, Queries};
+use crate::queries::{Open, Owed, Queries, listed};
 use crate::records::{Final, FinalList};
 use std::alloc::Global;
 use std::collections::{BTreeMap, BTreeSet};
@@ -25,10 +25,10 @@ fn places_in(
 ) -> Result<Vec<(u32, u32)>, OutOfMemory>
     ensures { IfOk result (λ places. places.items ≡ keys_of (entries_of_face face pending.now.entries)) }
 {
-    let places = pending
-        .range((face, 0)..=(face, u32::MAX))
-        .map(|entry| *entry.0)
-        .collect(alloc)?;
+    let mut places = Vec::new(alloc);
+    for (place, _) in pending.range((face, 0)..=(face, u32::MAX)) {
+        places.push(*place)?;
+    }
     Ok(places)
 }
 
@@ -40,10 +40,10 @@ fn numbers_in(
 ) -> Result<Vec<u64>, OutOfMemory>
     ensures { IfOk result (λ numbers. numbers.items ≡ map (λ e. e.1.number) (entries_of_face face pending.now.entries)) }
 {
-    let numbers = pending
-        .range((face, 0)..=(face, u32::MAX))
-        .map(|entry| entry.1.number)
-        .collect(alloc)?;
+    let mut numbers = Vec::new(alloc);
+    for (_, owed) in pending.range((face, 0)..=(face, u32::MAX)) {
+        numbers.push(owed.number)?;
+    }
     Ok(numbers)
 }
 
@@ -69,8 +69,7 @@ fn in_order(alloc: Global, numbers: &[u64]) -> Result<Vec<u64>, OutOfMemory>
     ensures order { IfOk result (λ list. IsStrictlySortedBy nat_cmp list.items) }
 {
     let set = set_of(alloc, numbers)?;
-    let list = set.into_iter().collect(alloc)?;
-    Ok(list)
+    listed(alloc, &set)
 }
 
 /// The final of a request whose one entry is let go while the face closes.

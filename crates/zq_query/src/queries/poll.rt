@@ -10,7 +10,7 @@ ghost use Rattle.zq_query.specs.Tables.{Due, due_cmp};
 ghost use Rattle.zq_query.specs.FaceEntries.{has_key};
 ghost use Rattle.zq_query.specs.DueEntries.{is_owed_at, live_until, due_at};
 
-use crate::queries::{Owed, Queries};
+use crate::queries::{Owed, Queries, listed};
 use crate::records::{PlaceList, PollRefusal, Timeout, TimeoutList};
 use std::alloc::Global;
 use std::collections::{BTreeMap, BTreeSet};
@@ -122,8 +122,7 @@ fn dues_in(
     ensures order { IfOk result (λ list. IsStrictlySortedBy due_cmp list.items) }
 {
     let set = dues_set(alloc, pending, places)?;
-    let list = set.into_iter().collect(alloc)?;
-    Ok(list)
+    listed(alloc, &set)
 }
 
 /// One more timeout, if there is one; the answer is the reply number after it.
