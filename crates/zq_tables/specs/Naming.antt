@@ -1,9 +1,8 @@
 -- What stands for keys at each open face, by number or by a queryable's id, and what expressions say by it.
-use Rattle.std.specs.Prelude.{ℕ, ◌==◌, Bool, false, not, ◌&&◌, ◌||◌, is_some, List, [], ◌∷◌, ◌++◌, take, length, zero, suc, find, Option, Some, None, if◌then◌else◌, unwrap_or}
-use Rattle.std.specs.Prelude.{slice_index}
+use Rattle.std.specs.Prelude.{ℕ, ◌==◌, Bool, false, not, ◌||◌, is_some, List, [], ◌∷◌, ◌++◌, Option, Some, None, if◌then◌else◌, unwrap_or}
 use Rattle.std.specs.Str.{bytes_eq}
 use Rattle.std.specs.Ordering.{nat_cmp}
-use Rattle.std.specs.Map.{keys_of, lookup, remove_entry, set_value}
+use Rattle.std.specs.Map.{lookup, remove_entry, set_value}
 use Rattle.std.specs.BTreeMap.{is_at, insert_entry}
 use Rattle.zq_key.specs.Key.{is_key}
 use Rattle.zq_key.specs.declared.message.Mapping.{Mapping}
@@ -11,7 +10,7 @@ use Rattle.zq_key.specs.declared.message.Mapping.TheVariants as mapping
 use Rattle.zq_key.specs.declared.message.WireExpr.{WireExpr}
 use Rattle.zq_names.specs.declared.refusal.NameRefusal.{NameRefusal}
 use Rattle.zq_names.specs.declared.refusal.NameRefusal.TheVariants as refusal
-use Rattle.zq_tables.specs.FaceTexts.{FaceTexts, or_else, whole, key_from}
+use Rattle.zq_tables.specs.FaceTexts.{FaceTexts, whole, best_key}
 use Rattle.zq_tables.specs.declared.said.Said.{Said}
 use Rattle.zq_tables.specs.declared.said.Said.TheVariants as said
 
@@ -148,52 +147,10 @@ remaps id text standing = (id == 0) || is_other text standing
 abbrev pub declare_refusal : ℕ → List ℕ → FaceNaming → Option NameRefusal
 declare_refusal id text n = if is_key text then (if remaps id text (text_at id n.theirs) then Some refusal.Remapped else None) else Some refusal.InvalidKeyExpr
 
--- this text stands there
-abbrev pub is_text : List ℕ → Option (List ℕ) → Bool
-is_text text None = false
-is_text text (Some t) = bytes_eq t text
-
--- the number stands for the text; the number 0 stands for none
-abbrev pub names_text : Names → List ℕ → ℕ → Bool
-names_text names text id = not (id == 0) && is_text text (text_at id names)
-
--- the least number that stands for the text
-abbrev pub least_name : List ℕ → Names → Option ℕ
-least_name text names = find (names_text names text) (keys_of names)
-
 -- a text under no number
 abbrev pub plain : List ℕ → WireExpr
 plain text = whole text
 
--- a number with the side that declared it
-abbrev pub tagged : Mapping → Option ℕ → Option (ℕ × Mapping)
-tagged side None = None
-tagged side (Some id) = Some (id, side)
-
--- the number of a text in what the face is handed, the face's own before the gateway's
-abbrev pub known : FaceNaming → List ℕ → Option (ℕ × Mapping)
-known n text = or_else (tagged mapping.Receiver (least_name text n.theirs)) (tagged mapping.Sender (least_name text n.ours))
-
--- a number with the length of the part that it stands for
-abbrev pub cut_at : ℕ → Option (ℕ × Mapping) → Option (ℕ × Mapping × ℕ)
-cut_at k None = None
-cut_at k (Some m) = Some (m.0, m.1, k)
-
--- the longest numbered part of the text that ends before a `/` among its first k bytes
-abbrev pub best_before : FaceNaming → List ℕ → ℕ → Option (ℕ × Mapping × ℕ)
-best_before n text zero = None
-best_before n text (suc k) =
-    if slice_index text k == 47 then or_else (cut_at k (known n (take k text))) (best_before n text k)
-    else best_before n text k
-
--- the longest numbered part of whole chunks of the text: its number, and where the text is cut
-abbrev pub best_part : FaceNaming → List ℕ → Option (ℕ × Mapping × ℕ)
-best_part n text = or_else (cut_at (length text) (known n text)) (best_before n text (length text))
-
--- the text by the number of its part, else whole
-abbrev pub numbered : List ℕ → Option (ℕ × Mapping × ℕ) → WireExpr
-numbered text part = key_from part text
-
 -- the text as it is handed to the face: by the longest numbered part of whole chunks, else whole
 abbrev pub best : FaceNaming → List ℕ → WireExpr
-best n text = numbered text (best_part n text)
+best n text = best_key n text

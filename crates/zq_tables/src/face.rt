@@ -222,6 +222,9 @@ impl FaceNames {
         requires { AreLive names.now self.now }
         ensures { result ≡ known_of (texts_of names.now self.now) text.now }
     {
+        // the ids of each side stand in order, so that the first of a text is its least
+        let _theirs = self.theirs.len();
+        let _ours = self.ours.len();
         let Some(node) = names.get_resource(names.root(), text) else {
             return None;
         };
@@ -268,8 +271,6 @@ impl FaceNames {
         ensures best { IfOk result (λ w. w ≡ best_key (texts_of names.now self.now) ((entry_at names.now r.0).text ++ suffix.now)) }
         ensures reads { IfOk result (λ w. read_by (texts_of names.now self.now) w ≡ Some ((entry_at names.now r.0).text ++ suffix.now)) }
     {
-        let _theirs = self.theirs.len();
-        let _ours = self.ours.len();
         let text = joined(alloc, names.expr(r), suffix)?;
         expression(alloc, self.best_part(names, text.as_str()), text.as_str())
     }

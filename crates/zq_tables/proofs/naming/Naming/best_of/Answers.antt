@@ -1,13 +1,11 @@
-use Rattle.std.proofs.Common.{◌≡◌, ◌∙◌, ◌++◌, ℕ, List, [], ap, sym, subst, arith, IfOk}
+use Rattle.std.proofs.Common.{◌≡◌, ◌∙◌, ◌++◌, ℕ, List, ap, sym, subst, IfOk}
 use Rattle.zq_names.specs.Names.{entry_at}
 use Rattle.zq_tables.specs.FaceIds.{FaceIds, AreLive, no_ids}
 use Rattle.zq_tables.specs.FaceTexts.{best_key, texts_of}
 use Rattle.zq_tables.specs.Naming.{FaceNaming, face_naming, best}
-use Rattle.zq_tables.specs.Holding.{Rises}
-use Rattle.zq_tables.proofs.Entries.{Rises-shown}
-use Rattle.zq_tables.proofs.Holds.{live_at, face_at}
+use Rattle.zq_tables.proofs.Holds.{live_at}
 use Rattle.zq_tables.proofs.Faces.{face_there, face_closed}
-use Rattle.zq_tables.proofs.BestKeys.{answer_best, best_none}
+use Rattle.zq_tables.proofs.Reading.{best_none}
 use Rattle.zq_tables.proofs.naming.Naming.best_of.Goals as goal
 
 pub get_best_key-requires-clause-ids : goal.get_best_key-requires-clause-ids
@@ -34,18 +32,13 @@ returns-else-is_empty c =
     let names = c.self.inside.names in
     let faces = c.self.inside.faces.entries in
     let nodes = c.in-Some.nodes.now in
-    let numbers = nodes.numbers in
     let text = c.args.text.now in
-    let at = sym c.in-Some.ensures.value in
-    let is = face_at faces face nodes c.self.invariant.sides at in
-    let g = λ (k : ℕ). (entry_at names k).text in
-    let R : List (ℕ × ℕ) → Type 0 = Rises 65536 1 in
-    let few : R [] = omega arith in
     let S : FaceNaming → Type 0 = λ (n : FaceNaming). IfOk c.get_best_key.result (λ w. w ≡ best n text) in
     let root : (entry_at names c.root-root.result.0).text ++ text ≡ text = ap (λ (t : List ℕ). t ++ text) c.root-root.ensures.text in
+    let R : List ℕ → Type 0 = λ (t : List ℕ). IfOk c.get_best_key.result (λ w. w ≡ best_key (texts_of names nodes.numbers) t) in
     let B : FaceIds → Type 0 = λ (f : FaceIds). IfOk c.get_best_key.result (λ w. w ≡ best_key (texts_of names f) ((entry_at names c.root-root.result.0).text ++ text)) in
-    subst S (sym (face_there names faces face nodes at) ∙ ap (face_naming face) c.self.view_is)
-    (answer_best (texts_of names numbers) text _ c.get_best_key.result (Rises-shown g 65536 1 numbers.theirs is.theirs) (Rises-shown g 65536 1 numbers.ours (subst R (sym is.ours) few)) root (subst B c.numbers-numbers.ensures c.get_best_key.ensures.best))
+    subst S (sym (face_there names faces face nodes (sym c.in-Some.ensures.value)) ∙ ap (face_naming face) c.self.view_is)
+    (subst R root (subst B c.numbers-numbers.ensures c.get_best_key.ensures.best))
 
 pub returns-in-None : goal.returns-in-None
 returns-in-None c =

@@ -6,7 +6,7 @@ use Rattle.zq_tables.specs.Naming.{FaceNaming, face_naming, said_of}
 use Rattle.zq_tables.specs.declared.said.Said.TheVariants as said
 use Rattle.zq_tables.proofs.Holds.{live_at}
 use Rattle.zq_tables.proofs.Faces.{face_there, face_closed}
-use Rattle.zq_tables.proofs.BestKeys.{said_none}
+use Rattle.zq_tables.proofs.Reading.{said_none}
 use Rattle.zq_tables.proofs.naming.Naming.said.Goals as goal
 
 pub said_under-requires-clause-live : goal.said_under-requires-clause-live
