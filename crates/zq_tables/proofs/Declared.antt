@@ -12,6 +12,7 @@ use Rattle.zq_tables.proofs.Entries.{Rises-with_id, Rises-shown, weigh-with_id, 
 use Rattle.zq_tables.proofs.Holds.{face_at}
 use Rattle.zq_tables.proofs.Faces.{face_there, change_idle, set_texts, shown_text}
 use Rattle.zq_key.specs.declared.message.WireExpr.{WireExpr}
+use Rattle.zq_key.specs.declared.message.Mapping.TheVariants.{Sender}
 use Rattle.zq_tables.specs.Registering.{Maps, Registers}
 use Rattle.zq_tables.proofs.IdLemmas.{of_id-with_id}
 use Rattle.zq_tables.proofs.Made.{fresh_made}
@@ -47,7 +48,7 @@ numbers_of names names' old new i r t maps is =
 
 module _ (names names1 : List NameEntry) (faces faces' : Faces) (face id r : ℕ) (t : List ℕ) (held : IsHeld names faces) (new : number_settled face id faces ≡ false) (declares : Declares names names1 faces faces' face id t r) where
   absent : of_id declares.was.numbers.theirs id ≡ None
-  absent = none_from (of_id declares.was.numbers.theirs id) (ap (λ (o : Option FaceHolds). is_settled o (numbers_in o) id) (sym declares.at) ∙ new)
+  absent = none_from (of_id declares.was.numbers.theirs id) (ap (λ (o : Option FaceHolds). is_settled o (numbers_in Sender o) id) (sym declares.at) ∙ new)
 
   -- the face with other numbers
   abbrev now : FaceIds → FaceHolds
@@ -102,5 +103,5 @@ pub settled_texts : (names : List NameEntry) (faces : Faces) (face id : ℕ) (t 
     → texts_by names faces ≡ change_naming face (with_name id t) (texts_by names faces)
 settled_texts names faces face id t held settled free =
     change_idle names faces face (with_name id t) (λ f at.
-    let there : is_some (of_id f.numbers.theirs id) ≡ true = ap (λ (o : Option FaceHolds). is_settled o (numbers_in o) id) (sym at) ∙ settled in
+    let there : is_some (of_id f.numbers.theirs id) ≡ true = ap (λ (o : Option FaceHolds). is_settled o (numbers_in Sender o) id) (sym at) ∙ settled in
     ap (with_theirs (keys_of_face names f)) (settled_side names faces face id t f held at there free))

@@ -35,10 +35,10 @@ few_on_side i (e ∷ es) = omega (arith, at_most_one i e.1, few_on_side i es)
 
 few_at_face : (i : ℕ) (f : FaceHolds) → IsFace f → face_holds i f ≤ 8589934592
 few_at_face i f is =
-    let none : side_holds i f.numbers.ours ≡ 0 = ap (side_holds i) is.ours in
+    let given : length f.numbers.ours + 1 ≤ 65536 = Rises-length 65536 1 f.numbers.ours is.ours in
     let numbers : length f.numbers.theirs + 1 ≤ 65536 = Rises-length 65536 1 f.numbers.theirs is.theirs in
     let queryables : length f.queryables + 0 ≤ 4294967296 = Rises-length 4294967296 0 f.queryables is.queryables in
-    omega (arith, none, few_on_side i f.numbers.theirs, few_on_side i f.queryables, numbers, queryables)
+    omega (arith, few_on_side i f.numbers.theirs, few_on_side i f.numbers.ours, few_on_side i f.queryables, numbers, given, queryables)
 
 pub few_holds : (i : ℕ) (faces : Faces) → All IsFace (values_of faces) → holds_by i faces ≤ length faces * 8589934592
 few_holds i [] all = omega arith

@@ -6,11 +6,13 @@ use Rattle.std.specs.BTreeMap.{is_at}
 use Rattle.std.specs.Ordering.{nat_cmp}
 use Rattle.std.proofs.lemmas.Bool.{cases_eq}
 use Rattle.std.proofs.lemmas.Map.Views.{All-values-set_value}
+use Rattle.zq_key.specs.declared.message.Mapping.{Mapping}
+use Rattle.zq_key.specs.declared.message.Mapping.TheVariants.{Sender, Receiver}
 use Rattle.zq_names.specs.Names.{NameEntry, ids, entry_at, with_hold, without_hold, change_at}
 use Rattle.zq_names.specs.Idle.{IdleAt, NoneIdle}
 use Rattle.zq_names.specs.Keeping.{AllStay, NoneCome, ChangesAt}
 use Rattle.zq_tables.specs.FaceIds.{of_id}
-use Rattle.zq_tables.specs.Naming.{Names, with_theirs, without_name, without_queryable, change_naming, FaceKeys}
+use Rattle.zq_tables.specs.Naming.{Names, with_sent, without_sent, without_queryable, change_naming, FaceKeys}
 use Rattle.zq_tables.specs.Holding.{FaceHolds, Faces, InHand, IsFace, IsHeld, LetsGo, TakesHold, hold_of, face_holds, holds_by, ids_at, node_at, queryable_at, put_ids, change_ids, keys_of_face, texts_by, without_hold_at, without_number, numbers_in, queryables_in}
 use Rattle.zq_tables.proofs.Entries.{Rises-without_id, weigh-removed, weigh-set, shown-removed}
 use Rattle.zq_tables.proofs.Faces.{set_texts, changed_text, side_is}
@@ -190,17 +192,26 @@ module _ (side : Option FaceHolds → List (ℕ × ℕ)) (none : side None ≡ [
       let there = side_is side none id n (ids_at face faces) node in
       set_texts names faces faces' face there.0 (without there.0) g there.1 (put ∙ ap (put_ids face without faces) there.1) (shown names there.0)
 
-pub number_freed : (names : List NameEntry) (faces faces' : Faces) (face id n : ℕ) → IsHeld names faces → node_at face id faces ≡ Some n → faces' ≡ change_ids face (without_number id) faces → InHand names faces' n
-number_freed names faces faces' face id n =
-    side_freed numbers_in refl id (without_number id)
+pub number_freed : (m : Mapping) (names : List NameEntry) (faces faces' : Faces) (face id n : ℕ) → IsHeld names faces → node_at m face id faces ≡ Some n → faces' ≡ change_ids face (without_number m id) faces → InHand names faces' n
+number_freed Sender names faces faces' face id n =
+    side_freed (numbers_in Sender) refl id (without_number Sender id)
     (λ f i m is. let one = weigh-removed (hold_of i) (is_at (nat_cmp id)) f.numbers.theirs m is in omega (arith, one))
     (λ f old. record { theirs = Rises-without_id 65536 1 id f.numbers.theirs old.theirs; ours = old.ours; queryables = old.queryables })
     names faces faces' face n
+number_freed Receiver names faces faces' face id n =
+    side_freed (numbers_in Receiver) refl id (without_number Receiver id)
+    (λ f i m is. let one = weigh-removed (hold_of i) (is_at (nat_cmp id)) f.numbers.ours m is in omega (arith, one))
+    (λ f old. record { theirs = old.theirs; ours = Rises-without_id 65536 1 id f.numbers.ours old.ours; queryables = old.queryables })
+    names faces faces' face n
 
-pub number_freed_texts : (names : List NameEntry) (faces faces' : Faces) (face id n : ℕ) → node_at face id faces ≡ Some n → faces' ≡ change_ids face (without_number id) faces → texts_by names faces' ≡ change_naming face (without_name id) (texts_by names faces)
-number_freed_texts names faces faces' face id n =
-    side_texts numbers_in refl id (without_number id) (without_name id)
-    (λ ns f. ap (with_theirs (keys_of_face ns f)) (shown-removed (λ (k : ℕ). (entry_at ns k).text) (is_at (nat_cmp id)) f.numbers.theirs))
+pub number_freed_texts : (m : Mapping) (names : List NameEntry) (faces faces' : Faces) (face id n : ℕ) → node_at m face id faces ≡ Some n → faces' ≡ change_ids face (without_number m id) faces → texts_by names faces' ≡ change_naming face (without_sent m id) (texts_by names faces)
+number_freed_texts Sender names faces faces' face id n =
+    side_texts (numbers_in Sender) refl id (without_number Sender id) (without_sent Sender id)
+    (λ ns f. ap (with_sent Sender (keys_of_face ns f)) (shown-removed (λ (k : ℕ). (entry_at ns k).text) (is_at (nat_cmp id)) f.numbers.theirs))
+    names faces faces' face n
+number_freed_texts Receiver names faces faces' face id n =
+    side_texts (numbers_in Receiver) refl id (without_number Receiver id) (without_sent Receiver id)
+    (λ ns f. ap (with_sent Receiver (keys_of_face ns f)) (shown-removed (λ (k : ℕ). (entry_at ns k).text) (is_at (nat_cmp id)) f.numbers.ours))
     names faces faces' face n
 
 pub queryable_freed : (names : List NameEntry) (faces faces' : Faces) (face id n : ℕ) → IsHeld names faces → queryable_at face id faces ≡ Some n → faces' ≡ change_ids face (without_hold_at id) faces → InHand names faces' n

@@ -5,10 +5,12 @@ use Rattle.std.specs.List.{All, Contains}
 use Rattle.std.specs.Ordering.{nat_cmp}
 use Rattle.std.specs.Map.{lookup, set_value, values_of}
 use Rattle.std.specs.BTreeMap.{is_at}
+use Rattle.zq_key.specs.declared.message.Mapping.{Mapping}
+use Rattle.zq_key.specs.declared.message.Mapping.TheVariants.{Sender, Receiver}
 use Rattle.zq_names.specs.Names.{NameEntry, ids, entry_at}
 use Rattle.zq_names.specs.Keeping.{AllStay}
 use Rattle.zq_names.specs.Idle.{IdleAt, NoneIdle}
-use Rattle.zq_tables.specs.FaceIds.{FaceIds, of_id, with_id, without_id}
+use Rattle.zq_tables.specs.FaceIds.{FaceIds, of_id, side, with_id, without_id}
 use Rattle.zq_tables.specs.FaceTexts.{id_texts, texts_of}
 use Rattle.zq_tables.specs.Naming.{FaceKeys, NamingState}
 
@@ -33,19 +35,19 @@ texts_by names faces = map (λ p. (p.0, keys_of_face names p.1)) faces
 abbrev pub ids_at : ℕ → Faces → Option FaceHolds
 ids_at face faces = lookup (is_at (nat_cmp face)) faces
 
--- the numbers that a face declared, none where it isn't open
-abbrev pub numbers_in : Option FaceHolds → List (ℕ × ℕ)
-numbers_in None = []
-numbers_in (Some f) = f.numbers.theirs
+-- the numbers of a side of a face, none where it isn't open
+abbrev pub numbers_in : Mapping → Option FaceHolds → List (ℕ × ℕ)
+numbers_in m None = []
+numbers_in m (Some f) = side f.numbers m
 
 -- the queryables that a face declared, none where it isn't open
 abbrev pub queryables_in : Option FaceHolds → List (ℕ × ℕ)
 queryables_in None = []
 queryables_in (Some f) = f.queryables
 
--- the node of a number that the face declared
-abbrev pub node_at : ℕ → ℕ → Faces → Option ℕ
-node_at face id faces = of_id (numbers_in (ids_at face faces)) id
+-- the node of a number of a side of a face
+abbrev pub node_at : Mapping → ℕ → ℕ → Faces → Option ℕ
+node_at m face id faces = of_id (numbers_in m (ids_at face faces)) id
 
 -- the node of a queryable that the face declared
 abbrev pub queryable_at : ℕ → ℕ → Faces → Option ℕ
@@ -58,15 +60,16 @@ is_settled (Some f) side id = is_some (of_id side id)
 
 -- the face isn't open, or its number stands for something
 abbrev pub number_settled : ℕ → ℕ → Faces → Bool
-number_settled face id faces = is_settled (ids_at face faces) (numbers_in (ids_at face faces)) id
+number_settled face id faces = is_settled (ids_at face faces) (numbers_in Sender (ids_at face faces)) id
 
 -- the face isn't open, or its queryable stands for something
 abbrev pub queryable_settled : ℕ → ℕ → Faces → Bool
 queryable_settled face id faces = is_settled (ids_at face faces) (queryables_in (ids_at face faces)) id
 
--- the face gives a number up
-abbrev pub without_number : ℕ → FaceHolds → FaceHolds
-without_number id f = record f { numbers = record f.numbers { theirs = without_id f.numbers.theirs id } }
+-- a number of a side is given up
+abbrev pub without_number : Mapping → ℕ → FaceHolds → FaceHolds
+without_number Sender id f = record f { numbers = record f.numbers { theirs = without_id f.numbers.theirs id } }
+without_number Receiver id f = record f { numbers = record f.numbers { ours = without_id f.numbers.ours id } }
 
 -- the face's queryable holds a node
 abbrev pub with_hold_at : ℕ → ℕ → FaceHolds → FaceHolds
@@ -113,10 +116,10 @@ abbrev pub Rises : {X : Type 0} → ℕ → ℕ → List (ℕ × X) → Type 0
 Rises limit first [] = first ≤ limit
 Rises limit first (e ∷ es) = (first ≤ e.0) × Rises limit (suc e.0) es
 
--- no number is 0, the gateway declared none, and ids are in order
+-- no number is 0, and ids are in order
 pub record IsFace (f : FaceHolds) : Type 0 where
   pub theirs : Rises 65536 1 f.numbers.theirs
-  pub ours : f.numbers.ours ≡ []
+  pub ours : Rises 65536 1 f.numbers.ours
   pub queryables : Rises 4294967296 0 f.queryables
 
 -- each node that is stood for is live, each node is held once for each number and queryable that stands for it, and none is there for nothing

@@ -105,7 +105,20 @@ with_name id text n = with_theirs n (insert_entry nat_cmp n.numbers.theirs id te
 abbrev pub without_name : ℕ → FaceKeys → FaceKeys
 without_name id n = with_theirs n (remove_entry (is_at (nat_cmp id)) n.numbers.theirs)
 
--- the face gives up its numbers
+-- with other numbers on the side that a mapping names in what the face sends
+abbrev pub with_sent : Mapping → FaceKeys → Names → FaceKeys
+with_sent mapping.Sender n names = with_theirs n names
+with_sent mapping.Receiver n names = record n { numbers = record n.numbers { ours = names } }
+
+-- a number of that side is given up
+abbrev pub without_sent : Mapping → ℕ → FaceKeys → FaceKeys
+without_sent m id n = with_sent m n (remove_entry (is_at (nat_cmp id)) (sent_side n.numbers m))
+
+-- all numbers of that side are given up
+abbrev pub without_all_sent : Mapping → FaceKeys → FaceKeys
+without_all_sent m n = with_sent m n []
+
+-- no numbers of either side
 abbrev pub without_numbers : FaceKeys → FaceKeys
 without_numbers n = record n { numbers = no_names }
 

@@ -3,7 +3,7 @@ ghost use Rattle.std.specs.Prelude.{◌≡◌, ◌≢◌, [], None, IfOk, OnOk, 
 ghost use Rattle.std.specs.List.Sorted.{IsStrictlySortedBy};
 ghost use Rattle.std.specs.Map.{keys_of};
 ghost use Rattle.std.specs.Ordering.{nat_cmp};
-ghost use Rattle.zq_tables.specs.FaceIds.{AreLive, of_id};
+ghost use Rattle.zq_tables.specs.FaceIds.{AreLive, of_id, side as side_of};
 ghost use Rattle.zq_tables.specs.Holding.{Numbers, with_hold_at, without_hold_at, without_number};
 
 use crate::face::FaceNames;
@@ -49,18 +49,21 @@ impl FaceNodes {
         &self.numbers
     }
 
-    // The node of a number that the face declared.
-    pub(crate) fn number(&self, id: u16) -> Option<ResourceId>
-        ensures { option_map (λ r. r.0) result ≡ of_id self.now.numbers.theirs id }
+    // The node of a number of a side.
+    pub(crate) fn number(&self, side: Mapping, id: u16) -> Option<ResourceId>
+        ensures { option_map (λ r. r.0) result ≡ of_id (side_of self.now.numbers side) id }
     {
-        self.numbers.get_mapping(id, Mapping::Sender)
+        self.numbers.get_mapping(id, side)
     }
 
-    // The least number that the face declared.
-    pub(crate) fn first_number(&self) -> Option<u16>
-        ensures { result ≡ slice_get (keys_of self.now.numbers.theirs) 0 }
+    // The least number of a side.
+    pub(crate) fn first_number(&self, side: Mapping) -> Option<u16>
+        ensures { result ≡ slice_get (keys_of (side_of self.now.numbers side)) 0 }
     {
-        self.numbers.first_id()
+        match side {
+            Mapping::Sender => self.numbers.first_id(),
+            Mapping::Receiver => self.numbers.first_given(),
+        }
     }
 
     // The node that a queryable holds.
@@ -105,12 +108,17 @@ impl FaceNodes {
         }
     }
 
-    // The face gives a number up, whose node stays as it is.
-    pub(crate) fn undeclare(&mut self, names: &mut Names, id: u16)
+    // A number of a side is given up, whose node stays as it is.
+    pub(crate) fn undeclare(&mut self, names: &mut Names, side: Mapping, id: u16)
         ensures names { names.new ≡ names.old }
-        ensures ids { self.new ≡ without_number id self.old }
+        ensures ids { self.new ≡ without_number side id self.old }
     {
-        let _ = self.numbers.unregister_expr(names, id);
+        match side {
+            Mapping::Sender => {
+                let _ = self.numbers.unregister_expr(names, id);
+            }
+            Mapping::Receiver => self.numbers.give_up(id),
+        }
     }
 
     // A queryable holds a node.

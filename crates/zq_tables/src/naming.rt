@@ -5,7 +5,7 @@ ghost use Rattle.std.specs.Map.{keys_of, remove_entry};
 ghost use Rattle.std.specs.BTreeMap.{is_at, insert_entry};
 ghost use Rattle.zq_key.specs.Key.{is_key as key_of};
 ghost use Rattle.zq_tables.specs.FaceTexts.{IsReason};
-ghost use Rattle.zq_tables.specs.Naming.{best, change_naming, declare_refusal, face_naming, face_queryables, no_keys, no_names, read_by, said_of, text_at, with_name, with_queryable, without_name, without_numbers, without_queryable, without_queryables};
+ghost use Rattle.zq_tables.specs.Naming.{best, change_naming, declare_refusal, face_naming, face_queryables, no_keys, read_by, said_of, sent_side, text_at, with_name, with_queryable, without_all_sent, without_name, without_queryable, without_queryables, without_sent};
 
 use crate::face_nodes::FaceNodes;
 use crate::hold::{let_go, take_hold};
@@ -20,7 +20,7 @@ use std::alloc::Global;
 use std::collections::BTreeMap;
 use std::marker::Model;
 use zq_key::memory::OutOfMemory;
-use zq_key::message::{FaceId, WireExpr};
+use zq_key::message::{FaceId, Mapping, WireExpr};
 use zq_key::{Key, is_key};
 use zq_names::{NameRefusal, Names};
 
@@ -81,21 +81,32 @@ impl Naming {
         let _ = self.faces.remove(&face.0);
     }
 
-    // The least number that the face declared.
-    fn first_number(&self, face: FaceId) -> Option<u16>
-        ensures first { result ≡ slice_get (keys_of (face_naming face.0 self.now).theirs) 0 }
-        ensures none { IfNone result (face_naming face.0 self.now ≡ no_names) }
+    // The least number of a side of the face.
+    fn first_number(&self, face: FaceId, side: Mapping) -> Option<u16>
+        ensures first { result ≡ slice_get (keys_of (sent_side (face_naming face.0 self.now) side)) 0 }
+        ensures none { IfNone result (sent_side (face_naming face.0 self.now) side ≡ []) }
     {
-        first_number(&self.faces, face.0)
+        first_number(&self.faces, face.0, side)
     }
 
-    // The face gives up all its numbers.
-    fn give_up_numbers(&mut self, face: FaceId)
-        ensures { self.new ≡ change_naming face.0 without_numbers self.old }
+    // All numbers of a side of the face are given up.
+    fn give_up_numbers(&mut self, face: FaceId, side: Mapping)
+        ensures { self.new ≡ change_naming face.0 (without_all_sent side) self.old }
     {
-        while let Some(id) = self.first_number(face) {
-            self.undeclare(face, id);
+        while let Some(id) = self.first_number(face, side) {
+            self.give_up_number(face, side, id);
         }
+    }
+
+    // A number of a side of the face is given up, and its node goes with its last hold.
+    fn give_up_number(&mut self, face: FaceId, side: Mapping, id: u16)
+        ensures { self.new ≡ change_naming face.0 (without_sent side id) self.old }
+    {
+        let Some(node) = node_at(&self.faces, face.0, side, id) else {
+            return;
+        };
+        undeclare_at(&mut self.names, &mut self.faces, face.0, side, id);
+        let_go(&mut self.names, node);
     }
 
     // The least id of a queryable of the face.
@@ -119,7 +130,8 @@ impl Naming {
     fn give_up(&mut self, face: FaceId)
         ensures { self.new ≡ change_naming face.0 (λ _. no_keys) self.old }
     {
-        self.give_up_numbers(face);
+        self.give_up_numbers(face, Mapping::Sender);
+        self.give_up_numbers(face, Mapping::Receiver);
         self.give_up_queryables(face);
     }
 
@@ -167,7 +179,7 @@ impl Naming {
     pub fn standing(&self, face: FaceId, id: u16) -> Option<&str>
         ensures { option_copied result ≡ text_at id (face_naming face.0 self.now).theirs }
     {
-        match node_at(&self.faces, face.0, id) {
+        match node_at(&self.faces, face.0, Mapping::Sender, id) {
             Some(node) => Some(self.names.expr(node)),
             None => None,
         }
@@ -225,11 +237,15 @@ impl Naming {
     pub fn undeclare(&mut self, face: FaceId, id: u16)
         ensures { self.new ≡ change_naming face.0 (without_name id) self.old }
     {
-        let Some(node) = node_at(&self.faces, face.0, id) else {
-            return;
-        };
-        undeclare_at(&mut self.names, &mut self.faces, face.0, id);
-        let_go(&mut self.names, node);
+        self.give_up_number(face, Mapping::Sender, id);
+    }
+
+    /// The gateway gives up a number that it declared to the face, and its node goes with its last
+    /// hold. It takes no memory. A face that is not open has none.
+    pub fn take_back(&mut self, face: FaceId, id: u16)
+        ensures { self.new ≡ change_naming face.0 (without_sent Mapping.Receiver id) self.old }
+    {
+        self.give_up_number(face, Mapping::Receiver, id);
     }
 
     /// Whether a queryable of the face holds the node of its key.

@@ -70,22 +70,22 @@ pub(crate) fn said_under(
     }
 }
 
-// The node of a number that the face declared.
-pub(crate) fn node_at(faces: &Faces, face: u32, id: u16) -> Option<ResourceId>
-    ensures { option_map (λ r. r.0) result ≡ node_of face id faces.now.entries }
+// The node of a number of a side of the face.
+pub(crate) fn node_at(faces: &Faces, face: u32, side: Mapping, id: u16) -> Option<ResourceId>
+    ensures { option_map (λ r. r.0) result ≡ node_of side face id faces.now.entries }
 {
     match faces.get(&face) {
-        Some(nodes) => nodes.number(id),
+        Some(nodes) => nodes.number(side, id),
         None => None,
     }
 }
 
-// The least number that the face declared.
-pub(crate) fn first_number(faces: &Faces, face: u32) -> Option<u16>
-    ensures { result ≡ slice_get (keys_of (numbers_in (ids_at face faces.now.entries))) 0 }
+// The least number of a side of the face.
+pub(crate) fn first_number(faces: &Faces, face: u32, side: Mapping) -> Option<u16>
+    ensures { result ≡ slice_get (keys_of (numbers_in side (ids_at face faces.now.entries))) 0 }
 {
     match faces.get(&face) {
-        Some(nodes) => nodes.first_number(),
+        Some(nodes) => nodes.first_number(side),
         None => None,
     }
 }
@@ -95,18 +95,18 @@ pub(crate) fn is_settled(faces: &Faces, face: u32, id: u16) -> bool
     ensures { result ≡ number_settled face id faces.now.entries }
 {
     match faces.get(&face) {
-        Some(nodes) => nodes.number(id).is_some(),
+        Some(nodes) => nodes.number(Mapping::Sender, id).is_some(),
         None => true,
     }
 }
 
-// The face gives a number up, whose node stays as it is.
-pub(crate) fn undeclare_at(names: &mut Names, faces: &mut Faces, face: u32, id: u16)
+// A number of a side of the face is given up, whose node stays as it is.
+pub(crate) fn undeclare_at(names: &mut Names, faces: &mut Faces, face: u32, side: Mapping, id: u16)
     ensures names { names.new ≡ names.old }
-    ensures faces { faces.new.entries ≡ change_ids face (without_number id) faces.old.entries }
+    ensures faces { faces.new.entries ≡ change_ids face (without_number side id) faces.old.entries }
 {
     match faces.get_mut(&face) {
-        Some(nodes) => nodes.undeclare(names, id),
+        Some(nodes) => nodes.undeclare(names, side, id),
         None => {}
     }
 }
