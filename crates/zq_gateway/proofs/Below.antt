@@ -9,7 +9,7 @@ use Rattle.std.specs.declared.cmp.Ordering.TheVariants.{Greater}
 use Rattle.std.proofs.lemmas.List.Elements.{All-weaker, All-nil}
 use Rattle.std.proofs.lemmas.Map.{keys-set_value}
 use Rattle.std.proofs.lemmas.Map.Views.{All-keys-insert_entry, All-map-remove_entry}
-use Rattle.zq_naming.specs.Naming.{FaceKeys, NamingState, change_naming, put_naming, naming_at}
+use Rattle.zq_tables.specs.Naming.{FaceKeys, NamingState, change_naming, put_naming, naming_at}
 use Rattle.zq_machine.specs.State.{AreBelow, at}
 
 module _ {X : Type 0} where

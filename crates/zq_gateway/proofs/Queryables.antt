@@ -7,8 +7,8 @@ use Rattle.std.specs.Map.{remove_entry}
 use Rattle.std.proofs.lemmas.Bool.{false≢true}
 use Rattle.std.proofs.lemmas.Cmp.{nat_cmp_total}
 use Rattle.std.proofs.lemmas.Map.Lookups.{exact_unsigned}
-use Rattle.zq_naming.specs.Naming.{Names, NamingState, change_naming, face_keys, face_queryables, first_stays, text_at, with_queryable, without_queryable}
-use Rattle.zq_naming.proofs.Emptied.{changed_back, changed_idle}
+use Rattle.zq_tables.specs.Naming.{Names, NamingState, change_naming, face_keys, face_queryables, first_stays, text_at, with_queryable, without_queryable}
+use Rattle.zq_tables.proofs.Emptied.{changed_back, changed_idle}
 use Rattle.zq_query.proofs.Owing.{undone}
 use Rattle.zq_gateway.specs.Undoing.{taken_back}
 

@@ -36,10 +36,10 @@ use zq_machine::call::{Call, Opening, Outcome, Refusal, Step};
 use zq_machine::config::Config;
 use zq_machine::face::OpenFace;
 use zq_machine::handed::Handed;
-use zq_naming::naming::Naming;
 use zq_query::queries::Queries;
 use zq_route::gateways::Gateways;
 use zq_tables::RegionMap;
+use zq_tables::naming::Naming;
 
 /// What carries queries between faces (upstream's `Tables` with its faces): the open faces, a hat
 /// for each region, the gateways that were listed, the open queries, and the numbers of keys.

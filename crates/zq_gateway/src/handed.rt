@@ -1,7 +1,7 @@
 //! The messages that a step hands.
 ghost use Rattle.std.specs.Prelude.{◌≡◌, ◌<◌, [], ◌∷◌, IfOk, IfSome, Some, map, vec_capacity, vec_len};
 ghost use Rattle.std.specs.List.{cons_option};
-ghost use Rattle.zq_naming.specs.Naming.{best, face_naming, plain};
+ghost use Rattle.zq_tables.specs.Naming.{best, face_naming, plain};
 ghost use Rattle.zq_machine.specs.Selecting.{target_of, zid_of};
 ghost use Rattle.zq_query.specs.Asking.{given_id, given_place};
 ghost use Rattle.zq_key.specs.declared.message.Message.TheVariants as message_of;
@@ -21,9 +21,9 @@ use zq_key::message::{
 use zq_key::text::{Bytes, Text};
 use zq_machine::face::OpenFace;
 use zq_machine::handed::{Handed, HandedList};
-use zq_naming::naming::Naming;
 use zq_query::queries::Queries;
 use zq_query::records::{Final, ReplyTo, Timeout};
+use zq_tables::naming::Naming;
 
 /// A final to its asker. It takes no memory.
 pub fn written_final(last: Final) -> Handed

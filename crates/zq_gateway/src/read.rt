@@ -5,7 +5,7 @@ ghost use Rattle.zq_machine.specs.Selecting.{full_text, is_unscoped, says_key, s
 
 use zq_hat::types::FinalMark;
 use zq_key::is_key;
-use zq_naming::said::Said;
+use zq_tables::said::Said;
 
 /// Whether the number of the expression stands for nothing.
 pub fn is_unscoped(said: &Said) -> bool

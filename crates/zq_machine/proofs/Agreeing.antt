@@ -21,8 +21,8 @@ use Rattle.zq_hat.specs.declared.types.FinalMark.TheVariants as mark
 use Rattle.zq_hat.specs.State.{FaceState, HatState}
 use Rattle.zq_hat.specs.Kept.{change_face, declaration, declare, face_at, has_face, is_apart, withdraw}
 use Rattle.zq_hat.specs.Marks.{marked}
-use Rattle.zq_naming.specs.Naming.{FaceKeys, Names, NamingState, change_naming, face_queryables, first_stays, naming_at, no_keys, text_at, with_name, with_queryable, without_name, without_queryable}
-use Rattle.zq_naming.proofs.Entries.{insert_there}
+use Rattle.zq_tables.specs.Naming.{FaceKeys, Names, NamingState, change_naming, face_queryables, first_stays, naming_at, no_keys, text_at, with_name, with_queryable, without_name, without_queryable}
+use Rattle.zq_tables.proofs.Entries.{insert_there}
 use Rattle.zq_machine.specs.declared.face.OpenFace.{OpenFace}
 use Rattle.zq_machine.specs.Agreeing.{IsCopy, id_and_key, is_open_in}
 use Rattle.zq_machine.specs.State.{at, hat_at, change_hat}

@@ -21,8 +21,8 @@ use Rattle.zq_query.specs.Polling.{after_timeout, dues_at, is_due, numbers_in, t
 use Rattle.zq_query.specs.Records.{Pending, QueryState, Record, after_put, final_of, has_entry, has_number, is_entry, is_left, is_none_left, is_over, landing, letting_go, next_reply, owner, putting, reply_to, request, without, without_reply}
 use Rattle.zq_query.specs.Tables.{Due}
 use Rattle.zq_query.proofs.TimingOut.{rest_stays}
-use Rattle.zq_naming.specs.Naming.{NamingState}
-use Rattle.zq_naming.specs.declared.said.Said.{Said}
+use Rattle.zq_tables.specs.Naming.{NamingState}
+use Rattle.zq_tables.specs.declared.said.Said.{Said}
 use Rattle.zq_machine.specs.declared.call.Call.{Call}
 use Rattle.zq_machine.specs.declared.call.Call.TheVariants as call
 use Rattle.zq_machine.specs.declared.call.Refusal.{Refusal}

@@ -4,8 +4,8 @@ use Rattle.std.specs.Prelude.{◌==◌, ◌||◌, option_map}
 use Rattle.zq_key.specs.declared.message.FaceId.{FaceId}
 use Rattle.zq_hat.specs.declared.types.FinalMark.TheVariants as mark
 use Rattle.zq_hat.specs.Moved.{Keeps}
-use Rattle.zq_naming.specs.declared.said.Said.TheVariants as said
-use Rattle.zq_naming.specs.Naming.{remaps}
+use Rattle.zq_tables.specs.declared.said.Said.TheVariants as said
+use Rattle.zq_tables.specs.Naming.{remaps}
 use Rattle.zq_query.specs.Asking.{lacks_number}
 use Rattle.zq_query.specs.Records.{is_pending, lacks_reply}
 use Rattle.zq_machine.specs.declared.call.Refusal.TheVariants as refusal

@@ -15,7 +15,7 @@ use Rattle.zq_query.specs.Records.{QueryState, after_put, is_closed, is_entry, n
 use Rattle.zq_query.specs.Tables.{Due}
 use Rattle.zq_query.proofs.Flying.{numbers_given}
 use Rattle.zq_query.proofs.TimingOut.{numbers_both}
-use Rattle.zq_naming.specs.Naming.{NamingState}
+use Rattle.zq_tables.specs.Naming.{NamingState}
 use Rattle.zq_machine.specs.declared.call.Call.{Call}
 use Rattle.zq_machine.specs.Handing.{Handed}
 use Rattle.zq_machine.specs.declared.call.Step.{Step}

@@ -22,8 +22,8 @@ use Rattle.zq_query.specs.Asking.{after_ask}
 use Rattle.zq_query.specs.Closing.{after_close, closing_finals, finals_after, finals_landed}
 use Rattle.zq_query.specs.Polling.{timeouts}
 use Rattle.zq_query.specs.Records.{is_entry, is_pending, next_reply}
-use Rattle.zq_naming.specs.declared.said.Said.{Said}
-use Rattle.zq_naming.specs.declared.said.Said.TheVariants as said
+use Rattle.zq_tables.specs.declared.said.Said.{Said}
+use Rattle.zq_tables.specs.declared.said.Said.TheVariants as said
 use Rattle.zq_machine.specs.declared.call.Outcome.{Outcome}
 use Rattle.zq_machine.specs.declared.call.Outcome.TheVariants as outcome
 use Rattle.zq_machine.specs.declared.call.Refusal.{Refusal}

@@ -27,7 +27,7 @@ use Rattle.zq_query.proofs.Keys.{kept}
 use Rattle.zq_query.proofs.Sorted.{aside}
 use Rattle.zq_query.proofs.TimingOut.{rest_stays}
 use Rattle.zq_query.proofs.Balance.{letting_balance, landing_balance, closing_balance, reply_balance, poll_balance, ask_balance, letting_none_over, landing_none_over, reply_none_over, close_none_over, poll_none_over, ask_none_over}
-use Rattle.zq_naming.specs.Naming.{NamingState}
+use Rattle.zq_tables.specs.Naming.{NamingState}
 use Rattle.zq_machine.specs.declared.call.Call.{Call}
 use Rattle.zq_machine.specs.Handing.{Handed}
 use Rattle.zq_machine.specs.declared.call.Refusal.{Refusal}

@@ -17,7 +17,7 @@ use Rattle.zq_query.specs.declared.records.Timeout.{Timeout}
 use Rattle.zq_query.specs.Closing.{at_face, closed_with, closing_finals, finals_after, finals_landed, has_open_asker}
 use Rattle.zq_query.specs.Polling.{is_due, timeouts, timing_out}
 use Rattle.zq_query.specs.Records.{QueryState, Record, final_of, is_entry, is_over, next_reply, without, without_reply}
-use Rattle.zq_naming.specs.Naming.{NamingState}
+use Rattle.zq_tables.specs.Naming.{NamingState}
 use Rattle.zq_machine.specs.declared.call.Call.{Call}
 use Rattle.zq_machine.specs.declared.call.Call.TheVariants as call
 use Rattle.zq_machine.specs.declared.face.OpenFace.{OpenFace}

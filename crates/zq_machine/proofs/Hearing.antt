@@ -14,13 +14,13 @@ use Rattle.zq_key.specs.declared.message.Mapping.{Mapping}
 use Rattle.zq_key.specs.declared.message.Mapping.TheVariants as mapping
 use Rattle.zq_names.specs.Texts.{cut_at_star, is_star_byte, nonwild, parent_of, parent_to}
 use Rattle.zq_tables.specs.FaceIds.{next_id}
-use Rattle.zq_tables.specs.FaceTexts.{known_choice, new_choice, whole_key, with_declared, or_else}
+use Rattle.zq_tables.specs.FaceTexts.{is_text, known, known_choice, least_name, names_text, new_choice, or_else, tagged, whole_key, with_declared}
 use Rattle.zq_tables.specs.declared.decl.DeclKey.{DeclKey}
 use Rattle.zq_tables.proofs.IdLemmas.{free_from-least, of_id-with_id}
-use Rattle.zq_naming.specs.declared.said.Said.TheVariants as said
-use Rattle.zq_naming.specs.Naming.{FaceKeys, FaceNaming, NamingState, change_naming, face_keys, face_naming, handed_side, is_text, known, least_name, names_text, naming_at, plain, read_by, tagged, text_at}
+use Rattle.zq_tables.specs.declared.said.Said.TheVariants as said
+use Rattle.zq_tables.specs.Naming.{FaceKeys, FaceNaming, NamingState, change_naming, face_keys, face_naming, handed_side, naming_at, plain, read_by, text_at}
 use Rattle.zq_key.specs.declared.message.DeclareBody.TheVariants as body
-use Rattle.zq_naming.specs.Naming.{no_keys}
+use Rattle.zq_tables.specs.Naming.{no_keys}
 use Rattle.zq_machine.specs.Handing.{Handed}
 use Rattle.zq_machine.specs.Hearing.{CanBeTold, body_says, has_text, hear, heard_body, telling_by, tells_text}
 use Rattle.zq_machine.specs.Messages.{Telling, TellingBody, all_told, key_ended, key_told}

@@ -13,7 +13,7 @@ use Rattle.zq_key.specs.declared.message.Region.{Region}
 use Rattle.zq_regions.specs.Region.{region_index}
 use Rattle.zq_hat.specs.State.{FaceState, HatState}
 use Rattle.zq_hat.specs.Kept.{face_at, has_face, new_face, with_face_opened, without_face}
-use Rattle.zq_naming.specs.Naming.{NamingState, face_queryables, naming_at, no_keys}
+use Rattle.zq_tables.specs.Naming.{NamingState, face_queryables, naming_at, no_keys}
 use Rattle.zq_machine.specs.declared.call.Opening.{Opening}
 use Rattle.zq_machine.specs.declared.face.OpenFace.{OpenFace}
 use Rattle.zq_machine.specs.Agreeing.{is_open_in, stands_in}

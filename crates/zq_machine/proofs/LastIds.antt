@@ -19,7 +19,7 @@ use Rattle.zq_query.specs.Asking.{given_place, giving}
 use Rattle.zq_query.specs.Polling.{timeouts}
 use Rattle.zq_query.specs.Records.{QueryState, after_put, last_given, next_reply}
 use Rattle.zq_query.proofs.TimingOut.{rest_stays}
-use Rattle.zq_naming.specs.Naming.{NamingState}
+use Rattle.zq_tables.specs.Naming.{NamingState}
 use Rattle.zq_machine.specs.declared.call.Call.{Call}
 use Rattle.zq_machine.specs.declared.call.Call.TheVariants as call
 use Rattle.zq_machine.specs.Handing.{Handed}

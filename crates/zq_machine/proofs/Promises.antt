@@ -18,10 +18,10 @@ use Rattle.zq_query.specs.Records.{QueryState, is_entry, is_pending, next_reply,
 use Rattle.zq_query.specs.Asking.{given_id, is_full}
 use Rattle.zq_query.specs.Polling.{timeouts}
 use Rattle.zq_query.proofs.Ids.{next_id_is_new}
-use Rattle.zq_naming.specs.Naming.{NamingState, best, face_naming}
-use Rattle.zq_naming.specs.declared.said.Said.{Said}
-use Rattle.zq_naming.specs.declared.said.Said.TheVariants as said
-use Rattle.zq_naming.proofs.Reading.{best-reads}
+use Rattle.zq_tables.specs.Naming.{NamingState, best, face_naming}
+use Rattle.zq_tables.specs.declared.said.Said.{Said}
+use Rattle.zq_tables.specs.declared.said.Said.TheVariants as said
+use Rattle.zq_tables.proofs.Reading.{best-reads}
 use Rattle.zq_machine.specs.declared.call.Call.{Call}
 use Rattle.zq_machine.specs.declared.call.Call.TheVariants as call
 use Rattle.zq_machine.specs.Handing.{Handed}

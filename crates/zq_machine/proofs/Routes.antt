@@ -18,7 +18,7 @@ use Rattle.zq_route.specs.declared.gateways.Gateways.{Gateways}
 use Rattle.zq_route.specs.Built.{has_face, with_first}
 use Rattle.zq_route.specs.Selection.{by_face, chosen, is_complete, may_be_complete, with_offers}
 use Rattle.zq_machine.specs.declared.face.OpenFace.{OpenFace}
-use Rattle.zq_naming.specs.declared.said.Said.{Said}
+use Rattle.zq_tables.specs.declared.said.Said.{Said}
 use Rattle.zq_machine.specs.Asked.{is_own}
 use Rattle.zq_machine.specs.Selecting.{carries_between, filter_for, full_text, passes, route_for, says_key, select, select_for, target_of, with_part}
 use Rattle.zq_machine.specs.State.{Core, at}

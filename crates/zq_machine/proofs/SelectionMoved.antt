@@ -16,8 +16,8 @@ use Rattle.zq_hat.specs.State.{HatState}
 use Rattle.zq_hat.specs.Offers.{offers_of}
 use Rattle.zq_hat.specs.Moved.{Keeps, move_hat, move_offer}
 use Rattle.zq_hat.proofs.OffersMoved.{offers_moved}
-use Rattle.zq_naming.specs.declared.said.Said.{Said}
-use Rattle.zq_naming.specs.declared.said.Said.TheVariants as said
+use Rattle.zq_tables.specs.declared.said.Said.{Said}
+use Rattle.zq_tables.specs.declared.said.Said.TheVariants as said
 use Rattle.zq_route.specs.Built.{is_face, has_face, with_first}
 use Rattle.zq_route.specs.Selection.{by_face, is_complete, may_be_complete, chosen, with_offers}
 use Rattle.zq_machine.specs.declared.face.OpenFace.{OpenFace}

@@ -18,7 +18,7 @@ use Rattle.zq_query.proofs.Balance.{closing_balance, landing_balance, letting_ba
 use Rattle.zq_query.specs.Closing.{after_close, closing_finals, finals_after, finals_landed}
 use Rattle.zq_query.specs.Polling.{dues_at, has_number_for, numbers_in, timed_out, timeouts, with_timeout}
 use Rattle.zq_query.specs.Balance.{finals_under, owed_by}
-use Rattle.zq_naming.specs.Naming.{NamingState}
+use Rattle.zq_tables.specs.Naming.{NamingState}
 use Rattle.zq_machine.specs.declared.call.Call.{Call}
 use Rattle.zq_machine.specs.Handing.{Handed}
 use Rattle.zq_machine.specs.declared.call.Refusal.{Refusal}

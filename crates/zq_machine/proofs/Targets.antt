@@ -28,8 +28,8 @@ use Rattle.zq_query.specs.Asking.{are_distinct, asked_record, asked_records, ent
 use Rattle.zq_query.specs.Closing.{at_face}
 use Rattle.zq_query.specs.Polling.{after_timeout, is_due, timeouts, timing_out}
 use Rattle.zq_query.specs.Records.{Pending, QueryState, Record, after_put, is_entry, is_left, is_none_left, next_reply, without, without_reply}
-use Rattle.zq_naming.specs.declared.said.Said.{Said}
-use Rattle.zq_naming.specs.Naming.{NamingState}
+use Rattle.zq_tables.specs.declared.said.Said.{Said}
+use Rattle.zq_tables.specs.Naming.{NamingState}
 use Rattle.zq_route.specs.declared.gateways.Gateways.{Gateways}
 use Rattle.zq_route.specs.Selection.{chosen}
 use Rattle.zq_machine.specs.declared.face.OpenFace.{OpenFace}

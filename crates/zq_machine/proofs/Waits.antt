@@ -19,7 +19,7 @@ use Rattle.zq_query.specs.Asking.{asked_records, given_place}
 use Rattle.zq_query.specs.Closing.{at_face, closing_finals, finals_after, finals_landed}
 use Rattle.zq_query.specs.Polling.{is_due, timeouts, timing_out}
 use Rattle.zq_query.proofs.Putting.{owner_there}
-use Rattle.zq_naming.specs.Naming.{NamingState}
+use Rattle.zq_tables.specs.Naming.{NamingState}
 use Rattle.zq_machine.specs.declared.call.Call.{Call}
 use Rattle.zq_machine.specs.declared.call.Call.TheVariants as call
 use Rattle.zq_machine.specs.declared.call.Refusal.{Refusal}

@@ -19,13 +19,13 @@ use Rattle.zq_key.specs.declared.message.Region.{Region}
 use Rattle.zq_key.specs.declared.message.Request.{Request}
 use Rattle.zq_query.specs.Asking.{after_ask, lacks_number}
 use Rattle.zq_query.specs.Closing.{closing_finals}
-use Rattle.zq_naming.specs.declared.said.Said.{Said}
+use Rattle.zq_tables.specs.declared.said.Said.{Said}
 use Rattle.zq_machine.specs.declared.face.OpenFace.{OpenFace}
 use Rattle.zq_machine.specs.Selecting.{full_text, select_for, target_of}
 use Rattle.zq_key.proofs.Naturals.{map-map}
 use Rattle.zq_query.specs.declared.records.Final.{Final}
 use Rattle.zq_query.specs.Polling.{timeouts, lacks_replies}
-use Rattle.zq_naming.specs.Naming.{NamingState, plain}
+use Rattle.zq_tables.specs.Naming.{NamingState, plain}
 use Rattle.zq_machine.specs.Handing.{Handed}
 use Rattle.zq_machine.specs.declared.call.Outcome.TheVariants as outcome
 use Rattle.zq_machine.specs.declared.call.Refusal.{Refusal}

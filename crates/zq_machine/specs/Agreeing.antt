@@ -11,7 +11,7 @@ use Rattle.zq_hat.specs.State.{FaceState, HatState}
 use Rattle.zq_hat.specs.Kept.{face_at, has_face, key_of}
 use Rattle.zq_query.specs.Closing.{at_face}
 use Rattle.zq_query.specs.Records.{Pending, Record, is_closed, is_entry, is_reply}
-use Rattle.zq_naming.specs.Naming.{Names, face_queryables, naming_at}
+use Rattle.zq_tables.specs.Naming.{Names, face_queryables, naming_at}
 use Rattle.zq_machine.specs.declared.face.OpenFace.{OpenFace}
 use Rattle.zq_machine.specs.State.{State, at, hat_at, hat_of, is_open}
 

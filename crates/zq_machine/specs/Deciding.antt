@@ -24,8 +24,8 @@ use Rattle.zq_query.specs.Records.{QueryState, is_pending, is_in_flight, is_entr
 use Rattle.zq_query.specs.Closing.{closing_finals, after_close, finals_after, finals_landed}
 use Rattle.zq_query.specs.Polling.{is_due, timing_out, timeouts, after_poll, lacks_replies}
 use Rattle.zq_query.specs.Asking.{lacks_number, given_id, after_ask}
-use Rattle.zq_naming.specs.declared.said.Said.{Said}
-use Rattle.zq_naming.specs.Naming.{NamingState, no_keys, remaps, with_name, without_name, with_queryable, without_queryable, change_naming}
+use Rattle.zq_tables.specs.declared.said.Said.{Said}
+use Rattle.zq_tables.specs.Naming.{NamingState, no_keys, remaps, with_name, without_name, with_queryable, without_queryable, change_naming}
 use Rattle.zq_machine.specs.declared.call.Opening.{Opening}
 use Rattle.zq_machine.specs.declared.call.Outcome.{Outcome}
 use Rattle.zq_machine.specs.declared.call.Outcome.TheVariants as outcome

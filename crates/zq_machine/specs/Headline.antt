@@ -14,8 +14,8 @@ use Rattle.zq_query.specs.declared.records.ReplyTo.{ReplyTo}
 use Rattle.zq_query.specs.Records.{QueryState, is_closed, is_pending, any_over, last_given, next_id, next_reply}
 use Rattle.zq_query.specs.Balance.{owed_by}
 use Rattle.zq_query.specs.Polling.{timeouts}
-use Rattle.zq_naming.specs.declared.said.Said.TheVariants as said
-use Rattle.zq_naming.specs.Naming.{read_by, face_keys, face_naming}
+use Rattle.zq_tables.specs.declared.said.Said.TheVariants as said
+use Rattle.zq_tables.specs.Naming.{read_by, face_keys, face_naming}
 use Rattle.zq_machine.specs.declared.call.Call.{Call}
 use Rattle.zq_machine.specs.declared.call.Call.TheVariants as call
 use Rattle.zq_machine.specs.Handing.{Handed}

@@ -2,8 +2,8 @@
 use Rattle.std.specs.Prelude.{◌≡◌, ℕ, List, [], ◌∷◌, map, option_map, if◌then◌else◌}
 use Rattle.zq_hat.specs.State.{HatState}
 use Rattle.zq_hat.specs.Moved.{move_hat, move_mark}
-use Rattle.zq_naming.specs.declared.said.Said.{Said}
-use Rattle.zq_naming.specs.declared.said.Said.TheVariants as said
+use Rattle.zq_tables.specs.declared.said.Said.{Said}
+use Rattle.zq_tables.specs.declared.said.Said.TheVariants as said
 use Rattle.zq_machine.specs.Messages.{Decided, Telling, TellingBody, TextMessage, all_told, key_ended, key_told, text_final, text_reply, text_request}
 use Rattle.zq_machine.specs.State.{Core}
 use Rattle.zq_machine.specs.TextCalls.{TextCall, naming, unnaming, declaring, asking, replying, finalizing}

@@ -11,8 +11,8 @@ use Rattle.zq_key.specs.declared.message.Zid.{Zid}
 use Rattle.zq_hat.specs.declared.types.QueryTargetQabl.{QueryTargetQabl}
 use Rattle.zq_hat.specs.State.{HatState}
 use Rattle.zq_hat.specs.Offers.{offers_of}
-use Rattle.zq_naming.specs.declared.said.Said.{Said}
-use Rattle.zq_naming.specs.declared.said.Said.TheVariants as said
+use Rattle.zq_tables.specs.declared.said.Said.{Said}
+use Rattle.zq_tables.specs.declared.said.Said.TheVariants as said
 use Rattle.zq_route.specs.declared.filter.InterRegionFilter.{InterRegionFilter}
 use Rattle.zq_route.specs.declared.gateways.Gateways.{Gateways}
 use Rattle.zq_route.specs.Filter.{passes_between}

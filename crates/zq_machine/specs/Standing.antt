@@ -9,7 +9,7 @@ use Rattle.zq_regions.specs.RegionMap.{with_entry}
 use Rattle.zq_hat.specs.Kept.{declare, face_at, new_face, withdraw}
 use Rattle.zq_hat.specs.Marks.{marked}
 use Rattle.zq_hat.specs.State.{FaceState}
-use Rattle.zq_naming.specs.Naming.{FaceKeys, FaceNaming, Names, naming_at, no_names, said_of}
+use Rattle.zq_tables.specs.Naming.{FaceKeys, FaceNaming, Names, naming_at, no_names, said_of}
 use Rattle.zq_route.specs.declared.gateways.Gateways.{Gateways}
 use Rattle.zq_machine.specs.declared.call.Call.{Call}
 use Rattle.zq_machine.specs.declared.call.Call.TheVariants as call

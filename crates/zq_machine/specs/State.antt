@@ -13,7 +13,7 @@ use Rattle.zq_hat.specs.State.{HatState}
 use Rattle.zq_hat.specs.declared.types.FaceRecord.{FaceRecord}
 use Rattle.zq_hat.specs.Kept.{clashes_at, declaration_at, has_face, is_full, new_hat, with_face_opened}
 use Rattle.zq_query.specs.Records.{QueryState}
-use Rattle.zq_naming.specs.Naming.{NamingState}
+use Rattle.zq_tables.specs.Naming.{NamingState}
 use Rattle.zq_route.specs.declared.gateways.Gateways.{Gateways}
 use Rattle.zq_machine.specs.declared.config.Entry.{Entry}
 use Rattle.zq_machine.specs.declared.face.OpenFace.{OpenFace}

@@ -7,8 +7,8 @@ use Rattle.zq_key.specs.declared.message.Request.{Request}
 use Rattle.zq_key.specs.declared.message.Response.{Response}
 use Rattle.zq_key.specs.declared.message.WireExpr.{WireExpr}
 use Rattle.zq_hat.specs.declared.types.FinalMark.{FinalMark}
-use Rattle.zq_naming.specs.declared.said.Said.{Said}
-use Rattle.zq_naming.specs.Naming.{said_of, text_at, face_naming}
+use Rattle.zq_tables.specs.declared.said.Said.{Said}
+use Rattle.zq_tables.specs.Naming.{said_of, text_at, face_naming}
 use Rattle.zq_route.specs.declared.gateways.Gateways.{Gateways}
 use Rattle.zq_machine.specs.declared.call.Opening.{Opening}
 use Rattle.zq_machine.specs.declared.call.Call.{Call}

@@ -10,12 +10,12 @@ use Rattle.zq_key.specs.declared.message.Message.TheVariants as message
 use Rattle.zq_key.specs.declared.message.Region.{Region}
 use Rattle.zq_key.specs.declared.message.Region.TheVariants as region
 use Rattle.zq_names.specs.Texts.{nonwild}
-use Rattle.zq_tables.specs.FaceTexts.{known_choice, whole_key, with_declared}
+use Rattle.zq_tables.specs.FaceTexts.{known, known_choice, whole_key, with_declared}
 use Rattle.zq_tables.specs.declared.decl.DeclKey.{DeclKey}
 use Rattle.zq_query.specs.declared.records.Final.{Final}
 use Rattle.zq_query.specs.Closing.{finals_after}
 use Rattle.zq_query.specs.Records.{Pending, is_entry, letting_go}
-use Rattle.zq_naming.specs.Naming.{FaceKeys, FaceNaming, NamingState, best, change_naming, face_keys, face_naming, known, plain}
+use Rattle.zq_tables.specs.Naming.{FaceKeys, FaceNaming, NamingState, best, change_naming, face_keys, face_naming, plain}
 use Rattle.zq_machine.specs.Handing.{Handed}
 use Rattle.zq_machine.specs.declared.face.OpenFace.{OpenFace}
 use Rattle.zq_machine.specs.Messages.{Telling, TellingBody, TextMessage, TextReply, TextRequest, all_told, key_ended, key_told, text_final, text_reply, text_request}

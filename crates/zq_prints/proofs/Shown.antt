@@ -1,7 +1,7 @@
 -- The lines of the steps of a run show all of what is handed.
 use Rattle.std.proofs.Common.{List, [], ◌∷◌, subst, sym}
 use Rattle.std.specs.List.{AllByRecursion}
-use Rattle.zq_naming.specs.Naming.{NamingState}
+use Rattle.zq_tables.specs.Naming.{NamingState}
 use Rattle.zq_machine.specs.declared.call.Call.{Call}
 use Rattle.zq_machine.specs.Configs.{Settings}
 use Rattle.zq_machine.specs.State.{State, opening_state}

@@ -1,5 +1,5 @@
 -- The ids of a face as texts.
-use Rattle.std.proofs.Common.{◌≡◌, ◌≢◌, ℕ, ◌+◌, ◌<◌, Bool, true, false, cond, eqb, List, [], ◌∷◌, ◌++◌, length, take, get_or, find, Option, Some, None, IfSome, IfNone, option_map, Result, Ok, Err, IfOk, refl, sym, ap, subst, ◌∙◌, arith, zero, suc, inl, inr, ◌⊎◌}
+use Rattle.std.proofs.Common.{◌≡◌, ◌≢◌, ℕ, ◌+◌, ◌<◌, Bool, true, false, cond, eqb, List, [], ◌∷◌, ◌++◌, find, Option, Some, None, IfSome, IfNone, option_map, Result, Ok, Err, IfOk, refl, sym, ap, subst, ◌∙◌, arith, zero, suc, inl, inr}
 use Rattle.std.specs.declared.cmp.Ordering.{Ordering}
 use Rattle.std.specs.declared.cmp.Ordering.TheVariants.{Less, Equal, Greater}
 use Rattle.std.specs.Ordering.{nat_cmp, match_ordering, is_eq}
@@ -14,7 +14,6 @@ use Rattle.std.proofs.lemmas.Bool.Decides.{nat_tests}
 use Rattle.std.proofs.lemmas.Slice.Eq.{bytes_eq-Decides}
 use Rattle.std.proofs.lemmas.Cmp.{ranked, nat_cmp_total, tied_itself}
 use Rattle.std.proofs.lemmas.Option.{none-some, same_Some}
-use Rattle.std.proofs.lemmas.List.{take-append-drop}
 use Rattle.std.proofs.lemmas.List.Elements.{All-head, All-tail, All-cons}
 use Rattle.std.proofs.lemmas.Map.Keys.{sorted_tail, below_from_sorted}
 use Rattle.std.proofs.lemmas.Map.Made.{lookup-map_values}
@@ -27,9 +26,12 @@ use Rattle.zq_names.specs.Keeping.{AllStay}
 use Rattle.zq_names.specs.Texts.{nonwild}
 use Rattle.zq_tables.specs.FaceIds.{FaceIds, of_id, with_id, without_id, side, is_used, free_from, next_id, AreLiveIds, AreLive, least_id}
 use Rattle.zq_tables.proofs.IdLemmas.{free_from-used, free_from-free, free_from-none}
-use Rattle.zq_tables.specs.FaceTexts.{FaceTexts, id_texts, theirs_texts, ours_texts, texts_of, part_choice, known_choice, new_choice, with_new, with_declared, text_side, full_of, swapped, read_by, id_of, or_else, known, known_at, best_to, best_part, key_from, best_key, registered, text_refusal, register_refusal}
+use Rattle.zq_tables.specs.FaceTexts.{FaceTexts, id_texts, theirs_texts, ours_texts, texts_of, part_choice, known_choice, new_choice, with_new, with_declared, text_side, full_of, names_text, least_name, tagged, or_else, known, registered, text_refusal, register_refusal, whole_key}
 use Rattle.zq_key.specs.Key.{is_key}
 use Rattle.zq_names.specs.declared.refusal.NameRefusal.TheVariants.{Remapped}
+use Rattle.zq_key.specs.declared.memory.OutOfMemory.{OutOfMemory}
+use Rattle.zq_tables.specs.declared.decl.DeclKey.{DeclKey}
+use Rattle.zq_tables.specs.Registering.{Gives}
 
 text_of_node : List NameEntry → ℕ → List ℕ
 text_of_node names n = (entry_at names n).text
@@ -73,6 +75,10 @@ scope_some names face w None is other = tt
 scope_some names face w (Some r) is other = full_by_id names face w (Some r.0) is other
 
 -- ---- the id of a text
+
+-- the first id of a list that stands for the text
+abbrev id_of : List (ℕ × List ℕ) → List ℕ → Option ℕ
+id_of list t = option_map (λ p. p.0) (find (λ p. bytes_eq p.1 t) list)
 
 text_of_live : (names : List NameEntry) (n : ℕ) → Contains (ids names) n → Contains (texts names) (entry_at names n).text
 text_of_live [] n (k, lt, is) = absurd (omega arith)
@@ -122,7 +128,7 @@ id_of-found names (p ∷ ps) t r live is only =
           rw (unequal, number) later
     ]
 
--- ---- what is read in a best key
+-- ---- the least id of a text
 
 keys-texts : (names : List NameEntry) (es : List (ℕ × ℕ)) → keys_of (id_texts names es) ≡ keys_of es
 keys-texts names [] = refl
@@ -135,24 +141,6 @@ apart_above i k above = by (nat_cmp i k) refl
     by Less is = refl
     by Equal is = absurd (omega (arith, ranked i k Equal (sym is)))
     by Greater is = refl
-
-id_of-reads : (es : List (ℕ × List ℕ)) (u : List ℕ) (i : ℕ) → IsStrictlySortedBy nat_cmp (keys_of es) → id_of es u ≡ Some i → (of_id es i ≡ Some u) × Contains (keys_of es) i
-id_of-reads [] u i sorted is = absurd (none-some i is)
-id_of-reads (e ∷ es) u i sorted is = by (bytes_eq e.1 u) refl is (id_of-reads es u i (sorted_tail nat_cmp e.0 (keys_of es) sorted))
-  where
-    by : (b : Bool) → bytes_eq e.1 u ≡ b → option_map (λ (q : ℕ × List ℕ). q.0) (cond b (Some e) (find (λ (q : ℕ × List ℕ). bytes_eq q.1 u) es)) ≡ Some i
-        → (id_of es u ≡ Some i → (of_id es i ≡ Some u) × Contains (keys_of es) i) → (of_id (e ∷ es) i ≡ Some u) × Contains (keys_of (e ∷ es)) i
-    by true eq here later =
-        let same : e.0 ≡ i = same_Some _ _ here in
-        let text : e.1 ≡ u = (bytes_eq-Decides e.1 u).0 eq in
-        let tied : nat_cmp i e.0 ≡ Equal = ap (λ (k : ℕ). nat_cmp i k) same ∙ tied_itself nat_cmp_total i in
-        (rw (tied, text) refl, (zero, omega arith, same))
-    by false eq here later =
-        let rest = later here in
-        let k = rest.1.0 in
-        let above : e.0 < i = let lt = below_from_sorted (e.0 ∷ keys_of es) 0 (suc k) i sorted (omega arith) (omega (arith, rest.1.1)) in omega (arith, lt, rest.1.2) in
-        let not_here : is_at (nat_cmp i) e.0 ≡ false = apart_above i e.0 above in
-        (rw not_here rest.0, (suc k, omega (arith, rest.1.1), rest.1.2))
 
 -- the ids of both sides rise, and none is 0
 pub record Fine (f : FaceTexts) : Type 0 where
@@ -172,57 +160,31 @@ Fine-texts names face a b c d =
       ours_positive = subst P (sym (keys-texts names face.ours)) d;
     }
 
-positive_in : (is : List ℕ) (i : ℕ) → All (λ k. 0 < k) is → Contains is i → 0 < i
-positive_in is i all (k, lt, e) = rw (← e) (all k i lt)
-
--- an id that is known for a text is read as that text
-pub known-reads : (f : FaceTexts) (u : List ℕ) (i : ℕ) (m : Mapping) → Fine f → known f u ≡ Some (i, m) → (of_id (text_side (swapped f) m) i ≡ Some u) × (0 < i)
-known-reads f u i m fine is = by (id_of f.theirs u) (id_of f.ours u) refl refl is
+-- in a list that rises from 1 on, the least id of a text is the first
+least_among : (all es : List (ℕ × List ℕ)) (t : List ℕ) → IsStrictlySortedBy nat_cmp (keys_of es) → All (λ i. 0 < i) (keys_of es) → ((j : ℕ) → Contains (keys_of es) j → of_id all j ≡ of_id es j) → find (names_text all t) (keys_of es) ≡ id_of es t
+least_among all [] t sorted positive same = refl
+least_among all (e ∷ es) t sorted positive same =
+    let above : (j : ℕ) → Contains (keys_of es) j → e.0 < j = λ j has. let lt = below_from_sorted (e.0 ∷ keys_of es) 0 (suc has.0) j sorted (omega arith) (omega (arith, has.1)) in omega (arith, lt, has.2) in
+    let some : eqb e.0 0 ≡ false = let first = All-head (λ i. 0 < i) e.0 (keys_of es) positive in grind (arith, nat_tests) in
+    let itself : is_at (nat_cmp e.0) e.0 ≡ true = ap is_eq (tied_itself nat_cmp_total e.0) in
+    let here : of_id all e.0 ≡ Some e.1 = same e.0 (zero, omega arith, refl) ∙ rw itself in
+    let rest = least_among all es t (sorted_tail nat_cmp e.0 (keys_of es) sorted) (All-tail (λ i. 0 < i) e.0 (keys_of es) positive)
+    (λ j has. same j (suc has.0, omega (arith, has.1), has.2) ∙ later j (above j has)) in
+    rw (some, here) (by (bytes_eq e.1 t) rest)
   where
-    pair : {a b : ℕ × Mapping} → Some a ≡ Some b → (a.0 ≡ b.0) × (a.1 ≡ b.1)
-    pair e = let same = same_Some _ _ e in (ap (λ (x : ℕ × Mapping). x.0) same, ap (λ (x : ℕ × Mapping). x.1) same)
+    later : (j : ℕ) → e.0 < j → of_id (e ∷ es) j ≡ of_id es j
+    later j lt = let apart = apart_above j e.0 lt in rw apart
 
-    by : (a b : Option ℕ) → id_of f.theirs u ≡ a → id_of f.ours u ≡ b → or_else {X = ℕ × Mapping} (option_map (λ (k : ℕ). (k, Receiver)) a) (option_map (λ (k : ℕ). (k, Sender)) b) ≡ Some (i, m) → (of_id (text_side (swapped f) m) i ≡ Some u) × (0 < i)
-    by (Some k) b a_is b_is e =
-        let same = pair e in
-        let reads = id_of-reads f.theirs u k fine.theirs_sorted a_is in
-        (rw (← same.0, ← same.1) reads.0, rw (← same.0) (positive_in (keys_of f.theirs) k fine.theirs_positive reads.1))
-    by None (Some k) a_is b_is e =
-        let same = pair e in
-        let reads = id_of-reads f.ours u k fine.ours_sorted b_is in
-        (rw (← same.0, ← same.1) reads.0, rw (← same.0) (positive_in (keys_of f.ours) k fine.ours_positive reads.1))
-    by None None a_is b_is e = absurd (none-some (i, m) e)
+    by : (b : Bool) → find (names_text all t) (keys_of es) ≡ id_of es t
+        → cond b (Some e.0) (find (names_text all t) (keys_of es)) ≡ option_map (λ (p : ℕ × List ℕ). p.0) (cond b (Some e) (find (λ (p : ℕ × List ℕ). bytes_eq p.1 t) es))
+    by true rest = refl
+    by false rest = rest
 
-either : {X : Type 0} (a b : Option X) (p : X) → or_else a b ≡ Some p → (a ≡ Some p) ⊎ (b ≡ Some p)
-either None b p e = inr e
-either (Some x) b p e = inl e
+first_id : (f : FaceTexts) (t : List ℕ) → Fine f → least_name t f.theirs ≡ id_of f.theirs t
+first_id f t fine = least_among f.theirs f.theirs t fine.theirs_sorted fine.theirs_positive (λ j has. refl)
 
-known_at-known : (f : FaceTexts) (t : List ℕ) (k : ℕ) (p : ℕ × Mapping × ℕ) → known_at f t k ≡ Some p → known f (take p.2 t) ≡ Some (p.0, p.1)
-known_at-known f t k p e = by (known f (take k t)) refl e
-  where
-    by : (o : Option (ℕ × Mapping)) → known f (take k t) ≡ o → option_map (λ (x : ℕ × Mapping). (x.0, x.1, k)) o ≡ Some p → known f (take p.2 t) ≡ Some (p.0, p.1)
-    by None is e = absurd (none-some p e)
-    by (Some x) is e = let same = same_Some _ _ e in let P : ℕ × Mapping × ℕ → Type 0 = λ (q : ℕ × Mapping × ℕ). known f (take q.2 t) ≡ Some (q.0, q.1) in subst P same is
-
-best_to-known : (f : FaceTexts) (t : List ℕ) (n : ℕ) (p : ℕ × Mapping × ℕ) → best_to f t n ≡ Some p → known f (take p.2 t) ≡ Some (p.0, p.1)
-best_to-known f t zero p e = absurd (none-some p e)
-best_to-known f t (suc n) p e = by (eqb (get_or t n 0) 47) e (best_to-known f t n p)
-  where
-    by : (b : Bool) → cond b (or_else (known_at f t n) (best_to f t n)) (best_to f t n) ≡ Some p → (best_to f t n ≡ Some p → known f (take p.2 t) ≡ Some (p.0, p.1)) → known f (take p.2 t) ≡ Some (p.0, p.1)
-    by true e later = elim (either (known_at f t n) (best_to f t n) p e) [ inl here ↦ known_at-known f t n p here | inr below ↦ later below ]
-    by false e later = later e
-
--- the best key of a text is read as that text
-pub best_key-reads : (f : FaceTexts) (t : List ℕ) → Fine f → read_by f (best_key f t) ≡ Some t
-best_key-reads f t fine = by (best_part f t) refl
-  where
-    by : (o : Option (ℕ × Mapping × ℕ)) → best_part f t ≡ o → read_by f (key_from o t) ≡ Some t
-    by None is = refl
-    by (Some p) is =
-        let known_part : known f (take p.2 t) ≡ Some (p.0, p.1) = elim (either (known_at f t (length t)) (best_to f t (length t)) p is) [ inl here ↦ known_at-known f t (length t) p here | inr below ↦ best_to-known f t (length t) p below ] in
-        let reads = known-reads f (take p.2 t) p.0 p.1 fine known_part in
-        let other : eqb p.0 0 ≡ false = let some = reads.1 in grind (arith, nat_tests) in
-        rw (other, reads.0) (ap (λ (x : List ℕ). Some x) (take-append-drop p.2 t))
+second_id : (f : FaceTexts) (t : List ℕ) → Fine f → least_name t f.ours ≡ id_of f.ours t
+second_id f t fine = least_among f.ours f.ours t fine.ours_sorted fine.ours_positive (λ j has. refl)
 
 -- ---- an id more
 
@@ -289,26 +251,37 @@ pub record IsOnly (names : List NameEntry) (r : ℕ) (t : List ℕ) : Type 0 whe
   pub text : (entry_at names r).text ≡ t
   pub only : (i : ℕ) → Contains (ids names) i → (entry_at names i).text ≡ t → i ≡ r
 
-first_known : (a b : Option ℕ) (i : ℕ) → Some i ≡ a → Some (i, Receiver) ≡ or_else {X = ℕ × Mapping} (option_map (λ (k : ℕ). (k, Receiver)) a) (option_map (λ (k : ℕ). (k, Sender)) b)
+first_known : (a b : Option ℕ) (i : ℕ) → Some i ≡ a → Some (i, Receiver) ≡ or_else {X = ℕ × Mapping} (tagged Receiver a) (tagged Sender b)
 first_known a b i is = rw (← is) refl
 
-second_known : (a b : Option ℕ) (i : ℕ) → None ≡ a → Some i ≡ b → Some (i, Sender) ≡ or_else {X = ℕ × Mapping} (option_map (λ (k : ℕ). (k, Receiver)) a) (option_map (λ (k : ℕ). (k, Sender)) b)
+second_known : (a b : Option ℕ) (i : ℕ) → None ≡ a → Some i ≡ b → Some (i, Sender) ≡ or_else {X = ℕ × Mapping} (tagged Receiver a) (tagged Sender b)
 second_known a b i none is = rw (← none, ← is) refl
 
-neither_known : (a b : Option ℕ) → None ≡ a → None ≡ b → None ≡ or_else {X = ℕ × Mapping} (option_map (λ (k : ℕ). (k, Receiver)) a) (option_map (λ (k : ℕ). (k, Sender)) b)
+neither_known : (a b : Option ℕ) → None ≡ a → None ≡ b → None ≡ or_else {X = ℕ × Mapping} (tagged Receiver a) (tagged Sender b)
 neither_known a b none none' = rw (← none, ← none') refl
 
-pub known-absent : (names : List NameEntry) (face : FaceIds) (t : List ℕ) → AreLive names face → (Contains (texts names) t → ⊥) → None ≡ known (texts_of names face) t
-known-absent names face t live absent = neither_known _ _ (sym (id_of-absent names face.theirs t live.theirs absent)) (sym (id_of-absent names face.ours t live.ours absent))
+module _ (names : List NameEntry) (face : FaceIds) (t : List ℕ) (live : AreLive names face) (fine : Fine (texts_of names face)) where
+  pub known-absent : (Contains (texts names) t → ⊥) → None ≡ known (texts_of names face) t
+  known-absent absent =
+      neither_known _ _
+      (sym (first_id (texts_of names face) t fine ∙ id_of-absent names face.theirs t live.theirs absent))
+      (sym (second_id (texts_of names face) t fine ∙ id_of-absent names face.ours t live.ours absent))
 
-pub known-first : (names : List NameEntry) (face : FaceIds) (t : List ℕ) (r i : ℕ) → AreLive names face → IsOnly names r t → Some i ≡ least_id face.theirs r → Some (i, Receiver) ≡ known (texts_of names face) t
-known-first names face t r i live is first = first_known _ _ i (first ∙ sym (id_of-found names face.theirs t r live.theirs is.text is.only))
+  module _ (r : ℕ) (is : IsOnly names r t) where
+    theirs_id : least_name t (theirs_texts names face) ≡ least_id face.theirs r
+    theirs_id = first_id (texts_of names face) t fine ∙ id_of-found names face.theirs t r live.theirs is.text is.only
 
-pub known-second : (names : List NameEntry) (face : FaceIds) (t : List ℕ) (r i : ℕ) → AreLive names face → IsOnly names r t → None ≡ least_id face.theirs r → Some i ≡ least_id face.ours r → Some (i, Sender) ≡ known (texts_of names face) t
-known-second names face t r i live is none second = second_known _ _ i (none ∙ sym (id_of-found names face.theirs t r live.theirs is.text is.only)) (second ∙ sym (id_of-found names face.ours t r live.ours is.text is.only))
+    ours_id : least_name t (ours_texts names face) ≡ least_id face.ours r
+    ours_id = second_id (texts_of names face) t fine ∙ id_of-found names face.ours t r live.ours is.text is.only
 
-pub known-neither : (names : List NameEntry) (face : FaceIds) (t : List ℕ) (r : ℕ) → AreLive names face → IsOnly names r t → None ≡ least_id face.theirs r → None ≡ least_id face.ours r → None ≡ known (texts_of names face) t
-known-neither names face t r live is none none' = neither_known _ _ (none ∙ sym (id_of-found names face.theirs t r live.theirs is.text is.only)) (none' ∙ sym (id_of-found names face.ours t r live.ours is.text is.only))
+    pub known-first : (i : ℕ) → Some i ≡ least_id face.theirs r → Some (i, Receiver) ≡ known (texts_of names face) t
+    known-first i first = first_known _ _ i (first ∙ sym theirs_id)
+
+    pub known-second : (i : ℕ) → None ≡ least_id face.theirs r → Some i ≡ least_id face.ours r → Some (i, Sender) ≡ known (texts_of names face) t
+    known-second i none second = second_known _ _ i (none ∙ sym theirs_id) (second ∙ sym ours_id)
+
+    pub known-neither : None ≡ least_id face.theirs r → None ≡ least_id face.ours r → None ≡ known (texts_of names face) t
+    known-neither none none' = neither_known _ _ (none ∙ sym theirs_id) (none' ∙ sym ours_id)
 
 -- ---- refusals
 
@@ -326,10 +299,6 @@ text_absent names es i is = of_id-texts names es i ∙ ap (option_map (λ (n : �
 
 pub text_there : (names : List NameEntry) (es : List (ℕ × ℕ)) (i n : ℕ) → of_id es i ≡ Some n → of_id (id_texts names es) i ≡ Some (entry_at names n).text
 text_there names es i n is = of_id-texts names es i ∙ ap (option_map (λ (m : ℕ). (entry_at names m).text)) is
-
-pub reads_ok : {E : Type 0} (r : Result WireExpr E) (f : FaceTexts) (t : List ℕ) → Fine f → IfOk r (λ w. w ≡ best_key f t) → IfOk r (λ w. read_by f w ≡ Some t)
-reads_ok (Ok w) f t fine is = ap (read_by f) is ∙ best_key-reads f t fine
-reads_ok (Err e) f t fine is = tt
 
 pub no_mapping : (o : Option ResourceId) (x : Option ℕ) → o ≡ None → option_map (λ (r : ResourceId). r.0) o ≡ x → x ≡ None
 no_mapping o x none is = sym is ∙ ap (option_map (λ (r : ResourceId). r.0)) none
@@ -366,6 +335,23 @@ declared_texts names face node t (Some i) named = rw (id_texts-with_id names fac
 pub declared_live : (names : List NameEntry) (face : FaceIds) (node : ℕ) (declared : Option ℕ) → AreLive names face → Contains (ids names) node → AreLive names (with_new face node declared)
 declared_live names face node None live has = live
 declared_live names face node (Some i) live has = record { theirs = live.theirs; ours = AreLiveIds-with_id names face.ours i node live.ours has }
+
+-- a key under which nothing is declared
+pub gives_none : (names : List NameEntry) (face new : FaceIds) (t u : List ℕ) (r : Result DeclKey OutOfMemory) → IfOk r (λ d. d ≡ whole_key u) → new ≡ face → IfOk r (λ d. Gives names face new t d.declared)
+gives_none names face new t u (Err e) is same = tt
+gives_none names face new t u (Ok d) is same =
+    let none : d.declared ≡ None = ap (λ (k : DeclKey). k.declared) is in
+    let G : Option ℕ → Type 0 = λ (o : Option ℕ). Gives names face new t o in
+    subst G (sym none) (record { node = 0; given = same; named = tt })
+
+-- an id that was declared for a live node
+pub gives_some : (names : List NameEntry) (face new : FaceIds) (t : List ℕ) (node : ℕ) (d : Option ℕ) → new ≡ with_new face node d → IfSome d (λ i. of_id face.ours i ≡ None) → Contains (ids names) node → (entry_at names node).text ≡ nonwild t → Gives names face new t d
+gives_some names face new t node None given fresh live text = record { node = node; given = given; named = tt }
+gives_some names face new t node (Some i) given fresh live text = record { node = node; given = given; named = (fresh, live, text) }
+
+pub with_new_theirs : (face : FaceIds) (node : ℕ) (d : Option ℕ) → (with_new face node d).theirs ≡ face.theirs
+with_new_theirs face node None = refl
+with_new_theirs face node (Some i) = refl
 
 -- ---- an id less
 

@@ -1,5 +1,6 @@
 -- The ids of one face as the texts that they stand for, and the choices among them.
-use Rattle.std.specs.Prelude.{◌≡◌, ℕ, zero, suc, Bool, List, [], ◌∷◌, ◌++◌, length, take, drop, map, find, slice_index, Option, Some, None, option_map, unwrap_or, if◌then◌else◌, ◌==◌}
+use Rattle.std.specs.Prelude.{◌≡◌, ℕ, zero, suc, Bool, false, not, ◌&&◌, List, [], ◌∷◌, ◌++◌, length, take, drop, map, find, slice_index, Option, Some, None, option_map, unwrap_or, if◌then◌else◌, ◌==◌}
+use Rattle.std.specs.Map.{keys_of}
 use Rattle.std.specs.Str.{bytes_eq}
 use Rattle.zq_key.specs.Key.{is_key}
 use Rattle.zq_key.specs.declared.message.WireExpr.{WireExpr}
@@ -58,18 +59,32 @@ read_by face w = full_of (swapped face) w
 
 -- ---- the best key of a text
 
+-- this text stands there
+abbrev pub is_text : List ℕ → Option (List ℕ) → Bool
+is_text text None = false
+is_text text (Some t) = bytes_eq t text
+
+-- the id stands for the text; the id 0 stands for none
+abbrev pub names_text : List (ℕ × List ℕ) → List ℕ → ℕ → Bool
+names_text list text id = not (id == 0) && is_text text (of_id list id)
+
 -- the least id that stands for the text
-abbrev pub id_of : List (ℕ × List ℕ) → List ℕ → Option ℕ
-id_of list t = option_map (λ p. p.0) (find (λ p. bytes_eq p.1 t) list)
+abbrev pub least_name : List ℕ → List (ℕ × List ℕ) → Option ℕ
+least_name text list = find (names_text list text) (keys_of list)
 
 -- the first answer where there is one, else the other
 abbrev pub or_else : {X : Type 0} → Option X → Option X → Option X
 or_else None y = y
 or_else (Some x) y = Some x
 
+-- an id with the side that declared it
+abbrev pub tagged : Mapping → Option ℕ → Option (ℕ × Mapping)
+tagged side None = None
+tagged side (Some id) = Some (id, side)
+
 -- the id that names the text to the face, its own first
 abbrev pub known : FaceTexts → List ℕ → Option (ℕ × Mapping)
-known face t = or_else (option_map (λ i. (i, Receiver)) (id_of face.theirs t)) (option_map (λ i. (i, Sender)) (id_of face.ours t))
+known face t = or_else (tagged Receiver (least_name t face.theirs)) (tagged Sender (least_name t face.ours))
 
 -- the same of the first k bytes, with their number
 abbrev pub known_at : FaceTexts → List ℕ → ℕ → Option (ℕ × Mapping × ℕ)

@@ -6,7 +6,7 @@ ghost use Rattle.std.specs.List.{Contains};
 ghost use Rattle.zq_key.specs.Key.{is_key as key_of};
 ghost use Rattle.zq_names.specs.Names.{IsLive, HasText, Makes, entry_at};
 ghost use Rattle.zq_tables.specs.FaceIds.{no_ids, of_id, with_id, without_id, side, handed_side, is_used as used_of, next_id, AreLive};
-ghost use Rattle.zq_tables.specs.Registering.{Maps, Registers};
+ghost use Rattle.zq_tables.specs.Registering.{Gives, Maps, Registers};
 ghost use Rattle.zq_tables.specs.FaceTexts.{texts_of, full_of, read_by, known as known_of, part_choice, declared_ids, best_part as part_of, best_key, declared_key, with_declared, registered, register_refusal, IsReason};
 
 use crate::choice::{expression, joined, whole_key};
@@ -96,6 +96,20 @@ impl FaceNames {
         self.theirs.first()
     }
 
+    /// The least id that was declared to the face.
+    pub fn first_given(&self) -> Option<u16>
+        ensures { result ≡ slice_get (keys_of self.now.ours) 0 }
+    {
+        self.ours.first()
+    }
+
+    /// The ids that were declared to the face, from the least on.
+    pub fn given(&self, alloc: Global) -> Result<Vec<u16>, OutOfMemory>
+        ensures { IfOk result (λ ids. ids.items ≡ keys_of self.now.ours) }
+    {
+        self.ours.ids(alloc)
+    }
+
     fn is_used(&self, id: u16) -> bool
         ensures { result ≡ used_of self.now.theirs self.now.ours id }
     {
@@ -132,6 +146,15 @@ impl FaceNames {
         }
         self.free = self.free.min(id);
         Ok(())
+    }
+
+    /// Gives up an id that was declared to the face, if it was. The node stays as it is.
+    pub fn give_up(&mut self, id: u16)
+        ensures { self.new ≡ record self.old { ours = without_id self.old.ours id } }
+    {
+        if self.ours.remove(id) {
+            self.free = id.min(self.free);
+        }
     }
 
     // The node of an expression's scope.
@@ -222,6 +245,9 @@ impl FaceNames {
         requires { AreLive names.now self.now }
         ensures { result ≡ known_of (texts_of names.now self.now) text.now }
     {
+        // the ids of each side stand in order, so that the first of a text is its least
+        let _theirs = self.theirs.len();
+        let _ours = self.ours.len();
         let Some(node) = names.get_resource(names.root(), text) else {
             return None;
         };
@@ -268,8 +294,6 @@ impl FaceNames {
         ensures best { IfOk result (λ w. w ≡ best_key (texts_of names.now self.now) ((entry_at names.now r.0).text ++ suffix.now)) }
         ensures reads { IfOk result (λ w. read_by (texts_of names.now self.now) w ≡ Some ((entry_at names.now r.0).text ++ suffix.now)) }
     {
-        let _theirs = self.theirs.len();
-        let _ours = self.ours.len();
         let text = joined(alloc, names.expr(r), suffix)?;
         expression(alloc, self.best_part(names, text.as_str()), text.as_str())
     }
@@ -298,6 +322,7 @@ impl FaceNames {
         requires ids { AreLive names.now self.old }
         ensures chosen { IfOk result (λ d. d ≡ part_choice (texts_of names.now self.old) may (entry_at names.now part.0).text rest.now) }
         ensures ids { IfOk result (λ d. self.new ≡ declared_ids self.old part.0 d) }
+        ensures fresh { IfOk result (λ d. IfSome d (λ k. IfSome k.declared (λ i. of_id self.old.ours i ≡ None))) }
         ensures err { OnErr result (self.new ≡ self.old) }
     {
         let suffix = Text::new(alloc, rest)?;
@@ -343,6 +368,8 @@ impl FaceNames {
         requires ids { AreLive names.old self.old }
         ensures key { IfOk result (λ d. d ≡ declared_key (texts_of names.old self.old) local may (entry_at names.old r.0).text) }
         ensures texts { IfOk result (λ d. texts_of names.new self.new ≡ with_declared (texts_of names.old self.old) (entry_at names.old r.0).text d.declared) }
+        ensures given { IfOk result (λ d. Gives names.old self.old self.new (entry_at names.old r.0).text d.declared) }
+        ensures theirs { self.new.theirs ≡ self.old.theirs }
         ensures live { AreLive names.new self.new }
         ensures err { OnErr result (self.new ≡ self.old) }
         ensures names { names.new ≡ names.old }

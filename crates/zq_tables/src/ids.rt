@@ -78,6 +78,13 @@ impl Ids {
         self.nodes.keys().next().copied()
     }
 
+    // The ids, from the least on.
+    pub(crate) fn ids(&self, alloc: Global) -> Result<Vec<u16>, OutOfMemory>
+        ensures { IfOk result (λ ids. ids.items ≡ keys_of self.now) }
+    {
+        Ok(self.nodes.keys().copied().collect::<Vec<u16>>(alloc)?)
+    }
+
     // Whether there is no id.
     pub(crate) fn is_empty(&self) -> bool
         ensures { IsTrue result ↔ (self.now ≡ []) }

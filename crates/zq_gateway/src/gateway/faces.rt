@@ -6,7 +6,7 @@ ghost use Rattle.zq_machine.specs.Deciding.{opened, seat};
 ghost use Rattle.zq_machine.specs.Machine.{after, answer, settle, step};
 ghost use Rattle.zq_machine.specs.State.{at, change_hat, joined};
 ghost use Rattle.zq_machine.specs.TextCalls.{closing, opening};
-ghost use Rattle.zq_naming.specs.Naming.{no_keys};
+ghost use Rattle.zq_tables.specs.Naming.{no_keys};
 
 use crate::gateway::Gateway;
 use crate::handed::written_finals;
@@ -19,8 +19,8 @@ use zq_key::memory::OutOfMemory;
 use zq_key::message::FaceId;
 use zq_machine::call::{Opening, Outcome, Refusal, Step};
 use zq_machine::face::OpenFace;
-use zq_naming::naming::Naming;
 use zq_tables::RegionMap;
+use zq_tables::naming::Naming;
 
 // A face joins the open ones, those that have numbers, and its region's. Each of them is as before
 // where no memory is found.

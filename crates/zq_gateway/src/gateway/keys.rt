@@ -2,15 +2,15 @@
 ghost use Rattle.std.specs.Prelude.{◌≡◌, IfOk, OnOk, OnErr};
 ghost use Rattle.zq_machine.specs.declared.call.Call.TheVariants as call;
 ghost use Rattle.zq_machine.specs.Machine.{after, answer, settle, step};
-ghost use Rattle.zq_naming.specs.Naming.{face_naming, text_at};
+ghost use Rattle.zq_tables.specs.Naming.{face_naming, text_at};
 ghost use Rattle.zq_machine.specs.TextCalls.{naming, unnaming};
 
 use crate::gateway::Gateway;
 use zq_key::memory::OutOfMemory;
 use zq_key::message::{FaceId, WireExpr};
 use zq_machine::call::{Refusal, Step};
-use zq_naming::said::Said;
 use zq_tables::NameRefusal;
+use zq_tables::said::Said;
 
 impl Gateway {
     // The face declares a number for a text.

@@ -13,8 +13,8 @@ use zq_key::memory::OutOfMemory;
 use zq_key::message::{FaceId, QueryableInfoType, WireExpr};
 use zq_key::{Key, KeyError};
 use zq_machine::call::{Refusal, Step};
-use zq_naming::naming::Naming;
-use zq_naming::said::Said;
+use zq_tables::naming::Naming;
+use zq_tables::said::Said;
 
 // A queryable that was held afresh is let go again.
 fn take_back(names: &mut Naming, face: FaceId, id: u32, fresh: bool)

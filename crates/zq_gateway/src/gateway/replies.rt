@@ -14,8 +14,8 @@ use crate::read::{full_text, is_unscoped, says_key_or_nothing};
 use zq_key::memory::OutOfMemory;
 use zq_key::message::{FaceId, Response};
 use zq_machine::call::{Outcome, Refusal, Step};
-use zq_naming::said::Said;
 use zq_query::records::{PollRefusal, ReplyRefusal, ReplyTo};
+use zq_tables::said::Said;
 
 impl Gateway {
     // A target ends a query.

@@ -17,8 +17,8 @@ use zq_key::memory::OutOfMemory;
 use zq_key::message::{FaceId, Request};
 use zq_machine::call::{Outcome, Refusal, Step};
 use zq_machine::face::OpenFace;
-use zq_naming::said::Said;
 use zq_query::records::AskRefusal;
+use zq_tables::said::Said;
 
 // The faces of offers.
 fn targets_of(alloc: Global, offers: &[QueryTargetQabl]) -> Result<Vec<FaceId>, AllocError>

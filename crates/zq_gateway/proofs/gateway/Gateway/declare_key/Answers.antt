@@ -1,4 +1,4 @@
-use Rattle.zq_naming.specs.Naming.{with_name}
+use Rattle.zq_tables.specs.Naming.{with_name}
 use Rattle.zq_gateway.proofs.Below.{below_changed}
 use Rattle.zq_gateway.proofs.gateway.Gateway.declare_key.Goals as goal
 

@@ -1,5 +1,5 @@
 use Rattle.std.proofs.Common.{◌≡◌, ◌∙◌, ap, rules}
-use Rattle.zq_naming.specs.Naming.{with_queryable}
+use Rattle.zq_tables.specs.Naming.{with_queryable}
 use Rattle.zq_gateway.specs.Undoing.{taken_back}
 use Rattle.zq_gateway.proofs.Below.{below_change}
 use Rattle.zq_gateway.proofs.Queryables.{put_back}

@@ -1,4 +1,4 @@
-use Rattle.zq_naming.specs.Naming.{no_keys}
+use Rattle.zq_tables.specs.Naming.{no_keys}
 use Rattle.zq_machine.specs.Deciding.{opened}
 use Rattle.zq_gateway.proofs.Below.{below_absent, below_insert}
 use Rattle.zq_gateway.proofs.gateway.Gateway.open.Goals as goal

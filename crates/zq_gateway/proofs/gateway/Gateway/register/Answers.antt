@@ -1,6 +1,6 @@
 use Rattle.std.proofs.Common.{◌≡◌, subst}
 use Rattle.std.specs.Prelude.{IfOk, OnOk}
-use Rattle.zq_naming.specs.Naming.{said_of, face_naming}
+use Rattle.zq_tables.specs.Naming.{said_of, face_naming}
 use Rattle.zq_machine.specs.Machine.{answer, settle}
 use Rattle.zq_machine.specs.TextCalls.{declaring}
 use Rattle.zq_gateway.proofs.gateway.Gateway.register.Goals as goal

@@ -1,4 +1,4 @@
-use Rattle.zq_naming.specs.Naming.{without_name}
+use Rattle.zq_tables.specs.Naming.{without_name}
 use Rattle.zq_gateway.proofs.Below.{below_change}
 use Rattle.zq_gateway.proofs.gateway.Gateway.undeclare_key.Goals as goal
 

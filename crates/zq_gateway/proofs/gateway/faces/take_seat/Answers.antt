@@ -4,7 +4,7 @@ use Rattle.std.specs.BTreeMap.{is_at}
 use Rattle.std.specs.Map.{remove_entry}
 use Rattle.std.proofs.lemmas.Cmp.{nat_cmp_total}
 use Rattle.std.proofs.lemmas.Map.Lookups.{exact_unsigned}
-use Rattle.zq_naming.specs.Naming.{no_keys}
+use Rattle.zq_tables.specs.Naming.{no_keys}
 use Rattle.zq_query.proofs.Owing.{undone}
 use Rattle.zq_machine.specs.Deciding.{opened}
 use Rattle.zq_gateway.proofs.gateway.faces.take_seat.Goals as goal

@@ -1,0 +1,107 @@
+-- A number is declared: it holds its node, as each other number does.
+use Rattle.std.proofs.Common.{◌≡◌, ℕ, ◌+◌, ◌^◌, ◌<◌, true, false, List, length, Option, Some, None, IfSome, refl, sym, ap, subst, ◌∙◌, arith}
+use Rattle.std.specs.Option.{is_some}
+use Rattle.std.proofs.lemmas.Option.{same_Some}
+use Rattle.zq_names.specs.Names.{NameEntry, entry_at, with_hold, change_at}
+use Rattle.zq_names.specs.Keeping.{ChangesAt}
+use Rattle.zq_tables.specs.FaceIds.{FaceIds, of_id, with_id}
+use Rattle.zq_tables.specs.FaceTexts.{id_texts, texts_of, full_of}
+use Rattle.zq_tables.specs.Naming.{FaceNaming, Names, face_naming, text_at, with_name, with_theirs, change_naming}
+use Rattle.zq_tables.specs.Holding.{FaceHolds, Faces, IsFace, IsHeld, Numbers, Declares, hold_of, face_holds, ids_at, is_settled, numbers_in, number_settled, keys_of_face, texts_by, TakesHold}
+use Rattle.zq_tables.proofs.Entries.{Rises-with_id, Rises-shown, weigh-with_id, with_same, shown-with_id}
+use Rattle.zq_tables.proofs.Holds.{face_at}
+use Rattle.zq_tables.proofs.Faces.{face_there, change_idle, set_texts, shown_text}
+use Rattle.zq_key.specs.declared.message.WireExpr.{WireExpr}
+use Rattle.zq_key.specs.declared.message.Mapping.TheVariants.{Sender}
+use Rattle.zq_tables.specs.Registering.{Maps, Registers}
+use Rattle.zq_tables.proofs.IdLemmas.{of_id-with_id}
+use Rattle.zq_tables.proofs.Made.{fresh_made}
+use Rattle.zq_tables.proofs.Letting.{made_room, takes, room_held, taken, taken_texts, placed}
+use Rattle.zq_key.proofs.Truth.{none_from, some_from}
+
+-- ---- what a registered id stands for
+
+pub maps_of : (names names' : List NameEntry) (old new : FaceIds) (i : ℕ) (w : WireExpr) → Registers names names' old new i w → of_id old.theirs i ≡ None → w.scope ≡ 0 → Maps names names' old new i w.suffix
+maps_of names names' old new i w registers absent whole =
+    let maps : Maps names names' old new i registers.text = rw absent at registers.maps in
+    let plain : full_of (texts_of names old) w ≡ Some w.suffix = rw whole refl in
+    let same : registers.text ≡ w.suffix = same_Some _ _ (sym registers.full ∙ plain) in
+    subst (Maps names names' old new i) same maps
+
+pub mapped_id : (names names' : List NameEntry) (old new : FaceIds) (i : ℕ) (t : List ℕ) → (maps : Maps names names' old new i t) → of_id new.theirs i ≡ Some maps.r.0
+mapped_id names names' old new i t maps = ap (λ l. of_id l i) maps.mapped ∙ of_id-with_id old.theirs i maps.r.0
+
+pub numbers_of : (names names' : List NameEntry) (old new : FaceIds) (i r : ℕ) (t : List ℕ) → Maps names names' old new i t → Some r ≡ of_id new.theirs i → Numbers names names' old new i t r
+numbers_of names names' old new i r t maps is =
+    let same : maps.r.0 ≡ r = same_Some _ _ (sym (is ∙ mapped_id names names' old new i t maps)) in
+    let N : ℕ → Type 0 = Numbers names names' old new i t in
+    subst N same (record {
+      live = maps.named.live;
+      text = maps.named.text;
+      kept = maps.kept;
+      fresh = fresh_made names names' maps.r t maps.made;
+      lean = maps.lean;
+      mapped = ap (λ l. record { theirs = l; ours = new.ours }) maps.mapped ∙ ap (λ l. record { theirs = with_id old.theirs i maps.r.0; ours = l }) maps.ours;
+    })
+
+-- ---- the number was made
+
+module _ (names names1 : List NameEntry) (faces faces' : Faces) (face id r : ℕ) (t : List ℕ) (held : IsHeld names faces) (new : number_settled face id faces ≡ false) (declares : Declares names names1 faces faces' face id t r) where
+  absent : of_id declares.was.numbers.theirs id ≡ None
+  absent = none_from (of_id declares.was.numbers.theirs id) (ap (λ (o : Option FaceHolds). is_settled o (numbers_in Sender o) id) (sym declares.at) ∙ new)
+
+  -- the face with other numbers
+  abbrev now : FaceIds → FaceHolds
+  now n = record declares.was { numbers = n }
+
+  pub room : length faces < 2 ^ 63 → (entry_at names1 r).holds + 1 < 2 ^ 128
+  room few = let n = declares.numbers in made_room names names1 t r n.live n.text n.kept n.fresh (room_held names faces held few)
+
+  module _ (names2 : List NameEntry) (changes : ChangesAt names1 names2 r with_hold) (all : names2 ≡ change_at names1 r with_hold) (positive : 0 < id) (small : id < 65536) where
+    number_takes : TakesHold names names2 t r
+    number_takes = let n = declares.numbers in takes names names1 t r n.live n.text n.kept n.fresh names2 changes all n.lean
+
+    is_face : IsFace (now declares.is)
+    is_face =
+        let old = face_at faces face declares.was held.sides declares.at in
+        let F : FaceIds → Type 0 = λ (n : FaceIds). IsFace (now n) in
+        subst F (sym declares.numbers.mapped) (record { theirs = Rises-with_id 65536 1 id r declares.was.numbers.theirs (omega arith) small old.theirs; ours = old.ours; queryables = old.queryables })
+
+    more : (i : ℕ) → face_holds i (now declares.is) ≡ face_holds i declares.was + hold_of i r
+    more i =
+        let one = weigh-with_id (hold_of i) declares.was.numbers.theirs id r absent in
+        let face_is = ap (λ (n : FaceIds). face_holds i (now n)) declares.numbers.mapped in
+        omega (arith, one, face_is)
+
+    pub declared : IsHeld names2 faces'
+    declared = placed names2 faces faces' face r declares.was (now declares.is) declares.at declares.put is_face (taken names names2 faces t r held number_takes) more
+
+    is_texts : keys_of_face names2 (now declares.is) ≡ with_name id t (keys_of_face names2 declares.was)
+    is_texts =
+        ap (λ (n : FaceIds). keys_of_face names2 (now n)) declares.numbers.mapped
+        ∙ ap (λ (l : Names). with_theirs (keys_of_face names2 declares.was) l) (shown-with_id (λ (k : ℕ). (entry_at names2 k).text) declares.was.numbers.theirs id r ∙ ap (with_id (id_texts names2 declares.was.numbers.theirs) id) number_takes.text)
+
+    pub declared_texts : texts_by names2 faces' ≡ change_naming face (with_name id t) (texts_by names faces)
+    declared_texts =
+        set_texts names2 faces faces' face declares.was (now declares.is) (with_name id t) declares.at declares.put is_texts
+        ∙ ap (change_naming face (with_name id t)) (taken_texts names names2 faces t r held number_takes)
+
+-- ---- nothing is to be declared
+
+settled_side : (names : List NameEntry) (faces : Faces) (face id : ℕ) (t : List ℕ) (f : FaceHolds) → IsHeld names faces → ids_at face faces ≡ Some f → is_some (of_id f.numbers.theirs id) ≡ true → IfSome (text_at id (face_naming face (texts_by names faces)).theirs) (λ u. u ≡ t)
+    → with_id (id_texts names f.numbers.theirs) id t ≡ id_texts names f.numbers.theirs
+settled_side names faces face id t f held at settled free =
+    let node = some_from (of_id f.numbers.theirs id) settled in
+    let stands : text_at id (id_texts names f.numbers.theirs) ≡ Some (entry_at names node.0).text = shown_text names f.numbers.theirs id (Some node.0) node.1 in
+    let F : FaceNaming → Type 0 = λ (n : FaceNaming). IfSome (text_at id n.theirs) (λ u. u ≡ t) in
+    let O : Option (List ℕ) → Type 0 = λ (o : Option (List ℕ)). IfSome o (λ u. u ≡ t) in
+    let same : (entry_at names node.0).text ≡ t = subst O stands (subst F (face_there names faces face f at) free) in
+    let face_is = face_at faces face f held.sides at in
+    with_same 65536 1 id t (id_texts names f.numbers.theirs) (Rises-shown (λ (k : ℕ). (entry_at names k).text) 65536 1 f.numbers.theirs face_is.theirs) (stands ∙ ap Some same)
+
+pub settled_texts : (names : List NameEntry) (faces : Faces) (face id : ℕ) (t : List ℕ) → IsHeld names faces → number_settled face id faces ≡ true → IfSome (text_at id (face_naming face (texts_by names faces)).theirs) (λ u. u ≡ t)
+    → texts_by names faces ≡ change_naming face (with_name id t) (texts_by names faces)
+settled_texts names faces face id t held settled free =
+    change_idle names faces face (with_name id t) (λ f at.
+    let there : is_some (of_id f.numbers.theirs id) ≡ true = ap (λ (o : Option FaceHolds). is_settled o (numbers_in Sender o) id) (sym at) ∙ settled in
+    ap (with_theirs (keys_of_face names f)) (settled_side names faces face id t f held at there free))

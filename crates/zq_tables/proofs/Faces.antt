@@ -1,0 +1,124 @@
+-- A face in the list of texts, and the texts after one entry of the names changed.
+use Rattle.std.proofs.Common.{◌≡◌, ℕ, List, [], Option, Some, None, refl, sym, ap, subst, ◌∙◌, arith, inl, inr, unwrap_or}
+use Rattle.std.specs.Prelude.{option_map}
+use Rattle.std.specs.List.{Contains}
+use Rattle.std.specs.Map.{set_value}
+use Rattle.std.specs.BTreeMap.{is_at}
+use Rattle.std.specs.Ordering.{nat_cmp}
+use Rattle.std.proofs.lemmas.Bool.{cases_eq}
+use Rattle.std.proofs.lemmas.Option.{none-some}
+use Rattle.std.proofs.lemmas.Map.Made.{lookup-map_values}
+use Rattle.std.proofs.lemmas.Map.Steps.{set_value_same}
+use Rattle.zq_key.specs.declared.message.Mapping.{Mapping}
+use Rattle.zq_key.specs.declared.message.Mapping.TheVariants.{Sender, Receiver}
+use Rattle.zq_names.specs.Names.{NameEntry, ids, entry_at}
+use Rattle.zq_names.specs.Keeping.{ChangesAt}
+use Rattle.zq_tables.specs.FaceIds.{FaceIds, of_id, side}
+use Rattle.zq_tables.specs.FaceTexts.{id_texts, texts_of}
+use Rattle.zq_tables.specs.Naming.{FaceKeys, no_keys, no_names, naming_at, face_keys, face_naming, face_queryables, sent_side, text_at, put_naming, change_naming}
+use Rattle.zq_tables.specs.Holding.{FaceHolds, Faces, IsHeld, hold_of, ids_at, keys_of_face, numbers_in, queryables_in, node_at, queryable_at, texts_by}
+use Rattle.zq_tables.proofs.Entries.{shown-set, weigh-removed}
+use Rattle.zq_tables.proofs.Holds.{hold_itself, holds_at}
+
+-- ---- a face in the list of texts
+
+pub naming_at-texts : (names : List NameEntry) (faces : Faces) (face : ℕ) → naming_at face (texts_by names faces) ≡ option_map (keys_of_face names) (ids_at face faces)
+naming_at-texts names faces face = lookup-map_values (keys_of_face names) (is_at (nat_cmp face)) faces
+
+pub naming_there : (names : List NameEntry) (faces : Faces) (face : ℕ) (f : FaceHolds) → ids_at face faces ≡ Some f → naming_at face (texts_by names faces) ≡ Some (keys_of_face names f)
+naming_there names faces face f at = naming_at-texts names faces face ∙ ap (option_map (keys_of_face names)) at
+
+pub naming_closed : (names : List NameEntry) (faces : Faces) (face : ℕ) → ids_at face faces ≡ None → naming_at face (texts_by names faces) ≡ None
+naming_closed names faces face at = naming_at-texts names faces face ∙ ap (option_map (keys_of_face names)) at
+
+pub keys_there : (names : List NameEntry) (faces : Faces) (face : ℕ) (f : FaceHolds) → ids_at face faces ≡ Some f → face_keys face (texts_by names faces) ≡ keys_of_face names f
+keys_there names faces face f at = ap (λ (o : Option FaceKeys). unwrap_or o no_keys) (naming_there names faces face f at)
+
+pub keys_closed : (names : List NameEntry) (faces : Faces) (face : ℕ) → ids_at face faces ≡ None → face_keys face (texts_by names faces) ≡ no_keys
+keys_closed names faces face at = ap (λ (o : Option FaceKeys). unwrap_or o no_keys) (naming_closed names faces face at)
+
+pub face_there : (names : List NameEntry) (faces : Faces) (face : ℕ) (f : FaceHolds) → ids_at face faces ≡ Some f → face_naming face (texts_by names faces) ≡ texts_of names f.numbers
+face_there names faces face f at = ap (λ (n : FaceKeys). n.numbers) (keys_there names faces face f at)
+
+pub face_closed : (names : List NameEntry) (faces : Faces) (face : ℕ) → ids_at face faces ≡ None → face_naming face (texts_by names faces) ≡ no_names
+face_closed names faces face at = ap (λ (n : FaceKeys). n.numbers) (keys_closed names faces face at)
+
+pub change_there : (names : List NameEntry) (faces : Faces) (face : ℕ) (f : FaceHolds) (g : FaceKeys → FaceKeys) → ids_at face faces ≡ Some f → change_naming face g (texts_by names faces) ≡ set_value (is_at (nat_cmp face)) (texts_by names faces) (g (keys_of_face names f))
+change_there names faces face f g at = ap (put_naming face g (texts_by names faces)) (naming_there names faces face f at)
+
+-- a change that leaves the face as it is, or finds it closed
+pub change_idle : (names : List NameEntry) (faces : Faces) (face : ℕ) (g : FaceKeys → FaceKeys) → ((f : FaceHolds) → ids_at face faces ≡ Some f → g (keys_of_face names f) ≡ keys_of_face names f) → texts_by names faces ≡ change_naming face g (texts_by names faces)
+change_idle names faces face g same = by (ids_at face faces) refl
+  where
+    by : (o : Option FaceHolds) → ids_at face faces ≡ o → texts_by names faces ≡ change_naming face g (texts_by names faces)
+    by None at = sym (ap (put_naming face g (texts_by names faces)) (naming_closed names faces face at))
+    by (Some f) at =
+        sym (
+        change_there names faces face f g at
+        ∙ ap (set_value (is_at (nat_cmp face)) (texts_by names faces)) (same f at)
+        ∙ set_value_same (is_at (nat_cmp face)) (texts_by names faces) (keys_of_face names f) (naming_there names faces face f at)
+        )
+
+pub set_texts : (names : List NameEntry) (faces faces' : Faces) (face : ℕ) (f f' : FaceHolds) (g : FaceKeys → FaceKeys) → ids_at face faces ≡ Some f → faces' ≡ set_value (is_at (nat_cmp face)) faces f' → keys_of_face names f' ≡ g (keys_of_face names f) → texts_by names faces' ≡ change_naming face g (texts_by names faces)
+set_texts names faces faces' face f f' g at put is =
+    ap (texts_by names) put
+    ∙ shown-set (keys_of_face names) (is_at (nat_cmp face)) faces f'
+    ∙ ap (set_value (is_at (nat_cmp face)) (texts_by names faces)) is
+    ∙ sym (change_there names faces face f g at)
+
+-- ---- one entry of the names changed
+
+pub changed_text : (names names1 : List NameEntry) (n i : ℕ) (f : NameEntry → NameEntry) → ((e : NameEntry) → (f e).text ≡ e.text) → ChangesAt names names1 n f → (entry_at names1 i).text ≡ (entry_at names i).text
+changed_text names names1 n i f keeps changes = elim (cases_eq i n) [
+  | inl same ↦
+      let P : ℕ → Type 0 = λ (k : ℕ). (entry_at names1 k).text ≡ (entry_at names k).text in
+      subst P (sym same) (ap (λ (e : NameEntry). e.text) changes.here ∙ keeps (entry_at names n))
+  | inr differ ↦ ap (λ (e : NameEntry). e.text) (changes.others i differ)
+]
+
+-- ---- what an id stands for, on either side of a face
+
+module _ (side : Option FaceHolds → List (ℕ × ℕ)) (none : side None ≡ []) where
+  pub side_is : (id n : ℕ) (o : Option FaceHolds) → of_id (side o) id ≡ Some n → (f : FaceHolds) × (o ≡ Some f) × (of_id (side (Some f)) id ≡ Some n)
+  side_is id n None is = absurd (none-some n (ap (λ (l : List (ℕ × ℕ)). of_id l id) (sym none) ∙ is))
+  side_is id n (Some f) is = (f, refl, is)
+
+pub node_live : (names : List NameEntry) (faces : Faces) (face id n : ℕ) → IsHeld names faces → node_at Sender face id faces ≡ Some n → Contains (ids names) n
+node_live names faces face id n held is =
+    let there = side_is (numbers_in Sender) refl id n (ids_at face faces) is in
+    let one = weigh-removed (hold_of n) (is_at (nat_cmp id)) there.0.numbers.theirs n there.2 in
+    held.live n (omega (arith, one, hold_itself n, holds_at n face faces there.0 there.1))
+
+none_sent : (m : Mapping) → [] ≡ sent_side no_names m
+none_sent Sender = refl
+none_sent Receiver = refl
+
+same_sent : (names : List NameEntry) (f : FaceIds) (m : Mapping) → id_texts names (side f m) ≡ sent_side (texts_of names f) m
+same_sent names f Sender = refl
+same_sent names f Receiver = refl
+
+pub numbers_texts : (m : Mapping) (names : List NameEntry) (faces : Faces) (face : ℕ) → id_texts names (numbers_in m (ids_at face faces)) ≡ sent_side (face_naming face (texts_by names faces)) m
+numbers_texts m names faces face = by (ids_at face faces) refl
+  where
+    by : (o : Option FaceHolds) → ids_at face faces ≡ o → id_texts names (numbers_in m o) ≡ sent_side (face_naming face (texts_by names faces)) m
+    by None at = none_sent m ∙ ap (λ (n : FaceKeys). sent_side n.numbers m) (sym (keys_closed names faces face at))
+    by (Some f) at = same_sent names f.numbers m ∙ ap (λ (n : FaceKeys). sent_side n.numbers m) (sym (keys_there names faces face f at))
+
+pub queryables_texts : (names : List NameEntry) (faces : Faces) (face : ℕ) → id_texts names (queryables_in (ids_at face faces)) ≡ face_queryables face (texts_by names faces)
+queryables_texts names faces face = by (ids_at face faces) refl
+  where
+    by : (o : Option FaceHolds) → ids_at face faces ≡ o → id_texts names (queryables_in o) ≡ face_queryables face (texts_by names faces)
+    by None at = ap (λ (n : FaceKeys). n.queryables) (sym (keys_closed names faces face at))
+    by (Some f) at = ap (λ (n : FaceKeys). n.queryables) (sym (keys_there names faces face f at))
+
+id_text : (names : List NameEntry) (es : List (ℕ × ℕ)) (id : ℕ) → option_map (λ (n : ℕ). (entry_at names n).text) (of_id es id) ≡ text_at id (id_texts names es)
+id_text names es id = sym (lookup-map_values (λ (k : ℕ). (entry_at names k).text) (is_at (nat_cmp id)) es)
+
+pub shown_text : (names : List NameEntry) (es : List (ℕ × ℕ)) (id : ℕ) (o : Option ℕ) → of_id es id ≡ o → text_at id (id_texts names es) ≡ option_map (λ (n : ℕ). (entry_at names n).text) o
+shown_text names es id o is = sym (id_text names es id) ∙ ap (option_map (λ (n : ℕ). (entry_at names n).text)) is
+
+pub standing_text : (names : List NameEntry) (faces : Faces) (face id : ℕ) → option_map (λ (n : ℕ). (entry_at names n).text) (node_at Sender face id faces) ≡ text_at id (face_naming face (texts_by names faces)).theirs
+standing_text names faces face id = id_text names (numbers_in Sender (ids_at face faces)) id ∙ ap (text_at id) (numbers_texts Sender names faces face)
+
+pub queryable_text : (names : List NameEntry) (faces : Faces) (face id : ℕ) → option_map (λ (n : ℕ). (entry_at names n).text) (queryable_at face id faces) ≡ text_at id (face_queryables face (texts_by names faces))
+queryable_text names faces face id = id_text names (queryables_in (ids_at face faces)) id ∙ ap (text_at id) (queryables_texts names faces face)

@@ -1,0 +1,228 @@
+-- Holds are taken and let go, and ids are put in place and taken out, on either side of a face.
+use Rattle.std.proofs.Common.{◌≡◌, ℕ, ◌+◌, ◌-◌, ◌^◌, ◌<◌, List, length, Some, refl, sym, ap, subst, ◌∙◌, arith, zero, suc, inl, inr, Option, None, [], ◌⊎◌}
+use Rattle.std.specs.List.{All, Contains}
+use Rattle.std.specs.Map.{set_value, values_of}
+use Rattle.std.specs.BTreeMap.{is_at}
+use Rattle.std.specs.Ordering.{nat_cmp}
+use Rattle.std.proofs.lemmas.Bool.{cases_eq}
+use Rattle.std.proofs.lemmas.Map.Views.{All-values-set_value}
+use Rattle.zq_key.specs.declared.message.Mapping.{Mapping}
+use Rattle.zq_key.specs.declared.message.Mapping.TheVariants.{Sender, Receiver}
+use Rattle.zq_names.specs.Names.{NameEntry, ids, entry_at, with_hold, without_hold, change_at}
+use Rattle.zq_names.specs.Idle.{IdleAt, NoneIdle}
+use Rattle.zq_names.specs.Keeping.{AllStay, NoneCome, ChangesAt}
+use Rattle.zq_tables.specs.FaceIds.{of_id}
+use Rattle.zq_tables.specs.Naming.{Names, with_sent, without_sent, without_queryable, change_naming, FaceKeys}
+use Rattle.zq_tables.specs.Holding.{FaceHolds, Faces, InHand, IsFace, IsHeld, LetsGo, TakesHold, hold_of, face_holds, holds_by, ids_at, node_at, queryable_at, put_ids, change_ids, keys_of_face, texts_by, without_hold_at, without_number, numbers_in, queryables_in}
+use Rattle.zq_tables.proofs.Entries.{Rises-without_id, weigh-removed, weigh-set, shown-removed}
+use Rattle.zq_tables.proofs.Faces.{set_texts, changed_text, side_is}
+use Rattle.zq_tables.proofs.Holds.{hold_itself, hold_other, few_holds, face_at, same_texts}
+use Rattle.zq_tables.proofs.Lean.{lean_held, lean_unheld}
+
+-- ---- what a hold changes
+
+held_holds : (names names1 : List NameEntry) (r i : ℕ) → ChangesAt names names1 r with_hold → (entry_at names1 i).holds ≡ (entry_at names i).holds + hold_of i r
+held_holds names names1 r i changes = elim (cases_eq i r) [
+  | inl same ↦
+      let here : (entry_at names1 r).holds ≡ (entry_at names r).holds + 1 = ap (λ (e : NameEntry). e.holds) changes.here in
+      let once : hold_of r r ≡ 1 = hold_itself r in
+      let P : ℕ → Type 0 = λ (k : ℕ). (entry_at names1 k).holds ≡ (entry_at names k).holds + hold_of k r in
+      subst P (sym same) (omega (arith, here, once))
+  | inr differ ↦
+      let other : (entry_at names1 i).holds ≡ (entry_at names i).holds = ap (λ (e : NameEntry). e.holds) (changes.others i differ) in
+      let none : hold_of i r ≡ 0 = hold_other i r (λ same. differ (sym same)) in
+      omega (arith, other, none)
+]
+
+unheld_holds : (names names1 : List NameEntry) (n i : ℕ) → ChangesAt names names1 n without_hold → 0 < (entry_at names n).holds → (entry_at names1 i).holds + hold_of i n ≡ (entry_at names i).holds
+unheld_holds names names1 n i changes some = elim (cases_eq i n) [
+  | inl same ↦
+      let here : (entry_at names1 n).holds ≡ (entry_at names n).holds - 1 = ap (λ (e : NameEntry). e.holds) changes.here in
+      let once : hold_of n n ≡ 1 = hold_itself n in
+      let P : ℕ → Type 0 = λ (k : ℕ). (entry_at names1 k).holds + hold_of k n ≡ (entry_at names k).holds in
+      subst P (sym same) (omega (arith, here, once, some))
+  | inr differ ↦
+      let other : (entry_at names1 i).holds ≡ (entry_at names i).holds = ap (λ (e : NameEntry). e.holds) (changes.others i differ) in
+      let none : hold_of i n ≡ 0 = hold_other i n (λ same. differ (sym same)) in
+      omega (arith, other, none)
+]
+
+-- a node is there, what is new is not held, and the node is held
+module _ (old middle : List NameEntry) (t : List ℕ) (r : ℕ) (live : Contains (ids middle) r) (text : (entry_at middle r).text ≡ t) (stay : AllStay old middle) (fresh : (i : ℕ) → Contains (ids middle) i → Contains (ids old) i ⊎ ((entry_at middle i).holds ≡ 0)) where
+  -- the node is held seldom enough
+  pub made_room : ((i : ℕ) → Contains (ids old) i → (entry_at old i).holds + 1 < 2 ^ 128) → (entry_at middle r).holds + 1 < 2 ^ 128
+  made_room room = elim (fresh r live) [
+    | inl before ↦ omega (arith, room r before, (stay r before).1.holds)
+    | inr none ↦ omega (arith, none)
+  ]
+
+  pub takes : (new : List NameEntry) → ChangesAt middle new r with_hold → new ≡ change_at middle r with_hold → (NoneIdle old → IdleAt middle r) → TakesHold old new t r
+  takes new changes all idle =
+      let C : ℕ → List ℕ → Type 0 = λ (i : ℕ) (is : List ℕ). Contains is i in
+      record {
+        live = subst (C r) (sym changes.live) live;
+        text = changed_text middle new r r with_hold (λ e. refl) changes ∙ text;
+        kept = λ i before. (
+          subst (C i) (sym changes.live) (stay i before).0,
+          changed_text middle new r i with_hold (λ e. refl) changes ∙ (stay i before).1.text,
+          omega (arith, held_holds middle new r i changes, (stay i before).1.holds),
+        );
+        fresh = λ i has. elim (fresh i (subst (C i) changes.live has)) [
+          | inl before ↦ inl before
+          | inr none ↦ inr (omega (arith, held_holds middle new r i changes, none))
+        ];
+        lean = λ none. lean_held middle new r all (idle none);
+      }
+
+-- a hold ended, and what is idle went
+pub lets : (old middle new : List NameEntry) (n : ℕ) → 0 < (entry_at old n).holds → ChangesAt old middle n without_hold → middle ≡ change_at old n without_hold
+    → ((i : ℕ) → Contains (ids middle) i → 0 < (entry_at middle i).holds → Contains (ids new) i) → NoneCome middle new → (IdleAt middle n → NoneIdle new) → LetsGo old new n
+lets old middle new n some changes all stays kept lean =
+    let C : ℕ → List ℕ → Type 0 = λ (i : ℕ) (is : List ℕ). Contains is i in
+    record {
+      stays = λ i has more. stays i (subst (C i) (sym changes.live) has) (omega (arith, more, unheld_holds old middle n i changes some));
+      kept = λ i has. (
+        subst (C i) changes.live (kept i has).0,
+        (kept i has).1.text ∙ changed_text old middle n i without_hold (λ e. refl) changes,
+        omega (arith, (kept i has).1.holds, unheld_holds old middle n i changes some),
+      );
+      lean = λ none. lean (lean_unheld old middle n all none);
+    }
+
+-- ---- a hold is taken in hand
+
+-- no node is held too often
+pub room_held : (names : List NameEntry) (faces : Faces) → IsHeld names faces → length faces < 2 ^ 63 → (i : ℕ) → Contains (ids names) i → (entry_at names i).holds + 1 < 2 ^ 128
+room_held names faces held few i has = omega (arith, few, held.counted i has, few_holds i faces held.sides)
+
+module _ (names names' : List NameEntry) (faces : Faces) (t : List ℕ) (r : ℕ) (held : IsHeld names faces) (takes : TakesHold names names' t r) where
+  counted_taken : (i : ℕ) → Contains (ids names') i → (entry_at names' i).holds ≡ holds_by i faces + hold_of i r
+  counted_taken i has = elim (takes.fresh i has) [
+    | inl before ↦ stayed before
+    | inr new ↦ by (holds_by i faces) refl new
+  ]
+    where
+      stayed : Contains (ids names) i → (entry_at names' i).holds ≡ holds_by i faces + hold_of i r
+      stayed before = omega (arith, (takes.kept i before).2, held.counted i before)
+
+      by : (m : ℕ) → holds_by i faces ≡ m → (entry_at names' i).holds ≡ hold_of i r → (entry_at names' i).holds ≡ holds_by i faces + hold_of i r
+      by zero is new = omega (arith, is, new)
+      by (suc m) is new = stayed (held.live i (omega (arith, is)))
+
+  live_taken : (i : ℕ) → 0 < holds_by i faces + hold_of i r → Contains (ids names') i
+  live_taken i some = elim (cases_eq i r) [
+    | inl same ↦ let C : ℕ → Type 0 = λ (k : ℕ). Contains (ids names') k in subst C (sym same) takes.live
+    | inr differ ↦ (takes.kept i (held.live i (omega (arith, some, hold_other i r (λ same. differ (sym same)))))).0
+  ]
+
+  pub taken : InHand names' faces r
+  taken = record { live = live_taken; counted = counted_taken; sides = held.sides; lean = takes.lean held.lean }
+
+  pub taken_texts : texts_by names' faces ≡ texts_by names faces
+  taken_texts = same_texts names names' faces (λ i some. (takes.kept i (held.live i some)).1)
+
+-- ---- the hold in hand is let go
+
+pub in_hand_held : (names : List NameEntry) (faces : Faces) (n : ℕ) → InHand names faces n → 0 < (entry_at names n).holds
+in_hand_held names faces n hand =
+    let once = hold_itself n in
+    let live = hand.live n (omega (arith, once)) in
+    omega (arith, hand.counted n live, once)
+
+pub in_hand_live : (names : List NameEntry) (faces : Faces) (n : ℕ) → InHand names faces n → Contains (ids names) n
+in_hand_live names faces n hand = hand.live n (omega (arith, hold_itself n))
+
+module _ (names names' : List NameEntry) (faces : Faces) (n : ℕ) (hand : InHand names faces n) (lets : LetsGo names names' n) where
+  live_left : (i : ℕ) → 0 < holds_by i faces → Contains (ids names') i
+  live_left i some =
+      let has = hand.live i (omega (arith, some)) in
+      lets.stays i has (omega (arith, some, hand.counted i has))
+
+  pub left : IsHeld names' faces
+  left = record {
+    live = live_left;
+    counted = λ i has. omega (arith, (lets.kept i has).2, hand.counted i (lets.kept i has).0);
+    sides = hand.sides;
+    lean = lets.lean hand.lean;
+  }
+
+  pub left_texts : texts_by names' faces ≡ texts_by names faces
+  left_texts = same_texts names names' faces (λ i some. (lets.kept i (live_left i some)).1)
+
+-- ---- a face is changed by what is in hand
+
+module _ (names : List NameEntry) (faces faces' : Faces) (face n : ℕ) (was is : FaceHolds) (at : ids_at face faces ≡ Some was) (put : faces' ≡ set_value (is_at (nat_cmp face)) faces is) (is_face : IsFace is) where
+  sides_put : All IsFace (values_of faces) → All IsFace (values_of faces')
+  sides_put sides = let A : Faces → Type 0 = λ (fs : Faces). All IsFace (values_of fs) in subst A (sym put) (All-values-set_value (is_at (nat_cmp face)) IsFace faces is sides is_face)
+
+  -- the hold in hand is that of an id from then on
+  pub placed : InHand names faces n → ((i : ℕ) → face_holds i is ≡ face_holds i was + hold_of i n) → IsHeld names faces'
+  placed hand more =
+      let count : (i : ℕ) → holds_by i faces' ≡ holds_by i faces + hold_of i n = λ i. omega (arith, weigh-set (face_holds i) (is_at (nat_cmp face)) faces was is at, more i, ap (holds_by i) put) in
+      record {
+        live = λ i some. hand.live i (omega (arith, some, count i));
+        counted = λ i has. hand.counted i has ∙ sym (count i);
+        sides = sides_put hand.sides;
+        lean = hand.lean;
+      }
+
+  -- what an id held comes into hand
+  pub freed : IsHeld names faces → ((i : ℕ) → face_holds i is + hold_of i n ≡ face_holds i was) → InHand names faces' n
+  freed held less =
+      let count : (i : ℕ) → holds_by i faces' + hold_of i n ≡ holds_by i faces = λ i. omega (arith, weigh-set (face_holds i) (is_at (nat_cmp face)) faces was is at, less i, ap (holds_by i) put) in
+      record {
+        live = λ i some. held.live i (omega (arith, some, count i));
+        counted = λ i has. omega (arith, held.counted i has, count i);
+        sides = sides_put held.sides;
+        lean = held.lean;
+      }
+
+-- ---- an id is taken out, on either side of a face
+
+module _ (side : Option FaceHolds → List (ℕ × ℕ)) (none : side None ≡ []) (id : ℕ) (without : FaceHolds → FaceHolds) where
+  side_freed : ((f : FaceHolds) (i n : ℕ) → of_id (side (Some f)) id ≡ Some n → face_holds i (without f) + hold_of i n ≡ face_holds i f) → ((f : FaceHolds) → IsFace f → IsFace (without f))
+      → (names : List NameEntry) (faces faces' : Faces) (face n : ℕ) → IsHeld names faces → of_id (side (ids_at face faces)) id ≡ Some n → faces' ≡ change_ids face without faces → InHand names faces' n
+  side_freed less is_face names faces faces' face n held node put =
+      let there = side_is side none id n (ids_at face faces) node in
+      freed names faces faces' face n there.0 (without there.0) there.1 (put ∙ ap (put_ids face without faces) there.1) (is_face there.0 (face_at faces face there.0 held.sides there.1)) held (λ i. less there.0 i n there.2)
+
+  side_texts : (g : FaceKeys → FaceKeys) → ((names : List NameEntry) (f : FaceHolds) → keys_of_face names (without f) ≡ g (keys_of_face names f))
+      → (names : List NameEntry) (faces faces' : Faces) (face n : ℕ) → of_id (side (ids_at face faces)) id ≡ Some n → faces' ≡ change_ids face without faces → texts_by names faces' ≡ change_naming face g (texts_by names faces)
+  side_texts g shown names faces faces' face n node put =
+      let there = side_is side none id n (ids_at face faces) node in
+      set_texts names faces faces' face there.0 (without there.0) g there.1 (put ∙ ap (put_ids face without faces) there.1) (shown names there.0)
+
+pub number_freed : (m : Mapping) (names : List NameEntry) (faces faces' : Faces) (face id n : ℕ) → IsHeld names faces → node_at m face id faces ≡ Some n → faces' ≡ change_ids face (without_number m id) faces → InHand names faces' n
+number_freed Sender names faces faces' face id n =
+    side_freed (numbers_in Sender) refl id (without_number Sender id)
+    (λ f i m is. let one = weigh-removed (hold_of i) (is_at (nat_cmp id)) f.numbers.theirs m is in omega (arith, one))
+    (λ f old. record { theirs = Rises-without_id 65536 1 id f.numbers.theirs old.theirs; ours = old.ours; queryables = old.queryables })
+    names faces faces' face n
+number_freed Receiver names faces faces' face id n =
+    side_freed (numbers_in Receiver) refl id (without_number Receiver id)
+    (λ f i m is. let one = weigh-removed (hold_of i) (is_at (nat_cmp id)) f.numbers.ours m is in omega (arith, one))
+    (λ f old. record { theirs = old.theirs; ours = Rises-without_id 65536 1 id f.numbers.ours old.ours; queryables = old.queryables })
+    names faces faces' face n
+
+pub number_freed_texts : (m : Mapping) (names : List NameEntry) (faces faces' : Faces) (face id n : ℕ) → node_at m face id faces ≡ Some n → faces' ≡ change_ids face (without_number m id) faces → texts_by names faces' ≡ change_naming face (without_sent m id) (texts_by names faces)
+number_freed_texts Sender names faces faces' face id n =
+    side_texts (numbers_in Sender) refl id (without_number Sender id) (without_sent Sender id)
+    (λ ns f. ap (with_sent Sender (keys_of_face ns f)) (shown-removed (λ (k : ℕ). (entry_at ns k).text) (is_at (nat_cmp id)) f.numbers.theirs))
+    names faces faces' face n
+number_freed_texts Receiver names faces faces' face id n =
+    side_texts (numbers_in Receiver) refl id (without_number Receiver id) (without_sent Receiver id)
+    (λ ns f. ap (with_sent Receiver (keys_of_face ns f)) (shown-removed (λ (k : ℕ). (entry_at ns k).text) (is_at (nat_cmp id)) f.numbers.ours))
+    names faces faces' face n
+
+pub queryable_freed : (names : List NameEntry) (faces faces' : Faces) (face id n : ℕ) → IsHeld names faces → queryable_at face id faces ≡ Some n → faces' ≡ change_ids face (without_hold_at id) faces → InHand names faces' n
+queryable_freed names faces faces' face id n =
+    side_freed queryables_in refl id (without_hold_at id)
+    (λ f i m is. let one = weigh-removed (hold_of i) (is_at (nat_cmp id)) f.queryables m is in omega (arith, one))
+    (λ f old. record { theirs = old.theirs; ours = old.ours; queryables = Rises-without_id 4294967296 0 id f.queryables old.queryables })
+    names faces faces' face n
+
+pub queryable_freed_texts : (names : List NameEntry) (faces faces' : Faces) (face id n : ℕ) → queryable_at face id faces ≡ Some n → faces' ≡ change_ids face (without_hold_at id) faces → texts_by names faces' ≡ change_naming face (without_queryable id) (texts_by names faces)
+queryable_freed_texts names faces faces' face id n =
+    side_texts queryables_in refl id (without_hold_at id) (without_queryable id)
+    (λ ns f. ap (λ (l : Names). record (keys_of_face ns f) { queryables = l }) (shown-removed (λ (k : ℕ). (entry_at ns k).text) (is_at (nat_cmp id)) f.queryables))
+    names faces faces' face n

@@ -1,0 +1,170 @@
+-- How the numbers and the queryables of the faces stand for nodes of the names, and hold them.
+use Rattle.std.specs.Prelude.{◌≡◌, ℕ, suc, ◌+◌, ◌<◌, ◌≤◌, ◌==◌, Bool, true, List, [], ◌∷◌, map, Option, Some, None, if◌then◌else◌, ◌⊎◌}
+use Rattle.std.specs.Option.{is_some}
+use Rattle.std.specs.List.{All, Contains}
+use Rattle.std.specs.Ordering.{nat_cmp}
+use Rattle.std.specs.Map.{lookup, set_value, values_of}
+use Rattle.std.specs.BTreeMap.{is_at}
+use Rattle.zq_key.specs.declared.message.Mapping.{Mapping}
+use Rattle.zq_key.specs.declared.message.Mapping.TheVariants.{Sender, Receiver}
+use Rattle.zq_names.specs.Names.{NameEntry, ids, entry_at}
+use Rattle.zq_names.specs.Keeping.{AllStay}
+use Rattle.zq_names.specs.Idle.{IdleAt, NoneIdle}
+use Rattle.zq_tables.specs.FaceIds.{FaceIds, of_id, side, with_id, without_id}
+use Rattle.zq_tables.specs.FaceTexts.{id_texts, texts_of}
+use Rattle.zq_tables.specs.Naming.{FaceKeys, NamingState}
+
+-- the numbers of a face and the ids of its queryables, with the nodes that they stand for
+pub record FaceHolds : Type 0 where
+  pub numbers : FaceIds
+  pub queryables : List (ℕ × ℕ)
+
+-- the open faces, each with what holds nodes there
+abbrev pub Faces : Type 0
+Faces = List (ℕ × FaceHolds)
+
+-- what stands for keys at a face, by the texts of its nodes
+abbrev pub keys_of_face : List NameEntry → FaceHolds → FaceKeys
+keys_of_face names f = record { numbers = texts_of names f.numbers; queryables = id_texts names f.queryables }
+
+-- each face with the texts of its nodes
+abbrev pub texts_by : List NameEntry → Faces → NamingState
+texts_by names faces = map (λ p. (p.0, keys_of_face names p.1)) faces
+
+-- what holds nodes at an open face
+abbrev pub ids_at : ℕ → Faces → Option FaceHolds
+ids_at face faces = lookup (is_at (nat_cmp face)) faces
+
+-- the numbers of a side of a face, none where it isn't open
+abbrev pub numbers_in : Mapping → Option FaceHolds → List (ℕ × ℕ)
+numbers_in m None = []
+numbers_in m (Some f) = side f.numbers m
+
+-- the queryables that a face declared, none where it isn't open
+abbrev pub queryables_in : Option FaceHolds → List (ℕ × ℕ)
+queryables_in None = []
+queryables_in (Some f) = f.queryables
+
+-- the node of a number of a side of a face
+abbrev pub node_at : Mapping → ℕ → ℕ → Faces → Option ℕ
+node_at m face id faces = of_id (numbers_in m (ids_at face faces)) id
+
+-- the node of a queryable that the face declared
+abbrev pub queryable_at : ℕ → ℕ → Faces → Option ℕ
+queryable_at face id faces = of_id (queryables_in (ids_at face faces)) id
+
+-- the face isn't open, or the id stands for something there
+abbrev pub is_settled : Option FaceHolds → List (ℕ × ℕ) → ℕ → Bool
+is_settled None side id = true
+is_settled (Some f) side id = is_some (of_id side id)
+
+-- the face isn't open, or its number stands for something
+abbrev pub number_settled : ℕ → ℕ → Faces → Bool
+number_settled face id faces = is_settled (ids_at face faces) (numbers_in Sender (ids_at face faces)) id
+
+-- the face isn't open, or its queryable stands for something
+abbrev pub queryable_settled : ℕ → ℕ → Faces → Bool
+queryable_settled face id faces = is_settled (ids_at face faces) (queryables_in (ids_at face faces)) id
+
+-- a number of a side is given up
+abbrev pub without_number : Mapping → ℕ → FaceHolds → FaceHolds
+without_number Sender id f = record f { numbers = record f.numbers { theirs = without_id f.numbers.theirs id } }
+without_number Receiver id f = record f { numbers = record f.numbers { ours = without_id f.numbers.ours id } }
+
+-- the face's queryable holds a node
+abbrev pub with_hold_at : ℕ → ℕ → FaceHolds → FaceHolds
+with_hold_at id node f = record f { queryables = with_id f.queryables id node }
+
+-- the face's queryable holds none
+abbrev pub without_hold_at : ℕ → FaceHolds → FaceHolds
+without_hold_at id f = record f { queryables = without_id f.queryables id }
+
+-- the change of a face that was looked up
+abbrev pub put_ids : ℕ → (FaceHolds → FaceHolds) → Faces → Option FaceHolds → Faces
+put_ids face f faces None = faces
+put_ids face f faces (Some n) = set_value (is_at (nat_cmp face)) faces (f n)
+
+-- what holds nodes at an open face is changed
+abbrev pub change_ids : ℕ → (FaceHolds → FaceHolds) → Faces → Faces
+change_ids face f faces = put_ids face f faces (ids_at face faces)
+
+-- ---- how often a node is held
+
+-- the sum of a measure of the values
+abbrev pub weigh : {X : Type 0} → (X → ℕ) → List (ℕ × X) → ℕ
+weigh f [] = 0
+weigh f (e ∷ es) = f e.1 + weigh f es
+
+-- once for a number of the node i itself
+abbrev pub hold_of : ℕ → ℕ → ℕ
+hold_of i n = if n == i then 1 else 0
+
+-- how many ids of a side stand for the node i
+abbrev pub side_holds : ℕ → List (ℕ × ℕ) → ℕ
+side_holds i es = weigh (hold_of i) es
+
+-- how many numbers and queryables of a face stand for the node i
+abbrev pub face_holds : ℕ → FaceHolds → ℕ
+face_holds i f = side_holds i f.numbers.theirs + side_holds i f.numbers.ours + side_holds i f.queryables
+
+-- how many numbers and queryables of all faces stand for the node i
+abbrev pub holds_by : ℕ → Faces → ℕ
+holds_by i faces = weigh (face_holds i) faces
+
+-- the ids rise from the first one on, and are below the limit
+abbrev pub Rises : {X : Type 0} → ℕ → ℕ → List (ℕ × X) → Type 0
+Rises limit first [] = first ≤ limit
+Rises limit first (e ∷ es) = (first ≤ e.0) × Rises limit (suc e.0) es
+
+-- no number is 0, and ids are in order
+pub record IsFace (f : FaceHolds) : Type 0 where
+  pub theirs : Rises 65536 1 f.numbers.theirs
+  pub ours : Rises 65536 1 f.numbers.ours
+  pub queryables : Rises 4294967296 0 f.queryables
+
+-- each node that is stood for is live, each node is held once for each number and queryable that stands for it, and none is there for nothing
+pub record IsHeld (names : List NameEntry) (faces : Faces) : Type 0 where
+  pub live : (i : ℕ) → 0 < holds_by i faces → Contains (ids names) i
+  pub counted : (i : ℕ) → Contains (ids names) i → (entry_at names i).holds ≡ holds_by i faces
+  pub sides : All IsFace (values_of faces)
+  pub lean : NoneIdle names
+
+-- the same, with the node n held once more
+pub record InHand (names : List NameEntry) (faces : Faces) (n : ℕ) : Type 0 where
+  pub live : (i : ℕ) → 0 < holds_by i faces + hold_of i n → Contains (ids names) i
+  pub counted : (i : ℕ) → Contains (ids names) i → (entry_at names i).holds ≡ holds_by i faces + hold_of i n
+  pub sides : All IsFace (values_of faces)
+  pub lean : NoneIdle names
+
+-- ---- a hold is taken, and let go
+
+-- the text t has a node r, which is held once more; all else is as it was, and what is new isn't held
+pub record TakesHold (old new : List NameEntry) (t : List ℕ) (r : ℕ) : Type 0 where
+  pub live : Contains (ids new) r
+  pub text : (entry_at new r).text ≡ t
+  pub kept : (i : ℕ) → Contains (ids old) i → Contains (ids new) i × ((entry_at new i).text ≡ (entry_at old i).text) × ((entry_at new i).holds ≡ (entry_at old i).holds + hold_of i r)
+  pub fresh : (i : ℕ) → Contains (ids new) i → Contains (ids old) i ⊎ ((entry_at new i).holds ≡ hold_of i r)
+  pub lean : NoneIdle old → NoneIdle new
+
+-- the node n is held once less; what is not held may go, and all else is as it was
+pub record LetsGo (old new : List NameEntry) (n : ℕ) : Type 0 where
+  pub stays : (i : ℕ) → Contains (ids old) i → hold_of i n < (entry_at old i).holds → Contains (ids new) i
+  pub kept : (i : ℕ) → Contains (ids new) i → Contains (ids old) i × ((entry_at new i).text ≡ (entry_at old i).text) × ((entry_at new i).holds + hold_of i n ≡ (entry_at old i).holds)
+  pub lean : NoneIdle old → NoneIdle new
+
+-- the text t was made, and its node r stands under the number; what is new of the names isn't held
+pub record Numbers (names names' : List NameEntry) (old new : FaceIds) (id : ℕ) (t : List ℕ) (r : ℕ) : Type 0 where
+  pub live : Contains (ids names') r
+  pub text : (entry_at names' r).text ≡ t
+  pub kept : AllStay names names'
+  pub fresh : (i : ℕ) → Contains (ids names') i → Contains (ids names) i ⊎ ((entry_at names' i).holds ≡ 0)
+  pub lean : NoneIdle names → IdleAt names' r
+  pub mapped : new ≡ record old { theirs = with_id old.theirs id r }
+
+-- the same at an open face
+pub record Declares (names names' : List NameEntry) (old new : Faces) (face id : ℕ) (t : List ℕ) (r : ℕ) : Type 0 where
+  pub was : FaceHolds
+  pub is : FaceIds
+  pub at : ids_at face old ≡ Some was
+  pub numbers : Numbers names names' was.numbers is id t r
+  pub put : new ≡ set_value (is_at (nat_cmp face)) old (record was { numbers = is })

@@ -1,0 +1,169 @@
+-- What stands for keys at each open face, by number or by a queryable's id, and what expressions say by it.
+use Rattle.std.specs.Prelude.{ℕ, ◌==◌, Bool, false, not, ◌||◌, is_some, List, [], ◌∷◌, ◌++◌, Option, Some, None, if◌then◌else◌, unwrap_or}
+use Rattle.std.specs.Str.{bytes_eq}
+use Rattle.std.specs.Ordering.{nat_cmp}
+use Rattle.std.specs.Map.{lookup, remove_entry, set_value}
+use Rattle.std.specs.BTreeMap.{is_at, insert_entry}
+use Rattle.zq_key.specs.Key.{is_key}
+use Rattle.zq_key.specs.declared.message.Mapping.{Mapping}
+use Rattle.zq_key.specs.declared.message.Mapping.TheVariants as mapping
+use Rattle.zq_key.specs.declared.message.WireExpr.{WireExpr}
+use Rattle.zq_names.specs.declared.refusal.NameRefusal.{NameRefusal}
+use Rattle.zq_names.specs.declared.refusal.NameRefusal.TheVariants as refusal
+use Rattle.zq_tables.specs.FaceTexts.{FaceTexts, whole, best_key}
+use Rattle.zq_tables.specs.declared.said.Said.{Said}
+use Rattle.zq_tables.specs.declared.said.Said.TheVariants as said
+
+-- numbers with the texts that they stand for, by number
+abbrev pub Names : Type 0
+Names = List (ℕ × List ℕ)
+
+-- the numbers that a face declared, and those that the gateway declared to it
+abbrev pub FaceNaming : Type 0
+FaceNaming = FaceTexts
+
+-- what stands for keys at a face: its numbers, and the ids of its queryables
+pub record FaceKeys : Type 0 where
+  pub numbers : FaceNaming
+  pub queryables : Names
+
+-- the open faces, each with what stands for keys there, by face number
+abbrev pub NamingState : Type 0
+NamingState = List (ℕ × FaceKeys)
+
+-- no number is declared on either side
+abbrev pub no_names : FaceNaming
+no_names = record { theirs = []; ours = [] }
+
+-- nothing stands for a key
+abbrev pub no_keys : FaceKeys
+no_keys = record { numbers = no_names; queryables = [] }
+
+-- what stands for keys at a face, if it is open
+abbrev pub naming_at : ℕ → NamingState → Option FaceKeys
+naming_at face s = lookup (is_at (nat_cmp face)) s
+
+-- what stands for keys at a face, nothing where it isn't open
+abbrev pub face_keys : ℕ → NamingState → FaceKeys
+face_keys face s = unwrap_or (naming_at face s) no_keys
+
+-- the numbers of a face
+abbrev pub face_naming : ℕ → NamingState → FaceNaming
+face_naming face s = (face_keys face s).numbers
+
+-- the ids of a face's queryables, with their keys
+abbrev pub face_queryables : ℕ → NamingState → Names
+face_queryables face s = (face_keys face s).queryables
+
+-- the text of a number
+abbrev pub text_at : ℕ → Names → Option (List ℕ)
+text_at id names = lookup (is_at (nat_cmp id)) names
+
+-- in what a face sends, Sender reads its own numbers and Receiver the gateway's
+abbrev pub sent_side : FaceNaming → Mapping → Names
+sent_side n mapping.Sender = n.theirs
+sent_side n mapping.Receiver = n.ours
+
+-- in what a face is handed it is the other way round
+abbrev pub handed_side : FaceNaming → Mapping → Names
+handed_side n mapping.Sender = n.ours
+handed_side n mapping.Receiver = n.theirs
+
+-- what a suffix says under a scope, by the scope's text
+abbrev pub said_under : Option (List ℕ) → List ℕ → Said
+said_under None suffix = said.Unscoped
+said_under (Some text) suffix = said.Full (text ++ suffix)
+
+-- what a suffix says under scope 0
+abbrev pub said_plainly : List ℕ → Said
+said_plainly [] = said.Empty
+said_plainly (b ∷ suffix) = said.Full (b ∷ suffix)
+
+-- what an expression says, by the numbers of each side
+abbrev pub said_by : (Mapping → Names) → WireExpr → Said
+said_by side w =
+    if w.scope == 0 then said_plainly w.suffix
+    else said_under (text_at w.scope (side w.mapping)) w.suffix
+
+-- what an expression says that the face sends
+abbrev pub said_of : FaceNaming → WireExpr → Said
+said_of n w = said_by (sent_side n) w
+
+-- what an expression says to the face that it is handed to
+abbrev pub read_by : FaceNaming → WireExpr → Said
+read_by n w = said_by (handed_side n) w
+
+-- with other numbers of the face's own
+abbrev pub with_theirs : FaceKeys → Names → FaceKeys
+with_theirs n names = record n { numbers = record n.numbers { theirs = names } }
+
+-- the face declares a number
+abbrev pub with_name : ℕ → List ℕ → FaceKeys → FaceKeys
+with_name id text n = with_theirs n (insert_entry nat_cmp n.numbers.theirs id text)
+
+-- the face gives a number up
+abbrev pub without_name : ℕ → FaceKeys → FaceKeys
+without_name id n = with_theirs n (remove_entry (is_at (nat_cmp id)) n.numbers.theirs)
+
+-- with other numbers on the side that a mapping names in what the face sends
+abbrev pub with_sent : Mapping → FaceKeys → Names → FaceKeys
+with_sent mapping.Sender n names = with_theirs n names
+with_sent mapping.Receiver n names = record n { numbers = record n.numbers { ours = names } }
+
+-- a number of that side is given up
+abbrev pub without_sent : Mapping → ℕ → FaceKeys → FaceKeys
+without_sent m id n = with_sent m n (remove_entry (is_at (nat_cmp id)) (sent_side n.numbers m))
+
+-- all numbers of that side are given up
+abbrev pub without_all_sent : Mapping → FaceKeys → FaceKeys
+without_all_sent m n = with_sent m n []
+
+-- no numbers of either side
+abbrev pub without_numbers : FaceKeys → FaceKeys
+without_numbers n = record n { numbers = no_names }
+
+-- the face withdraws its queryables
+abbrev pub without_queryables : FaceKeys → FaceKeys
+without_queryables n = record n { queryables = [] }
+
+-- the id stands for the text, if it stood for none
+abbrev pub first_stays : ℕ → List ℕ → Names → Names
+first_stays id text names = if is_some (text_at id names) then names else insert_entry nat_cmp names id text
+
+-- the face declares a queryable; one of that id keeps its key
+abbrev pub with_queryable : ℕ → List ℕ → FaceKeys → FaceKeys
+with_queryable id text n = record n { queryables = first_stays id text n.queryables }
+
+-- the face withdraws a queryable
+abbrev pub without_queryable : ℕ → FaceKeys → FaceKeys
+without_queryable id n = record n { queryables = remove_entry (is_at (nat_cmp id)) n.queryables }
+
+-- what stands for keys at a face is changed, where the face is open
+abbrev pub put_naming : ℕ → (FaceKeys → FaceKeys) → NamingState → Option FaceKeys → NamingState
+put_naming face f s None = s
+put_naming face f s (Some n) = set_value (is_at (nat_cmp face)) s (f n)
+
+-- what stands for keys at an open face is changed
+abbrev pub change_naming : ℕ → (FaceKeys → FaceKeys) → NamingState → NamingState
+change_naming face f s = put_naming face f s (naming_at face s)
+
+-- another text stands there
+abbrev pub is_other : List ℕ → Option (List ℕ) → Bool
+is_other text None = false
+is_other text (Some t) = not (bytes_eq t text)
+
+-- the number 0, and one that stands for another text, can't be declared
+abbrev pub remaps : ℕ → List ℕ → Option (List ℕ) → Bool
+remaps id text standing = (id == 0) || is_other text standing
+
+-- why a number can't be declared for a text, if it can't
+abbrev pub declare_refusal : ℕ → List ℕ → FaceNaming → Option NameRefusal
+declare_refusal id text n = if is_key text then (if remaps id text (text_at id n.theirs) then Some refusal.Remapped else None) else Some refusal.InvalidKeyExpr
+
+-- a text under no number
+abbrev pub plain : List ℕ → WireExpr
+plain text = whole text
+
+-- the text as it is handed to the face: by the longest numbered part of whole chunks, else whole
+abbrev pub best : FaceNaming → List ℕ → WireExpr
+best n text = best_key n text

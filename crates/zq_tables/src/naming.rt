@@ -1,0 +1,293 @@
+//! The numbers and the queryables of every open face.
+ghost use Rattle.std.specs.Prelude.{◌≡◌, ◌<◌, [], None, IfErr, IfOk, IfNone, IfSome, OnOk, OnErr, true, is_none, is_some, option_copied, length, slice_get};
+ghost use Rattle.std.specs.Ordering.{nat_cmp};
+ghost use Rattle.std.specs.Map.{keys_of, remove_entry};
+ghost use Rattle.std.specs.BTreeMap.{is_at, insert_entry};
+ghost use Rattle.zq_key.specs.Key.{is_key as key_of};
+ghost use Rattle.zq_tables.specs.FaceTexts.{IsReason};
+ghost use Rattle.zq_tables.specs.Naming.{best, change_naming, declare_refusal, face_naming, face_queryables, no_keys, read_by, said_of, sent_side, text_at, with_name, with_queryable, without_all_sent, without_name, without_queryable, without_queryables, without_sent};
+
+use crate::face_nodes::FaceNodes;
+use crate::hold::{let_go, take_hold};
+use crate::number::{
+    Faces, declare_at, first_number, is_settled, node_at, plain, remaps, said_plainly, said_under,
+    undeclare_at,
+};
+use crate::queryable;
+use crate::queryable::{first_queryable, put_queryable, queryable_at, take_queryable};
+use crate::said::Said;
+use std::alloc::Global;
+use std::collections::BTreeMap;
+use std::marker::Model;
+use zq_key::memory::OutOfMemory;
+use zq_key::message::{FaceId, Mapping, WireExpr};
+use zq_key::{Key, is_key};
+use zq_names::{NameRefusal, Names};
+
+/// The numbers and the queryables of every open face, which hold the nodes that they stand for. A
+/// node goes with its last hold.
+#[derive(Drop)]
+pub struct Naming {
+    names: Names,
+    faces: Faces,
+    alloc: Global,
+}
+
+impl Model for Naming {
+    ghost use Rattle.zq_tables.specs.Naming.{NamingState};
+    ghost use Rattle.zq_tables.specs.Holding.{IsHeld, texts_by};
+
+    ghost Value = { NamingState };
+
+    ghost view = { λ s. texts_by s.names s.faces.entries };
+
+    ghost invariant = { λ s. IsHeld s.names s.faces.entries };
+}
+
+impl Naming {
+    /// No face is open.
+    pub fn new(alloc: Global) -> Result<Naming, OutOfMemory>
+        ensures { IfOk result (λ n. n ≡ []) }
+    {
+        Ok(Naming {
+            names: Names::new(alloc)?,
+            faces: BTreeMap::new(alloc),
+            alloc,
+        })
+    }
+
+    /// A face is opened, with no numbers and no queryables.
+    pub fn open(&mut self, face: FaceId) -> Result<(), OutOfMemory>
+        ensures ok { OnOk result (self.new ≡ insert_entry nat_cmp self.old face.0 no_keys) }
+        ensures err { OnErr result (self.new ≡ self.old) }
+    {
+        // the faces stand in order, so that a face that is open stays at its place
+        let _open = self.faces.len();
+        if self.faces.contains_key(&face.0) {
+            self.give_up(face);
+            return Ok(());
+        }
+        match self.faces.insert(face.0, FaceNodes::new(self.alloc)) {
+            Ok(_) => Ok(()),
+            Err(_) => Err(OutOfMemory),
+        }
+    }
+
+    /// A face is closed, and gives up its numbers and its queryables. It takes no memory.
+    pub fn close(&mut self, face: FaceId)
+        ensures { self.new ≡ remove_entry (is_at (nat_cmp face.0)) self.old }
+    {
+        self.give_up(face);
+        let _ = self.faces.remove(&face.0);
+    }
+
+    // The least number of a side of the face.
+    fn first_number(&self, face: FaceId, side: Mapping) -> Option<u16>
+        ensures first { result ≡ slice_get (keys_of (sent_side (face_naming face.0 self.now) side)) 0 }
+        ensures none { IfNone result (sent_side (face_naming face.0 self.now) side ≡ []) }
+    {
+        first_number(&self.faces, face.0, side)
+    }
+
+    // All numbers of a side of the face are given up.
+    fn give_up_numbers(&mut self, face: FaceId, side: Mapping)
+        ensures { self.new ≡ change_naming face.0 (without_all_sent side) self.old }
+    {
+        while let Some(id) = self.first_number(face, side) {
+            self.give_up_number(face, side, id);
+        }
+    }
+
+    // A number of a side of the face is given up, and its node goes with its last hold.
+    fn give_up_number(&mut self, face: FaceId, side: Mapping, id: u16)
+        ensures { self.new ≡ change_naming face.0 (without_sent side id) self.old }
+    {
+        let Some(node) = node_at(&self.faces, face.0, side, id) else {
+            return;
+        };
+        undeclare_at(&mut self.names, &mut self.faces, face.0, side, id);
+        let_go(&mut self.names, node);
+    }
+
+    // The least id of a queryable of the face.
+    fn first_queryable(&self, face: FaceId) -> Option<u32>
+        ensures first { result ≡ slice_get (keys_of (face_queryables face.0 self.now)) 0 }
+        ensures none { IfNone result (face_queryables face.0 self.now ≡ []) }
+    {
+        first_queryable(&self.faces, face.0)
+    }
+
+    // The face withdraws all its queryables.
+    fn give_up_queryables(&mut self, face: FaceId)
+        ensures { self.new ≡ change_naming face.0 without_queryables self.old }
+    {
+        while let Some(id) = self.first_queryable(face) {
+            self.release_queryable(face, id);
+        }
+    }
+
+    // The face gives up all that stands for keys there.
+    fn give_up(&mut self, face: FaceId)
+        ensures { self.new ≡ change_naming face.0 (λ _. no_keys) self.old }
+    {
+        self.give_up_numbers(face, Mapping::Sender);
+        self.give_up_numbers(face, Mapping::Receiver);
+        self.give_up_queryables(face);
+    }
+
+    /// What an expression says that the face sends.
+    pub fn said(&self, face: FaceId, wire: &WireExpr) -> Result<Said, OutOfMemory>
+        ensures { IfOk result (λ s. s ≡ said_of (face_naming face.0 self.now) wire.now) }
+    {
+        if wire.scope == 0 {
+            return said_plainly(self.alloc, wire.suffix.as_str());
+        }
+        match self.faces.get(&face.0) {
+            Some(nodes) => said_under(self.alloc, &self.names, nodes.numbers(), wire),
+            None => Ok(Said::Unscoped),
+        }
+    }
+
+    fn best_of(&self, face: FaceId, text: &str) -> Result<WireExpr, OutOfMemory>
+        ensures { IfOk result (λ w. w ≡ best (face_naming face.0 self.now) text.now) }
+    {
+        match self.faces.get(&face.0) {
+            Some(nodes) => {
+                let numbers = nodes.numbers();
+                if numbers.is_empty() {
+                    return plain(self.alloc, text);
+                }
+                let root = self.names.root();
+                numbers.get_best_key(self.alloc, &self.names, root, text)
+            }
+            None => plain(self.alloc, text),
+        }
+    }
+
+    /// The text as it is handed to the face (upstream's `get_best_key`): by the number of the
+    /// longest part of whole chunks that has one, a number of the face before one of the gateway
+    /// and the least of several, else whole.
+    #[tactic(auto, using(crate::proofs::Reading::answer_reads))]
+    pub fn best(&self, face: FaceId, text: &str) -> Result<WireExpr, OutOfMemory>
+        ensures key { IfOk result (λ w. w ≡ best (face_naming face.0 self.now) text.now) }
+        ensures reads { 0 < length text.now → IfOk result (λ w. read_by (face_naming face.0 self.now) w ≡ Said.Full text.now) }
+    {
+        self.best_of(face, text)
+    }
+
+    /// What a number of the face stands for.
+    pub fn standing(&self, face: FaceId, id: u16) -> Option<&str>
+        ensures { option_copied result ≡ text_at id (face_naming face.0 self.now).theirs }
+    {
+        match node_at(&self.faces, face.0, Mapping::Sender, id) {
+            Some(node) => Some(self.names.expr(node)),
+            None => None,
+        }
+    }
+
+    // A number that is none or that stands for the key stands for it from then on.
+    fn put_number(&mut self, face: FaceId, id: u16, text: &str) -> Result<(), OutOfMemory>
+        requires key { key_of text.now ≡ true }
+        requires number { 0 < id }
+        requires free { IfSome (text_at id (face_naming face.0 self.old).theirs) (λ t. t ≡ text.now) }
+        ensures ok { OnOk result (self.new ≡ change_naming face.0 (with_name id text.now) self.old) }
+        ensures err { OnErr result (self.new ≡ self.old) }
+    {
+        // so many faces at most bound how often a node is held
+        let _open = self.faces.len();
+        if is_settled(&self.faces, face.0, id) {
+            return Ok(());
+        }
+        let wire = plain(self.alloc, text)?;
+        let node = declare_at(
+            self.alloc,
+            &mut self.names,
+            &mut self.faces,
+            face.0,
+            id,
+            &wire,
+        )?;
+        self.names.hold(node);
+        Ok(())
+    }
+
+    /// The face declares a number for a text, which it stands for from then on. Refused where the
+    /// text is no key, and where the number is 0 or stands for another text. A face that is not
+    /// open declares none.
+    pub fn declare(&mut self, face: FaceId, id: u16, text: &str) -> Result<(), NameRefusal>
+        ensures accepted { OnOk result (declare_refusal id text.now (face_naming face.0 self.old) ≡ None) }
+        ensures reason { IfErr result (IsReason (declare_refusal id text.now (face_naming face.0 self.old))) }
+        ensures ok { OnOk result (self.new ≡ change_naming face.0 (with_name id text.now) self.old) }
+        ensures err { OnErr result (self.new ≡ self.old) }
+    {
+        if !is_key(text) {
+            return Err(NameRefusal::InvalidKeyExpr);
+        }
+        if remaps(id, text, self.standing(face, id)) {
+            return Err(NameRefusal::Remapped);
+        }
+        match self.put_number(face, id, text) {
+            Ok(()) => Ok(()),
+            Err(_) => Err(NameRefusal::OutOfMemory),
+        }
+    }
+
+    /// The face gives a number up, and its node goes with its last hold. It takes no memory. A face
+    /// that is not open has none.
+    pub fn undeclare(&mut self, face: FaceId, id: u16)
+        ensures { self.new ≡ change_naming face.0 (without_name id) self.old }
+    {
+        self.give_up_number(face, Mapping::Sender, id);
+    }
+
+    /// The gateway gives up a number that it declared to the face, and its node goes with its last
+    /// hold. It takes no memory. A face that is not open has none.
+    pub fn take_back(&mut self, face: FaceId, id: u16)
+        ensures { self.new ≡ change_naming face.0 (without_sent Mapping.Receiver id) self.old }
+    {
+        self.give_up_number(face, Mapping::Receiver, id);
+    }
+
+    /// Whether a queryable of the face holds the node of its key.
+    pub fn holds_queryable(&self, face: FaceId, id: u32) -> bool
+        ensures { result ≡ is_some (text_at id (face_queryables face.0 self.now)) }
+    {
+        queryable_at(&self.faces, face.0, id).is_some()
+    }
+
+    /// The face declares a queryable, which holds the node of its key from then on; one of that id
+    /// keeps the key that it has. Answers whether none of that id held a node before. A face that
+    /// is not open declares none.
+    pub fn hold_queryable(&mut self, face: FaceId, id: u32, key: &Key) -> Result<bool, OutOfMemory>
+        ensures fresh { IfOk result (λ b. b ≡ is_none (text_at id (face_queryables face.0 self.old))) }
+        ensures ok { OnOk result (self.new ≡ change_naming face.0 (with_queryable id key.now) self.old) }
+        ensures err { OnErr result (self.new ≡ self.old) }
+    {
+        // so many faces at most bound how often a node is held
+        let _open = self.faces.len();
+        let fresh = !self.holds_queryable(face, id);
+        if queryable::is_settled(&self.faces, face.0, id) {
+            return Ok(fresh);
+        }
+        let node = take_hold(&mut self.names, key)?;
+        match put_queryable(&mut self.faces, face.0, id, node) {
+            Ok(()) => Ok(fresh),
+            Err(refusal) => {
+                let_go(&mut self.names, node);
+                Err(refusal)
+            }
+        }
+    }
+
+    /// The face withdraws a queryable, and its node goes with its last hold. It takes no memory. A
+    /// face that is not open has none.
+    pub fn release_queryable(&mut self, face: FaceId, id: u32)
+        ensures { self.new ≡ change_naming face.0 (without_queryable id) self.old }
+    {
+        let Some(node) = queryable_at(&self.faces, face.0, id) else {
+            return;
+        };
+        take_queryable(&mut self.faces, face.0, id);
+        let_go(&mut self.names, node);
+    }
+}
