@@ -1,5 +1,5 @@
-pub mod Entries
-pub mod Below
 pub mod Lent
 pub mod Valid
 pub mod Queryables
+pub mod Seats
+pub mod Reached

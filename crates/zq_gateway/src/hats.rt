@@ -1,11 +1,14 @@
 //! The hats of the regions.
+#![tactic(auto, using(crate::proofs::Seats::seated_region))]
+
 ghost use Rattle.std.specs.Prelude.{◌≡◌, true, false, Some, None, IfOk, OnOk, OnErr, IsErrOf, ◌↔◌, option_copied, is_none};
 ghost use Rattle.std.specs.Option.{is_some, option_map_or};
-ghost use Rattle.zq_hat.specs.Kept.{clashes_at, declaration_at, is_full, registered, unregistered, without_face};
+ghost use Rattle.zq_hat.specs.Kept.{declaration_at, has_face, is_full, registered, unregistered, without_face};
 ghost use Rattle.zq_hat.specs.Marks.{finalized};
 ghost use Rattle.zq_regions.specs.RegionMap.{with_entry};
 ghost use Rattle.zq_machine.specs.Configs.{region_of};
 ghost use Rattle.zq_machine.specs.State.{first_hats, with_hat, change_hat, clashes_in, has_declared_in, hat_at, is_region, joined};
+ghost use Rattle.zq_gateway.specs.Seats.{seats};
 
 use std::alloc::Global;
 use zq_hat::hat::Hat;
@@ -48,48 +51,26 @@ pub fn is_full(hats: &RegionMap<Hat>, region: Region) -> bool
     }
 }
 
-/// A face joins its region's hat.
+/// A face joins its region's hat, which lacks it.
 pub fn join(hats: &mut RegionMap<Hat>, region: Region, face: FaceRecord) -> Result<(), OutOfMemory>
+    requires { seats region face.face.0 hats.old ≡ Some false }
     ensures ok { OnOk result (hats.new ≡ change_hat region (joined face) hats.old) }
     ensures err { OnErr result (hats.new ≡ hats.old) }
 {
-    if !is_region(region) {
-        return Ok(());
-    }
     match hats.get_mut(&region) {
-        Some(hat) => join_hat(hat, face),
-        None => Ok(()),
+        Some(hat) => hat.new_face(face),
+        None => unreachable!(),
     }
-}
-
-fn join_hat(hat: &mut Hat, face: FaceRecord) -> Result<(), OutOfMemory>
-    ensures ok { OnOk result (hat.new ≡ joined face hat.old) }
-    ensures err { OnErr result (hat.new ≡ hat.old) }
-{
-    if hat.has_face(face.face) {
-        return Ok(());
-    }
-    hat.new_face(face)
 }
 
 /// A face leaves its region's hat. It takes no memory.
 pub fn leave(hats: &mut RegionMap<Hat>, region: Region, face: FaceId)
+    requires { seats region face.0 hats.old ≡ Some true }
     ensures { hats.new ≡ change_hat region (without_face face.0) hats.old }
 {
-    if !is_region(region) {
-        return;
-    }
     match hats.get_mut(&region) {
-        Some(hat) => leave_hat(hat, face),
-        None => {}
-    }
-}
-
-fn leave_hat(hat: &mut Hat, face: FaceId)
-    ensures { hat.new ≡ without_face face.0 hat.old }
-{
-    if hat.has_face(face) {
-        hat.forget_face(face);
+        Some(hat) => hat.forget_face(face),
+        None => unreachable!(),
     }
 }
 
@@ -103,37 +84,16 @@ pub fn register(
     node: u16,
     info: QueryableInfoType,
 ) -> Result<(), HatRefusal>
+    requires { seats region face.0 hats.old ≡ Some true }
     ensures in_use { IsErrOf result HatRefusal.IdInUse ↔ (clashes_in face.0 id key.now (hat_at region hats.old) ≡ true) }
     ensures known { IsErrOf result HatRefusal.UnknownId → ⊥ }
     ensures ok { OnOk result (hats.new ≡ change_hat region (registered face.0 id key.now info) hats.old) }
     ensures err { OnErr result (hats.new ≡ hats.old) }
 {
-    if !is_region(region) {
-        return Ok(());
-    }
     match hats.get_mut(&region) {
-        Some(hat) => register_in(hat, face, id, key, node, info),
-        None => Ok(()),
+        Some(hat) => hat.register_queryable(face, id, key, node, info),
+        None => unreachable!(),
     }
-}
-
-fn register_in(
-    hat: &mut Hat,
-    face: FaceId,
-    id: u32,
-    key: &Key,
-    node: u16,
-    info: QueryableInfoType,
-) -> Result<(), HatRefusal>
-    ensures in_use { IsErrOf result HatRefusal.IdInUse ↔ (clashes_at face.0 id key.now hat.old ≡ true) }
-    ensures known { IsErrOf result HatRefusal.UnknownId → ⊥ }
-    ensures ok { OnOk result (hat.new ≡ registered face.0 id key.now info hat.old) }
-    ensures err { OnErr result (hat.new ≡ hat.old) }
-{
-    if !hat.has_face(face) {
-        return Ok(());
-    }
-    hat.register_queryable(face, id, key, node, info)
 }
 
 /// A face withdraws a queryable. Refused where the id isn't declared.
@@ -144,29 +104,26 @@ pub fn withdraw(
     id: u32,
     node: u16,
 ) -> Result<(), HatRefusal>
+    requires { seats region face.0 hats.old ≡ Some true }
     ensures unknown { IsErrOf result HatRefusal.UnknownId ↔ (has_declared_in face.0 id (hat_at region hats.old) ≡ false) }
     ensures own { IsErrOf result HatRefusal.IdInUse → ⊥ }
     ensures ok { OnOk result (hats.new ≡ change_hat region (unregistered face.0 id) hats.old) }
     ensures err { OnErr result (hats.new ≡ hats.old) }
 {
-    if !is_region(region) {
-        return Err(HatRefusal::UnknownId);
-    }
     match hats.get_mut(&region) {
         Some(hat) => withdraw_in(hat, face, id, node),
-        None => Err(HatRefusal::UnknownId),
+        None => unreachable!(),
     }
 }
 
+// The same in the hat. What became of the key is not asked.
 fn withdraw_in(hat: &mut Hat, face: FaceId, id: u32, node: u16) -> Result<(), HatRefusal>
+    requires { has_face face.0 hat.old ≡ true }
     ensures unknown { IsErrOf result HatRefusal.UnknownId ↔ (is_some (declaration_at face.0 id hat.old) ≡ false) }
     ensures own { IsErrOf result HatRefusal.IdInUse → ⊥ }
     ensures ok { OnOk result (hat.new ≡ unregistered face.0 id hat.old) }
     ensures err { OnErr result (hat.new ≡ hat.old) }
 {
-    if !hat.has_face(face) {
-        return Err(HatRefusal::UnknownId);
-    }
     match hat.unregister_queryable(face, id, None, node) {
         Ok(_) => Ok(()),
         Err(refusal) => Err(refusal),
@@ -181,26 +138,14 @@ pub fn mark(
     mark: &FinalMark,
     set: bool,
 ) -> Result<(), OutOfMemory>
+    requires { seats region face.0 hats.old ≡ Some true }
     ensures ok { OnOk result (hats.new ≡ change_hat region (finalized face.0 mark.now set) hats.old) }
     ensures err { OnErr result (hats.new ≡ hats.old) }
 {
-    if !is_region(region) {
-        return Ok(());
-    }
     match hats.get_mut(&region) {
-        Some(hat) => mark_in(hat, face, mark, set),
-        None => Ok(()),
+        Some(hat) => hat.finalize_local_interest(face, mark, set),
+        None => unreachable!(),
     }
-}
-
-fn mark_in(hat: &mut Hat, face: FaceId, mark: &FinalMark, set: bool) -> Result<(), OutOfMemory>
-    ensures ok { OnOk result (hat.new ≡ finalized face.0 mark.now set hat.old) }
-    ensures err { OnErr result (hat.new ≡ hat.old) }
-{
-    if !hat.has_face(face) {
-        return Ok(());
-    }
-    hat.finalize_local_interest(face, mark, set)
 }
 
 /// The gateways of a region are put in place.

@@ -1,14 +1,15 @@
 //! Faces that come and go.
-ghost use Rattle.std.specs.Prelude.{◌≡◌, None, IfOk, OnOk, OnErr};
+ghost use Rattle.std.specs.Prelude.{◌≡◌, None, Some, false, OnOk, OnErr};
 ghost use Rattle.std.specs.BTreeMap.{insert_entry};
 ghost use Rattle.std.specs.Ordering.{nat_cmp};
 ghost use Rattle.zq_machine.specs.Deciding.{opened, seat};
-ghost use Rattle.zq_machine.specs.Machine.{after, answer, settle, step};
 ghost use Rattle.zq_machine.specs.State.{at, change_hat, joined};
 ghost use Rattle.zq_machine.specs.TextCalls.{closing, opening};
 ghost use Rattle.zq_tables.specs.Naming.{no_keys};
+ghost use Rattle.zq_gateway.specs.Making.{IsReached, Settles};
+ghost use Rattle.zq_gateway.specs.Seats.{seats};
 
-use crate::gateway::Gateway;
+use crate::gateway::tables::Tables;
 use crate::handed::written_finals;
 use crate::hats;
 use std::collections::BTreeMap;
@@ -33,6 +34,7 @@ fn take_seat(
 ) -> Result<(), OutOfMemory>
     requires named { at face.0 names.old ≡ None }
     requires absent { at face.0 faces.old.entries ≡ None }
+    requires vacant { seats opening.now.region face.0 hats.old ≡ Some false }
     ensures names { OnOk result (names.new ≡ insert_entry nat_cmp names.old face.0 no_keys) }
     ensures faces { OnOk result (faces.new.entries ≡ insert_entry nat_cmp faces.old.entries face.0 (opened opening.now)) }
     ensures hats { OnOk result (hats.new ≡ change_hat opening.now.region (joined (seat face.0 opening.now)) hats.old) }
@@ -70,12 +72,11 @@ fn take_seat(
     }
 }
 
-impl Gateway {
+impl Tables {
     // A face is opened.
     pub(super) fn open(&mut self, asked: &Opening) -> Result<Step, OutOfMemory>
-        ensures step { IfOk result (λ t. t ≡ answer self.old (opening asked.now)) }
-        ensures after { OnOk result (self.new ≡ settle self.old (opening asked.now)) }
-        ensures err { OnErr result (self.new ≡ self.old) }
+        requires { IsReached self.old }
+        ensures { Settles self.old self.new (opening asked.now) result }
     {
         if hats::hat_at(&self.hats, asked.region).is_none() {
             return Ok(self.refused(Refusal::UnknownRegion));
@@ -104,9 +105,8 @@ impl Gateway {
     // A face is closed: its entries are let go, and it gives up its numbers.
     #[tactic(auto, using(zq_machine::proofs::Writing::closed_step, zq_machine::proofs::Writing::closed_after))]
     pub(super) fn close(&mut self, face: FaceId) -> Result<Step, OutOfMemory>
-        ensures step { IfOk result (λ t. t ≡ answer self.old (closing face)) }
-        ensures after { OnOk result (self.new ≡ settle self.old (closing face)) }
-        ensures err { OnErr result (self.new ≡ self.old) }
+        requires { IsReached self.old }
+        ensures { Settles self.old self.new (closing face) result }
     {
         let Some(region) = self.region_of(face) else {
             return Ok(self.refused(Refusal::UnknownFace));

@@ -1,23 +1,20 @@
 //! Numbers that faces declare for keys.
-ghost use Rattle.std.specs.Prelude.{◌≡◌, IfOk, OnOk, OnErr};
 ghost use Rattle.zq_machine.specs.declared.call.Call.TheVariants as call;
-ghost use Rattle.zq_machine.specs.Machine.{after, answer, settle, step};
 ghost use Rattle.zq_tables.specs.Naming.{face_naming, text_at};
 ghost use Rattle.zq_machine.specs.TextCalls.{naming, unnaming};
+ghost use Rattle.zq_gateway.specs.Making.{Makes, Settles};
 
-use crate::gateway::Gateway;
+use crate::gateway::tables::Tables;
 use zq_key::memory::OutOfMemory;
 use zq_key::message::{FaceId, WireExpr};
 use zq_machine::call::{Refusal, Step};
-use zq_tables::NameRefusal;
 use zq_tables::said::Said;
+use zq_tables::NameRefusal;
 
-impl Gateway {
+impl Tables {
     // The face declares a number for a text.
     fn declare_key(&mut self, face: FaceId, id: u16, said: &Said) -> Result<Step, OutOfMemory>
-        ensures step { IfOk result (λ t. t ≡ answer self.old (naming face id said.now (text_at id (face_naming face.0 self.old.names).theirs))) }
-        ensures after { OnOk result (self.new ≡ settle self.old (naming face id said.now (text_at id (face_naming face.0 self.old.names).theirs))) }
-        ensures err { OnErr result (self.new ≡ self.old) }
+        ensures { Settles self.old self.new (naming face id said.now (text_at id (face_naming face.0 self.old.names).theirs)) result }
     {
         if !self.is_open(face) {
             return Ok(self.refused(Refusal::UnknownFace));
@@ -39,9 +36,7 @@ impl Gateway {
 
     // The face gives a number up.
     pub(super) fn undeclare_key(&mut self, face: FaceId, id: u16) -> Result<Step, OutOfMemory>
-        ensures step { IfOk result (λ t. t ≡ answer self.old (unnaming face id (text_at id (face_naming face.0 self.old.names).theirs))) }
-        ensures after { OnOk result (self.new ≡ settle self.old (unnaming face id (text_at id (face_naming face.0 self.old.names).theirs))) }
-        ensures err { OnErr result (self.new ≡ self.old) }
+        ensures { Settles self.old self.new (unnaming face id (text_at id (face_naming face.0 self.old.names).theirs)) result }
     {
         if !self.is_open(face) {
             return Ok(self.refused(Refusal::UnknownFace));
@@ -60,9 +55,7 @@ impl Gateway {
         id: u16,
         wire: &WireExpr,
     ) -> Result<Step, OutOfMemory>
-        ensures step { IfOk result (λ t. t ≡ step self.old (call.DeclareKeyExpr face id wire.now)) }
-        ensures after { OnOk result (self.new ≡ after self.old (call.DeclareKeyExpr face id wire.now)) }
-        ensures err { OnErr result (self.new ≡ self.old) }
+        ensures { Makes self.old self.new (call.DeclareKeyExpr face id wire.now) result }
     {
         let said = self.names.said(face, wire)?;
         self.declare_key(face, id, &said)

@@ -1,11 +1,11 @@
 //! Queryables that faces declare and withdraw, and marks of what they have declared.
-ghost use Rattle.std.specs.Prelude.{◌≡◌, IfOk, OnOk, OnErr};
+ghost use Rattle.std.specs.Prelude.{◌≡◌};
 ghost use Rattle.zq_machine.specs.declared.call.Call.TheVariants as call;
-ghost use Rattle.zq_machine.specs.Machine.{after, answer, settle, step};
 ghost use Rattle.zq_machine.specs.TextCalls.{declaring, finalizing, withdrawing};
+ghost use Rattle.zq_gateway.specs.Making.{IsReached, Makes, Settles};
 ghost use Rattle.zq_gateway.specs.Undoing.{taken_back};
 
-use crate::gateway::Gateway;
+use crate::gateway::tables::Tables;
 use crate::hats;
 use crate::read::marks_key;
 use zq_hat::types::{FinalMark, HatRefusal};
@@ -25,7 +25,7 @@ fn take_back(names: &mut Naming, face: FaceId, id: u32, fresh: bool)
     }
 }
 
-impl Gateway {
+impl Tables {
     // A face declares a queryable.
     pub(super) fn declare_queryable(
         &mut self,
@@ -35,9 +35,8 @@ impl Gateway {
         info: QueryableInfoType,
         node: u16,
     ) -> Result<Step, OutOfMemory>
-        ensures step { IfOk result (λ t. t ≡ answer self.old (declaring face id said.now info node)) }
-        ensures after { OnOk result (self.new ≡ settle self.old (declaring face id said.now info node)) }
-        ensures err { OnErr result (self.new ≡ self.old) }
+        requires { IsReached self.old }
+        ensures { Settles self.old self.new (declaring face id said.now info node) result }
     {
         let Some(region) = self.region_of(face) else {
             return Ok(self.refused(Refusal::UnknownFace));
@@ -74,9 +73,8 @@ impl Gateway {
         id: u32,
         node: u16,
     ) -> Result<Step, OutOfMemory>
-        ensures step { IfOk result (λ t. t ≡ answer self.old (withdrawing face id)) }
-        ensures after { OnOk result (self.new ≡ settle self.old (withdrawing face id)) }
-        ensures err { OnErr result (self.new ≡ self.old) }
+        requires { IsReached self.old }
+        ensures { Settles self.old self.new (withdrawing face id) result }
     {
         let Some(region) = self.region_of(face) else {
             return Ok(self.refused(Refusal::UnknownFace));
@@ -101,9 +99,8 @@ impl Gateway {
         info: QueryableInfoType,
         node: u16,
     ) -> Result<Step, OutOfMemory>
-        ensures step { IfOk result (λ t. t ≡ step self.old (call.DeclareQueryable face id wire.now info node)) }
-        ensures after { OnOk result (self.new ≡ after self.old (call.DeclareQueryable face id wire.now info node)) }
-        ensures err { OnErr result (self.new ≡ self.old) }
+        requires { IsReached self.old }
+        ensures { Makes self.old self.new (call.DeclareQueryable face id wire.now info node) result }
     {
         let said = self.names.said(face, wire)?;
         self.declare_queryable(face, id, &said, info, node)
@@ -116,9 +113,8 @@ impl Gateway {
         mark: &FinalMark,
         set: bool,
     ) -> Result<Step, OutOfMemory>
-        ensures step { IfOk result (λ t. t ≡ answer self.old (finalizing face mark.now set)) }
-        ensures after { OnOk result (self.new ≡ settle self.old (finalizing face mark.now set)) }
-        ensures err { OnErr result (self.new ≡ self.old) }
+        requires { IsReached self.old }
+        ensures { Settles self.old self.new (finalizing face mark.now set) result }
     {
         let Some(region) = self.region_of(face) else {
             return Ok(self.refused(Refusal::UnknownFace));

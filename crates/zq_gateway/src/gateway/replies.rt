@@ -1,14 +1,15 @@
 //! Replies, finals, reports that a reply was sent, and moments that have come.
-ghost use Rattle.std.specs.Prelude.{◌≡◌, ◌<◌, ◌+◌, ◌^◌, Some, true, IfOk, OnOk, OnErr};
+ghost use Rattle.std.specs.Prelude.{◌≡◌, ◌<◌, ◌+◌, ◌^◌, Some, true};
 ghost use Rattle.std.specs.Option.{IsSome};
 ghost use Rattle.std.specs.List.{list_any};
 ghost use Rattle.zq_query.specs.Records.{has_number, next_reply};
 ghost use Rattle.zq_machine.specs.Deciding.{messages_of, outcome_of};
 ghost use Rattle.zq_machine.specs.Writing.{write};
-ghost use Rattle.zq_machine.specs.Machine.{accepted_state, after, answer, settle, step};
+ghost use Rattle.zq_machine.specs.Machine.{accepted_state};
 ghost use Rattle.zq_machine.specs.TextCalls.{ending, passing, replying, reporting};
+ghost use Rattle.zq_gateway.specs.Making.{Answers, Settles};
 
-use crate::gateway::Gateway;
+use crate::gateway::tables::Tables;
 use crate::handed::{final_in, room_for_final, written_replies, written_timeouts};
 use crate::read::{full_text, is_unscoped, says_key_or_nothing};
 use zq_key::memory::OutOfMemory;
@@ -17,13 +18,11 @@ use zq_machine::call::{Outcome, Refusal, Step};
 use zq_query::records::{PollRefusal, ReplyRefusal, ReplyTo};
 use zq_tables::said::Said;
 
-impl Gateway {
+impl Tables {
     // A target ends a query.
     #[tactic(auto, using(zq_machine::proofs::Writing::finals_written))]
     pub(super) fn response_final(&mut self, face: FaceId, rid: u32) -> Result<Step, OutOfMemory>
-        ensures step { IfOk result (λ t. t ≡ answer self.old (ending face rid)) }
-        ensures after { OnOk result (self.new ≡ settle self.old (ending face rid)) }
-        ensures err { OnErr result (self.new ≡ self.old) }
+        ensures { Settles self.old self.new (ending face rid) result }
     {
         if !self.is_open(face) {
             return Ok(self.refused(Refusal::UnknownFace));
@@ -41,9 +40,7 @@ impl Gateway {
     // A reply was sent.
     #[tactic(auto, using(zq_machine::proofs::Writing::finals_written))]
     pub(super) fn report(&mut self, reply: u64) -> Result<Step, OutOfMemory>
-        ensures step { IfOk result (λ t. t ≡ answer self.old (reporting reply)) }
-        ensures after { OnOk result (self.new ≡ settle self.old (reporting reply)) }
-        ensures err { OnErr result (self.new ≡ self.old) }
+        ensures { Settles self.old self.new (reporting reply) result }
     {
         let room = room_for_final(self.alloc)?;
         match self.queries.sent(reply) {
@@ -62,9 +59,7 @@ impl Gateway {
         said: &Said,
         response: &Response,
     ) -> Result<Step, OutOfMemory>
-        ensures step { IfOk result (λ t. t ≡ answer self.old (replying face said.now response.now)) }
-        ensures after { OnOk result (self.new ≡ settle self.old (replying face said.now response.now)) }
-        ensures err { OnErr result (self.new ≡ self.old) }
+        ensures { Settles self.old self.new (replying face said.now response.now) result }
     {
         if !self.is_open(face) {
             return Ok(self.refused(Refusal::UnknownFace));
@@ -101,9 +96,13 @@ impl Gateway {
         requires next { next_reply face.0 response.now.rid self.old.core.queries ≡ Some to.now }
         requires there { list_any (has_number to.now.number) self.old.core.queries.records ≡ true }
         requires fits { IsSome to.now.reply → self.old.core.queries.replies + 1 < 2 ^ 64 }
-        ensures step { IfOk result (λ t. t ≡ record { outcome = outcome_of self.old.core (replying face said.now response.now); handed = write self.old.names (messages_of self.old.core (replying face said.now response.now)) }) }
-        ensures after { OnOk result (self.new ≡ accepted_state self.old (replying face said.now response.now)) }
-        ensures err { OnErr result (self.new ≡ self.old) }
+        ensures { let call = replying face said.now response.now in
+            Answers self.old self.new
+            (record {
+              outcome = outcome_of self.old.core call;
+              handed = write self.old.names (messages_of self.old.core call);
+            })
+            (accepted_state self.old call) result }
     {
         let handed = written_replies(self.alloc, &self.names, full_text(said), response, to)?;
         self.queries.put(to)?;
@@ -116,9 +115,7 @@ impl Gateway {
     // A moment has come: entries whose deadlines have come are let go.
     #[tactic(auto, using(zq_machine::proofs::Writing::polled_after))]
     pub(super) fn pass(&mut self, now: u64) -> Result<Step, OutOfMemory>
-        ensures step { IfOk result (λ t. t ≡ answer self.old (passing now)) }
-        ensures after { OnOk result (self.new ≡ settle self.old (passing now)) }
-        ensures err { OnErr result (self.new ≡ self.old) }
+        ensures { Settles self.old self.new (passing now) result }
     {
         let timeouts = match self.queries.would_poll(now) {
             Ok(timeouts) => timeouts,

@@ -1,12 +1,12 @@
 //! Requests, and whom they are handed to.
-ghost use Rattle.std.specs.Prelude.{◌≡◌, Some, true, IfOk, OnOk, OnErr, map};
+ghost use Rattle.std.specs.Prelude.{◌≡◌, Some, true, IfOk, map};
 ghost use Rattle.zq_query.specs.Asking.{are_distinct, face_numbers};
 ghost use Rattle.zq_machine.specs.Deciding.{opened};
 ghost use Rattle.zq_machine.specs.Selecting.{select_for, target_of};
-ghost use Rattle.zq_machine.specs.Machine.{after, answer, settle, step};
 ghost use Rattle.zq_machine.specs.TextCalls.{asking};
+ghost use Rattle.zq_gateway.specs.Making.{Settles};
 
-use crate::gateway::Gateway;
+use crate::gateway::tables::Tables;
 use crate::handed::written_requests;
 use crate::hats;
 use crate::read::{full_text, says_key};
@@ -31,7 +31,7 @@ fn targets_of(alloc: Global, offers: &[QueryTargetQabl]) -> Result<Vec<FaceId>, 
     Ok(targets)
 }
 
-impl Gateway {
+impl Tables {
     // The offers that a request is handed to, of each face one.
     fn select(
         &self,
@@ -64,9 +64,7 @@ impl Gateway {
         request: &Request,
         now: u64,
     ) -> Result<Step, OutOfMemory>
-        ensures step { IfOk result (λ t. t ≡ answer self.old (asking face said.now request.now now)) }
-        ensures after { OnOk result (self.new ≡ settle self.old (asking face said.now request.now now)) }
-        ensures err { OnErr result (self.new ≡ self.old) }
+        ensures { Settles self.old self.new (asking face said.now request.now now) result }
     {
         let Some(opened) = self.opened(face) else {
             return Ok(self.refused(Refusal::UnknownFace));

@@ -1,16 +1,9 @@
-use Rattle.std.proofs.Common.{◌≡◌, subst}
-use Rattle.std.specs.Prelude.{IfOk, OnOk}
-use Rattle.zq_tables.specs.Naming.{said_of, face_naming}
-use Rattle.zq_machine.specs.Machine.{answer, settle}
-use Rattle.zq_machine.specs.TextCalls.{asking}
+use Rattle.zq_machine.specs.declared.call.Call.TheVariants as call
+use Rattle.zq_gateway.proofs.Reached.{reached_given}
 use Rattle.zq_gateway.proofs.gateway.Gateway.send_request.Goals as goal
 
-pub returns-clause-step : goal.returns-clause-step
-returns-clause-step c =
-    let read : c.in_ok-said.said ≡ said_of (face_naming c.args.face.0 c.args.self.now.names) c.args.msg.now.wire = rw (← c.self.view_is) c.in_ok-said.ensures in
-    subst (λ said. IfOk c.request.result (λ t. t ≡ answer c.args.self.now (asking c.args.face said c.args.msg.now c.args.now))) read c.request.ensures.step
+pub invariant_of-self : goal.invariant_of-self
+invariant_of-self c = reached_given c.self.inside.tables _ (call.Request c.args.face c.args.msg.now c.args.now) _ c.send_request.result c.send_request.ensures c.self.invariant
 
-pub returns-clause-after : goal.returns-clause-after
-returns-clause-after c =
-    let read : c.in_ok-said.said ≡ said_of (face_naming c.args.face.0 c.args.self.now.names) c.args.msg.now.wire = rw (← c.self.view_is) c.in_ok-said.ensures in
-    subst (λ said. OnOk c.request.result (c.request.new.self ≡ settle c.args.self.now (asking c.args.face said c.args.msg.now c.args.now))) read c.request.ensures.after
+pub returns : goal.returns
+returns c = rw (← c.self.view_is) c.send_request.ensures

@@ -1,0 +1,19 @@
+use Rattle.zq_gateway.proofs.gateway.tables.Tables.call.Goals as goal
+
+pub returns-in-DeclareKeyExpr : goal.returns-in-DeclareKeyExpr
+returns-in-DeclareKeyExpr c = rw c.in-DeclareKeyExpr.is c.name_key.ensures
+
+pub returns-in-UndeclareKeyExpr : goal.returns-in-UndeclareKeyExpr
+returns-in-UndeclareKeyExpr c = rw c.in-UndeclareKeyExpr.is c.undeclare_key.ensures
+
+pub returns-in-DeclareQueryable : goal.returns-in-DeclareQueryable
+returns-in-DeclareQueryable c = rw c.in-DeclareQueryable.is c.register.ensures
+
+pub returns-in-UndeclareQueryable : goal.returns-in-UndeclareQueryable
+returns-in-UndeclareQueryable c = rw c.in-UndeclareQueryable.is c.undeclare_queryable.ensures
+
+pub returns-in-Request : goal.returns-in-Request
+returns-in-Request c = rw c.in-Request.is c.send_request.ensures
+
+pub returns-in-Response : goal.returns-in-Response
+returns-in-Response c = rw c.in-Response.is c.send_response.ensures
