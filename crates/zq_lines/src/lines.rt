@@ -1,7 +1,7 @@
 //! What one line says.
 ghost use Rattle.std.specs.Prelude.{◌≡◌, IfOk, map, filter, take, length};
-ghost use Rattle.std.specs.Option.{option_map};
-ghost use Rattle.zq_words.specs.Words.{read_at, read_each, pieces};
+ghost use Rattle.std.specs.Result.{result_map_both};
+ghost use Rattle.zq_words.specs.Words.{Reads, read_at, at_end, read_each, pieces};
 ghost use Rattle.zq_lines.specs.Lines.{deny_of, denies_of, at_side, deny_text, opening_of, close_of, key_of, unkey_of, info_at, queryable_of, unqueryable_of, interest_of, uninterest_of, mark_by, mark_at, finalize_of, manner_at, ask_of, body_by, body_at, by_of, responder_of, reply_of, final_of, sent_of, poll_of, gateways_of, network_of, nodes_of, call_by, other_by, call_of};
 
 use crate::tables::{EntriesOf, TreesOf};
@@ -16,8 +16,9 @@ use zq_key::message::{
 use zq_key::text::{Bytes, Text};
 use zq_machine::call::{Call, Opening};
 use zq_route::gateways::Gateways;
+use zq_words::stop::Stop;
 use zq_words::values::{flag_at, flag_of};
-use zq_words::words::{Word, cut, is, len_to, read_at, read_each, text_of, word_at};
+use zq_words::words::{Word, at_end, cut, is, len_to, read_at, read_each, text_of};
 
 /// An entry of one of the two deny lists.
 #[derive(Debug, Drop)]
@@ -32,28 +33,22 @@ impl Word for Deny {
     ghost of = { deny_of };
 
     #[tactic(auto, unfolding(crate::specs::Lines::deny_of))]
-    fn read(alloc: Global, word: &[u8]) -> Result<Option<Deny>, OutOfMemory> {
-        let Some((side, text)) = cut(b':', word) else {
-            return Ok(None);
-        };
-        let Some(entry) = flag_of("in", "out", side) else {
-            return Ok(None);
-        };
-        match text_of(alloc, text)? {
-            Some(text) => Ok(Some(Deny { entry, text })),
-            None => Ok(None),
-        }
+    fn read(alloc: Global, word: &[u8]) -> Result<Deny, Stop> {
+        let (side, text) = cut(b':', word).ok_or(Stop::Bad)?;
+        let entry = flag_of("in", "out", side).ok_or(Stop::Bad)?;
+        let text = text_of(alloc, text)?;
+        Ok(Deny { entry, text })
     }
 }
 
 /// The items of the two lists, up to the end of the line.
-fn denies_of(alloc: Global, bytes: &[u8]) -> Result<Option<Items<Deny>>, OutOfMemory>
-    ensures { IfOk result (λ o. o ≡ denies_of bytes.now) }
+fn denies_of(alloc: Global, bytes: &[u8]) -> Result<Items<Deny>, Stop>
+    ensures { Reads result (denies_of bytes.now) }
 {
     match bytes {
-        [] => Ok(Some(Items::new(alloc))),
+        [] => Ok(Items::new(alloc)),
         [b' ', rest @ ..] => read_each::<Deny>(alloc, b' ', rest),
-        _ => Ok(None),
+        _ => Err(Stop::Bad),
     }
 }
 
@@ -71,28 +66,16 @@ fn texts_at(alloc: Global, entry: bool, denies: &[Deny]) -> Result<TextList, Out
 }
 
 #[tactic(auto, unfolding(crate::specs::Lines::opening_of))]
-fn opening_of(alloc: Global, bytes: &[u8]) -> Result<Option<Call>, OutOfMemory>
-    ensures { IfOk result (λ c. c ≡ opening_of bytes.now) }
+fn opening_of(alloc: Global, bytes: &[u8]) -> Result<Call, Stop>
+    ensures { Reads result (opening_of bytes.now) }
 {
-    let Some((region, rest)) = read_at::<Region>(alloc, bytes)? else {
-        return Ok(None);
-    };
-    let Some((zid, rest)) = read_at::<Zid>(alloc, rest)? else {
-        return Ok(None);
-    };
-    let Some((mode, rest)) = read_at::<Mode>(alloc, rest)? else {
-        return Ok(None);
-    };
-    let Some((remote_bound, rest)) = read_at::<Bound>(alloc, rest)? else {
-        return Ok(None);
-    };
-    let Some((namespace, rest)) = read_at::<Option<Text>>(alloc, rest)? else {
-        return Ok(None);
-    };
-    let Some(denies) = denies_of(alloc, rest)? else {
-        return Ok(None);
-    };
-    Ok(Some(Call::Open(Opening {
+    let (region, rest) = read_at::<Region>(alloc, bytes)?;
+    let (zid, rest) = read_at::<Zid>(alloc, rest)?;
+    let (mode, rest) = read_at::<Mode>(alloc, rest)?;
+    let (remote_bound, rest) = read_at::<Bound>(alloc, rest)?;
+    let (namespace, rest) = read_at::<Option<Text>>(alloc, rest)?;
+    let denies = denies_of(alloc, rest)?;
+    Ok(Call::Open(Opening {
         region,
         zid,
         mode,
@@ -100,216 +83,141 @@ fn opening_of(alloc: Global, bytes: &[u8]) -> Result<Option<Call>, OutOfMemory>
         namespace,
         entry_deny: texts_at(alloc, true, denies.as_slice())?,
         exit_deny: texts_at(alloc, false, denies.as_slice())?,
-    })))
+    }))
 }
 
 #[tactic(auto, unfolding(crate::specs::Lines::close_of))]
-fn close_of(alloc: Global, bytes: &[u8]) -> Result<Option<Call>, OutOfMemory>
-    ensures { IfOk result (λ c. c ≡ close_of bytes.now) }
+fn close_of(alloc: Global, bytes: &[u8]) -> Result<Call, Stop>
+    ensures { Reads result (close_of bytes.now) }
 {
-    let Some((face, rest)) = read_at::<FaceId>(alloc, bytes)? else {
-        return Ok(None);
-    };
-    if !rest.is_empty() {
-        return Ok(None);
-    }
-    Ok(Some(Call::Close { face }))
+    let (face, rest) = read_at::<FaceId>(alloc, bytes)?;
+    at_end(rest, Call::Close { face })
 }
 
 #[tactic(auto, unfolding(crate::specs::Lines::key_of))]
-fn key_of(alloc: Global, bytes: &[u8]) -> Result<Option<Call>, OutOfMemory>
-    ensures { IfOk result (λ c. c ≡ key_of bytes.now) }
+fn key_of(alloc: Global, bytes: &[u8]) -> Result<Call, Stop>
+    ensures { Reads result (key_of bytes.now) }
 {
-    let Some((face, rest)) = read_at::<FaceId>(alloc, bytes)? else {
-        return Ok(None);
-    };
-    let Some((id, rest)) = read_at::<u16>(alloc, rest)? else {
-        return Ok(None);
-    };
-    let Some((wire, rest)) = read_at::<WireExpr>(alloc, rest)? else {
-        return Ok(None);
-    };
-    if !rest.is_empty() {
-        return Ok(None);
-    }
-    Ok(Some(Call::DeclareKeyExpr { face, id, wire }))
+    let (face, rest) = read_at::<FaceId>(alloc, bytes)?;
+    let (id, rest) = read_at::<u16>(alloc, rest)?;
+    let (wire, rest) = read_at::<WireExpr>(alloc, rest)?;
+    at_end(rest, Call::DeclareKeyExpr { face, id, wire })
 }
 
 #[tactic(auto, unfolding(crate::specs::Lines::unkey_of))]
-fn unkey_of(alloc: Global, bytes: &[u8]) -> Result<Option<Call>, OutOfMemory>
-    ensures { IfOk result (λ c. c ≡ unkey_of bytes.now) }
+fn unkey_of(alloc: Global, bytes: &[u8]) -> Result<Call, Stop>
+    ensures { Reads result (unkey_of bytes.now) }
 {
-    let Some((face, rest)) = read_at::<FaceId>(alloc, bytes)? else {
-        return Ok(None);
-    };
-    let Some((id, rest)) = read_at::<u16>(alloc, rest)? else {
-        return Ok(None);
-    };
-    if !rest.is_empty() {
-        return Ok(None);
-    }
-    Ok(Some(Call::UndeclareKeyExpr { face, id }))
+    let (face, rest) = read_at::<FaceId>(alloc, bytes)?;
+    let (id, rest) = read_at::<u16>(alloc, rest)?;
+    at_end(rest, Call::UndeclareKeyExpr { face, id })
 }
 
 /// c or p, and a distance.
 #[tactic(auto, unfolding(crate::specs::Lines::info_at))]
-fn info_at(alloc: Global, bytes: &[u8]) -> Result<Option<(QueryableInfoType, &[u8])>, OutOfMemory>
-    ensures { IfOk result (λ o. option_map (λ t. (t.0, t.1.now)) o ≡ info_at bytes.now) }
+fn info_at(alloc: Global, bytes: &[u8]) -> Result<(QueryableInfoType, &[u8]), Stop>
+    ensures { Reads (result_map_both (λ t. (t.0, t.1.now)) (λ e. e) result) (info_at bytes.now) }
 {
-    let Some((complete, rest)) = flag_at("c", "p", bytes) else {
-        return Ok(None);
-    };
-    let Some((distance, rest)) = read_at::<u16>(alloc, rest)? else {
-        return Ok(None);
-    };
-    Ok(Some((QueryableInfoType { complete, distance }, rest)))
+    let (complete, rest) = flag_at("c", "p", bytes).ok_or(Stop::Bad)?;
+    let (distance, rest) = read_at::<u16>(alloc, rest)?;
+    Ok((QueryableInfoType { complete, distance }, rest))
 }
 
 #[tactic(auto, unfolding(crate::specs::Lines::queryable_of))]
-fn queryable_of(alloc: Global, bytes: &[u8]) -> Result<Option<Call>, OutOfMemory>
-    ensures { IfOk result (λ c. c ≡ queryable_of bytes.now) }
+fn queryable_of(alloc: Global, bytes: &[u8]) -> Result<Call, Stop>
+    ensures { Reads result (queryable_of bytes.now) }
 {
-    let Some((face, rest)) = read_at::<FaceId>(alloc, bytes)? else {
-        return Ok(None);
-    };
-    let Some((id, rest)) = read_at::<u32>(alloc, rest)? else {
-        return Ok(None);
-    };
-    let Some((wire, rest)) = read_at::<WireExpr>(alloc, rest)? else {
-        return Ok(None);
-    };
-    let Some((info, rest)) = info_at(alloc, rest)? else {
-        return Ok(None);
-    };
-    let Some((node, rest)) = read_at::<u16>(alloc, rest)? else {
-        return Ok(None);
-    };
-    if !rest.is_empty() {
-        return Ok(None);
-    }
-    Ok(Some(Call::DeclareQueryable {
-        face,
-        id,
-        wire,
-        info,
-        node,
-    }))
+    let (face, rest) = read_at::<FaceId>(alloc, bytes)?;
+    let (id, rest) = read_at::<u32>(alloc, rest)?;
+    let (wire, rest) = read_at::<WireExpr>(alloc, rest)?;
+    let (info, rest) = info_at(alloc, rest)?;
+    let (node, rest) = read_at::<u16>(alloc, rest)?;
+    at_end(
+        rest,
+        Call::DeclareQueryable {
+            face,
+            id,
+            wire,
+            info,
+            node,
+        },
+    )
 }
 
 #[tactic(auto, unfolding(crate::specs::Lines::unqueryable_of))]
-fn unqueryable_of(alloc: Global, bytes: &[u8]) -> Result<Option<Call>, OutOfMemory>
-    ensures { IfOk result (λ c. c ≡ unqueryable_of bytes.now) }
+fn unqueryable_of(alloc: Global, bytes: &[u8]) -> Result<Call, Stop>
+    ensures { Reads result (unqueryable_of bytes.now) }
 {
-    let Some((face, rest)) = read_at::<FaceId>(alloc, bytes)? else {
-        return Ok(None);
-    };
-    let Some((id, rest)) = read_at::<u32>(alloc, rest)? else {
-        return Ok(None);
-    };
-    let Some((wire, rest)) = read_at::<Option<WireExpr>>(alloc, rest)? else {
-        return Ok(None);
-    };
-    let Some((node, rest)) = read_at::<u16>(alloc, rest)? else {
-        return Ok(None);
-    };
-    if !rest.is_empty() {
-        return Ok(None);
-    }
-    Ok(Some(Call::UndeclareQueryable {
-        face,
-        id,
-        wire,
-        node,
-    }))
+    let (face, rest) = read_at::<FaceId>(alloc, bytes)?;
+    let (id, rest) = read_at::<u32>(alloc, rest)?;
+    let (wire, rest) = read_at::<Option<WireExpr>>(alloc, rest)?;
+    let (node, rest) = read_at::<u16>(alloc, rest)?;
+    at_end(
+        rest,
+        Call::UndeclareQueryable {
+            face,
+            id,
+            wire,
+            node,
+        },
+    )
 }
 
 #[tactic(auto, unfolding(crate::specs::Lines::interest_of))]
-fn interest_of(alloc: Global, bytes: &[u8]) -> Result<Option<Call>, OutOfMemory>
-    ensures { IfOk result (λ c. c ≡ interest_of bytes.now) }
+fn interest_of(alloc: Global, bytes: &[u8]) -> Result<Call, Stop>
+    ensures { Reads result (interest_of bytes.now) }
 {
-    let Some((face, rest)) = read_at::<FaceId>(alloc, bytes)? else {
-        return Ok(None);
-    };
-    let Some((id, rest)) = read_at::<u32>(alloc, rest)? else {
-        return Ok(None);
-    };
-    let Some((wire, rest)) = read_at::<Option<WireExpr>>(alloc, rest)? else {
-        return Ok(None);
-    };
-    let Some((keys, rest)) = flag_at("k", "n", rest) else {
-        return Ok(None);
-    };
-    if !rest.is_empty() {
-        return Ok(None);
-    }
-    Ok(Some(Call::Interest {
-        face,
-        id,
-        keys,
-        wire,
-    }))
+    let (face, rest) = read_at::<FaceId>(alloc, bytes)?;
+    let (id, rest) = read_at::<u32>(alloc, rest)?;
+    let (wire, rest) = read_at::<Option<WireExpr>>(alloc, rest)?;
+    let (keys, rest) = flag_at("k", "n", rest).ok_or(Stop::Bad)?;
+    at_end(
+        rest,
+        Call::Interest {
+            face,
+            id,
+            keys,
+            wire,
+        },
+    )
 }
 
 #[tactic(auto, unfolding(crate::specs::Lines::uninterest_of))]
-fn uninterest_of(alloc: Global, bytes: &[u8]) -> Result<Option<Call>, OutOfMemory>
-    ensures { IfOk result (λ c. c ≡ uninterest_of bytes.now) }
+fn uninterest_of(alloc: Global, bytes: &[u8]) -> Result<Call, Stop>
+    ensures { Reads result (uninterest_of bytes.now) }
 {
-    let Some((face, rest)) = read_at::<FaceId>(alloc, bytes)? else {
-        return Ok(None);
-    };
-    let Some((id, rest)) = read_at::<u32>(alloc, rest)? else {
-        return Ok(None);
-    };
-    if !rest.is_empty() {
-        return Ok(None);
-    }
-    Ok(Some(Call::InterestFinal { face, id }))
+    let (face, rest) = read_at::<FaceId>(alloc, bytes)?;
+    let (id, rest) = read_at::<u32>(alloc, rest)?;
+    at_end(rest, Call::InterestFinal { face, id })
 }
 
 #[tactic(auto, unfolding(crate::specs::Lines::mark_by))]
-fn mark_by(
-    alloc: Global,
-    key: bool,
-    bytes: &[u8],
-) -> Result<Option<(FinalMark, &[u8])>, OutOfMemory>
-    ensures { IfOk result (λ o. option_map (λ t. (t.0, t.1.now)) o ≡ mark_by key bytes.now) }
+fn mark_by(alloc: Global, key: bool, bytes: &[u8]) -> Result<(FinalMark, &[u8]), Stop>
+    ensures { Reads (result_map_both (λ t. (t.0, t.1.now)) (λ e. e) result) (mark_by key bytes.now) }
 {
     if !key {
-        return Ok(Some((FinalMark::Initial, bytes)));
+        return Ok((FinalMark::Initial, bytes));
     }
-    let Some((text, rest)) = read_at::<Text>(alloc, bytes)? else {
-        return Ok(None);
-    };
-    Ok(Some((FinalMark::Key(text), rest)))
+    let (text, rest) = read_at::<Text>(alloc, bytes)?;
+    Ok((FinalMark::Key(text), rest))
 }
 
 #[tactic(auto, unfolding(crate::specs::Lines::mark_at))]
-fn mark_at(alloc: Global, bytes: &[u8]) -> Result<Option<(FinalMark, &[u8])>, OutOfMemory>
-    ensures { IfOk result (λ o. option_map (λ t. (t.0, t.1.now)) o ≡ mark_at bytes.now) }
+fn mark_at(alloc: Global, bytes: &[u8]) -> Result<(FinalMark, &[u8]), Stop>
+    ensures { Reads (result_map_both (λ t. (t.0, t.1.now)) (λ e. e) result) (mark_at bytes.now) }
 {
-    let Some((key, rest)) = flag_at("key", "initial", bytes) else {
-        return Ok(None);
-    };
+    let (key, rest) = flag_at("key", "initial", bytes).ok_or(Stop::Bad)?;
     mark_by(alloc, key, rest)
 }
 
 #[tactic(auto, unfolding(crate::specs::Lines::finalize_of))]
-fn finalize_of(alloc: Global, bytes: &[u8]) -> Result<Option<Call>, OutOfMemory>
-    ensures { IfOk result (λ c. c ≡ finalize_of bytes.now) }
+fn finalize_of(alloc: Global, bytes: &[u8]) -> Result<Call, Stop>
+    ensures { Reads result (finalize_of bytes.now) }
 {
-    let Some((face, rest)) = read_at::<FaceId>(alloc, bytes)? else {
-        return Ok(None);
-    };
-    let Some((mark, rest)) = mark_at(alloc, rest)? else {
-        return Ok(None);
-    };
-    let Some((set, rest)) = flag_at("1", "0", rest) else {
-        return Ok(None);
-    };
-    if !rest.is_empty() {
-        return Ok(None);
-    }
-    Ok(Some(Call::FinalizeInterest { face, mark, set }))
+    let (face, rest) = read_at::<FaceId>(alloc, bytes)?;
+    let (mark, rest) = mark_at(alloc, rest)?;
+    let (set, rest) = flag_at("1", "0", rest).ok_or(Stop::Bad)?;
+    at_end(rest, Call::FinalizeInterest { face, mark, set })
 }
 
 /// What stands between the expression and the payload of a request.
@@ -317,62 +225,42 @@ fn finalize_of(alloc: Global, bytes: &[u8]) -> Result<Option<Call>, OutOfMemory>
 fn manner_at(
     alloc: Global,
     bytes: &[u8],
-) -> Result<Option<(QueryTarget, Option<u64>, u16, u8, &[u8])>, OutOfMemory>
-    ensures { IfOk result (λ o. option_map (λ t. (t.0, t.1, t.2, t.3, t.4.now)) o ≡ manner_at bytes.now) }
+) -> Result<(QueryTarget, Option<u64>, u16, u8, &[u8]), Stop>
+    ensures { Reads (result_map_both (λ t. (t.0, t.1, t.2, t.3, t.4.now)) (λ e. e) result) (manner_at bytes.now) }
 {
-    let Some((target, rest)) = read_at::<QueryTarget>(alloc, bytes)? else {
-        return Ok(None);
-    };
-    let Some((timeout, rest)) = read_at::<Option<u64>>(alloc, rest)? else {
-        return Ok(None);
-    };
-    let Some((node, rest)) = read_at::<u16>(alloc, rest)? else {
-        return Ok(None);
-    };
-    let Some((qos, rest)) = read_at::<u8>(alloc, rest)? else {
-        return Ok(None);
-    };
-    Ok(Some((target, timeout, node, qos, rest)))
+    let (target, rest) = read_at::<QueryTarget>(alloc, bytes)?;
+    let (timeout, rest) = read_at::<Option<u64>>(alloc, rest)?;
+    let (node, rest) = read_at::<u16>(alloc, rest)?;
+    let (qos, rest) = read_at::<u8>(alloc, rest)?;
+    Ok((target, timeout, node, qos, rest))
 }
 
 #[tactic(auto, unfolding(crate::specs::Lines::ask_of))]
-fn ask_of(alloc: Global, bytes: &[u8]) -> Result<Option<Call>, OutOfMemory>
-    ensures { IfOk result (λ c. c ≡ ask_of bytes.now) }
+fn ask_of(alloc: Global, bytes: &[u8]) -> Result<Call, Stop>
+    ensures { Reads result (ask_of bytes.now) }
 {
-    let Some((face, rest)) = read_at::<FaceId>(alloc, bytes)? else {
-        return Ok(None);
-    };
-    let Some((id, rest)) = read_at::<u32>(alloc, rest)? else {
-        return Ok(None);
-    };
-    let Some((wire, rest)) = read_at::<WireExpr>(alloc, rest)? else {
-        return Ok(None);
-    };
-    let Some((target, timeout, node, qos, rest)) = manner_at(alloc, rest)? else {
-        return Ok(None);
-    };
-    let Some((payload, rest)) = read_at::<Bytes>(alloc, rest)? else {
-        return Ok(None);
-    };
-    let Some((now, rest)) = read_at::<u64>(alloc, rest)? else {
-        return Ok(None);
-    };
-    if !rest.is_empty() {
-        return Ok(None);
-    }
-    Ok(Some(Call::Request {
-        face,
-        request: Request {
-            id,
-            wire,
-            target,
-            timeout,
-            node,
-            qos,
-            payload,
+    let (face, rest) = read_at::<FaceId>(alloc, bytes)?;
+    let (id, rest) = read_at::<u32>(alloc, rest)?;
+    let (wire, rest) = read_at::<WireExpr>(alloc, rest)?;
+    let (target, timeout, node, qos, rest) = manner_at(alloc, rest)?;
+    let (payload, rest) = read_at::<Bytes>(alloc, rest)?;
+    let (now, rest) = read_at::<u64>(alloc, rest)?;
+    at_end(
+        rest,
+        Call::Request {
+            face,
+            request: Request {
+                id,
+                wire,
+                target,
+                timeout,
+                node,
+                qos,
+                payload,
+            },
+            now,
         },
-        now,
-    }))
+    )
 }
 
 fn body_by(ok: bool, payload: Bytes) -> ReplyBody
@@ -386,16 +274,12 @@ fn body_by(ok: bool, payload: Bytes) -> ReplyBody
 }
 
 #[tactic(auto, unfolding(crate::specs::Lines::body_at))]
-fn body_at(alloc: Global, bytes: &[u8]) -> Result<Option<(ReplyBody, &[u8])>, OutOfMemory>
-    ensures { IfOk result (λ o. option_map (λ t. (t.0, t.1.now)) o ≡ body_at bytes.now) }
+fn body_at(alloc: Global, bytes: &[u8]) -> Result<(ReplyBody, &[u8]), Stop>
+    ensures { Reads (result_map_both (λ t. (t.0, t.1.now)) (λ e. e) result) (body_at bytes.now) }
 {
-    let Some((ok, rest)) = flag_at("ok", "err", bytes) else {
-        return Ok(None);
-    };
-    let Some((payload, rest)) = read_at::<Bytes>(alloc, rest)? else {
-        return Ok(None);
-    };
-    Ok(Some((body_by(ok, payload), rest)))
+    let (ok, rest) = flag_at("ok", "err", bytes).ok_or(Stop::Bad)?;
+    let (payload, rest) = read_at::<Bytes>(alloc, rest)?;
+    Ok((body_by(ok, payload), rest))
 }
 
 /// The word of a responder: `by:` and an id.
@@ -407,12 +291,10 @@ impl Word for ByOf {
     ghost of = { by_of };
 
     #[tactic(auto, unfolding(crate::specs::Lines::by_of))]
-    fn read(alloc: Global, word: &[u8]) -> Result<Option<Zid>, OutOfMemory> {
-        let Some((front, zid)) = cut(b':', word) else {
-            return Ok(None);
-        };
+    fn read(alloc: Global, word: &[u8]) -> Result<Zid, Stop> {
+        let (front, zid) = cut(b':', word).ok_or(Stop::Bad)?;
         if !is(front, "by") {
-            return Ok(None);
+            return Err(Stop::Bad);
         }
         Zid::read(alloc, zid)
     }
@@ -420,41 +302,26 @@ impl Word for ByOf {
 
 /// The responder, if the line goes on.
 #[tactic(auto, unfolding(crate::specs::Lines::responder_of))]
-fn responder_of(alloc: Global, bytes: &[u8]) -> Result<Option<Option<Zid>>, OutOfMemory>
-    ensures { IfOk result (λ o. o ≡ responder_of bytes.now) }
+fn responder_of(alloc: Global, bytes: &[u8]) -> Result<Option<Zid>, Stop>
+    ensures { Reads result (responder_of bytes.now) }
 {
     if bytes.is_empty() {
-        return Ok(Some(None));
-    }
-    let Some((zid, rest)) = read_at::<ByOf>(alloc, bytes)? else {
-        return Ok(None);
-    };
-    if !rest.is_empty() {
         return Ok(None);
     }
-    Ok(Some(Some(zid)))
+    let (zid, rest) = read_at::<ByOf>(alloc, bytes)?;
+    at_end(rest, Some(zid))
 }
 
 #[tactic(auto, unfolding(crate::specs::Lines::reply_of))]
-fn reply_of(alloc: Global, bytes: &[u8]) -> Result<Option<Call>, OutOfMemory>
-    ensures { IfOk result (λ c. c ≡ reply_of bytes.now) }
+fn reply_of(alloc: Global, bytes: &[u8]) -> Result<Call, Stop>
+    ensures { Reads result (reply_of bytes.now) }
 {
-    let Some((face, rest)) = read_at::<FaceId>(alloc, bytes)? else {
-        return Ok(None);
-    };
-    let Some((rid, rest)) = read_at::<u32>(alloc, rest)? else {
-        return Ok(None);
-    };
-    let Some((wire, rest)) = read_at::<WireExpr>(alloc, rest)? else {
-        return Ok(None);
-    };
-    let Some((payload, rest)) = body_at(alloc, rest)? else {
-        return Ok(None);
-    };
-    let Some(responder) = responder_of(alloc, rest)? else {
-        return Ok(None);
-    };
-    Ok(Some(Call::Response {
+    let (face, rest) = read_at::<FaceId>(alloc, bytes)?;
+    let (rid, rest) = read_at::<u32>(alloc, rest)?;
+    let (wire, rest) = read_at::<WireExpr>(alloc, rest)?;
+    let (payload, rest) = body_at(alloc, rest)?;
+    let responder = responder_of(alloc, rest)?;
+    Ok(Call::Response {
         face,
         response: Response {
             rid,
@@ -463,124 +330,89 @@ fn reply_of(alloc: Global, bytes: &[u8]) -> Result<Option<Call>, OutOfMemory>
             payload,
             responder,
         },
-    }))
+    })
 }
 
 #[tactic(auto, unfolding(crate::specs::Lines::final_of))]
-fn final_of(alloc: Global, bytes: &[u8]) -> Result<Option<Call>, OutOfMemory>
-    ensures value { IfOk result (λ c. c ≡ final_of bytes.now) }
+fn final_of(alloc: Global, bytes: &[u8]) -> Result<Call, Stop>
+    ensures value { Reads result (final_of bytes.now) }
 {
-    let Some((face, rest)) = read_at::<FaceId>(alloc, bytes)? else {
-        return Ok(None);
-    };
-    let Some((rid, rest)) = read_at::<u32>(alloc, rest)? else {
-        return Ok(None);
-    };
-    if !rest.is_empty() {
-        return Ok(None);
-    }
-    Ok(Some(Call::ResponseFinal { face, rid }))
+    let (face, rest) = read_at::<FaceId>(alloc, bytes)?;
+    let (rid, rest) = read_at::<u32>(alloc, rest)?;
+    at_end(rest, Call::ResponseFinal { face, rid })
 }
 
 #[tactic(auto, unfolding(crate::specs::Lines::sent_of))]
-fn sent_of(alloc: Global, bytes: &[u8]) -> Result<Option<Call>, OutOfMemory>
-    ensures { IfOk result (λ c. c ≡ sent_of bytes.now) }
+fn sent_of(alloc: Global, bytes: &[u8]) -> Result<Call, Stop>
+    ensures { Reads result (sent_of bytes.now) }
 {
-    let Some((reply, rest)) = read_at::<u64>(alloc, bytes)? else {
-        return Ok(None);
-    };
-    if !rest.is_empty() {
-        return Ok(None);
-    }
-    Ok(Some(Call::Sent { reply }))
+    let (reply, rest) = read_at::<u64>(alloc, bytes)?;
+    at_end(rest, Call::Sent { reply })
 }
 
 #[tactic(auto, unfolding(crate::specs::Lines::poll_of))]
-fn poll_of(alloc: Global, bytes: &[u8]) -> Result<Option<Call>, OutOfMemory>
-    ensures { IfOk result (λ c. c ≡ poll_of bytes.now) }
+fn poll_of(alloc: Global, bytes: &[u8]) -> Result<Call, Stop>
+    ensures { Reads result (poll_of bytes.now) }
 {
-    let Some((now, rest)) = read_at::<u64>(alloc, bytes)? else {
-        return Ok(None);
-    };
-    if !rest.is_empty() {
-        return Ok(None);
-    }
-    Ok(Some(Call::Poll { now }))
+    let (now, rest) = read_at::<u64>(alloc, bytes)?;
+    at_end(rest, Call::Poll { now })
 }
 
 #[tactic(auto, unfolding(crate::specs::Lines::gateways_of))]
-fn gateways_of(alloc: Global, bytes: &[u8]) -> Result<Option<Call>, OutOfMemory>
-    ensures { IfOk result (λ c. c ≡ gateways_of bytes.now) }
+fn gateways_of(alloc: Global, bytes: &[u8]) -> Result<Call, Stop>
+    ensures { Reads result (gateways_of bytes.now) }
 {
-    let Some((region, rest)) = read_at::<Region>(alloc, bytes)? else {
-        return Ok(None);
-    };
-    let Some((of, rest)) = read_at::<EntriesOf>(alloc, rest)? else {
-        return Ok(None);
-    };
-    let Some((all, rest)) = read_at::<Option<Items<Zid>>>(alloc, rest)? else {
-        return Ok(None);
-    };
-    if !rest.is_empty() {
-        return Ok(None);
-    }
-    Ok(Some(Call::SetGateways {
-        region,
-        table: Gateways { of, all },
-    }))
+    let (region, rest) = read_at::<Region>(alloc, bytes)?;
+    let (of, rest) = read_at::<EntriesOf>(alloc, rest)?;
+    let (all, rest) = read_at::<Option<Items<Zid>>>(alloc, rest)?;
+    at_end(
+        rest,
+        Call::SetGateways {
+            region,
+            table: Gateways { of, all },
+        },
+    )
 }
 
 #[tactic(auto, unfolding(crate::specs::Lines::network_of))]
-fn network_of(alloc: Global, bytes: &[u8]) -> Result<Option<Call>, OutOfMemory>
-    ensures { IfOk result (λ c. c ≡ network_of bytes.now) }
+fn network_of(alloc: Global, bytes: &[u8]) -> Result<Call, Stop>
+    ensures { Reads result (network_of bytes.now) }
 {
-    let Some((region, rest)) = read_at::<Region>(alloc, bytes)? else {
-        return Ok(None);
-    };
-    let Some((nodes, rest)) = read_at::<Items<Zid>>(alloc, rest)? else {
-        return Ok(None);
-    };
-    let Some((trees, rest)) = read_at::<TreesOf>(alloc, rest)? else {
-        return Ok(None);
-    };
-    let Some((distances, rest)) = read_at::<Items<u16>>(alloc, rest)? else {
-        return Ok(None);
-    };
-    if !rest.is_empty() {
-        return Ok(None);
-    }
-    Ok(Some(Call::SetNetwork {
-        region,
-        net: Network {
-            nodes,
-            trees,
-            distances,
+    let (region, rest) = read_at::<Region>(alloc, bytes)?;
+    let (nodes, rest) = read_at::<Items<Zid>>(alloc, rest)?;
+    let (trees, rest) = read_at::<TreesOf>(alloc, rest)?;
+    let (distances, rest) = read_at::<Items<u16>>(alloc, rest)?;
+    at_end(
+        rest,
+        Call::SetNetwork {
+            region,
+            net: Network {
+                nodes,
+                trees,
+                distances,
+            },
         },
-    }))
+    )
 }
 
 #[tactic(auto, unfolding(crate::specs::Lines::nodes_of))]
-fn nodes_of(alloc: Global, bytes: &[u8]) -> Result<Option<Call>, OutOfMemory>
-    ensures { IfOk result (λ c. c ≡ nodes_of bytes.now) }
+fn nodes_of(alloc: Global, bytes: &[u8]) -> Result<Call, Stop>
+    ensures { Reads result (nodes_of bytes.now) }
 {
-    let Some((face, rest)) = read_at::<FaceId>(alloc, bytes)? else {
-        return Ok(None);
-    };
-    let Some((ids, rest)) = read_at::<Items<Zid>>(alloc, rest)? else {
-        return Ok(None);
-    };
-    if !rest.is_empty() {
-        return Ok(None);
-    }
-    Ok(Some(Call::SetNodeIds {
-        face,
-        ids: NodeIds { ids },
-    }))
+    let (face, rest) = read_at::<FaceId>(alloc, bytes)?;
+    let (ids, rest) = read_at::<Items<Zid>>(alloc, rest)?;
+    at_end(
+        rest,
+        Call::SetNodeIds {
+            face,
+            ids: NodeIds { ids },
+        },
+    )
 }
 
 #[tactic(auto, unfolding(crate::specs::Lines::other_by))]
-fn other_by(alloc: Global, head: &[u8], bytes: &[u8]) -> Result<Option<Call>, OutOfMemory>
-    ensures { IfOk result (λ c. c ≡ other_by head.now bytes.now) }
+fn other_by(alloc: Global, head: &[u8], bytes: &[u8]) -> Result<Call, Stop>
+    ensures { Reads result (other_by head.now bytes.now) }
 {
     if is(head, "open") {
         opening_of(alloc, bytes)
@@ -599,14 +431,14 @@ fn other_by(alloc: Global, head: &[u8], bytes: &[u8]) -> Result<Option<Call>, Ou
     } else if is(head, "nodes") {
         nodes_of(alloc, bytes)
     } else {
-        Ok(None)
+        Err(Stop::Bad)
     }
 }
 
 /// The kinds of calls that a long script is made of come first.
 #[tactic(auto, unfolding(crate::specs::Lines::call_by))]
-fn call_by(alloc: Global, head: &[u8], bytes: &[u8]) -> Result<Option<Call>, OutOfMemory>
-    ensures { IfOk result (λ c. c ≡ call_by head.now bytes.now) }
+fn call_by(alloc: Global, head: &[u8], bytes: &[u8]) -> Result<Call, Stop>
+    ensures { Reads result (call_by head.now bytes.now) }
 {
     if is(head, "ask") {
         ask_of(alloc, bytes)
@@ -632,8 +464,8 @@ fn call_by(alloc: Global, head: &[u8], bytes: &[u8]) -> Result<Option<Call>, Out
 }
 
 /// The call that a line says.
-pub fn call_of(alloc: Global, line: &[u8]) -> Result<Option<Call>, OutOfMemory>
-    ensures { IfOk result (λ c. c ≡ call_of line.now) }
+pub fn call_of(alloc: Global, line: &[u8]) -> Result<Call, Stop>
+    ensures { Reads result (call_of line.now) }
 {
     let (head, rest) = line.split_at(len_to(b' ', line));
     call_by(alloc, head, rest)

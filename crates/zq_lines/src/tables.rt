@@ -6,10 +6,10 @@ ghost use Rattle.zq_lines.specs.Tables.{entry_of, entry_word, tree_of, tree_word
 use std::alloc::{AllocError, Global};
 use zq_hat::types::Tree;
 use zq_key::items::Items;
-use zq_key::memory::OutOfMemory;
 use zq_key::message::Zid;
 use zq_route::gateways::GatewayEntry;
 use zq_words::show::Shown;
+use zq_words::stop::Stop;
 use zq_words::words::{Word, cut, list_of, push_text};
 
 /// The word of the gateways of one node.
@@ -21,17 +21,11 @@ impl Word for EntryOf {
     ghost of = { entry_of };
 
     #[tactic(auto, unfolding(crate::specs::Tables::entry_of))]
-    fn read(alloc: Global, word: &[u8]) -> Result<Option<GatewayEntry>, OutOfMemory> {
-        let Some((node, gateways)) = cut(b'=', word) else {
-            return Ok(None);
-        };
-        let Some(node) = Zid::read(alloc, node)? else {
-            return Ok(None);
-        };
-        match list_of::<Zid>(alloc, b',', gateways)? {
-            Some(gateways) => Ok(Some(GatewayEntry { node, gateways })),
-            None => Ok(None),
-        }
+    fn read(alloc: Global, word: &[u8]) -> Result<GatewayEntry, Stop> {
+        let (node, gateways) = cut(b'=', word).ok_or(Stop::Bad)?;
+        let node = Zid::read(alloc, node)?;
+        let gateways = list_of::<Zid>(alloc, b',', gateways)?;
+        Ok(GatewayEntry { node, gateways })
     }
 }
 
@@ -43,7 +37,7 @@ impl Word for EntriesOf {
 
     ghost of = { list_of 59 entry_of };
 
-    fn read(alloc: Global, word: &[u8]) -> Result<Option<Items<GatewayEntry>>, OutOfMemory> {
+    fn read(alloc: Global, word: &[u8]) -> Result<Items<GatewayEntry>, Stop> {
         list_of::<EntryOf>(alloc, b';', word)
     }
 }
@@ -57,20 +51,14 @@ impl Word for TreeOf {
     ghost of = { tree_of };
 
     #[tactic(auto, unfolding(crate::specs::Tables::tree_of))]
-    fn read(alloc: Global, word: &[u8]) -> Result<Option<Tree>, OutOfMemory> {
-        let Some((children, directions)) = cut(b'/', word) else {
-            return Ok(None);
-        };
-        let Some(children) = list_of::<u32>(alloc, b',', children)? else {
-            return Ok(None);
-        };
-        match list_of::<Option<u32>>(alloc, b',', directions)? {
-            Some(directions) => Ok(Some(Tree {
-                children,
-                directions,
-            })),
-            None => Ok(None),
-        }
+    fn read(alloc: Global, word: &[u8]) -> Result<Tree, Stop> {
+        let (children, directions) = cut(b'/', word).ok_or(Stop::Bad)?;
+        let children = list_of::<u32>(alloc, b',', children)?;
+        let directions = list_of::<Option<u32>>(alloc, b',', directions)?;
+        Ok(Tree {
+            children,
+            directions,
+        })
     }
 }
 
@@ -82,7 +70,7 @@ impl Word for TreesOf {
 
     ghost of = { list_of 59 tree_of };
 
-    fn read(alloc: Global, word: &[u8]) -> Result<Option<Items<Tree>>, OutOfMemory> {
+    fn read(alloc: Global, word: &[u8]) -> Result<Items<Tree>, Stop> {
         list_of::<TreeOf>(alloc, b';', word)
     }
 }

@@ -1,6 +1,7 @@
 use crate::calls::print_call;
 use crate::lines::call_of;
 use std::test::Fail;
+use zq_words::stop::Stop;
 
 /// One line of each call, in the form in which it is printed.
 const LINES: [&str; 20] = [
@@ -30,11 +31,11 @@ const LINES: [&str; 20] = [
 fn calls_come_back(rt: HostRuntime) -> Result<(), Fail> {
     let alloc = rt.alloc();
     for line in LINES {
-        match call_of(alloc, line.as_bytes())? {
-            Some(call) => {
+        match call_of(alloc, line.as_bytes()) {
+            Ok(call) => {
                 assert_eq!(rt; print_call(alloc, &call)?.as_slice(), line.as_bytes());
             }
-            None => assert!(rt; false, "{line}"),
+            Err(_) => assert!(rt; false, "{line}"),
         }
     }
     for line in [
@@ -50,7 +51,10 @@ fn calls_come_back(rt: HostRuntime) -> Result<(), Fail> {
         "key 0 1 0:s",
         "queryable 0 1 0:s:%C8 c 0 0",
     ] {
-        assert!(rt; call_of(alloc, line.as_bytes())?.is_none(), "{line}");
+        assert!(rt;
+            matches!(call_of(alloc, line.as_bytes()), Err(Stop::Bad)),
+            "{line}"
+        );
     }
     Ok(())
 }

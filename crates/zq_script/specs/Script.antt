@@ -6,6 +6,8 @@ use Rattle.zq_machine.specs.declared.call.Call.{Call}
 use Rattle.zq_machine.specs.Calls.{is_sent, is_built}
 use Rattle.zq_machine.specs.Configs.{Settings}
 use Rattle.zq_words.specs.Words.{◌>>=◌}
+use Rattle.zq_words.specs.declared.stop.Stop.{Stop}
+use Rattle.zq_words.specs.declared.stop.Stop.TheVariants as stop
 use Rattle.zq_lines.specs.Fits.{FitsCall}
 use Rattle.zq_lines.specs.Lines.{call_of}
 use Rattle.zq_script.specs.Head.{Head, head_of}
@@ -74,6 +76,11 @@ with_parts workers (Err n) = Err n
 -- the script of these lines, or the number of the first bad line
 abbrev pub script_of : ℕ → List (List ℕ) → Result Script ℕ
 script_of workers lines = with_parts workers (head_of lines)
+
+-- the refusal of a line in which a reader stopped
+abbrev pub refusal_at : ℕ → Stop → ScriptRefusal
+refusal_at n stop.Bad = refusal.BadLine n
+refusal_at n stop.OutOfMemory = refusal.OutOfMemory
 
 -- the refusal is what reading gives
 abbrev pub Refuses : {X : Type 0} → ScriptRefusal → Result X ℕ → Type 0

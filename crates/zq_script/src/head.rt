@@ -1,18 +1,21 @@
 //! The lines before the calls: the configuration, and the counters.
 ghost use Rattle.std.specs.Prelude.{◌≡◌, ◌≤◌, ◌+◌, ◌++◌, IfOk, IfSome, MatchOption, MatchResult, OnOk, Ok, length};
 ghost use Rattle.std.specs.Option.{option_map};
+ghost use Rattle.std.specs.Result.{result_map_both};
+ghost use Rattle.zq_words.specs.Words.{Reads};
 ghost use Rattle.zq_lines.specs.Split.{lines_of};
 ghost use Rattle.zq_script.specs.Script.{Gives, Refuses};
 ghost use Rattle.zq_script.specs.Head.{ended, entry_of, north_of, south_entry, entries_of, counters_of, after_name, start_of, config_of, start_at, no_counts, configured, head_of};
 
-use crate::refusal::ScriptRefusal;
+use crate::refusal::{ScriptRefusal, at_line};
 use std::alloc::Global;
 use zq_key::memory::OutOfMemory;
 use zq_key::message::{Mode, Region, Zid};
 use zq_key::text::Bytes;
 use zq_lines::split::next_line;
 use zq_machine::config::{Config, ConfigRefusal, Counters, Entry, EntryList};
-use zq_words::words::{Word, cut, is, len_to, read_at, read_each};
+use zq_words::stop::Stop;
+use zq_words::words::{Word, at_end, cut, is, len_to, read_at, read_each};
 
 /// The counters where no line `start` stands.
 const NO_COUNTS: Counters = Counters {
@@ -32,78 +35,67 @@ impl Word for EntryOf {
     ghost of = { entry_of };
 
     #[tactic(auto, unfolding(crate::specs::Head::entry_of))]
-    fn read(alloc: Global, word: &[u8]) -> Result<Option<Entry>, OutOfMemory> {
+    fn read(alloc: Global, word: &[u8]) -> Result<Entry, Stop> {
         if is(word, "local") {
-            return Ok(Some(Entry::Local));
+            return Ok(Entry::Local);
         }
-        match north_of(alloc, word)? {
-            Some(mode) => Ok(Some(Entry::North(mode))),
-            None => south_entry(alloc, word),
+        match north_of(alloc, word) {
+            Ok(mode) => Ok(Entry::North(mode)),
+            Err(Stop::Bad) => south_entry(alloc, word),
+            Err(Stop::OutOfMemory) => Err(Stop::OutOfMemory),
         }
     }
 }
 
 #[tactic(auto, unfolding(crate::specs::Head::north_of))]
-fn north_of(alloc: Global, word: &[u8]) -> Result<Option<Mode>, OutOfMemory>
-    ensures { IfOk result (λ o. o ≡ north_of word.now) }
+fn north_of(alloc: Global, word: &[u8]) -> Result<Mode, Stop>
+    ensures { Reads result (north_of word.now) }
 {
-    let Some((front, mode)) = cut(b':', word) else {
-        return Ok(None);
-    };
+    let (front, mode) = cut(b':', word).ok_or(Stop::Bad)?;
     if !is(front, "north") {
-        return Ok(None);
+        return Err(Stop::Bad);
     }
     Mode::read(alloc, mode)
 }
 
-fn south_entry(alloc: Global, word: &[u8]) -> Result<Option<Entry>, OutOfMemory>
-    ensures { IfOk result (λ o. o ≡ south_entry word.now) }
+fn south_entry(alloc: Global, word: &[u8]) -> Result<Entry, Stop>
+    ensures { Reads result (south_entry word.now) }
 {
     match Region::read(alloc, word)? {
-        Some(Region::South { id, mode }) => Ok(Some(Entry::South { id, mode })),
-        _ => Ok(None),
+        Region::South { id, mode } => Ok(Entry::South { id, mode }),
+        _ => Err(Stop::Bad),
     }
 }
 
 /// One or more entries up to the end of the line.
-fn entries_of(alloc: Global, bytes: &[u8]) -> Result<Option<EntryList>, OutOfMemory>
-    ensures { IfOk result (λ o. o ≡ entries_of bytes.now) }
+fn entries_of(alloc: Global, bytes: &[u8]) -> Result<EntryList, Stop>
+    ensures { Reads result (entries_of bytes.now) }
 {
     let [b' ', rest @ ..] = bytes else {
-        return Ok(None);
+        return Err(Stop::Bad);
     };
     read_each::<EntryOf>(alloc, b' ', rest)
 }
 
 #[tactic(auto, unfolding(crate::specs::Head::counters_of))]
-fn counters_of(alloc: Global, bytes: &[u8]) -> Result<Option<Counters>, OutOfMemory>
-    ensures { IfOk result (λ o. o ≡ counters_of bytes.now) }
+fn counters_of(alloc: Global, bytes: &[u8]) -> Result<Counters, Stop>
+    ensures { Reads result (counters_of bytes.now) }
 {
-    let Some((faces, rest)) = read_at::<u32>(alloc, bytes)? else {
-        return Ok(None);
-    };
-    let Some((requests, rest)) = read_at::<u64>(alloc, rest)? else {
-        return Ok(None);
-    };
-    let Some((replies, rest)) = read_at::<u64>(alloc, rest)? else {
-        return Ok(None);
-    };
-    let Some((told, rest)) = read_at::<u32>(alloc, rest)? else {
-        return Ok(None);
-    };
-    let Some((request_ids, rest)) = read_at::<u32>(alloc, rest)? else {
-        return Ok(None);
-    };
-    if !rest.is_empty() {
-        return Ok(None);
-    }
-    Ok(Some(Counters {
-        faces,
-        requests,
-        replies,
-        told,
-        request_ids,
-    }))
+    let (faces, rest) = read_at::<u32>(alloc, bytes)?;
+    let (requests, rest) = read_at::<u64>(alloc, rest)?;
+    let (replies, rest) = read_at::<u64>(alloc, rest)?;
+    let (told, rest) = read_at::<u32>(alloc, rest)?;
+    let (request_ids, rest) = read_at::<u32>(alloc, rest)?;
+    at_end(
+        rest,
+        Counters {
+            faces,
+            requests,
+            replies,
+            told,
+            request_ids,
+        },
+    )
 }
 
 /// What follows the first word, where it is this one.
@@ -115,47 +107,30 @@ fn after_name<'a>(name: &str, line: &'a [u8]) -> Option<&'a [u8]>
 }
 
 #[tactic(auto, unfolding(crate::specs::Head::start_of))]
-fn start_of(alloc: Global, line: &[u8]) -> Result<Option<Counters>, OutOfMemory>
-    ensures { IfOk result (λ o. o ≡ start_of line.now) }
+fn start_of(alloc: Global, line: &[u8]) -> Result<Counters, Stop>
+    ensures { Reads result (start_of line.now) }
 {
-    match after_name("start", line) {
-        Some(rest) => counters_of(alloc, rest),
-        None => Ok(None),
-    }
+    counters_of(alloc, after_name("start", line).ok_or(Stop::Bad)?)
 }
 
 /// The line `config`: the own id, the default timeout and the entries.
 #[tactic(auto, unfolding(crate::specs::Head::config_of))]
-fn config_of(alloc: Global, line: &[u8]) -> Result<Option<(Zid, u64, EntryList)>, OutOfMemory>
-    ensures { IfOk result (λ o. o ≡ config_of line.now) }
+fn config_of(alloc: Global, line: &[u8]) -> Result<(Zid, u64, EntryList), Stop>
+    ensures { Reads result (config_of line.now) }
 {
-    let Some(rest) = after_name("config", line) else {
-        return Ok(None);
-    };
-    let Some((zid, rest)) = read_at::<Zid>(alloc, rest)? else {
-        return Ok(None);
-    };
-    let Some((timeout, rest)) = read_at::<u64>(alloc, rest)? else {
-        return Ok(None);
-    };
-    match entries_of(alloc, rest)? {
-        Some(entries) => Ok(Some((zid, timeout, entries))),
-        None => Ok(None),
-    }
+    let rest = after_name("config", line).ok_or(Stop::Bad)?;
+    let (zid, rest) = read_at::<Zid>(alloc, rest)?;
+    let (timeout, rest) = read_at::<u64>(alloc, rest)?;
+    Ok((zid, timeout, entries_of(alloc, rest)?))
 }
 
 /// The counters of the next line, where it is a line `start`, with the line and what follows.
-fn start_at(alloc: Global, bytes: &[u8]) -> Result<Option<(Counters, &[u8], &[u8])>, OutOfMemory>
-    ensures value { IfOk result (λ o. option_map (λ t. (t.0, t.1.now, lines_of t.2.now)) o ≡ start_at (lines_of bytes.now)) }
-    ensures shorter { IfOk result (λ o. IfSome o (λ t. length t.2.now ≤ length bytes.now)) }
+fn start_at(alloc: Global, bytes: &[u8]) -> Result<(Counters, &[u8], &[u8]), Stop>
+    ensures value { Reads (result_map_both (λ t. (t.0, t.1.now, lines_of t.2.now)) (λ e. e) result) (start_at (lines_of bytes.now)) }
+    ensures shorter { IfOk result (λ t. length t.2.now ≤ length bytes.now) }
 {
-    let Some((line, rest)) = next_line(bytes) else {
-        return Ok(None);
-    };
-    match start_of(alloc, line)? {
-        Some(start) => Ok(Some((start, line, rest))),
-        None => Ok(None),
-    }
+    let (line, rest) = next_line(bytes).ok_or(Stop::Bad)?;
+    Ok((start_of(alloc, line)?, line, rest))
 }
 
 /// The configuration; the first line is bad where something is wrong with its entries.
@@ -191,20 +166,17 @@ pub fn head_of(alloc: Global, bytes: &[u8]) -> Result<(Config, Bytes, u64, &[u8]
     ensures small { IfOk result (λ t. t.2 ≤ 3) }
     ensures shorter { IfOk result (λ t. length t.3.now ≤ length bytes.now) }
 {
-    let Some((line, rest)) = next_line(bytes) else {
-        return Err(ScriptRefusal::BadLine(1));
-    };
-    let Some((zid, timeout, entries)) = config_of(alloc, line)? else {
-        return Err(ScriptRefusal::BadLine(1));
-    };
+    let (line, rest) = next_line(bytes).ok_or(ScriptRefusal::BadLine(1))?;
+    let (zid, timeout, entries) = at_line(1, config_of(alloc, line))?;
     let mut text = Vec::new(alloc);
     push_ended(&mut text, line)?;
-    match start_at(alloc, rest)? {
-        None => {
+    match start_at(alloc, rest) {
+        Err(Stop::OutOfMemory) => Err(ScriptRefusal::OutOfMemory),
+        Err(Stop::Bad) => {
             let config = configured(alloc, zid, timeout, entries.as_slice(), NO_COUNTS)?;
             Ok((config, Bytes::from_vec(text), 2, rest))
         }
-        Some((start, next, rest)) => {
+        Ok((start, next, rest)) => {
             push_ended(&mut text, next)?;
             let config = configured(alloc, zid, timeout, entries.as_slice(), start)?;
             Ok((config, Bytes::from_vec(text), 3, rest))

@@ -23,6 +23,7 @@ use zq_machine::call::Call;
 use zq_machine::config::Config;
 use zq_prints::fit::step_fits;
 use zq_prints::steps::push_step;
+use zq_words::stop::Stop;
 
 /// Makes a call, and prints its step.
 #[tactic(auto, using(zq_prints::proofs::Shown::step_shows))]
@@ -51,11 +52,14 @@ fn print_line(
     ensures called { result ≡ Ok true → Prints (script_call config.now false line.now) gateway.old print.old.items gateway.new print.new.items }
     ensures bad { result ≡ Ok false → script_call config.now false line.now ≡ None }
 {
-    let Some(call) = script_call(alloc, config, false, line)? else {
-        return Ok(false);
-    };
-    print_step(gateway, print, &call)?;
-    Ok(true)
+    match script_call(alloc, config, false, line) {
+        Ok(call) => {
+            print_step(gateway, print, &call)?;
+            Ok(true)
+        }
+        Err(Stop::Bad) => Ok(false),
+        Err(Stop::OutOfMemory) => Err(OutOfMemory),
+    }
 }
 
 /// The print of the steps of the lines' calls, the lines numbered from `first` on.

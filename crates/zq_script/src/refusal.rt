@@ -1,9 +1,12 @@
 //! Why bytes are not read as a script.
 ghost use Rattle.std.specs.Prelude.{◌≡◌};
+ghost use Rattle.std.specs.Result.{result_map_both};
+ghost use Rattle.zq_script.specs.Script.{refusal_at};
 ghost use Rattle.zq_script.specs.declared.refusal.ScriptRefusal.TheVariants as refusal;
 
 use thiserror::Error;
 use zq_key::memory::OutOfMemory;
+use zq_words::stop::Stop;
 
 /// Why bytes were not read as a script: their first bad line, counted from 1, or no memory was
 /// found.
@@ -20,5 +23,16 @@ impl From<OutOfMemory> for ScriptRefusal {
 
     fn from(_error: OutOfMemory) -> ScriptRefusal {
         ScriptRefusal::OutOfMemory
+    }
+}
+
+/// What was read in the line of this number, or the refusal of the line.
+pub fn at_line<X: Drop>(number: u64, read: Result<X, Stop>) -> Result<X, ScriptRefusal>
+    ensures { result ≡ result_map_both (λ x. x) (refusal_at number) read }
+{
+    match read {
+        Ok(x) => Ok(x),
+        Err(Stop::Bad) => Err(ScriptRefusal::BadLine(number)),
+        Err(Stop::OutOfMemory) => Err(ScriptRefusal::OutOfMemory),
     }
 }

@@ -204,7 +204,9 @@ pub struct SureSink;
 
 impl SureSink {
     /// A sink. Takes no memory.
-    pub fn new() -> SureSink {
+    pub fn new() -> SureSink
+        ensures { result ≡ record {} }
+    {
         SureSink
     }
 }

@@ -1,15 +1,27 @@
 -- Words: what one word of a line stands for, and how a word is written.
-use Rattle.std.specs.Prelude.{◌≡◌, ◌<◌, not, ℕ, ◌+◌, ◌*◌, ◌-◌, Bool, true, ◌&&◌, ◌==◌, nat_le, nat_lt, List, [], ◌∷◌, ◌++◌, Option, Some, None, if◌then◌else◌, drop, take, length, codes}
+use Rattle.std.specs.Prelude.{◌≡◌, ◌<◌, not, ℕ, ◌+◌, ◌*◌, ◌-◌, Bool, true, ◌&&◌, ◌==◌, nat_le, nat_lt, List, [], ◌∷◌, ◌++◌, Option, Some, None, Result, Ok, Err, ⊤, if◌then◌else◌, drop, take, length, codes}
 use Rattle.std.specs.List.{flat_map, slice_split, position_or_len}
 use Rattle.std.specs.Str.{bytes_eq, is_utf8}
 use Rattle.zq_words.specs.declared.words.TheConstants.{ESCAPED}
 use Rattle.percent_encoding.specs.Percent.{percent_encode, percent_decode}
+use Rattle.zq_words.specs.declared.stop.Stop.{Stop}
+use Rattle.zq_words.specs.declared.stop.Stop.TheVariants as stop
 
 infixl 10 ◌>>=◌
 -- go on with what was read, if anything
 abbrev pub ◌>>=◌ : {A B : Type 0} → Option A → (A → Option B) → Option B
 None >>= f = None
 (Some x) >>= f = f x
+
+-- a reader stopped where nothing stands; where it lacked memory, anything may
+abbrev pub Refuses : {X : Type 0} → Stop → Option X → Type 0
+Refuses stop.Bad o = o ≡ None
+Refuses stop.OutOfMemory o = ⊤
+
+-- what was read is what stands there
+abbrev pub Reads : {X : Type 0} → Result X Stop → Option X → Type 0
+Reads (Ok x) o = o ≡ Some x
+Reads (Err e) o = Refuses e o
 
 -- the pieces between the bytes
 abbrev pub pieces : ℕ → List ℕ → List (List ℕ)

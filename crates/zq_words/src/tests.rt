@@ -1,3 +1,4 @@
+use crate::stop::Stop;
 use crate::values::flag_of;
 use crate::words::{print_word, read_word, text_of};
 use std::test::Fail;
@@ -30,8 +31,8 @@ fn words_of_bytes(rt: HostRuntime) -> Result<(), Fail> {
             bytes.as_bytes()
         );
     }
-    assert!(rt; text_of(alloc, b"%C8%B2")?.is_some());
-    assert!(rt; text_of(alloc, b"%C8")?.is_none());
+    assert!(rt; text_of(alloc, b"%C8%B2").is_ok());
+    assert!(rt; matches!(text_of(alloc, b"%C8"), Err(Stop::Bad)));
     assert_eq!(rt; flag_of("c", "p", b"p"), Some(false));
     Ok(())
 }

@@ -2,13 +2,13 @@
 ghost use Rattle.std.specs.Prelude.{◌≡◌, IfOk, OnOk, ◌++◌, string_bytes, List, Option, ℕ};
 ghost use Rattle.std.specs.Option.{option_map};
 ghost use Rattle.std.specs.Fmt.{decimal};
-ghost use Rattle.zq_words.specs.Words.{cut, number, text_of, bytes_of, read_at, option_of, list_of, payload_word};
+ghost use Rattle.zq_words.specs.Words.{Reads, cut, number, text_of, bytes_of, read_at, option_of, list_of, payload_word};
 ghost use Rattle.zq_words.specs.Values.{most_8, most_16, most_32, most_64, most_128, flag_of, face_of, zid_of, mode_of, bound_of, target_of, behind, south_of, region_of, mapping_of, wire_of, zids_of, all_of, direction_of};
 
+use crate::stop::Stop;
 use crate::words::{Word, cut, is, list_of, number, read_word, text_of, wide_number, word_at};
 use std::alloc::Global;
 use zq_key::items::Items;
-use zq_key::memory::OutOfMemory;
 use zq_key::message::{Bound, FaceId, Mapping, Mode, QueryTarget, Region, WireExpr, Zid};
 use zq_key::text::{Bytes, Text};
 
@@ -17,11 +17,8 @@ impl Word for u8 {
 
     ghost of = { number most_8 };
 
-    fn read(_alloc: Global, word: &[u8]) -> Result<Option<u8>, OutOfMemory> {
-        match number(255, word) {
-            Some(n) => Ok(Some(n as u8)),
-            None => Ok(None),
-        }
+    fn read(_alloc: Global, word: &[u8]) -> Result<u8, Stop> {
+        Ok(number(255, word).ok_or(Stop::Bad)? as u8)
     }
 }
 
@@ -30,11 +27,8 @@ impl Word for u16 {
 
     ghost of = { number most_16 };
 
-    fn read(_alloc: Global, word: &[u8]) -> Result<Option<u16>, OutOfMemory> {
-        match number(65_535, word) {
-            Some(n) => Ok(Some(n as u16)),
-            None => Ok(None),
-        }
+    fn read(_alloc: Global, word: &[u8]) -> Result<u16, Stop> {
+        Ok(number(65_535, word).ok_or(Stop::Bad)? as u16)
     }
 }
 
@@ -43,11 +37,8 @@ impl Word for u32 {
 
     ghost of = { number most_32 };
 
-    fn read(_alloc: Global, word: &[u8]) -> Result<Option<u32>, OutOfMemory> {
-        match number(4_294_967_295, word) {
-            Some(n) => Ok(Some(n as u32)),
-            None => Ok(None),
-        }
+    fn read(_alloc: Global, word: &[u8]) -> Result<u32, Stop> {
+        Ok(number(4_294_967_295, word).ok_or(Stop::Bad)? as u32)
     }
 }
 
@@ -56,8 +47,8 @@ impl Word for u64 {
 
     ghost of = { number most_64 };
 
-    fn read(_alloc: Global, word: &[u8]) -> Result<Option<u64>, OutOfMemory> {
-        Ok(number(u64::MAX, word))
+    fn read(_alloc: Global, word: &[u8]) -> Result<u64, Stop> {
+        number(u64::MAX, word).ok_or(Stop::Bad)
     }
 }
 
@@ -66,11 +57,8 @@ impl Word for FaceId {
 
     ghost of = { face_of };
 
-    fn read(_alloc: Global, word: &[u8]) -> Result<Option<FaceId>, OutOfMemory> {
-        match number(4_294_967_295, word) {
-            Some(n) => Ok(Some(FaceId(n as u32))),
-            None => Ok(None),
-        }
+    fn read(alloc: Global, word: &[u8]) -> Result<FaceId, Stop> {
+        Ok(FaceId(u32::read(alloc, word)?))
     }
 }
 
@@ -79,11 +67,8 @@ impl Word for Zid {
 
     ghost of = { zid_of };
 
-    fn read(_alloc: Global, word: &[u8]) -> Result<Option<Zid>, OutOfMemory> {
-        match wide_number(word) {
-            Some(n) => Ok(Some(Zid(n))),
-            None => Ok(None),
-        }
+    fn read(_alloc: Global, word: &[u8]) -> Result<Zid, Stop> {
+        Ok(Zid(wide_number(word).ok_or(Stop::Bad)?))
     }
 }
 
@@ -92,7 +77,7 @@ impl Word for Text {
 
     ghost of = { text_of };
 
-    fn read(alloc: Global, word: &[u8]) -> Result<Option<Text>, OutOfMemory> {
+    fn read(alloc: Global, word: &[u8]) -> Result<Text, Stop> {
         text_of(alloc, word)
     }
 }
@@ -102,8 +87,8 @@ impl Word for Bytes {
 
     ghost of = { bytes_of };
 
-    fn read(alloc: Global, word: &[u8]) -> Result<Option<Bytes>, OutOfMemory> {
-        Ok(Some(read_word(alloc, word)?))
+    fn read(alloc: Global, word: &[u8]) -> Result<Bytes, Stop> {
+        Ok(read_word(alloc, word)?)
     }
 }
 
@@ -126,8 +111,8 @@ impl Word for Mode {
 
     ghost of = { mode_of };
 
-    fn read(_alloc: Global, word: &[u8]) -> Result<Option<Mode>, OutOfMemory> {
-        Ok(mode_of(word))
+    fn read(_alloc: Global, word: &[u8]) -> Result<Mode, Stop> {
+        mode_of(word).ok_or(Stop::Bad)
     }
 }
 
@@ -153,13 +138,13 @@ impl Word for Region {
 
     ghost of = { region_of };
 
-    fn read(_alloc: Global, word: &[u8]) -> Result<Option<Region>, OutOfMemory> {
+    fn read(_alloc: Global, word: &[u8]) -> Result<Region, Stop> {
         if is(word, "north") {
-            Ok(Some(Region::North))
+            Ok(Region::North)
         } else if is(word, "local") {
-            Ok(Some(Region::Local))
+            Ok(Region::Local)
         } else {
-            Ok(south_of(word))
+            south_of(word).ok_or(Stop::Bad)
         }
     }
 }
@@ -183,27 +168,17 @@ impl Word for WireExpr {
     ghost of = { wire_of };
 
     #[tactic(auto, unfolding(crate::specs::Values::wire_of))]
-    fn read(alloc: Global, word: &[u8]) -> Result<Option<WireExpr>, OutOfMemory> {
-        let Some((scope, back)) = cut(b':', word) else {
-            return Ok(None);
-        };
-        let Some(scope) = number(65_535, scope) else {
-            return Ok(None);
-        };
-        let Some((mapping, suffix)) = cut(b':', back) else {
-            return Ok(None);
-        };
-        let Some(mapping) = mapping_of(mapping) else {
-            return Ok(None);
-        };
-        match text_of(alloc, suffix)? {
-            Some(suffix) => Ok(Some(WireExpr {
-                scope: scope as u16,
-                mapping,
-                suffix,
-            })),
-            None => Ok(None),
-        }
+    fn read(alloc: Global, word: &[u8]) -> Result<WireExpr, Stop> {
+        let (scope, back) = cut(b':', word).ok_or(Stop::Bad)?;
+        let scope = u16::read(alloc, scope)?;
+        let (mapping, suffix) = cut(b':', back).ok_or(Stop::Bad)?;
+        let mapping = mapping_of(mapping).ok_or(Stop::Bad)?;
+        let suffix = text_of(alloc, suffix)?;
+        Ok(WireExpr {
+            scope,
+            mapping,
+            suffix,
+        })
     }
 }
 
@@ -212,15 +187,15 @@ impl Word for QueryTarget {
 
     ghost of = { target_of };
 
-    fn read(_alloc: Global, word: &[u8]) -> Result<Option<QueryTarget>, OutOfMemory> {
+    fn read(_alloc: Global, word: &[u8]) -> Result<QueryTarget, Stop> {
         if is(word, "all") {
-            Ok(Some(QueryTarget::All))
+            Ok(QueryTarget::All)
         } else if is(word, "complete") {
-            Ok(Some(QueryTarget::AllComplete))
+            Ok(QueryTarget::AllComplete)
         } else if is(word, "best") {
-            Ok(Some(QueryTarget::BestMatching))
+            Ok(QueryTarget::BestMatching)
         } else {
-            Ok(None)
+            Err(Stop::Bad)
         }
     }
 }
@@ -230,13 +205,13 @@ impl Word for Bound {
 
     ghost of = { bound_of };
 
-    fn read(_alloc: Global, word: &[u8]) -> Result<Option<Bound>, OutOfMemory> {
+    fn read(_alloc: Global, word: &[u8]) -> Result<Bound, Stop> {
         if is(word, "north") {
-            Ok(Some(Bound::North))
+            Ok(Bound::North)
         } else if is(word, "south") {
-            Ok(Some(Bound::South))
+            Ok(Bound::South)
         } else {
-            Ok(None)
+            Err(Stop::Bad)
         }
     }
 }
@@ -269,14 +244,11 @@ impl Word for Option<u64> {
 
     ghost of = { option_of (number most_64) };
 
-    fn read(alloc: Global, word: &[u8]) -> Result<Option<Option<u64>>, OutOfMemory> {
+    fn read(alloc: Global, word: &[u8]) -> Result<Option<u64>, Stop> {
         if is(word, "-") {
-            return Ok(Some(None));
+            return Ok(None);
         }
-        match u64::read(alloc, word)? {
-            Some(n) => Ok(Some(Some(n))),
-            None => Ok(None),
-        }
+        Ok(Some(u64::read(alloc, word)?))
     }
 }
 
@@ -285,14 +257,11 @@ impl Word for Option<WireExpr> {
 
     ghost of = { option_of wire_of };
 
-    fn read(alloc: Global, word: &[u8]) -> Result<Option<Option<WireExpr>>, OutOfMemory> {
+    fn read(alloc: Global, word: &[u8]) -> Result<Option<WireExpr>, Stop> {
         if is(word, "-") {
-            return Ok(Some(None));
+            return Ok(None);
         }
-        match WireExpr::read(alloc, word)? {
-            Some(wire) => Ok(Some(Some(wire))),
-            None => Ok(None),
-        }
+        Ok(Some(WireExpr::read(alloc, word)?))
     }
 }
 
@@ -301,14 +270,11 @@ impl Word for Option<Text> {
 
     ghost of = { option_of text_of };
 
-    fn read(alloc: Global, word: &[u8]) -> Result<Option<Option<Text>>, OutOfMemory> {
+    fn read(alloc: Global, word: &[u8]) -> Result<Option<Text>, Stop> {
         if is(word, "-") {
-            return Ok(Some(None));
+            return Ok(None);
         }
-        match text_of(alloc, word)? {
-            Some(text) => Ok(Some(Some(text))),
-            None => Ok(None),
-        }
+        Ok(Some(text_of(alloc, word)?))
     }
 }
 
@@ -318,14 +284,11 @@ impl Word for Option<u32> {
 
     ghost of = { direction_of };
 
-    fn read(alloc: Global, word: &[u8]) -> Result<Option<Option<u32>>, OutOfMemory> {
+    fn read(alloc: Global, word: &[u8]) -> Result<Option<u32>, Stop> {
         if is(word, "x") {
-            return Ok(Some(None));
+            return Ok(None);
         }
-        match u32::read(alloc, word)? {
-            Some(n) => Ok(Some(Some(n))),
-            None => Ok(None),
-        }
+        Ok(Some(u32::read(alloc, word)?))
     }
 }
 
@@ -334,7 +297,7 @@ impl Word for Items<Zid> {
 
     ghost of = { zids_of };
 
-    fn read(alloc: Global, word: &[u8]) -> Result<Option<Items<Zid>>, OutOfMemory> {
+    fn read(alloc: Global, word: &[u8]) -> Result<Items<Zid>, Stop> {
         list_of::<Zid>(alloc, b',', word)
     }
 }
@@ -344,7 +307,7 @@ impl Word for Items<u16> {
 
     ghost of = { list_of 44 (number most_16) };
 
-    fn read(alloc: Global, word: &[u8]) -> Result<Option<Items<u16>>, OutOfMemory> {
+    fn read(alloc: Global, word: &[u8]) -> Result<Items<u16>, Stop> {
         list_of::<u16>(alloc, b',', word)
     }
 }
@@ -354,13 +317,10 @@ impl Word for Option<Items<Zid>> {
 
     ghost of = { all_of };
 
-    fn read(alloc: Global, word: &[u8]) -> Result<Option<Option<Items<Zid>>>, OutOfMemory> {
+    fn read(alloc: Global, word: &[u8]) -> Result<Option<Items<Zid>>, Stop> {
         if is(word, "none") {
-            return Ok(Some(None));
+            return Ok(None);
         }
-        match list_of::<Zid>(alloc, b',', word)? {
-            Some(zids) => Ok(Some(Some(zids))),
-            None => Ok(None),
-        }
+        Ok(Some(list_of::<Zid>(alloc, b',', word)?))
     }
 }

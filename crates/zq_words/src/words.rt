@@ -4,8 +4,10 @@ ghost use Rattle.std.specs.Option.{option_map};
 ghost use Rattle.std.specs.Str.{bytes_eq};
 ghost use Rattle.percent_encoding.specs.Percent.{percent_encode};
 ghost use Rattle.zq_words.specs.Values.{most_128};
-ghost use Rattle.zq_words.specs.Words.{pieces, read_each, is_byte, len_to, cut, number_from, number, payload_of, payload_word, text_of, word_at, read_at, list_of, option_of, IsWord};
+ghost use Rattle.std.specs.Result.{result_map_both};
+ghost use Rattle.zq_words.specs.Words.{Reads, at_end, pieces, read_each, is_byte, len_to, cut, number_from, number, payload_of, payload_word, text_of, word_at, read_at, list_of, option_of, IsWord};
 
+use crate::stop::Stop;
 use itoa::{Buffer, Integer};
 use percent_encoding::{AsciiSet, CONTROLS, ascii_set, percent_decode, percent_encode};
 use std::alloc::{AllocError, Global};
@@ -194,14 +196,14 @@ pub fn print_word(alloc: Global, bytes: &[u8]) -> Result<Bytes, OutOfMemory>
     Ok(Bytes::from_vec(out))
 }
 
-/// The text that a TEXT word stands for; none where its bytes are no UTF-8.
+/// The text that a TEXT word stands for; refused where its bytes are no UTF-8.
 #[tactic(auto, using(crate::proofs::Known::not_utf8, crate::proofs::Known::string_utf8))]
-pub fn text_of(alloc: Global, word: &[u8]) -> Result<Option<Text>, OutOfMemory>
-    ensures { IfOk result (λ t. t ≡ text_of word.now) }
+pub fn text_of(alloc: Global, word: &[u8]) -> Result<Text, Stop>
+    ensures { Reads result (text_of word.now) }
 {
     match String::from_utf8(decoded(alloc, word)?) {
-        Ok(text) => Ok(Some(Text::from_string(text))),
-        Err(_) => Ok(None),
+        Ok(text) => Ok(Text::from_string(text)),
+        Err(_) => Err(Stop::Bad),
     }
 }
 
@@ -214,64 +216,51 @@ pub trait Word {
     ghost of: { List ℕ → Option Self.Value };
 
     /// Reads a whole word.
-    fn read(alloc: Global, word: &[u8]) -> Result<Option<Self::Value>, OutOfMemory>
-        ensures { IfOk result (λ o. o ≡ of word.now) };
+    fn read(alloc: Global, word: &[u8]) -> Result<Self::Value, Stop>
+        ensures { Reads result (of word.now) };
 }
 
 /// A space, a word that stands for something, and what follows the word.
 #[tactic(auto, unfolding(crate::specs::Words::read_at))]
-pub fn read_at<T: Word>(
-    alloc: Global,
-    bytes: &[u8],
-) -> Result<Option<(T::Value, &[u8])>, OutOfMemory>
-    ensures { IfOk result (λ o. option_map (λ t. (t.0, t.1.now)) o ≡ read_at T.of bytes.now) }
+pub fn read_at<T: Word>(alloc: Global, bytes: &[u8]) -> Result<(T::Value, &[u8]), Stop>
+    ensures { Reads (result_map_both (λ t. (t.0, t.1.now)) (λ e. e) result) (read_at T.of bytes.now) }
 {
-    let Some((word, rest)) = word_at(bytes) else {
-        return Ok(None);
-    };
-    match T::read(alloc, word)? {
-        Some(x) => Ok(Some((x, rest))),
-        None => Ok(None),
+    let (word, rest) = word_at(bytes).ok_or(Stop::Bad)?;
+    Ok((T::read(alloc, word)?, rest))
+}
+
+/// Nothing follows.
+pub fn at_end<X: Drop>(rest: &[u8], x: X) -> Result<X, Stop>
+    ensures { Reads result (at_end rest.now x) }
+{
+    if rest.is_empty() {
+        Ok(x)
+    } else {
+        Err(Stop::Bad)
     }
 }
 
 /// The pieces of a word, each of which stands for something.
 #[tactic(auto, using(crate::proofs::Split::pieces_cut, crate::proofs::Split::pieces_whole, crate::proofs::Split::put_step))]
-pub fn read_each<T: Word>(
-    alloc: Global,
-    byte: u8,
-    word: &[u8],
-) -> Result<Option<Items<T::Value>>, OutOfMemory>
-    ensures { IfOk result (λ o. o ≡ read_each T.of (pieces byte word.now)) }
+pub fn read_each<T: Word>(alloc: Global, byte: u8, word: &[u8]) -> Result<Items<T::Value>, Stop>
+    ensures { Reads result (read_each T.of (pieces byte word.now)) }
 {
     let mut items: Items<T::Value> = Items::new(alloc);
     let mut left = word;
     'pieces: while let Some((piece, rest)) = cut(byte, left) {
-        match T::read(alloc, piece)? {
-            Some(x) => items.push(x)?,
-            None => return Ok(None),
-        }
+        items.push(T::read(alloc, piece)?)?;
         left = rest;
     }
-    match T::read(alloc, left)? {
-        Some(x) => {
-            items.push(x)?;
-            Ok(Some(items))
-        }
-        None => Ok(None),
-    }
+    items.push(T::read(alloc, left)?)?;
+    Ok(items)
 }
 
 /// A list joined by a byte, or a dash for the empty one.
-pub fn list_of<T: Word>(
-    alloc: Global,
-    byte: u8,
-    word: &[u8],
-) -> Result<Option<Items<T::Value>>, OutOfMemory>
-    ensures { IfOk result (λ o. o ≡ list_of byte T.of word.now) }
+pub fn list_of<T: Word>(alloc: Global, byte: u8, word: &[u8]) -> Result<Items<T::Value>, Stop>
+    ensures { Reads result (list_of byte T.of word.now) }
 {
     if is(word, "-") {
-        return Ok(Some(Items::new(alloc)));
+        return Ok(Items::new(alloc));
     }
     read_each::<T>(alloc, byte, word)
 }
