@@ -5,31 +5,19 @@ use Rattle.std.specs.Option.{option_and_then, option_or}
 use Rattle.std.specs.declared.cmp.Ordering.{Ordering}
 use Rattle.std.specs.declared.cmp.Ordering.TheVariants.{Less, Equal, Greater}
 use Rattle.std.specs.Ordering.{nat_cmp, is_eq, ordering_then}
-use Rattle.std.specs.Cmp.{IsTotalOrder, nat_cmp_total, then_total, on_total}
-use Rattle.std.specs.Cmp.Lexicographic.{nat_list_cmp_total}
+use Rattle.std.specs.Cmp.{nat_cmp_total}
 use Rattle.std.specs.List.{AllByRecursion}
 use Rattle.std.specs.List.Sorted.{IsStrictlySortedBy}
 use Rattle.std.specs.Map.{keys_of, lookup}
 use Rattle.std.specs.BTreeMap.{is_at}
 use Rattle.std.proofs.lemmas.Map.Keys.{sorted_head, sorted_tail}
-use Rattle.std.proofs.lemmas.Map.Lookups.{CmpEqualImpliesEq, exact_unsigned, exact_pairs, exact_bytes}
+use Rattle.std.proofs.lemmas.Map.Lookups.{exact_unsigned}
 use Rattle.zq_hat.specs.declared.types.Declaration.{Declaration}
-use Rattle.zq_hat.specs.Kept.{text_cmp, at_id, is_on, declaration}
+use Rattle.zq_hat.specs.Kept.{at_id, is_on, declaration}
 use Rattle.zq_hat.specs.State.{FaceState}
-use Rattle.zq_hat.specs.Holders.{Place, Holdings, place_cmp, at_place, info_on, declared_at, held_by, held, AreOrdered}
+use Rattle.zq_index.specs.Holders.{Place, Holdings, place_cmp, at_place}
+use Rattle.zq_hat.specs.Tied.{info_on, declared_at, held_by, held, AreOrdered}
 use Rattle.zq_key.proofs.Lookups.{same_key, at_itself, none_above, found_later}
-
-pub place_total : IsTotalOrder place_cmp
-place_total = then_total (on_total (λ p. p.0) nat_cmp_total) (on_total (λ p. p.1) nat_cmp_total)
-
-pub place_exact : CmpEqualImpliesEq place_cmp
-place_exact = exact_pairs nat_cmp nat_cmp exact_unsigned exact_unsigned
-
-pub text_total : IsTotalOrder text_cmp
-text_total = nat_list_cmp_total
-
-pub text_exact : CmpEqualImpliesEq text_cmp
-text_exact = exact_bytes
 
 number_itself : (n : ℕ) → is_at (nat_cmp n) n ≡ true
 number_itself n = at_itself nat_cmp_total exact_unsigned n

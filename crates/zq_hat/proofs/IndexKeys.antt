@@ -12,11 +12,13 @@ use Rattle.std.proofs.lemmas.Map.Made.{is_some-lookup}
 use Rattle.zq_key.specs.Key.{intersects}
 use Rattle.zq_key.specs.declared.message.Region.{Region}
 use Rattle.zq_hat.specs.declared.types.Declaration.{Declaration}
-use Rattle.zq_hat.specs.Kept.{text_cmp, is_on, key_of, with_key, with_keys, declared_keys}
+use Rattle.zq_index.specs.Texts.{text_cmp, at_text}
+use Rattle.zq_hat.specs.Kept.{is_on, key_of, with_key, with_keys, declared_keys}
 use Rattle.zq_hat.specs.Offers.{offers_for, declared_offers}
 use Rattle.zq_hat.specs.State.{FaceState}
-use Rattle.zq_hat.specs.Holders.{Holdings, Index, at_text, held, groups_from, group_offer, holder_offers, IsKeyed, IsTied}
-use Rattle.zq_hat.proofs.Held.{text_total, text_exact}
+use Rattle.zq_index.specs.Holders.{Holdings, Index}
+use Rattle.zq_hat.specs.Tied.{held, groups_from, group_offer, holder_offers, IsKeyed, IsTied}
+use Rattle.zq_index.proofs.Orders.{text_total, text_exact}
 use Rattle.zq_hat.proofs.Reading.{held_is, offers_is}
 use Rattle.zq_key.proofs.Lookups.{each_entry, either_way}
 use Rattle.zq_key.proofs.Sorted.{has_put, same_keys, sorted_put}

@@ -15,13 +15,16 @@ use Rattle.std.proofs.lemmas.Map.Text.{is_eq-slice_cmp}
 use Rattle.zq_key.specs.Key.{is_key}
 use Rattle.zq_key.specs.declared.message.QueryableInfoType.{QueryableInfoType}
 use Rattle.zq_hat.specs.declared.types.Declaration.{Declaration}
-use Rattle.zq_hat.specs.Kept.{text_cmp, at_id, is_apart, declare, withdraw, declaration}
+use Rattle.zq_index.specs.Texts.{text_cmp, at_text}
+use Rattle.zq_hat.specs.Kept.{at_id, is_apart, declare, withdraw, declaration}
 use Rattle.zq_hat.specs.State.{FaceState}
-use Rattle.zq_hat.specs.Holders.{Place, Holdings, Index, place_cmp, at_text, at_place, held_at, info_on, declared_at, with_holding, without_holding, without_declared, if_any, AreOrdered, IsTied}
-use Rattle.zq_hat.proofs.Held.{place_total, place_exact, text_total, text_exact, own_place, other_place}
+use Rattle.zq_index.specs.Holders.{Place, Holdings, Index, place_cmp, at_place, held_at, with_holding, without_holding, if_any}
+use Rattle.zq_hat.specs.Tied.{info_on, declared_at, without_declared, AreOrdered, IsTied}
+use Rattle.zq_index.proofs.Orders.{place_total, place_exact, text_total, text_exact}
+use Rattle.zq_hat.proofs.Held.{own_place, other_place}
 use Rattle.zq_hat.proofs.Reading.{sorted_at}
-use Rattle.zq_hat.proofs.Holding.{gone}
-use Rattle.zq_hat.proofs.Tied.{test_text, found_with, sorted_with, found_without, sorted_without, held_if_any, if_any_some, if_any_used, inserted_used}
+use Rattle.zq_index.proofs.Holding.{gone}
+use Rattle.zq_index.proofs.Finding.{test_text, found_with, sorted_with, found_without, sorted_without, held_if_any, if_any_some, if_any_used, inserted_used}
 use Rattle.zq_key.proofs.Lookups.{same_key, at_itself, found_after_removal, found_after_write, found_after_insertion, same_entries}
 use Rattle.zq_key.proofs.Sorted.{sorted_in, sorted_write, sorted_out}
 

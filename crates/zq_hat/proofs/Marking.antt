@@ -13,7 +13,8 @@ use Rattle.zq_hat.specs.declared.types.FinalMark.TheVariants as mark
 use Rattle.zq_hat.specs.Kept.{at_id, declaration}
 use Rattle.zq_hat.specs.Marks.{marked}
 use Rattle.zq_hat.specs.State.{FaceState}
-use Rattle.zq_hat.specs.Holders.{Index, Place, info_on, declared_at, AreOrdered, IsTied}
+use Rattle.zq_index.specs.Holders.{Index, Place}
+use Rattle.zq_hat.specs.Tied.{info_on, declared_at, AreOrdered, IsTied}
 use Rattle.zq_key.proofs.Lookups.{same_key, found_after_write}
 use Rattle.zq_key.proofs.Sorted.{sorted_write}
 

@@ -17,8 +17,9 @@ use Rattle.zq_hat.specs.declared.types.Declaration.{Declaration}
 use Rattle.zq_hat.specs.declared.types.QueryTargetQabl.{QueryTargetQabl}
 use Rattle.zq_hat.specs.declared.types.Strategy.{Strategy}
 use Rattle.zq_hat.specs.declared.types.Strategy.TheVariants as strategy
-use Rattle.zq_hat.specs.Infos.{joined}
-use Rattle.zq_hat.specs.Kept.{text_cmp, with_declared, info, with_key, with_keys, declared_keys}
+use Rattle.zq_index.specs.Infos.{joined}
+use Rattle.zq_index.specs.Texts.{text_cmp}
+use Rattle.zq_hat.specs.Kept.{with_declared, info, with_key, with_keys, declared_keys}
 use Rattle.zq_hat.specs.Offers.{place, sorted, offer_cmp, distance, offer_list, offers_on, offers_for, declared_offers, bare_offer, bare_on, bare_offers, may_have, offers_by, offers_of}
 use Rattle.zq_hat.specs.Regions.{is_local, is_north, is_south, same_region, strategy_at}
 use Rattle.zq_hat.specs.State.{FaceState, HatState}

@@ -13,14 +13,17 @@ use Rattle.std.proofs.lemmas.Map.Keys.{sorted_head, sorted_tail}
 use Rattle.std.proofs.lemmas.List.{map-append}
 use Rattle.zq_key.specs.declared.message.QueryableInfoType.{QueryableInfoType}
 use Rattle.zq_hat.specs.declared.types.Declaration.{Declaration}
-use Rattle.zq_hat.specs.Infos.{joined, merge}
+use Rattle.zq_index.specs.Infos.{joined, merge}
 use Rattle.zq_hat.specs.Kept.{is_on, with_declared, info, with_face, region_info}
 use Rattle.zq_hat.specs.Offers.{offer_list, offers_on}
 use Rattle.zq_key.specs.declared.message.Region.{Region}
 use Rattle.zq_hat.specs.State.{FaceState}
-use Rattle.zq_hat.specs.Holders.{Holdings, Index, place_cmp, at_text, held_at, held_by, held, with_held, groups_from, group_offer, IsTied}
-use Rattle.zq_hat.proofs.Held.{place_total, place_exact, found_in_held, sorted_held, above_held}
-use Rattle.zq_hat.proofs.Laws.{merge_regroup}
+use Rattle.zq_index.specs.Holders.{Holdings, Index, place_cmp, held_at, with_held}
+use Rattle.zq_index.specs.Texts.{at_text}
+use Rattle.zq_hat.specs.Tied.{held_by, held, groups_from, group_offer, IsTied}
+use Rattle.zq_index.proofs.Orders.{place_total, place_exact}
+use Rattle.zq_hat.proofs.Held.{found_in_held, sorted_held, above_held}
+use Rattle.zq_index.proofs.Laws.{merge_regroup}
 use Rattle.zq_key.proofs.Lookups.{same_entries, less_apart}
 
 module _ (faces : List (ℕ × FaceState)) (index : Index) (t : IsTied faces index) (key : List ℕ) where

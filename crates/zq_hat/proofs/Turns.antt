@@ -9,7 +9,8 @@ use Rattle.zq_key.specs.declared.message.QueryableInfoType.{QueryableInfoType}
 use Rattle.zq_hat.specs.declared.types.Declaration.{Declaration}
 use Rattle.zq_hat.specs.Kept.{at_id, is_apart, declare, withdraw, declaration}
 use Rattle.zq_hat.specs.State.{FaceState}
-use Rattle.zq_hat.specs.Holders.{Index, info_on, declared_at, with_holding, without_holding, without_declared, IsTied}
+use Rattle.zq_index.specs.Holders.{Index, with_holding, without_holding}
+use Rattle.zq_hat.specs.Tied.{info_on, declared_at, without_declared, IsTied}
 use Rattle.zq_hat.proofs.Keeping.{declare_keeps, withdraw_keeps, forget_keeps, put_back}
 
 module _ (faces : List (ℕ × FaceState)) (index : Index) (t : IsTied faces index) (n : ℕ) (fs : List (ℕ × FaceState)) (ix : Index) where

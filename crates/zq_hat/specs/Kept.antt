@@ -4,8 +4,6 @@ use Rattle.std.specs.Option.{option_map_or, option_and_then}
 use Rattle.std.specs.Map.{lookup, remove_entry, set_value}
 use Rattle.std.specs.BTreeMap.{insert_entry, is_at}
 use Rattle.std.specs.BTreeSet.{insert_key}
-use Rattle.std.specs.Cmp.Lexicographic.{slice_cmp}
-use Rattle.std.specs.declared.cmp.Ordering.{Ordering}
 use Rattle.std.specs.Ordering.{nat_cmp}
 use Rattle.std.specs.Str.{bytes_eq}
 use Rattle.zq_key.specs.declared.message.QueryableInfoType.{QueryableInfoType}
@@ -16,13 +14,10 @@ use Rattle.zq_hat.specs.declared.types.FaceRecord.{FaceRecord}
 use Rattle.zq_hat.specs.declared.types.Declaration.{Declaration}
 use Rattle.zq_hat.specs.declared.types.UnregisterEntityResult.{UnregisterEntityResult}
 use Rattle.zq_hat.specs.declared.types.UnregisterEntityResult.TheVariants as result
-use Rattle.zq_hat.specs.Infos.{joined, same_info}
+use Rattle.zq_index.specs.Infos.{joined, same_info}
+use Rattle.zq_index.specs.Texts.{text_cmp}
 use Rattle.zq_hat.specs.Regions.{is_upstream, strategy_at}
 use Rattle.zq_hat.specs.State.{FaceState, HatState}
-
--- texts in the order of their bytes
-abbrev pub text_cmp : List ℕ → List ℕ → Ordering
-text_cmp = slice_cmp nat_cmp
 
 -- what stands at the number
 abbrev pub at_id : {X : Type 0} → ℕ → List (ℕ × X) → Option X

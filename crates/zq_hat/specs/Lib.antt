@@ -1,10 +1,8 @@
-pub mod Infos
+pub use Rattle.zq_index.specs.Infos
 pub mod State
 pub mod Regions
 pub mod Kept
 pub mod Marks
 pub mod Offers
-pub mod Holders
-pub mod Skipping
+pub mod Tied
 pub mod Moved
-pub mod Forks

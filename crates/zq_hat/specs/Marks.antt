@@ -6,7 +6,8 @@ use Rattle.std.specs.BTreeSet.{insert_key}
 use Rattle.std.specs.Set.{remove_key}
 use Rattle.zq_hat.specs.declared.types.FinalMark.{FinalMark}
 use Rattle.zq_hat.specs.declared.types.FinalMark.TheVariants as mark
-use Rattle.zq_hat.specs.Kept.{text_cmp, change_face}
+use Rattle.zq_index.specs.Texts.{text_cmp}
+use Rattle.zq_hat.specs.Kept.{change_face}
 use Rattle.zq_hat.specs.State.{FaceState, HatState}
 
 -- the key is marked at the face

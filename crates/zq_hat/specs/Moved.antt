@@ -7,7 +7,7 @@ use Rattle.zq_hat.specs.declared.types.InterestEntry.{InterestEntry}
 use Rattle.zq_hat.specs.declared.types.FinalMark.{FinalMark}
 use Rattle.zq_hat.specs.declared.types.FinalMark.TheVariants as mark
 use Rattle.zq_hat.specs.declared.types.QueryTargetQabl.{QueryTargetQabl}
-use Rattle.zq_hat.specs.Kept.{text_cmp}
+use Rattle.zq_index.specs.Texts.{text_cmp}
 use Rattle.zq_hat.specs.State.{FaceState, HatState}
 
 -- the map keeps which texts are the same, how keys relate, which texts are keys, and their order

@@ -10,7 +10,8 @@ use Rattle.zq_key.specs.Key.{intersects, includes}
 use Rattle.zq_hat.specs.declared.types.QueryTargetQabl.{QueryTargetQabl}
 use Rattle.zq_hat.specs.declared.types.Strategy.{Strategy}
 use Rattle.zq_hat.specs.declared.types.Strategy.TheVariants as strategy
-use Rattle.zq_hat.specs.Kept.{text_cmp, info, declared_keys}
+use Rattle.zq_index.specs.Texts.{text_cmp}
+use Rattle.zq_hat.specs.Kept.{info, declared_keys}
 use Rattle.zq_hat.specs.Marks.{is_finalized}
 use Rattle.zq_hat.specs.Regions.{is_local, is_north, is_south, same_region, strategy_at}
 use Rattle.zq_hat.specs.State.{FaceState, HatState}

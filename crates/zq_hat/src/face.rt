@@ -4,11 +4,11 @@ ghost use Rattle.std.specs.Option.{option_copied, option_map};
 ghost use Rattle.zq_hat.specs.Kept.{declaration, declare, withdraw, new_face, key_of};
 ghost use Rattle.zq_hat.specs.Marks.{is_finalized, marked};
 
-use crate::text_set::{copy_texts, put_text, take_text};
 use crate::types::{Declaration, FaceRecord, FinalMark};
 use std::alloc::Global;
 use std::collections::{BTreeMap, BTreeSet};
 use std::marker::Model;
+use zq_index::text_set::{copy_texts, put_text, take_text};
 use zq_key::Key;
 use zq_key::items::Items;
 use zq_key::memory::OutOfMemory;
@@ -59,7 +59,7 @@ fn keys(declared: &BTreeMap<u32, Declaration>, alloc: Global) -> Result<TextList
 }
 
 /// Equal declarations.
-#[tactic(auto, using(crate::proofs::Rebuilt::rebuilt_numbers))]
+#[tactic(auto, using(zq_index::proofs::Rebuilt::rebuilt_numbers))]
 fn copy_declared(
     declared: &BTreeMap<u32, Declaration>,
     alloc: Global,
@@ -119,7 +119,7 @@ impl HatFace {
     }
 
     /// Whether all that the face had to declare on the key has come.
-    #[tactic(auto, using(crate::proofs::Texts::texts_any))]
+    #[tactic(auto, using(zq_index::proofs::Texts::texts_any))]
     pub fn is_finalized(&self, key: &str) -> bool
         ensures { result ≡ is_finalized key.now self.now }
     {
@@ -160,6 +160,7 @@ impl HatFace {
         self.declared.get(&id)
     }
 
+    /// What the face declared, by id.
     pub fn declared(&self) -> &BTreeMap<u32, Declaration>
         ensures { result.now.entries ≡ self.now.declared }
     {

@@ -5,15 +5,13 @@ ghost use Rattle.std.specs.BTreeMap.{is_at};
 ghost use Rattle.std.specs.Ordering.{nat_cmp};
 ghost use Rattle.zq_key.specs.Key.{is_key};
 ghost use Rattle.zq_hat.specs.Kept.{new_hat, with_face_opened, without_face, keys_of_face, has_face, clashes_at, declaration_at, has_any, is_full, registered, unregistered, unregister_result, region_info, changed, at_id, face_at, declare, withdraw, declaration};
-ghost use Rattle.zq_hat.specs.Holders.{without_declared};
+ghost use Rattle.zq_hat.specs.Tied.{without_declared};
 ghost use Rattle.zq_hat.specs.State.{FaceState};
 ghost use Rattle.zq_hat.specs.Marks.{finalized, marked};
 ghost use Rattle.zq_hat.specs.Offers.{declared_offers, offer_cmp, offers_beside, offers_of, sorted};
 ghost use Rattle.zq_hat.specs.Regions.{strategy_at};
 
 use crate::face::HatFace;
-use crate::holders::KeyHolders;
-use crate::info::same_info;
 use crate::offers;
 use crate::strategy::{same_region, strategy_of};
 use crate::types::{
@@ -23,6 +21,8 @@ use crate::types::{
 use std::alloc::Global;
 use std::collections::BTreeMap;
 use std::marker::Model;
+use zq_index::holders::KeyHolders;
+use zq_index::info::same_info;
 use zq_key::Key;
 use zq_key::items::Items;
 use zq_key::memory::OutOfMemory;
@@ -44,7 +44,7 @@ pub struct Hat {
 impl Model for Hat {
     ghost use Rattle.std.specs.Prelude.{[]};
     ghost use Rattle.zq_hat.specs.State.{HatState};
-    ghost use Rattle.zq_hat.specs.Holders.{IsTied};
+    ghost use Rattle.zq_hat.specs.Tied.{IsTied};
 
     ghost Value = { HatState };
 
@@ -157,7 +157,7 @@ fn has_any(faces: &BTreeMap<u32, HatFace>) -> bool
 }
 
 /// Equal faces.
-#[tactic(auto, using(crate::proofs::Rebuilt::rebuilt_numbers))]
+#[tactic(auto, using(zq_index::proofs::Rebuilt::rebuilt_numbers))]
 fn copy_faces(
     faces: &BTreeMap<u32, HatFace>,
     alloc: Global,

@@ -1,5 +1,4 @@
 use crate::hat::Hat;
-use crate::info::merge_qabl_infos;
 use crate::types::{FaceRecord, FinalMark, HatRefusal, UnregisterEntityResult};
 use std::alloc::Global;
 use zq_key::Key;
@@ -8,18 +7,6 @@ use zq_key::text::Text;
 
 fn information(complete: bool, distance: u16) -> QueryableInfoType {
     QueryableInfoType { complete, distance }
-}
-
-#[test]
-fn merging(rt: HostRuntime) {
-    for (this, other, want) in [
-        ((true, 5), (false, 1), (true, 5)),
-        ((true, 5), (true, 2), (true, 2)),
-        ((false, 5), (false, 1), (false, 1)),
-    ] {
-        let merged = merge_qabl_infos(information(this.0, this.1), information(other.0, other.1));
-        assert_eq!(rt; merged, information(want.0, want.1));
-    }
 }
 
 fn open(hat: &mut Hat, number: u32) -> bool {

@@ -1,6 +1,6 @@
 use Rattle.std.proofs.Common.{◌≡◌, fold, []}
 use Rattle.std.specs.Ordering.{nat_cmp}
-use Rattle.zq_hat.proofs.Rebuilt.{put_entry}
+use Rattle.zq_index.proofs.Rebuilt.{put_entry}
 use Rattle.zq_hat.proofs.hat.copy_faces.Given as goal
 
 abbrev pub invariant-loop-number : goal.invariant-loop-number

@@ -1,5 +1,5 @@
 use Rattle.std.proofs.Common.{◌≡◌, fold}
-use Rattle.zq_hat.specs.Holders.{without_declared}
+use Rattle.zq_hat.specs.Tied.{without_declared}
 use Rattle.zq_hat.proofs.hat.forget.Given as goal
 
 abbrev pub invariant-loop-id : goal.invariant-loop-id

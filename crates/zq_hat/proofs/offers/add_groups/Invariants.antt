@@ -1,6 +1,6 @@
 use Rattle.std.proofs.Common.{◌≡◌, fold, map, None}
 use Rattle.zq_hat.specs.Offers.{place, offer_cmp}
-use Rattle.zq_hat.specs.Holders.{group_offer, groups_from}
+use Rattle.zq_hat.specs.Tied.{group_offer, groups_from}
 use Rattle.zq_hat.proofs.offers.add_groups.Given as goal
 
 abbrev pub invariant-loop-place : goal.invariant-loop-place

@@ -8,14 +8,15 @@ use Rattle.std.specs.List.Sorted.{IsStrictlySortedBy}
 use Rattle.std.specs.Map.{keys_of}
 use Rattle.std.proofs.lemmas.List.{length-append}
 use Rattle.zq_key.proofs.Runs.{not_below_itself}
-use Rattle.zq_hat.specs.Kept.{text_cmp}
+use Rattle.zq_index.specs.Texts.{text_cmp, IsListed, texts_of}
 use Rattle.zq_hat.specs.Offers.{place, offer_cmp}
-use Rattle.zq_hat.specs.Holders.{Holdings, IsKeyed, IsListed, group_offer, groups_from, holder_offers, texts_of}
-use Rattle.zq_hat.specs.Skipping.{SkipsListed, NoneFrom, StepIs}
-use Rattle.zq_hat.proofs.Listed.{each_listed}
-use Rattle.zq_hat.proofs.Rebuilt.{sorted_texts}
+use Rattle.zq_index.specs.Holders.{Holdings}
+use Rattle.zq_hat.specs.Tied.{IsKeyed, group_offer, groups_from, holder_offers}
+use Rattle.zq_index.specs.Skipping.{SkipsListed, NoneFrom, StepIs}
+use Rattle.zq_index.proofs.Listed.{each_listed}
+use Rattle.zq_index.proofs.Rebuilt.{sorted_texts}
 use Rattle.zq_hat.proofs.Folds.{fold_joined}
-use Rattle.zq_hat.proofs.Skipping.{IsPassed, all_at_end, from_bound, none_left, nothing_lost, passed, sorted_end, unbounded}
+use Rattle.zq_index.proofs.Skipping.{IsPassed, all_at_end, from_bound, none_left, nothing_lost, passed, sorted_end, unbounded}
 use Rattle.zq_hat.proofs.offers.offers_on_keys.Goals as goal
 
 -- a declared key and its holders

@@ -2,8 +2,9 @@ use Rattle.std.proofs.Common.{◌≡◌, fold, map, []}
 use Rattle.std.specs.List.{AllByRecursion, flat_map}
 use Rattle.std.specs.String.{string_bytes}
 use Rattle.zq_hat.specs.Offers.{place, offer_cmp}
-use Rattle.zq_hat.specs.Holders.{IsKeyed, IsListed, holder_offers, texts_of}
-use Rattle.zq_hat.proofs.Skipping.{IsEnd}
+use Rattle.zq_hat.specs.Tied.{IsKeyed, holder_offers}
+use Rattle.zq_index.specs.Texts.{IsListed, texts_of}
+use Rattle.zq_index.proofs.Skipping.{IsEnd}
 use Rattle.zq_hat.proofs.offers.offers_on_keys.Given as goal
 
 abbrev pub invariant-loop-key : goal.invariant-loop-key

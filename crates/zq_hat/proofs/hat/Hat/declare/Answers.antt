@@ -4,7 +4,7 @@ use Rattle.std.specs.BTreeMap.{is_at}
 use Rattle.std.specs.Ordering.{nat_cmp}
 use Rattle.zq_key.specs.Key.{is_key}
 use Rattle.zq_hat.specs.Kept.{has_face, clashes_at, declare}
-use Rattle.zq_hat.specs.Holders.{Place, with_holding, without_holding}
+use Rattle.zq_index.specs.Holders.{Place, with_holding, without_holding}
 use Rattle.zq_hat.specs.State.{HatState, FaceState}
 use Rattle.zq_hat.proofs.Turns.{declare_tied, undone_tied}
 use Rattle.zq_hat.proofs.hat.Hat.declare.Goals as goal

@@ -1,6 +1,6 @@
 use Rattle.std.proofs.Common.{◌≡◌, ◌∙◌, sym, ap, fold, Some}
 use Rattle.zq_hat.specs.Kept.{at_id}
-use Rattle.zq_hat.specs.Holders.{without_declared}
+use Rattle.zq_hat.specs.Tied.{without_declared}
 use Rattle.zq_hat.proofs.Turns.{forget_tied}
 use Rattle.zq_hat.proofs.hat.Hat.forget_face.Goals as goal
 

@@ -1,5 +1,6 @@
 use Rattle.std.proofs.Common.{◌≡◌, [], sym, subst, ℕ, List}
-use Rattle.zq_hat.specs.Holders.{IsTied, Index}
+use Rattle.zq_hat.specs.Tied.{IsTied}
+use Rattle.zq_index.specs.Holders.{Index}
 use Rattle.zq_hat.specs.State.{FaceState}
 use Rattle.zq_hat.proofs.Keeping.{nothing_tied}
 use Rattle.zq_hat.proofs.hat.Hat.new.Goals as goal

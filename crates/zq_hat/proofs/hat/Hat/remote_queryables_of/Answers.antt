@@ -2,7 +2,7 @@ use Rattle.std.proofs.Common.{◌∙◌, sym, ap, fold, None, Option}
 use Rattle.std.specs.Option.{option_copied, option_map_or}
 use Rattle.zq_hat.specs.Kept.{region_info}
 use Rattle.zq_hat.specs.State.{HatState}
-use Rattle.zq_hat.specs.Holders.{Holdings, with_held}
+use Rattle.zq_index.specs.Holders.{Holdings, with_held}
 use Rattle.zq_hat.proofs.Reading.{merged_is}
 use Rattle.zq_hat.proofs.hat.Hat.remote_queryables_of.Goals as goal
 

@@ -1,5 +1,0 @@
-use Rattle.zq_hat.proofs.ForkLemmas.{leads_first}
-use Rattle.zq_hat.proofs.forks.fork.Goals as goal
-
-pub loop-at-init : goal.loop-at-init
-loop-at-init c = leads_first c.args.text.now c.args.q.now

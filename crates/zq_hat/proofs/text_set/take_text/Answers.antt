@@ -1,9 +1,0 @@
-use Rattle.std.proofs.Common.{◌∙◌, ap, map}
-use Rattle.std.specs.BTreeMap.{is_at}
-use Rattle.std.specs.String.{string_bytes}
-use Rattle.zq_hat.specs.Kept.{text_cmp}
-use Rattle.zq_hat.proofs.Texts.{texts_take}
-use Rattle.zq_hat.proofs.text_set.take_text.Goals as goal
-
-pub returns : goal.returns
-returns c = ap (map string_bytes) c.remove.ensures.keys ∙ texts_take (is_at (text_cmp c.args.text.now)) c.args.texts.now.keys

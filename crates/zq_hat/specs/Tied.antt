@@ -1,0 +1,71 @@
+-- What the index of a hat has of its faces' declarations, and what is offered by it.
+use Rattle.std.specs.Prelude.{ℕ, ◌≡◌, ◌==◌, true, List, [], ◌∷◌, Option, Some, None, map, filter, if◌then◌else◌}
+use Rattle.std.specs.List.{flat_map}
+use Rattle.std.specs.List.Sorted.{IsStrictlySortedBy}
+use Rattle.std.specs.Option.{option_and_then, option_to_list}
+use Rattle.std.specs.Map.{keys_of}
+use Rattle.std.specs.Ordering.{nat_cmp}
+use Rattle.std.specs.Str.{bytes_eq}
+use Rattle.zq_key.specs.Key.{is_key, intersects}
+use Rattle.zq_key.specs.declared.message.QueryableInfoType.{QueryableInfoType}
+use Rattle.zq_key.specs.declared.message.Region.{Region}
+use Rattle.zq_index.specs.Infos.{merge}
+use Rattle.zq_index.specs.Texts.{text_cmp, at_text}
+use Rattle.zq_index.specs.Holders.{Place, Holdings, Index, place_cmp, at_place, held_at, without_holding}
+use Rattle.zq_hat.specs.declared.types.Declaration.{Declaration}
+use Rattle.zq_hat.specs.declared.types.QueryTargetQabl.{QueryTargetQabl}
+use Rattle.zq_hat.specs.Kept.{at_id, is_on, declaration}
+use Rattle.zq_hat.specs.State.{FaceState}
+use Rattle.zq_hat.specs.Offers.{offer_of}
+
+-- the information of a declaration, if it is on the key
+abbrev pub info_on : List ℕ → Declaration → Option QueryableInfoType
+info_on key d = if bytes_eq d.key key then Some d.info else None
+
+-- the information that the face declared on the key under the id
+abbrev pub declared_at : List ℕ → Place → List (ℕ × FaceState) → Option QueryableInfoType
+declared_at key p faces = option_and_then (λ f. option_and_then (info_on key) (declaration p.1 f)) (at_id p.0 faces)
+
+-- the face's declarations on the key
+abbrev pub held_by : List ℕ → ℕ × FaceState → Holdings
+held_by key f = map (λ d. ((f.0, d.0), d.1.info)) (filter (is_on key) f.1.declared)
+
+-- the faces' declarations on the key
+abbrev pub held : List ℕ → List (ℕ × FaceState) → Holdings
+held key faces = flat_map (held_by key) faces
+
+-- the faces' ids are in order
+abbrev pub AreOrdered : List (ℕ × FaceState) → Type 0
+AreOrdered faces = (n : ℕ) (f : FaceState) → at_id n faces ≡ Some f → IsStrictlySortedBy nat_cmp (keys_of f.declared)
+
+-- the index has just what the faces declared
+pub record IsTied (faces : List (ℕ × FaceState)) (index : Index) : Type 0 where
+  pub numbers : IsStrictlySortedBy nat_cmp (keys_of faces)
+  pub ids : AreOrdered faces
+  pub texts : IsStrictlySortedBy text_cmp (keys_of index)
+  pub places : (key : List ℕ) (hs : Holdings) → at_text key index ≡ Some hs → IsStrictlySortedBy place_cmp (keys_of hs)
+  pub used : (key : List ℕ) → at_text key index ≡ Some [] → ⊥
+  pub keys : (key : List ℕ) (hs : Holdings) → at_text key index ≡ Some hs → is_key key ≡ true
+  pub same : (key : List ℕ) (p : Place) → at_place p (held_at key index) ≡ declared_at key p faces
+
+-- the declarations' informations, merged for each face, where those of a face stand in a row
+abbrev pub groups_from : Option (ℕ × QueryableInfoType) → Holdings → List (ℕ × QueryableInfoType)
+groups_from group [] = option_to_list group
+groups_from None (h ∷ hs) = groups_from (Some (h.0.0, h.1)) hs
+groups_from (Some g) (h ∷ hs) = if g.0 == h.0.0 then groups_from (Some (g.0, merge g.1 h.1)) hs else g ∷ groups_from (Some (h.0.0, h.1)) hs
+
+-- without all that the face declared
+abbrev pub without_declared : ℕ → Index → ℕ × Declaration → Index
+without_declared number index d = without_holding d.1.key (number, d.0) index
+
+-- the offer for a face's information
+abbrev pub group_offer : Region → List ℕ → List ℕ → ℕ × QueryableInfoType → QueryTargetQabl
+group_offer region q key g = offer_of region q key g.0 g.1
+
+-- what is offered by the declarations on a key, if it meets the request's
+abbrev pub holder_offers : Region → List ℕ → List ℕ × Holdings → List QueryTargetQabl
+holder_offers region q e = if intersects e.0 q then map (group_offer region q e.0) (groups_from None e.1) else []
+
+-- the entry's text is a key
+abbrev pub IsKeyed : List ℕ × Holdings → Type 0
+IsKeyed e = is_key e.0 ≡ true

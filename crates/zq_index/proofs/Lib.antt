@@ -1,0 +1,10 @@
+pub mod Orders
+pub mod Laws
+pub mod Rebuilt
+pub mod Ranks
+pub mod Texts
+pub mod Holding
+pub mod Finding
+pub mod Skipping
+pub mod ForkLemmas
+pub mod Listed

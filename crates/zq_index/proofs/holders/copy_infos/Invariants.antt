@@ -1,0 +1,7 @@
+use Rattle.std.proofs.Common.{◌≡◌, fold, []}
+use Rattle.zq_index.specs.Holders.{place_cmp}
+use Rattle.zq_index.proofs.Rebuilt.{put_entry}
+use Rattle.zq_index.proofs.holders.copy_infos.Given as goal
+
+abbrev pub invariant-loop-place : goal.invariant-loop-place
+invariant-loop-place l = fold (put_entry place_cmp) l.made.entries l.place-iterator ≡ fold (put_entry place_cmp) [] l.infos.entries

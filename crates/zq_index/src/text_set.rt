@@ -1,0 +1,66 @@
+//! Texts that are kept in order.
+ghost use Rattle.std.specs.Prelude.{◌≡◌, ◌≢◌, false, true, map, OnOk, OnErr, IfOk, MatchOption};
+ghost use Rattle.std.specs.BTreeMap.{is_at};
+ghost use Rattle.std.specs.BTreeSet.{insert_key};
+ghost use Rattle.std.specs.Set.{remove_key};
+ghost use Rattle.std.specs.Ordering.{is_lt};
+ghost use Rattle.std.specs.String.{string_bytes};
+ghost use Rattle.zq_index.specs.Texts.{text_cmp, IsFirstAfter, NoneAfter};
+
+use std::alloc::Global;
+use std::cmp::Ordering;
+use std::collections::BTreeSet;
+use std::ops::Bound;
+use zq_key::memory::OutOfMemory;
+
+/// The order of two texts.
+pub fn compare_texts(a: &str, b: &str) -> Ordering
+    ensures { result ≡ text_cmp a.now b.now }
+{
+    a.cmp(b)
+}
+
+/// Whether a text comes before another.
+pub fn comes_before(a: &str, b: &str) -> bool
+    ensures { result ≡ is_lt (text_cmp a.now b.now) }
+{
+    compare_texts(a, b) == Ordering::Less
+}
+
+/// The text joins the others.
+#[tactic(auto, using(crate::proofs::Texts::texts_put))]
+pub fn put_text(texts: &mut BTreeSet<String>, alloc: Global, text: &str) -> Result<(), OutOfMemory>
+    ensures ok { OnOk result (map string_bytes texts.new.keys ≡ insert_key text_cmp (map string_bytes texts.old.keys) text.now) }
+    ensures err { OnErr result (texts.new.keys ≡ texts.old.keys) }
+{
+    match texts.insert(String::from_str(alloc, text)?) {
+        Ok(_) => Ok(()),
+        Err(_) => Err(OutOfMemory),
+    }
+}
+
+/// The text leaves the others.
+pub fn take_text(texts: &mut BTreeSet<String>, text: &str)
+    ensures { map string_bytes texts.new.keys ≡ remove_key (is_at (text_cmp text.now)) (map string_bytes texts.old.keys) }
+{
+    let _ = texts.remove(text);
+}
+
+/// Equal texts.
+#[tactic(auto, using(crate::proofs::Texts::texts_same))]
+pub fn copy_texts(texts: &BTreeSet<String>) -> Result<BTreeSet<String>, OutOfMemory>
+    ensures { IfOk result (λ t. map string_bytes t.keys ≡ map string_bytes texts.now.keys) }
+{
+    Ok(texts.clone()?)
+}
+
+/// The first text after another.
+pub fn first_after<'a>(texts: &'a BTreeSet<String>, text: &String) -> Option<&'a String>
+    ensures { MatchOption result (NoneAfter (map string_bytes texts.now.keys) (string_bytes text.now)) (λ t. IsFirstAfter (map string_bytes texts.now.keys) (string_bytes text.now) (string_bytes t.now)) }
+{
+    let mut later = texts.range((Bound::Excluded(text), Bound::Unbounded));
+    match later.next() {
+        Some(first) => Some(first),
+        None => None,
+    }
+}
