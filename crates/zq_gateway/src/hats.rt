@@ -87,7 +87,7 @@ pub fn register(
     requires { seats region face.0 hats.old ≡ Some true }
     ensures in_use { IsErrOf result HatRefusal.IdInUse ↔ (clashes_in face.0 id key.now (hat_at region hats.old) ≡ true) }
     ensures known { IsErrOf result HatRefusal.UnknownId → ⊥ }
-    ensures ok { OnOk result (hats.new ≡ change_hat region (registered face.0 id key.now info) hats.old) }
+    ensures ok { OnOk result (hats.new ≡ change_hat region (registered face.0 id key.now node info) hats.old) }
     ensures err { OnErr result (hats.new ≡ hats.old) }
 {
     match hats.get_mut(&region) {

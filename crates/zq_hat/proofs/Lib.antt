@@ -1,4 +1,5 @@
 pub mod Folds
+pub mod Routing
 pub mod Held
 pub mod Reading
 pub mod IndexKeys

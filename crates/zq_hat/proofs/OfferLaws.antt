@@ -81,11 +81,12 @@ module _ (P : QueryTargetQabl → Type 0) (region : Region) (q : List ℕ) where
     beside_all s src true = tt
     beside_all s src false = all_joined P (declared_offers region fs q) (bare_offers s region src fs q) (declared_all fs (declared_keys fs) all) (some_bare s fs (is_north region && not (is_north src)) bare)
 
-    strategy_all : (s : Strategy) (src : Region) → AllByRecursion P (offers_by s region src fs q)
-    strategy_all strategy.Broker src = declared_all fs (declared_keys fs) all
-    strategy_all strategy.Client src = beside_all strategy.Client src (same_region src region)
-    strategy_all strategy.Peer src = beside_all strategy.Peer src (same_region src region)
-    strategy_all strategy.Router src = tt
+module _ (P : QueryTargetQabl → Type 0) (s : HatState) (src : Region) (q : List ℕ) (node : Option ℕ) where
+  strategy_all : (k : Strategy) → AllByRecursion (λ f. (i : List ℕ) (m : QueryableInfoType) → P (offer_of s.region q i f.0 m)) s.faces → AllByRecursion (λ f. P (bare_offer s.region q f.0)) s.faces → AllByRecursion P (offers_by k s src q node)
+  strategy_all strategy.Broker all bare = declared_all P s.region q s.faces (declared_keys s.faces) all
+  strategy_all strategy.Client all bare = beside_all P s.region q s.faces all bare strategy.Client src (same_region src s.region)
+  strategy_all strategy.Peer all bare = beside_all P s.region q s.faces all bare strategy.Peer src (same_region src s.region)
+  strategy_all strategy.Router all bare = tt
 
 -- each face of a list is found there
 found_by : (n : ℕ) (f : ℕ × FaceState) (fs : List (ℕ × FaceState)) (b : Bool) → is_some (at_id n fs) ≡ true → is_some (cond b (Some f.1) (at_id n fs)) ≡ true
@@ -116,14 +117,14 @@ each_region : (fs : List (ℕ × FaceState)) (region : Region) (q : List ℕ) �
 each_region [] region q = tt
 each_region (f ∷ fs) region q = ((λ k i. refl), each_region fs region q)
 
-pub offers_of_faces : (s : HatState) (src : Region) (q : List ℕ) → All (λ o. has_face o.face.0 s ≡ true) (offers_of s src q)
-offers_of_faces s src q =
-    all_from (λ o. has_face o.face.0 s ≡ true) (offers_of s src q)
-    (all_sorted (λ o. has_face o.face.0 s ≡ true) offer_cmp (offers_by (strategy_at s) s.region src s.faces q)
-    (strategy_all (λ o. has_face o.face.0 s ≡ true) s.region q s.faces (each_has s.faces s.faces s.region q (all_found s.faces)) (each_bare s.faces s.faces s.region q (all_found s.faces)) (strategy_at s) src))
+pub offers_of_faces : (s : HatState) (src : Region) (q : List ℕ) (node : Option ℕ) → All (λ o. has_face o.face.0 s ≡ true) (offers_of s src q node)
+offers_of_faces s src q node =
+    all_from (λ o. has_face o.face.0 s ≡ true) (offers_of s src q node)
+    (all_sorted (λ o. has_face o.face.0 s ≡ true) offer_cmp (offers_by (strategy_at s) s src q node)
+    (strategy_all (λ o. has_face o.face.0 s ≡ true) s src q node (strategy_at s) (each_has s.faces s.faces s.region q (all_found s.faces)) (each_bare s.faces s.faces s.region q (all_found s.faces))))
 
-pub offers_of_region : (s : HatState) (src : Region) (q : List ℕ) → All (λ o. o.region ≡ s.region) (offers_of s src q)
-offers_of_region s src q =
-    all_from (λ o. o.region ≡ s.region) (offers_of s src q)
-    (all_sorted (λ o. o.region ≡ s.region) offer_cmp (offers_by (strategy_at s) s.region src s.faces q)
-    (strategy_all (λ o. o.region ≡ s.region) s.region q s.faces (each_region s.faces s.region q) (bare_region s.faces s.region q) (strategy_at s) src))
+pub offers_of_region : (s : HatState) (src : Region) (q : List ℕ) (node : Option ℕ) → All (λ o. o.region ≡ s.region) (offers_of s src q node)
+offers_of_region s src q node =
+    all_from (λ o. o.region ≡ s.region) (offers_of s src q node)
+    (all_sorted (λ o. o.region ≡ s.region) offer_cmp (offers_by (strategy_at s) s src q node)
+    (strategy_all (λ o. o.region ≡ s.region) s src q node (strategy_at s) (each_region s.faces s.region q) (bare_region s.faces s.region q)))

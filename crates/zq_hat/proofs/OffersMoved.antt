@@ -141,16 +141,16 @@ module _ (φ : List ℕ → List ℕ) (keeps : Keeps φ) where
       (λ i. all_moved region faces q i ++ bares_by s region faces q (is_north region && not (is_north src)) i)
       ∙ sym (map-append (move_offer φ) (declared_offers region faces q) (bare_offers s region src faces q))
 
-  by_moved : (s : Strategy) (region src : Region) (faces : List (ℕ × FaceState)) (q : List ℕ) → offers_by s region src (map (move_face φ) faces) (φ q) ≡ map (move_offer φ) (offers_by s region src faces q)
-  by_moved strategy.Broker region src faces q = all_moved region faces q
-  by_moved strategy.Client region src faces q = beside_moved strategy.Client region src faces q (same_region src region)
-  by_moved strategy.Peer region src faces q = beside_moved strategy.Peer region src faces q (same_region src region)
-  by_moved strategy.Router region src faces q = refl
+  by_moved : (k : Strategy) (s : HatState) (src : Region) (q : List ℕ) (node : Option ℕ) → offers_by k (move_hat φ s) src (φ q) node ≡ map (move_offer φ) (offers_by k s src q node)
+  by_moved strategy.Broker s src q _ = all_moved s.region s.faces q
+  by_moved strategy.Client s src q _ = beside_moved strategy.Client s.region src s.faces q (same_region src s.region)
+  by_moved strategy.Peer s src q _ = beside_moved strategy.Peer s.region src s.faces q (same_region src s.region)
+  by_moved strategy.Router s src q _ = refl
 
   order_moved : (a b : QueryTargetQabl) → offer_cmp (move_offer φ a) (move_offer φ b) ≡ offer_cmp a b
   order_moved a b = ap (λ r. ordering_then (nat_cmp (distance a) (distance b)) (ordering_then r (nat_cmp a.face.0 b.face.0))) (keeps.order a.key b.key)
 
-  pub offers_moved : (s : HatState) (src : Region) (q : List ℕ) → offers_of (move_hat φ s) src (φ q) ≡ map (move_offer φ) (offers_of s src q)
-  offers_moved s src q =
-      ap (sorted offer_cmp) (by_moved (strategy_at s) s.region src s.faces q)
-      ∙ sorted_moved (move_offer φ) offer_cmp offer_cmp order_moved (offers_by (strategy_at s) s.region src s.faces q)
+  pub offers_moved : (s : HatState) (src : Region) (q : List ℕ) (node : Option ℕ) → offers_of (move_hat φ s) src (φ q) node ≡ map (move_offer φ) (offers_of s src q node)
+  offers_moved s src q node =
+      ap (sorted offer_cmp) (by_moved (strategy_at s) s src q node)
+      ∙ sorted_moved (move_offer φ) offer_cmp offer_cmp order_moved (offers_by (strategy_at s) s src q node)

@@ -14,7 +14,7 @@ use Rattle.std.proofs.lemmas.List.{map-append}
 use Rattle.zq_key.specs.declared.message.QueryableInfoType.{QueryableInfoType}
 use Rattle.zq_hat.specs.declared.types.Declaration.{Declaration}
 use Rattle.zq_index.specs.Infos.{joined, merge}
-use Rattle.zq_hat.specs.Kept.{is_on, with_declared, info, with_face, region_info}
+use Rattle.zq_hat.specs.Kept.{is_on, with_declared, info, with_face, faces_info}
 use Rattle.zq_hat.specs.Offers.{offer_list, offers_on}
 use Rattle.zq_key.specs.declared.message.Region.{Region}
 use Rattle.zq_hat.specs.State.{FaceState}
@@ -89,7 +89,7 @@ module _ (key : List ℕ) where
       ∙ ap (λ x. fold with_held x (held key fs)) (held_from m (held_by key f) ∙ ap (joined m) (part_merged None f.0 f.1.declared))
       ∙ region_from (with_face key m f) fs
 
-  pub region_is : (faces : List (ℕ × FaceState)) → fold with_held None (held key faces) ≡ region_info key faces
+  pub region_is : (faces : List (ℕ × FaceState)) → fold with_held None (held key faces) ≡ faces_info key faces
   region_is faces = region_from None faces
 
   -- ---- the merge for each face
@@ -137,5 +137,5 @@ module _ (faces : List (ℕ × FaceState)) (index : Index) (t : IsTied faces ind
   merged_by (Some hs) = refl
 
   -- the index gives the region's information
-  pub merged_is : option_map_or (fold with_held None) (at_text key index) None ≡ region_info key faces
+  pub merged_is : option_map_or (fold with_held None) (at_text key index) None ≡ faces_info key faces
   merged_is = merged_by (at_text key index) ∙ ap (fold with_held None) (held_is faces index t key) ∙ region_is key faces

@@ -16,7 +16,7 @@ use Rattle.zq_hat.specs.declared.types.UnregisterEntityResult.{UnregisterEntityR
 use Rattle.zq_hat.specs.declared.types.UnregisterEntityResult.TheVariants as result
 use Rattle.zq_index.specs.Infos.{joined, same_info}
 use Rattle.zq_index.specs.Texts.{text_cmp}
-use Rattle.zq_hat.specs.Regions.{is_upstream, strategy_at}
+use Rattle.zq_hat.specs.Regions.{in_routers, is_upstream, strategy_at}
 use Rattle.zq_hat.specs.State.{FaceState, HatState}
 
 -- what stands at the number
@@ -44,8 +44,12 @@ abbrev pub with_face : List ℕ → Option QueryableInfoType → ℕ × FaceStat
 with_face key m f = joined m (info key f.1)
 
 -- what the faces declared on the key, merged
-abbrev pub region_info : List ℕ → List (ℕ × FaceState) → Option QueryableInfoType
-region_info key faces = fold (with_face key) None faces
+abbrev pub faces_info : List ℕ → List (ℕ × FaceState) → Option QueryableInfoType
+faces_info key faces = fold (with_face key) None faces
+
+-- the region's information on the key; that of a region of routers is not built yet, and is that of the others
+abbrev pub region_info : List ℕ → HatState → Option QueryableInfoType
+region_info key s = in_routers (strategy_at s) (faces_info key s.faces) (faces_info key s.faces)
 
 -- the texts in order, with the key of the declaration in its place, once
 abbrev pub with_key : List (List ℕ) → ℕ × Declaration → List (List ℕ)
@@ -84,9 +88,9 @@ declare id key i f = record f { declared = insert_entry nat_cmp f.declared id (r
 abbrev pub withdraw : ℕ → FaceState → FaceState
 withdraw id f = record f { declared = remove_entry (is_at (nat_cmp id)) f.declared }
 
--- the face declares the key under the id
-abbrev pub registered : ℕ → ℕ → List ℕ → QueryableInfoType → HatState → HatState
-registered number id key i s = change_face number (declare id key i) s
+-- the face declares the key under the id; the node is for regions of routers, which are not built yet, and do as the others
+abbrev pub registered : ℕ → ℕ → List ℕ → ℕ → QueryableInfoType → HatState → HatState
+registered number id key node i s = in_routers (strategy_at s) (change_face number (declare id key i) s) (change_face number (declare id key i) s)
 
 -- the face withdraws the id
 abbrev pub unregistered : ℕ → ℕ → HatState → HatState
@@ -116,7 +120,7 @@ changed key (Some a) (Some b) = if same_info a b then result.DisableRoutes key e
 
 -- what a withdrawal answers, from the hats before and after it
 abbrev pub unregister_result : HatState → HatState → Declaration → UnregisterEntityResult
-unregister_result old new d = changed d.key (region_info d.key old.faces) (region_info d.key new.faces)
+unregister_result old new d = changed d.key (region_info d.key old) (region_info d.key new)
 
 -- a face that has declared nothing and was told nothing
 abbrev pub new_face : FaceRecord → ℕ → FaceState

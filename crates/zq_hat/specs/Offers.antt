@@ -80,13 +80,13 @@ bare_offers strategy region src faces q = if is_north region && not (is_north sr
 abbrev pub offers_beside : Strategy → Region → Region → List (ℕ × FaceState) → List ℕ → List QueryTargetQabl
 offers_beside strategy region src faces q = if same_region src region then [] else declared_offers region faces q ++ bare_offers strategy region src faces q
 
--- what a strategy offers to an asker of region src; that of routers is not built yet
-abbrev pub offers_by : Strategy → Region → Region → List (ℕ × FaceState) → List ℕ → List QueryTargetQabl
-offers_by strategy.Broker region src faces q = declared_offers region faces q
-offers_by strategy.Client region src faces q = offers_beside strategy.Client region src faces q
-offers_by strategy.Peer region src faces q = offers_beside strategy.Peer region src faces q
-offers_by strategy.Router region src faces q = []
+-- what a strategy offers to an asker of region src; that of routers, for which the node is, is not built yet
+abbrev pub offers_by : Strategy → HatState → Region → List ℕ → Option ℕ → List QueryTargetQabl
+offers_by strategy.Broker s src q _ = declared_offers s.region s.faces q
+offers_by strategy.Client s src q _ = offers_beside strategy.Client s.region src s.faces q
+offers_by strategy.Peer s src q _ = offers_beside strategy.Peer s.region src s.faces q
+offers_by strategy.Router s src q _ = []
 
 -- the offers of the hat to an asker of region src for key q, in order
-abbrev pub offers_of : HatState → Region → List ℕ → List QueryTargetQabl
-offers_of s src q = sorted offer_cmp (offers_by (strategy_at s) s.region src s.faces q)
+abbrev pub offers_of : HatState → Region → List ℕ → Option ℕ → List QueryTargetQabl
+offers_of s src q node = sorted offer_cmp (offers_by (strategy_at s) s src q node)

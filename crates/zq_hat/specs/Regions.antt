@@ -26,6 +26,13 @@ strategy_of (region.South id m) north = by_mode m strategy.Broker
 abbrev pub strategy_at : HatState → Strategy
 strategy_at s = strategy_of s.region s.north_mode
 
+-- what goes in a region of routers, or else what goes in any other
+abbrev pub in_routers : {X : Type 0} → Strategy → X → X → X
+in_routers strategy.Broker routed other = other
+in_routers strategy.Client routed other = other
+in_routers strategy.Peer routed other = other
+in_routers strategy.Router routed other = routed
+
 -- whether the region has one face towards the upstream at most
 abbrev pub is_upstream : Strategy → Bool
 is_upstream strategy.Broker = false

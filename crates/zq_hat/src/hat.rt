@@ -4,7 +4,7 @@ ghost use Rattle.std.specs.Map.{set_value};
 ghost use Rattle.std.specs.BTreeMap.{is_at};
 ghost use Rattle.std.specs.Ordering.{nat_cmp};
 ghost use Rattle.zq_key.specs.Key.{is_key};
-ghost use Rattle.zq_hat.specs.Kept.{new_hat, with_face_opened, without_face, keys_of_face, has_face, clashes_at, declaration_at, has_any, is_full, registered, unregistered, unregister_result, region_info, changed, at_id, face_at, declare, withdraw, declaration};
+ghost use Rattle.zq_hat.specs.Kept.{new_hat, with_face_opened, without_face, keys_of_face, has_face, clashes_at, declaration_at, has_any, is_full, change_face, registered, unregistered, unregister_result, region_info, changed, at_id, face_at, declare, withdraw, declaration};
 ghost use Rattle.zq_hat.specs.Tied.{without_declared};
 ghost use Rattle.zq_hat.specs.State.{FaceState};
 ghost use Rattle.zq_hat.specs.Marks.{finalized, marked};
@@ -251,7 +251,7 @@ impl Hat {
     ) -> Result<(), OutOfMemory>
         requires face { has_face face.0 self.old ≡ true }
         requires free { clashes_at face.0 id key.now self.old ≡ false }
-        ensures ok { OnOk result (self.new ≡ registered face.0 id key.now info self.old) }
+        ensures ok { OnOk result (self.new ≡ change_face face.0 (declare id key.now info) self.old) }
         ensures err { OnErr result (self.new ≡ self.old) }
     {
         let copy = key.copy(self.alloc)?;
@@ -293,18 +293,19 @@ impl Hat {
 
     /// The face declares the key under the id; the same id replaces. `IdInUse` exactly where the id
     /// stands for another key.
+    #[tactic(auto, using(crate::proofs::Routing::registered_at))]
     pub fn register_queryable(
         &mut self,
         face: FaceId,
         id: u32,
         key: &Key,
-        _node: u16,
+        node: u16,
         info: QueryableInfoType,
     ) -> Result<(), HatRefusal>
         requires { has_face face.0 self.old ≡ true }
         ensures in_use { IsErrOf result HatRefusal.IdInUse ↔ (clashes_at face.0 id key.now self.old ≡ true) }
         ensures known { IsErrOf result HatRefusal.UnknownId → ⊥ }
-        ensures after { OnOk result (self.new ≡ registered face.0 id key.now info self.old) }
+        ensures after { OnOk result (self.new ≡ registered face.0 id key.now node info self.old) }
         ensures err { OnErr result (self.new ≡ self.old) }
     {
         if self.clashes(face, id, key.as_str()) {
@@ -346,7 +347,7 @@ impl Hat {
 
     /// What the region's faces declared on the key, merged.
     pub fn remote_queryables_of(&self, key: &str) -> Option<QueryableInfoType>
-        ensures { result ≡ region_info key.now self.now.faces }
+        ensures { result ≡ region_info key.now self.now }
     {
         match self.index.get(key) {
             Some(holders) => holders.merged(),
@@ -359,10 +360,10 @@ impl Hat {
         &self,
         src: &Region,
         key: &str,
-        _node: Option<u16>,
+        node: Option<u16>,
     ) -> Result<OfferList, OutOfMemory>
         requires { IsTrue (is_key key.now) }
-        ensures { IfOk result (λ o. o ≡ offers_of self.now src.now key.now) }
+        ensures { IfOk result (λ o. o ≡ offers_of self.now src.now key.now node) }
     {
         match self.strategy() {
             Strategy::Broker => Ok(Items::from_vec(self.declared_offers(key)?)),

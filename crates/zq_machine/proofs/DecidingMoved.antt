@@ -147,7 +147,7 @@ module _ (φ : List ℕ → List ℕ) where
     accepted_moved (declaring face id said.Unscoped info node) e = absurd (second_holds (not (is_open face.0 c)) _ _ e)
     accepted_moved (declaring face id said.Empty info node) e = absurd (second_holds (not (is_open face.0 c)) _ _ e)
     accepted_moved (declaring face id (said.Full text) info node) e =
-        own_changed φ c (registered face.0 id (φ text) info) (registered face.0 id text info) (registered_moved φ face.0 id text info) face.0
+        own_changed φ c (registered face.0 id (φ text) node info) (registered face.0 id text node info) (registered_moved φ face.0 id text node info) face.0
     accepted_moved (withdrawing face id) e = own_changed φ c (unregistered face.0 id) (unregistered face.0 id) (unregistered_moved φ face.0 id) face.0
     accepted_moved (asking face s r now) e =
         ap (λ fs. with_queries (move_core φ c) (after_ask face r.id r.qos fs (deadline c r.timeout now) c.queries)) (targets_moved φ keeps c face s r)

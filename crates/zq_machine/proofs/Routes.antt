@@ -75,7 +75,7 @@ module _ (faces : List (ℕ × OpenFace)) (tables : List (ℕ × Gateways)) (own
   parts_route [] r is = is
   parts_route (h ∷ hats) r is =
       parts_route hats (with_part faces tables own asker opened key target r h)
-      (offers_route (chosen target (filter (passes faces tables own asker opened) (offers_of h opened.region key))) r is)
+      (offers_route (chosen target (filter (passes faces tables own asker opened) (offers_of h opened.region key (Some 0)))) r is)
 
   -- each face is selected once
   pub route_distinct : (hats : List HatState) → are_distinct (face_numbers (map target_of (values_of (fold (with_part faces tables own asker opened key target) [] hats)))) ≡ true
@@ -148,7 +148,7 @@ module _ (faces : List (ℕ × OpenFace)) (tables : List (ℕ × Gateways)) (own
       → list_any (is_own asker) (values_of (fold (with_part faces tables own asker opened key target) r hats)) ≡ false
   none_in_parts key target [] r none = none
   none_in_parts key target (h ∷ hats) r none =
-      let os = offers_of h opened.region key in
+      let os = offers_of h opened.region key (Some 0) in
       none_in_parts key target hats (with_part faces tables own asker opened key target r h)
       (none_offered (is_own asker) (chosen target (filter (passes faces tables own asker opened) os)) r none (none_chosen (is_own asker) target _ (none_own os)))
 

@@ -68,10 +68,10 @@ module _ (φ : List ℕ → List ℕ) where
 
       part_moved : (route : List (ℕ × QueryTargetQabl)) (h : HatState) → part (φ key) (map routed route) (move_hat φ h) ≡ map routed (part key route h)
       part_moved route h =
-          ap (λ os. with_offers (map routed route) (chosen r.target (filter is_passed os))) (offers_moved φ keeps h opened.region key)
-          ∙ ap (λ os. with_offers (map routed route) (chosen r.target os)) (filter-map (move_offer φ) is_passed is_passed (λ _. refl) (offers_of h opened.region key))
-          ∙ ap (with_offers (map routed route)) (chosen_moved r.target (filter is_passed (offers_of h opened.region key)))
-          ∙ added_moved route (chosen r.target (filter is_passed (offers_of h opened.region key)))
+          ap (λ os. with_offers (map routed route) (chosen r.target (filter is_passed os))) (offers_moved φ keeps h opened.region key (Some 0))
+          ∙ ap (λ os. with_offers (map routed route) (chosen r.target os)) (filter-map (move_offer φ) is_passed is_passed (λ _. refl) (offers_of h opened.region key (Some 0)))
+          ∙ ap (with_offers (map routed route)) (chosen_moved r.target (filter is_passed (offers_of h opened.region key (Some 0))))
+          ∙ added_moved route (chosen r.target (filter is_passed (offers_of h opened.region key (Some 0))))
 
       route_moved : route_for (move_core φ c) asker opened (φ key) r ≡ map routed (route_for c asker opened key r)
       route_moved = ap (fold (part (φ key)) []) (values-map (move_hat φ) c.hats) ∙ fold-moved (move_hat φ) (map routed) (part (φ key)) (part key) part_moved [] (values_of c.hats)

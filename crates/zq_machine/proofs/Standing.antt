@@ -10,6 +10,7 @@ use Rattle.zq_key.specs.declared.message.FaceId.{FaceId}
 use Rattle.zq_key.specs.declared.message.Region.{Region}
 use Rattle.zq_regions.specs.Region.{region_index}
 use Rattle.zq_hat.specs.State.{FaceState, HatState}
+use Rattle.zq_hat.proofs.Routing.{registered_is}
 use Rattle.zq_hat.specs.Kept.{change_face, declare, face_at, new_face, withdraw, without_face}
 use Rattle.zq_hat.specs.Marks.{marked}
 use Rattle.zq_tables.specs.Naming.{FaceKeys, FaceNaming, NamingState, change_naming, face_naming, naming_at, no_keys, said_of, with_name, with_queryable, without_name, without_queryable}
@@ -254,9 +255,10 @@ module _ (config : Settings) (q : ℕ) (s : State) (i : InOrder config s) where
   granted_stands (call.DeclareQueryable f id w info node) h =
       let x = opened_face s i.sound i.tied f.0 (all_passed (causes s.core (read s (call.DeclareQueryable f id w info node))) h).0 in
       let g : FaceKeys → FaceKeys = with_queryable id (full_text (said f w s)) in
-      kept_stands f x (call.DeclareQueryable f id w info node) (declare id (full_text (said f w s)) info) (change_naming f.0 g s.names) (g (keys f x))
+      subst (λ change. Makes (call.DeclareQueryable f id w info node) (its_hats change (at f.0 s.core.faces)) (change_naming f.0 g s.names) f) (sym (registered_is f.0 id (full_text (said f w s)) node info))
+      (kept_stands f x (call.DeclareQueryable f id w info node) (declare id (full_text (said f w s)) info) (change_naming f.0 g s.names) (g (keys f x))
       (naming_here s.core.faces s.core.hats s.names i.tied f.0 x.0 x.1 g) (naming_other s.core.faces s.core.hats s.names i.tied f.0 x.0 x.1 g q)
-      (ap (λ (m : FaceNaming). record { opened = x.0; numbers = (keys f x).numbers; kept = declare id (full_text (said_of m w)) info (keeps f x) }) (reads f x))
+      (ap (λ (m : FaceNaming). record { opened = x.0; numbers = (keys f x).numbers; kept = declare id (full_text (said_of m w)) info (keeps f x) }) (reads f x)))
   granted_stands (call.UndeclareQueryable f id w node) h =
       let x = opened_face s i.sound i.tied f.0 (all_passed (causes s.core (withdrawing f id)) h).0 in
       kept_stands f x (call.UndeclareQueryable f id w node) (withdraw id) (change_naming f.0 (without_queryable id) s.names) (without_queryable id (keys f x))

@@ -50,16 +50,16 @@ use Rattle.zq_key.proofs.Lookups.{each_entry as each_at, found_after_insertion, 
 
 -- ---- what fails for every offer of every hat fails for what is selected
 module _ (p : QueryTargetQabl → Bool) (faces : List (ℕ × OpenFace)) (tables : List (ℕ × Gateways)) (own : Zid) (asker : FaceId) (opened : OpenFace) (key : List ℕ) (target : QueryTarget) where
-  none_in_parts : (hats : List HatState) (r : List (ℕ × QueryTargetQabl)) → AllByRecursion (λ h. list_any p (offers_of h opened.region key) ≡ false) hats → list_any p (values_of r) ≡ false
+  none_in_parts : (hats : List HatState) (r : List (ℕ × QueryTargetQabl)) → AllByRecursion (λ h. list_any p (offers_of h opened.region key (Some 0)) ≡ false) hats → list_any p (values_of r) ≡ false
       → list_any p (values_of (fold (with_part faces tables own asker opened key target) r hats)) ≡ false
   none_in_parts [] r all none = none
   none_in_parts (h ∷ hats) r all none =
-      let os = offers_of h opened.region key in
+      let os = offers_of h opened.region key (Some 0) in
       none_in_parts hats (with_part faces tables own asker opened key target r h) all.1
       (none_offered p (chosen target (filter (passes faces tables own asker opened) os)) r none (none_chosen p target _ (none_filtered p (passes faces tables own asker opened) os all.0)))
 
 none_selected : (p : QueryTargetQabl → Bool) (c : Core) (asker : FaceId) (s : Said) (r : Request)
-    → ((o : OpenFace) → AllByRecursion (λ h. list_any p (offers_of h o.region (full_text s)) ≡ false) (values_of c.hats)) → list_any p (select c asker s r) ≡ false
+    → ((o : OpenFace) → AllByRecursion (λ h. list_any p (offers_of h o.region (full_text s) (Some 0)) ≡ false) (values_of c.hats)) → list_any p (select c asker s r) ≡ false
 none_selected p c asker s r all = by (at asker.0 c.faces)
   where
     by : (o : Option OpenFace) → list_any p (select_for c asker s r o) ≡ false
@@ -113,8 +113,8 @@ module _ (config : Settings) (faces : List (ℕ × OpenFace)) (hats : List (ℕ 
       let here : is_shut o ≡ false = ap not (is_open o.face.0 (All-head (IsOf h) o os all)) in
       λ j. here j || none_shut h is_open os (All-tail (IsOf h) o os all) j
 
-  pub none_offered_shut : (src : Region) (key : List ℕ) → AllByRecursion (λ h. list_any is_shut (offers_of h src key) ≡ false) (values_of hats)
-  none_offered_shut src key = all_weaker AllOpen _ (λ h is_open. none_shut h is_open (offers_of h src key) (offers_of_faces h src key)) (values_of hats) all_open
+  pub none_offered_shut : (src : Region) (key : List ℕ) → AllByRecursion (λ h. list_any is_shut (offers_of h src key (Some 0)) ≡ false) (values_of hats)
+  none_offered_shut src key = all_weaker AllOpen _ (λ h is_open. none_shut h is_open (offers_of h src key (Some 0)) (offers_of_faces h src key (Some 0))) (values_of hats) all_open
 
 -- ---- entries stay at open faces
 abbrev pub AimAt : List (ℕ × OpenFace) → Pending → Type 0

@@ -71,7 +71,7 @@ passes faces tables own asker opened o = not (o.face.0 == asker.0) && carries_be
 -- a region's part joins what earlier regions gave: the offers that pass and that the target picks, each face once
 abbrev pub with_part : List (ℕ × OpenFace) → List (ℕ × Gateways) → Zid → FaceId → OpenFace → List ℕ → QueryTarget → List (ℕ × QueryTargetQabl) → HatState → List (ℕ × QueryTargetQabl)
 with_part faces tables own asker opened key target route h =
-    with_offers route (chosen target (filter (passes faces tables own asker opened) (offers_of h opened.region key)))
+    with_offers route (chosen target (filter (passes faces tables own asker opened) (offers_of h opened.region key (Some 0))))
 
 -- region by region, in the order of their places
 abbrev pub route_for : Core → FaceId → OpenFace → List ℕ → Request → List (ℕ × QueryTargetQabl)
