@@ -14,15 +14,15 @@ pub record Answers (old new : State) (answered : Step) (left : State) (r : Resul
   pub after : OnOk r (new ≡ left)
   pub err : OnErr r (new ≡ old)
 
--- the call was made
-abbrev pub Makes : State → State → Call → Result Step OutOfMemory → Type 0
-Makes old new c r = Answers old new (step old c) (after old c) r
+-- the call is performed: its step is answered, and the state after it is left
+abbrev pub Performs : State → State → Call → Result Step OutOfMemory → Type 0
+Performs old new c r = Answers old new (step old c) (after old c) r
 
--- the call, if there is one, was made
-abbrev pub MayMake : State → State → Option Call → Result Step OutOfMemory → Type 0
-MayMake old new c r = Answers old new (step_of old c) (after_of old c) r
+-- the call, if there is one, is performed
+abbrev pub MayPerform : State → State → Option Call → Result Step OutOfMemory → Type 0
+MayPerform old new c r = Answers old new (step_of old c) (after_of old c) r
 
--- the call with its expressions read was made
+-- the same of a call whose expressions are read
 abbrev pub Settles : State → State → TextCall → Result Step OutOfMemory → Type 0
 Settles old new t r = Answers old new (answer old t) (settle old t) r
 

@@ -17,7 +17,7 @@ ghost use Rattle.zq_machine.specs.declared.call.Call.{Call};
 ghost use Rattle.zq_machine.specs.Headline.{RunPromise};
 ghost use Rattle.zq_machine.specs.Machine.{after, done, refused_step, step};
 ghost use Rattle.zq_machine.specs.State.{opening_state};
-ghost use Rattle.zq_gateway.specs.Making.{Makes, MayMake};
+ghost use Rattle.zq_gateway.specs.Making.{Performs, MayPerform};
 
 mod faces;
 mod keys;
@@ -67,12 +67,12 @@ impl Gateway {
         })
     }
 
-    /// Makes a call: one event, which is answered by a step. The first cause that holds refuses it,
+    /// Performs a call: one event, which is answered by a step. The first cause that holds refuses it,
     /// and then nothing changes; a call that finds no memory changes nothing either. Of the forms of
     /// calls those are answered that are built (`Call::is_built`).
     pub fn call(&mut self, call: &Call) -> Result<Step, OutOfMemory>
         requires { is_built self.old.core.config call.now ≡ true }
-        ensures { Makes self.old self.new call.now result }
+        ensures { Performs self.old self.new call.now result }
     {
         self.tables.call(call)
     }
@@ -81,14 +81,14 @@ impl Gateway {
     /// built yet (`Opening::is_built`), so that no face is opened without what it was given.
     pub fn open_face(&mut self, opening: &Opening) -> Result<Step, OutOfMemory>
         requires { is_built self.old.core.config (call.Open opening.now) ≡ true }
-        ensures { Makes self.old self.new (call.Open opening.now) result }
+        ensures { Performs self.old self.new (call.Open opening.now) result }
     {
         self.tables.open(opening)
     }
 
     /// A face is closed (upstream's `Primitives::send_close`).
     pub fn send_close(&mut self, face: FaceId) -> Result<Step, OutOfMemory>
-        ensures { Makes self.old self.new (call.Close face) result }
+        ensures { Performs self.old self.new (call.Close face) result }
     {
         self.tables.close(face)
     }
@@ -100,7 +100,7 @@ impl Gateway {
         msg: &Request,
         now: u64,
     ) -> Result<Step, OutOfMemory>
-        ensures { Makes self.old self.new (call.Request face msg.now now) result }
+        ensures { Performs self.old self.new (call.Request face msg.now now) result }
     {
         self.tables.send_request(face, msg, now)
     }
@@ -112,14 +112,14 @@ impl Gateway {
         msg: &Request,
         now: u64,
     ) -> Result<Step, OutOfMemory>
-        ensures { Makes self.old self.new (call.Request face msg.now now) result }
+        ensures { Performs self.old self.new (call.Request face msg.now now) result }
     {
         self.send_request(face, msg, now)
     }
 
     /// A reply of a target (upstream's `Primitives::send_response`).
     pub fn send_response(&mut self, face: FaceId, msg: &Response) -> Result<Step, OutOfMemory>
-        ensures { Makes self.old self.new (call.Response face msg.now) result }
+        ensures { Performs self.old self.new (call.Response face msg.now) result }
     {
         self.tables.send_response(face, msg)
     }
@@ -128,7 +128,7 @@ impl Gateway {
     /// `Primitives::send_declare`). The end of declarations that answers the interest 0, which every
     /// face has from its opening, sets the face's initial mark; any other changes nothing.
     pub fn send_declare(&mut self, face: FaceId, msg: &Declare) -> Result<Step, OutOfMemory>
-        ensures { MayMake self.old self.new (declared_call face msg.now) result }
+        ensures { MayPerform self.old self.new (declared_call face msg.now) result }
     {
         self.tables.send_declare(face, msg)
     }
@@ -142,21 +142,21 @@ impl Gateway {
         mark: &FinalMark,
         set: bool,
     ) -> Result<Step, OutOfMemory>
-        ensures { Makes self.old self.new (call.FinalizeInterest face mark.now set) result }
+        ensures { Performs self.old self.new (call.FinalizeInterest face mark.now set) result }
     {
         self.tables.finalize(face, mark, set)
     }
 
     /// A moment has come, in milliseconds: each entry whose deadline has come is let go, with an error reply.
     pub fn poll(&mut self, now: u64) -> Result<Step, OutOfMemory>
-        ensures { Makes self.old self.new (call.Poll now) result }
+        ensures { Performs self.old self.new (call.Poll now) result }
     {
         self.tables.pass(now)
     }
 
     /// The gateways of a region are listed.
     pub fn set_gateways(&mut self, region: Region, table: &Gateways) -> Result<Step, OutOfMemory>
-        ensures { Makes self.old self.new (call.SetGateways region table.now) result }
+        ensures { Performs self.old self.new (call.SetGateways region table.now) result }
     {
         self.tables.list_gateways(region, table)
     }

@@ -2,14 +2,14 @@
 ghost use Rattle.zq_machine.specs.declared.call.Call.TheVariants as call;
 ghost use Rattle.zq_tables.specs.Naming.{face_naming, text_at};
 ghost use Rattle.zq_machine.specs.TextCalls.{naming, unnaming};
-ghost use Rattle.zq_gateway.specs.Making.{Makes, Settles};
+ghost use Rattle.zq_gateway.specs.Making.{Performs, Settles};
 
 use crate::gateway::tables::Tables;
 use zq_key::memory::OutOfMemory;
 use zq_key::message::{FaceId, WireExpr};
 use zq_machine::call::{Refusal, Step};
-use zq_tables::said::Said;
 use zq_tables::NameRefusal;
+use zq_tables::said::Said;
 
 impl Tables {
     // The face declares a number for a text.
@@ -55,7 +55,7 @@ impl Tables {
         id: u16,
         wire: &WireExpr,
     ) -> Result<Step, OutOfMemory>
-        ensures { Makes self.old self.new (call.DeclareKeyExpr face id wire.now) result }
+        ensures { Performs self.old self.new (call.DeclareKeyExpr face id wire.now) result }
     {
         let said = self.names.said(face, wire)?;
         self.declare_key(face, id, &said)

@@ -2,7 +2,7 @@
 ghost use Rattle.std.specs.Prelude.{◌≡◌};
 ghost use Rattle.zq_machine.specs.declared.call.Call.TheVariants as call;
 ghost use Rattle.zq_machine.specs.TextCalls.{declaring, finalizing, withdrawing};
-ghost use Rattle.zq_gateway.specs.Making.{IsReached, Makes, Settles};
+ghost use Rattle.zq_gateway.specs.Making.{IsReached, Performs, Settles};
 ghost use Rattle.zq_gateway.specs.Undoing.{taken_back};
 
 use crate::gateway::tables::Tables;
@@ -100,7 +100,7 @@ impl Tables {
         node: u16,
     ) -> Result<Step, OutOfMemory>
         requires { IsReached self.old }
-        ensures { Makes self.old self.new (call.DeclareQueryable face id wire.now info node) result }
+        ensures { Performs self.old self.new (call.DeclareQueryable face id wire.now info node) result }
     {
         let said = self.names.said(face, wire)?;
         self.declare_queryable(face, id, &said, info, node)

@@ -6,7 +6,7 @@ ghost use Rattle.zq_machine.specs.Calls.{declared_call, declaring_call, is_built
 ghost use Rattle.zq_machine.specs.Machine.{after, done, refused_step, step};
 ghost use Rattle.zq_machine.specs.State.{at, face_region, is_open, opening_state};
 ghost use Rattle.zq_machine.specs.TextCalls.{listing};
-ghost use Rattle.zq_gateway.specs.Making.{IsReached, Makes, MayMake, Settles};
+ghost use Rattle.zq_gateway.specs.Making.{IsReached, Performs, MayPerform, Settles};
 ghost use Rattle.zq_gateway.specs.Seats.{seats};
 
 use crate::handed::written_final;
@@ -23,10 +23,10 @@ use zq_machine::call::{Call, Outcome, Refusal, Step};
 use zq_machine::config::Config;
 use zq_machine::face::OpenFace;
 use zq_machine::handed::Handed;
-use zq_tables::naming::Naming;
 use zq_query::queries::Queries;
 use zq_route::gateways::Gateways;
 use zq_tables::RegionMap;
+use zq_tables::naming::Naming;
 
 /// What a gateway keeps (upstream's `Tables` with its faces): the open faces, a hat for each region,
 /// the gateways that were listed, the open queries, and the numbers of keys.
@@ -83,11 +83,11 @@ impl Tables {
         })
     }
 
-    /// Makes a call.
+    /// Performs a call.
     pub fn call(&mut self, call: &Call) -> Result<Step, OutOfMemory>
         requires built { is_built self.old.core.config call.now ≡ true }
         requires reached { IsReached self.old }
-        ensures { Makes self.old self.new call.now result }
+        ensures { Performs self.old self.new call.now result }
     {
         match call {
             Call::Open(asked) => self.open(asked),
@@ -128,7 +128,7 @@ impl Tables {
         msg: &Request,
         now: u64,
     ) -> Result<Step, OutOfMemory>
-        ensures { Makes self.old self.new (call.Request face msg.now now) result }
+        ensures { Performs self.old self.new (call.Request face msg.now now) result }
     {
         let said = self.names.said(face, &msg.wire)?;
         self.request(face, &said, msg, now)
@@ -136,7 +136,7 @@ impl Tables {
 
     /// A reply of a target, with its expression read.
     pub fn send_response(&mut self, face: FaceId, msg: &Response) -> Result<Step, OutOfMemory>
-        ensures { Makes self.old self.new (call.Response face msg.now) result }
+        ensures { Performs self.old self.new (call.Response face msg.now) result }
     {
         let said = self.names.said(face, &msg.wire)?;
         self.reply(face, &said, msg)
@@ -145,7 +145,7 @@ impl Tables {
     /// A declaration of a face.
     pub fn send_declare(&mut self, face: FaceId, msg: &Declare) -> Result<Step, OutOfMemory>
         requires reached { IsReached self.old }
-        ensures { MayMake self.old self.new (declared_call face msg.now) result }
+        ensures { MayPerform self.old self.new (declared_call face msg.now) result }
     {
         self.declare(face, msg.node, msg.interest, &msg.body)
     }
@@ -243,7 +243,7 @@ impl Tables {
         body: &DeclareBody,
     ) -> Result<Step, OutOfMemory>
         requires reached { IsReached self.old }
-        ensures { MayMake self.old self.new (declaring_call face node interest body.now) result }
+        ensures { MayPerform self.old self.new (declaring_call face node interest body.now) result }
     {
         match body {
             DeclareBody::DeclareKeyExpr { id, wire } => self.name_key(face, *id, wire),
