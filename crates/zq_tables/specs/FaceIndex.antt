@@ -1,32 +1,46 @@
--- The ids of one side of a face by their nodes: pairs of a node's number and an id.
-use Rattle.std.specs.Prelude.{◌≡◌, ℕ, Bool, true, false, List, Some, if◌then◌else◌}
-use Rattle.std.specs.declared.cmp.Ordering.{Ordering}
-use Rattle.std.specs.Ordering.{nat_cmp, ordering_then}
-use Rattle.std.specs.List.{list_any}
-use Rattle.std.specs.BTreeMap.{is_at}
+-- The ids of one side of a face in a row, by their nodes.
+use Rattle.std.specs.Prelude.{◌≡◌, ℕ, ◌+◌, ◌*◌, ◌<◌, ◌≤◌, List, length, slice_index, Option, Some, None}
+use Rattle.std.specs.Option.{IsSome}
+use Rattle.std.specs.List.{All, Contains, insert, remove}
+use Rattle.zq_rows.specs.Border.{IsBorder}
 use Rattle.zq_tables.specs.FaceIds.{of_id}
 
--- pairs are ordered by their nodes, and those of one node by their ids
-abbrev pub pair_cmp : ℕ × ℕ → ℕ × ℕ → Ordering
-pair_cmp x y = ordering_then (nat_cmp x.0 y.0) (nat_cmp x.1 y.1)
+-- the node, or 0 for none
+abbrev pub node_or : Option ℕ → ℕ
+node_or None = 0
+node_or (Some node) = node
 
--- whether a pair is there
-abbrev pub has_pair : ℕ × ℕ → List (ℕ × ℕ) → Bool
-has_pair p ps = list_any (is_at (pair_cmp p)) ps
+-- ids of 16 bits rank by their nodes, and those of one node by themselves
+abbrev pub rank : ℕ → ℕ → ℕ
+rank node i = node * 65536 + i
 
--- the pairs are those of the ids with their nodes
-pub record IsIndex (es ps : List (ℕ × ℕ)) : Type 0 where
-  pub has : (i n : ℕ) → of_id es i ≡ Some n → has_pair (n, i) ps ≡ true
-  pub only : (i n : ℕ) → has_pair (n, i) ps ≡ true → of_id es i ≡ Some n
+-- the rank of an id by its node
+abbrev pub rank_of : List (ℕ × ℕ) → ℕ → ℕ
+rank_of es i = rank (node_or (of_id es i)) i
 
--- the same, unless a pair found no memory
-abbrev pub IsIndexed : Bool → List (ℕ × ℕ) → List (ℕ × ℕ) → Type 0
-IsIndexed whole es ps = whole ≡ true → IsIndex es ps
+-- an id of 16 bits that has a node
+abbrev pub HasNode : List (ℕ × ℕ) → ℕ → Type 0
+HasNode es i = (i < 65536) × IsSome (of_id es i)
 
--- the pair p has come
-abbrev pub Puts : List (ℕ × ℕ) → List (ℕ × ℕ) → ℕ × ℕ → Type 0
-Puts old new p = (q : ℕ × ℕ) → has_pair q new ≡ (if is_at (pair_cmp p) q then true else has_pair q old)
+-- the row has the ids that have a node, and their ranks rise
+pub record IsIndex (es : List (ℕ × ℕ)) (row : List ℕ) : Type 0 where
+  pub has : (i : ℕ) → IsSome (of_id es i) → Contains row i
+  pub only : All (HasNode es) row
+  pub rising : (k l : ℕ) → k < l → l < length row → rank_of es (slice_index row k) < rank_of es (slice_index row l)
 
--- the pair p has gone
-abbrev pub Takes : List (ℕ × ℕ) → List (ℕ × ℕ) → ℕ × ℕ → Type 0
-Takes old new p = (q : ℕ × ℕ) → has_pair q new ≡ (if is_at (pair_cmp p) q then false else has_pair q old)
+-- in the row, place i is between the ids of lesser rank and the others
+abbrev pub Divides : List (ℕ × ℕ) → ℕ → List ℕ → ℕ → Type 0
+Divides es r row i = IsBorder (λ x. rank_of es x < r) (λ x. r ≤ rank_of es x) row i
+
+-- the id has come into the row by its rank r
+pub record Comes (es : List (ℕ × ℕ)) (old new : List ℕ) (r id : ℕ) : Type 0 where
+  pub at : ℕ
+  pub divides : Divides es r old at
+  pub is : new ≡ insert old at id
+
+-- the id has gone from the row
+pub record Goes (old new : List ℕ) (id : ℕ) : Type 0 where
+  pub at : ℕ
+  pub in_range : at < length old
+  pub was : slice_index old at ≡ id
+  pub is : new ≡ remove old at

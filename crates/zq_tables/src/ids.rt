@@ -9,41 +9,42 @@ ghost use Rattle.zq_names.specs.Keeping.{AllStay};
 ghost use Rattle.zq_names.specs.Idle.{IdleAt, NoneIdle};
 ghost use Rattle.zq_tables.specs.FaceIds.{of_id, with_id, without_id, least_id as least_of_node};
 
-use crate::pairs::{least_of, put_pair, take_pair};
+use crate::by_node::{least_of, put_in, seat_in, take_out};
 use std::alloc::Global;
-use std::collections::{BTreeMap, BTreeSet};
+use std::collections::BTreeMap;
 use std::marker::Model;
 use zq_key::memory::OutOfMemory;
 use zq_names::{NameRefusal, Names, ResourceId};
+use zq_rows::Tree;
 
-// Ids with their nodes, and the same pairs in the order of their nodes.
+// Ids with their nodes, and the ids in the order of their nodes.
 #[derive(Drop)]
 pub(crate) struct Ids {
     nodes: BTreeMap<u16, u64>,
-    by_node: BTreeSet<(u64, u16)>,
-    // whether the pairs are all there, which they are until one finds no memory
-    whole: bool,
+    by_node: Tree,
+    alloc: Global,
 }
 
 impl Model for Ids {
     ghost use Rattle.std.specs.Prelude.{List, ℕ};
-    ghost use Rattle.zq_tables.specs.FaceIndex.{IsIndexed};
+    ghost use Rattle.zq_tables.specs.FaceIndex.{IsIndex};
 
     ghost Value = { List (ℕ × ℕ) };
 
     ghost view = { λ s. s.nodes.entries };
 
-    ghost invariant = { λ s. IsIndexed s.whole s.nodes.entries s.by_node.keys };
+    ghost invariant = { λ s. IsIndex s.nodes.entries s.by_node };
 }
 
 impl Ids {
+    #[tactic(auto, using(crate::proofs::IndexLemmas::empty_index))]
     pub(crate) fn new(alloc: Global) -> Ids
         ensures { result ≡ [] }
     {
         Ids {
             nodes: BTreeMap::new(alloc),
-            by_node: BTreeSet::new(alloc),
-            whole: true,
+            by_node: Tree::new(),
+            alloc,
         }
     }
 
@@ -65,10 +66,7 @@ impl Ids {
         ensures { result ≡ least_of_node self.now node }
     {
         let _ids = self.nodes.len();
-        if self.whole {
-            return least_of(&self.by_node, node);
-        }
-        first_of(&self.nodes, node)
+        least_of(&self.nodes, &self.by_node, node)
     }
 
     // The least id.
@@ -105,15 +103,13 @@ impl Ids {
         ensures ok { OnOk result (self.new ≡ with_id self.old id node) }
         ensures err { OnErr result (self.new ≡ self.old) }
     {
+        let seat = seat_in(&self.by_node, self.alloc)?;
         put_id(&mut self.nodes, id, node)?;
-        if put_pair(&mut self.by_node, node, id) {
-            return Ok(());
-        }
-        let _ = self.nodes.remove(&id);
-        Err(OutOfMemory)
+        put_in(&self.nodes, &mut self.by_node, node, id, seat);
+        Ok(())
     }
 
-    // Lets a new id stand for a text, of which the node is made. Room for the id is taken first, under the greatest number.
+    // Lets a new id stand for a text, of which the node is made. Room for the id is taken first, in the map under the greatest number.
     pub(crate) fn put_made(
         &mut self,
         names: &mut Names,
@@ -132,12 +128,12 @@ impl Ids {
         ensures err { OnErr result (self.new ≡ self.old) }
         ensures names { OnErr result (names.new ≡ names.old) }
     {
+        let seat = seat_in(&self.by_node, self.alloc)?;
         put_id(&mut self.nodes, id, u64::MAX)?;
         match names.make_resource(from, suffix) {
             Ok(r) => {
                 set_id(&mut self.nodes, id, r.0);
-                let put = put_pair(&mut self.by_node, r.0, id);
-                self.whole = both(self.whole, put);
+                put_in(&self.nodes, &mut self.by_node, r.0, id, seat);
                 Ok(r)
             }
             Err(refusal) => {
@@ -153,24 +149,39 @@ impl Ids {
         ensures entries { self.new ≡ without_id self.old id }
         ensures absent { result ≡ false → self.new ≡ self.old }
     {
-        match self.nodes.remove(&id) {
+        match node_at(&self.nodes, id) {
             Some(node) => {
-                take_pair(&mut self.by_node, node, id);
+                take_out(&self.nodes, &mut self.by_node, node, id);
+                drop_id(&mut self.nodes, id);
                 true
             }
             None => false,
         }
     }
 
-    pub(crate) fn copy(&self, _alloc: Global) -> Result<Ids, OutOfMemory>
+    #[tactic(auto, using(crate::proofs::IndexLemmas::same_index))]
+    pub(crate) fn copy(&self, alloc: Global) -> Result<Ids, OutOfMemory>
         ensures { IfOk result (λ ids. ids ≡ self.now) }
     {
         Ok(Ids {
             nodes: self.nodes.clone()?,
-            by_node: self.by_node.clone()?,
-            whole: self.whole,
+            by_node: self.by_node.copy(alloc)?,
+            alloc,
         })
     }
+}
+
+fn node_at(nodes: &BTreeMap<u16, u64>, id: u16) -> Option<u64>
+    ensures { result ≡ of_id nodes.now.entries id }
+{
+    nodes.get(&id).copied()
+}
+
+fn drop_id(nodes: &mut BTreeMap<u16, u64>, id: u16)
+    ensures entries { nodes.new.entries ≡ without_id nodes.old.entries id }
+    ensures gone { of_id (without_id nodes.old.entries id) id ≡ None }
+{
+    let _ = nodes.remove(&id);
 }
 
 fn put_id(nodes: &mut BTreeMap<u16, u64>, id: u16, node: u64) -> Result<(), OutOfMemory>
@@ -190,23 +201,4 @@ fn set_id(nodes: &mut BTreeMap<u16, u64>, id: u16, node: u64)
     ensures ordered { IsStrictlySortedBy nat_cmp (keys_of nodes.old.entries) }
 {
     let _ = nodes.insert(id, node);
-}
-
-// The least id of the node, by a look at each id.
-fn first_of(nodes: &BTreeMap<u16, u64>, node: u64) -> Option<u16>
-    ensures { result ≡ least_of_node nodes.now.entries node }
-{
-    for (id, other) in nodes {
-        if *other == node {
-            return Some(*id);
-        }
-    }
-    None
-}
-
-fn both(a: bool, b: bool) -> bool
-    ensures first { result ≡ true → a ≡ true }
-    ensures second { result ≡ true → b ≡ true }
-{
-    a && b
 }

@@ -1,13 +1,22 @@
-use Rattle.std.proofs.Common.{ℕ, List, sym, ap, subst, ◌∙◌}
-use Rattle.zq_tables.specs.FaceIds.{of_id}
+use Rattle.std.proofs.Common.{◌≡◌, ℕ, List, sym, subst}
+use Rattle.zq_tables.specs.FaceIds.{without_id}
 use Rattle.zq_tables.specs.FaceIndex.{IsIndex}
-use Rattle.zq_tables.proofs.PairLemmas.{IsIndex-take}
+use Rattle.zq_tables.proofs.IndexLemmas.{IsIndex-take, without-absent}
 use Rattle.zq_tables.proofs.ids.Ids.remove.Goals as goal
 
+pub take_out-requires-clause-node : goal.take_out-requires-clause-node
+take_out-requires-clause-node c = sym c.in-Some.ensures
+
 pub invariant_of-self : goal.invariant_of-self
-invariant_of-self c whole =
+invariant_of-self c =
     let es = c.self.inside.nodes.entries in
-    let new = c.take_pair.new.pairs.keys in
-    let gone = ap (λ (l : List (ℕ × ℕ)). of_id l c.args.id) (sym c.in-Some.ensures.entries) ∙ c.in-Some.ensures.updates.1 in
+    let new = c.take_out.new.row in
     let I : List (ℕ × ℕ) → Type 0 = λ (l : List (ℕ × ℕ)). IsIndex l new in
-    subst I (sym c.in-Some.ensures.entries) (IsIndex-take es c.self.inside.by_node.keys new c.args.id c.in-Some.node gone (sym c.in-Some.ensures.value) (c.self.invariant whole) c.take_pair.ensures)
+    subst I (sym c.drop_id.ensures.entries) (IsIndex-take es c.self.inside.by_node new c.args.id c.drop_id.ensures.gone c.self.invariant c.take_out.ensures)
+
+pub returns-in-None-clause-entries : goal.returns-in-None-clause-entries
+returns-in-None-clause-entries c =
+    let es = c.self.inside.nodes.entries in
+    let view = c.self.view_is in
+    let same : without_id es c.args.id ≡ es = without-absent es c.args.id (sym c.in-None.ensures) in
+    cc
