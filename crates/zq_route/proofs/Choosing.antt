@@ -1,14 +1,16 @@
 -- What a target picks, offer by offer.
-use Rattle.std.proofs.Common.{◌≡◌, ◌∙◌, sym, ap, refl, ℕ, Bool, true, false, cond, List, [], ◌∷◌, ◌++◌, length, take, drop, fold}
-use Rattle.std.specs.Prelude.{filter}
+use Rattle.std.proofs.Common.{◌≡◌, ◌∙◌, sym, ap, refl, ℕ, Bool, true, false, cond, List, [], ◌∷◌, ◌++◌, length, take, drop, fold, ◌+◌, ◌<◌, get_or, Some}
+use Rattle.std.specs.Prelude.{◌&&◌, filter, find, slice_get}
+use Rattle.std.specs.Cmp.{first_so, second_so}
 use Rattle.std.proofs.Math.Seq.{take-append_seam}
-use Rattle.std.proofs.lemmas.List.{take-append-drop}
+use Rattle.std.proofs.lemmas.List.{at_drop_more, take-append-drop}
+use Rattle.std.proofs.lemmas.Option.{slice_get_read}
 use Rattle.std.proofs.lemmas.List.Elements.{filter-append}
 use Rattle.zq_key.specs.declared.message.QueryTarget.{QueryTarget}
 use Rattle.zq_key.specs.declared.message.QueryTarget.TheVariants as target
 use Rattle.zq_hat.specs.declared.types.QueryTargetQabl.{QueryTargetQabl}
 use Rattle.zq_route.specs.Built.{with_first}
-use Rattle.zq_route.specs.Selection.{is_kept, kept, by_face, with_offers, with_kept}
+use Rattle.zq_route.specs.Selection.{is_complete, is_kept, kept, by_face, with_offers, with_kept}
 
 all_kept : (offers : List QueryTargetQabl) → filter (λ _. true) offers ≡ offers
 all_kept [] = refl
@@ -50,3 +52,13 @@ module _ (test : QueryTargetQabl → Bool) (by : QueryTarget) where
     length (filter (is_kept by) (filter test (take i offers))),
     folded route (take i offers) ∙ ap (with_offers route) (front_kept offers i ∙ ap (take (length (filter (is_kept by) (filter test (take i offers))))) (kept_is by (filter test offers))),
   )
+
+-- the offer at a place that passes and is complete is the first such from there on
+pub best_at : (test : QueryTargetQabl → Bool) (offers : List QueryTargetQabl) (i : ℕ) (o : QueryTargetQabl) → i < length offers → o ≡ get_or offers i o → (test o && is_complete o) ≡ true → find is_complete (filter test (drop i offers)) ≡ slice_get offers i
+best_at test offers i o inside is so =
+    let rest = filter test (drop (i + 1) offers) in
+    at_drop_more (λ l. find is_complete (filter test l)) offers i o inside
+    ∙ ap (λ x. find is_complete (filter test (x ∷ drop (i + 1) offers))) (sym is)
+    ∙ ap (λ b. find is_complete (cond b (o ∷ rest) rest)) (first_so _ _ so)
+    ∙ ap (λ b. cond b (Some o) (find is_complete rest)) (second_so _ _ so)
+    ∙ sym (slice_get_read offers (length offers) i o refl inside is)

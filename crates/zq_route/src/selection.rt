@@ -1,6 +1,5 @@
 //! Which offers of a region a request is handed to.
-ghost use Rattle.std.specs.Prelude.{◌≡◌, ℕ, Bool, ◌&&◌, OnOk, OnErr, find, filter, take};
-ghost use Rattle.std.specs.Option.{option_copied};
+ghost use Rattle.std.specs.Prelude.{◌≡◌, ◌<◌, ℕ, Bool, ◌&&◌, IfOk, IfSome, IfNone, None, OnOk, OnErr, find, filter, length, option_to_list, slice_get, take};
 ghost use Rattle.std.specs.Fn.{FnReturnsAt};
 ghost use Rattle.zq_route.specs.Built.{with_first};
 ghost use Rattle.zq_route.specs.Selection.{is_complete, may_be_complete, is_kept, kept, best, chosen, by_face, with_offers, with_kept};
@@ -8,6 +7,7 @@ ghost use Rattle.zq_route.specs.Selection.{is_complete, may_be_complete, is_kept
 use crate::builder::RouteBuilder;
 use std::alloc::Global;
 use zq_hat::types::{OfferList, QueryTargetQabl};
+use zq_key::items::Items;
 use zq_key::memory::OutOfMemory;
 use zq_key::message::QueryTarget;
 
@@ -39,17 +39,16 @@ fn is_kept(target: QueryTarget, offer: &QueryTargetQabl) -> bool
 
 /// Adds the offer, unless its face is there.
 fn add_offer(
-    alloc: Global,
     route: &mut RouteBuilder<QueryTargetQabl>,
-    offer: &QueryTargetQabl,
+    offer: QueryTargetQabl,
 ) -> Result<(), OutOfMemory>
-    ensures ok { OnOk result (route.new ≡ with_first route.old (by_face offer.now)) }
+    ensures ok { OnOk result (route.new ≡ with_first route.old (by_face offer)) }
     ensures err { OnErr result (route.new ≡ route.old) }
 {
     if route.has_face(offer.face) {
         return Ok(());
     }
-    route.put(offer.face, offer.copy(alloc)?)
+    route.put(offer.face, offer)
 }
 
 /// Whether the offer passes.
@@ -64,43 +63,41 @@ fn does_pass<F: Fn(&QueryTargetQabl) -> bool>(passes: &F, offer: &QueryTargetQab
 
 /// Adds the offer, if it passes and the target keeps it.
 fn add_if_kept<F: Fn(&QueryTargetQabl) -> bool>(
-    alloc: Global,
     target: QueryTarget,
     route: &mut RouteBuilder<QueryTargetQabl>,
-    offer: &QueryTargetQabl,
+    offer: QueryTargetQabl,
     passes: &F,
 ) -> Result<(), OutOfMemory>
     ghost test: { QueryTargetQabl → Bool }
     requires callable { F.IsAlwaysCallable passes.now }
     requires answers { (offer : QueryTargetQabl) (answer : Bool) → FnReturnsAt F.Fn passes.now offer answer → answer ≡ test offer }
-    ensures ok { OnOk result (route.new ≡ with_kept test target route.old offer.now) }
+    ensures ok { OnOk result (route.new ≡ with_kept test target route.old offer) }
     ensures err { OnErr result (route.new ≡ route.old) }
 {
-    if !does_pass(passes, offer) {
+    if !does_pass(passes, &offer) {
         return Ok(());
     }
-    if !is_kept(target, offer) {
+    if !is_kept(target, &offer) {
         return Ok(());
     }
-    add_offer(alloc, route, offer)
+    add_offer(route, offer)
 }
 
 /// Adds the offers that pass and that the target keeps.
 fn add_kept<F: Fn(&QueryTargetQabl) -> bool>(
-    alloc: Global,
     target: QueryTarget,
     route: &mut RouteBuilder<QueryTargetQabl>,
-    offers: &[QueryTargetQabl],
+    offers: OfferList,
     passes: &F,
 ) -> Result<(), OutOfMemory>
     ghost test: { QueryTargetQabl → Bool }
     requires callable { F.IsAlwaysCallable passes.now }
     requires answers { (offer : QueryTargetQabl) (answer : Bool) → FnReturnsAt F.Fn passes.now offer answer → answer ≡ test offer }
-    ensures ok { OnOk result (route.new ≡ with_offers route.old (kept target (filter test offers.now))) }
-    ensures err { OnErr result ((n : ℕ) × (route.new ≡ with_offers route.old (take n (kept target (filter test offers.now))))) }
+    ensures ok { OnOk result (route.new ≡ with_offers route.old (kept target (filter test offers))) }
+    ensures err { OnErr result ((n : ℕ) × (route.new ≡ with_offers route.old (take n (kept target (filter test offers))))) }
 {
-    for offer in offers {
-        match add_if_kept(alloc, target, route, offer, passes) {
+    for offer in offers.into_vec() {
+        match add_if_kept(target, route, offer, passes) {
             Ok(()) => {}
             Err(error) => return Err(error),
         }
@@ -121,53 +118,100 @@ fn is_best<F: Fn(&QueryTargetQabl) -> bool>(offer: &QueryTargetQabl, passes: &F)
     is_complete(offer)
 }
 
-/// The first complete offer that passes.
-fn first_complete<'a, F: Fn(&QueryTargetQabl) -> bool>(
-    offers: &'a [QueryTargetQabl],
+/// The place of the first complete offer that passes.
+fn first_complete<F: Fn(&QueryTargetQabl) -> bool>(
+    offers: &[QueryTargetQabl],
     passes: &F,
-) -> Option<&'a QueryTargetQabl>
+) -> Option<usize>
     ghost test: { QueryTargetQabl → Bool }
     requires callable { F.IsAlwaysCallable passes.now }
     requires answers { (offer : QueryTargetQabl) (answer : Bool) → FnReturnsAt F.Fn passes.now offer answer → answer ≡ test offer }
-    ensures { option_copied result ≡ find is_complete (filter test offers.now) }
+    ensures some { IfSome result (λ i. i < length offers.now × (find is_complete (filter test offers.now) ≡ slice_get offers.now i)) }
+    ensures none { IfNone result (find is_complete (filter test offers.now) ≡ None) }
 {
-    for offer in offers {
-        if is_best(offer, passes) {
-            return Some(offer);
+    for i in 0..offers.len() {
+        if is_best(&offers[i], passes) {
+            return Some(i);
         }
     }
     None
 }
 
+/// Adds the offer at a place, and drops the others.
+fn add_one(
+    route: &mut RouteBuilder<QueryTargetQabl>,
+    offers: OfferList,
+    i: usize,
+) -> Result<(), OutOfMemory>
+    requires { i < length offers }
+    ensures ok { OnOk result (route.new ≡ with_offers route.old (option_to_list (slice_get offers i))) }
+    ensures err { OnErr result (route.new ≡ route.old) }
+{
+    add_offer(route, offers.into_vec().swap_remove(i))
+}
+
 /// Adds the first complete offer that passes, or all that pass if none is complete.
 fn add_best<F: Fn(&QueryTargetQabl) -> bool>(
-    alloc: Global,
     route: &mut RouteBuilder<QueryTargetQabl>,
-    offers: &[QueryTargetQabl],
+    offers: OfferList,
     passes: &F,
 ) -> Result<(), OutOfMemory>
     ghost test: { QueryTargetQabl → Bool }
     requires callable { F.IsAlwaysCallable passes.now }
     requires answers { (offer : QueryTargetQabl) (answer : Bool) → FnReturnsAt F.Fn passes.now offer answer → answer ≡ test offer }
-    ensures ok { OnOk result (route.new ≡ with_offers route.old (best (filter test offers.now))) }
-    ensures err { OnErr result ((n : ℕ) × (route.new ≡ with_offers route.old (take n (best (filter test offers.now))))) }
+    ensures ok { OnOk result (route.new ≡ with_offers route.old (best (filter test offers))) }
+    ensures err { OnErr result ((n : ℕ) × (route.new ≡ with_offers route.old (take n (best (filter test offers))))) }
 {
-    match first_complete(offers, passes) {
-        Some(offer) => match add_offer(alloc, route, offer) {
+    match first_complete(offers.as_slice(), passes) {
+        Some(i) => match add_one(route, offers, i) {
             Ok(()) => Ok(()),
             Err(error) => Err(error),
         },
-        None => match add_kept(alloc, QueryTarget::All, route, offers, passes) {
+        None => match add_kept(QueryTarget::All, route, offers, passes) {
             Ok(()) => Ok(()),
             Err(error) => Err(error),
         },
     }
 }
 
+/// Adds one region's part of a selection, as `compute_final_route` does, of offers that it takes: those
+/// that are picked go into the route as they are, and the others are dropped.
+pub fn take_final_route<F: Fn(&QueryTargetQabl) -> bool>(
+    target: QueryTarget,
+    route: &mut RouteBuilder<QueryTargetQabl>,
+    offers: OfferList,
+    passes: F,
+) -> Result<(), OutOfMemory>
+where
+    F: Drop,
+    ghost test: { QueryTargetQabl → Bool }
+    requires callable { F.IsAlwaysCallable passes }
+    requires answers { (offer : QueryTargetQabl) (answer : Bool) → FnReturnsAt F.Fn passes offer answer → answer ≡ test offer }
+    ensures ok { OnOk result (route.new ≡ with_offers route.old (chosen target (filter test offers))) }
+    ensures err { OnErr result ((n : ℕ) × (route.new ≡ with_offers route.old (take n (chosen target (filter test offers))))) }
+{
+    match target {
+        QueryTarget::All => add_kept(target, route, offers, &passes),
+        QueryTarget::AllComplete => add_kept(target, route, offers, &passes),
+        QueryTarget::BestMatching => add_best(route, offers, &passes),
+    }
+}
+
+fn copies(alloc: Global, offers: &[QueryTargetQabl]) -> Result<OfferList, OutOfMemory>
+    ensures { IfOk result (λ l. l ≡ offers.now) }
+{
+    let mut copies = Items::new(alloc);
+    for offer in offers {
+        copies.push(offer.copy(alloc)?)?;
+    }
+    Ok(copies)
+}
+
 /// Adds one region's part of a selection (upstream's `compute_final_route`): of the offers that pass,
 /// `All` takes all, `AllComplete` those that are complete or without information, and `BestMatching`
 /// the first complete one, or all if none is complete. Each face is taken once, with its first offer.
-/// After want of memory the route has a part of it, from the front.
+/// After want of memory the route has a part of it, from the front. The offers are copied:
+/// `take_final_route` does without.
 pub fn compute_final_route<F: Fn(&QueryTargetQabl) -> bool>(
     alloc: Global,
     target: QueryTarget,
@@ -183,9 +227,8 @@ where
     ensures ok { OnOk result (route.new ≡ with_offers route.old (chosen target (filter test offers.now))) }
     ensures err { OnErr result ((n : ℕ) × (route.new ≡ with_offers route.old (take n (chosen target (filter test offers.now))))) }
 {
-    match target {
-        QueryTarget::All => add_kept(alloc, target, route, offers.as_slice(), &passes),
-        QueryTarget::AllComplete => add_kept(alloc, target, route, offers.as_slice(), &passes),
-        QueryTarget::BestMatching => add_best(alloc, route, offers.as_slice(), &passes),
+    match copies(alloc, offers.as_slice()) {
+        Ok(offers) => take_final_route(target, route, offers, passes),
+        Err(error) => Err(error),
     }
 }

@@ -5,5 +5,5 @@ use Rattle.zq_route.proofs.selection.first_complete.Given as goal
 abbrev pub ghost-is_best : goal.ghost-is_best
 ghost-is_best g a = g.test
 
-abbrev pub invariant-loop-offer : goal.invariant-loop-offer
-invariant-loop-offer g l = find is_complete (filter g.test (drop l.offer-index l.offers)) ≡ find is_complete (filter g.test l.offers)
+abbrev pub invariant-loop-i : goal.invariant-loop-i
+invariant-loop-i g l = find is_complete (filter g.test (drop l.i l.offers)) ≡ find is_complete (filter g.test l.offers)
