@@ -18,7 +18,7 @@ use zq_machine::face::OpenFace;
 use zq_route::builder::RouteBuilder;
 use zq_route::filter::InterRegionFilter;
 use zq_route::gateways::Gateways;
-use zq_route::selection::compute_final_route;
+use zq_route::selection::take_final_route;
 use zq_tables::RegionMap;
 
 /// The id of an open face.
@@ -100,7 +100,7 @@ impl<'a> Asker<'a> {
     {
         let offers = hat.compute_query_route(&self.opened.region, key, Some(0))?;
         let offers = self.passing(alloc, offers)?;
-        compute_final_route(alloc, target, route, &offers, is_any)
+        take_final_route(target, route, offers, is_any)
     }
 
     // Region by region, in the order of their places.
