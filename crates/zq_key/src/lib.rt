@@ -1,8 +1,6 @@
 //! Keys and messages: what every other crate speaks of.
 //!
-//! - `text`, `items`: texts, bytes and lists, which contracts see as lists
 //! - `message`: ids, regions, expressions and the messages of faces
-//! - `memory`: the one error of a call that can only lack memory
 //! - `name`: keys that are kept
 //! - `check`: which texts are keys, and which keys are plain
 //! - `matching`, `chunk`, `key`: whether two keys intersect, and whether one includes the other,
@@ -10,20 +8,18 @@
 //! - `pruning`: where the first bytes of a text show that it does not meet a key
 //! - `laws`: that keys intersect both ways alike, and include and intersect themselves
 //! - `space`: texts cut by chunks, and texts behind a prefix
+//! - `text`, `items` and `memory` are of the crate below, `zq_text`
 #![tactic(auto)]
 
 mod check;
 mod chunk;
-pub mod items;
 mod key;
 pub mod laws;
 mod matching;
-pub mod memory;
 pub mod message;
 mod name;
 pub mod pruning;
 pub mod space;
-pub mod text;
 
 ghost use Rattle.std.specs.Prelude.{◌≡◌, IsTrue};
 ghost use Rattle.std.specs.Str.{chars};
@@ -32,6 +28,7 @@ ghost use Rattle.zq_key.specs.Key.{is_key as key_of, intersects as intersects_of
 pub use check::{is_key, is_plain};
 use key::{Relation, related};
 pub use name::{Key, KeyError};
+pub use zq_text::{items, memory, text};
 
 /// Whether two keys intersect (upstream's `keyexpr::intersects`), by the recursion on their chunks. It
 /// takes no memory.

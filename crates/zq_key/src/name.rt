@@ -6,9 +6,9 @@ ghost use Rattle.zq_key.specs.Key.{is_key as key_of};
 ghost use Rattle.zq_key.specs.KeyRefusals.{IsRefusal};
 
 use crate::check::is_key;
-use crate::memory::OutOfMemory;
 use std::alloc::Global;
 use std::marker::Model;
+use zq_text::memory::OutOfMemory;
 
 /// A text that is a key.
 #[derive(Drop)]

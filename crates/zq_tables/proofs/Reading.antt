@@ -8,7 +8,7 @@ use Rattle.std.proofs.lemmas.List.{take-append-drop}
 use Rattle.zq_key.specs.declared.message.Mapping.{Mapping}
 use Rattle.zq_key.specs.declared.message.Mapping.TheVariants as mapping
 use Rattle.zq_key.specs.declared.message.WireExpr.{WireExpr}
-use Rattle.zq_key.specs.declared.memory.OutOfMemory.{OutOfMemory}
+use Rattle.zq_text.specs.declared.memory.OutOfMemory.{OutOfMemory}
 use Rattle.zq_tables.specs.declared.said.Said.TheVariants as said
 use Rattle.zq_tables.specs.FaceIds.{of_id}
 use Rattle.zq_tables.specs.FaceTexts as face
