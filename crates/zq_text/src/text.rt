@@ -1,23 +1,25 @@
 //! Texts and byte strings, which contracts see as lists of bytes.
 ghost use Rattle.std.specs.Prelude.{◌≡◌, ◌++◌, ℕ, List, IfOk, string_bytes};
 
+use crate::kept::Kept;
 use crate::memory::OutOfMemory;
 use std::alloc::Global;
 use std::marker::Model;
 
-/// A text, seen as the list of its bytes.
+/// A text, seen as the list of its bytes. It may share its memory with its copies.
 #[derive(Debug, Drop)]
 pub struct Text {
-    inner: String,
+    inner: Kept<String>,
 }
 
 impl Model for Text {
     ghost use Rattle.std.specs.Prelude.{ℕ, List};
     ghost use Rattle.std.specs.String.{string_bytes};
+    ghost use Rattle.zq_text.specs.Kept.{kept_value};
 
     ghost Value = { List ℕ };
 
-    ghost view = { λ s. string_bytes s.inner };
+    ghost view = { λ s. string_bytes (kept_value s.inner) };
 }
 
 impl Text {
@@ -25,16 +27,16 @@ impl Text {
     pub fn new(alloc: Global, text: &str) -> Result<Text, OutOfMemory>
         ensures { IfOk result (λ t. t ≡ text.now) }
     {
-        Ok(Text {
-            inner: String::from_str(alloc, text)?,
-        })
+        Ok(Text::from_string(String::from_str(alloc, text)?))
     }
 
     /// The text of a string.
     pub fn from_string(text: String) -> Text
         ensures { result ≡ string_bytes text }
     {
-        Text { inner: text }
+        Text {
+            inner: Kept::Own(text),
+        }
     }
 
     /// Three texts in a row.
@@ -44,36 +46,50 @@ impl Text {
         let mut inner = String::from_str(alloc, a)?;
         inner.push_str(b)?;
         inner.push_str(c)?;
-        Ok(Text { inner })
+        Ok(Text::from_string(inner))
     }
 
-    /// An equal text.
+    /// The text, of which each copy shares the memory.
+    pub fn shared(self, alloc: Global) -> Result<Text, OutOfMemory>
+        ensures { IfOk result (λ t. t ≡ self) }
+    {
+        let Text { inner } = self;
+        Ok(Text {
+            inner: inner.shared(alloc)?,
+        })
+    }
+
+    /// An equal text, in the same memory if this one is shared.
     pub fn copy(&self, alloc: Global) -> Result<Text, OutOfMemory>
         ensures { IfOk result (λ t. t ≡ self.now) }
     {
-        Text::new(alloc, self.as_str())
+        match self.inner.another() {
+            Some(inner) => Ok(Text { inner }),
+            None => Text::new(alloc, self.as_str()),
+        }
     }
 
     /// The text.
     pub fn as_str(&self) -> &str
         ensures { result.now ≡ self.now }
     {
-        self.inner.as_str()
+        self.inner.get().as_str()
     }
 }
 
-/// Bytes, seen as a list.
+/// Bytes, seen as a list. They may share their memory with their copies.
 #[derive(Debug, Drop)]
 pub struct Bytes {
-    inner: Vec<u8>,
+    inner: Kept<Vec<u8>>,
 }
 
 impl Model for Bytes {
     ghost use Rattle.std.specs.Prelude.{ℕ, List};
+    ghost use Rattle.zq_text.specs.Kept.{kept_value};
 
     ghost Value = { List ℕ };
 
-    ghost view = { λ s. s.inner.items };
+    ghost view = { λ s. (kept_value s.inner).items };
 }
 
 impl Bytes {
@@ -81,29 +97,42 @@ impl Bytes {
     pub fn new(alloc: Global, bytes: &[u8]) -> Result<Bytes, OutOfMemory>
         ensures { IfOk result (λ t. t ≡ bytes.now) }
     {
+        Ok(Bytes::from_vec(Vec::from_slice(alloc, bytes)?))
+    }
+
+    /// The bytes, of which each copy shares the memory.
+    pub fn shared(self, alloc: Global) -> Result<Bytes, OutOfMemory>
+        ensures { IfOk result (λ b. b ≡ self) }
+    {
+        let Bytes { inner } = self;
         Ok(Bytes {
-            inner: Vec::from_slice(alloc, bytes)?,
+            inner: inner.shared(alloc)?,
         })
     }
 
-    /// Equal bytes.
+    /// Equal bytes, in the same memory if these are shared.
     pub fn copy(&self, alloc: Global) -> Result<Bytes, OutOfMemory>
         ensures { IfOk result (λ t. t ≡ self.now) }
     {
-        Bytes::new(alloc, self.as_slice())
+        match self.inner.another() {
+            Some(inner) => Ok(Bytes { inner }),
+            None => Bytes::new(alloc, self.as_slice()),
+        }
     }
 
     /// The bytes of a vector.
     pub fn from_vec(bytes: Vec<u8>) -> Bytes
         ensures { result ≡ bytes.items }
     {
-        Bytes { inner: bytes }
+        Bytes {
+            inner: Kept::Own(bytes),
+        }
     }
 
     /// The bytes.
     pub fn as_slice(&self) -> &[u8]
         ensures { result.now ≡ self.now }
     {
-        self.inner.as_slice()
+        self.inner.get().as_slice()
     }
 }

@@ -1,0 +1,9 @@
+-- A value with one owner or with several.
+use Rattle.std.specs.Arc.{arc_value}
+use Rattle.zq_text.specs.declared.kept.Kept.{Kept}
+use Rattle.zq_text.specs.declared.kept.Kept.TheVariants.{Own, Shared}
+
+-- the value, whoever else has it
+abbrev pub kept_value : {T : Type 0} → Kept T → T
+kept_value (Own value) = value
+kept_value (Shared value) = arc_value value
