@@ -1,7 +1,7 @@
 -- A region whose hat has a face or lacks it has a hat.
 use Rattle.std.proofs.Common.{◌≡◌, refl, ap, ℕ, Bool, true, false, cond, List, Some, None}
 use Rattle.std.specs.Option.{option_map}
-use Rattle.zq_key.specs.declared.message.Region.{Region}
+use Rattle.zq_message.specs.declared.message.Region.{Region}
 use Rattle.zq_regions.specs.RegionMap.{value_at}
 use Rattle.zq_hat.specs.State.{HatState}
 use Rattle.zq_hat.specs.Kept.{has_face}

@@ -1,7 +1,7 @@
 -- A valid configuration names regions alone.
 use Rattle.std.proofs.Common.{◌≡◌, ℕ, suc, zero, ◌<◌, Bool, true, false, cond, not, List, [], ◌∷◌, ◌++◌, Option, Some, None, length, get_or, refl, arith}
 use Rattle.std.specs.Prelude.{nat_lt}
-use Rattle.zq_key.specs.declared.message.Region.TheVariants as region
+use Rattle.zq_message.specs.declared.message.Region.TheVariants as region
 use Rattle.zq_regions.specs.Region.{region_index}
 use Rattle.zq_machine.specs.declared.config.Entry.{Entry}
 use Rattle.zq_machine.specs.declared.config.Entry.TheVariants as entry

@@ -1,6 +1,6 @@
 -- What a call gives, and what a gateway has behind it.
 use Rattle.std.specs.Prelude.{◌≡◌, List, Option, Result, IfOk, OnOk, OnErr}
-use Rattle.zq_text.specs.declared.memory.OutOfMemory.{OutOfMemory}
+use Rattle.zq_message.specs.declared.memory.OutOfMemory.{OutOfMemory}
 use Rattle.zq_machine.specs.declared.call.Call.{Call}
 use Rattle.zq_machine.specs.declared.call.Step.{Step}
 use Rattle.zq_machine.specs.Configs.{Settings}

@@ -1,7 +1,7 @@
 -- Whether a region's hat has a face.
 use Rattle.std.specs.Prelude.{ℕ, Bool, List, Option}
 use Rattle.std.specs.Option.{option_map}
-use Rattle.zq_key.specs.declared.message.Region.{Region}
+use Rattle.zq_message.specs.declared.message.Region.{Region}
 use Rattle.zq_hat.specs.State.{HatState}
 use Rattle.zq_hat.specs.Kept.{has_face}
 use Rattle.zq_machine.specs.State.{hat_at}

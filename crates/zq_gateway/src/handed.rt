@@ -4,8 +4,8 @@ ghost use Rattle.std.specs.List.{cons_option};
 ghost use Rattle.zq_tables.specs.Naming.{best, face_naming, plain};
 ghost use Rattle.zq_machine.specs.Selecting.{target_of, zid_of};
 ghost use Rattle.zq_query.specs.Asking.{given_id, given_place};
-ghost use Rattle.zq_key.specs.declared.message.Message.TheVariants as message_of;
-ghost use Rattle.zq_key.specs.declared.message.ReplyBody.TheVariants as body;
+ghost use Rattle.zq_message.specs.declared.message.Message.TheVariants as message_of;
+ghost use Rattle.zq_message.specs.declared.message.ReplyBody.TheVariants as body;
 ghost use Rattle.zq_machine.specs.Writing.{sent_final, write, written};
 ghost use Rattle.zq_machine.specs.Deciding.{timed_out, timeout_word, handed_replies, handed_reply, handed_request, handed_requests, handed_timeout, handed_timeouts};
 

@@ -10,7 +10,7 @@ use Rattle.std.proofs.lemmas.Map.Text.{is_eq-slice_cmp}
 use Rattle.std.proofs.Math.Bool.{or-false, or_assoc}
 use Rattle.std.proofs.lemmas.Map.Made.{is_some-lookup}
 use Rattle.zq_key.specs.Key.{intersects}
-use Rattle.zq_key.specs.declared.message.Region.{Region}
+use Rattle.zq_message.specs.declared.message.Region.{Region}
 use Rattle.zq_hat.specs.declared.types.Declaration.{Declaration}
 use Rattle.zq_index.specs.Texts.{text_cmp, at_text}
 use Rattle.zq_hat.specs.Kept.{is_on, key_of, with_key, with_keys, declared_keys}

@@ -13,7 +13,7 @@ use Rattle.std.specs.Str.{bytes_eq}
 use Rattle.std.proofs.lemmas.Map.Lookups.{exact_unsigned}
 use Rattle.std.proofs.lemmas.Map.Text.{is_eq-slice_cmp}
 use Rattle.zq_key.specs.Key.{is_key}
-use Rattle.zq_key.specs.declared.message.QueryableInfoType.{QueryableInfoType}
+use Rattle.zq_message.specs.declared.message.QueryableInfoType.{QueryableInfoType}
 use Rattle.zq_hat.specs.declared.types.Declaration.{Declaration}
 use Rattle.zq_index.specs.Texts.{text_cmp, at_text}
 use Rattle.zq_hat.specs.Kept.{at_id, is_apart, declare, withdraw, declaration}

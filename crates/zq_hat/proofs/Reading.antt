@@ -11,12 +11,12 @@ use Rattle.std.specs.Map.{keys_of}
 use Rattle.std.proofs.lemmas.Map.Lookups.{exact_unsigned}
 use Rattle.std.proofs.lemmas.Map.Keys.{sorted_head, sorted_tail}
 use Rattle.std.proofs.lemmas.List.{map-append}
-use Rattle.zq_key.specs.declared.message.QueryableInfoType.{QueryableInfoType}
+use Rattle.zq_message.specs.declared.message.QueryableInfoType.{QueryableInfoType}
 use Rattle.zq_hat.specs.declared.types.Declaration.{Declaration}
 use Rattle.zq_index.specs.Infos.{joined, merge}
 use Rattle.zq_hat.specs.Kept.{is_on, with_declared, info, with_face, faces_info}
 use Rattle.zq_hat.specs.Offers.{offer_list, offers_on}
-use Rattle.zq_key.specs.declared.message.Region.{Region}
+use Rattle.zq_message.specs.declared.message.Region.{Region}
 use Rattle.zq_hat.specs.State.{FaceState}
 use Rattle.zq_index.specs.Holders.{Holdings, Index, place_cmp, held_at, with_held}
 use Rattle.zq_index.specs.Texts.{at_text}

@@ -6,10 +6,10 @@ use Rattle.std.specs.BTreeMap.{insert_entry, is_at}
 use Rattle.std.specs.BTreeSet.{insert_key}
 use Rattle.std.specs.Ordering.{nat_cmp}
 use Rattle.std.specs.Str.{bytes_eq}
-use Rattle.zq_key.specs.declared.message.QueryableInfoType.{QueryableInfoType}
-use Rattle.zq_key.specs.declared.message.Region.{Region}
-use Rattle.zq_key.specs.declared.message.Mode.{Mode}
-use Rattle.zq_key.specs.declared.message.Zid.{Zid}
+use Rattle.zq_message.specs.declared.message.QueryableInfoType.{QueryableInfoType}
+use Rattle.zq_message.specs.declared.message.Region.{Region}
+use Rattle.zq_message.specs.declared.message.Mode.{Mode}
+use Rattle.zq_message.specs.declared.message.Zid.{Zid}
 use Rattle.zq_hat.specs.declared.types.FaceRecord.{FaceRecord}
 use Rattle.zq_hat.specs.declared.types.Declaration.{Declaration}
 use Rattle.zq_hat.specs.declared.types.UnregisterEntityResult.{UnregisterEntityResult}

@@ -1,11 +1,11 @@
 -- Which strategy a region has.
 use Rattle.std.specs.Prelude.{Bool, true, false, ◌&&◌, ◌==◌}
-use Rattle.zq_key.specs.declared.message.Bound.{Bound}
-use Rattle.zq_key.specs.declared.message.Bound.TheVariants as bound
-use Rattle.zq_key.specs.declared.message.Region.{Region}
-use Rattle.zq_key.specs.declared.message.Region.TheVariants as region
-use Rattle.zq_key.specs.declared.message.Mode.{Mode}
-use Rattle.zq_key.specs.declared.message.Mode.TheVariants as mode
+use Rattle.zq_message.specs.declared.message.Bound.{Bound}
+use Rattle.zq_message.specs.declared.message.Bound.TheVariants as bound
+use Rattle.zq_message.specs.declared.message.Region.{Region}
+use Rattle.zq_message.specs.declared.message.Region.TheVariants as region
+use Rattle.zq_message.specs.declared.message.Mode.{Mode}
+use Rattle.zq_message.specs.declared.message.Mode.TheVariants as mode
 use Rattle.zq_hat.specs.declared.types.Strategy.{Strategy}
 use Rattle.zq_hat.specs.declared.types.Strategy.TheVariants as strategy
 use Rattle.zq_hat.specs.State.{HatState}

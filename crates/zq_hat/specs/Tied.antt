@@ -7,8 +7,8 @@ use Rattle.std.specs.Map.{keys_of}
 use Rattle.std.specs.Ordering.{nat_cmp}
 use Rattle.std.specs.Str.{bytes_eq}
 use Rattle.zq_key.specs.Key.{is_key, intersects}
-use Rattle.zq_key.specs.declared.message.QueryableInfoType.{QueryableInfoType}
-use Rattle.zq_key.specs.declared.message.Region.{Region}
+use Rattle.zq_message.specs.declared.message.QueryableInfoType.{QueryableInfoType}
+use Rattle.zq_message.specs.declared.message.Region.{Region}
 use Rattle.zq_index.specs.Infos.{merge}
 use Rattle.zq_index.specs.Texts.{text_cmp, at_text}
 use Rattle.zq_index.specs.Holders.{Place, Holdings, Index, place_cmp, at_place, held_at, without_holding}

@@ -7,7 +7,7 @@ use Rattle.std.specs.Ordering.{match_ordering}
 use Rattle.std.specs.List.Sorted.{IsStrictlySortedBy}
 use Rattle.std.specs.Map.{keys_of, remove_entry, set_value}
 use Rattle.std.specs.BTreeMap.{is_at, insert_entry}
-use Rattle.zq_key.specs.declared.message.QueryableInfoType.{QueryableInfoType}
+use Rattle.zq_message.specs.declared.message.QueryableInfoType.{QueryableInfoType}
 use Rattle.zq_index.specs.Texts.{text_cmp, at_text}
 use Rattle.zq_index.specs.Holders.{Place, Holdings, Index, place_cmp, held_at, with_holding, with_holdings, without_holding, if_any}
 use Rattle.zq_index.proofs.Orders.{text_total, text_exact}

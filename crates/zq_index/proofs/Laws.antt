@@ -1,6 +1,6 @@
 -- The laws of merging.
 use Rattle.std.proofs.Common.{◌≡◌, ℕ, min, Bool, true, false, ap, refl, arith}
-use Rattle.zq_key.specs.declared.message.QueryableInfoType.{QueryableInfoType}
+use Rattle.zq_message.specs.declared.message.QueryableInfoType.{QueryableInfoType}
 use Rattle.zq_index.specs.Infos.{merge}
 
 abbrev mk : Bool → ℕ → QueryableInfoType

@@ -11,7 +11,7 @@ use Rattle.std.specs.Map.{keys_of}
 use Rattle.std.specs.BTreeMap.{is_at}
 use Rattle.std.proofs.lemmas.Cmp.{ranked}
 use Rattle.std.proofs.lemmas.Map.Lookups.{CmpEqualImpliesEq, exact_unsigned, exact_pairs}
-use Rattle.zq_key.specs.declared.message.QueryableInfoType.{QueryableInfoType}
+use Rattle.zq_message.specs.declared.message.QueryableInfoType.{QueryableInfoType}
 use Rattle.zq_key.proofs.Lookups.{same_key, at_itself, apart, differ, either_way, each_entry}
 use Rattle.zq_index.specs.Infos.{merge, joined, same_bool, same_info}
 use Rattle.zq_index.specs.Holders.{Place, Holdings, Rank, place_cmp, rank_cmp, rank_of, has_rank, is_rank, at_place, with_held, IsRanked}

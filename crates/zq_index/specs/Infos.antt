@@ -1,6 +1,6 @@
 -- Informations on queryables, and their merge.
 use Rattle.std.specs.Prelude.{min, Bool, ◌==◌, Option, Some, None, if◌then◌else◌, cond, true, false, ◌&&◌}
-use Rattle.zq_key.specs.declared.message.QueryableInfoType.{QueryableInfoType}
+use Rattle.zq_message.specs.declared.message.QueryableInfoType.{QueryableInfoType}
 
 -- whether both or neither hold
 abbrev pub same_bool : Bool → Bool → Bool

@@ -1,6 +1,5 @@
-//! Keys and messages: what every other crate speaks of.
+//! Keys, and how they relate.
 //!
-//! - `message`: ids, regions, expressions and the messages of faces
 //! - `name`: keys that are kept
 //! - `check`: which texts are keys, and which keys are plain
 //! - `matching`, `chunk`, `key`: whether two keys intersect, and whether one includes the other,
@@ -8,7 +7,7 @@
 //! - `pruning`: where the first bytes of a text show that it does not meet a key
 //! - `laws`: that keys intersect both ways alike, and include and intersect themselves
 //! - `space`: texts cut by chunks, and texts behind a prefix
-//! - `text`, `items` and `memory` are of the crate below, `zq_text`
+//! - `message`, `text`, `items` and `memory` are of the crate below, `zq_message`
 #![tactic(auto)]
 
 mod check;
@@ -16,7 +15,6 @@ mod chunk;
 mod key;
 pub mod laws;
 mod matching;
-pub mod message;
 mod name;
 pub mod pruning;
 pub mod space;
@@ -28,7 +26,7 @@ ghost use Rattle.zq_key.specs.Key.{is_key as key_of, intersects as intersects_of
 pub use check::{is_key, is_plain};
 use key::{Relation, related};
 pub use name::{Key, KeyError};
-pub use zq_text::{items, memory, text};
+pub use zq_message::{items, memory, message, text};
 
 /// Whether two keys intersect (upstream's `keyexpr::intersects`), by the recursion on their chunks. It
 /// takes no memory.

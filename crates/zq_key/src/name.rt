@@ -8,7 +8,7 @@ ghost use Rattle.zq_key.specs.KeyRefusals.{IsRefusal};
 use crate::check::is_key;
 use std::alloc::Global;
 use std::marker::Model;
-use zq_text::memory::OutOfMemory;
+use zq_message::memory::OutOfMemory;
 
 /// A text that is a key.
 #[derive(Drop)]

@@ -8,8 +8,8 @@ ghost use Rattle.zq_key.specs.Space.{prefixed, is_slash, strip as strip_of, firs
 use crate::chunk::{chunks_meet, is_stars};
 use crate::key::cut;
 use std::alloc::Global;
-use zq_text::memory::OutOfMemory;
-use zq_text::text::Text;
+use zq_message::memory::OutOfMemory;
+use zq_message::text::Text;
 
 /// The place of the first `/`.
 fn slash(text: &[u8]) -> Option<usize>

@@ -4,8 +4,8 @@ use Rattle.std.proofs.lemmas.List.Elements.{All-tail, All-drop}
 use Rattle.std.specs.Str.{bytes_eq}
 use Rattle.std.specs.List.{AllByRecursion}
 use Rattle.std.specs.Prelude.{◌==◌, codes, map, filter}
-use Rattle.zq_key.specs.declared.message.QueryTarget.{QueryTarget}
-use Rattle.zq_key.specs.declared.message.QueryableInfoType.{QueryableInfoType}
+use Rattle.zq_message.specs.declared.message.QueryTarget.{QueryTarget}
+use Rattle.zq_message.specs.declared.message.QueryableInfoType.{QueryableInfoType}
 use Rattle.zq_hat.specs.declared.types.FinalMark.TheVariants as mark
 use Rattle.zq_words.specs.Words.{len_to, pieces}
 use Rattle.zq_words.specs.Values.{most_8, most_16, most_32, most_64, mode_of, bound_of, target_of, flag_of}

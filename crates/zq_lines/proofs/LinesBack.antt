@@ -5,18 +5,18 @@ use Rattle.std.specs.Prelude.{codes, map, filter}
 use Rattle.std.specs.Str.{bytes_eq}
 use Rattle.std.specs.Fmt.{decimal}
 use Rattle.std.specs.List.{AllByRecursion, flat_map}
-use Rattle.zq_key.specs.declared.message.FaceId.{FaceId}
-use Rattle.zq_key.specs.declared.message.Zid.{Zid}
-use Rattle.zq_key.specs.declared.message.WireExpr.{WireExpr}
-use Rattle.zq_key.specs.declared.message.QueryableInfoType.{QueryableInfoType}
-use Rattle.zq_key.specs.declared.message.Region.{Region}
+use Rattle.zq_message.specs.declared.message.FaceId.{FaceId}
+use Rattle.zq_message.specs.declared.message.Zid.{Zid}
+use Rattle.zq_message.specs.declared.message.WireExpr.{WireExpr}
+use Rattle.zq_message.specs.declared.message.QueryableInfoType.{QueryableInfoType}
+use Rattle.zq_message.specs.declared.message.Region.{Region}
 use Rattle.zq_route.specs.declared.gateways.Gateways.{Gateways}
 use Rattle.zq_hat.specs.declared.types.Network.{Network}
 use Rattle.zq_hat.specs.declared.types.NodeIds.{NodeIds}
-use Rattle.zq_key.specs.declared.message.Request.{Request}
-use Rattle.zq_key.specs.declared.message.Response.{Response}
-use Rattle.zq_key.specs.declared.message.ReplyBody.{ReplyBody}
-use Rattle.zq_key.specs.declared.message.ReplyBody.TheVariants as body
+use Rattle.zq_message.specs.declared.message.Request.{Request}
+use Rattle.zq_message.specs.declared.message.Response.{Response}
+use Rattle.zq_message.specs.declared.message.ReplyBody.{ReplyBody}
+use Rattle.zq_message.specs.declared.message.ReplyBody.TheVariants as body
 use Rattle.zq_hat.specs.declared.types.FinalMark.{FinalMark}
 use Rattle.zq_hat.specs.declared.types.FinalMark.TheVariants as mark
 use Rattle.zq_machine.specs.declared.call.Opening.{Opening}

@@ -1,7 +1,7 @@
 -- A call with its texts moved is refused for the cause that refuses the call.
 use Rattle.std.proofs.Common.{◌≡◌, ◌∙◌, refl, ap, ℕ, false, not, List, [], ◌∷◌, Option, Some, None}
 use Rattle.std.specs.Prelude.{◌==◌, ◌||◌, option_map}
-use Rattle.zq_key.specs.declared.message.FaceId.{FaceId}
+use Rattle.zq_message.specs.declared.message.FaceId.{FaceId}
 use Rattle.zq_hat.specs.declared.types.FinalMark.TheVariants as mark
 use Rattle.zq_hat.specs.Moved.{Keeps}
 use Rattle.zq_tables.specs.declared.said.Said.TheVariants as said

@@ -8,7 +8,7 @@ use Rattle.std.specs.Ordering.{nat_cmp}
 use Rattle.std.proofs.lemmas.Cmp.{nat_cmp_total}
 use Rattle.std.proofs.lemmas.Map.Lookups.{exact_unsigned}
 use Rattle.std.proofs.lemmas.Option.{same_Some}
-use Rattle.zq_key.specs.declared.message.Region.{Region}
+use Rattle.zq_message.specs.declared.message.Region.{Region}
 use Rattle.zq_regions.specs.Region.{region_index}
 use Rattle.zq_hat.specs.State.{HatState}
 use Rattle.zq_hat.specs.declared.types.FaceRecord.{FaceRecord}

@@ -8,10 +8,10 @@ use Rattle.std.proofs.lemmas.Bool.{false≢true, and_parts, not-true}
 use Rattle.std.proofs.lemmas.Slice.Eq.{bytes_eq-Decides}
 use Rattle.std.proofs.lemmas.List.{take-append-drop}
 use Rattle.std.proofs.Math.Seq.{drop-append_seam}
-use Rattle.zq_key.specs.declared.message.Declare.{Declare}
-use Rattle.zq_key.specs.declared.message.FaceId.{FaceId}
-use Rattle.zq_key.specs.declared.message.Mapping.{Mapping}
-use Rattle.zq_key.specs.declared.message.Mapping.TheVariants as mapping
+use Rattle.zq_message.specs.declared.message.Declare.{Declare}
+use Rattle.zq_message.specs.declared.message.FaceId.{FaceId}
+use Rattle.zq_message.specs.declared.message.Mapping.{Mapping}
+use Rattle.zq_message.specs.declared.message.Mapping.TheVariants as mapping
 use Rattle.zq_names.specs.Texts.{cut_at_star, is_star_byte, nonwild, parent_of, parent_to}
 use Rattle.zq_tables.specs.FaceIds.{next_id}
 use Rattle.zq_tables.specs.FaceTexts.{is_text, known, known_choice, least_name, names_text, new_choice, or_else, tagged, whole_key, with_declared}
@@ -19,7 +19,7 @@ use Rattle.zq_tables.specs.declared.decl.DeclKey.{DeclKey}
 use Rattle.zq_tables.proofs.IdLemmas.{free_from-least, of_id-with_id}
 use Rattle.zq_tables.specs.declared.said.Said.TheVariants as said
 use Rattle.zq_tables.specs.Naming.{FaceKeys, FaceNaming, NamingState, change_naming, face_keys, face_naming, handed_side, naming_at, plain, read_by, text_at}
-use Rattle.zq_key.specs.declared.message.DeclareBody.TheVariants as body
+use Rattle.zq_message.specs.declared.message.DeclareBody.TheVariants as body
 use Rattle.zq_tables.specs.Naming.{no_keys}
 use Rattle.zq_machine.specs.Handing.{Handed}
 use Rattle.zq_machine.specs.Hearing.{CanBeTold, body_says, has_text, hear, heard_body, telling_by, tells_text}

@@ -9,10 +9,10 @@ use Rattle.std.specs.Ordering.{nat_cmp}
 use Rattle.std.proofs.lemmas.Bool.{or_parts}
 use Rattle.std.proofs.lemmas.Cmp.{nat_cmp_total}
 use Rattle.std.proofs.lemmas.Map.Lookups.{exact_unsigned}
-use Rattle.zq_key.specs.declared.message.FaceId.{FaceId}
-use Rattle.zq_key.specs.declared.message.Message.{Message}
-use Rattle.zq_key.specs.declared.message.Message.TheVariants as message
-use Rattle.zq_key.specs.declared.message.Request.{Request}
+use Rattle.zq_message.specs.declared.message.FaceId.{FaceId}
+use Rattle.zq_message.specs.declared.message.Message.{Message}
+use Rattle.zq_message.specs.declared.message.Message.TheVariants as message
+use Rattle.zq_message.specs.declared.message.Request.{Request}
 use Rattle.zq_hat.specs.declared.types.QueryTargetQabl.{QueryTargetQabl}
 use Rattle.zq_query.specs.declared.records.ReplyTo.{ReplyTo}
 use Rattle.zq_query.specs.Asking.{given_place, giving}

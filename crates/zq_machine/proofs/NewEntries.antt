@@ -9,7 +9,7 @@ use Rattle.std.specs.declared.cmp.Ordering.TheVariants.{Less, Equal, Greater}
 use Rattle.std.proofs.lemmas.Bool.{and_parts, false≢true, not-true}
 use Rattle.std.proofs.lemmas.Grind.{flat_map-append}
 use Rattle.std.proofs.lemmas.List.{map-append}
-use Rattle.zq_key.specs.declared.message.FaceId.{FaceId}
+use Rattle.zq_message.specs.declared.message.FaceId.{FaceId}
 use Rattle.zq_query.specs.Asking.{are_distinct, asked_record, asked_records, entries_at, entry_at, face_numbers, given_place, is_full}
 use Rattle.zq_query.specs.Closing.{at_face}
 use Rattle.zq_query.specs.Records.{Pending, QueryState, Record, insert_pending, is_entry, is_none_left, is_pending, is_reply}

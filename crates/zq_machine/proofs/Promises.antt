@@ -6,9 +6,9 @@ use Rattle.std.specs.Option.{is_some, option_map}
 use Rattle.std.proofs.lemmas.Bool.{false≢true, or_parts}
 use Rattle.std.proofs.lemmas.List.{map-append}
 use Rattle.zq_key.specs.Key.{is_key, is_chunk}
-use Rattle.zq_key.specs.declared.message.FaceId.{FaceId}
-use Rattle.zq_key.specs.declared.message.Request.{Request}
-use Rattle.zq_key.specs.declared.message.Response.{Response}
+use Rattle.zq_message.specs.declared.message.FaceId.{FaceId}
+use Rattle.zq_message.specs.declared.message.Request.{Request}
+use Rattle.zq_message.specs.declared.message.Response.{Response}
 use Rattle.zq_hat.specs.declared.types.QueryTargetQabl.{QueryTargetQabl}
 use Rattle.zq_query.specs.declared.records.Final.{Final}
 use Rattle.zq_query.specs.declared.records.ReplyTo.{ReplyTo}

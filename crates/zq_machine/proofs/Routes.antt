@@ -5,11 +5,11 @@ use Rattle.std.specs.Prelude.{find, fold, ◌==◌, ◌&&◌}
 use Rattle.std.specs.Option.{option_map_or}
 use Rattle.std.proofs.lemmas.Bool.{and_parts, not-true, or_parts}
 use Rattle.std.specs.Map.{keys_of, values_of}
-use Rattle.zq_key.specs.declared.message.FaceId.{FaceId}
-use Rattle.zq_key.specs.declared.message.QueryTarget.{QueryTarget}
-use Rattle.zq_key.specs.declared.message.QueryTarget.TheVariants as mode
-use Rattle.zq_key.specs.declared.message.Request.{Request}
-use Rattle.zq_key.specs.declared.message.Zid.{Zid}
+use Rattle.zq_message.specs.declared.message.FaceId.{FaceId}
+use Rattle.zq_message.specs.declared.message.QueryTarget.{QueryTarget}
+use Rattle.zq_message.specs.declared.message.QueryTarget.TheVariants as mode
+use Rattle.zq_message.specs.declared.message.Request.{Request}
+use Rattle.zq_message.specs.declared.message.Zid.{Zid}
 use Rattle.zq_hat.specs.declared.types.QueryTargetQabl.{QueryTargetQabl}
 use Rattle.zq_hat.specs.State.{HatState}
 use Rattle.zq_hat.specs.Offers.{offers_of}

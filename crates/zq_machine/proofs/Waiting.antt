@@ -10,7 +10,7 @@ use Rattle.std.specs.BTreeSet.{insert_key}
 use Rattle.std.proofs.lemmas.Bool.{false≢true, and_parts}
 use Rattle.std.proofs.lemmas.Map.Lookups.{exact_unsigned}
 use Rattle.std.proofs.Math.Bool.{and-false, and-true, or-false, or_assoc, or_self_left, and_assoc, and-or_distrib_right}
-use Rattle.zq_key.specs.declared.message.FaceId.{FaceId}
+use Rattle.zq_message.specs.declared.message.FaceId.{FaceId}
 use Rattle.zq_query.specs.declared.records.Final.{Final}
 use Rattle.zq_query.specs.declared.records.Timeout.{Timeout}
 use Rattle.zq_query.specs.Records.{QueryState, Record, Pending, is_closed, is_left, is_none_left, is_over, is_reply, has_reply, has_number, flies, insert_pending, landing, letting_go, putting, request, with_reply, without, without_reply, after_put}

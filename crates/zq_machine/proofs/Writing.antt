@@ -4,19 +4,19 @@ use Rattle.std.specs.Prelude.{not, ◌+◌, ◌||◌}
 use Rattle.std.specs.List.{list_any}
 use Rattle.std.proofs.Math.Bool.{or-false}
 use Rattle.std.proofs.lemmas.List.Folds.{list_any-append}
-use Rattle.zq_key.specs.declared.message.Declare.{Declare}
-use Rattle.zq_key.specs.declared.message.DeclareBody.TheVariants as body
-use Rattle.zq_key.specs.declared.message.Message.{Message}
-use Rattle.zq_key.specs.declared.message.Message.TheVariants as message
+use Rattle.zq_message.specs.declared.message.Declare.{Declare}
+use Rattle.zq_message.specs.declared.message.DeclareBody.TheVariants as body
+use Rattle.zq_message.specs.declared.message.Message.{Message}
+use Rattle.zq_message.specs.declared.message.Message.TheVariants as message
 use Rattle.zq_names.specs.Texts.{nonwild}
 use Rattle.zq_tables.specs.declared.decl.DeclKey.{DeclKey}
 use Rattle.zq_query.specs.Balance.{finals_under, owed_by}
 use Rattle.zq_query.specs.Records.{any_over}
 use Rattle.zq_query.proofs.Balance.{letting_balance, letting_none_over}
 use Rattle.std.specs.Option.{is_some, option_map}
-use Rattle.zq_key.specs.declared.message.FaceId.{FaceId}
-use Rattle.zq_key.specs.declared.message.Region.{Region}
-use Rattle.zq_key.specs.declared.message.Request.{Request}
+use Rattle.zq_message.specs.declared.message.FaceId.{FaceId}
+use Rattle.zq_message.specs.declared.message.Region.{Region}
+use Rattle.zq_message.specs.declared.message.Request.{Request}
 use Rattle.zq_query.specs.Asking.{after_ask, lacks_number}
 use Rattle.zq_query.specs.Closing.{closing_finals}
 use Rattle.zq_tables.specs.declared.said.Said.{Said}

@@ -1,11 +1,11 @@
 -- Configurations: which lists of entries make one, and what a gateway is made with.
 use Rattle.std.specs.Prelude.{◌≡◌, ℕ, ◌==◌, Bool, true, false, nat_lt, List, [], ◌∷◌, ◌++◌, Option, Some, None, if◌then◌else◌}
 use Rattle.std.specs.List.{list_any}
-use Rattle.zq_key.specs.declared.message.Mode.{Mode}
-use Rattle.zq_key.specs.declared.message.Mode.TheVariants as mode
-use Rattle.zq_key.specs.declared.message.Region.{Region}
-use Rattle.zq_key.specs.declared.message.Region.TheVariants as region
-use Rattle.zq_key.specs.declared.message.Zid.{Zid}
+use Rattle.zq_message.specs.declared.message.Mode.{Mode}
+use Rattle.zq_message.specs.declared.message.Mode.TheVariants as mode
+use Rattle.zq_message.specs.declared.message.Region.{Region}
+use Rattle.zq_message.specs.declared.message.Region.TheVariants as region
+use Rattle.zq_message.specs.declared.message.Zid.{Zid}
 use Rattle.zq_regions.specs.Region.{region_index}
 use Rattle.zq_machine.specs.declared.config.Entry.{Entry}
 use Rattle.zq_machine.specs.declared.config.Entry.TheVariants as entry

@@ -1,7 +1,7 @@
 -- A message as it is handed, and what leaves of it.
 use Rattle.std.specs.Prelude.{ℕ, Option, Some, None}
-use Rattle.zq_key.specs.declared.message.FaceId.{FaceId}
-use Rattle.zq_key.specs.declared.message.Message.{Message}
+use Rattle.zq_message.specs.declared.message.FaceId.{FaceId}
+use Rattle.zq_message.specs.declared.message.Message.{Message}
 use Rattle.zq_machine.specs.declared.handed.Leaves.{Leaves}
 use Rattle.zq_machine.specs.declared.handed.Leaves.TheVariants as exit
 

@@ -1,12 +1,12 @@
 -- What the receivers of messages hear of them: what they are told, each key read by the numbers that were declared before.
 use Rattle.std.specs.Prelude.{◌≡◌, ℕ, Bool, true, false, List, [], ◌∷◌, ◌++◌, Option, Some, None}
 use Rattle.std.specs.Option.{is_some}
-use Rattle.zq_key.specs.declared.message.Declare.{Declare}
-use Rattle.zq_key.specs.declared.message.DeclareBody.{DeclareBody}
-use Rattle.zq_key.specs.declared.message.DeclareBody.TheVariants as body
-use Rattle.zq_key.specs.declared.message.FaceId.{FaceId}
-use Rattle.zq_key.specs.declared.message.Message.{Message}
-use Rattle.zq_key.specs.declared.message.Message.TheVariants as message
+use Rattle.zq_message.specs.declared.message.Declare.{Declare}
+use Rattle.zq_message.specs.declared.message.DeclareBody.{DeclareBody}
+use Rattle.zq_message.specs.declared.message.DeclareBody.TheVariants as body
+use Rattle.zq_message.specs.declared.message.FaceId.{FaceId}
+use Rattle.zq_message.specs.declared.message.Message.{Message}
+use Rattle.zq_message.specs.declared.message.Message.TheVariants as message
 use Rattle.zq_tables.specs.FaceIds.{with_id}
 use Rattle.zq_tables.specs.Naming.{FaceKeys, FaceNaming, NamingState, change_naming, face_naming, naming_at, read_by}
 use Rattle.zq_machine.specs.Handing.{Handed}

@@ -1,10 +1,10 @@
 -- What a call decides to hand, over texts: its outcome, its messages, and what faces are told.
 use Rattle.std.specs.Prelude.{ℕ, List, Option}
-use Rattle.zq_key.specs.declared.message.FaceId.{FaceId}
-use Rattle.zq_key.specs.declared.message.QueryTarget.{QueryTarget}
-use Rattle.zq_key.specs.declared.message.QueryableInfoType.{QueryableInfoType}
-use Rattle.zq_key.specs.declared.message.ReplyBody.{ReplyBody}
-use Rattle.zq_key.specs.declared.message.Zid.{Zid}
+use Rattle.zq_message.specs.declared.message.FaceId.{FaceId}
+use Rattle.zq_message.specs.declared.message.QueryTarget.{QueryTarget}
+use Rattle.zq_message.specs.declared.message.QueryableInfoType.{QueryableInfoType}
+use Rattle.zq_message.specs.declared.message.ReplyBody.{ReplyBody}
+use Rattle.zq_message.specs.declared.message.Zid.{Zid}
 use Rattle.zq_query.specs.declared.records.Final.{Final}
 use Rattle.zq_machine.specs.declared.call.Outcome.{Outcome}
 

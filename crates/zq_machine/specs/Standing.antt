@@ -4,7 +4,7 @@ use Rattle.std.specs.Map.{remove_entry}
 use Rattle.std.specs.BTreeMap.{insert_entry, is_at}
 use Rattle.std.specs.Option.{option_and_then, option_map}
 use Rattle.std.specs.Ordering.{nat_cmp}
-use Rattle.zq_key.specs.declared.message.WireExpr.{WireExpr}
+use Rattle.zq_message.specs.declared.message.WireExpr.{WireExpr}
 use Rattle.zq_regions.specs.RegionMap.{with_entry}
 use Rattle.zq_hat.specs.Kept.{declare, face_at, new_face, withdraw}
 use Rattle.zq_hat.specs.Marks.{marked}

@@ -5,8 +5,8 @@ use Rattle.std.specs.List.{All}
 use Rattle.std.specs.Map.{keys_of, lookup, set_value}
 use Rattle.std.specs.BTreeMap.{is_at}
 use Rattle.std.specs.Ordering.{nat_cmp}
-use Rattle.zq_key.specs.declared.message.Region.{Region}
-use Rattle.zq_key.specs.declared.message.Region.TheVariants as region
+use Rattle.zq_message.specs.declared.message.Region.{Region}
+use Rattle.zq_message.specs.declared.message.Region.TheVariants as region
 use Rattle.zq_regions.specs.Region.{region_index}
 use Rattle.zq_regions.specs.RegionMap.{value_at, with_entry}
 use Rattle.zq_hat.specs.State.{HatState}

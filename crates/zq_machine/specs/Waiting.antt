@@ -2,8 +2,8 @@
 use Rattle.std.specs.Prelude.{◌≡◌, ℕ, ◌==◌, Bool, false, not, ◌&&◌, ◌||◌, List}
 use Rattle.std.specs.List.{list_any}
 use Rattle.std.specs.Option.{option_map_or}
-use Rattle.zq_key.specs.declared.message.Message.{Message}
-use Rattle.zq_key.specs.declared.message.Message.TheVariants as message
+use Rattle.zq_message.specs.declared.message.Message.{Message}
+use Rattle.zq_message.specs.declared.message.Message.TheVariants as message
 use Rattle.zq_query.specs.Records.{Record, Pending, QueryState, is_entry, is_reply, flies}
 use Rattle.zq_query.specs.Closing.{at_face}
 use Rattle.zq_query.specs.Polling.{is_due}

@@ -2,13 +2,13 @@
 use Rattle.std.specs.Prelude.{ℕ, Bool, true, false, List, [], ◌∷◌, ◌++◌, map, drop, length, Option, Some, None, if◌then◌else◌, unwrap_or}
 use Rattle.std.specs.Option.{option_map_or}
 use Rattle.std.specs.List.{list_any}
-use Rattle.zq_key.specs.declared.message.Declare.{Declare}
-use Rattle.zq_key.specs.declared.message.DeclareBody.TheVariants as body
-use Rattle.zq_key.specs.declared.message.FaceId.{FaceId}
-use Rattle.zq_key.specs.declared.message.Message.{Message}
-use Rattle.zq_key.specs.declared.message.Message.TheVariants as message
-use Rattle.zq_key.specs.declared.message.Region.{Region}
-use Rattle.zq_key.specs.declared.message.Region.TheVariants as region
+use Rattle.zq_message.specs.declared.message.Declare.{Declare}
+use Rattle.zq_message.specs.declared.message.DeclareBody.TheVariants as body
+use Rattle.zq_message.specs.declared.message.FaceId.{FaceId}
+use Rattle.zq_message.specs.declared.message.Message.{Message}
+use Rattle.zq_message.specs.declared.message.Message.TheVariants as message
+use Rattle.zq_message.specs.declared.message.Region.{Region}
+use Rattle.zq_message.specs.declared.message.Region.TheVariants as region
 use Rattle.zq_names.specs.Texts.{nonwild}
 use Rattle.zq_tables.specs.FaceTexts.{known, known_choice, whole_key, with_declared}
 use Rattle.zq_tables.specs.declared.decl.DeclKey.{DeclKey}

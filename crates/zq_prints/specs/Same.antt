@@ -2,24 +2,24 @@
 use Rattle.std.specs.Prelude.{ℕ, Bool, true, false, not, ◌&&◌, ◌==◌}
 use Rattle.std.specs.Option.{option_eq}
 use Rattle.std.specs.Str.{bytes_eq}
-use Rattle.zq_key.specs.declared.message.Zid.{Zid}
-use Rattle.zq_key.specs.declared.message.Mapping.{Mapping}
-use Rattle.zq_key.specs.declared.message.Mapping.TheVariants as mapping
-use Rattle.zq_key.specs.declared.message.WireExpr.{WireExpr}
-use Rattle.zq_key.specs.declared.message.QueryTarget.{QueryTarget}
-use Rattle.zq_key.specs.declared.message.QueryTarget.TheVariants as target
-use Rattle.zq_key.specs.declared.message.QueryableInfoType.{QueryableInfoType}
-use Rattle.zq_key.specs.declared.message.Request.{Request}
-use Rattle.zq_key.specs.declared.message.ReplyBody.{ReplyBody}
-use Rattle.zq_key.specs.declared.message.ReplyBody.TheVariants as reply
-use Rattle.zq_key.specs.declared.message.Response.{Response}
-use Rattle.zq_key.specs.declared.message.ResponseFinal.{ResponseFinal}
-use Rattle.zq_key.specs.declared.message.Interest.{Interest}
-use Rattle.zq_key.specs.declared.message.DeclareBody.{DeclareBody}
-use Rattle.zq_key.specs.declared.message.DeclareBody.TheVariants as body
-use Rattle.zq_key.specs.declared.message.Declare.{Declare}
-use Rattle.zq_key.specs.declared.message.Message.{Message}
-use Rattle.zq_key.specs.declared.message.Message.TheVariants as message
+use Rattle.zq_message.specs.declared.message.Zid.{Zid}
+use Rattle.zq_message.specs.declared.message.Mapping.{Mapping}
+use Rattle.zq_message.specs.declared.message.Mapping.TheVariants as mapping
+use Rattle.zq_message.specs.declared.message.WireExpr.{WireExpr}
+use Rattle.zq_message.specs.declared.message.QueryTarget.{QueryTarget}
+use Rattle.zq_message.specs.declared.message.QueryTarget.TheVariants as target
+use Rattle.zq_message.specs.declared.message.QueryableInfoType.{QueryableInfoType}
+use Rattle.zq_message.specs.declared.message.Request.{Request}
+use Rattle.zq_message.specs.declared.message.ReplyBody.{ReplyBody}
+use Rattle.zq_message.specs.declared.message.ReplyBody.TheVariants as reply
+use Rattle.zq_message.specs.declared.message.Response.{Response}
+use Rattle.zq_message.specs.declared.message.ResponseFinal.{ResponseFinal}
+use Rattle.zq_message.specs.declared.message.Interest.{Interest}
+use Rattle.zq_message.specs.declared.message.DeclareBody.{DeclareBody}
+use Rattle.zq_message.specs.declared.message.DeclareBody.TheVariants as body
+use Rattle.zq_message.specs.declared.message.Declare.{Declare}
+use Rattle.zq_message.specs.declared.message.Message.{Message}
+use Rattle.zq_message.specs.declared.message.Message.TheVariants as message
 
 -- the numbers are equal
 abbrev pub same_number : ℕ → ℕ → Bool

@@ -1,12 +1,12 @@
 -- The steps that a print can say: numbers within their fields, texts that are UTF-8, and in a declaration no field that its line doesn't show.
 use Rattle.std.specs.Prelude.{◌≡◌, ℕ, ◌≤◌, Option, None, ⊤}
 use Rattle.std.specs.List.{AllByRecursion}
-use Rattle.zq_key.specs.declared.message.ResponseFinal.{ResponseFinal}
-use Rattle.zq_key.specs.declared.message.Interest.{Interest}
-use Rattle.zq_key.specs.declared.message.DeclareBody.{DeclareBody}
-use Rattle.zq_key.specs.declared.message.DeclareBody.TheVariants as body
-use Rattle.zq_key.specs.declared.message.Message.{Message}
-use Rattle.zq_key.specs.declared.message.Message.TheVariants as message
+use Rattle.zq_message.specs.declared.message.ResponseFinal.{ResponseFinal}
+use Rattle.zq_message.specs.declared.message.Interest.{Interest}
+use Rattle.zq_message.specs.declared.message.DeclareBody.{DeclareBody}
+use Rattle.zq_message.specs.declared.message.DeclareBody.TheVariants as body
+use Rattle.zq_message.specs.declared.message.Message.{Message}
+use Rattle.zq_message.specs.declared.message.Message.TheVariants as message
 use Rattle.zq_machine.specs.declared.call.Outcome.{Outcome}
 use Rattle.zq_machine.specs.declared.call.Outcome.TheVariants as outcome
 use Rattle.zq_machine.specs.Handing.{Handed}

@@ -5,7 +5,7 @@ use Rattle.std.specs.Option.{unwrap_or, is_some}
 use Rattle.std.specs.BTreeMap.{insert_entry, is_at}
 use Rattle.std.specs.Map.{keys_of, remove_entry, set_value}
 use Rattle.std.specs.Ordering.{nat_cmp}
-use Rattle.zq_key.specs.declared.message.FaceId.{FaceId}
+use Rattle.zq_message.specs.declared.message.FaceId.{FaceId}
 use Rattle.zq_query.specs.Tables.{at_number}
 use Rattle.zq_query.specs.Records.{QueryState, Record, Pending, insert_pending, next_id, is_pending, is_none_left}
 

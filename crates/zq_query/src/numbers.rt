@@ -9,7 +9,7 @@ ghost use Rattle.zq_query.specs.Tables.{at_number};
 use std::alloc::Global;
 use std::collections::HashMap;
 use std::marker::Model;
-use zq_key::memory::OutOfMemory;
+use zq_message::memory::OutOfMemory;
 
 /// A value at each of some numbers.
 #[derive(Drop)]

@@ -20,8 +20,8 @@ use crate::records::{Final, NotInFlight, PlaceList, QueryNotFound, ReplyRefusal,
 use std::alloc::Global;
 use std::collections::{BTreeMap, BTreeSet};
 use std::marker::Model;
-use zq_key::memory::OutOfMemory;
-use zq_key::message::FaceId;
+use zq_message::memory::OutOfMemory;
+use zq_message::message::FaceId;
 
 /// An open request, with the counts of what is left of it.
 #[derive(Clone, Copy)]

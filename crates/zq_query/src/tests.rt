@@ -1,7 +1,7 @@
 use crate::queries::Queries;
 use crate::records::{AskRefusal, Final, NotInFlight, PollRefusal, QueryNotFound, ReplyRefusal};
 use std::test::Fail;
-use zq_key::message::FaceId;
+use zq_message::message::FaceId;
 
 const ASKER: FaceId = FaceId(7);
 

@@ -8,7 +8,7 @@ use Rattle.std.specs.Map.{keys_of}
 use Rattle.std.proofs.lemmas.Bool.Decides.{nat_tests}
 use Rattle.std.proofs.lemmas.List.{map_push}
 use Rattle.std.proofs.lemmas.List.Elements.{All-head, All-tail, All-cons}
-use Rattle.zq_key.specs.declared.message.Region.{Region}
+use Rattle.zq_message.specs.declared.message.Region.{Region}
 use Rattle.zq_regions.specs.Region.{region_index}
 use Rattle.zq_regions.specs.RegionMap.{shown, without, AreIndices}
 use Rattle.zq_regions.proofs.Ends.{front_below, insert_last}

@@ -1,9 +1,9 @@
 -- Regions and their indices.
 use Rattle.std.specs.Prelude.{ℕ, ◌+◌, ◌-◌, ◌*◌, ◌/◌, ◌%◌, ◌≤◌, if◌then◌else◌, ◌==◌}
-use Rattle.zq_key.specs.declared.message.Mode.{Mode}
-use Rattle.zq_key.specs.declared.message.Mode.TheVariants.{Router, Peer, Client}
-use Rattle.zq_key.specs.declared.message.Region.{Region}
-use Rattle.zq_key.specs.declared.message.Region.TheVariants.{North, Local, South}
+use Rattle.zq_message.specs.declared.message.Mode.{Mode}
+use Rattle.zq_message.specs.declared.message.Mode.TheVariants.{Router, Peer, Client}
+use Rattle.zq_message.specs.declared.message.Region.{Region}
+use Rattle.zq_message.specs.declared.message.Region.TheVariants.{North, Local, South}
 
 -- a mode's place among the three of a South id
 abbrev pub mode_offset : Mode → ℕ

@@ -4,7 +4,7 @@ use Rattle.std.specs.Ordering.{nat_cmp}
 use Rattle.std.specs.Map.{set_value}
 use Rattle.std.specs.BTreeMap.{is_at}
 use Rattle.std.specs.Borrow.{Lends, LendsSo, Fml, RattleType, MutBor}
-use Rattle.zq_key.specs.declared.message.Region.{Region}
+use Rattle.zq_message.specs.declared.message.Region.{Region}
 use Rattle.zq_regions.specs.Region.{region_index}
 use Rattle.zq_regions.specs.contracts.map.RegionMap.{the_row}
 

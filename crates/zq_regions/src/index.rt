@@ -2,7 +2,7 @@
 ghost use Rattle.std.specs.Prelude.{◌≡◌, ◌<◌, ◌≤◌};
 ghost use Rattle.zq_regions.specs.Region.{HasIndex, region_index, region_at, mode_offset, mode_at};
 
-use zq_key::message::{Mode, Region};
+use zq_message::message::{Mode, Region};
 
 /// The region's place in the order of regions: North, Local, and each South id with its three modes.
 pub fn region_to_index(r: &Region) -> usize

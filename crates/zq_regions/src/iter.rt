@@ -8,7 +8,7 @@ use crate::index::index_to_region;
 use std::alloc::Global;
 use std::collections::btree_map::{IntoIter, Iter, Keys, Values as MapValues};
 use std::marker::Model;
-use zq_key::message::Region;
+use zq_message::message::Region;
 
 /// The entries, each as a region and its value.
 #[derive(Drop)]

@@ -18,8 +18,8 @@ use std::alloc::Global;
 use std::collections::BTreeMap;
 use std::marker::Model;
 use std::ops::{Index, IndexMut};
-use zq_key::memory::OutOfMemory;
-use zq_key::message::Region;
+use zq_message::memory::OutOfMemory;
+use zq_message::message::Region;
 
 /// A value for some regions, seen as the list of indices with values, by rising index. Each of its
 /// iterators goes in that order. (`RegionMap`)

@@ -1,6 +1,6 @@
 use crate::{RegionMap, index_to_region, region_to_index};
 use std::test::Fail;
-use zq_key::message::{Mode, Region};
+use zq_message::message::{Mode, Region};
 
 #[test]
 fn regions(rt: HostRuntime) -> Result<(), Fail> {

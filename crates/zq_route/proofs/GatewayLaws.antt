@@ -2,7 +2,7 @@
 use Rattle.std.proofs.Common.{◌≡◌, ◌∙◌, sym, ap, refl, subst, arith, ℕ, ◌≤◌, cond, Bool, true, false, List, [], ◌∷◌, Some, eqb-true, true≢false, ◌⊎◌, inl, inr, fold, ◌↔◌}
 use Rattle.std.specs.Prelude.{not, ◌&&◌, ◌||◌, ◌==◌, max}
 use Rattle.std.specs.Cmp.{nat_eq_equiv, second_so}
-use Rattle.zq_key.specs.declared.message.Zid.{Zid}
+use Rattle.zq_message.specs.declared.message.Zid.{Zid}
 use Rattle.zq_route.specs.declared.filter.InterRegionFilter.{InterRegionFilter}
 use Rattle.zq_route.specs.declared.gateways.Gateways.{Gateways}
 use Rattle.zq_route.specs.Filter.{is_zid, has_zid, greatest, carries, gateways_of, passes_between, Decide, IsGreatest}

@@ -2,8 +2,8 @@
 use Rattle.std.specs.Prelude.{ℕ, ◌≡◌, ◌≤◌, ◌<◌, length, Bool, true, false, not, cond, ◌&&◌, ◌==◌, List, [], ◌∷◌, Option, Some, None, max, fold, find, option_map, if◌then◌else◌}
 use Rattle.std.specs.List.{list_any}
 use Rattle.std.specs.Option.{option_and_then}
-use Rattle.zq_key.specs.declared.message.Region.{Region}
-use Rattle.zq_key.specs.declared.message.Zid.{Zid}
+use Rattle.zq_message.specs.declared.message.Region.{Region}
+use Rattle.zq_message.specs.declared.message.Zid.{Zid}
 use Rattle.zq_hat.specs.Regions.{is_north}
 use Rattle.zq_regions.specs.RegionMap.{value_at}
 use Rattle.zq_route.specs.declared.gateways.GatewayEntry.{GatewayEntry}

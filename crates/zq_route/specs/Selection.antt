@@ -1,8 +1,8 @@
 -- Which offers of a region a request is handed to.
 use Rattle.std.specs.Prelude.{ℕ, Bool, true, false, ◌||◌, ◌==◌, not, List, [], ◌∷◌, map, filter, find, fold, is_none, if◌then◌else◌}
 use Rattle.std.specs.Option.{option_map_or}
-use Rattle.zq_key.specs.declared.message.QueryTarget.{QueryTarget}
-use Rattle.zq_key.specs.declared.message.QueryTarget.TheVariants as target
+use Rattle.zq_message.specs.declared.message.QueryTarget.{QueryTarget}
+use Rattle.zq_message.specs.declared.message.QueryTarget.TheVariants as target
 use Rattle.zq_hat.specs.declared.types.QueryTargetQabl.{QueryTargetQabl}
 use Rattle.zq_route.specs.Built.{with_first}
 

@@ -4,7 +4,7 @@ ghost use Rattle.std.specs.Option.{option_copied, option_and_then};
 ghost use Rattle.zq_regions.specs.Region.{HasIndex};
 ghost use Rattle.zq_regions.specs.RegionMap.{value_at};
 ghost use Rattle.zq_route.specs.Filter.{is_zid, is_node, listed, gateways_of, greatest, has_zid, carries, passes_between, Decide, IsGreatest};
-ghost use Rattle.zq_key.specs.declared.message.Zid.{Zid};
+ghost use Rattle.zq_message.specs.declared.message.Zid.{Zid};
 
 use crate::gateways::{GatewayEntry, Gateways};
 use zq_hat::strategy::is_north;

@@ -2,13 +2,13 @@
 use Rattle.std.specs.Prelude.{ℕ, ◌+◌, ◌*◌, ◌-◌, ◌/◌, ◌%◌, ◌==◌, ◌≤◌, nat_lt, Bool, true, zero, suc, List, [], ◌∷◌, ◌++◌, None, length, if◌then◌else◌, codes}
 use Rattle.std.specs.List.{count_by, flat_map}
 use Rattle.std.specs.Fmt.{decimal}
-use Rattle.zq_key.specs.declared.message.Bound.TheVariants as bound
-use Rattle.zq_key.specs.declared.message.Mapping.TheVariants as mapping
-use Rattle.zq_key.specs.declared.message.Mode.TheVariants as mode
-use Rattle.zq_key.specs.declared.message.QueryTarget.TheVariants as target
-use Rattle.zq_key.specs.declared.message.Region.TheVariants as region
-use Rattle.zq_key.specs.declared.message.ReplyBody.TheVariants as body
-use Rattle.zq_key.specs.declared.message.WireExpr.{WireExpr}
+use Rattle.zq_message.specs.declared.message.Bound.TheVariants as bound
+use Rattle.zq_message.specs.declared.message.Mapping.TheVariants as mapping
+use Rattle.zq_message.specs.declared.message.Mode.TheVariants as mode
+use Rattle.zq_message.specs.declared.message.QueryTarget.TheVariants as target
+use Rattle.zq_message.specs.declared.message.Region.TheVariants as region
+use Rattle.zq_message.specs.declared.message.ReplyBody.TheVariants as body
+use Rattle.zq_message.specs.declared.message.WireExpr.{WireExpr}
 use Rattle.zq_machine.specs.declared.call.Call.{Call}
 use Rattle.zq_machine.specs.declared.call.Call.TheVariants as call
 use Rattle.zq_machine.specs.Handing.{Handed}

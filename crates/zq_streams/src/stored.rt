@@ -6,8 +6,8 @@ ghost use Rattle.zq_streams.specs.Streams.{HasCause, moved, is_listed};
 
 use crate::streams::{Failed, Sink, Source};
 use std::alloc::Global;
-use zq_key::memory::OutOfMemory;
-use zq_key::text::Bytes;
+use zq_message::memory::OutOfMemory;
+use zq_message::text::Bytes;
 
 /// Copies a front of the rest into the buffer: as much as the piece and both allow.
 fn give(rest: &[u8], buf: &mut [u8], piece: usize) -> usize

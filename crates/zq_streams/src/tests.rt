@@ -2,7 +2,7 @@ use crate::stored::{MemorySink, MemorySource, SureSink, SureSource};
 use crate::streams::{ReadSource, WriteSink};
 use crate::transfer::{ReadRefusal, read_all, write_all};
 use std::test::Fail;
-use zq_key::text::Bytes;
+use zq_message::text::Bytes;
 
 #[test]
 fn sources_are_read_whole(rt: HostRuntime) -> Result<(), Fail> {

@@ -7,7 +7,7 @@ ghost use Rattle.zq_streams.specs.Streams.{Rose, IsLonger, AppendsPrefix};
 use crate::streams::{Sink, Source};
 use std::alloc::Global;
 use thiserror::Error;
-use zq_key::text::Bytes;
+use zq_message::text::Bytes;
 
 /// The most bytes that are read from a source.
 pub const LIMIT: usize = 16_777_216;

@@ -11,8 +11,8 @@ use Rattle.zq_tables.specs.Holding.{FaceHolds, Faces, IsFace, IsHeld, Numbers, D
 use Rattle.zq_tables.proofs.Entries.{Rises-with_id, Rises-shown, weigh-with_id, with_same, shown-with_id}
 use Rattle.zq_tables.proofs.Holds.{face_at}
 use Rattle.zq_tables.proofs.Faces.{face_there, change_idle, set_texts, shown_text}
-use Rattle.zq_key.specs.declared.message.WireExpr.{WireExpr}
-use Rattle.zq_key.specs.declared.message.Mapping.TheVariants.{Sender}
+use Rattle.zq_message.specs.declared.message.WireExpr.{WireExpr}
+use Rattle.zq_message.specs.declared.message.Mapping.TheVariants.{Sender}
 use Rattle.zq_tables.specs.Registering.{Maps, Registers}
 use Rattle.zq_tables.proofs.IdLemmas.{of_id-with_id}
 use Rattle.zq_tables.proofs.Made.{fresh_made}

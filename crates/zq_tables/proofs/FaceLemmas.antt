@@ -17,9 +17,9 @@ use Rattle.std.proofs.lemmas.Option.{none-some, same_Some}
 use Rattle.std.proofs.lemmas.List.Elements.{All-head, All-tail, All-cons}
 use Rattle.std.proofs.lemmas.Map.Keys.{sorted_tail, below_from_sorted}
 use Rattle.std.proofs.lemmas.Map.Made.{lookup-map_values}
-use Rattle.zq_key.specs.declared.message.Mapping.{Mapping}
-use Rattle.zq_key.specs.declared.message.Mapping.TheVariants.{Sender, Receiver}
-use Rattle.zq_key.specs.declared.message.WireExpr.{WireExpr}
+use Rattle.zq_message.specs.declared.message.Mapping.{Mapping}
+use Rattle.zq_message.specs.declared.message.Mapping.TheVariants.{Sender, Receiver}
+use Rattle.zq_message.specs.declared.message.WireExpr.{WireExpr}
 use Rattle.zq_names.specs.declared.node.ResourceId.{ResourceId}
 use Rattle.zq_names.specs.Names.{NameEntry, IsLive, HasText, ids, texts, entry_at}
 use Rattle.zq_names.specs.Keeping.{AllStay}
@@ -29,7 +29,7 @@ use Rattle.zq_tables.proofs.IdLemmas.{free_from-used, free_from-free, free_from-
 use Rattle.zq_tables.specs.FaceTexts.{FaceTexts, id_texts, theirs_texts, ours_texts, texts_of, part_choice, known_choice, new_choice, with_new, with_declared, text_side, full_of, names_text, least_name, tagged, or_else, known, registered, text_refusal, register_refusal, whole_key}
 use Rattle.zq_key.specs.Key.{is_key}
 use Rattle.zq_names.specs.declared.refusal.NameRefusal.TheVariants.{Remapped}
-use Rattle.zq_text.specs.declared.memory.OutOfMemory.{OutOfMemory}
+use Rattle.zq_message.specs.declared.memory.OutOfMemory.{OutOfMemory}
 use Rattle.zq_tables.specs.declared.decl.DeclKey.{DeclKey}
 use Rattle.zq_tables.specs.Registering.{Gives}
 

@@ -5,8 +5,8 @@ use Rattle.std.specs.List.{All, Contains}
 use Rattle.std.specs.Ordering.{nat_cmp}
 use Rattle.std.specs.Map.{lookup, set_value, values_of}
 use Rattle.std.specs.BTreeMap.{is_at}
-use Rattle.zq_key.specs.declared.message.Mapping.{Mapping}
-use Rattle.zq_key.specs.declared.message.Mapping.TheVariants.{Sender, Receiver}
+use Rattle.zq_message.specs.declared.message.Mapping.{Mapping}
+use Rattle.zq_message.specs.declared.message.Mapping.TheVariants.{Sender, Receiver}
 use Rattle.zq_names.specs.Names.{NameEntry, ids, entry_at}
 use Rattle.zq_names.specs.Keeping.{AllStay}
 use Rattle.zq_names.specs.Idle.{IdleAt, NoneIdle}

@@ -5,9 +5,9 @@ use Rattle.std.specs.Ordering.{nat_cmp}
 use Rattle.std.specs.Map.{lookup, remove_entry, set_value}
 use Rattle.std.specs.BTreeMap.{is_at, insert_entry}
 use Rattle.zq_key.specs.Key.{is_key}
-use Rattle.zq_key.specs.declared.message.Mapping.{Mapping}
-use Rattle.zq_key.specs.declared.message.Mapping.TheVariants as mapping
-use Rattle.zq_key.specs.declared.message.WireExpr.{WireExpr}
+use Rattle.zq_message.specs.declared.message.Mapping.{Mapping}
+use Rattle.zq_message.specs.declared.message.Mapping.TheVariants as mapping
+use Rattle.zq_message.specs.declared.message.WireExpr.{WireExpr}
 use Rattle.zq_names.specs.declared.refusal.NameRefusal.{NameRefusal}
 use Rattle.zq_names.specs.declared.refusal.NameRefusal.TheVariants as refusal
 use Rattle.zq_tables.specs.FaceTexts.{FaceTexts, whole, best_key}

@@ -1,7 +1,7 @@
 -- What it means that an id came to stand for a text, on either side of a face.
 use Rattle.std.specs.Prelude.{◌≡◌, ℕ, List, Option, Some, None, IfSome, MatchOption}
 use Rattle.std.specs.List.{Contains}
-use Rattle.zq_key.specs.declared.message.WireExpr.{WireExpr}
+use Rattle.zq_message.specs.declared.message.WireExpr.{WireExpr}
 use Rattle.zq_names.specs.declared.node.ResourceId.{ResourceId}
 use Rattle.zq_names.specs.Names.{NameEntry, Makes, HasText, ids, entry_at}
 use Rattle.zq_names.specs.Texts.{nonwild}

@@ -2,11 +2,11 @@
 use Rattle.std.specs.Prelude.{◌≡◌, ℕ, ◌≤◌, ◌<◌, List, Option, Some, None, All, true, ⊤}
 use Rattle.std.specs.List.{AllByRecursion}
 use Rattle.std.specs.Str.{is_utf8}
-use Rattle.zq_key.specs.declared.message.FaceId.{FaceId}
-use Rattle.zq_key.specs.declared.message.Zid.{Zid}
-use Rattle.zq_key.specs.declared.message.WireExpr.{WireExpr}
-use Rattle.zq_key.specs.declared.message.Region.{Region}
-use Rattle.zq_key.specs.declared.message.Region.TheVariants as region
+use Rattle.zq_message.specs.declared.message.FaceId.{FaceId}
+use Rattle.zq_message.specs.declared.message.Zid.{Zid}
+use Rattle.zq_message.specs.declared.message.WireExpr.{WireExpr}
+use Rattle.zq_message.specs.declared.message.Region.{Region}
+use Rattle.zq_message.specs.declared.message.Region.TheVariants as region
 use Rattle.zq_words.specs.Values.{most_16, most_32, most_128}
 
 -- bytes

@@ -2,19 +2,19 @@
 use Rattle.std.specs.Prelude.{ℕ, Bool, true, false, List, ◌∷◌, ◌++◌, Option, Some, None, if◌then◌else◌, codes}
 use Rattle.std.specs.Str.{bytes_eq}
 use Rattle.std.specs.Fmt.{decimal}
-use Rattle.zq_key.specs.declared.message.FaceId.{FaceId}
-use Rattle.zq_key.specs.declared.message.Zid.{Zid}
-use Rattle.zq_key.specs.declared.message.WireExpr.{WireExpr}
-use Rattle.zq_key.specs.declared.message.Mapping.{Mapping}
-use Rattle.zq_key.specs.declared.message.Mapping.TheVariants as mapping
-use Rattle.zq_key.specs.declared.message.Mode.{Mode}
-use Rattle.zq_key.specs.declared.message.Mode.TheVariants as mode
-use Rattle.zq_key.specs.declared.message.Bound.{Bound}
-use Rattle.zq_key.specs.declared.message.Bound.TheVariants as bound
-use Rattle.zq_key.specs.declared.message.Region.{Region}
-use Rattle.zq_key.specs.declared.message.Region.TheVariants as region
-use Rattle.zq_key.specs.declared.message.QueryTarget.{QueryTarget}
-use Rattle.zq_key.specs.declared.message.QueryTarget.TheVariants as target
+use Rattle.zq_message.specs.declared.message.FaceId.{FaceId}
+use Rattle.zq_message.specs.declared.message.Zid.{Zid}
+use Rattle.zq_message.specs.declared.message.WireExpr.{WireExpr}
+use Rattle.zq_message.specs.declared.message.Mapping.{Mapping}
+use Rattle.zq_message.specs.declared.message.Mapping.TheVariants as mapping
+use Rattle.zq_message.specs.declared.message.Mode.{Mode}
+use Rattle.zq_message.specs.declared.message.Mode.TheVariants as mode
+use Rattle.zq_message.specs.declared.message.Bound.{Bound}
+use Rattle.zq_message.specs.declared.message.Bound.TheVariants as bound
+use Rattle.zq_message.specs.declared.message.Region.{Region}
+use Rattle.zq_message.specs.declared.message.Region.TheVariants as region
+use Rattle.zq_message.specs.declared.message.QueryTarget.{QueryTarget}
+use Rattle.zq_message.specs.declared.message.QueryTarget.TheVariants as target
 use Rattle.zq_words.specs.Words.{◌>>=◌, cut, number, text_of, payload_word, list_of, list_word}
 
 -- the greatest number of 8 bits

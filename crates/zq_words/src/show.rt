@@ -6,9 +6,9 @@ ghost use Rattle.zq_words.specs.Values.{face_word, zid_word, mode_word, bound_wo
 
 use crate::words::{push_number, push_text, push_word};
 use std::alloc::AllocError;
-use zq_key::items::Items;
-use zq_key::message::{Bound, FaceId, Mapping, Mode, QueryTarget, Region, WireExpr, Zid};
-use zq_key::text::{Bytes, Text};
+use zq_message::items::Items;
+use zq_message::message::{Bound, FaceId, Mapping, Mode, QueryTarget, Region, WireExpr, Zid};
+use zq_message::text::{Bytes, Text};
 
 /// What is written as one word.
 pub trait Shown {

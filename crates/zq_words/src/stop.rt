@@ -2,7 +2,7 @@
 ghost use Rattle.std.specs.Prelude.{◌≡◌};
 ghost use Rattle.zq_words.specs.declared.stop.Stop.TheVariants as stop;
 
-use zq_key::memory::OutOfMemory;
+use zq_message::memory::OutOfMemory;
 
 /// Why a reader gave nothing.
 #[derive(Clone, Copy, Debug, PartialEq, Eq)]

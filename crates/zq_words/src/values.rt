@@ -8,9 +8,9 @@ ghost use Rattle.zq_words.specs.Values.{most_8, most_16, most_32, most_64, most_
 use crate::stop::Stop;
 use crate::words::{Word, cut, is, list_of, number, read_word, text_of, wide_number, word_at};
 use std::alloc::Global;
-use zq_key::items::Items;
-use zq_key::message::{Bound, FaceId, Mapping, Mode, QueryTarget, Region, WireExpr, Zid};
-use zq_key::text::{Bytes, Text};
+use zq_message::items::Items;
+use zq_message::message::{Bound, FaceId, Mapping, Mode, QueryTarget, Region, WireExpr, Zid};
+use zq_message::text::{Bytes, Text};
 
 impl Word for u8 {
     type Value = u8;

@@ -12,9 +12,9 @@ use itoa::{Buffer, Integer};
 use percent_encoding::{AsciiSet, CONTROLS, ascii_set, percent_decode, percent_encode};
 use std::alloc::{AllocError, Global};
 use std::borrow::CowSlice;
-use zq_key::items::Items;
-use zq_key::memory::OutOfMemory;
-use zq_key::text::{Bytes, Text};
+use zq_message::items::Items;
+use zq_message::memory::OutOfMemory;
+use zq_message::text::{Bytes, Text};
 
 /// The bytes that are escaped in a word, beside those above 126.
 pub const ESCAPED: AsciiSet = ascii_set!(CONTROLS.add(b' ').add(b'%'));

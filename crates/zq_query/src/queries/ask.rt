@@ -13,9 +13,9 @@ use crate::queries::{Open, Owed, Queries};
 use crate::records::{AskRefusal, Asked, PlaceList, U32List};
 use std::alloc::Global;
 use std::collections::BTreeMap;
-use zq_key::items::Items;
-use zq_key::memory::OutOfMemory;
-use zq_key::message::FaceId;
+use zq_message::items::Items;
+use zq_message::memory::OutOfMemory;
+use zq_message::message::FaceId;
 
 /// The entries at the first places are taken out again.
 fn empty(pending: &mut BTreeMap<(u32, u32), Owed>, places: &[(u32, u32)], count: usize)

@@ -13,9 +13,9 @@ use crate::queries::{Open, Owed, Queries, listed};
 use crate::records::{Final, FinalList};
 use std::alloc::Global;
 use std::collections::{BTreeMap, BTreeSet};
-use zq_key::items::Items;
-use zq_key::memory::OutOfMemory;
-use zq_key::message::FaceId;
+use zq_message::items::Items;
+use zq_message::memory::OutOfMemory;
+use zq_message::message::FaceId;
 
 /// The face's entries, by id.
 fn places_in(

@@ -14,9 +14,9 @@ use crate::queries::{Owed, Queries, listed};
 use crate::records::{PlaceList, PollRefusal, Timeout, TimeoutList};
 use std::alloc::Global;
 use std::collections::{BTreeMap, BTreeSet};
-use zq_key::items::Items;
-use zq_key::memory::OutOfMemory;
-use zq_key::message::FaceId;
+use zq_message::items::Items;
+use zq_message::memory::OutOfMemory;
+use zq_message::message::FaceId;
 
 /// The place, if it is wanted.
 fn push_if(live: &mut Vec<(u32, u32)>, place: (u32, u32), wanted: bool) -> Result<(), OutOfMemory>

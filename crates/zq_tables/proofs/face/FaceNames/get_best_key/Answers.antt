@@ -1,5 +1,5 @@
 use Rattle.std.proofs.Common.{◌≡◌, ◌++◌, IfOk, rules}
-use Rattle.zq_key.specs.declared.message.WireExpr.{WireExpr}
+use Rattle.zq_message.specs.declared.message.WireExpr.{WireExpr}
 use Rattle.zq_names.specs.Names.{entry_at}
 use Rattle.zq_tables.specs.FaceTexts.{best_key, texts_of}
 use Rattle.zq_tables.proofs.Reading.{answer_read}

@@ -1,8 +1,8 @@
 use Rattle.std.proofs.Common.{◌≡◌, ◌∙◌, ℕ, List, None, ap, sym, Result, Ok, Err, OnOk, OnErr}
 use Rattle.std.specs.Ordering.{nat_cmp}
 use Rattle.std.specs.BTreeMap.{is_at}
-use Rattle.zq_key.specs.declared.message.Mapping.{Mapping}
-use Rattle.zq_key.specs.declared.message.Mapping.TheVariants.{Sender}
+use Rattle.zq_message.specs.declared.message.Mapping.{Mapping}
+use Rattle.zq_message.specs.declared.message.Mapping.TheVariants.{Sender}
 use Rattle.zq_tables.specs.FaceIds.{FaceIds, of_id, without_id}
 use Rattle.zq_tables.specs.Holding.{FaceHolds, without_number}
 use Rattle.zq_tables.proofs.Entries.{removed_absent}

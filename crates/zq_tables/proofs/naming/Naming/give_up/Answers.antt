@@ -1,5 +1,5 @@
 use Rattle.std.proofs.Common.{◌∙◌, refl, ap}
-use Rattle.zq_key.specs.declared.message.Mapping.TheVariants.{Sender, Receiver}
+use Rattle.zq_message.specs.declared.message.Mapping.TheVariants.{Sender, Receiver}
 use Rattle.zq_tables.specs.Naming.{no_keys, without_all_sent, without_numbers, without_queryables}
 use Rattle.zq_tables.proofs.Emptied.{changed, changed_twice}
 use Rattle.zq_tables.proofs.naming.Naming.give_up.Goals as goal

@@ -1,6 +1,6 @@
 //! A value that has one owner, or several that share its memory.
 ghost use Rattle.std.specs.Prelude.{◌≡◌, IfOk, IfSome};
-ghost use Rattle.zq_text.specs.Kept.{kept_value};
+ghost use Rattle.zq_message.specs.Kept.{kept_value};
 
 use crate::memory::OutOfMemory;
 use std::alloc::Global;

@@ -15,7 +15,7 @@ pub struct Text {
 impl Model for Text {
     ghost use Rattle.std.specs.Prelude.{ℕ, List};
     ghost use Rattle.std.specs.String.{string_bytes};
-    ghost use Rattle.zq_text.specs.Kept.{kept_value};
+    ghost use Rattle.zq_message.specs.Kept.{kept_value};
 
     ghost Value = { List ℕ };
 
@@ -85,7 +85,7 @@ pub struct Bytes {
 
 impl Model for Bytes {
     ghost use Rattle.std.specs.Prelude.{ℕ, List};
-    ghost use Rattle.zq_text.specs.Kept.{kept_value};
+    ghost use Rattle.zq_message.specs.Kept.{kept_value};
 
     ghost Value = { List ℕ };
 

@@ -1,7 +1,7 @@
 -- A value with one owner or with several.
 use Rattle.std.specs.Arc.{arc_value}
-use Rattle.zq_text.specs.declared.kept.Kept.{Kept}
-use Rattle.zq_text.specs.declared.kept.Kept.TheVariants.{Own, Shared}
+use Rattle.zq_message.specs.declared.kept.Kept.{Kept}
+use Rattle.zq_message.specs.declared.kept.Kept.TheVariants.{Own, Shared}
 
 -- the value, whoever else has it
 abbrev pub kept_value : {T : Type 0} → Kept T → T
