@@ -11,25 +11,15 @@ ghost use Rattle.zq_machine.specs.State.{first_hats, with_hat, change_hat, clash
 ghost use Rattle.zq_gateway.specs.Seats.{seats};
 
 use std::alloc::Global;
+use zq_handing::select::is_region;
 use zq_hat::hat::Hat;
 use zq_hat::types::{FaceRecord, FinalMark, HatRefusal};
 use zq_key::Key;
 use zq_key::memory::OutOfMemory;
 use zq_key::message::{FaceId, QueryableInfoType, Region};
-use zq_machine::config::{Config, Entry, SOUTH_IDS};
+use zq_machine::config::{Config, Entry};
 use zq_route::gateways::Gateways;
 use zq_tables::RegionMap;
-
-/// Whether a region of this id can be.
-pub fn is_region(region: Region) -> bool
-    ensures { result ≡ is_region region }
-{
-    match region {
-        Region::North => true,
-        Region::Local => true,
-        Region::South { id, mode: _ } => id <= SOUTH_IDS,
-    }
-}
 
 /// The hat of a region.
 pub fn hat_at(hats: &RegionMap<Hat>, region: Region) -> Option<&Hat>

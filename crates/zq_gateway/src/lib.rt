@@ -2,16 +2,13 @@
 //!
 //! - `gateway`: each call is one event
 //! - `runs`: whole runs, with what they promise of each request, reply and final
-//! - `hats`, `select`, `handed`, `read`: the parts of a call
-//! - calls, steps and configurations are of the crate below, `zq_machine`
+//! - `hats`: the hats of the regions
+//! - what an expression says, which offers are picked, and how messages are written is of the crate below, `zq_handing`; calls, steps and configurations are of `zq_machine`
 #![tactic(auto)]
 
 pub mod gateway;
-mod handed;
 mod hats;
-mod read;
 pub mod runs;
-mod select;
 
 pub use gateway::Gateway;
 pub use runs::replay;

@@ -8,7 +8,7 @@ use std::alloc::Global;
 use std::process::ExitCode;
 use std::rt::Env;
 use std::{env, io};
-use zq_key::text::Text;
+use zq_message::text::Text;
 use zq_script::run::{Status, run};
 use zq_streams::streams::{ReadSource, WriteSink};
 

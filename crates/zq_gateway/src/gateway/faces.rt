@@ -10,9 +10,9 @@ ghost use Rattle.zq_gateway.specs.Making.{IsReached, Settles};
 ghost use Rattle.zq_gateway.specs.Seats.{seats};
 
 use crate::gateway::tables::Tables;
-use crate::handed::written_finals;
 use crate::hats;
 use std::collections::BTreeMap;
+use zq_handing::write::written_finals;
 use zq_hat::hat::Hat;
 use zq_hat::types::FaceRecord;
 use zq_key::items::Items;

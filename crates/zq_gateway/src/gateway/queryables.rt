@@ -7,7 +7,7 @@ ghost use Rattle.zq_gateway.specs.Undoing.{taken_back};
 
 use crate::gateway::tables::Tables;
 use crate::hats;
-use crate::read::marks_key;
+use zq_handing::read::marks_key;
 use zq_hat::types::{FinalMark, HatRefusal};
 use zq_key::memory::OutOfMemory;
 use zq_key::message::{FaceId, QueryableInfoType, WireExpr};

@@ -10,8 +10,8 @@ ghost use Rattle.zq_machine.specs.TextCalls.{ending, passing, replying, reportin
 ghost use Rattle.zq_gateway.specs.Making.{Answers, Settles};
 
 use crate::gateway::tables::Tables;
-use crate::handed::{final_in, room_for_final, written_replies, written_timeouts};
-use crate::read::{full_text, is_unscoped, says_key_or_nothing};
+use zq_handing::read::{into_text, is_unscoped, says_key_or_nothing};
+use zq_handing::write::{final_in, room_for_final, written_replies, written_timeouts};
 use zq_key::memory::OutOfMemory;
 use zq_key::message::{FaceId, Response};
 use zq_machine::call::{Outcome, Refusal, Step};
@@ -56,26 +56,26 @@ impl Tables {
     pub(super) fn reply(
         &mut self,
         face: FaceId,
-        said: &Said,
+        said: Said,
         response: &Response,
     ) -> Result<Step, OutOfMemory>
-        ensures { Settles self.old self.new (replying face said.now response.now) result }
+        ensures { Settles self.old self.new (replying face said response.now) result }
     {
         if !self.is_open(face) {
             return Ok(self.refused(Refusal::UnknownFace));
         }
-        if is_unscoped(said) {
+        if is_unscoped(&said) {
             return Ok(self.refused(Refusal::UnknownScope));
         }
         match self.queries.would_reply(face, response.rid) {
             Ok(to) => {
-                if !says_key_or_nothing(said) {
+                if !says_key_or_nothing(&said) {
                     return Ok(self.refused(Refusal::InvalidKeyExpr));
                 }
                 self.put_reply(face, said, response, &to)
             }
             Err(ReplyRefusal::NoFreeId) => {
-                if !says_key_or_nothing(said) {
+                if !says_key_or_nothing(&said) {
                     return Ok(self.refused(Refusal::InvalidKeyExpr));
                 }
                 Ok(self.refused(Refusal::NoFreeId))
@@ -89,14 +89,14 @@ impl Tables {
     fn put_reply(
         &mut self,
         face: FaceId,
-        said: &Said,
+        said: Said,
         response: &Response,
         to: &ReplyTo,
     ) -> Result<Step, OutOfMemory>
         requires next { next_reply face.0 response.now.rid self.old.core.queries ≡ Some to.now }
         requires there { list_any (has_number to.now.number) self.old.core.queries.records ≡ true }
         requires fits { IsSome to.now.reply → self.old.core.queries.replies + 1 < 2 ^ 64 }
-        ensures { let call = replying face said.now response.now in
+        ensures { let call = replying face said response.now in
             Answers self.old self.new
             (record {
               outcome = outcome_of self.old.core call;
@@ -104,7 +104,8 @@ impl Tables {
             })
             (accepted_state self.old call) result }
     {
-        let handed = written_replies(self.alloc, &self.names, full_text(said), response, to)?;
+        let text = into_text(self.alloc, said);
+        let handed = written_replies(self.alloc, &self.names, text, response, to)?;
         self.queries.put(to)?;
         Ok(Step {
             outcome: Outcome::Replied(to.reply),

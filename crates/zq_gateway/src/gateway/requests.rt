@@ -7,11 +7,11 @@ ghost use Rattle.zq_machine.specs.TextCalls.{asking};
 ghost use Rattle.zq_gateway.specs.Making.{Settles};
 
 use crate::gateway::tables::Tables;
-use crate::handed::written_requests;
 use crate::hats;
-use crate::read::{full_text, says_key};
-use crate::select::Asker;
 use std::alloc::{AllocError, Global};
+use zq_handing::read::{full_text, into_text, says_key};
+use zq_handing::select::Asker;
+use zq_handing::write::written_requests;
 use zq_hat::types::QueryTargetQabl;
 use zq_key::memory::OutOfMemory;
 use zq_key::message::{FaceId, Request};
@@ -60,16 +60,16 @@ impl Tables {
     pub(super) fn request(
         &mut self,
         face: FaceId,
-        said: &Said,
+        said: Said,
         request: &Request,
         now: u64,
     ) -> Result<Step, OutOfMemory>
-        ensures { Settles self.old self.new (asking face said.now request.now now) result }
+        ensures { Settles self.old self.new (asking face said request.now now) result }
     {
         let Some(opened) = self.opened(face) else {
             return Ok(self.refused(Refusal::UnknownFace));
         };
-        let offers = self.select(face, opened, said, request)?;
+        let offers = self.select(face, opened, &said, request)?;
         let targets = targets_of(self.alloc, offers.as_slice())?;
         let places = match self.queries.plan(targets.as_slice()) {
             Ok(places) => places,
@@ -81,7 +81,7 @@ impl Tables {
             &self.queries,
             &self.names,
             face,
-            full_text(said),
+            into_text(self.alloc, said),
             request,
             offers.as_slice(),
             places.as_slice(),

@@ -9,11 +9,11 @@ ghost use Rattle.zq_machine.specs.TextCalls.{listing};
 ghost use Rattle.zq_gateway.specs.Making.{IsReached, Performs, MayPerform, Settles};
 ghost use Rattle.zq_gateway.specs.Seats.{seats};
 
-use crate::handed::written_final;
 use crate::hats;
 use std::alloc::Global;
 use std::collections::BTreeMap;
 use std::marker::Model;
+use zq_handing::write::written_final;
 use zq_hat::hat::Hat;
 use zq_hat::types::FinalMark;
 use zq_key::items::Items;
@@ -131,7 +131,7 @@ impl Tables {
         ensures { Performs self.old self.new (call.Request face msg.now now) result }
     {
         let said = self.names.said(face, &msg.wire)?;
-        self.request(face, &said, msg, now)
+        self.request(face, said, msg, now)
     }
 
     /// A reply of a target, with its expression read.
@@ -139,7 +139,7 @@ impl Tables {
         ensures { Performs self.old self.new (call.Response face msg.now) result }
     {
         let said = self.names.said(face, &msg.wire)?;
-        self.reply(face, &said, msg)
+        self.reply(face, said, msg)
     }
 
     /// A declaration of a face.

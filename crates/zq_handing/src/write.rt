@@ -1,4 +1,4 @@
-//! The messages that a step hands.
+//! The messages that a step hands, written for their receivers.
 ghost use Rattle.std.specs.Prelude.{◌≡◌, ◌<◌, [], ◌∷◌, IfOk, IfSome, Some, map, vec_capacity, vec_len};
 ghost use Rattle.std.specs.List.{cons_option};
 ghost use Rattle.zq_tables.specs.Naming.{best, face_naming, plain};
@@ -82,27 +82,27 @@ pub fn written_finals(alloc: Global, finals: &[Final]) -> Result<HandedList, Out
     Ok(handed)
 }
 
-fn whole(alloc: Global, text: &str) -> Result<WireExpr, OutOfMemory>
-    ensures { IfOk result (λ w. w ≡ plain text.now) }
+fn whole(text: Text) -> WireExpr
+    ensures { result ≡ plain text }
 {
-    Ok(WireExpr {
+    WireExpr {
         scope: 0,
         mapping: Mapping::Sender,
-        suffix: Text::new(alloc, text)?,
-    })
+        suffix: text,
+    }
 }
 
 fn reply_message(
     alloc: Global,
-    text: &str,
+    text: Text,
     response: &Response,
     to: &ReplyTo,
 ) -> Result<Response, OutOfMemory>
-    ensures { IfOk result (λ r. r ≡ record { rid = to.now.id; wire = plain text.now; qos = to.now.qos; payload = response.now.payload; responder = response.now.responder }) }
+    ensures { IfOk result (λ r. r ≡ record { rid = to.now.id; wire = plain text; qos = to.now.qos; payload = response.now.payload; responder = response.now.responder }) }
 {
     Ok(Response {
         rid: to.id,
-        wire: whole(alloc, text)?,
+        wire: whole(text),
         qos: to.qos,
         payload: response.payload.copy(alloc)?,
         responder: response.responder,
@@ -113,11 +113,11 @@ fn reply_message(
 pub fn written_replies(
     alloc: Global,
     names: &Naming,
-    text: &str,
+    text: Text,
     response: &Response,
     to: &ReplyTo,
 ) -> Result<HandedList, OutOfMemory>
-    ensures { IfOk result (λ l. l ≡ write names.now (handed_replies text.now response.now to.now)) }
+    ensures { IfOk result (λ l. l ≡ write names.now (handed_replies text response.now to.now)) }
 {
     let Some(reply) = to.reply else {
         return Ok(Items::new(alloc));
@@ -138,7 +138,7 @@ fn in_flight(to: FaceId, number: u64, reply: u64, message: Response) -> Handed
 fn request_message(
     alloc: Global,
     names: &Naming,
-    text: &str,
+    text: &Text,
     request: &Request,
     offer: &QueryTargetQabl,
     id: u32,
@@ -161,7 +161,7 @@ fn written_request(
     alloc: Global,
     queries: &Queries,
     names: &Naming,
-    text: &str,
+    text: &Text,
     request: &Request,
     offer: &QueryTargetQabl,
     id: u32,
@@ -182,7 +182,7 @@ fn requests_to(
     alloc: Global,
     queries: &Queries,
     names: &Naming,
-    text: &str,
+    text: &Text,
     request: &Request,
     offers: &[QueryTargetQabl],
     places: &[(u32, u32)],
@@ -205,22 +205,43 @@ fn requests_to(
     Ok(handed)
 }
 
-/// What a request hands; with no offer, its final.
+// An equal request, of which each copy shares the payload.
+fn shared(alloc: Global, request: &Request) -> Result<Request, OutOfMemory>
+    ensures { IfOk result (λ r. r ≡ request.now) }
+{
+    Ok(Request {
+        id: request.id,
+        wire: request.wire.copy(alloc)?,
+        target: request.target,
+        timeout: request.timeout,
+        node: request.node,
+        qos: request.qos,
+        payload: request.payload.copy(alloc)?.shared(alloc)?,
+    })
+}
+
+/// What a request hands; with no offer, its final. Messages to several targets share the text and
+/// the payload.
 pub fn written_requests(
     alloc: Global,
     queries: &Queries,
     names: &Naming,
     asker: FaceId,
-    text: &str,
+    text: Text,
     request: &Request,
     offers: &[QueryTargetQabl],
     places: &[(u32, u32)],
 ) -> Result<HandedList, OutOfMemory>
     requires { places.now ≡ map (given_place queries.now) (map target_of offers.now) }
-    ensures { IfOk result (λ l. l ≡ write names.now (handed_requests queries.now asker text.now request.now offers.now)) }
+    ensures { IfOk result (λ l. l ≡ write names.now (handed_requests queries.now asker text request.now offers.now)) }
 {
+    if offers.len() > 1 {
+        let text = text.shared(alloc)?;
+        let request = shared(alloc, request)?;
+        return requests_to(alloc, queries, names, &text, &request, offers, places);
+    }
     if !offers.is_empty() {
-        return requests_to(alloc, queries, names, text, request, offers, places);
+        return requests_to(alloc, queries, names, &text, request, offers, places);
     }
     let mut handed = room_for(alloc, 1)?;
     handed.push(written_final(Final {
@@ -241,7 +262,7 @@ fn timeout_message(
 {
     Ok(Response {
         rid: timeout.id,
-        wire: whole(alloc, "")?,
+        wire: whole(Text::from_string(String::new(alloc))),
         qos: timeout.qos,
         payload: ReplyBody::Err(Bytes::new(alloc, b"Timeout")?),
         responder: zid_of(faces, timeout.target),

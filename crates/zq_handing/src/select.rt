@@ -3,23 +3,36 @@ ghost use Rattle.std.specs.Prelude.{◌≡◌, ℕ, [], Bool, IfOk, OnOk, Some, 
 ghost use Rattle.std.specs.Map.{values_of};
 ghost use Rattle.zq_key.specs.Key.{is_key as key_of};
 ghost use Rattle.zq_query.specs.Asking.{are_distinct, face_numbers};
+ghost use Rattle.zq_machine.specs.State.{is_region};
 ghost use Rattle.zq_machine.specs.Selecting.{target_of, carries_between, filter_for, passes, with_part, zid_of};
 ghost use Rattle.std.specs.Prelude.{filter, fold, map, true};
 
-use crate::hats::is_region;
 use std::alloc::Global;
 use std::collections::BTreeMap;
 use zq_hat::hat::Hat;
+use zq_hat::strategy::is_north;
 use zq_hat::types::{OfferList, QueryTargetQabl};
 use zq_key::items::Items;
 use zq_key::memory::OutOfMemory;
-use zq_key::message::{FaceId, QueryTarget, Zid};
+use zq_key::message::{FaceId, QueryTarget, Region, Zid};
+use zq_machine::config::SOUTH_IDS;
 use zq_machine::face::OpenFace;
 use zq_route::builder::RouteBuilder;
 use zq_route::filter::InterRegionFilter;
 use zq_route::gateways::Gateways;
 use zq_route::selection::take_final_route;
 use zq_tables::RegionMap;
+
+/// Whether a region of this id can be.
+pub fn is_region(region: Region) -> bool
+    ensures { result ≡ is_region region }
+{
+    match region {
+        Region::North => true,
+        Region::Local => true,
+        Region::South { id, mode: _ } => id <= SOUTH_IDS,
+    }
+}
 
 /// The id of an open face.
 pub fn zid_of(faces: &BTreeMap<u32, OpenFace>, face: FaceId) -> Option<Zid>
@@ -61,8 +74,12 @@ impl<'a> Asker<'a> {
         if offer.face == self.face {
             return false;
         }
+        let src = self.opened.region;
+        if is_north(src) == is_north(offer.region) {
+            return is_region(src) && is_region(offer.region);
+        }
         let filter = InterRegionFilter {
-            src: self.opened.region,
+            src,
             dst: offer.region,
             src_zid: Some(self.opened.zid),
             fwd_zid: Some(self.opened.zid),
@@ -72,16 +89,12 @@ impl<'a> Asker<'a> {
     }
 
     // The offers that are for the asker's request.
-    fn passing(&self, alloc: Global, offers: OfferList) -> Result<OfferList, OutOfMemory>
-        ensures { IfOk result (λ l. l ≡ filter (passes self.now.faces.now.entries self.now.tables.now self.now.own self.now.face self.now.opened) offers) }
+    fn passing(&self, offers: OfferList) -> OfferList
+        ensures { result ≡ filter (passes self.now.faces.now.entries self.now.tables.now self.now.own self.now.face self.now.opened) offers }
     {
-        let mut kept = Items::new(alloc);
-        for offer in offers.into_vec() {
-            if self.passes(&offer) {
-                kept.push(offer)?;
-            }
-        }
-        Ok(kept)
+        let mut kept = offers.into_vec();
+        kept.retain(|offer| self.passes(offer));
+        Items::from_vec(kept)
     }
 
     // A region's part joins what earlier regions gave. The offers that pass are picked out first, so
@@ -99,7 +112,7 @@ impl<'a> Asker<'a> {
         ensures { OnOk result (route.new ≡ with_part self.now.faces.now.entries self.now.tables.now self.now.own self.now.face self.now.opened key.now target route.old hat.now) }
     {
         let offers = hat.compute_query_route(&self.opened.region, key, Some(0))?;
-        let offers = self.passing(alloc, offers)?;
+        let offers = self.passing(offers);
         take_final_route(target, route, offers, is_any)
     }
 

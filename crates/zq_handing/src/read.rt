@@ -3,8 +3,10 @@ ghost use Rattle.std.specs.Prelude.{◌≡◌};
 ghost use Rattle.zq_machine.specs.Deciding.{marks_key};
 ghost use Rattle.zq_machine.specs.Selecting.{full_text, is_unscoped, says_key, says_key_or_nothing};
 
+use std::alloc::Global;
 use zq_hat::types::FinalMark;
 use zq_key::is_key;
+use zq_key::text::Text;
 use zq_tables::said::Said;
 
 /// Whether the number of the expression stands for nothing.
@@ -43,6 +45,17 @@ pub fn full_text(said: &Said) -> &str
         Said::Unscoped => "",
         Said::Empty => "",
         Said::Full(text) => text.as_str(),
+    }
+}
+
+/// The same, moved out. It takes no memory.
+pub fn into_text(alloc: Global, said: Said) -> Text
+    ensures { result ≡ full_text said }
+{
+    match said {
+        Said::Unscoped => Text::from_string(String::new(alloc)),
+        Said::Empty => Text::from_string(String::new(alloc)),
+        Said::Full(text) => text,
     }
 }
 

@@ -1,0 +1,10 @@
+//! Whom a call hands what.
+//!
+//! - `read`: what is asked of an expression that was read
+//! - `select`: which offers a request is handed to
+//! - `write`: the messages, written for their receivers
+#![tactic(auto)]
+
+pub mod read;
+pub mod select;
+pub mod write;
