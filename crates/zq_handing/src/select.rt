@@ -89,12 +89,16 @@ impl<'a> Asker<'a> {
     }
 
     // The offers that are for the asker's request.
-    fn passing(&self, offers: OfferList) -> OfferList
-        ensures { result ≡ filter (passes self.now.faces.now.entries self.now.tables.now self.now.own self.now.face self.now.opened) offers }
+    fn passing(&self, alloc: Global, offers: OfferList) -> Result<OfferList, OutOfMemory>
+        ensures { IfOk result (λ l. l ≡ filter (passes self.now.faces.now.entries self.now.tables.now self.now.own self.now.face self.now.opened) offers) }
     {
-        let mut kept = offers.into_vec();
-        kept.retain(|offer| self.passes(offer));
-        Items::from_vec(kept)
+        let mut kept = Items::new(alloc);
+        for offer in offers.into_vec() {
+            if self.passes(&offer) {
+                kept.push(offer)?;
+            }
+        }
+        Ok(kept)
     }
 
     // A region's part joins what earlier regions gave. The offers that pass are picked out first, so
@@ -112,7 +116,7 @@ impl<'a> Asker<'a> {
         ensures { OnOk result (route.new ≡ with_part self.now.faces.now.entries self.now.tables.now self.now.own self.now.face self.now.opened key.now target route.old hat.now) }
     {
         let offers = hat.compute_query_route(&self.opened.region, key, Some(0))?;
-        let offers = self.passing(offers);
+        let offers = self.passing(alloc, offers)?;
         take_final_route(target, route, offers, is_any)
     }
 

@@ -147,7 +147,7 @@ fn request_message(
 {
     Ok(Request {
         id,
-        wire: names.best(offer.face, text)?,
+        wire: names.best(offer.face, text.as_str())?,
         target: request.target,
         timeout: request.timeout,
         node: offer.node,
@@ -220,8 +220,28 @@ fn shared(alloc: Global, request: &Request) -> Result<Request, OutOfMemory>
     })
 }
 
-/// What a request hands; with no offer, its final. Messages to several targets share the text and
-/// the payload.
+// The requests to the faces of offers. Several share the text and the payload.
+fn requests_sharing(
+    alloc: Global,
+    queries: &Queries,
+    names: &Naming,
+    text: Text,
+    request: &Request,
+    offers: &[QueryTargetQabl],
+    places: &[(u32, u32)],
+) -> Result<HandedList, OutOfMemory>
+    requires { places.now ≡ map (given_place queries.now) (map target_of offers.now) }
+    ensures { IfOk result (λ l. l ≡ write names.now (map (handed_request queries.now text request.now) offers.now)) }
+{
+    if offers.len() < 2 {
+        return requests_to(alloc, queries, names, &text, request, offers, places);
+    }
+    let text = text.shared(alloc)?;
+    let request = shared(alloc, request)?;
+    requests_to(alloc, queries, names, &text, &request, offers, places)
+}
+
+/// What a request hands; with no offer, its final.
 pub fn written_requests(
     alloc: Global,
     queries: &Queries,
@@ -235,13 +255,8 @@ pub fn written_requests(
     requires { places.now ≡ map (given_place queries.now) (map target_of offers.now) }
     ensures { IfOk result (λ l. l ≡ write names.now (handed_requests queries.now asker text request.now offers.now)) }
 {
-    if offers.len() > 1 {
-        let text = text.shared(alloc)?;
-        let request = shared(alloc, request)?;
-        return requests_to(alloc, queries, names, &text, &request, offers, places);
-    }
     if !offers.is_empty() {
-        return requests_to(alloc, queries, names, &text, request, offers, places);
+        return requests_sharing(alloc, queries, names, text, request, offers, places);
     }
     let mut handed = room_for(alloc, 1)?;
     handed.push(written_final(Final {

@@ -16,13 +16,13 @@ returns c =
     let i = c.self.inside in
     let v = c.self.view_is in
     let r = c.args.request.now in
-    let os : List QueryTargetQabl = select_for s.core c.args.face c.args.said.now r (Some c.in-Some.opened) in
+    let os : List QueryTargetQabl = select_for s.core c.args.face c.args.said r (Some c.in-Some.opened) in
     let queries : i.queries ≡ s.core.queries = ap (λ (x : State). x.core.queries) v in
     let targets : c.as_slice-2.result.now ≡ map target_of os = c.as_slice-2.ensures.value ∙ c.in_ok-targets.ensures ∙ ap (map target_of) (c.as_slice.ensures.value ∙ c.in_ok-offers.ensures.offers) in
     let fits : lacks_number (map target_of os) s.core.queries ≡ false = (λ j. lacks_number (sym targets j) (sym queries j)) ∙ c.in-Ok.ensures.free in
-    let told : c.in_ok-handed.handed ≡ write s.names (handed_requests s.core.queries c.args.face (full_text c.args.said.now) r os) =
+    let told : c.in_ok-handed.handed ≡ write s.names (handed_requests s.core.queries c.args.face (full_text c.args.said) r os) =
     c.in_ok-handed.ensures
-    ∙ (λ j. write (v j).names (handed_requests (queries j) c.args.face (c.full_text.ensures j) r ((c.as_slice-3.ensures.value ∙ c.in_ok-offers.ensures.offers) j))) in
+    ∙ (λ j. write (v j).names (handed_requests (queries j) c.args.face (c.into_text.ensures j) r ((c.as_slice-3.ensures.value ∙ c.in_ok-offers.ensures.offers) j))) in
     let until : c.saturating_add-deadline.result ≡ deadline s.core r.timeout c.args.now = rw (← v, c.saturating_add-deadline.ensures, c.unwrap_or.ensures, c.timeout.ensures) refl in
     let places : c.as_slice-5.result.now ≡ map (given_place s.core.queries) (map target_of os) = c.as_slice-5.ensures ∙ c.in-Ok.ensures.places ∙ (λ j. map (given_place (queries j)) (targets j)) in
     let asked : c.ask_planned.new.self ≡ after_ask c.args.face r.id r.qos (map target_of os) (deadline s.core r.timeout c.args.now) s.core.queries =
@@ -30,9 +30,9 @@ returns c =
     record {
       step =
           ap (λ n. record { outcome = outcome.Asked n; handed = c.in_ok-handed.handed }) (c.next_number-number.ensures ∙ ap (λ (q : QueryState). q.requests) queries)
-          ∙ asked_step s c.args.face c.args.said.now r c.args.now c.in-Some.opened (sym c.in-Some.ensures) fits c.in_ok-handed.handed told;
+          ∙ asked_step s c.args.face c.args.said r c.args.now c.in-Some.opened (sym c.in-Some.ensures) fits c.in_ok-handed.handed told;
       after =
           (λ j. record { core = with_queries (v j).core (asked j); names = (v j).names })
-          ∙ sym (asked_after s c.args.face c.args.said.now r c.args.now c.in-Some.opened (sym c.in-Some.ensures) fits);
+          ∙ sym (asked_after s c.args.face c.args.said r c.args.now c.in-Some.opened (sym c.in-Some.ensures) fits);
       err = tt;
     }

@@ -1,7 +1,7 @@
 use Rattle.std.proofs.Common.{◌≡◌, [], fold}
 use Rattle.std.specs.Map.{values_of}
 use Rattle.zq_machine.specs.Selecting.{with_part}
-use Rattle.zq_gateway.proofs.select.Asker.route.Given as goal
+use Rattle.zq_handing.proofs.select.Asker.route.Given as goal
 
 abbrev pub invariant-loop-hat : goal.invariant-loop-hat
 invariant-loop-hat l = record {

@@ -8,7 +8,7 @@ use Rattle.zq_machine.specs.Handing.{Handed}
 use Rattle.zq_machine.specs.Selecting.{target_of}
 use Rattle.zq_machine.specs.Writing.{written}
 use Rattle.zq_machine.specs.Deciding.{handed_request}
-use Rattle.zq_gateway.proofs.handed.requests_to.Goals as goal
+use Rattle.zq_handing.proofs.write.requests_to.Goals as goal
 
 pub written_request-requires : goal.written_request-requires
 written_request-requires c =
