@@ -54,7 +54,7 @@ choice false true n r s i1 i2 h = let k = and_parts n true h in rw (k.0, i2 refl
 choice false false n r s i1 i2 h = absurd (false≢true ((and_parts n false h).1))
 
 -- where one relation follows from the other part by part, it does so for lists
-covers-meets : {A : Type 0} (w f : A → Bool) (e e' : A → A → Bool) (follows : (x y : A) → e x y ≡ true → e' x y ≡ true) (a b : List A) → covers_by w f e a b ≡ true → meets_by w f e' a b ≡ true
+pub covers-meets : {A : Type 0} (w f : A → Bool) (e e' : A → A → Bool) (follows : (x y : A) → e x y ≡ true → e' x y ≡ true) (a b : List A) → covers_by w f e a b ≡ true → meets_by w f e' a b ≡ true
 unfolding covers_by meets_by
 covers-meets w f e e' follows [] [] h = refl
 covers-meets w f e e' follows [] (y ∷ b) h = absurd (false≢true h)
@@ -69,7 +69,7 @@ covers-meets w f e e' follows (x ∷ a) (y ∷ b) h = at (w x) (w y) refl refl (
 same_covers : (x y : Option ℕ) → same_part x y ≡ true → same_part x y ≡ true
 same_covers x y h = h
 
-chunk_covers-meets : (a b : List ℕ) → chunk_covers a b ≡ true → chunk_meets a b ≡ true
+pub chunk_covers-meets : (a b : List ℕ) → chunk_covers a b ≡ true → chunk_meets a b ≡ true
 unfolding chunk_covers chunk_meets
 chunk_covers-meets a b h = at (is_verbatim a || is_verbatim b) (is_star a) (is_star b) h
   where

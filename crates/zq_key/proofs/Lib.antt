@@ -21,3 +21,4 @@ pub mod Lookups
 pub mod Sorted
 pub mod Apart
 pub mod Runs
+pub mod Endings

@@ -7,3 +7,4 @@ pub mod KeyRefusals
 pub mod Space
 pub mod Changes
 pub mod Apart
+pub mod Ends

@@ -8,6 +8,7 @@ ghost use Rattle.zq_key.specs.Match.{covers_by, meets_by};
 ghost use Rattle.zq_key.specs.Walk.{wild_covers, wild_takes, starts_wild, never, after_last, has_none, Stops, Advances, is_nil};
 
 use crate::chunk::{chunks_meet, covers_chunk, is_stars, is_verbatim};
+use crate::ends::ends_apart;
 use crate::matching::{Cursor, covers, meets};
 
 /// How two chunks are compared.
@@ -197,9 +198,9 @@ fn fronts_relate(relation: Relation, a: &[u8], b: &[u8]) -> bool
     }
 }
 
-/// Whether two keys are in the relation.
+/// Whether two keys are in the relation, by walks from their starts.
 #[tactic(auto, using(crate::proofs::Related::rounds))]
-pub fn related(relation: Relation, a: &[u8], b: &[u8]) -> bool
+fn chunks_relate(relation: Relation, a: &[u8], b: &[u8]) -> bool
     ensures { result ≡ keys_relate relation (chunks_left a.now) (chunks_left b.now) }
 {
     let mut p = a;
@@ -227,4 +228,12 @@ pub fn related(relation: Relation, a: &[u8], b: &[u8]) -> bool
             },
         }
     }
+}
+
+/// Whether two keys are in the relation. Where their ends show that they aren't, nothing is walked.
+#[tactic(auto, using(crate::proofs::Endings::apart))]
+pub fn related(relation: Relation, a: &[u8], b: &[u8]) -> bool
+    ensures { result ≡ keys_relate relation (chunks_left a.now) (chunks_left b.now) }
+{
+    !ends_apart(a, b) && chunks_relate(relation, a, b)
 }

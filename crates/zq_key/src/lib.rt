@@ -4,6 +4,7 @@
 //! - `check`: which texts are keys, and which keys are plain
 //! - `matching`, `chunk`, `key`: whether two keys intersect, and whether one includes the other,
 //!   without memory and in time that is at most the product of their lengths
+//! - `ends`: where the last bytes of two texts show that neither is in relation to the other
 //! - `pruning`: where the first bytes of a text show that it does not meet a key
 //! - `laws`: that keys intersect both ways alike, and include and intersect themselves
 //! - `space`: texts cut by chunks, and texts behind a prefix
@@ -12,6 +13,7 @@
 
 mod check;
 mod chunk;
+mod ends;
 mod key;
 pub mod laws;
 mod matching;

@@ -1,6 +1,6 @@
 //! A value that has one owner, or several that share its memory.
-ghost use Rattle.std.specs.Prelude.{◌≡◌, IfOk, IfSome};
-ghost use Rattle.zq_message.specs.Kept.{kept_value};
+ghost use Rattle.std.specs.Prelude.{◌≡◌, true, IfOk, IfSome};
+ghost use Rattle.zq_message.specs.Kept.{kept_value, is_shared};
 
 use crate::memory::OutOfMemory;
 use std::alloc::Global;
@@ -26,7 +26,8 @@ impl<T> Kept<T> {
 
     /// Another owner of the value, where it is shared. None says nothing.
     pub(crate) fn another(&self) -> Option<Kept<T>>
-        ensures { IfSome result (λ k. kept_value k ≡ kept_value self.now) }
+        ensures value { IfSome result (λ k. kept_value k ≡ kept_value self.now) }
+        ensures owners { IfSome result (λ k. is_shared k ≡ true) }
     {
         match self {
             Kept::Own(_) => None,
@@ -41,7 +42,8 @@ impl<T> Kept<T> {
     pub(crate) fn shared(self, alloc: Global) -> Result<Kept<T>, OutOfMemory>
     where
         T: Drop,
-        ensures { IfOk result (λ k. kept_value k ≡ kept_value self) }
+        ensures value { IfOk result (λ k. kept_value k ≡ kept_value self) }
+        ensures owners { IfOk result (λ k. is_shared k ≡ true) }
     {
         match self {
             Kept::Own(value) => Ok(Kept::Shared(Arc::new(alloc, value)?)),

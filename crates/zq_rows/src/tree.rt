@@ -15,7 +15,7 @@ pub struct Seat {
 }
 
 impl Seat {
-    /// Takes the memory.
+    /// Takes the memory. Each seat is room for one number and has no value, so no clause tells it.
     pub fn new(alloc: Global) -> Result<Seat, AllocError> {
         Ok(Seat {
             branch: new_branch(alloc)?,

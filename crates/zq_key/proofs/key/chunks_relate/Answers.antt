@@ -1,7 +1,7 @@
 use Rattle.std.proofs.Common.{◌≡◌, ◌∙◌, sym, true, false}
 use Rattle.zq_key.specs.Chunks.{lists_relate, free_left, relates}
 use Rattle.zq_key.proofs.Related.{round-differ, round-on}
-use Rattle.zq_key.proofs.key.related.Goals as goal
+use Rattle.zq_key.proofs.key.chunks_relate.Goals as goal
 
 pub returns-then-not-relate : goal.returns-then-not-relate
 returns-then-not-relate c =
