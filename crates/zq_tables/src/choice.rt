@@ -1,7 +1,7 @@
 //! The choice of an id for a text.
 ghost use Rattle.std.specs.Prelude.{◌≡◌, ◌++◌, IfOk, IfSome};
 ghost use Rattle.std.specs.Str.{IsCharBoundary};
-ghost use Rattle.zq_tables.specs.FaceTexts.{key_from, whole_key as whole_of};
+ghost use Rattle.zq_tables.specs.FaceTexts.{key_from, whole as whole_of, whole_key as whole_key_of};
 
 use crate::decl::DeclKey;
 use std::alloc::Global;
@@ -16,11 +16,29 @@ pub(crate) fn joined(alloc: Global, head: &str, tail: &str) -> Result<Text, OutO
     Text::joined(alloc, head, tail, "")
 }
 
+// A text under scope 0.
+pub(crate) fn whole(suffix: Text) -> WireExpr
+    ensures { result ≡ whole_of suffix }
+{
+    WireExpr {
+        scope: 0,
+        mapping: Mapping::Sender,
+        suffix,
+    }
+}
+
+// A copy of a text under scope 0, in the same memory if the text is shared.
+pub(crate) fn plain(alloc: Global, text: &Text) -> Result<WireExpr, OutOfMemory>
+    ensures { IfOk result (λ w. w ≡ whole_of text.now) }
+{
+    Ok(whole(text.copy(alloc)?))
+}
+
 // The expression of a text whose first bytes are known, or of the whole text.
 pub(crate) fn expression(
     alloc: Global,
     part: Option<(u16, Mapping, usize)>,
-    text: &str,
+    text: &Text,
 ) -> Result<WireExpr, OutOfMemory>
     requires { IfSome part (λ p. IsCharBoundary text.now p.2) }
     ensures { IfOk result (λ w. w ≡ key_from part text.now) }
@@ -29,26 +47,18 @@ pub(crate) fn expression(
         Some((scope, mapping, k)) => Ok(WireExpr {
             scope,
             mapping,
-            suffix: Text::new(alloc, &text[k..])?,
+            suffix: Text::new(alloc, &text.as_str()[k..])?,
         }),
-        None => Ok(WireExpr {
-            scope: 0,
-            mapping: Mapping::Sender,
-            suffix: Text::new(alloc, text)?,
-        }),
+        None => plain(alloc, text),
     }
 }
 
 // The text under scope 0, with nothing declared.
 pub(crate) fn whole_key(alloc: Global, text: &str) -> Result<DeclKey, OutOfMemory>
-    ensures { IfOk result (λ d. d ≡ whole_of text.now) }
+    ensures { IfOk result (λ d. d ≡ whole_key_of text.now) }
 {
     Ok(DeclKey {
-        wire: WireExpr {
-            scope: 0,
-            mapping: Mapping::Sender,
-            suffix: Text::new(alloc, text)?,
-        },
+        wire: whole(Text::new(alloc, text)?),
         declared: None,
     })
 }

@@ -281,6 +281,15 @@ impl FaceNames {
         None
     }
 
+    /// The best key of the text, in what is handed to the face. A whole text is in the same memory if it is shared.
+    pub fn best(&self, alloc: Global, names: &Names, text: &Text) -> Result<WireExpr, OutOfMemory>
+        requires { AreLive names.now self.now }
+        ensures best { IfOk result (λ w. w ≡ best_key (texts_of names.now self.now) text.now) }
+        ensures reads { IfOk result (λ w. read_by (texts_of names.now self.now) w ≡ Some text.now) }
+    {
+        expression(alloc, self.best_part(names, text.as_str()), text)
+    }
+
     /// The best key of the node's text followed by the suffix, in what is handed to the face. (`Resource::get_best_key`)
     pub fn get_best_key(
         &self,
@@ -295,7 +304,7 @@ impl FaceNames {
         ensures reads { IfOk result (λ w. read_by (texts_of names.now self.now) w ≡ Some ((entry_at names.now r.0).text ++ suffix.now)) }
     {
         let text = joined(alloc, names.expr(r), suffix)?;
-        expression(alloc, self.best_part(names, text.as_str()), text.as_str())
+        self.best(alloc, names, &text)
     }
 
     // Lets the least free id, which the gateway declares, stand for a node.

@@ -7,10 +7,11 @@ ghost use Rattle.zq_key.specs.Key.{is_key as key_of};
 ghost use Rattle.zq_tables.specs.FaceTexts.{IsReason};
 ghost use Rattle.zq_tables.specs.Naming.{best, change_naming, declare_refusal, face_naming, face_queryables, no_keys, read_by, said_of, sent_side, text_at, with_name, with_queryable, without_all_sent, without_name, without_queryable, without_queryables, without_sent};
 
+use crate::choice::{plain, whole};
 use crate::face_nodes::FaceNodes;
 use crate::hold::{let_go, take_hold};
 use crate::number::{
-    Faces, declare_at, first_number, is_settled, node_at, plain, remaps, said_plainly, said_under,
+    Faces, declare_at, first_number, is_settled, node_at, remaps, said_plainly, said_under,
     undeclare_at,
 };
 use crate::queryable;
@@ -21,6 +22,7 @@ use std::collections::BTreeMap;
 use std::marker::Model;
 use zq_key::memory::OutOfMemory;
 use zq_key::message::{FaceId, Mapping, WireExpr};
+use zq_key::text::Text;
 use zq_key::{Key, is_key};
 use zq_names::{NameRefusal, Names};
 
@@ -148,7 +150,7 @@ impl Naming {
         }
     }
 
-    fn best_of(&self, face: FaceId, text: &str) -> Result<WireExpr, OutOfMemory>
+    fn best_of(&self, face: FaceId, text: &Text) -> Result<WireExpr, OutOfMemory>
         ensures { IfOk result (λ w. w ≡ best (face_naming face.0 self.now) text.now) }
     {
         match self.faces.get(&face.0) {
@@ -157,8 +159,7 @@ impl Naming {
                 if numbers.is_empty() {
                     return plain(self.alloc, text);
                 }
-                let root = self.names.root();
-                numbers.get_best_key(self.alloc, &self.names, root, text)
+                numbers.best(self.alloc, &self.names, text)
             }
             None => plain(self.alloc, text),
         }
@@ -166,9 +167,9 @@ impl Naming {
 
     /// The text as it is handed to the face (upstream's `get_best_key`): by the number of the
     /// longest part of whole chunks that has one, a number of the face before one of the gateway
-    /// and the least of several, else whole.
+    /// and the least of several, else whole, in the same memory if the text is shared.
     #[tactic(auto, using(crate::proofs::Reading::answer_reads))]
-    pub fn best(&self, face: FaceId, text: &str) -> Result<WireExpr, OutOfMemory>
+    pub fn best(&self, face: FaceId, text: &Text) -> Result<WireExpr, OutOfMemory>
         ensures key { IfOk result (λ w. w ≡ best (face_naming face.0 self.now) text.now) }
         ensures reads { 0 < length text.now → IfOk result (λ w. read_by (face_naming face.0 self.now) w ≡ Said.Full text.now) }
     {
@@ -198,7 +199,7 @@ impl Naming {
         if is_settled(&self.faces, face.0, id) {
             return Ok(());
         }
-        let wire = plain(self.alloc, text)?;
+        let wire = whole(Text::new(self.alloc, text)?);
         let node = declare_at(
             self.alloc,
             &mut self.names,

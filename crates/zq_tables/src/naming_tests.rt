@@ -1,5 +1,6 @@
 use crate::naming::Naming;
 use crate::said::Said;
+use std::alloc::Global;
 use std::test::Fail;
 use zq_key::Key;
 use zq_key::memory::OutOfMemory;
@@ -12,9 +13,23 @@ const FACE: FaceId = FaceId(3);
 const OTHER: FaceId = FaceId(5);
 
 // Whether the text is handed to the face under the scope, with the suffix.
-fn is_best(names: &Naming, face: FaceId, text: &str, scope: u16, suffix: &str) -> bool {
+fn is_handed(names: &Naming, face: FaceId, text: &Text, scope: u16, suffix: &str) -> bool {
     match names.best(face, text) {
         Ok(wire) => wire.scope == scope && wire.suffix.as_str() == suffix,
+        Err(_) => false,
+    }
+}
+
+fn is_best(
+    alloc: Global,
+    names: &Naming,
+    face: FaceId,
+    text: &str,
+    scope: u16,
+    suffix: &str,
+) -> bool {
+    match Text::new(alloc, text) {
+        Ok(text) => is_handed(names, face, &text, scope, suffix),
         Err(_) => false,
     }
 }
@@ -29,7 +44,7 @@ fn holds(names: &mut Naming, face: FaceId, id: u32, key: &Key) -> bool {
     matches!(names.hold_queryable(face, id, key), Ok(true))
 }
 
-fn two_faces(alloc: std::alloc::Global) -> Result<Naming, OutOfMemory> {
+fn two_faces(alloc: Global) -> Result<Naming, OutOfMemory> {
     let mut names = Naming::new(alloc)?;
     names.open(FACE)?;
     names.open(OTHER)?;
@@ -56,8 +71,11 @@ fn best_keys(rt: HostRuntime) {
         ("x/*", 2, ""),
         ("x/y", 0, "x/y"),
     ] {
-        assert!(rt; is_best(&names, FACE, text, scope, suffix), "{text}");
-        assert!(rt; is_best(&names, OTHER, text, 0, text), "{text}");
+        assert!(rt;
+            is_best(rt.alloc(), &names, FACE, text, scope, suffix),
+            "{text}"
+        );
+        assert!(rt; is_best(rt.alloc(), &names, OTHER, text, 0, text), "{text}");
     }
 }
 
@@ -72,18 +90,18 @@ fn given_up(rt: HostRuntime) {
         assert!(rt; declares(&mut names, FACE, id, text));
     }
     names.undeclare(FACE, 5);
-    assert!(rt; is_best(&names, FACE, "a/b", 6, ""));
+    assert!(rt; is_best(rt.alloc(), &names, FACE, "a/b", 6, ""));
     names.undeclare(FACE, 6);
     assert!(rt; names.standing(FACE, 6).is_none());
-    assert!(rt; is_best(&names, FACE, "a/b", 7, "/b"));
-    assert!(rt; is_best(&names, FACE, "a/b/c", 9, ""));
+    assert!(rt; is_best(rt.alloc(), &names, FACE, "a/b", 7, "/b"));
+    assert!(rt; is_best(rt.alloc(), &names, FACE, "a/b/c", 9, ""));
     names.undeclare(FACE, 9);
-    assert!(rt; is_best(&names, FACE, "a/b/c", 7, "/b/c"));
+    assert!(rt; is_best(rt.alloc(), &names, FACE, "a/b/c", 7, "/b/c"));
     assert!(rt; declares(&mut names, FACE, 5, "a/b/c"));
     assert!(rt; declares(&mut names, FACE, 5, "a/b/c"));
     assert!(rt; !declares(&mut names, FACE, 5, "a/b"));
     names.undeclare(FACE, 5);
-    assert!(rt; is_best(&names, FACE, "a/b/c", 7, "/b/c"));
+    assert!(rt; is_best(rt.alloc(), &names, FACE, "a/b/c", 7, "/b/c"));
 }
 
 // A face that closes gives up its own numbers, and not those of another face for the same text.
@@ -96,10 +114,10 @@ fn closed(rt: HostRuntime) {
         assert!(rt; declares(&mut names, face, id, text));
     }
     names.close(FACE);
-    assert!(rt; is_best(&names, FACE, "a/b", 0, "a/b"));
-    assert!(rt; is_best(&names, OTHER, "a/b/c", 4, "/c"));
+    assert!(rt; is_best(rt.alloc(), &names, FACE, "a/b", 0, "a/b"));
+    assert!(rt; is_best(rt.alloc(), &names, OTHER, "a/b/c", 4, "/c"));
     assert!(rt; names.open(OTHER).is_ok());
-    assert!(rt; is_best(&names, OTHER, "a/b/c", 0, "a/b/c"));
+    assert!(rt; is_best(rt.alloc(), &names, OTHER, "a/b/c", 0, "a/b/c"));
 }
 
 #[test]
@@ -141,7 +159,7 @@ fn refused(rt: HostRuntime) {
     ] {
         assert!(rt; names.declare(FACE, id, text) == Err(refusal), "{text}");
     }
-    assert!(rt; is_best(&names, FACE, "a", 7, ""));
+    assert!(rt; is_best(rt.alloc(), &names, FACE, "a", 7, ""));
 }
 
 // A queryable holds its node from its declaration on, whatever numbers stand for the same text,
@@ -161,7 +179,7 @@ fn queryables(rt: HostRuntime) {
     assert!(rt; declares(&mut names, FACE, 7, "a/b"));
     names.release_queryable(FACE, 1);
     assert!(rt; !names.holds_queryable(FACE, 1));
-    assert!(rt; is_best(&names, FACE, "a/b", 7, ""));
+    assert!(rt; is_best(rt.alloc(), &names, FACE, "a/b", 7, ""));
     names.undeclare(FACE, 7);
     assert!(rt; names.holds_queryable(OTHER, 1));
     names.close(OTHER);

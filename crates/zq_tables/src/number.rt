@@ -3,7 +3,7 @@ ghost use Rattle.std.specs.Prelude.{◌≡◌, ◌≢◌, IfOk, OnOk, OnErr, opt
 ghost use Rattle.std.specs.Map.{keys_of};
 ghost use Rattle.zq_tables.specs.FaceIds.{AreLive};
 ghost use Rattle.zq_tables.specs.FaceTexts.{texts_of};
-ghost use Rattle.zq_tables.specs.Naming.{plain as plain_of, remaps as remaps_of, said_of, said_plainly as plainly_of};
+ghost use Rattle.zq_tables.specs.Naming.{remaps as remaps_of, said_of, said_plainly as plainly_of};
 ghost use Rattle.zq_tables.specs.Holding.{Declares, IsHeld, change_ids, ids_at, node_at as node_of, number_settled, numbers_in, without_number};
 
 use crate::face::FaceNames;
@@ -30,17 +30,6 @@ pub(crate) fn remaps(id: u16, text: &str, standing: Option<&str>) -> bool
         Some(other) => other != text,
         None => false,
     }
-}
-
-// A text under no number.
-pub(crate) fn plain(alloc: Global, text: &str) -> Result<WireExpr, OutOfMemory>
-    ensures { IfOk result (λ w. w ≡ plain_of text.now) }
-{
-    Ok(WireExpr {
-        scope: 0,
-        mapping: Mapping::Sender,
-        suffix: Text::new(alloc, text)?,
-    })
 }
 
 // What a suffix says under no number.

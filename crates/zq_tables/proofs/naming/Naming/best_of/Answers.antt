@@ -1,5 +1,4 @@
-use Rattle.std.proofs.Common.{◌≡◌, ◌∙◌, ◌++◌, ℕ, List, ap, sym, subst, IfOk}
-use Rattle.zq_names.specs.Names.{entry_at}
+use Rattle.std.proofs.Common.{◌≡◌, ◌∙◌, ap, sym, subst, IfOk}
 use Rattle.zq_tables.specs.FaceIds.{FaceIds, AreLive, no_ids}
 use Rattle.zq_tables.specs.FaceTexts.{best_key, texts_of}
 use Rattle.zq_tables.specs.Naming.{FaceNaming, face_naming, best}
@@ -8,8 +7,8 @@ use Rattle.zq_tables.proofs.Faces.{face_there, face_closed}
 use Rattle.zq_tables.proofs.Reading.{best_none}
 use Rattle.zq_tables.proofs.naming.Naming.best_of.Goals as goal
 
-pub get_best_key-requires-clause-ids : goal.get_best_key-requires-clause-ids
-get_best_key-requires-clause-ids c =
+pub best-requires : goal.best-requires
+best-requires c =
     let L : FaceIds → Type 0 = AreLive c.self.inside.names in
     subst L (sym c.numbers-numbers.ensures) (live_at c.self.inside.names c.self.inside.faces.entries c.args.face.0 c.in-Some.nodes.now c.self.invariant (sym c.in-Some.ensures.value))
 
@@ -33,12 +32,9 @@ returns-else-is_empty c =
     let faces = c.self.inside.faces.entries in
     let nodes = c.in-Some.nodes.now in
     let text = c.args.text.now in
-    let S : FaceNaming → Type 0 = λ (n : FaceNaming). IfOk c.get_best_key.result (λ w. w ≡ best n text) in
-    let root : (entry_at names c.root-root.result.0).text ++ text ≡ text = ap (λ (t : List ℕ). t ++ text) c.root-root.ensures.text in
-    let R : List ℕ → Type 0 = λ (t : List ℕ). IfOk c.get_best_key.result (λ w. w ≡ best_key (texts_of names nodes.numbers) t) in
-    let B : FaceIds → Type 0 = λ (f : FaceIds). IfOk c.get_best_key.result (λ w. w ≡ best_key (texts_of names f) ((entry_at names c.root-root.result.0).text ++ text)) in
-    subst S (sym (face_there names faces face nodes (sym c.in-Some.ensures.value)) ∙ ap (face_naming face) c.self.view_is)
-    (subst R root (subst B c.numbers-numbers.ensures c.get_best_key.ensures.best))
+    let S : FaceNaming → Type 0 = λ (n : FaceNaming). IfOk c.best.result (λ w. w ≡ best n text) in
+    let B : FaceIds → Type 0 = λ (f : FaceIds). IfOk c.best.result (λ w. w ≡ best_key (texts_of names f) text) in
+    subst S (sym (face_there names faces face nodes (sym c.in-Some.ensures.value)) ∙ ap (face_naming face) c.self.view_is) (subst B c.numbers-numbers.ensures c.best.ensures.best)
 
 pub returns-in-None : goal.returns-in-None
 returns-in-None c =

@@ -17,12 +17,12 @@ pub hold-requires-clause-room : goal.hold-requires-clause-room
 hold-requires-clause-room c =
     let new : number_settled c.args.face.0 c.args.id c.self.inside.faces.entries ≡ false = sym c.is_settled.ensures ∙ c.if-is_settled.false in
     let few : length c.self.inside.faces.entries < 2 ^ 63 = omega (arith, c.len-open.ensures.len, c.len-open.ensures.small) in
-    room c.self.inside.names c.declare_at.new.names c.self.inside.faces.entries c.declare_at.new.faces.entries c.args.face.0 c.args.id c.in_ok-node.node.0 c.in_ok-wire.wire.suffix c.self.invariant new c.in_ok-node.ensures.ok few
+    room c.self.inside.names c.declare_at.new.names c.self.inside.faces.entries c.declare_at.new.faces.entries c.args.face.0 c.args.id c.in_ok-node.node.0 c.whole-wire.result.suffix c.self.invariant new c.in_ok-node.ensures.ok few
 
 pub invariant_of-self-2 : goal.invariant_of-self-2
 invariant_of-self-2 c =
     let new : number_settled c.args.face.0 c.args.id c.self.inside.faces.entries ≡ false = sym c.is_settled.ensures ∙ c.if-is_settled.false in
-    declared c.self.inside.names c.declare_at.new.names c.self.inside.faces.entries c.declare_at.new.faces.entries c.args.face.0 c.args.id c.in_ok-node.node.0 c.in_ok-wire.wire.suffix c.self.invariant new c.in_ok-node.ensures.ok
+    declared c.self.inside.names c.declare_at.new.names c.self.inside.faces.entries c.declare_at.new.faces.entries c.args.face.0 c.args.id c.in_ok-node.node.0 c.whole-wire.result.suffix c.self.invariant new c.in_ok-node.ensures.ok
     c.hold.new.self c.hold.ensures.entries c.hold.ensures.all c.requires.number (omega arith)
 
 pub returns-clause-ok : goal.returns-clause-ok
@@ -30,8 +30,8 @@ returns-clause-ok c =
     let face = c.args.face.0 in
     let id = c.args.id in
     let new : number_settled face id c.self.inside.faces.entries ≡ false = sym c.is_settled.ensures ∙ c.if-is_settled.false in
-    let text : c.in_ok-wire.wire.suffix ≡ c.args.text.now = ap (λ w. w.suffix) c.in_ok-wire.ensures in
-    declared_texts c.self.inside.names c.declare_at.new.names c.self.inside.faces.entries c.declare_at.new.faces.entries face id c.in_ok-node.node.0 c.in_ok-wire.wire.suffix c.self.invariant new c.in_ok-node.ensures.ok
+    let text : c.whole-wire.result.suffix ≡ c.args.text.now = ap (λ w. w.suffix) c.whole-wire.ensures ∙ c.in_ok-new.ensures in
+    declared_texts c.self.inside.names c.declare_at.new.names c.self.inside.faces.entries c.declare_at.new.faces.entries face id c.in_ok-node.node.0 c.whole-wire.result.suffix c.self.invariant new c.in_ok-node.ensures.ok
     c.hold.new.self c.hold.ensures.entries c.hold.ensures.all c.requires.number (omega arith)
     ∙ ap (λ (t : List ℕ). change_naming face (with_name id t) (texts_by c.self.inside.names c.self.inside.faces.entries)) text
     ∙ ap (change_naming face (with_name id c.args.text.now)) c.self.view_is
