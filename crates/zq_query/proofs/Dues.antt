@@ -1,12 +1,12 @@
 -- The map of deadlines, and the entries of the records that are due.
-use Rattle.std.proofs.Common.{◌≡◌, ℕ, ◌-◌, ◌<◌, ◌^◌, Bool, true, false, cond, List, [], ◌∷◌, ap, ◌∙◌, refl, arith, Some, None, Option, sym, true≢false, eqb-true, eq-eqb}
+use Rattle.std.proofs.Common.{◌≡◌, ℕ, ◌<◌, Bool, true, false, cond, List, [], ◌∷◌, ap, ◌∙◌, refl, arith, Some, None, Option, sym, true≢false, eqb-true, eq-eqb}
 use Rattle.std.specs.Prelude.{fold, map, not, nat_lt, ◌&&◌, ◌||◌, ◌==◌}
 use Rattle.std.proofs.lemmas.Bool.{lt-ltb, le-ltb}
 use Rattle.std.proofs.lemmas.Cmp.{ranked}
 use Rattle.std.specs.declared.cmp.Ordering.{Ordering}
 use Rattle.std.specs.declared.cmp.Ordering.TheVariants.{Less, Equal, Greater}
-use Rattle.std.specs.declared.ops.Bound.TheVariants.{Included, Unbounded}
-use Rattle.std.specs.Ordering.{nat_cmp, ordering_then, is_lt}
+use Rattle.std.specs.declared.ops.Bound.TheVariants.{Excluded, Unbounded}
+use Rattle.std.specs.Ordering.{nat_cmp, ordering_then, is_le}
 use Rattle.std.specs.Cmp.{nat_eq_equiv, both_ways, first_so}
 use Rattle.std.specs.Option.{IsSome, option_map, option_map_or}
 use Rattle.std.specs.List.{filter, filter_map, cons_option, flat_map, list_any, AllByRecursion}
@@ -31,16 +31,16 @@ use Rattle.zq_key.proofs.Lookups.{each_entry, same_key, at_itself, either_way}
 use Rattle.zq_key.proofs.Sorted.{same_keys, has_put, sorted_put}
 use Rattle.zq_key.proofs.Truth.{or_swap}
 
--- ---- the requests up to the last that the moment can have
-up_to : (now : ℕ) (q : Place) (r : Ordering) → nat_cmp now q.0 ≡ r → q.1 < 2 ^ 64 → is_lt (ordering_then r (nat_cmp (2 ^ 64 - 1) q.1)) ≡ nat_lt now q.0
-up_to now q Less e l = sym (lt-ltb now q.0 (ranked now q.0 Less (sym e)))
-up_to now q Equal e l = second (nat_cmp (2 ^ 64 - 1) q.1) refl ∙ sym (le-ltb now q.0 (let same : now ≡ q.0 = ranked now q.0 Equal (sym e) in omega (arith, same)))
+-- ---- the requests below a number, up to the last that the moment can have
+up_to : (now requests : ℕ) (q : Place) (r : Ordering) → nat_cmp now q.0 ≡ r → q.1 < requests → is_le (ordering_then r (nat_cmp requests q.1)) ≡ nat_lt now q.0
+up_to now requests q Less e l = sym (lt-ltb now q.0 (ranked now q.0 Less (sym e)))
+up_to now requests q Equal e l = second (nat_cmp requests q.1) refl ∙ sym (le-ltb now q.0 (let same : now ≡ q.0 = ranked now q.0 Equal (sym e) in omega (arith, same)))
   where
-    second : (a : Ordering) → nat_cmp (2 ^ 64 - 1) q.1 ≡ a → is_lt a ≡ false
-    second Less f = absurd (let h : 2 ^ 64 - 1 < q.1 = ranked (2 ^ 64 - 1) q.1 Less (sym f) in omega (arith, h, l))
-    second Equal f = refl
+    second : (a : Ordering) → nat_cmp requests q.1 ≡ a → is_le a ≡ false
+    second Less f = absurd (let h : requests < q.1 = ranked requests q.1 Less (sym f) in omega (arith, h, l))
+    second Equal f = absurd (let h : requests ≡ q.1 = ranked requests q.1 Equal (sym f) in omega (arith, h, l))
     second Greater f = refl
-up_to now q Greater e l = sym (le-ltb now q.0 (let less : q.0 < now = ranked now q.0 Greater (sym e) in omega (arith, less)))
+up_to now requests q Greater e l = sym (le-ltb now q.0 (let less : q.0 < now = ranked now q.0 Greater (sym e) in omega (arith, less)))
 
 abbrev comes : ℕ → Due → Bool
 comes now q = not (nat_lt now q.0)
@@ -185,16 +185,16 @@ module _ (heads : List (ℕ × Open)) (pending : List (Place × Owed)) (dues : D
   head_below n requests next None below e none = absurd (true≢false (sym none))
   head_below n requests next (Some o) below e some = below.numbers n o e
 
-  module _ (next requests : ℕ) (below : IsBelow heads replies requests next) (fits : requests < 2 ^ 64) where
-    inside : (q : Place) (ps : List Place) → at_place q dues ≡ Some ps → range_contains place_cmp Unbounded (Included (now, 2 ^ 64 - 1)) q ≡ not (nat_lt now q.0)
+  module _ (next requests : ℕ) (below : IsBelow heads replies requests next) where
+    inside : (q : Place) (ps : List Place) → at_place q dues ≡ Some ps → range_contains place_cmp Unbounded (Excluded (now, requests)) q ≡ not (nat_lt now q.0)
     inside q ps h =
         let is = tied.entry q ps h in
         let l = head_below q.1 requests next _ below refl (tied.owned is.0 (record { number = q.1; deadline = q.0 }) is.1) in
-        ap not (up_to now q _ refl (omega (arith, l, fits)))
+        ap not (up_to now requests q _ refl l)
 
-    until : dues_until now dues ≡ filter (has_come now) dues
-    until = filter_members (λ e. range_contains place_cmp Unbounded (Included (now, 2 ^ 64 - 1)) e.0) (has_come now) dues
-        (each_entry place_total place_exact (λ e. range_contains place_cmp Unbounded (Included (now, 2 ^ 64 - 1)) e.0 ≡ has_come now e) dues tied.due_order inside)
+    until : dues_until now requests dues ≡ filter (has_come now) dues
+    until = filter_members (λ e. range_contains place_cmp Unbounded (Excluded (now, requests)) e.0) (has_come now) dues
+        (each_entry place_total place_exact (λ e. range_contains place_cmp Unbounded (Excluded (now, requests)) e.0 ≡ has_come now e) dues tied.due_order inside)
 
     -- ---- an entry is among the live places exactly where it is due
     module _ (k : Place) (v : Owed) (is : at_place k pending ≡ Some v) where
@@ -239,31 +239,31 @@ module _ (heads : List (ℕ × Open)) (pending : List (Place × Owed)) (dues : D
       live_of_due ps [] due among h = absurd (cc)
       live_of_due ps (e ∷ es) due among h = live_by ps e es _ _ refl refl due among h (live_of_due ps es due among)
 
-      is_live : lists k (live_until now pending dues) ≡ not (nat_lt now v.deadline)
+      is_live : lists k (live_until now requests pending dues) ≡ not (nat_lt now v.deadline)
       is_live =
-          any_flat (is_at (place_cmp k)) (live_of pending) (dues_until now dues)
-          ∙ any_live (dues_until now dues)
+          any_flat (is_at (place_cmp k)) (live_of pending) (dues_until now requests dues)
+          ∙ any_live (dues_until now requests dues)
           ∙ ap (list_any owes) until
           ∙ both_ways _ _
           (due_of_live dues (each_entry place_total place_exact (λ e. at_place e.0 dues ≡ Some e.1) dues tied.due_order (λ q ps h. h)))
           (λ due. let there = tied.due k v is in live_of_due there.0 dues due there.2 there.1)
 
-    same_members : (q : Due) → has_key due_cmp q (filter_map (due_at pending) (live_until now pending dues)) ≡ has_key due_cmp q (dues_at now (records_of heads pending replies))
+    same_members : (q : Due) → has_key due_cmp q (filter_map (due_at pending) (live_until now requests pending dues)) ≡ has_key due_cmp q (dues_at now (records_of heads pending replies))
     same_members q =
         both_ways _ _
-        (λ h. let t = owed_from pending q (live_until now pending dues) h in
+        (λ h. let t = owed_from pending q (live_until now requests pending dues) h in
         let at : at_place (q.2, t.0.1) pending ≡ Some (record { number = q.1; deadline = q.0 }) = (λ j. at_place ((t.4 j).2, t.0.1) pending) ∙ t.3 ∙ (λ j. Some (record { number = (sym t.4 j).1; deadline = (sym t.4 j).0 })) in
         let due : comes now q ≡ true = ap (comes now) t.4 ∙ sym (is_live t.0 t.1 t.3) ∙ t.2 in
         to_heads q t.0.1 (at_number q.1 heads) due at refl (tied.owned (q.2, t.0.1) (record { number = q.1; deadline = q.0 }) at))
         (λ h. let f = from_heads q heads h in
-        due_there pending (q.2, f.1.0) (record { number = q.1; deadline = q.0 }) (live_until now pending dues) f.1.1 (is_live (q.2, f.1.0) (record { number = q.1; deadline = q.0 }) f.1.1 ∙ f.0))
+        due_there pending (q.2, f.1.0) (record { number = q.1; deadline = q.0 }) (live_until now requests pending dues) f.1.1 (is_live (q.2, f.1.0) (record { number = q.1; deadline = q.0 }) f.1.1 ∙ f.0))
         ∙ sym (folded_key q [] (flat_map (dues_of now) (records_of heads pending replies))
         ∙ or-false (has_key due_cmp q (flat_map (dues_of now) (records_of heads pending replies)))
         ∙ any_concat q (dues_of now) (records_of heads pending replies)
         ∙ any_head q)
 
     -- what is owed at the live places is what is due in the records, in order
-    pub dues_are : (ds : List Due) → IsStrictlySortedBy due_cmp ds → ((q : Due) → has_key due_cmp q ds ≡ has_key due_cmp q (filter_map (due_at pending) (live_until now pending dues))) → ds ≡ dues_at now (records_of heads pending replies)
+    pub dues_are : (ds : List Due) → IsStrictlySortedBy due_cmp ds → ((q : Due) → has_key due_cmp q ds ≡ has_key due_cmp q (filter_map (due_at pending) (live_until now requests pending dues))) → ds ≡ dues_at now (records_of heads pending replies)
     dues_are ds sorted members =
         same_keys due_total due_exact ds (dues_at now (records_of heads pending replies)) sorted (folded_sorted [] (flat_map (dues_of now) (records_of heads pending replies)) none_sorted) (λ q. members q ∙ same_members q)
 
@@ -278,7 +278,7 @@ module _ (heads : List (ℕ × Open)) (pending : List (Place × Owed)) (dues : D
     among_is k w [] = refl
     among_is k w (p ∷ ps) = λ j. (same_place p.0 p.1 (k, w) ∙ either_way place_total place_exact p k) j || among_is k w ps j
 
-    pub none_amiss : any_entry (is_amiss (live_until now pending dues) now) (records_of heads pending replies) ≡ false
+    pub none_amiss : any_entry (is_amiss (live_until now requests pending dues) now) (records_of heads pending replies) ≡ false
     none_amiss =
-        no_entry (is_amiss (live_until now pending dues) now) heads pending dues replies tied
-        (λ k v h. not_amiss _ (is_due now (entry_of (k, v))) (among_is k v (live_until now pending dues) ∙ is_live k v h))
+        no_entry (is_amiss (live_until now requests pending dues) now) heads pending dues replies tied
+        (λ k v h. not_amiss _ (is_due now (entry_of (k, v))) (among_is k v (live_until now requests pending dues) ∙ is_live k v h))

@@ -1,11 +1,15 @@
 -- The number of the next reply, and the replies that the maps say are in flight.
-use Rattle.std.proofs.Common.{◌≡◌, ℕ, ◌<◌, Bool, true, false, cond, List, [], ◌∷◌, ap, ◌∙◌, refl, Some, None, Option, sym, true≢false, eqb-true}
+use Rattle.std.proofs.Common.{◌≡◌, ℕ, zero, suc, ◌<◌, ◌≤◌, Bool, true, false, cond, List, [], ◌∷◌, length, get_or, ap, ◌∙◌, refl, arith, Some, None, Option, sym, true≢false, eqb-true}
 use Rattle.std.specs.Prelude.{not, nat_lt, ◌==◌}
 use Rattle.std.proofs.lemmas.Bool.{ltb-true, lt-ltb}
 use Rattle.std.specs.Cmp.{nat_cmp_total}
+use Rattle.std.specs.Ordering.{nat_cmp}
 use Rattle.std.specs.Option.{IsSome}
 use Rattle.std.specs.List.{filter, list_any, AllByRecursion}
+use Rattle.std.specs.List.Sorted.{IsStrictlySortedBy}
 use Rattle.std.specs.Map.{keys_of}
+use Rattle.std.proofs.lemmas.Map.Views.{length-le_from_below}
+use Rattle.std.proofs.lemmas.Map.Entries.{length-keys_of}
 use Rattle.std.proofs.lemmas.Map.Lookups.{exact_unsigned}
 use Rattle.zq_query.specs.declared.queries.Open.{Open}
 use Rattle.zq_query.specs.declared.queries.Owed.{Owed}
@@ -30,6 +34,24 @@ none_of n k (e ∷ es) all = none_by n k e es (e.1 == k) all.0 (none_of n k es a
 none_at_all : (n : ℕ) (replies : List (ℕ × ℕ)) (heads : List (ℕ × Open)) → AllByRecursion (λ e. e.0 < n) replies → list_any (λ e. flies_from replies n e.0) heads ≡ false
 none_at_all n replies [] all = refl
 none_at_all n replies (h ∷ heads) all = rw (none_of n h.0 replies all) (none_at_all n replies heads all)
+
+all_below : (n k : ℕ) (ks : List ℕ) (d : ℕ) → AllByRecursion (λ x. x < n) ks → k < length ks → get_or ks k d < n
+all_below n k [] d all l = absurd (omega (arith, l))
+all_below n zero (x ∷ ks) d all l = all.0
+all_below n (suc k) (x ∷ ks) d all l = all_below n k ks d all.1 (omega (arith, l))
+
+-- a fact of each key
+pub all_keys : (P : ℕ → Type 0) (es : List (ℕ × ℕ)) → AllByRecursion (λ e. P e.0) es → AllByRecursion P (keys_of es)
+all_keys P [] all = tt
+all_keys P (e ∷ es) all = (all.0, all_keys P es all.1)
+
+-- no more replies are in flight than there are numbers before the next
+pub most_flying : (next : ℕ) (replies : List (ℕ × ℕ)) → IsStrictlySortedBy nat_cmp (keys_of replies) → ((r n : ℕ) → at_number r replies ≡ Some n → r < next) → length replies ≤ next
+most_flying next replies order below =
+    let all = all_keys (λ x. x < next) replies (each_entry nat_cmp_total exact_unsigned (λ e. e.0 < next) replies order below) in
+    let most = length-le_from_below next (keys_of replies) order (λ k d l. all_below next k (keys_of replies) d all l) in
+    let same = length-keys_of replies in
+    omega (arith, most, same)
 
 module _ (heads : List (ℕ × Open)) (pending : List (Place × Owed)) (dues : Dues) (replies : List (ℕ × ℕ)) (tied : IsTied heads pending dues replies) where
   read : (n : ℕ) → has_reply_from n (records_of heads pending replies) ≡ list_any (λ e. flies_from replies n e.0) heads

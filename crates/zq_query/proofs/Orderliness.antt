@@ -1,27 +1,27 @@
 -- What the maps say keeps the records in order.
-use Rattle.std.proofs.Common.{◌≡◌, ℕ, ◌+◌, ◌<◌, ◌≤◌, Bool, true, false, cond, List, [], ◌∷◌, length, Option, Some, None, refl, sym, ap, subst, ◌∙◌, arith, eqb-true, true≢false}
+use Rattle.std.proofs.Common.{◌≡◌, ℕ, ◌<◌, ◌≤◌, Bool, true, false, cond, List, [], ◌∷◌, length, Option, Some, None, refl, sym, ap, subst, ◌∙◌, arith, eqb-true}
 use Rattle.std.specs.Prelude.{map, not, find, ◌==◌}
-use Rattle.std.specs.Option.{IsSome}
 use Rattle.std.specs.Ordering.{nat_cmp, ordering_then}
-use Rattle.std.specs.Cmp.{nat_cmp_total, nat_eq_equiv}
+use Rattle.std.specs.Cmp.{nat_cmp_total}
 use Rattle.std.specs.declared.cmp.Ordering.{Ordering}
 use Rattle.std.specs.declared.cmp.Ordering.TheVariants.{Less, Equal, Greater}
 use Rattle.std.specs.List.{filter, list_any, cons_option, AllByRecursion}
 use Rattle.std.specs.List.Sorted.{IsStrictlySortedBy}
-use Rattle.std.specs.Map.{keys_of, lookup}
+use Rattle.std.specs.Map.{keys_of}
 use Rattle.std.specs.BTreeMap.{is_at}
 use Rattle.std.proofs.lemmas.Map.Keys.{sorted_head, sorted_tail}
 use Rattle.std.proofs.lemmas.Map.Lookups.{exact_unsigned}
 use Rattle.zq_key.proofs.Lookups.{each_entry, same_key, less_apart}
 use Rattle.zq_query.specs.declared.queries.Open.{Open}
 use Rattle.zq_query.specs.declared.queries.Owed.{Owed}
-use Rattle.zq_query.specs.Records.{QueryState, Record, Pending, has_entry, has_reply, is_entry, is_reply}
+use Rattle.zq_query.specs.Records.{Record, Pending, has_entry, has_reply, is_reply}
 use Rattle.zq_query.specs.Orderly.{AreRising, HasFacesRising, HasRepliesBelow, IsAtMostOne, IsOrderly}
 use Rattle.zq_query.specs.Tables.{Dues, Place, place_cmp, is_of, flies_for, entry_of, record_of, records_of, at_number, at_place, IsTied, IsBelow}
 use Rattle.zq_query.proofs.Keys.{place_total, place_exact}
 use Rattle.zq_query.proofs.Entries.{map_both, has_none, has_no_reply, same_reply}
 use Rattle.zq_query.proofs.Fusion.{none_over}
 use Rattle.zq_query.proofs.Heads.{tidy_only}
+use Rattle.zq_query.proofs.NextReply.{all_keys}
 use Rattle.zq_query.proofs.Putting.{has_not, only_here}
 
 -- ---- lists
@@ -62,10 +62,6 @@ rising_kept_by e es false above rest = rest
 rising_kept : (p : ℕ × ℕ → Bool) (es : List (ℕ × ℕ)) → AreRising (keys_of es) → AreRising (keys_of (filter p es))
 rising_kept p [] s = rising_none
 rising_kept p (e ∷ es) s = rising_kept_by e (filter p es) (p e) (all_kept (λ m. nat_cmp e.0 m ≡ Less) p es (sorted_head nat_cmp e.0 (keys_of es) s)) (rising_kept p es (sorted_tail nat_cmp e.0 (keys_of es) s))
-
-all_keys : (P : ℕ → Type 0) (es : List (ℕ × ℕ)) → AllByRecursion (λ e. P e.0) es → AllByRecursion P (keys_of es)
-all_keys P [] all = tt
-all_keys P (e ∷ es) all = (all.0, all_keys P es all.1)
 
 -- ---- the faces of a record's entries
 place_less : (a b : Place) (r : Ordering) → nat_cmp a.0 b.0 ≡ r → place_cmp a b ≡ Less → (a.0 ≡ b.0 → a.1 ≡ b.1) → nat_cmp a.0 b.0 ≡ Less

@@ -5,6 +5,7 @@ ghost use Rattle.std.specs.Map.{remove_entry, set_value};
 ghost use Rattle.std.specs.Option.{is_some, IsSome, option_map};
 ghost use Rattle.std.specs.Ordering.{nat_cmp};
 ghost use Rattle.std.specs.List.{list_any, cons_option};
+ghost use Rattle.std.specs.List.Sorted.{IsStrictlySortedBy};
 ghost use Rattle.zq_query.specs.Tables.{dues_left, flies_for, place_cmp, due_cmp, at_number, at_place, less_owed, less_flying, more_flying, is_spent, final_at};
 ghost use Rattle.zq_query.specs.declared.records.Final.{Final};
 ghost use Rattle.zq_query.specs.Orderly.{IsOrderly};
@@ -128,7 +129,8 @@ fn first_of(replies: &BTreeMap<u64, u64>, number: u64) -> Option<u64>
 
 /// The members of a set, in order.
 fn listed<K: Copy + Ord>(alloc: Global, set: &BTreeSet<K>) -> Result<Vec<K>, OutOfMemory>
-    ensures { IfOk result (λ list. list.items ≡ set.now.keys) }
+    ensures members { IfOk result (λ list. list.items ≡ set.now.keys) }
+    ensures order { IfOk result (λ list. IsStrictlySortedBy K.cmp list.items) }
 {
     let mut list = Vec::with_capacity(alloc, set.len())?;
     for member in set {
@@ -174,13 +176,6 @@ impl Queries {
         }
     }
 
-    /// What holds of the open requests after every call. It does nothing.
-    pub fn facts(&self)
-        ensures { IsOrderly self.now }
-    {
-        let _ = &self.alloc;
-    }
-
     /// Whether the id is pending at the face.
     pub fn is_pending(&self, face: FaceId, id: u32) -> bool
         ensures { result ≡ is_pending face.0 id self.now.records }
@@ -209,7 +204,7 @@ impl Queries {
     /// Lets the entry go, if it is there: the request's final, if nothing of it is left.
     fn let_go(&mut self, face: u32, id: u32) -> Option<Option<Final>>
         ensures there { OnSome result (is_pending face id self.old.records ≡ true) }
-        ensures records { OnSome result (self.new ≡ record self.old { records = letting_go (is_entry face id) self.old.records }) }
+        ensures records { self.new ≡ record self.old { records = letting_go (is_entry face id) self.old.records } }
         ensures over { IfSome result (λ over. over ≡ over_after (is_entry face id) self.old.records) }
         ensures only { IfSome result (λ over. cons_option over [] ≡ ending_after (is_entry face id) self.old.records) }
         ensures absent { IfNone result (is_pending face id self.old.records ≡ false) }
@@ -226,7 +221,7 @@ impl Queries {
     /// The reply is no longer in flight, if it was: the request's final, if nothing of it is left.
     fn land(&mut self, reply: u64) -> Option<Option<Final>>
         ensures there { OnSome result (is_in_flight reply self.old.records ≡ true) }
-        ensures records { OnSome result (self.new ≡ record self.old { records = landing reply self.old.records }) }
+        ensures records { self.new ≡ record self.old { records = landing reply self.old.records } }
         ensures over { IfSome result (λ over. over ≡ over_after_reply reply self.old.records) }
         ensures only { IfSome result (λ over. cons_option over [] ≡ ending_landed reply self.old.records) }
         ensures absent { IfNone result (is_in_flight reply self.old.records ≡ false) }
@@ -363,7 +358,6 @@ impl Queries {
         ensures ok { OnOk result (self.new ≡ after_put number self.old) }
         ensures err { OnErr result (self.new ≡ self.old) }
     {
-        let _ = self.replies.len();
         match self.replies.insert(self.next_reply, number) {
             Ok(_) => {}
             Err(_) => return Err(OutOfMemory),
@@ -462,22 +456,12 @@ impl Queries {
         }
     }
 
-    /// An entry is let go, if it is there.
-    fn drop_entry(&mut self, face: u32, id: u32)
-        ensures { self.new ≡ record self.old { records = letting_go (is_entry face id) self.old.records } }
-    {
-        let _ = &self.alloc;
-        if let None = self.let_go(face, id) {
-            return;
-        }
-    }
-
     /// The entries at the places are let go.
     fn drop_all(&mut self, places: &[(u32, u32)])
         ensures { self.new ≡ record self.old { records = letting_go_all self.old.records places.now } }
     {
         for place in places {
-            self.drop_entry(place.0, place.1);
+            self.let_go(place.0, place.1);
         }
     }
 
@@ -490,8 +474,9 @@ impl Queries {
         first_of(&self.replies, number)
     }
 
-    /// The least deadline of all pending entries.
+    /// The least deadline of all pending entries. The open requests are in order after every call.
     pub fn next_deadline(&self) -> Option<u64>
+        ensures orderly { IsOrderly self.now }
         ensures there { IfSome result (λ d. has_deadline d self.now.records ≡ true) }
         ensures least { IfSome result (λ d. has_earlier d self.now.records ≡ false) }
         ensures none { IfNone result (owes_any self.now.records ≡ false) }

@@ -49,8 +49,7 @@ fn numbers_in(
 
 /// The numbers as a set.
 fn set_of(alloc: Global, numbers: &[u64]) -> Result<BTreeSet<u64>, OutOfMemory>
-    ensures members { IfOk result (λ set. (n : ℕ) → has_key nat_cmp n set.keys ≡ has_key nat_cmp n numbers.now) }
-    ensures order { IfOk result (λ set. IsStrictlySortedBy nat_cmp set.keys) }
+    ensures { IfOk result (λ set. (n : ℕ) → has_key nat_cmp n set.keys ≡ has_key nat_cmp n numbers.now) }
 {
     let mut set = BTreeSet::new(alloc);
     for number in numbers {
@@ -59,7 +58,6 @@ fn set_of(alloc: Global, numbers: &[u64]) -> Result<BTreeSet<u64>, OutOfMemory>
             Err(_) => return Err(OutOfMemory),
         }
     }
-    let _ = set.len();
     Ok(set)
 }
 

@@ -59,17 +59,18 @@ fn is_owed_at(pending: &BTreeMap<(u32, u32), Owed>, place: (u32, u32), number: u
     }
 }
 
-/// The places of the entries that are due.
+/// The places of the entries that are due, of the requests below this number.
 fn live_in(
     alloc: Global,
     pending: &BTreeMap<(u32, u32), Owed>,
     dues: &BTreeMap<(u64, u64), PlaceList>,
     now: u64,
+    requests: u64,
 ) -> Result<Vec<(u32, u32)>, OutOfMemory>
-    ensures { IfOk result (λ live. live.items ≡ live_until now pending.now.entries dues.now.entries) }
+    ensures { IfOk result (λ live. live.items ≡ live_until now requests pending.now.entries dues.now.entries) }
 {
     let mut live = Vec::new(alloc);
-    for (due, places) in dues.range(..=(now, u64::MAX)) {
+    for (due, places) in dues.range(..(now, requests)) {
         push_live(&mut live, pending, places.as_slice(), due.1)?;
     }
     Ok(live)
@@ -98,8 +99,7 @@ fn dues_set(
     pending: &BTreeMap<(u32, u32), Owed>,
     places: &[(u32, u32)],
 ) -> Result<BTreeSet<(u64, u64, u32)>, OutOfMemory>
-    ensures members { IfOk result (λ set. (q : Due) → has_key due_cmp q set.keys ≡ has_key due_cmp q (filter_map (due_at pending.now.entries) places.now)) }
-    ensures order { IfOk result (λ set. IsStrictlySortedBy due_cmp set.keys) }
+    ensures { IfOk result (λ set. (q : Due) → has_key due_cmp q set.keys ≡ has_key due_cmp q (filter_map (due_at pending.now.entries) places.now)) }
 {
     let mut set = BTreeSet::new(alloc);
     for place in places {
@@ -108,7 +108,6 @@ fn dues_set(
             Err(_) => return Err(OutOfMemory),
         }
     }
-    let _ = set.len();
     Ok(set)
 }
 
@@ -159,19 +158,9 @@ impl Queries {
     fn dues_by(&self, now: u64) -> Result<Vec<(u64, u64, u32)>, OutOfMemory>
         ensures { IfOk result (λ dues. dues.items ≡ dues_at now self.now.records) }
     {
-        let _requests = self.requests;
-        let places = live_in(self.alloc, &self.pending, &self.dues, now)?;
+        let places = live_in(self.alloc, &self.pending, &self.dues, now, self.requests)?;
         let dues = dues_in(self.alloc, &self.pending, places.as_slice())?;
         Ok(dues)
-    }
-
-    /// The places of the entries that are due.
-    fn places_by(&self, now: u64) -> Result<Vec<(u32, u32)>, OutOfMemory>
-        ensures { IfOk result (λ places. any_entry (is_amiss places.items now) self.now.records ≡ false) }
-    {
-        let _requests = self.requests;
-        let places = live_in(self.alloc, &self.pending, &self.dues, now)?;
-        Ok(places)
     }
 
     /// The timeout of an entry that is due, with this reply number if it takes one.
@@ -226,23 +215,13 @@ impl Queries {
         }
     }
 
-    /// The reply is no longer in flight, if it was.
-    fn land_if(&mut self, reply: u64)
-        ensures { self.new ≡ record self.old { records = landing reply self.old.records } }
-    {
-        let _ = &self.alloc;
-        if let None = self.land(reply) {
-            return;
-        }
-    }
-
     /// The replies from the first on are no longer in flight.
     fn land_from(&mut self, first: u64, count: u64)
         requires { first + count < 2 ^ 64 }
         ensures { self.new ≡ record self.old { records = landing_from first count self.old.records } }
     {
         for step in 0..count {
-            self.land_if(first + (count - 1 - step));
+            self.land(first + (count - 1 - step));
         }
     }
 
@@ -300,8 +279,7 @@ impl Queries {
         ensures quiet { OnOk result (finals_after (is_due now) (timing_out (timeouts now self.old) self.old).closed (timing_out (timeouts now self.old) self.old).records ≡ []) }
         ensures err { OnErr result (self.new ≡ self.old) }
     {
-        let _ = &self.alloc;
-        let places = self.places_by(now)?;
+        let places = live_in(self.alloc, &self.pending, &self.dues, now, self.requests)?;
         self.put_timeouts(list)?;
         self.drop_all(places.as_slice());
         Ok(())

@@ -1,6 +1,6 @@
-use Rattle.std.proofs.Common.{◌≡◌, ◌∙◌, None, Some, sym, ap, subst, nat_eq, true≢false}
+use Rattle.std.proofs.Common.{◌∙◌, sym, ap, subst, true≢false}
 use Rattle.std.specs.BTreeMap.{is_at}
-use Rattle.std.specs.Map.{lookup, set_value}
+use Rattle.std.specs.Map.{set_value}
 use Rattle.std.specs.Option.{IsSome, option_copied_mut}
 use Rattle.std.specs.Ordering.{nat_cmp}
 use Rattle.zq_query.specs.ByNumber.{ByNumber}

@@ -7,6 +7,6 @@ pub loop-place-preserved : goal.loop-place-preserved
 loop-place-preserved c =
     let s = c.args.self.now in
     let p : ℕ × ℕ = get_or c.args.places.now c.loop-place.place-index (0, 0) in
-    c.drop_entry.ensures
+    c.let_go.ensures.records
     ∙ ap (λ (z : QueryState). record z { records = letting_go (is_entry p.0 p.1) z.records }) c.loop-place.invariant
     ∙ ap (λ (l : List Record). record s { records = l }) (sym (fold_more (λ (l : List Record) (q : ℕ × ℕ). letting_go (is_entry q.0 q.1) l) s.records c.args.places.now c.loop-place.place-index (0, 0) c.loop-place-test.true))

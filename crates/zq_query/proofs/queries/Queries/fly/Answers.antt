@@ -4,6 +4,7 @@ use Rattle.zq_query.specs.Records.{QueryState, Record, has_number, after_put}
 use Rattle.std.specs.List.{list_any}
 use Rattle.zq_query.proofs.Owing.{head_of}
 use Rattle.zq_query.proofs.Putting.{next_is_new, records_put, tied_put, below_put, fits_by}
+use Rattle.zq_query.proofs.NextReply.{most_flying}
 use Rattle.zq_query.proofs.queries.Queries.fly.Goals as goal
 
 pub fly_more-requires : goal.fly_more-requires
@@ -11,10 +12,10 @@ fly_more-requires c =
     let i = c.self.inside in
     let h = head_of c.args.number i.heads.entries i.pending.entries i.replies.entries (ap (λ (s : QueryState). list_any (has_number c.args.number) s.records) c.self.view_is ∙ c.requires.there) in
     let flying = (c.self.invariant.0.counted c.args.number h.0 h.1).flying in
-    let most = fits_by (flies_for c.args.number) i.replies.entries in
-    let len = c.len.ensures.len in
-    let small = c.len.ensures.small in
-    (h.0, h.1, omega (arith, flying, most, len, small))
+    let some = fits_by (flies_for c.args.number) i.replies.entries in
+    let all = most_flying i.next_reply i.replies.entries c.self.invariant.0.flights c.self.invariant.1.flights in
+    let fits = ap (λ (s : QueryState). s.replies) c.self.view_is in
+    (h.0, h.1, omega (arith, flying, some, all, fits, c.requires.fits))
 
 pub invariant_of-self-2 : goal.invariant_of-self-2
 invariant_of-self-2 c =

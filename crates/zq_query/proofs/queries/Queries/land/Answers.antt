@@ -1,11 +1,13 @@
 use Rattle.std.specs.List.{cons_option}
 use Rattle.zq_query.specs.declared.records.Final.{Final}
-use Rattle.std.proofs.Common.{Option, [], ◌≡◌, ◌∙◌, sym, ap, None, List}
+use Rattle.std.proofs.Common.{Option, [], ◌≡◌, ◌∙◌, sym, ap, None, List, false}
 use Rattle.std.specs.Option.{is_some}
 use Rattle.zq_query.specs.Tables.{at_number, records_of}
-use Rattle.zq_query.specs.Records.{ending_landed, QueryState, Record, is_in_flight, landing, over_after_reply}
+use Rattle.zq_query.specs.Records.{ending_landed, QueryState, Record, any_over, is_in_flight, landing, over_after_reply}
 use Rattle.zq_query.proofs.Entries.{flying_is}
 use Rattle.zq_query.proofs.Letting.{only_landed, carrier, settled, tied_landed, below_landed, records_landed, final_landed}
+use Rattle.zq_query.proofs.Flying.{landing_none}
+use Rattle.zq_query.proofs.Fusion.{none_over}
 use Rattle.zq_query.proofs.queries.Queries.land.Goals as goal
 
 pub invariant_of-self : goal.invariant_of-self
@@ -21,6 +23,14 @@ returns-in_default-clause-absent c =
 
 pub returns-in_default-clause-none : goal.returns-in_default-clause-none
 returns-in_default-clause-none c = rw (c.in_default.ensures.unchanged) c.self.view_is
+
+pub returns-in_default-clause-records : goal.returns-in_default-clause-records
+returns-in_default-clause-records c =
+    let i = c.self.inside in
+    let s = c.args.self.now in
+    let left : any_over s.records ≡ false = ap (λ (z : QueryState). any_over z.records) (sym c.self.view_is) ∙ none_over i.heads.entries i.pending.entries i.dues.entries i.replies.entries c.self.invariant.0 in
+    returns-in_default-clause-none c
+    ∙ ap (λ (l : List Record). record s { records = l }) (sym (landing_none c.args.reply s.records (returns-in_default-clause-absent c) left))
 
 pub returns-clause-there : goal.returns-clause-there
 returns-clause-there c =

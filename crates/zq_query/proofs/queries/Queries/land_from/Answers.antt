@@ -14,6 +14,6 @@ loop-step-preserved c =
     let at : ℕ = c.args.first + (c.args.count - (k + 1)) in
     let here : c.args.first + (c.args.count - 1 - k) ≡ at = omega (arith, t) in
     let above : c.args.first + (c.args.count - k) ≡ at + 1 = omega (arith, t) in
-    c.land_if.ensures
+    c.land.ensures.records
     ∙ (λ j. record (c.loop-step.invariant j) { records = landing (here j) (c.loop-step.invariant j).records })
     ∙ ap (λ (l : List Record). record s { records = l }) (sym (from_step at (c.args.first + (c.args.count - k)) k (k + 1) s.records above (omega arith)))

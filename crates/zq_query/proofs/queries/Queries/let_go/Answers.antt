@@ -6,6 +6,7 @@ use Rattle.zq_query.specs.Tables.{at_place, records_of}
 use Rattle.zq_query.specs.Records.{ending_after, QueryState, Record, is_pending, is_entry, letting_go, over_after}
 use Rattle.zq_query.proofs.Entries.{pending_is}
 use Rattle.zq_query.proofs.Letting.{only_let_go, head, settled, tied_let_go, below_let_go, records_let_go, final_let_go}
+use Rattle.zq_query.proofs.Fusion.{letting_none}
 use Rattle.zq_query.proofs.queries.Queries.let_go.Goals as goal
 
 pub invariant_of-self : goal.invariant_of-self
@@ -21,6 +22,15 @@ returns-in_default-clause-absent c =
 
 pub returns-in_default-clause-none : goal.returns-in_default-clause-none
 returns-in_default-clause-none c = rw (c.in_default.ensures.unchanged) c.self.view_is
+
+pub returns-in_default-clause-records : goal.returns-in_default-clause-records
+returns-in_default-clause-records c =
+    let i = c.self.inside in
+    let none = ap (λ (s : QueryState). is_pending c.args.face c.args.id s.records) c.self.view_is ∙ returns-in_default-clause-absent c in
+    let shown : List Record → QueryState = λ l. record { records = l; last_ids = i.last_ids.entries; closed = i.closed.keys; requests = i.requests; replies = i.next_reply; request_ids = i.request_ids } in
+    returns-in_default-clause-none c ∙ sym c.self.view_is
+    ∙ ap shown (sym (letting_none i.heads.entries i.pending.entries i.dues.entries i.replies.entries c.self.invariant.0 c.args.face c.args.id none))
+    ∙ ap (λ (s : QueryState). record s { records = letting_go (is_entry c.args.face c.args.id) s.records }) c.self.view_is
 
 pub returns-clause-there : goal.returns-clause-there
 returns-clause-there c =

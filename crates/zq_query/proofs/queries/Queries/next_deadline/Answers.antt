@@ -1,9 +1,11 @@
-use Rattle.std.proofs.Common.{◌≡◌, ◌∙◌, sym, ap, true≢false, [], ◌==◌}
+use Rattle.std.proofs.Common.{◌≡◌, ◌∙◌, sym, ap, subst, true≢false, [], ◌==◌}
 use Rattle.std.specs.Cmp.{nat_eq_equiv}
 use Rattle.std.specs.Option.{is_some}
 use Rattle.zq_query.specs.Tables.{Place}
 use Rattle.zq_query.specs.Records.{QueryState, Pending, has_deadline, has_earlier, owes_any}
 use Rattle.zq_query.proofs.Fusion.{an_entry, none_earlier, owes_none, nil_from}
+use Rattle.zq_query.specs.Orderly.{IsOrderly}
+use Rattle.zq_query.proofs.Orderliness.{orderly}
 use Rattle.zq_query.proofs.queries.Queries.next_deadline.Goals as goal
 
 pub returns-in-Some-clause-there : goal.returns-in-Some-clause-there
@@ -24,3 +26,15 @@ returns-in-None-clause-none c =
     let i = c.self.inside in
     let empty : i.dues.entries ≡ [] = nil_from i.dues.entries (λ l. true≢false (sym (c.first_key_value.ensures.variant.1 l) ∙ ap is_some c.in-None.is)) in
     sym (ap (λ (s : QueryState). owes_any s.records) c.self.view_is) ∙ owes_none i.heads.entries i.pending.entries i.dues.entries i.replies.entries c.self.invariant.0 empty
+
+pub returns-in-Some-clause-orderly : goal.returns-in-Some-clause-orderly
+returns-in-Some-clause-orderly c =
+    let i = c.self.inside in
+    subst (λ s. IsOrderly s) c.self.view_is
+    (orderly i.heads.entries i.pending.entries i.dues.entries i.replies.entries c.self.invariant.0 i.requests i.next_reply c.self.invariant.1 i.last_ids.entries i.closed.keys i.request_ids)
+
+pub returns-in-None-clause-orderly : goal.returns-in-None-clause-orderly
+returns-in-None-clause-orderly c =
+    let i = c.self.inside in
+    subst (λ s. IsOrderly s) c.self.view_is
+    (orderly i.heads.entries i.pending.entries i.dues.entries i.replies.entries c.self.invariant.0 i.requests i.next_reply c.self.invariant.1 i.last_ids.entries i.closed.keys i.request_ids)

@@ -1,7 +1,7 @@
 use Rattle.std.proofs.Common.{◌≡◌, ◌∙◌, ◌++◌, ◌∷◌, [], ℕ, Option, ◌<◌, ◌^◌, sym, ap, subst, get_or, map, take}
 use Rattle.std.specs.Option.{unwrap_or, is_some}
 use Rattle.std.specs.Prelude.{not, ◌||◌}
-use Rattle.std.proofs.lemmas.List.Folds.{list_any_more, list_any_at}
+use Rattle.std.proofs.lemmas.List.Folds.{list_any_more}
 use Rattle.zq_message.specs.declared.message.FaceId.{FaceId}
 use Rattle.zq_query.specs.Asking.{given_id, given_place, is_full}
 use Rattle.std.specs.List.{AllByRecursion}
