@@ -147,7 +147,7 @@ fn request_message(
 {
     Ok(Request {
         id,
-        wire: names.best(offer.face, text.as_str())?,
+        wire: names.best(offer.face, text)?,
         target: request.target,
         timeout: request.timeout,
         node: offer.node,

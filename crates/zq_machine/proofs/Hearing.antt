@@ -14,7 +14,7 @@ use Rattle.zq_message.specs.declared.message.Mapping.{Mapping}
 use Rattle.zq_message.specs.declared.message.Mapping.TheVariants as mapping
 use Rattle.zq_names.specs.Texts.{cut_at_star, is_star_byte, nonwild, parent_of, parent_to}
 use Rattle.zq_tables.specs.FaceIds.{next_id}
-use Rattle.zq_tables.specs.FaceTexts.{is_text, known, known_choice, least_name, names_text, new_choice, or_else, tagged, whole_key, with_declared}
+use Rattle.zq_tables.specs.FaceTexts.{declared_key, is_text, known, known_choice, least_name, names_text, new_choice, or_else, prefix_key, tagged, whole_key, with_declared}
 use Rattle.zq_tables.specs.declared.decl.DeclKey.{DeclKey}
 use Rattle.zq_tables.proofs.IdLemmas.{free_from-least, of_id-with_id}
 use Rattle.zq_tables.specs.declared.said.Said.TheVariants as said
@@ -26,7 +26,7 @@ use Rattle.zq_machine.specs.Hearing.{CanBeTold, body_says, has_text, hear, heard
 use Rattle.zq_machine.specs.Messages.{Telling, TellingBody, all_told, key_ended, key_told}
 use Rattle.zq_machine.specs.Selecting.{full_text}
 use Rattle.zq_machine.specs.State.{Core}
-use Rattle.zq_machine.specs.Writing.{and_then, is_local_face, key_for, may_number, part_key, tell, tell_body, tell_declare, tell_number, told_key, with_told_number}
+use Rattle.zq_machine.specs.Writing.{and_then, is_local_face, may_number, tell, tell_body, tell_declare, tell_number, told_key, with_told_number}
 use Rattle.zq_machine.proofs.Changing.{found_here, itself, naming_changed, there}
 
 -- ---- a key is read as the text that was told
@@ -126,12 +126,12 @@ module _ (n : FaceNaming) (text : List ℕ) (some : 0 < length text) where
   known_reads p e true None k = new_reads p e (next_id n.theirs n.ours) refl
   known_reads p e false None k = reads_plainly n text some
 
-  part_reads : (may : Bool) (p : List ℕ) → nonwild text ≡ p → Reads (part_key n may text p)
+  part_reads : (may : Bool) (p : List ℕ) → nonwild text ≡ p → Reads (prefix_key n may text p)
   part_reads may [] e = reads_plainly n text some
   part_reads may (b ∷ p) e = known_reads (b ∷ p) e may (known n (b ∷ p)) refl
 
   -- by the numbers that stand once the new one is declared
-  pub key_reads : (local may : Bool) → Reads (key_for n local may text)
+  pub key_reads : (local may : Bool) → Reads (declared_key n local may text)
   key_reads true may = reads_plainly n text some
   key_reads false may = part_reads may (nonwild text) refl
 

@@ -1,5 +1,5 @@
 -- How texts become expressions: messages as they are handed and leave, and what faces are told, with the numbers that are declared for it.
-use Rattle.std.specs.Prelude.{ℕ, Bool, true, false, List, [], ◌∷◌, ◌++◌, map, drop, length, Option, Some, None, if◌then◌else◌, unwrap_or}
+use Rattle.std.specs.Prelude.{ℕ, Bool, true, false, List, [], ◌∷◌, ◌++◌, map, Option, Some, None}
 use Rattle.std.specs.Option.{option_map_or}
 use Rattle.std.specs.List.{list_any}
 use Rattle.zq_message.specs.declared.message.Declare.{Declare}
@@ -10,12 +10,12 @@ use Rattle.zq_message.specs.declared.message.Message.TheVariants as message
 use Rattle.zq_message.specs.declared.message.Region.{Region}
 use Rattle.zq_message.specs.declared.message.Region.TheVariants as region
 use Rattle.zq_names.specs.Texts.{nonwild}
-use Rattle.zq_tables.specs.FaceTexts.{known, known_choice, whole_key, with_declared}
+use Rattle.zq_tables.specs.FaceTexts.{declared_key, with_declared}
 use Rattle.zq_tables.specs.declared.decl.DeclKey.{DeclKey}
 use Rattle.zq_query.specs.declared.records.Final.{Final}
 use Rattle.zq_query.specs.Closing.{finals_after}
 use Rattle.zq_query.specs.Records.{Pending, is_entry, letting_go}
-use Rattle.zq_tables.specs.Naming.{FaceKeys, FaceNaming, NamingState, best, change_naming, face_keys, face_naming, plain}
+use Rattle.zq_tables.specs.Naming.{FaceKeys, NamingState, best, change_naming, face_keys, face_naming, plain}
 use Rattle.zq_machine.specs.Handing.{Handed}
 use Rattle.zq_machine.specs.declared.face.OpenFace.{OpenFace}
 use Rattle.zq_machine.specs.Messages.{Telling, TellingBody, TextMessage, TextReply, TextRequest, all_told, key_ended, key_told, text_final, text_reply, text_request}
@@ -159,18 +159,9 @@ is_local_face to c = option_map_or (λ (o : OpenFace). is_local_region o.region)
 abbrev pub may_number : FaceId → List ℕ → Core → Bool
 may_number to part c = option_map_or (λ (o : OpenFace). numbers_region o.region) (at to.0 c.faces) false
 
--- how a text is told by its part without a `*`: by the number that the part has, by a new number for it, or whole
-abbrev pub part_key : FaceNaming → Bool → List ℕ → List ℕ → DeclKey
-part_key n may text [] = whole_key text
-part_key n may text (b ∷ part) = unwrap_or (known_choice n may (drop (length (b ∷ part)) text) (known n (b ∷ part))) (whole_key text)
-
--- how a text is told to a face with these numbers
-abbrev pub key_for : FaceNaming → Bool → Bool → List ℕ → DeclKey
-key_for n local may text = if local then whole_key text else part_key n may text (nonwild text)
-
 -- how a text is told to a face
 abbrev pub told_key : Core → FaceId → List ℕ → NamingState → DeclKey
-told_key c to text names = key_for (face_naming to.0 names) (is_local_face to c) (may_number to (nonwild text) c) text
+told_key c to text names = declared_key (face_naming to.0 names) (is_local_face to c) (may_number to (nonwild text) c) text
 
 -- a face is told a key by a message of the key's expression; a new number is declared directly before it
 abbrev pub tell_by : Core → FaceId → List ℕ → (DeclKey → Declare) → NamingState → Told
