@@ -1,5 +1,5 @@
 -- Texts whose ends differ don't meet, and neither includes the other.
-use Rattle.std.proofs.Common.{◌≡◌, ℕ, ◌≤◌, Bool, true, false, not, cond, eqb, is_none, ◌&&◌, ◌||◌, List, [], ◌∷◌, ◌++◌, take, reverse, get_or, Option, Some, None, refl, sym, ap, ◌∙◌, arith, append_assoc}
+use Rattle.std.proofs.Common.{◌≡◌, ℕ, ◌≤◌, Bool, true, false, not, cond, eqb, is_none, ◌&&◌, ◌||◌, List, [], ◌∷◌, ◌++◌, take, reverse, get_or, Option, Some, None, ◌⊎◌, inl, inr, ◌==◌, refl, sym, ap, ◌∙◌, arith, append_assoc}
 use Rattle.std.specs.List.{onto_first, list_all}
 use Rattle.std.specs.Str.{bytes_eq}
 use Rattle.std.proofs.Math.Bool.{and-false, or-false}
@@ -13,10 +13,12 @@ use Rattle.zq_key.specs.Match.{meets_by}
 use Rattle.zq_key.specs.Walk.{never}
 use Rattle.zq_key.specs.Key.{chunks, parts, parts_meet, same_part, is_verbatim, is_star, is_stars, chunk_meets, chunk_covers}
 use Rattle.zq_key.specs.Chunks.{trim, chunks_left, keys_relate}
-use Rattle.zq_key.specs.Ends.{is_edge, heads_differ, ends_differ}
+use Rattle.zq_key.specs.Ends.{heads_differ, ends_differ}
 use Rattle.zq_key.specs.declared.key.Relation.{Relation}
 use Rattle.zq_key.specs.declared.key.Relation.TheVariants.{Meets, Covers}
-use Rattle.zq_key.proofs.Lawful.{covers-meets, chunk_covers-meets}
+use Rattle.zq_key.proofs.Lawful.{covers-meets, chunk_covers-self, chunk_covers-meets}
+use Rattle.zq_key.proofs.Chunks.{split-more}
+use Rattle.zq_key.proofs.Behind.{chunks-behind}
 use Rattle.zq_key.proofs.Spelling.{somes}
 
 -- ---- lists whose last parts are not wild
@@ -57,16 +59,41 @@ meets-ends w f e (u ∷ xs) (v ∷ ys) x y wx wy =
     rw (meets-ends w f e xs (v ∷ ys) x y wx wy, meets-ends w f e (u ∷ xs) ys x y wx wy, meets-ends w f e xs ys x y wx wy)
     (both_go (w u) (w v) (not (f v)) (not (f u)) (e u v) (e x y) (meets_by w f e xs (v ∷ ys)) (meets_by w f e (u ∷ xs) ys) (meets_by w f e xs ys))
 
+-- the same parts behind both lists change nothing, where these are not wild and agree with themselves
+meets-same_end : {A : Type 0} (w f : A → Bool) (e : A → A → Bool) (p : A → Bool) (tame : (x : A) → p x ≡ true → w x ≡ false) (same : (x : A) → p x ≡ true → e x x ≡ true) (z a b : List A) → list_all p z ≡ true → meets_by w f e (a ++ z) (b ++ z) ≡ meets_by w f e a b
+meets-same_end w f e p tame same [] a b h = rw (append-nil a, append-nil b) refl
+meets-same_end w f e p tame same (x ∷ z) a b h =
+    let k = and_parts (p x) (list_all p z) h in
+    let more : meets_by w f e ((a ++ x ∷ []) ++ z) ((b ++ x ∷ []) ++ z) ≡ meets_by w f e (a ++ x ∷ []) (b ++ x ∷ []) = meets-same_end w f e p tame same z (a ++ x ∷ []) (b ++ x ∷ []) k.1 in
+    let last : meets_by w f e (a ++ x ∷ []) (b ++ x ∷ []) ≡ (e x x && meets_by w f e a b) = meets-ends w f e a b x x (tame x k.0) (tame x k.0) in
+    rw (append_assoc a (x ∷ []) z, append_assoc b (x ∷ []) z) at more ∙ (last ∙ (rw (same x k.0) refl))
+
 -- ---- chunks
 
--- the same characters behind both change nothing
+is_some_part : Option ℕ → Bool
+is_some_part x = not (is_none x)
+
+some_tame : (x : Option ℕ) → is_some_part x ≡ true → is_none x ≡ false
+unfolding is_some_part
+some_tame None h = absurd (false≢true h)
+some_tame (Some c) h = refl
+
+some_same : (x : Option ℕ) → is_some_part x ≡ true → same_part x x ≡ true
+unfolding is_some_part
+some_same None h = absurd (false≢true h)
+some_same (Some c) h = (Decides-eqb c c).1 refl
+
+somes_all : (s : List ℕ) → list_all is_some_part (somes s) ≡ true
+unfolding is_some_part
+somes_all [] = refl
+somes_all (c ∷ s) = somes_all s
+
 parts_meet-behind : (s : List ℕ) (a b : List (Option ℕ)) → parts_meet (a ++ somes s) (b ++ somes s) ≡ parts_meet a b
-parts_meet-behind [] a b = rw (append-nil a, append-nil b) refl
-parts_meet-behind (c ∷ s) a b =
-    let same : eqb c c ≡ true = (Decides-eqb c c).1 refl in
-    let more : parts_meet ((a ++ Some c ∷ []) ++ somes s) ((b ++ Some c ∷ []) ++ somes s) ≡ parts_meet (a ++ Some c ∷ []) (b ++ Some c ∷ []) = parts_meet-behind s (a ++ Some c ∷ []) (b ++ Some c ∷ []) in
-    let last : parts_meet (a ++ Some c ∷ []) (b ++ Some c ∷ []) ≡ (eqb c c && parts_meet a b) = meets-ends is_none never same_part a b (Some c) (Some c) refl refl in
-    rw (append_assoc a (Some c ∷ []) (somes s), append_assoc b (Some c ∷ []) (somes s)) at more ∙ (last ∙ (rw same refl))
+parts_meet-behind s a b = meets-same_end is_none never same_part is_some_part some_tame some_same (somes s) a b (somes_all s)
+
+-- whether a byte is `*` or `/`
+abbrev pub is_edge : ℕ → Bool
+is_edge c = eqb c 42 || eqb c 47
 
 abbrev pub is_inner : ℕ → Bool
 is_inner c = not (is_edge c)
@@ -158,24 +185,98 @@ has_last (c ∷ p) t i = at (eqb c 47) (has_last p t i)
     at false ([], h, is) = ([], c ∷ h, rw is refl)
     at false (d ∷ cs, h, is) = ((c ∷ d) ∷ cs, h, rw is refl)
 
--- a last chunk that is not empty is left
-trim-last : (cs : List (List ℕ)) (h s : List ℕ) (x : ℕ) → trim (cs ++ (h ++ x ∷ s) ∷ []) ≡ cs ++ (h ++ x ∷ s) ∷ []
-trim-last [] [] s x = refl
-trim-last [] (c ∷ h) s x = refl
-trim-last ([] ∷ []) h s x = ap (λ r. [] ∷ r) (trim-last [] h s x)
-trim-last ((c ∷ d) ∷ []) h s x = ap (λ r. (c ∷ d) ∷ r) (trim-last [] h s x)
-trim-last ([] ∷ e ∷ cs) h s x = ap (λ r. [] ∷ r) (trim-last (e ∷ cs) h s x)
-trim-last ((c ∷ d) ∷ e ∷ cs) h s x = ap (λ r. (c ∷ d) ∷ r) (trim-last (e ∷ cs) h s x)
+-- the last chunk alone may fall away
+trim-front : (cs : List (List ℕ)) (d : List ℕ) (ds : List (List ℕ)) → trim (cs ++ d ∷ ds) ≡ cs ++ trim (d ∷ ds)
+trim-front [] d ds = refl
+trim-front ([] ∷ []) d ds = refl
+trim-front ((c ∷ e) ∷ []) d ds = refl
+trim-front ([] ∷ e ∷ cs) d ds = ap (λ r. [] ∷ r) (trim-front (e ∷ cs) d ds)
+trim-front ((c ∷ f) ∷ e ∷ cs) d ds = ap (λ r. (c ∷ f) ∷ r) (trim-front (e ∷ cs) d ds)
 
-texts-apart : (p q s : List ℕ) (x y : ℕ) → list_all is_inner s ≡ true → is_inner x ≡ true → is_inner y ≡ true → eqb x y ≡ false → meets_by is_stars is_verbatim chunk_meets (chunks_left (p ++ x ∷ s)) (chunks_left (q ++ y ∷ s)) ≡ false
-unfolding chunks_left
+trim-one : (h s : List ℕ) (x : ℕ) → trim ((h ++ x ∷ s) ∷ []) ≡ (h ++ x ∷ s) ∷ []
+trim-one [] s x = refl
+trim-one (c ∷ h) s x = refl
+
+texts-apart : (p q s : List ℕ) (x y : ℕ) → list_all is_inner s ≡ true → is_inner x ≡ true → is_inner y ≡ true → eqb x y ≡ false → meets_by is_stars is_verbatim chunk_meets (chunks (p ++ x ∷ s)) (chunks (q ++ y ∷ s)) ≡ false
 texts-apart p q s x y i ix iy xy = at (has_last p (x ∷ s) (rw ix i)) (has_last q (y ∷ s) (rw iy i))
   where
-    at : HasLast p (x ∷ s) → HasLast q (y ∷ s) → meets_by is_stars is_verbatim chunk_meets (trim (chunks (p ++ x ∷ s))) (trim (chunks (q ++ y ∷ s))) ≡ false
+    at : HasLast p (x ∷ s) → HasLast q (y ∷ s) → meets_by is_stars is_verbatim chunk_meets (chunks (p ++ x ∷ s)) (chunks (q ++ y ∷ s)) ≡ false
     at (cs, h, is) (ds, g, js) =
-        rw (is, js, trim-last cs h s x, trim-last ds g s y)
+        rw (is, js)
         (meets-ends is_stars is_verbatim chunk_meets cs ds (h ++ x ∷ s) (g ++ y ∷ s) (not_stars h s (42 ∷ 42 ∷ []) x ix refl) (not_stars g s (42 ∷ 42 ∷ []) y iy refl)
         ∙ (rw (chunk-apart h g s x y i ix iy xy) refl))
+
+-- nothing falls away where the last chunk has a byte
+left-whole : (p s : List ℕ) (x : ℕ) → list_all is_inner s ≡ true → is_inner x ≡ true → chunks_left (p ++ x ∷ s) ≡ chunks (p ++ x ∷ s)
+unfolding chunks_left
+left-whole p s x i ix = at (has_last p (x ∷ s) (rw ix i))
+  where
+    at : HasLast p (x ∷ s) → trim (chunks (p ++ x ∷ s)) ≡ chunks (p ++ x ∷ s)
+    at (cs, h, is) = rw (is, trim-front cs (h ++ x ∷ s) [], trim-one h s x) refl
+
+-- ---- behind a `/`
+
+abbrev pub is_tame : ℕ → Bool
+is_tame c = not (eqb c 42)
+
+are_tame : List ℕ → Bool
+are_tame z = list_all is_tame z
+
+tame_chunk : (z : List ℕ) → are_tame z ≡ true → is_stars z ≡ false
+unfolding are_tame
+tame_chunk z h = false_from_ne_true (is_stars z) (λ k. let e = (bytes_eq-Decides z (42 ∷ 42 ∷ [])).0 k in false≢true (rw e at h))
+
+tame_meets : (z : List ℕ) → are_tame z ≡ true → chunk_meets z z ≡ true
+tame_meets z h = chunk_covers-meets z z (chunk_covers-self z (tame_chunk z h))
+
+tame_chunks : (t : List ℕ) → list_all is_tame t ≡ true → list_all are_tame (chunks t) ≡ true
+unfolding are_tame
+tame_chunks [] h = refl
+tame_chunks (c ∷ t) h =
+    let k = and_parts (is_tame c) (list_all is_tame t) h in
+    at (eqb c 47) k.0 (tame_chunks t k.1) (split-more (λ z. z == 47) t)
+  where
+    at : (b : Bool) → is_tame c ≡ true → list_all are_tame (chunks t) ≡ true → ((first : List ℕ) × (rest : List (List ℕ)) × (chunks t ≡ (first ∷ rest))) → list_all are_tame (cond b ([] ∷ chunks t) (onto_first c (chunks t))) ≡ true
+    at true m ih more = ih
+    at false m ih (first, rest, is) = rw (is, m) (rw is at ih)
+
+tame_left : (l : List (List ℕ)) → list_all are_tame l ≡ true → list_all are_tame (trim l) ≡ true
+unfolding are_tame
+tame_left [] h = refl
+tame_left ([] ∷ []) h = refl
+tame_left ((c ∷ d) ∷ []) h = h
+tame_left ([] ∷ e ∷ l) h = tame_left (e ∷ l) h
+tame_left ((c ∷ d) ∷ e ∷ l) h = let k = and_parts (are_tame (c ∷ d)) (list_all are_tame (e ∷ l)) h in rw (k.0, tame_left (e ∷ l) k.1) refl
+
+left-behind : (n k : List ℕ) → chunks_left (n ++ 47 ∷ k) ≡ chunks n ++ trim (chunks k)
+unfolding chunks_left
+left-behind n k = let s = split-more (λ z. z == 47) k in rw (chunks-behind n k, s.2) (trim-front (chunks n) s.0 s.1)
+
+-- a text without `*` has no `/`, or a first one
+abbrev pub Cut : List ℕ → Type 0
+Cut s = (list_all is_inner s ≡ true) ⊎ ((t : List ℕ) × (k : List ℕ) × (s ≡ t ++ 47 ∷ k) × (list_all is_inner t ≡ true) × (list_all is_tame k ≡ true))
+
+cut : (s : List ℕ) → list_all is_tame s ≡ true → Cut s
+cut [] h = inl refl
+cut (c ∷ s) h = let k = and_parts (is_tame c) (list_all is_tame s) h in at (eqb c 47) refl (not-true (eqb c 42) k.0) k.1 (cut s k.1)
+  where
+    at : (b : Bool) → eqb c 47 ≡ b → eqb c 42 ≡ false → list_all is_tame s ≡ true → Cut s → Cut (c ∷ s)
+    at true e m tame rest = inr ([], s, ap (λ z. z ∷ s) ((Decides-eqb c 47).0 e), refl, tame)
+    at false e m tame (inl i) = inl (rw (m, e) i)
+    at false e m tame (inr (t, k, is, i, l)) = inr (c ∷ t, k, ap (λ z. c ∷ z) is, rw (m, e) i, l)
+
+left-apart : (p q s : List ℕ) (x y : ℕ) → list_all is_tame s ≡ true → is_inner x ≡ true → is_inner y ≡ true → eqb x y ≡ false → meets_by is_stars is_verbatim chunk_meets (chunks_left (p ++ x ∷ s)) (chunks_left (q ++ y ∷ s)) ≡ false
+left-apart p q s x y tame ix iy xy = at (cut s tame)
+  where
+    at : Cut s → meets_by is_stars is_verbatim chunk_meets (chunks_left (p ++ x ∷ s)) (chunks_left (q ++ y ∷ s)) ≡ false
+    at (inl i) = rw (left-whole p s x i ix, left-whole q s y i iy) (texts-apart p q s x y i ix iy xy)
+    at (inr (t, k, is, i, l)) =
+        let z = trim (chunks k) in
+        let first : chunks_left (p ++ x ∷ s) ≡ chunks (p ++ x ∷ t) ++ z = ap (λ r. chunks_left (p ++ x ∷ r)) is ∙ ap chunks_left (sym (append_assoc p (x ∷ t) (47 ∷ k))) ∙ left-behind (p ++ x ∷ t) k in
+        let second : chunks_left (q ++ y ∷ s) ≡ chunks (q ++ y ∷ t) ++ z = ap (λ r. chunks_left (q ++ y ∷ r)) is ∙ ap chunks_left (sym (append_assoc q (y ∷ t) (47 ∷ k))) ∙ left-behind (q ++ y ∷ t) k in
+        rw (first, second)
+        (meets-same_end is_stars is_verbatim chunk_meets are_tame tame_chunk tame_meets z (chunks (p ++ x ∷ t)) (chunks (q ++ y ∷ t)) (tame_left (chunks k) (tame_chunks k l))
+        ∙ texts-apart p q t x y i ix iy xy)
 
 -- ---- texts that are read from their ends
 
@@ -185,17 +286,22 @@ three_parts a b c h = let outer = and_parts (a && b) c h in let inner = and_part
 turned : (t s : List ℕ) (x : ℕ) → reverse (x ∷ t) ++ s ≡ reverse t ++ x ∷ s
 turned t s x = rw (reverse_onto t x []) (append_assoc (reverse t) (x ∷ []) s)
 
-heads-apart : (t u s : List ℕ) → list_all is_inner s ≡ true → heads_differ t u ≡ true → meets_by is_stars is_verbatim chunk_meets (chunks_left (reverse t ++ s)) (chunks_left (reverse u ++ s)) ≡ false
+inner : (c : ℕ) → is_tame c ≡ true → not (eqb c 47) ≡ true → is_inner c ≡ true
+inner c h k = rw (not-true (eqb c 42) h, not-true (eqb c 47) k) refl
+
+heads-apart : (t u s : List ℕ) → list_all is_tame s ≡ true → heads_differ t u ≡ true → meets_by is_stars is_verbatim chunk_meets (chunks_left (reverse t ++ s)) (chunks_left (reverse u ++ s)) ≡ false
 heads-apart [] u s i d = absurd (false≢true d)
 heads-apart (x ∷ t) [] s i d = absurd (false≢true d)
 heads-apart (x ∷ t) (y ∷ u) s i d =
-    let facts = three_parts (is_inner x) (is_inner y) (not (eqb x y) || heads_differ t u) d in
+    let facts = three_parts (is_tame x) (is_tame y) (cond (eqb x y) (heads_differ t u) (not (eqb x 47) && not (eqb y 47))) d in
     rw (turned t s x, turned u s y) (by (eqb x y) refl facts.0 facts.1 facts.2 (heads-apart t u (x ∷ s)))
   where
-    by : (e : Bool) → eqb x y ≡ e → is_inner x ≡ true → is_inner y ≡ true → (not e || heads_differ t u) ≡ true → (list_all is_inner (x ∷ s) ≡ true → heads_differ t u ≡ true → meets_by is_stars is_verbatim chunk_meets (chunks_left (reverse t ++ x ∷ s)) (chunks_left (reverse u ++ x ∷ s)) ≡ false)
-        → meets_by is_stars is_verbatim chunk_meets (chunks_left (reverse t ++ x ∷ s)) (chunks_left (reverse u ++ y ∷ s)) ≡ false
+    Apart : ℕ → Type 0
+    Apart z = meets_by is_stars is_verbatim chunk_meets (chunks_left (reverse t ++ x ∷ s)) (chunks_left (reverse u ++ z ∷ s)) ≡ false
+
+    by : (e : Bool) → eqb x y ≡ e → is_tame x ≡ true → is_tame y ≡ true → cond e (heads_differ t u) (not (eqb x 47) && not (eqb y 47)) ≡ true → (list_all is_tame (x ∷ s) ≡ true → heads_differ t u ≡ true → Apart x) → Apart y
     by true k ix iy later ih = let same : x ≡ y = (Decides-eqb x y).0 k in rw (← same) (ih (rw ix i) later)
-    by false k ix iy later ih = texts-apart (reverse t) (reverse u) s x y i ix iy k
+    by false k ix iy later ih = let l = and_parts (not (eqb x 47)) (not (eqb y 47)) later in left-apart (reverse t) (reverse u) s x y i (inner x ix l.0) (inner y iy l.1) k
 
 ends-meet : (a b : List ℕ) → ends_differ a b ≡ true → meets_by is_stars is_verbatim chunk_meets (chunks_left a) (chunks_left b) ≡ false
 ends-meet a b d = rw (append-nil (reverse (reverse a)), append-nil (reverse (reverse b)), reverse-reverse a, reverse-reverse b) at (heads-apart (reverse a) (reverse b) [] refl d)

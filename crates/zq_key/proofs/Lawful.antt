@@ -34,7 +34,7 @@ same_part-self : (x : Option ℕ) → is_none x ≡ false → same_part x x ≡ 
 same_part-self None h = absurd (true≢false h)
 same_part-self (Some c) h = (Decides-eqb c c).1 refl
 
-chunk_covers-self : (x : List ℕ) → is_stars x ≡ false → chunk_covers x x ≡ true
+pub chunk_covers-self : (x : List ℕ) → is_stars x ≡ false → chunk_covers x x ≡ true
 unfolding chunk_covers
 chunk_covers-self x h = at (is_verbatim x) (is_star x) refl refl
   where
