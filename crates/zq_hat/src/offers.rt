@@ -1,11 +1,11 @@
 //! What a region offers for the key of a request.
-ghost use Rattle.std.specs.Prelude.{◌≡◌, ◌<◌, ◌≤◌, ◌-◌, ◌++◌, ◌∷◌, [], ℕ, IfOk, OnOk, Some, None, fold, map, length, true, false, slice_index_or, IsTrue};
+ghost use Rattle.std.specs.Prelude.{◌≡◌, ◌<◌, ◌≤◌, ◌-◌, ◌++◌, ◌∷◌, [], ℕ, IfOk, IfSome, OnOk, Some, None, fold, map, length, true, false, slice_index_or, IsTrue};
 ghost use Rattle.std.specs.List.{AllByRecursion, flat_map, suffix_len};
 ghost use Rattle.std.specs.Option.{option_to_list};
 ghost use Rattle.std.specs.Ordering.{is_lt};
 ghost use Rattle.std.specs.String.{string_bytes};
 ghost use Rattle.zq_key.specs.Key.{is_key};
-ghost use Rattle.zq_hat.specs.Offers.{bare_offers, bare_on, may_have, offer_cmp, place, sorted, distance};
+ghost use Rattle.zq_hat.specs.Offers.{bare_offer, bare_offers, bare_on, may_have, offer_cmp, place, sorted, distance};
 ghost use Rattle.zq_index.specs.Holders.{Holdings, AreListed};
 ghost use Rattle.zq_hat.specs.Tied.{IsKeyed, groups_from, group_offer, holder_offers};
 ghost use Rattle.zq_index.specs.Texts.{texts_of};
@@ -93,49 +93,52 @@ pub fn put(offers: &mut Vec<QueryTargetQabl>, offer: QueryTargetQabl) -> Result<
     Ok(())
 }
 
+/// The text of a key for so many offers, which share its memory if there are several.
+fn text_for(alloc: Global, key: &str, count: usize) -> Result<Text, OutOfMemory>
+    ensures { IfOk result (λ t. t ≡ key.now) }
+{
+    let text = Text::new(alloc, key)?;
+    if count > 1 {
+        text.shared(alloc)
+    } else {
+        Ok(text)
+    }
+}
+
 /// The offer of the face for the key.
-fn offer_of(
-    alloc: Global,
-    region: Region,
-    key: &str,
-    q: &str,
-    group: Group,
-) -> Result<QueryTargetQabl, OutOfMemory>
-    requires key { IsTrue (is_key key.now) }
+fn offer_of(region: Region, key: Text, q: &str, group: Group) -> QueryTargetQabl
+    requires key { IsTrue (is_key key) }
     requires asked { IsTrue (is_key q.now) }
-    ensures { IfOk result (λ o. o ≡ group_offer region q.now key.now group) }
+    ensures { result ≡ group_offer region q.now key group }
 {
     let distance = if matches!(region, Region::Local) {
         0
     } else {
         1
     };
-    Ok(QueryTargetQabl {
+    let complete = group.1.complete && includes(key.as_str(), q);
+    QueryTargetQabl {
         face: FaceId(group.0),
-        info: Some(QueryableInfoType {
-            complete: group.1.complete && includes(key, q),
-            distance,
-        }),
-        key: Text::new(alloc, key)?,
+        info: Some(QueryableInfoType { complete, distance }),
+        key,
         region,
         node: 0,
-    })
+    }
 }
 
 /// Puts the face's offer in its place.
 fn put_group(
     offers: &mut Vec<QueryTargetQabl>,
-    alloc: Global,
     region: Region,
-    key: &str,
+    key: Text,
     q: &str,
     group: Group,
 ) -> Result<(), OutOfMemory>
-    requires key { IsTrue (is_key key.now) }
+    requires key { IsTrue (is_key key) }
     requires asked { IsTrue (is_key q.now) }
-    ensures { OnOk result (offers.new.items ≡ place offer_cmp offers.old.items (group_offer region q.now key.now group)) }
+    ensures { OnOk result (offers.new.items ≡ place offer_cmp offers.old.items (group_offer region q.now key group)) }
 {
-    put(offers, offer_of(alloc, region, key, q, group)?)
+    put(offers, offer_of(region, key, q, group))
 }
 
 /// Merges a declaration into those of its face, or puts the offer of the face before it.
@@ -143,7 +146,7 @@ fn next_group(
     offers: &mut Vec<QueryTargetQabl>,
     alloc: Global,
     region: Region,
-    key: &str,
+    key: &Text,
     q: &str,
     group: Option<Group>,
     face: u32,
@@ -159,25 +162,24 @@ fn next_group(
     if open.0 == face {
         return Ok((open.0, merge_qabl_infos(open.1, info)));
     }
-    put_group(offers, alloc, region, key, q, open)?;
+    put_group(offers, region, key.copy(alloc)?, q, open)?;
     Ok((face, info))
 }
 
 /// Puts the offer of the last face.
 fn last_group(
     offers: &mut Vec<QueryTargetQabl>,
-    alloc: Global,
     region: Region,
-    key: &str,
+    key: Text,
     q: &str,
     group: Option<Group>,
 ) -> Result<(), OutOfMemory>
-    requires key { IsTrue (is_key key.now) }
+    requires key { IsTrue (is_key key) }
     requires asked { IsTrue (is_key q.now) }
-    ensures { OnOk result (offers.new.items ≡ fold (place offer_cmp) offers.old.items (map (group_offer region q.now key.now) (option_to_list group))) }
+    ensures { OnOk result (offers.new.items ≡ fold (place offer_cmp) offers.old.items (map (group_offer region q.now key) (option_to_list group))) }
 {
     match group {
-        Some(open) => put_group(offers, alloc, region, key, q, open),
+        Some(open) => put_group(offers, region, key, q, open),
         None => Ok(()),
     }
 }
@@ -195,11 +197,12 @@ fn add_groups(
     requires asked { IsTrue (is_key q.now) }
     ensures { OnOk result (offers.new.items ≡ fold (place offer_cmp) offers.old.items (map (group_offer region q.now key.now) (groups_from None infos.now.entries))) }
 {
+    let text = text_for(alloc, key, infos.len())?;
     let mut group = None;
     for (place, info) in infos {
-        group = Some(next_group(offers, alloc, region, key, q, group, place.0, *info)?);
+        group = Some(next_group(offers, alloc, region, &text, q, group, place.0, *info)?);
     }
-    last_group(offers, alloc, region, key, q, group)
+    last_group(offers, region, text, q, group)
 }
 
 /// Adds what is offered on the key, if it meets the request's.
@@ -280,29 +283,38 @@ fn may_have(strategy: Strategy, face: &HatFace, q: &str) -> bool
     }
 }
 
-/// Adds an offer without information of a face that may have more.
-fn add_bare(
-    offers: &mut Vec<QueryTargetQabl>,
+/// One more text of the key, of one that is kept where so many may come.
+fn next_text(
+    kept: &mut Option<Text>,
     alloc: Global,
-    strategy: Strategy,
-    region: Region,
-    number: u32,
-    face: &HatFace,
-    q: &str,
-) -> Result<(), OutOfMemory>
-    ensures { OnOk result (offers.new.items ≡ fold (place offer_cmp) offers.old.items (bare_on strategy region q.now (number, face.now))) }
+    key: &str,
+    count: usize,
+) -> Result<Text, OutOfMemory>
+    requires { IfSome kept.old (λ t. t ≡ key.now) }
+    ensures text { IfOk result (λ t. t ≡ key.now) }
+    ensures kept { IfSome kept.new (λ t. t ≡ key.now) }
 {
-    if !may_have(strategy, face, q) {
-        return Ok(());
+    if let Some(text) = kept {
+        return text.copy(alloc);
     }
-    let bare = QueryTargetQabl {
+    let text = text_for(alloc, key, count)?;
+    if count > 1 {
+        *kept = Some(text.copy(alloc)?);
+    }
+    Ok(text)
+}
+
+/// The offer without information of a face for the key.
+fn bare_offer(region: Region, key: Text, number: u32) -> QueryTargetQabl
+    ensures { result ≡ bare_offer region key number }
+{
+    QueryTargetQabl {
         face: FaceId(number),
         info: None,
-        key: Text::new(alloc, q)?,
+        key,
         region,
         node: 0,
-    };
-    put(offers, bare)
+    }
 }
 
 /// Adds the offers without information of the faces that may have more.
@@ -317,8 +329,12 @@ fn add_bares(
 ) -> Result<(), OutOfMemory>
     ensures { OnOk result (offers.new.items ≡ fold (place offer_cmp) offers.old.items (flat_map (bare_on strategy region q.now) faces.now.entries)) }
 {
+    let mut kept = None;
     for (number, face) in faces {
-        add_bare(offers, alloc, strategy, region, *number, face, q)?;
+        if may_have(strategy, face, q) {
+            let key = next_text(&mut kept, alloc, q, faces.len())?;
+            put(offers, bare_offer(region, key, *number))?;
+        }
     }
     Ok(())
 }

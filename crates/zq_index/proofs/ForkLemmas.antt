@@ -1,7 +1,8 @@
 -- How a text and a key go on side by side: what is dead after a byte is dead with it.
-use Rattle.std.proofs.Common.{◌≡◌, ◌≢◌, ℕ, ◌+◌, ◌<◌, ◌≤◌, Bool, true, false, ◌==◌, cond, eqb, ◌-◌, List, [], ◌∷◌, ◌++◌, length, take, drop, get_or, sym, subst, ap, ◌∙◌, refl, arith, inr, Some, None}
+use Rattle.std.proofs.Common.{◌≡◌, ◌≢◌, ℕ, ◌+◌, ◌<◌, ◌≤◌, Bool, true, false, ◌==◌, cond, eqb, ◌-◌, List, [], ◌∷◌, ◌++◌, length, take, drop, get_or, sym, subst, ap, ◌∙◌, refl, arith, ◌⊎◌, inl, inr, Some, None}
 use Rattle.std.specs.Prelude.{nat_le}
 use Rattle.std.specs.List.{onto_first, position, join_with_byte, starts_with}
+use Rattle.std.proofs.Math.Nat.{eq-or-lt_of_le}
 use Rattle.std.proofs.lemmas.Bool.{true≢false, or_parts, false_from_ne_true}
 use Rattle.std.proofs.lemmas.Bool.Decides.{nat_tests}
 use Rattle.std.proofs.lemmas.Slice.Eq.{bytes_eq-Decides}
@@ -13,7 +14,7 @@ use Rattle.zq_key.proofs.Apart.{HasFirst, has_first, misses_meet, misses, Misses
 use Rattle.zq_key.proofs.Chunks.{cut-none, cut-some}
 use Rattle.zq_index.specs.declared.forks.Mode.{Mode}
 use Rattle.zq_index.specs.declared.forks.Mode.TheVariants.{Chunk, Star, Free}
-use Rattle.zq_index.specs.Forks.{later, chunks_from, IsDead, Parts, GoesOn, PassesOver}
+use Rattle.zq_index.specs.Forks.{later, chunks_from, EndsAbove, IsDead, IsHeld, Parts, GoesOn, PassesOver}
 
 -- ---- one byte, over lists
 slash_on : (gs : List (List ℕ)) → GoesOn Chunk ([] ∷ gs) 47 Chunk gs
@@ -177,3 +178,25 @@ leads_on text q at j byte place mode left lt is leads goes rest dead =
     let whole : take (at + 1) text ++ rest ≡ take at text ++ byte ∷ rest =
     ap (λ t. t ++ rest) (take_more text at 0 lt) ∙ append_assoc (take at text) (get_or text at 0 ∷ []) rest ∙ ap (λ b. take at text ++ b ∷ rest) (sym is) in
     ap (λ t. intersects t q) whole ∙ leads (byte ∷ rest) (goes rest dead)
+
+-- ---- greater bytes
+pub byte_ends : (q : List ℕ) (j x : ℕ) → j < length q → get_or q j 0 ≡ x → 42 < x → EndsAbove Chunk (chunks_from q j) x
+byte_ends q j x lt is over d more above =
+    let tame : (n : ℕ) → 42 < n → is_wild n ≡ false = λ n more. wild_below n more in
+    wanted_byte q j lt (ap is_wild is ∙ tame x over) d more (tame d (omega arith)) (λ same. below_itself (omega (arith, same, is, above)))
+  where
+    wild_below : (n : ℕ) → 42 < n → is_wild n ≡ false
+    wild_below n lt = let a : (n == 42) ≡ false = grind (arith, nat_tests) in let b : (n == 36) ≡ false = grind (arith, nat_tests) in rw (a, b) refl
+
+    below_itself : x < x → ⊥
+    below_itself lt = omega arith
+
+-- one more place
+pub held_on : (text q : List ℕ) (held at j byte : ℕ) (mode : Mode) → byte ≡ get_or text at 0 → Leads text q at mode j → EndsAbove mode (chunks_from q j) byte → IsHeld text q held at → IsHeld text q held (at + 1)
+held_on text q held at j byte mode is leads ends holds p d more from to above = by (eq-or-lt_of_le (omega arith))
+  where
+    by : (p ≡ at) ⊎ (p < at) → intersects (take p text ++ d ∷ more) q ≡ false
+    by (inl same) =
+        let over : byte < d = omega (arith, is, subst (λ n. get_or text n 0 < d) same above) in
+        ap (λ n. intersects (take n text ++ d ∷ more) q) same ∙ leads (d ∷ more) (ends d more over)
+    by (inr below) = holds p d more from below above

@@ -1,5 +1,5 @@
 -- Declared keys that are passed over: none of them meets the request's key.
-use Rattle.std.proofs.Common.{◌≡◌, ◌≢◌, ◌∙◌, sym, ap, subst, refl, arith, ℕ, ◌+◌, ◌<◌, ◌≤◌, length, Bool, true, false, cond, ◌⊎◌, inl, inr, Option, Some, None, List, [], ◌∷◌, ◌++◌, take, drop, get_or, append_assoc}
+use Rattle.std.proofs.Common.{◌≡◌, ◌≢◌, ◌∙◌, sym, ap, subst, refl, arith, ℕ, zero, suc, ◌+◌, ◌-◌, ◌<◌, ◌≤◌, length, Bool, true, false, cond, ◌⊎◌, inl, inr, Option, Some, None, List, [], ◌∷◌, ◌++◌, take, drop, get_or, append_assoc}
 use Rattle.std.specs.Prelude.{◌&&◌, String}
 use Rattle.std.specs.declared.alloc.Global.{Global}
 use Rattle.std.specs.declared.cmp.Ordering.{Ordering}
@@ -22,8 +22,8 @@ use Rattle.zq_key.specs.Key.{intersects, is_plain}
 use Rattle.zq_key.proofs.Plain.{intersects-plain}
 use Rattle.std.specs.Str.{bytes_eq}
 use Rattle.std.proofs.lemmas.Slice.Eq.{bytes_eq-Decides}
-use Rattle.zq_key.specs.Apart.{is_wild}
-use Rattle.zq_index.specs.Forks.{IsForkAt, IsLast, IsNext}
+use Rattle.std.proofs.Math.Nat.{eq-or-lt_of_le}
+use Rattle.zq_index.specs.Forks.{IsForkAt, IsHeld, IsLast, IsNext}
 use Rattle.zq_key.proofs.Runs.{Begins, squeezed_run, run_is_less, not_below_itself}
 use Rattle.zq_index.specs.Texts.{text_cmp, has_text, texts_of, IsListed, IsFirstAfter, NoneAfter}
 use Rattle.zq_index.proofs.Orders.{text_exact}
@@ -88,74 +88,100 @@ less_byte b c r lt = by (nat_cmp b c) refl
     by Greater is = absurd (omega (arith, lt, ranked b c Greater is))
 
 -- ---- bounds
-module _ (t q : List ℕ) (k want : ℕ) (fork : IsForkAt t q k want) where
+module _ (t : List ℕ) (k : ℕ) (lt : k < length t) where
   abbrev byte : ℕ
   byte = get_or t k 0
 
   whole : t ≡ take k t ++ byte ∷ drop (k + 1) t
-  whole = sym (take-append-drop k t) ∙ ap (λ l. take k t ++ l) (drop_more t k 0 fork.in_range)
+  whole = sym (take-append-drop k t) ∙ ap (λ l. take k t ++ l) (drop_more t k 0 lt)
 
   -- what begins like t and goes on not below it
   begins_above : (x m : List ℕ) → text_cmp x t ≢ Less → x ≡ take k t ++ m → Above m byte
   begins_above x m above is = above_byte m (drop (k + 1) t) byte (λ less. above (ap (text_cmp x) whole ∙ ap (λ y. text_cmp y (take k t ++ byte ∷ drop (k + 1) t)) is ∙ same_front (take k t) m (byte ∷ drop (k + 1) t) ∙ less))
 
-  dead_above : (x m : List ℕ) → x ≡ take k t ++ m → (a : Above m byte) → (is_wild a.byte ≡ false) × (a.byte ≢ want) → intersects x q ≡ false
-  dead_above x m is a facts = ap (λ y. intersects y q) (is ∙ ap (λ l. take k t ++ l) a.is) ∙ fork.dead a.byte a.more facts.0 facts.1
+  -- what goes on otherwise does not meet q, if that does not
+  dead_on : (q x m : List ℕ) → x ≡ take k t ++ m → (a : Above m byte) → intersects (take k t ++ a.byte ∷ a.more) q ≡ false → intersects x q ≡ false
+  dead_on q x m is a dead = ap (λ y. intersects y q) (is ∙ ap (λ l. take k t ++ l) a.is) ∙ dead
 
-  pub fork_skipped : (c : ℕ) → IsNext byte want c → Skips q t (take k t ++ c ∷ [])
+module _ (t q : List ℕ) (k want : ℕ) (fork : IsForkAt t q k want) where
+  abbrev here : ℕ
+  here = get_or t k 0
+
+  pub fork_skipped : (c : ℕ) → IsNext here want c → Skips q t (take k t ++ c ∷ [])
   fork_skipped c next = record {
-    after = ap (λ y. text_cmp y (take k t ++ c ∷ [])) whole ∙ same_front (take k t) (byte ∷ drop (k + 1) t) (c ∷ []) ∙ less_byte byte c (drop (k + 1) t) next.after;
+    after = ap (λ y. text_cmp y (take k t ++ c ∷ [])) (whole t k fork.in_range) ∙ same_front (take k t) (here ∷ drop (k + 1) t) (c ∷ []) ∙ less_byte here c (drop (k + 1) t) next.after;
     none = λ x above below.
-        let front = fronted (take k t) x (drop (k + 1) t) byte c (λ less. above (ap (text_cmp x) whole ∙ less)) below in
-        let a = begins_above x front.0 above front.1 in
+        let front = fronted (take k t) x (drop (k + 1) t) here c (λ less. above (ap (text_cmp x) (whole t k fork.in_range) ∙ less)) below in
+        let a = begins_above t k fork.in_range x front.0 above front.1 in
         let under : text_cmp (a.byte ∷ a.more) (c ∷ []) ≡ Less =
         ap (λ m. text_cmp m (c ∷ [])) (sym a.is) ∙ sym (same_front (take k t) front.0 (c ∷ [])) ∙ ap (λ y. text_cmp y (take k t ++ c ∷ [])) (sym front.1) ∙ below in
-        dead_above x front.0 front.1 a (next.none a.byte a.least (below_byte a.byte c a.more under));
+        let facts = next.none a.byte a.least (below_byte a.byte c a.more under) in
+        dead_on t k fork.in_range q x front.0 front.1 a (fork.dead a.byte a.more facts.0 facts.1);
   }
 
   -- by the next byte alone
-  pub step_skipped : Skips q t (take k t ++ (byte + 1) ∷ [])
-  step_skipped = fork_skipped (byte + 1) record {
+  step_skipped : Skips q t (take k t ++ (here + 1) ∷ [])
+  step_skipped = fork_skipped (here + 1) record {
     after = omega arith;
-    none = λ d least less. let same : d ≡ byte = omega arith in (rw same fork.tame, rw same fork.other);
+    none = λ d least less. let same : d ≡ here = omega arith in (rw same fork.tame, rw same fork.other);
   }
 
--- where nothing goes on, those that begin with a byte less are passed over
-pub level_skipped : (t q : List ℕ) (k want : ℕ) → IsForkAt t q (k + 1) want → IsLast (get_or t (k + 1) 0) want → Skips q t (take k t ++ (get_or t k 0 + 1) ∷ [])
-level_skipped t q k want fork last =
-    let lt : k < length t = omega (arith, fork.in_range) in
+-- those that begin like t before a place and go on there by a greater byte do not meet q
+abbrev EndsAt : List ℕ → List ℕ → ℕ → Type 0
+EndsAt t q p = (d : ℕ) (more : List ℕ) → get_or t p 0 < d → intersects (take p t ++ d ∷ more) q ≡ false
+
+-- the bound behind those that begin like t up to a place
+abbrev SkipsAt : List ℕ → List ℕ → ℕ → Type 0
+SkipsAt t q p = Skips q t (take p t ++ (get_or t p 0 + 1) ∷ [])
+
+-- where no greater byte goes on, those that begin with a byte less are passed over
+level_skipped : (t q : List ℕ) (k : ℕ) → k + 1 < length t → SkipsAt t q (k + 1) → EndsAt t q (k + 1) → SkipsAt t q k
+level_skipped t q k lt skips ends =
     let b = get_or t k 0 in
+    let c = get_or t (k + 1) 0 in
     let rest = drop (k + 1) t in
-    let cut : t ≡ take k t ++ b ∷ rest = sym (take-append-drop k t) ∙ ap (λ l. take k t ++ l) (drop_more t k 0 lt) in
-    let front : take (k + 1) t ≡ take k t ++ b ∷ [] = take_more t k 0 lt in
+    let cut : t ≡ take k t ++ b ∷ rest = whole t k (omega (arith, lt)) in
+    let front : take (k + 1) t ≡ take k t ++ b ∷ [] = take_more t k 0 (omega (arith, lt)) in
     record {
       after = (λ i. text_cmp (cut i) (take k t ++ (b + 1) ∷ [])) ∙ run_is_less (take k t) rest b;
       none = λ x above below.
           let begins : Begins (take k t) b x = squeezed_run (take k t) x rest b (λ less. above (ap (text_cmp x) cut ∙ less)) below in
           let is : x ≡ take (k + 1) t ++ begins.0 = begins.1 ∙ sym (append_assoc (take k t) (b ∷ []) begins.0) ∙ ap (λ p. p ++ begins.0) (sym front) in
-          let a = begins_above t q (k + 1) want fork x begins.0 above is in
-          dead_above t q (k + 1) want fork x begins.0 is a (last a.byte a.least);
+          let a = begins_above t (k + 1) lt x begins.0 above is in
+          by x begins.0 above is a (eq-or-lt_of_le a.least);
     }
+  where
+    by : (x m : List ℕ) → text_cmp x t ≢ Less → x ≡ take (k + 1) t ++ m → (a : Above m (get_or t (k + 1) 0)) → (get_or t (k + 1) 0 ≡ a.byte) ⊎ (get_or t (k + 1) 0 < a.byte) → intersects x q ≡ false
+    by x m above is a (inl same) =
+        let c = get_or t (k + 1) 0 in
+        let begin : x ≡ take (k + 1) t ++ c ∷ a.more = is ∙ ap (λ l. take (k + 1) t ++ l) a.is ∙ ap (λ b. take (k + 1) t ++ b ∷ a.more) (sym same) in
+        skips.none x above (ap (λ y. text_cmp y (take (k + 1) t ++ (c + 1) ∷ [])) begin ∙ same_front (take (k + 1) t) (c ∷ a.more) ((c + 1) ∷ []) ∙ less_byte c (c + 1) a.more (omega arith))
+    by x m above is a (inr more) = dead_on t (k + 1) lt q x m is a (ends a.byte a.more more)
 
-pub is_above : (t q : List ℕ) (k want : ℕ) → IsForkAt t q k want → IsLast (get_or t k 0) want → (r : Option (ℕ × ℕ)) → IfSome r (λ p. IsPlaceAbove t k p.0 p.1) → IfSome r (λ p. IsBoundAt t q p.0 p.1)
-is_above t q k want fork last None p = p
-is_above t q k want fork last (Some (at, byte)) p = elim p.place [
-  | inl below ↦ record {
-    in_range = omega (arith, below, fork.in_range);
+module _ (t q : List ℕ) (held k want : ℕ) (fork : IsForkAt t q k want) (last : IsLast (get_or t k 0) want) (holds : IsHeld t q held k) where
+  ends_at : (p : ℕ) → held ≤ p → p ≤ k → EndsAt t q p
+  ends_at p from to d more above = by (eq-or-lt_of_le to)
+    where
+      by : (p ≡ k) ⊎ (p < k) → intersects (take p t ++ d ∷ more) q ≡ false
+      by (inl same) =
+          let over : get_or t k 0 < d = subst (λ n. get_or t n 0 < d) same above in
+          let facts = last d (omega (arith, over)) in
+          ap (λ n. intersects (take n t ++ d ∷ more) q) same ∙ fork.dead d more facts.0 facts.1
+      by (inr below) = holds p d more from below above
+
+  climbed : (n p : ℕ) → p + n ≡ k → held ≤ p + 1 → SkipsAt t q p
+  climbed zero p is from = let same : k ≡ p = omega (arith, is) in subst (SkipsAt t q) same (step_skipped t q k want fork)
+  climbed (suc n) p is from =
+      level_skipped t q p (omega (arith, is, fork.in_range)) (climbed n (p + 1) (omega (arith, is)) (omega (arith, from))) (ends_at (p + 1) from (omega (arith, is)))
+
+  pub is_above : (r : Option (ℕ × ℕ)) → IfSome r (λ p. IsPlaceAbove t held k p.0 p.1) → IfSome r (λ p. IsBoundAt t q p.0 p.1)
+  is_above None p = p
+  is_above (Some (at, byte)) p = record {
+    in_range = omega (arith, p.to, fork.in_range);
     ascii = p.ascii;
     after = omega (arith, p.next);
-    skips =
-        let there : IsForkAt t q (at + 1) want = subst (λ n. IsForkAt t q n want) (sym below) fork in
-        let done : IsLast (get_or t (at + 1) 0) want = subst (λ n. IsLast (get_or t n 0) want) (sym below) last in
-        subst (λ b. Skips q t (take at t ++ b ∷ [])) (sym p.next) (level_skipped t q at want there done);
+    skips = subst (λ b. Skips q t (take at t ++ b ∷ [])) (sym p.next) (climbed (k - at) at (omega (arith, p.to)) p.from);
   }
-  | inr same ↦ record {
-    in_range = omega (arith, same, fork.in_range);
-    ascii = p.ascii;
-    after = omega (arith, p.next);
-    skips = subst (λ b. Skips q t (take at t ++ b ∷ [])) (sym p.next) (step_skipped t q at want (subst (λ n. IsForkAt t q n want) (sym same) fork));
-  }
-]
 
 -- ---- entries in order, from a bound on
 

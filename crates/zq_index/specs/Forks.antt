@@ -24,6 +24,10 @@ IsDead Free gs rest = Misses (later (chunks rest)) gs
 abbrev pub Parts : Mode → List (List ℕ) → ℕ → Type 0
 Parts mode gs want = (d : ℕ) (more : List ℕ) → is_wild d ≡ false → d ≢ want → IsDead mode gs (d ∷ more)
 
+-- whatever goes on from here by a greater byte is dead
+abbrev pub EndsAbove : Mode → List (List ℕ) → ℕ → Type 0
+EndsAbove mode gs byte = (d : ℕ) (more : List ℕ) → byte < d → IsDead mode gs (d ∷ more)
+
 -- a text goes on by the byte: what is dead after it is dead with it
 abbrev pub GoesOn : Mode → List (List ℕ) → ℕ → Mode → List (List ℕ) → Type 0
 GoesOn mode gs byte next left = (rest : List ℕ) → IsDead next left rest → IsDead mode gs (byte ∷ rest)
@@ -34,6 +38,10 @@ pub record IsForkAt (text q : List ℕ) (k want : ℕ) : Type 0 where
   pub tame : is_wild (slice_index text k) ≡ false
   pub other : slice_index text k ≢ want
   pub dead : (d : ℕ) (more : List ℕ) → is_wild d ≡ false → d ≢ want → intersects (take k text ++ d ∷ more) q ≡ false
+
+-- from one place on, up to another, what begins like the text and goes on by a greater byte does not meet the key
+abbrev pub IsHeld : List ℕ → List ℕ → ℕ → ℕ → Type 0
+IsHeld text q from to = (p d : ℕ) (more : List ℕ) → from ≤ p → p < to → slice_index text p < d → intersects (take p text ++ d ∷ more) q ≡ false
 
 -- the first chunk from a place on, which is not `**`, is passed over up to another place
 abbrev pub PassesOver : List ℕ → ℕ → ℕ → Type 0

@@ -1,5 +1,5 @@
 -- Which declared keys need no test against a request's key.
-use Rattle.std.specs.Prelude.{◌≡◌, ◌≢◌, ℕ, ◌+◌, ◌<◌, ◌⊎◌, false, List, [], ◌∷◌, ◌++◌, length, take, slice_index}
+use Rattle.std.specs.Prelude.{◌≡◌, ◌≢◌, ℕ, ◌+◌, ◌<◌, ◌≤◌, false, List, [], ◌∷◌, ◌++◌, length, take, slice_index}
 use Rattle.std.specs.declared.cmp.Ordering.TheVariants.{Less}
 use Rattle.zq_key.specs.Key.{intersects}
 use Rattle.zq_index.specs.Texts.{text_cmp, IsListed}
@@ -18,11 +18,12 @@ pub record IsBoundAt (key q : List ℕ) (at byte : ℕ) : Type 0 where
   pub after : slice_index key at < byte
   pub skips : Skips q key (take at key ++ byte ∷ [])
 
--- the byte after that at the place before, or after that at the place
-pub record IsPlaceAbove (key : List ℕ) (k at byte : ℕ) : Type 0 where
+-- the byte after that at a place between two, or one before them
+pub record IsPlaceAbove (key : List ℕ) (held k at byte : ℕ) : Type 0 where
   pub ascii : byte < 128
   pub next : byte ≡ slice_index key at + 1
-  pub place : (at + 1 ≡ k) ⊎ (at ≡ k)
+  pub from : held ≤ at + 1
+  pub to : at ≤ k
 
 -- the bound comes after the key, and no text from the key on and before the bound that is listed, if it is not a plain key, meets q
 pub record SkipsListed (texts : List (List ℕ)) (q key bound : List ℕ) : Type 0 where

@@ -5,7 +5,7 @@ ghost use Rattle.std.specs.Prelude.{◌≡◌, ◌≢◌, ◌==◌, ◌+◌, ◌
 ghost use Rattle.std.specs.List.{position};
 ghost use Rattle.zq_key.specs.Key.{chunks};
 ghost use Rattle.zq_key.specs.Apart.{is_wild};
-ghost use Rattle.zq_index.specs.Forks.{chunks_from, GoesOn, IsForkAt, IsLast, IsNext, Parts, PassesOver};
+ghost use Rattle.zq_index.specs.Forks.{chunks_from, EndsAbove, GoesOn, IsForkAt, IsHeld, IsLast, IsNext, Parts, PassesOver};
 
 use zq_key::pruning::may_be_wild;
 
@@ -20,11 +20,13 @@ pub enum Mode {
     Free,
 }
 
-/// Where a text and a key part, and the byte with which the key goes on there.
+/// Where a text and a key part, the byte with which the key goes on there, and the place from which on
+/// no text that goes on by a greater byte meets the key.
 #[derive(Clone, Copy)]
 pub struct Parting {
     pub at: usize,
     pub wanted: u8,
+    pub held: usize,
 }
 
 /// The place of the first `/` of a text.
@@ -122,22 +124,38 @@ fn wanted(q: &[u8], mode: Mode, j: usize, byte: u8) -> Option<u8>
     Some(want)
 }
 
+/// Whether the key goes on by the byte, and whatever goes on by a greater one is dead.
+#[tactic(auto, using(crate::proofs::ForkLemmas::byte_ends))]
+fn is_held(q: &[u8], mode: Mode, j: usize, byte: u8) -> bool
+    ensures { result ≡ true → EndsAbove mode (chunks_from q.now j) byte }
+{
+    mode == Mode::Chunk && byte > b'*' && j < q.len() && q[j] == byte
+}
+
 /// Where the text and the key part. None says nothing.
 pub fn fork(text: &[u8], q: &[u8]) -> Option<Parting>
-    ensures { IfSome result (λ f. IsForkAt text.now q.now f.at f.wanted) }
+    ensures fork { IfSome result (λ f. IsForkAt text.now q.now f.at f.wanted) }
+    ensures held { IfSome result (λ f. IsHeld text.now q.now f.held f.at) }
+    ensures within { IfSome result (λ f. f.held ≤ f.at) }
 {
     let mut mode = Mode::Chunk;
     let mut j = 0;
+    let mut held = 0;
     for at in 0..text.len() {
         let byte = text[at];
         match go_on(q, mode, j, byte) {
             Some((next, place)) => {
+                held = if is_held(q, mode, j, byte) {
+                    held
+                } else {
+                    at + 1
+                };
                 mode = next;
                 j = place;
             }
             None => {
                 return match wanted(q, mode, j, byte) {
-                    Some(want) => Some(Parting { at, wanted: want }),
+                    Some(wanted) => Some(Parting { at, wanted, held }),
                     None => None,
                 };
             }

@@ -1,5 +1,5 @@
 //! A search among declared keys for those that meet a request's: which are passed over.
-ghost use Rattle.std.specs.Prelude.{◌≡◌, ◌<◌, ◌++◌, ◌∷◌, [], IfOk, IfSome, OnOk, map, length, true};
+ghost use Rattle.std.specs.Prelude.{◌≡◌, ◌+◌, ◌<◌, ◌≤◌, ◌++◌, ◌∷◌, [], IfOk, IfSome, OnOk, map, length, slice_index, true};
 ghost use Rattle.std.specs.String.{string_bytes};
 ghost use Rattle.zq_key.specs.Key.{is_plain};
 ghost use Rattle.zq_index.specs.Skipping.{IsBoundAt, IsPlaceAbove, Skips, StepIs};
@@ -11,19 +11,33 @@ use std::collections::BTreeSet;
 use zq_key::is_plain;
 use zq_key::memory::OutOfMemory;
 
-/// The bound behind the keys that begin like this one, up to a place; none of them goes on by a
-/// byte by which a key that meets the request's does.
-fn place_above(key: &[u8], at: usize) -> Option<(usize, u8)>
+/// The byte after that at the place, if it is an ASCII one.
+fn byte_above(key: &[u8], at: usize) -> Option<(usize, u8)>
     requires { at < length key.now }
-    ensures { IfSome result (λ r. IsPlaceAbove key.now at r.0 r.1) }
+    ensures { IfSome result (λ r. (r.0 ≡ at) × (r.1 ≡ slice_index key.now at + 1) × (r.1 < 128)) }
 {
-    if at > 0 && key[at - 1] < 127 {
-        return Some((at - 1, key[at - 1] + 1));
-    }
     if key[at] < 127 {
-        return Some((at, key[at] + 1));
+        Some((at, key[at] + 1))
+    } else {
+        None
     }
-    None
+}
+
+/// The bound behind the keys that begin like this one, up to a place: the lowest from which on none
+/// that goes on by a greater byte meets the request's, or else the first that has an ASCII byte.
+fn place_above(key: &[u8], held: usize, at: usize) -> Option<(usize, u8)>
+    requires within { held ≤ at }
+    requires in_range { at < length key.now }
+    ensures { IfSome result (λ r. IsPlaceAbove key.now held at r.0 r.1) }
+{
+    let lowest = if held > 0 { held - 1 } else { 0 };
+    if let Some(found) = byte_above(key, lowest) {
+        return Some(found);
+    }
+    if at > 0 && key[at - 1] < 127 {
+        return byte_above(key, at - 1);
+    }
+    byte_above(key, at)
 }
 
 /// The first bytes of the key, by their number, and the byte that, put after them, makes a bound of
@@ -35,7 +49,7 @@ fn bound_place(key: &[u8], q: &[u8]) -> Option<(usize, u8)>
     let at = parting.at;
     match next_byte(key[at], parting.wanted) {
         Some(next) => { if next < 128 { Some((at, next)) } else { None } }
-        None => place_above(key, at),
+        None => place_above(key, parting.held, at),
     }
 }
 

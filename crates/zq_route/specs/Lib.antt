@@ -1,3 +1,4 @@
 pub mod Built
 pub mod Selection
 pub mod Filter
+pub mod Taken

@@ -3,8 +3,8 @@ ghost use Rattle.std.specs.Prelude.{◌≡◌, ◌++◌, ◌∷◌, [], true, fa
 ghost use Rattle.std.specs.Map.{values_of};
 ghost use Rattle.zq_route.specs.Built.{has_face, pair_of};
 
+use crate::taken::Taken;
 use std::alloc::Global;
-use std::collections::BTreeSet;
 use std::marker::Model;
 use zq_key::memory::OutOfMemory;
 use zq_key::message::FaceId;
@@ -13,22 +13,19 @@ use zq_key::message::FaceId;
 /// `RouteBuilder`).
 #[derive(Drop)]
 pub struct RouteBuilder<T> {
-    faces: Vec<u32>,
+    faces: Taken,
     route: Vec<T>,
-    taken: BTreeSet<u32>,
 }
 
 impl<T> Model for RouteBuilder<T> {
-    ghost use Rattle.std.specs.Prelude.{List, ℕ, ◌≡◌, ◌==◌, length};
-    ghost use Rattle.std.specs.List.{list_any, zip};
-    ghost use Rattle.std.specs.Ordering.{nat_cmp};
-    ghost use Rattle.std.specs.BTreeSet.{contains};
+    ghost use Rattle.std.specs.Prelude.{List, ℕ, ◌≡◌, length};
+    ghost use Rattle.std.specs.List.{zip};
 
     ghost Value = { List (ℕ × T) };
 
-    ghost view = { λ b. zip b.faces.items b.route.items };
+    ghost view = { λ b. zip b.faces b.route.items };
 
-    ghost invariant = { λ b. (length b.faces.items ≡ length b.route.items) × ((n : ℕ) → contains nat_cmp b.taken n ≡ list_any (λ f. n == f) b.faces.items) };
+    ghost invariant = { λ b. length b.faces ≡ length b.route.items };
 }
 
 impl<T> RouteBuilder<T> {
@@ -36,9 +33,8 @@ impl<T> RouteBuilder<T> {
         ensures { result ≡ [] }
     {
         RouteBuilder {
-            faces: Vec::new(alloc),
+            faces: Taken::new(alloc),
             route: Vec::new(alloc),
-            taken: BTreeSet::new(alloc),
         }
     }
 
@@ -46,7 +42,7 @@ impl<T> RouteBuilder<T> {
     pub fn has_face(&self, face: FaceId) -> bool
         ensures { result ≡ has_face face.0 self.now }
     {
-        self.taken.contains(&face.0)
+        self.faces.has(face.0)
     }
 
     /// Adds an element for a face that has none.
@@ -57,13 +53,11 @@ impl<T> RouteBuilder<T> {
         ensures ok { OnOk result (self.new ≡ self.old ++ (face.0, element) ∷ []) }
         ensures err { OnErr result (self.new ≡ self.old) }
     {
-        self.faces.reserve(1)?;
         self.route.reserve(1)?;
-        match self.taken.insert(face.0) {
-            Ok(_) => {}
-            Err(_) => return Err(OutOfMemory),
+        match self.faces.put(face.0) {
+            Ok(()) => {}
+            Err(error) => return Err(error),
         }
-        self.faces.push_reserved(face.0);
         self.route.push_reserved(element);
         Ok(())
     }
@@ -115,11 +109,7 @@ impl<T> RouteBuilder<T> {
     pub fn build(self) -> Vec<T>
         ensures { result.items ≡ values_of self }
     {
-        let RouteBuilder {
-            faces: _,
-            route,
-            taken: _,
-        } = self;
+        let RouteBuilder { faces: _, route } = self;
         route
     }
 }

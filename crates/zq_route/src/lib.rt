@@ -5,5 +5,6 @@ pub mod builder;
 pub mod filter;
 pub mod gateways;
 pub mod selection;
+mod taken;
 #[cfg(test)]
 mod tests;

@@ -6,4 +6,4 @@ use Rattle.zq_route.proofs.builder.RouteBuilder.build.Goals as goal
 pub returns : goal.returns
 returns g c =
     let i = c.self.inside in
-    sym (elements i.faces.items i.route.items c.self.invariant.0) ∙ ap values_of c.self.view_is
+    sym (elements i.faces i.route.items c.self.invariant) ∙ ap values_of c.self.view_is

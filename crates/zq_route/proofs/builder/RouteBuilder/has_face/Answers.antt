@@ -6,4 +6,4 @@ use Rattle.zq_route.proofs.builder.RouteBuilder.has_face.Goals as goal
 pub returns : goal.returns
 returns g c =
     let i = c.self.inside in
-    c.contains.ensures ∙ c.self.invariant.1 c.args.face.0 ∙ sym (any_paired c.args.face.0 i.faces.items i.route.items c.self.invariant.0) ∙ ap (has_face c.args.face.0) c.self.view_is
+    c.has.ensures ∙ sym (any_paired c.args.face.0 i.faces i.route.items c.self.invariant) ∙ ap (has_face c.args.face.0) c.self.view_is
