@@ -1,22 +1,27 @@
 -- A number is declared: it holds its node, as each other number does.
 use Rattle.std.proofs.Common.{◌≡◌, ℕ, ◌+◌, ◌^◌, ◌<◌, true, false, List, length, Option, Some, None, IfSome, refl, sym, ap, subst, ◌∙◌, arith}
 use Rattle.std.specs.Option.{is_some}
+use Rattle.std.specs.Map.{set_value}
+use Rattle.std.specs.BTreeMap.{is_at}
+use Rattle.std.specs.Ordering.{nat_cmp}
 use Rattle.std.proofs.lemmas.Option.{same_Some}
 use Rattle.zq_names.specs.Names.{NameEntry, entry_at, with_hold, change_at}
 use Rattle.zq_names.specs.Keeping.{ChangesAt}
 use Rattle.zq_tables.specs.FaceIds.{FaceIds, of_id, with_id}
 use Rattle.zq_tables.specs.FaceTexts.{id_texts, texts_of, full_of}
-use Rattle.zq_tables.specs.Naming.{FaceNaming, Names, face_naming, text_at, with_name, with_theirs, change_naming}
-use Rattle.zq_tables.specs.Holding.{FaceHolds, Faces, IsFace, IsHeld, Numbers, Declares, hold_of, face_holds, ids_at, is_settled, numbers_in, number_settled, keys_of_face, texts_by, TakesHold}
-use Rattle.zq_tables.proofs.Entries.{Rises-with_id, Rises-shown, weigh-with_id, with_same, shown-with_id}
+use Rattle.zq_tables.specs.Naming.{FaceNaming, face_naming, text_at, with_name, with_theirs, change_naming}
+use Rattle.zq_tables.specs.Holding.{FaceHolds, Faces, IsHeld, Numbers, Declares, ids_at, is_settled, settled_at, keys_of_face, texts_by, with_node, TakesHold}
+use Rattle.zq_tables.specs.declared.holder.Holder.TheVariants.{Number}
+use Rattle.zq_tables.proofs.Entries.{Rises-shown, with_same}
 use Rattle.zq_tables.proofs.Holds.{face_at}
-use Rattle.zq_tables.proofs.Faces.{face_there, change_idle, set_texts, shown_text}
+use Rattle.zq_tables.proofs.Faces.{face_there, change_idle, shown_text}
 use Rattle.zq_message.specs.declared.message.WireExpr.{WireExpr}
 use Rattle.zq_message.specs.declared.message.Mapping.TheVariants.{Sender}
 use Rattle.zq_tables.specs.Registering.{Maps, Registers}
 use Rattle.zq_tables.proofs.IdLemmas.{of_id-with_id}
 use Rattle.zq_tables.proofs.Made.{fresh_made}
-use Rattle.zq_tables.proofs.Letting.{made_room, takes, room_held, taken, taken_texts, placed}
+use Rattle.zq_tables.proofs.Letting.{made_room, takes, room_held, taken, taken_texts}
+use Rattle.zq_tables.proofs.Putting.{id_held, id_held_texts}
 use Rattle.zq_key.proofs.Truth.{none_from, some_from}
 
 -- ---- what a registered id stands for
@@ -46,13 +51,12 @@ numbers_of names names' old new i r t maps is =
 
 -- ---- the number was made
 
-module _ (names names1 : List NameEntry) (faces faces' : Faces) (face id r : ℕ) (t : List ℕ) (held : IsHeld names faces) (new : number_settled face id faces ≡ false) (declares : Declares names names1 faces faces' face id t r) where
+module _ (names names1 : List NameEntry) (faces faces' : Faces) (face id r : ℕ) (t : List ℕ) (held : IsHeld names faces) (new : settled_at (Number Sender) face id faces ≡ false) (declares : Declares names names1 faces faces' face id t r) where
   absent : of_id declares.was.numbers.theirs id ≡ None
-  absent = none_from (of_id declares.was.numbers.theirs id) (ap (λ (o : Option FaceHolds). is_settled o (numbers_in Sender o) id) (sym declares.at) ∙ new)
+  absent = none_from (of_id declares.was.numbers.theirs id) (ap (λ (o : Option FaceHolds). is_settled (Number Sender) id o) (sym declares.at) ∙ new)
 
-  -- the face with other numbers
-  abbrev now : FaceIds → FaceHolds
-  now n = record declares.was { numbers = n }
+  put : faces' ≡ set_value (is_at (nat_cmp face)) faces (with_node (Number Sender) id r declares.was)
+  put = declares.put ∙ ap (λ (n : FaceIds). set_value (is_at (nat_cmp face)) faces (record declares.was { numbers = n })) declares.numbers.mapped
 
   pub room : length faces < 2 ^ 63 → (entry_at names1 r).holds + 1 < 2 ^ 128
   room few = let n = declares.numbers in made_room names names1 t r n.live n.text n.kept n.fresh (room_held names faces held few)
@@ -61,29 +65,12 @@ module _ (names names1 : List NameEntry) (faces faces' : Faces) (face id r : ℕ
     number_takes : TakesHold names names2 t r
     number_takes = let n = declares.numbers in takes names names1 t r n.live n.text n.kept n.fresh names2 changes all n.lean
 
-    is_face : IsFace (now declares.is)
-    is_face =
-        let old = face_at faces face declares.was held.sides declares.at in
-        let F : FaceIds → Type 0 = λ (n : FaceIds). IsFace (now n) in
-        subst F (sym declares.numbers.mapped) (record { theirs = Rises-with_id 65536 1 id r declares.was.numbers.theirs (omega arith) small old.theirs; ours = old.ours; queryables = old.queryables })
-
-    more : (i : ℕ) → face_holds i (now declares.is) ≡ face_holds i declares.was + hold_of i r
-    more i =
-        let one = weigh-with_id (hold_of i) declares.was.numbers.theirs id r absent in
-        let face_is = ap (λ (n : FaceIds). face_holds i (now n)) declares.numbers.mapped in
-        omega (arith, one, face_is)
-
     pub declared : IsHeld names2 faces'
-    declared = placed names2 faces faces' face r declares.was (now declares.is) declares.at declares.put is_face (taken names names2 faces t r held number_takes) more
-
-    is_texts : keys_of_face names2 (now declares.is) ≡ with_name id t (keys_of_face names2 declares.was)
-    is_texts =
-        ap (λ (n : FaceIds). keys_of_face names2 (now n)) declares.numbers.mapped
-        ∙ ap (λ (l : Names). with_theirs (keys_of_face names2 declares.was) l) (shown-with_id (λ (k : ℕ). (entry_at names2 k).text) declares.was.numbers.theirs id r ∙ ap (with_id (id_texts names2 declares.was.numbers.theirs) id) number_takes.text)
+    declared = id_held (Number Sender) names2 faces faces' face id r declares.was declares.at put (taken names names2 faces t r held number_takes) absent (omega arith) small
 
     pub declared_texts : texts_by names2 faces' ≡ change_naming face (with_name id t) (texts_by names faces)
     declared_texts =
-        set_texts names2 faces faces' face declares.was (now declares.is) (with_name id t) declares.at declares.put is_texts
+        id_held_texts (Number Sender) names2 faces faces' face id r declares.was declares.at put t (with_name id t) number_takes.text refl
         ∙ ap (change_naming face (with_name id t)) (taken_texts names names2 faces t r held number_takes)
 
 -- ---- nothing is to be declared
@@ -97,11 +84,11 @@ settled_side names faces face id t f held at settled free =
     let O : Option (List ℕ) → Type 0 = λ (o : Option (List ℕ)). IfSome o (λ u. u ≡ t) in
     let same : (entry_at names node.0).text ≡ t = subst O stands (subst F (face_there names faces face f at) free) in
     let face_is = face_at faces face f held.sides at in
-    with_same 65536 1 id t (id_texts names f.numbers.theirs) (Rises-shown (λ (k : ℕ). (entry_at names k).text) 65536 1 f.numbers.theirs face_is.theirs) (stands ∙ ap Some same)
+    with_same 65536 1 id t (id_texts names f.numbers.theirs) (Rises-shown (λ (k : ℕ). (entry_at names k).text) 65536 1 f.numbers.theirs (face_is.rises (Number Sender))) (stands ∙ ap Some same)
 
-pub settled_texts : (names : List NameEntry) (faces : Faces) (face id : ℕ) (t : List ℕ) → IsHeld names faces → number_settled face id faces ≡ true → IfSome (text_at id (face_naming face (texts_by names faces)).theirs) (λ u. u ≡ t)
+pub settled_texts : (names : List NameEntry) (faces : Faces) (face id : ℕ) (t : List ℕ) → IsHeld names faces → settled_at (Number Sender) face id faces ≡ true → IfSome (text_at id (face_naming face (texts_by names faces)).theirs) (λ u. u ≡ t)
     → texts_by names faces ≡ change_naming face (with_name id t) (texts_by names faces)
 settled_texts names faces face id t held settled free =
     change_idle names faces face (with_name id t) (λ f at.
-    let there : is_some (of_id f.numbers.theirs id) ≡ true = ap (λ (o : Option FaceHolds). is_settled o (numbers_in Sender o) id) (sym at) ∙ settled in
+    let there : is_some (of_id f.numbers.theirs id) ≡ true = ap (λ (o : Option FaceHolds). is_settled (Number Sender) id o) (sym at) ∙ settled in
     ap (with_theirs (keys_of_face names f)) (settled_side names faces face id t f held at there free))

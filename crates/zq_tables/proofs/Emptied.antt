@@ -14,16 +14,18 @@ use Rattle.std.proofs.lemmas.List.Elements.{All-nil}
 use Rattle.std.proofs.lemmas.Map.Made.{keys_of-map_values}
 use Rattle.std.proofs.lemmas.Map.Steps.{set_value_same}
 use Rattle.std.proofs.lemmas.Map.Views.{All-values-insert_entry, All-map-remove_entry}
-use Rattle.zq_message.specs.declared.message.Mapping.{Mapping}
 use Rattle.zq_message.specs.declared.message.Mapping.TheVariants.{Sender, Receiver}
 use Rattle.zq_names.specs.Names.{NameEntry, entry_at, texts}
 use Rattle.zq_tables.specs.FaceIds.{of_id, without_id}
 use Rattle.zq_tables.specs.FaceTexts.{id_texts}
-use Rattle.zq_tables.specs.Naming.{FaceKeys, NamingState, Names, no_keys, naming_at, face_keys, face_naming, face_queryables, sent_side, with_sent, without_all_sent, without_sent, put_naming, change_naming, without_queryable}
-use Rattle.zq_tables.specs.Holding.{FaceHolds, Faces, IsFace, IsHeld, Rises, face_holds, holds_by, ids_at, node_at, numbers_in, queryables_in, keys_of_face, texts_by, queryable_at}
+use Rattle.zq_tables.specs.Naming.{FaceKeys, NamingState, Names, no_keys, naming_at, face_keys, put_naming, change_naming}
+use Rattle.zq_tables.specs.Holding.{FaceHolds, Faces, IsFace, IsHeld, Rises, face_holds, held_ids, held_keys, holds_by, ids_at, ids_in, least, limit, node_at, keys_of_face, texts_by, with_keys, without_key}
+use Rattle.zq_tables.specs.declared.holder.Holder.{Holder}
+use Rattle.zq_tables.specs.declared.holder.Holder.TheVariants.{Number, Queryable}
 use Rattle.zq_tables.proofs.Entries.{weigh-with_id, weigh-removed, removed_absent, removed_set, set_twice, lookup_set, insert_there, shown-with_id, shown-removed}
 use Rattle.zq_tables.proofs.Lean.{root_lean}
-use Rattle.zq_tables.proofs.Faces.{naming_at-texts, keys_there, numbers_texts, queryables_texts, change_idle, shown_text}
+use Rattle.zq_tables.proofs.Faces.{naming_at-texts, keys_there, ids_texts, change_idle, shown_text}
+use Rattle.zq_tables.proofs.Holders.{keys_with, none_keys, same_ids, with_own}
 
 -- ---- before any call
 
@@ -73,10 +75,12 @@ module _ (names : List NameEntry) (faces faces' : Faces) (face : ℕ) (f : FaceH
   bare = record { theirs = theirs; ours = ours; queryables = queryables }
 
   is_face : IsFace f
-  is_face =
-      let R : List (ℕ × ℕ) → Type 0 = Rises 65536 1 in
-      let Q : List (ℕ × ℕ) → Type 0 = Rises 4294967296 0 in
-      record { theirs = subst R (sym theirs) (omega arith); ours = subst R (sym ours) (omega arith); queryables = subst Q (sym queryables) (omega arith) }
+  is_face = record { rises = by }
+    where
+      by : (h : Holder) → Rises (limit h) (least h) (held_ids h f)
+      by (Number Sender) = let R : List (ℕ × ℕ) → Type 0 = Rises 65536 1 in subst R (sym theirs) (omega arith)
+      by (Number Receiver) = let R : List (ℕ × ℕ) → Type 0 = Rises 65536 1 in subst R (sym ours) (omega arith)
+      by Queryable = let R : List (ℕ × ℕ) → Type 0 = Rises 4294967296 0 in subst R (sym queryables) (omega arith)
 
   pub opened : IsHeld names faces → ids_at face faces ≡ None → IsHeld names faces'
   opened held absent = same_held names faces faces' held
@@ -194,11 +198,8 @@ closed_texts names faces faces' face put = ap (texts_by names) put ∙ shown-rem
 keys_id_texts : (names : List NameEntry) (es : List (ℕ × ℕ)) → keys_of (id_texts names es) ≡ keys_of es
 keys_id_texts names es = keys_of-map_values (λ (k : ℕ). (entry_at names k).text) es
 
-pub first_same : (m : Mapping) (names : List NameEntry) (faces : Faces) (face : ℕ) → slice_get (keys_of (numbers_in m (ids_at face faces))) 0 ≡ slice_get (keys_of (sent_side (face_naming face (texts_by names faces)) m)) 0
-first_same m names faces face = ap (λ (l : List ℕ). slice_get l 0) (sym (keys_id_texts names (numbers_in m (ids_at face faces))) ∙ ap keys_of (numbers_texts m names faces face))
-
-pub first_queryable_same : (names : List NameEntry) (faces : Faces) (face : ℕ) → slice_get (keys_of (queryables_in (ids_at face faces))) 0 ≡ slice_get (keys_of (face_queryables face (texts_by names faces))) 0
-first_queryable_same names faces face = ap (λ (l : List ℕ). slice_get l 0) (sym (keys_id_texts names (queryables_in (ids_at face faces))) ∙ ap keys_of (queryables_texts names faces face))
+pub first_same : (h : Holder) (names : List NameEntry) (faces : Faces) (face : ℕ) → slice_get (keys_of (ids_in h (ids_at face faces))) 0 ≡ slice_get (keys_of (held_keys h (face_keys face (texts_by names faces)))) 0
+first_same h names faces face = ap (λ (l : List ℕ). slice_get l 0) (sym (keys_id_texts names (ids_in h (ids_at face faces))) ∙ ap keys_of (ids_texts h names faces face))
 
 -- what holds where a first id is none
 pub none_then : {P : Type 0} (o x : Option ℕ) → o ≡ x → (None ≡ x → P) → IfNone o P
@@ -212,18 +213,13 @@ no_first (e ∷ es) is = absurd (none-some e.0 (sym is))
 idle_less : (names : List NameEntry) (es : List (ℕ × ℕ)) (id : ℕ) → of_id es id ≡ None → without_id (id_texts names es) id ≡ id_texts names es
 idle_less names es id absent = removed_absent (is_at (nat_cmp id)) (id_texts names es) (shown_text names es id None absent)
 
-pub undeclared_idle : (m : Mapping) (names : List NameEntry) (faces : Faces) (face id : ℕ) → node_at m face id faces ≡ None → texts_by names faces ≡ change_naming face (without_sent m id) (texts_by names faces)
-undeclared_idle Sender names faces face id none =
-    change_idle names faces face (without_sent Sender id)
-    (λ f at. ap (with_sent Sender (keys_of_face names f)) (idle_less names f.numbers.theirs id (ap (λ (o : Option FaceHolds). of_id (numbers_in Sender o) id) (sym at) ∙ none)))
-undeclared_idle Receiver names faces face id none =
-    change_idle names faces face (without_sent Receiver id)
-    (λ f at. ap (with_sent Receiver (keys_of_face names f)) (idle_less names f.numbers.ours id (ap (λ (o : Option FaceHolds). of_id (numbers_in Receiver o) id) (sym at) ∙ none)))
-
-pub released_idle : (names : List NameEntry) (faces : Faces) (face id : ℕ) → queryable_at face id faces ≡ None → texts_by names faces ≡ change_naming face (without_queryable id) (texts_by names faces)
-released_idle names faces face id none =
-    change_idle names faces face (without_queryable id)
-    (λ f at. ap (λ (l : Names). record (keys_of_face names f) { queryables = l }) (idle_less names f.queryables id (ap (λ (o : Option FaceHolds). of_id (queryables_in o) id) (sym at) ∙ none)))
+pub freed_idle : (h : Holder) (names : List NameEntry) (faces : Faces) (face id : ℕ) → node_at h face id faces ≡ None → texts_by names faces ≡ change_naming face (without_key h id) (texts_by names faces)
+freed_idle h names faces face id none =
+    change_idle names faces face (without_key h id) (λ f at.
+    let absent : of_id (held_ids h f) id ≡ None = ap (λ (o : Option FaceHolds). of_id (ids_in h o) id) (sym at) ∙ none in
+    let kept : without_id (held_keys h (keys_of_face names f)) id ≡ held_keys h (keys_of_face names f) =
+    ap (λ (l : Names). without_id l id) (sym (same_ids h names f)) ∙ idle_less names (held_ids h f) id absent ∙ same_ids h names f in
+    ap (with_keys h (keys_of_face names f)) kept ∙ with_own h (keys_of_face names f))
 
 -- ---- one id less
 
@@ -234,39 +230,16 @@ fewer_left (e ∷ es) id is =
     let here : is_at (nat_cmp id) e.0 ≡ true = ap (is_at (nat_cmp id)) (sym same) ∙ ap is_eq (tied_itself nat_cmp_total id) in
     rw here (omega arith)
 
--- a side of a face has an id less
-module _ (side : FaceKeys → Names) (none : side no_keys ≡ []) (id : ℕ) (g : FaceKeys → FaceKeys) (less : (n : FaceKeys) → side (g n) ≡ without_id (side n) id) where
-  pub fewer : (s : NamingState) (face : ℕ) → Some id ≡ slice_get (keys_of (side (face_keys face s))) 0 → length (side (face_keys face (change_naming face g s))) < length (side (face_keys face s))
-  fewer s face is = by (naming_at face s) refl
-    where
-      by : (o : Option FaceKeys) → naming_at face s ≡ o → length (side (face_keys face (put_naming face g s o))) < length (side (face_keys face s))
-      by None at = absurd (none-some id (sym (is ∙ ap (λ (p : Option FaceKeys). slice_get (keys_of (side (unwrap_or p no_keys))) 0) at ∙ ap (λ (l : Names). slice_get (keys_of l) 0) none)))
-      by (Some n) at =
-          let was : side (face_keys face s) ≡ side n = ap (λ (p : Option FaceKeys). side (unwrap_or p no_keys)) at in
-          let now : side (face_keys face (set_value (is_at (nat_cmp face)) s (g n))) ≡ without_id (side n) id = ap (λ (p : Option FaceKeys). side (unwrap_or p no_keys)) (lookup_set (is_at (nat_cmp face)) s n (g n) at) ∙ less n in
-          let smaller = fewer_left (side n) id (is ∙ ap (λ (l : Names). slice_get (keys_of l) 0) was) in
-          omega (arith, ap length was, ap length now, smaller)
-
--- ---- a side of the numbers
-
-module _ (m : Mapping) (id : ℕ) where
-  sent_less : (m : Mapping) (n : FaceKeys) → sent_side (without_sent m id n).numbers m ≡ without_id (sent_side n.numbers m) id
-  sent_less Sender n = refl
-  sent_less Receiver n = refl
-
-  sent_none : (m : Mapping) → sent_side no_keys.numbers m ≡ []
-  sent_none Sender = refl
-  sent_none Receiver = refl
-
-  pub fewer_sent : (s : NamingState) (face : ℕ) → Some id ≡ slice_get (keys_of (sent_side (face_naming face s) m)) 0 → length (sent_side (face_naming face (change_naming face (without_sent m id) s)) m) < length (sent_side (face_naming face s) m)
-  fewer_sent = fewer (λ n. sent_side n.numbers m) (sent_none m) id (without_sent m id) (sent_less m)
-
--- one number, and then all
-pub sent_twice : (m : Mapping) (id : ℕ) (n : FaceKeys) → without_all_sent m (without_sent m id n) ≡ without_all_sent m n
-sent_twice Sender id n = refl
-sent_twice Receiver id n = refl
-
--- where there are none
-pub sent_idle : (m : Mapping) (n : FaceKeys) → sent_side n.numbers m ≡ [] → without_all_sent m n ≡ n
-sent_idle Sender n none = ap (with_sent Sender n) (sym none)
-sent_idle Receiver n none = ap (with_sent Receiver n) (sym none)
+-- a holder has an id less
+pub fewer : (h : Holder) (id : ℕ) (s : NamingState) (face : ℕ) → Some id ≡ slice_get (keys_of (held_keys h (face_keys face s))) 0 → length (held_keys h (face_keys face (change_naming face (without_key h id) s))) < length (held_keys h (face_keys face s))
+fewer h id s face is = by (naming_at face s) refl
+  where
+    by : (o : Option FaceKeys) → naming_at face s ≡ o → length (held_keys h (face_keys face (put_naming face (without_key h id) s o))) < length (held_keys h (face_keys face s))
+    by None at = absurd (none-some id (sym (is ∙ ap (λ (p : Option FaceKeys). slice_get (keys_of (held_keys h (unwrap_or p no_keys))) 0) at ∙ ap (λ (l : Names). slice_get (keys_of l) 0) (none_keys h))))
+    by (Some n) at =
+        let left = without_id (held_keys h n) id in
+        let was : held_keys h (face_keys face s) ≡ held_keys h n = ap (λ (p : Option FaceKeys). held_keys h (unwrap_or p no_keys)) at in
+        let now : held_keys h (face_keys face (set_value (is_at (nat_cmp face)) s (without_key h id n))) ≡ left =
+        ap (λ (p : Option FaceKeys). held_keys h (unwrap_or p no_keys)) (lookup_set (is_at (nat_cmp face)) s n (without_key h id n) at) ∙ keys_with h n left in
+        let smaller = fewer_left (held_keys h n) id (is ∙ ap (λ (l : Names). slice_get (keys_of l) 0) was) in
+        omega (arith, ap length was, ap length now, smaller)

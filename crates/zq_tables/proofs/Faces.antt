@@ -1,5 +1,5 @@
 -- A face in the list of texts, and the texts after one entry of the names changed.
-use Rattle.std.proofs.Common.{◌≡◌, ℕ, List, [], Option, Some, None, refl, sym, ap, subst, ◌∙◌, arith, inl, inr, unwrap_or}
+use Rattle.std.proofs.Common.{◌≡◌, ℕ, List, Option, Some, None, refl, sym, ap, subst, ◌∙◌, arith, inl, inr, unwrap_or}
 use Rattle.std.specs.Prelude.{option_map}
 use Rattle.std.specs.List.{Contains}
 use Rattle.std.specs.Map.{set_value}
@@ -9,15 +9,15 @@ use Rattle.std.proofs.lemmas.Bool.{cases_eq}
 use Rattle.std.proofs.lemmas.Option.{none-some}
 use Rattle.std.proofs.lemmas.Map.Made.{lookup-map_values}
 use Rattle.std.proofs.lemmas.Map.Steps.{set_value_same}
-use Rattle.zq_message.specs.declared.message.Mapping.{Mapping}
-use Rattle.zq_message.specs.declared.message.Mapping.TheVariants.{Sender, Receiver}
 use Rattle.zq_names.specs.Names.{NameEntry, ids, entry_at}
 use Rattle.zq_names.specs.Keeping.{ChangesAt}
-use Rattle.zq_tables.specs.FaceIds.{FaceIds, of_id, side}
+use Rattle.zq_tables.specs.FaceIds.{of_id}
 use Rattle.zq_tables.specs.FaceTexts.{id_texts, texts_of}
-use Rattle.zq_tables.specs.Naming.{FaceKeys, no_keys, no_names, naming_at, face_keys, face_naming, face_queryables, sent_side, text_at, put_naming, change_naming}
-use Rattle.zq_tables.specs.Holding.{FaceHolds, Faces, IsHeld, hold_of, ids_at, keys_of_face, numbers_in, queryables_in, node_at, queryable_at, texts_by}
+use Rattle.zq_tables.specs.Naming.{FaceKeys, no_keys, no_names, naming_at, face_keys, face_naming, text_at, put_naming, change_naming}
+use Rattle.zq_tables.specs.Holding.{FaceHolds, Faces, IsHeld, hold_of, held_ids, held_keys, ids_at, ids_in, keys_of_face, node_at, texts_by}
+use Rattle.zq_tables.specs.declared.holder.Holder.{Holder}
 use Rattle.zq_tables.proofs.Entries.{shown-set, weigh-removed}
+use Rattle.zq_tables.proofs.Holders.{held_part, none_keys, same_ids}
 use Rattle.zq_tables.proofs.Holds.{hold_itself, holds_at}
 
 -- ---- a face in the list of texts
@@ -76,40 +76,24 @@ changed_text names names1 n i f keeps changes = elim (cases_eq i n) [
   | inr differ ↦ ap (λ (e : NameEntry). e.text) (changes.others i differ)
 ]
 
--- ---- what an id stands for, on either side of a face
+-- ---- what an id stands for
 
-module _ (side : Option FaceHolds → List (ℕ × ℕ)) (none : side None ≡ []) where
-  pub side_is : (id n : ℕ) (o : Option FaceHolds) → of_id (side o) id ≡ Some n → (f : FaceHolds) × (o ≡ Some f) × (of_id (side (Some f)) id ≡ Some n)
-  side_is id n None is = absurd (none-some n (ap (λ (l : List (ℕ × ℕ)). of_id l id) (sym none) ∙ is))
-  side_is id n (Some f) is = (f, refl, is)
+pub ids_is : (h : Holder) (id n : ℕ) (o : Option FaceHolds) → of_id (ids_in h o) id ≡ Some n → (f : FaceHolds) × (o ≡ Some f) × (of_id (held_ids h f) id ≡ Some n)
+ids_is h id n None is = absurd (none-some n is)
+ids_is h id n (Some f) is = (f, refl, is)
 
-pub node_live : (names : List NameEntry) (faces : Faces) (face id n : ℕ) → IsHeld names faces → node_at Sender face id faces ≡ Some n → Contains (ids names) n
-node_live names faces face id n held is =
-    let there = side_is (numbers_in Sender) refl id n (ids_at face faces) is in
-    let one = weigh-removed (hold_of n) (is_at (nat_cmp id)) there.0.numbers.theirs n there.2 in
-    held.live n (omega (arith, one, hold_itself n, holds_at n face faces there.0 there.1))
+pub node_live : (h : Holder) (names : List NameEntry) (faces : Faces) (face id n : ℕ) → IsHeld names faces → node_at h face id faces ≡ Some n → Contains (ids names) n
+node_live h names faces face id n held is =
+    let there = ids_is h id n (ids_at face faces) is in
+    let one = weigh-removed (hold_of n) (is_at (nat_cmp id)) (held_ids h there.0) n there.2 in
+    held.live n (omega (arith, one, hold_itself n, held_part h n there.0, holds_at n face faces there.0 there.1))
 
-none_sent : (m : Mapping) → [] ≡ sent_side no_names m
-none_sent Sender = refl
-none_sent Receiver = refl
-
-same_sent : (names : List NameEntry) (f : FaceIds) (m : Mapping) → id_texts names (side f m) ≡ sent_side (texts_of names f) m
-same_sent names f Sender = refl
-same_sent names f Receiver = refl
-
-pub numbers_texts : (m : Mapping) (names : List NameEntry) (faces : Faces) (face : ℕ) → id_texts names (numbers_in m (ids_at face faces)) ≡ sent_side (face_naming face (texts_by names faces)) m
-numbers_texts m names faces face = by (ids_at face faces) refl
+pub ids_texts : (h : Holder) (names : List NameEntry) (faces : Faces) (face : ℕ) → id_texts names (ids_in h (ids_at face faces)) ≡ held_keys h (face_keys face (texts_by names faces))
+ids_texts h names faces face = by (ids_at face faces) refl
   where
-    by : (o : Option FaceHolds) → ids_at face faces ≡ o → id_texts names (numbers_in m o) ≡ sent_side (face_naming face (texts_by names faces)) m
-    by None at = none_sent m ∙ ap (λ (n : FaceKeys). sent_side n.numbers m) (sym (keys_closed names faces face at))
-    by (Some f) at = same_sent names f.numbers m ∙ ap (λ (n : FaceKeys). sent_side n.numbers m) (sym (keys_there names faces face f at))
-
-pub queryables_texts : (names : List NameEntry) (faces : Faces) (face : ℕ) → id_texts names (queryables_in (ids_at face faces)) ≡ face_queryables face (texts_by names faces)
-queryables_texts names faces face = by (ids_at face faces) refl
-  where
-    by : (o : Option FaceHolds) → ids_at face faces ≡ o → id_texts names (queryables_in o) ≡ face_queryables face (texts_by names faces)
-    by None at = ap (λ (n : FaceKeys). n.queryables) (sym (keys_closed names faces face at))
-    by (Some f) at = ap (λ (n : FaceKeys). n.queryables) (sym (keys_there names faces face f at))
+    by : (o : Option FaceHolds) → ids_at face faces ≡ o → id_texts names (ids_in h o) ≡ held_keys h (face_keys face (texts_by names faces))
+    by None at = sym (none_keys h) ∙ ap (held_keys h) (sym (keys_closed names faces face at))
+    by (Some f) at = same_ids h names f ∙ ap (held_keys h) (sym (keys_there names faces face f at))
 
 id_text : (names : List NameEntry) (es : List (ℕ × ℕ)) (id : ℕ) → option_map (λ (n : ℕ). (entry_at names n).text) (of_id es id) ≡ text_at id (id_texts names es)
 id_text names es id = sym (lookup-map_values (λ (k : ℕ). (entry_at names k).text) (is_at (nat_cmp id)) es)
@@ -117,8 +101,5 @@ id_text names es id = sym (lookup-map_values (λ (k : ℕ). (entry_at names k).t
 pub shown_text : (names : List NameEntry) (es : List (ℕ × ℕ)) (id : ℕ) (o : Option ℕ) → of_id es id ≡ o → text_at id (id_texts names es) ≡ option_map (λ (n : ℕ). (entry_at names n).text) o
 shown_text names es id o is = sym (id_text names es id) ∙ ap (option_map (λ (n : ℕ). (entry_at names n).text)) is
 
-pub standing_text : (names : List NameEntry) (faces : Faces) (face id : ℕ) → option_map (λ (n : ℕ). (entry_at names n).text) (node_at Sender face id faces) ≡ text_at id (face_naming face (texts_by names faces)).theirs
-standing_text names faces face id = id_text names (numbers_in Sender (ids_at face faces)) id ∙ ap (text_at id) (numbers_texts Sender names faces face)
-
-pub queryable_text : (names : List NameEntry) (faces : Faces) (face id : ℕ) → option_map (λ (n : ℕ). (entry_at names n).text) (queryable_at face id faces) ≡ text_at id (face_queryables face (texts_by names faces))
-queryable_text names faces face id = id_text names (queryables_in (ids_at face faces)) id ∙ ap (text_at id) (queryables_texts names faces face)
+pub node_text : (h : Holder) (names : List NameEntry) (faces : Faces) (face id : ℕ) → option_map (λ (n : ℕ). (entry_at names n).text) (node_at h face id faces) ≡ text_at id (held_keys h (face_keys face (texts_by names faces)))
+node_text h names faces face id = id_text names (ids_in h (ids_at face faces)) id ∙ ap (text_at id) (ids_texts h names faces face)

@@ -10,7 +10,9 @@ use Rattle.std.proofs.lemmas.List.Elements.{All-head, All-tail, All-cons, All-ni
 use Rattle.zq_names.specs.Names.{NameEntry, ids, entry_at}
 use Rattle.zq_tables.specs.FaceIds.{AreLiveIds, AreLive}
 use Rattle.zq_tables.specs.FaceTexts.{id_texts}
+use Rattle.zq_message.specs.declared.message.Mapping.TheVariants.{Sender, Receiver}
 use Rattle.zq_tables.specs.Naming.{FaceKeys}
+use Rattle.zq_tables.specs.declared.holder.Holder.TheVariants.{Number, Queryable}
 use Rattle.zq_tables.specs.Holding.{FaceHolds, Faces, IsFace, IsHeld, hold_of, side_holds, face_holds, holds_by, ids_at, keys_of_face, texts_by}
 use Rattle.zq_tables.proofs.Entries.{Rises-length, weigh-removed}
 
@@ -35,9 +37,9 @@ few_on_side i (e ∷ es) = omega (arith, at_most_one i e.1, few_on_side i es)
 
 few_at_face : (i : ℕ) (f : FaceHolds) → IsFace f → face_holds i f ≤ 8589934592
 few_at_face i f is =
-    let given : length f.numbers.ours + 1 ≤ 65536 = Rises-length 65536 1 f.numbers.ours is.ours in
-    let numbers : length f.numbers.theirs + 1 ≤ 65536 = Rises-length 65536 1 f.numbers.theirs is.theirs in
-    let queryables : length f.queryables + 0 ≤ 4294967296 = Rises-length 4294967296 0 f.queryables is.queryables in
+    let given : length f.numbers.ours + 1 ≤ 65536 = Rises-length 65536 1 f.numbers.ours (is.rises (Number Receiver)) in
+    let numbers : length f.numbers.theirs + 1 ≤ 65536 = Rises-length 65536 1 f.numbers.theirs (is.rises (Number Sender)) in
+    let queryables : length f.queryables + 0 ≤ 4294967296 = Rises-length 4294967296 0 f.queryables (is.rises Queryable) in
     omega (arith, few_on_side i f.numbers.theirs, few_on_side i f.numbers.ours, few_on_side i f.queryables, numbers, given, queryables)
 
 pub few_holds : (i : ℕ) (faces : Faces) → All IsFace (values_of faces) → holds_by i faces ≤ length faces * 8589934592

@@ -1,5 +1,5 @@
 -- The ids of one side of a face, and the row of them by their nodes.
-use Rattle.std.proofs.Common.{◌≡◌, ◌≢◌, ℕ, ◌+◌, ◌-◌, ◌<◌, ◌≤◌, true, false, cond, eqb, List, [], ◌∷◌, length, get_or, Option, Some, None, IsSome, refl, sym, ap, subst, ◌∙◌, arith, suc, inl, inr, ◌⊎◌}
+use Rattle.std.proofs.Common.{◌≡◌, ◌≢◌, ℕ, ◌+◌, ◌-◌, ◌<◌, ◌≤◌, Bool, true, false, cond, eqb, List, [], ◌∷◌, length, get_or, Option, Some, None, IsSome, refl, sym, ap, subst, ◌∙◌, arith, suc, inl, inr, ◌⊎◌}
 use Rattle.std.specs.declared.cmp.Ordering.{Ordering}
 use Rattle.std.specs.declared.cmp.Ordering.TheVariants.{Less, Equal, Greater}
 use Rattle.std.specs.List.{All, Contains, insert, remove}
@@ -19,7 +19,8 @@ use Rattle.std.proofs.lemmas.Map.Keys.{sorted_tail, below_from_sorted}
 use Rattle.zq_names.proofs.Insertion.{Contains-insert_old, Contains-insert_new, Contains-insert_cases}
 use Rattle.zq_names.proofs.Removal.{Contains-remove, from_Contains-remove}
 use Rattle.zq_tables.specs.FaceIds.{of_id, with_id, without_id, least_id}
-use Rattle.zq_tables.specs.FaceIndex.{node_or, rank, rank_of, HasNode, IsIndex, Divides, Comes, Goes}
+use Rattle.zq_tables.specs.FaceIndex.{node_or, rank, rank_of, HasNode, AreShort, IsIndex, Divides, Comes, Goes}
+use Rattle.zq_key.proofs.Truth.{none_from}
 use Rattle.zq_tables.proofs.IdLemmas.{itself, apart_ids, of_id-with_id, of_id-with_other, of_id-without_other}
 
 -- ---- the least id of a node
@@ -285,6 +286,17 @@ IsIndex-put es row new i n absent small index comes =
           let k_small = (index.only k 0 lt).0 in
           omega arith);
     })
+
+-- an id that has a node is in the row, and those there are of 16 bits
+pub short_ids : (es : List (ℕ × ℕ)) (row : List ℕ) → IsIndex es row → AreShort es
+short_ids es row index i long = none_from (of_id es i) (by (is_some (of_id es i)) refl)
+  where
+    by : (b : Bool) → is_some (of_id es i) ≡ b → is_some (of_id es i) ≡ false
+    by true is =
+        let has = index.has i is in
+        let short : get_or row has.0 i < 65536 = (index.only has.0 i has.1).0 in
+        absurd (omega (arith, short, has.2, long))
+    by false is = is
 
 -- ---- an id goes
 

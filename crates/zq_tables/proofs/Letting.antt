@@ -1,21 +1,22 @@
--- Holds are taken and let go, and ids are put in place and taken out, on either side of a face.
-use Rattle.std.proofs.Common.{◌≡◌, ℕ, ◌+◌, ◌-◌, ◌^◌, ◌<◌, List, length, Some, refl, sym, ap, subst, ◌∙◌, arith, zero, suc, inl, inr, Option, None, [], ◌⊎◌}
+-- Holds are taken and let go, and ids are put in place and taken out.
+use Rattle.std.proofs.Common.{◌≡◌, ℕ, ◌+◌, ◌-◌, ◌^◌, ◌<◌, List, length, Some, refl, sym, ap, subst, ◌∙◌, arith, zero, suc, inl, inr, ◌⊎◌}
 use Rattle.std.specs.List.{All, Contains}
 use Rattle.std.specs.Map.{set_value, values_of}
 use Rattle.std.specs.BTreeMap.{is_at}
 use Rattle.std.specs.Ordering.{nat_cmp}
 use Rattle.std.proofs.lemmas.Bool.{cases_eq}
 use Rattle.std.proofs.lemmas.Map.Views.{All-values-set_value}
-use Rattle.zq_message.specs.declared.message.Mapping.{Mapping}
-use Rattle.zq_message.specs.declared.message.Mapping.TheVariants.{Sender, Receiver}
 use Rattle.zq_names.specs.Names.{NameEntry, ids, entry_at, with_hold, without_hold, change_at}
 use Rattle.zq_names.specs.Idle.{IdleAt, NoneIdle}
 use Rattle.zq_names.specs.Keeping.{AllStay, NoneCome, ChangesAt}
-use Rattle.zq_tables.specs.FaceIds.{of_id}
-use Rattle.zq_tables.specs.Naming.{Names, with_sent, without_sent, without_queryable, change_naming, FaceKeys}
-use Rattle.zq_tables.specs.Holding.{FaceHolds, Faces, InHand, IsFace, IsHeld, LetsGo, TakesHold, hold_of, face_holds, holds_by, ids_at, node_at, queryable_at, put_ids, change_ids, keys_of_face, texts_by, without_hold_at, without_number, numbers_in, queryables_in}
+use Rattle.zq_tables.specs.FaceIds.{without_id}
+use Rattle.zq_tables.specs.FaceTexts.{id_texts}
+use Rattle.zq_tables.specs.Naming.{Names, change_naming}
+use Rattle.zq_tables.specs.Holding.{FaceHolds, Faces, InHand, IsFace, IsHeld, LetsGo, TakesHold, hold_of, face_holds, held_ids, held_keys, holds_by, ids_at, least, limit, node_at, put_ids, change_ids, keys_of_face, texts_by, with_keys, without_key, without_node}
+use Rattle.zq_tables.specs.declared.holder.Holder.{Holder}
 use Rattle.zq_tables.proofs.Entries.{Rises-without_id, weigh-removed, weigh-set, shown-removed}
-use Rattle.zq_tables.proofs.Faces.{set_texts, changed_text, side_is}
+use Rattle.zq_tables.proofs.Faces.{ids_is, set_texts, changed_text}
+use Rattle.zq_tables.proofs.Holders.{holds_with, rises_with, same_ids, shown_with}
 use Rattle.zq_tables.proofs.Holds.{hold_itself, hold_other, few_holds, face_at, same_texts}
 use Rattle.zq_tables.proofs.Lean.{lean_held, lean_unheld}
 
@@ -177,52 +178,23 @@ module _ (names : List NameEntry) (faces faces' : Faces) (face n : ℕ) (was is 
         lean = held.lean;
       }
 
--- ---- an id is taken out, on either side of a face
+-- ---- an id is let go
 
-module _ (side : Option FaceHolds → List (ℕ × ℕ)) (none : side None ≡ []) (id : ℕ) (without : FaceHolds → FaceHolds) where
-  side_freed : ((f : FaceHolds) (i n : ℕ) → of_id (side (Some f)) id ≡ Some n → face_holds i (without f) + hold_of i n ≡ face_holds i f) → ((f : FaceHolds) → IsFace f → IsFace (without f))
-      → (names : List NameEntry) (faces faces' : Faces) (face n : ℕ) → IsHeld names faces → of_id (side (ids_at face faces)) id ≡ Some n → faces' ≡ change_ids face without faces → InHand names faces' n
-  side_freed less is_face names faces faces' face n held node put =
-      let there = side_is side none id n (ids_at face faces) node in
-      freed names faces faces' face n there.0 (without there.0) there.1 (put ∙ ap (put_ids face without faces) there.1) (is_face there.0 (face_at faces face there.0 held.sides there.1)) held (λ i. less there.0 i n there.2)
+module _ (h : Holder) (names : List NameEntry) (faces faces' : Faces) (face id n : ℕ) (node : node_at h face id faces ≡ Some n) (put : faces' ≡ change_ids face (without_node h id) faces) where
+  pub id_freed : IsHeld names faces → InHand names faces' n
+  id_freed held =
+      let there = ids_is h id n (ids_at face faces) node in
+      let ids = held_ids h there.0 in
+      let old = face_at faces face there.0 held.sides there.1 in
+      let is_face = rises_with h there.0 (without_id ids id) old (Rises-without_id (limit h) (least h) id ids (old.rises h)) in
+      freed names faces faces' face n there.0 (without_node h id there.0) there.1 (put ∙ ap (put_ids face (without_node h id) faces) there.1) is_face held
+      (λ i. omega (arith, weigh-removed (hold_of i) (is_at (nat_cmp id)) ids n there.2, holds_with h i there.0 (without_id ids id)))
 
-  side_texts : (g : FaceKeys → FaceKeys) → ((names : List NameEntry) (f : FaceHolds) → keys_of_face names (without f) ≡ g (keys_of_face names f))
-      → (names : List NameEntry) (faces faces' : Faces) (face n : ℕ) → of_id (side (ids_at face faces)) id ≡ Some n → faces' ≡ change_ids face without faces → texts_by names faces' ≡ change_naming face g (texts_by names faces)
-  side_texts g shown names faces faces' face n node put =
-      let there = side_is side none id n (ids_at face faces) node in
-      set_texts names faces faces' face there.0 (without there.0) g there.1 (put ∙ ap (put_ids face without faces) there.1) (shown names there.0)
-
-pub number_freed : (m : Mapping) (names : List NameEntry) (faces faces' : Faces) (face id n : ℕ) → IsHeld names faces → node_at m face id faces ≡ Some n → faces' ≡ change_ids face (without_number m id) faces → InHand names faces' n
-number_freed Sender names faces faces' face id n =
-    side_freed (numbers_in Sender) refl id (without_number Sender id)
-    (λ f i m is. let one = weigh-removed (hold_of i) (is_at (nat_cmp id)) f.numbers.theirs m is in omega (arith, one))
-    (λ f old. record { theirs = Rises-without_id 65536 1 id f.numbers.theirs old.theirs; ours = old.ours; queryables = old.queryables })
-    names faces faces' face n
-number_freed Receiver names faces faces' face id n =
-    side_freed (numbers_in Receiver) refl id (without_number Receiver id)
-    (λ f i m is. let one = weigh-removed (hold_of i) (is_at (nat_cmp id)) f.numbers.ours m is in omega (arith, one))
-    (λ f old. record { theirs = old.theirs; ours = Rises-without_id 65536 1 id f.numbers.ours old.ours; queryables = old.queryables })
-    names faces faces' face n
-
-pub number_freed_texts : (m : Mapping) (names : List NameEntry) (faces faces' : Faces) (face id n : ℕ) → node_at m face id faces ≡ Some n → faces' ≡ change_ids face (without_number m id) faces → texts_by names faces' ≡ change_naming face (without_sent m id) (texts_by names faces)
-number_freed_texts Sender names faces faces' face id n =
-    side_texts (numbers_in Sender) refl id (without_number Sender id) (without_sent Sender id)
-    (λ ns f. ap (with_sent Sender (keys_of_face ns f)) (shown-removed (λ (k : ℕ). (entry_at ns k).text) (is_at (nat_cmp id)) f.numbers.theirs))
-    names faces faces' face n
-number_freed_texts Receiver names faces faces' face id n =
-    side_texts (numbers_in Receiver) refl id (without_number Receiver id) (without_sent Receiver id)
-    (λ ns f. ap (with_sent Receiver (keys_of_face ns f)) (shown-removed (λ (k : ℕ). (entry_at ns k).text) (is_at (nat_cmp id)) f.numbers.ours))
-    names faces faces' face n
-
-pub queryable_freed : (names : List NameEntry) (faces faces' : Faces) (face id n : ℕ) → IsHeld names faces → queryable_at face id faces ≡ Some n → faces' ≡ change_ids face (without_hold_at id) faces → InHand names faces' n
-queryable_freed names faces faces' face id n =
-    side_freed queryables_in refl id (without_hold_at id)
-    (λ f i m is. let one = weigh-removed (hold_of i) (is_at (nat_cmp id)) f.queryables m is in omega (arith, one))
-    (λ f old. record { theirs = old.theirs; ours = old.ours; queryables = Rises-without_id 4294967296 0 id f.queryables old.queryables })
-    names faces faces' face n
-
-pub queryable_freed_texts : (names : List NameEntry) (faces faces' : Faces) (face id n : ℕ) → queryable_at face id faces ≡ Some n → faces' ≡ change_ids face (without_hold_at id) faces → texts_by names faces' ≡ change_naming face (without_queryable id) (texts_by names faces)
-queryable_freed_texts names faces faces' face id n =
-    side_texts queryables_in refl id (without_hold_at id) (without_queryable id)
-    (λ ns f. ap (λ (l : Names). record (keys_of_face ns f) { queryables = l }) (shown-removed (λ (k : ℕ). (entry_at ns k).text) (is_at (nat_cmp id)) f.queryables))
-    names faces faces' face n
+  pub id_freed_texts : texts_by names faces' ≡ change_naming face (without_key h id) (texts_by names faces)
+  id_freed_texts =
+      let there = ids_is h id n (ids_at face faces) node in
+      let ids = held_ids h there.0 in
+      let shown : id_texts names (without_id ids id) ≡ without_id (held_keys h (keys_of_face names there.0)) id =
+      shown-removed (λ (k : ℕ). (entry_at names k).text) (is_at (nat_cmp id)) ids ∙ ap (λ (l : Names). without_id l id) (same_ids h names there.0) in
+      set_texts names faces faces' face there.0 (without_node h id there.0) (without_key h id) there.1 (put ∙ ap (put_ids face (without_node h id) faces) there.1)
+      (shown_with h names there.0 (without_id ids id) ∙ ap (with_keys h (keys_of_face names there.0)) shown)

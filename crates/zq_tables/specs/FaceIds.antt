@@ -35,6 +35,11 @@ abbrev pub side : FaceIds → Mapping → List (ℕ × ℕ)
 side face Sender = face.theirs
 side face Receiver = face.ours
 
+-- with other ids on that side
+abbrev pub with_side : FaceIds → Mapping → List (ℕ × ℕ) → FaceIds
+with_side face Sender ids = record face { theirs = ids }
+with_side face Receiver ids = record face { ours = ids }
+
 -- the side that it names in what is handed to the face
 abbrev pub handed_side : FaceIds → Mapping → List (ℕ × ℕ)
 handed_side face Sender = face.ours

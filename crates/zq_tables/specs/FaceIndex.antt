@@ -22,6 +22,10 @@ rank_of es i = rank (node_or (of_id es i)) i
 abbrev pub HasNode : List (ℕ × ℕ) → ℕ → Type 0
 HasNode es i = (i < 65536) × IsSome (of_id es i)
 
+-- an id of more than 16 bits has no node
+abbrev pub AreShort : List (ℕ × ℕ) → Type 0
+AreShort es = (i : ℕ) → 65536 ≤ i → of_id es i ≡ None
+
 -- the row has the ids that have a node, and their ranks rise
 pub record IsIndex (es : List (ℕ × ℕ)) (row : List ℕ) : Type 0 where
   pub has : (i : ℕ) → IsSome (of_id es i) → Contains row i

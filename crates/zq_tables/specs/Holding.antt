@@ -5,14 +5,14 @@ use Rattle.std.specs.List.{All, Contains}
 use Rattle.std.specs.Ordering.{nat_cmp}
 use Rattle.std.specs.Map.{lookup, set_value, values_of}
 use Rattle.std.specs.BTreeMap.{is_at}
-use Rattle.zq_message.specs.declared.message.Mapping.{Mapping}
-use Rattle.zq_message.specs.declared.message.Mapping.TheVariants.{Sender, Receiver}
 use Rattle.zq_names.specs.Names.{NameEntry, ids, entry_at}
 use Rattle.zq_names.specs.Keeping.{AllStay}
 use Rattle.zq_names.specs.Idle.{IdleAt, NoneIdle}
-use Rattle.zq_tables.specs.FaceIds.{FaceIds, of_id, side, with_id, without_id}
+use Rattle.zq_tables.specs.FaceIds.{FaceIds, of_id, side, with_side, with_id, without_id}
 use Rattle.zq_tables.specs.FaceTexts.{id_texts, texts_of}
-use Rattle.zq_tables.specs.Naming.{FaceKeys, NamingState}
+use Rattle.zq_tables.specs.Naming.{FaceKeys, Names, NamingState, sent_side, with_sent}
+use Rattle.zq_tables.specs.declared.holder.Holder.{Holder}
+use Rattle.zq_tables.specs.declared.holder.Holder.TheVariants.{Number, Queryable}
 
 -- the numbers of a face and the ids of its queryables, with the nodes that they stand for
 pub record FaceHolds : Type 0 where
@@ -35,49 +35,41 @@ texts_by names faces = map (λ p. (p.0, keys_of_face names p.1)) faces
 abbrev pub ids_at : ℕ → Faces → Option FaceHolds
 ids_at face faces = lookup (is_at (nat_cmp face)) faces
 
--- the numbers of a side of a face, none where it isn't open
-abbrev pub numbers_in : Mapping → Option FaceHolds → List (ℕ × ℕ)
-numbers_in m None = []
-numbers_in m (Some f) = side f.numbers m
+-- the ids of a holder at a face, with their nodes
+abbrev pub held_ids : Holder → FaceHolds → List (ℕ × ℕ)
+held_ids (Number m) f = side f.numbers m
+held_ids Queryable f = f.queryables
 
--- the queryables that a face declared, none where it isn't open
-abbrev pub queryables_in : Option FaceHolds → List (ℕ × ℕ)
-queryables_in None = []
-queryables_in (Some f) = f.queryables
+-- none where the face isn't open
+abbrev pub ids_in : Holder → Option FaceHolds → List (ℕ × ℕ)
+ids_in h None = []
+ids_in h (Some f) = held_ids h f
 
--- the node of a number of a side of a face
-abbrev pub node_at : Mapping → ℕ → ℕ → Faces → Option ℕ
-node_at m face id faces = of_id (numbers_in m (ids_at face faces)) id
-
--- the node of a queryable that the face declared
-abbrev pub queryable_at : ℕ → ℕ → Faces → Option ℕ
-queryable_at face id faces = of_id (queryables_in (ids_at face faces)) id
+-- the node of an id
+abbrev pub node_at : Holder → ℕ → ℕ → Faces → Option ℕ
+node_at h face id faces = of_id (ids_in h (ids_at face faces)) id
 
 -- the face isn't open, or the id stands for something there
-abbrev pub is_settled : Option FaceHolds → List (ℕ × ℕ) → ℕ → Bool
-is_settled None side id = true
-is_settled (Some f) side id = is_some (of_id side id)
+abbrev pub is_settled : Holder → ℕ → Option FaceHolds → Bool
+is_settled h id None = true
+is_settled h id (Some f) = is_some (of_id (held_ids h f) id)
 
--- the face isn't open, or its number stands for something
-abbrev pub number_settled : ℕ → ℕ → Faces → Bool
-number_settled face id faces = is_settled (ids_at face faces) (numbers_in Sender (ids_at face faces)) id
+-- the same of a face by its number
+abbrev pub settled_at : Holder → ℕ → ℕ → Faces → Bool
+settled_at h face id faces = is_settled h id (ids_at face faces)
 
--- the face isn't open, or its queryable stands for something
-abbrev pub queryable_settled : ℕ → ℕ → Faces → Bool
-queryable_settled face id faces = is_settled (ids_at face faces) (queryables_in (ids_at face faces)) id
+-- with other ids of a holder
+abbrev pub with_ids : Holder → FaceHolds → List (ℕ × ℕ) → FaceHolds
+with_ids (Number m) f ids = record f { numbers = with_side f.numbers m ids }
+with_ids Queryable f ids = record f { queryables = ids }
 
--- a number of a side is given up
-abbrev pub without_number : Mapping → ℕ → FaceHolds → FaceHolds
-without_number Sender id f = record f { numbers = record f.numbers { theirs = without_id f.numbers.theirs id } }
-without_number Receiver id f = record f { numbers = record f.numbers { ours = without_id f.numbers.ours id } }
+-- an id stands for a node
+abbrev pub with_node : Holder → ℕ → ℕ → FaceHolds → FaceHolds
+with_node h id node f = with_ids h f (with_id (held_ids h f) id node)
 
--- the face's queryable holds a node
-abbrev pub with_hold_at : ℕ → ℕ → FaceHolds → FaceHolds
-with_hold_at id node f = record f { queryables = with_id f.queryables id node }
-
--- the face's queryable holds none
-abbrev pub without_hold_at : ℕ → FaceHolds → FaceHolds
-without_hold_at id f = record f { queryables = without_id f.queryables id }
+-- an id is let go
+abbrev pub without_node : Holder → ℕ → FaceHolds → FaceHolds
+without_node h id f = with_ids h f (without_id (held_ids h f) id)
 
 -- the change of a face that was looked up
 abbrev pub put_ids : ℕ → (FaceHolds → FaceHolds) → Faces → Option FaceHolds → Faces
@@ -87,6 +79,30 @@ put_ids face f faces (Some n) = set_value (is_at (nat_cmp face)) faces (f n)
 -- what holds nodes at an open face is changed
 abbrev pub change_ids : ℕ → (FaceHolds → FaceHolds) → Faces → Faces
 change_ids face f faces = put_ids face f faces (ids_at face faces)
+
+-- ---- the same as texts
+
+-- the ids of a holder with their texts
+abbrev pub held_keys : Holder → FaceKeys → Names
+held_keys (Number m) n = sent_side n.numbers m
+held_keys Queryable n = n.queryables
+
+-- with other ids of a holder
+abbrev pub with_keys : Holder → FaceKeys → Names → FaceKeys
+with_keys (Number m) n names = with_sent m n names
+with_keys Queryable n names = record n { queryables = names }
+
+-- an id stands for a text
+abbrev pub with_key : Holder → ℕ → List ℕ → FaceKeys → FaceKeys
+with_key h id text n = with_keys h n (with_id (held_keys h n) id text)
+
+-- an id is let go
+abbrev pub without_key : Holder → ℕ → FaceKeys → FaceKeys
+without_key h id n = with_keys h n (without_id (held_keys h n) id)
+
+-- all ids of a holder are let go
+abbrev pub without_keys : Holder → FaceKeys → FaceKeys
+without_keys h n = with_keys h n []
 
 -- ---- how often a node is held
 
@@ -116,11 +132,19 @@ abbrev pub Rises : {X : Type 0} → ℕ → ℕ → List (ℕ × X) → Type 0
 Rises limit first [] = first ≤ limit
 Rises limit first (e ∷ es) = (first ≤ e.0) × Rises limit (suc e.0) es
 
--- no number is 0, and ids are in order
+-- the least id that a holder may have: no number is 0
+abbrev pub least : Holder → ℕ
+least (Number m) = 1
+least Queryable = 0
+
+-- its ids are below this
+abbrev pub limit : Holder → ℕ
+limit (Number m) = 65536
+limit Queryable = 4294967296
+
+-- the ids of each holder are in order
 pub record IsFace (f : FaceHolds) : Type 0 where
-  pub theirs : Rises 65536 1 f.numbers.theirs
-  pub ours : Rises 65536 1 f.numbers.ours
-  pub queryables : Rises 4294967296 0 f.queryables
+  pub rises : (h : Holder) → Rises (limit h) (least h) (held_ids h f)
 
 -- each node that is stood for is live, each node is held once for each number and queryable that stands for it, and none is there for nothing
 pub record IsHeld (names : List NameEntry) (faces : Faces) : Type 0 where

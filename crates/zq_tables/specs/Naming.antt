@@ -114,18 +114,6 @@ with_sent mapping.Receiver n names = record n { numbers = record n.numbers { our
 abbrev pub without_sent : Mapping → ℕ → FaceKeys → FaceKeys
 without_sent m id n = with_sent m n (remove_entry (is_at (nat_cmp id)) (sent_side n.numbers m))
 
--- all numbers of that side are given up
-abbrev pub without_all_sent : Mapping → FaceKeys → FaceKeys
-without_all_sent m n = with_sent m n []
-
--- no numbers of either side
-abbrev pub without_numbers : FaceKeys → FaceKeys
-without_numbers n = record n { numbers = no_names }
-
--- the face withdraws its queryables
-abbrev pub without_queryables : FaceKeys → FaceKeys
-without_queryables n = record n { queryables = [] }
-
 -- the id stands for the text, if it stood for none
 abbrev pub first_stays : ℕ → List ℕ → Names → Names
 first_stays id text names = if is_some (text_at id names) then names else insert_entry nat_cmp names id text

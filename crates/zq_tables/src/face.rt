@@ -5,7 +5,7 @@ ghost use Rattle.std.specs.Str.{IsCharBoundary};
 ghost use Rattle.std.specs.List.{Contains};
 ghost use Rattle.zq_key.specs.Key.{is_key as key_of};
 ghost use Rattle.zq_names.specs.Names.{IsLive, HasText, Makes, entry_at};
-ghost use Rattle.zq_tables.specs.FaceIds.{no_ids, of_id, with_id, without_id, side, handed_side, is_used as used_of, next_id, AreLive};
+ghost use Rattle.zq_tables.specs.FaceIds.{no_ids, of_id, with_id, without_id, side, with_side, handed_side, is_used as used_of, next_id, AreLive};
 ghost use Rattle.zq_tables.specs.Registering.{Gives, Maps, Registers};
 ghost use Rattle.zq_tables.specs.FaceTexts.{texts_of, full_of, read_by, known as known_of, part_choice, declared_ids, best_part as part_of, best_key, declared_key, with_declared, registered, register_refusal, IsReason};
 
@@ -58,9 +58,16 @@ impl FaceNames {
     pub fn get_mapping(&self, scope: u16, mapping: Mapping) -> Option<ResourceId>
         ensures { option_map (λ r. r.0) result ≡ of_id (side self.now mapping) scope }
     {
+        self.node_of(mapping, scope as u32)
+    }
+
+    // The same; an id of more than 16 bits has none.
+    pub(crate) fn node_of(&self, mapping: Mapping, id: u32) -> Option<ResourceId>
+        ensures { option_map (λ r. r.0) result ≡ of_id (side self.now mapping) id }
+    {
         let found = match mapping {
-            Mapping::Sender => self.theirs.get(scope),
-            Mapping::Receiver => self.ours.get(scope),
+            Mapping::Sender => self.theirs.get(id),
+            Mapping::Receiver => self.ours.get(id),
         };
         match found {
             Some(node) => Some(ResourceId(node)),
@@ -72,14 +79,11 @@ impl FaceNames {
     pub fn get_sent_mapping(&self, scope: u16, mapping: Mapping) -> Option<ResourceId>
         ensures { option_map (λ r. r.0) result ≡ of_id (handed_side self.now mapping) scope }
     {
-        let found = match mapping {
-            Mapping::Sender => self.ours.get(scope),
-            Mapping::Receiver => self.theirs.get(scope),
+        let other = match mapping {
+            Mapping::Sender => Mapping::Receiver,
+            Mapping::Receiver => Mapping::Sender,
         };
-        match found {
-            Some(node) => Some(ResourceId(node)),
-            None => None,
-        }
+        self.node_of(other, scope as u32)
     }
 
     /// Whether neither side has an id.
@@ -141,19 +145,54 @@ impl FaceNames {
         ensures names { _names.new ≡ _names.old }
         ensures live { AreLive _names.old self.old → AreLive _names.new self.new }
     {
-        if !self.theirs.remove(id) {
-            return Err(NameRefusal::UnknownId);
+        match self.take_theirs(id as u32) {
+            Some(_) => Ok(()),
+            None => Err(NameRefusal::UnknownId),
         }
-        self.free = self.free.min(id);
-        Ok(())
     }
 
     /// Gives up an id that was declared to the face, if it was. The node stays as it is.
     pub fn give_up(&mut self, id: u16)
         ensures { self.new ≡ record self.old { ours = without_id self.old.ours id } }
     {
-        if self.ours.remove(id) {
-            self.free = id.min(self.free);
+        let _ = self.take_ours(id as u32);
+    }
+
+    // Drops an id that the face declared, and answers its node, which stays as it is.
+    fn take_theirs(&mut self, id: u32) -> Option<ResourceId>
+        ensures node { option_map (λ r. r.0) result ≡ of_id self.old.theirs id }
+        ensures ids { self.new ≡ record self.old { theirs = without_id self.old.theirs id } }
+        ensures absent { IfNone result (self.new ≡ self.old) }
+    {
+        let Some(node) = self.theirs.take(id) else {
+            return None;
+        };
+        self.free = self.free.min(id as u16);
+        Some(ResourceId(node))
+    }
+
+    // The same of an id that was declared to the face.
+    fn take_ours(&mut self, id: u32) -> Option<ResourceId>
+        ensures node { option_map (λ r. r.0) result ≡ of_id self.old.ours id }
+        ensures ids { self.new ≡ record self.old { ours = without_id self.old.ours id } }
+        ensures absent { IfNone result (self.new ≡ self.old) }
+    {
+        let Some(node) = self.ours.take(id) else {
+            return None;
+        };
+        self.free = (id as u16).min(self.free);
+        Some(ResourceId(node))
+    }
+
+    // The same of an id of the side that the mapping names in what the face sends.
+    pub(crate) fn take(&mut self, mapping: Mapping, id: u32) -> Option<ResourceId>
+        ensures node { option_map (λ r. r.0) result ≡ of_id (side self.old mapping) id }
+        ensures ids { self.new ≡ with_side self.old mapping (without_id (side self.old mapping) id) }
+        ensures absent { IfNone result (self.new ≡ self.old) }
+    {
+        match mapping {
+            Mapping::Sender => self.take_theirs(id),
+            Mapping::Receiver => self.take_ours(id),
         }
     }
 

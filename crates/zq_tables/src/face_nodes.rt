@@ -1,12 +1,13 @@
 //! What holds nodes of the names at one face.
-ghost use Rattle.std.specs.Prelude.{◌≡◌, ◌≢◌, [], None, IfOk, OnOk, OnErr, option_map, slice_get};
+ghost use Rattle.std.specs.Prelude.{◌≡◌, ◌≢◌, [], None, IfOk, IfNone, OnOk, OnErr, option_copied, option_map, slice_get};
 ghost use Rattle.std.specs.List.Sorted.{IsStrictlySortedBy};
 ghost use Rattle.std.specs.Map.{keys_of};
 ghost use Rattle.std.specs.Ordering.{nat_cmp};
-ghost use Rattle.zq_tables.specs.FaceIds.{AreLive, of_id, side as side_of};
-ghost use Rattle.zq_tables.specs.Holding.{Numbers, with_hold_at, without_hold_at, without_number};
+ghost use Rattle.zq_tables.specs.FaceIds.{AreLive, of_id, without_id};
+ghost use Rattle.zq_tables.specs.Holding.{Numbers, held_ids, with_node, without_node};
 
 use crate::face::FaceNames;
+use crate::holder::Holder;
 use std::alloc::Global;
 use std::collections::BTreeMap;
 use std::marker::Model;
@@ -49,38 +50,37 @@ impl FaceNodes {
         &self.numbers
     }
 
-    // The node of a number of a side.
-    pub(crate) fn number(&self, side: Mapping, id: u16) -> Option<ResourceId>
-        ensures { option_map (λ r. r.0) result ≡ of_id (side_of self.now.numbers side) id }
+    // The node of an id.
+    pub(crate) fn node(&self, holder: Holder, id: u32) -> Option<ResourceId>
+        ensures { option_map (λ r. r.0) result ≡ of_id (held_ids holder self.now) id }
     {
-        self.numbers.get_mapping(id, side)
-    }
-
-    // The least number of a side.
-    pub(crate) fn first_number(&self, side: Mapping) -> Option<u16>
-        ensures { result ≡ slice_get (keys_of (side_of self.now.numbers side)) 0 }
-    {
-        match side {
-            Mapping::Sender => self.numbers.first_id(),
-            Mapping::Receiver => self.numbers.first_given(),
+        match holder {
+            Holder::Number(side) => self.numbers.node_of(side, id),
+            Holder::Queryable => node_of(self.queryables.get(&id)),
         }
     }
 
-    // The node that a queryable holds.
-    pub(crate) fn queryable(&self, id: u32) -> Option<ResourceId>
-        ensures { option_map (λ r. r.0) result ≡ of_id self.now.queryables id }
+    // The least id of a holder.
+    pub(crate) fn first(&self, holder: Holder) -> Option<u32>
+        ensures { result ≡ slice_get (keys_of (held_ids holder self.now)) 0 }
     {
-        match self.queryables.get(&id) {
-            Some(node) => Some(ResourceId(*node)),
-            None => None,
+        match holder {
+            Holder::Number(Mapping::Sender) => wide(self.numbers.first_id()),
+            Holder::Number(Mapping::Receiver) => wide(self.numbers.first_given()),
+            Holder::Queryable => self.queryables.keys().next().copied(),
         }
     }
 
-    // The least id of a queryable.
-    pub(crate) fn first_queryable(&self) -> Option<u32>
-        ensures { result ≡ slice_get (keys_of self.now.queryables) 0 }
+    // An id is let go; its node, which stays as it is.
+    pub(crate) fn take(&mut self, holder: Holder, id: u32) -> Option<ResourceId>
+        ensures node { option_map (λ r. r.0) result ≡ of_id (held_ids holder self.old) id }
+        ensures ids { self.new ≡ without_node holder id self.old }
+        ensures absent { IfNone result (self.new ≡ self.old) }
     {
-        self.queryables.keys().next().copied()
+        match holder {
+            Holder::Number(side) => self.numbers.take(side, id),
+            Holder::Queryable => take_node(&mut self.queryables, id),
+        }
     }
 
     // The face declares a new number for a whole text, of which the node is made.
@@ -108,22 +108,9 @@ impl FaceNodes {
         }
     }
 
-    // A number of a side is given up, whose node stays as it is.
-    pub(crate) fn undeclare(&mut self, names: &mut Names, side: Mapping, id: u16)
-        ensures names { names.new ≡ names.old }
-        ensures ids { self.new ≡ without_number side id self.old }
-    {
-        match side {
-            Mapping::Sender => {
-                let _ = self.numbers.unregister_expr(names, id);
-            }
-            Mapping::Receiver => self.numbers.give_up(id),
-        }
-    }
-
     // A queryable holds a node.
     pub(crate) fn put_queryable(&mut self, id: u32, node: ResourceId) -> Result<(), OutOfMemory>
-        ensures ok { OnOk result (self.new ≡ with_hold_at id node.0 self.old) }
+        ensures ok { OnOk result (self.new ≡ with_node Holder.Queryable id node.0 self.old) }
         ensures err { OnErr result (self.new ≡ self.old) }
     {
         match self.queryables.insert(id, node.0) {
@@ -131,11 +118,33 @@ impl FaceNodes {
             Err(_) => Err(OutOfMemory),
         }
     }
+}
 
-    // A queryable holds no node.
-    pub(crate) fn take_queryable(&mut self, id: u32)
-        ensures { self.new ≡ without_hold_at id self.old }
-    {
-        let _ = self.queryables.remove(&id);
+fn wide(id: Option<u16>) -> Option<u32>
+    ensures { result ≡ id }
+{
+    match id {
+        Some(id) => Some(id as u32),
+        None => None,
+    }
+}
+
+fn node_of(node: Option<&u64>) -> Option<ResourceId>
+    ensures { option_map (λ r. r.0) result ≡ option_copied node.entry }
+{
+    match node {
+        Some(node) => Some(ResourceId(*node)),
+        None => None,
+    }
+}
+
+fn take_node(nodes: &mut BTreeMap<u32, u64>, id: u32) -> Option<ResourceId>
+    ensures node { option_map (λ r. r.0) result ≡ of_id nodes.old.entries id }
+    ensures ids { nodes.new.entries ≡ without_id nodes.old.entries id }
+    ensures absent { IfNone result (nodes.new.entries ≡ nodes.old.entries) }
+{
+    match nodes.remove(&id) {
+        Some(node) => Some(ResourceId(node)),
+        None => None,
     }
 }

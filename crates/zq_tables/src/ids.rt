@@ -1,5 +1,5 @@
 //! The ids of one side of a face, with a way back from a node to its least id.
-ghost use Rattle.std.specs.Prelude.{◌≡◌, ◌↔◌, ◌++◌, [], None, OnOk, OnErr, IfOk, IfErr, IsTrue, is_some, option_map, slice_get, true, false};
+ghost use Rattle.std.specs.Prelude.{◌≡◌, ◌↔◌, ◌++◌, ◌<◌, [], None, OnOk, OnErr, IfOk, IfErr, IfSome, IfNone, IsTrue, is_some, option_map, slice_get, true, false};
 ghost use Rattle.std.specs.List.Sorted.{IsStrictlySortedBy};
 ghost use Rattle.std.specs.Map.{keys_of};
 ghost use Rattle.std.specs.Ordering.{nat_cmp};
@@ -8,6 +8,7 @@ ghost use Rattle.zq_names.specs.Names.{IsLive, HasText, Makes, entry_at};
 ghost use Rattle.zq_names.specs.Keeping.{AllStay};
 ghost use Rattle.zq_names.specs.Idle.{IdleAt, NoneIdle};
 ghost use Rattle.zq_tables.specs.FaceIds.{of_id, with_id, without_id, least_id as least_of_node};
+ghost use Rattle.zq_tables.specs.FaceIndex.{AreShort};
 
 use crate::by_node::{least_of, put_in, seat_in, take_out};
 use std::alloc::Global;
@@ -48,11 +49,11 @@ impl Ids {
         }
     }
 
-    // The node of the id.
-    pub(crate) fn get(&self, id: u16) -> Option<u64>
+    // The node of the id; one of more than 16 bits has none.
+    pub(crate) fn get(&self, id: u32) -> Option<u64>
         ensures { result ≡ of_id self.now id }
     {
-        self.nodes.get(&id).copied()
+        node_at(&self.nodes, id)
     }
 
     pub(crate) fn contains(&self, id: u16) -> bool
@@ -143,20 +144,19 @@ impl Ids {
         }
     }
 
-    // Drops the id, and answers whether it was there.
-    pub(crate) fn remove(&mut self, id: u16) -> bool
-        ensures value { result ≡ is_some (of_id self.old id) }
+    // Drops the id, and answers its node.
+    pub(crate) fn take(&mut self, id: u32) -> Option<u64>
+        ensures node { result ≡ of_id self.old id }
+        ensures short { IfSome result (λ _. id < 65536) }
         ensures entries { self.new ≡ without_id self.old id }
-        ensures absent { result ≡ false → self.new ≡ self.old }
+        ensures absent { IfNone result (self.new ≡ self.old) }
     {
-        match node_at(&self.nodes, id) {
-            Some(node) => {
-                take_out(&self.nodes, &mut self.by_node, node, id);
-                drop_id(&mut self.nodes, id);
-                true
-            }
-            None => false,
-        }
+        let Some(node) = node_at(&self.nodes, id) else {
+            return None;
+        };
+        take_out(&self.nodes, &mut self.by_node, node, id as u16);
+        drop_id(&mut self.nodes, id as u16);
+        Some(node)
     }
 
     #[tactic(auto, using(crate::proofs::IndexLemmas::same_index))]
@@ -171,10 +171,15 @@ impl Ids {
     }
 }
 
-fn node_at(nodes: &BTreeMap<u16, u64>, id: u16) -> Option<u64>
-    ensures { result ≡ of_id nodes.now.entries id }
+fn node_at(nodes: &BTreeMap<u16, u64>, id: u32) -> Option<u64>
+    requires { AreShort nodes.now.entries }
+    ensures node { result ≡ of_id nodes.now.entries id }
+    ensures short { IfSome result (λ _. id < 65536) }
 {
-    nodes.get(&id).copied()
+    if id > 65535 {
+        return None;
+    }
+    nodes.get(&(id as u16)).copied()
 }
 
 fn drop_id(nodes: &mut BTreeMap<u16, u64>, id: u16)

@@ -5,17 +5,15 @@ ghost use Rattle.std.specs.Map.{keys_of, remove_entry};
 ghost use Rattle.std.specs.BTreeMap.{is_at, insert_entry};
 ghost use Rattle.zq_key.specs.Key.{is_key as key_of};
 ghost use Rattle.zq_tables.specs.FaceTexts.{IsReason};
-ghost use Rattle.zq_tables.specs.Naming.{best, change_naming, declare_refusal, face_naming, face_queryables, no_keys, read_by, said_of, sent_side, text_at, with_name, with_queryable, without_all_sent, without_name, without_queryable, without_queryables, without_sent};
+ghost use Rattle.zq_tables.specs.Holding.{held_keys, without_key, without_keys};
+ghost use Rattle.zq_tables.specs.Naming.{best, change_naming, declare_refusal, face_keys, face_naming, face_queryables, no_keys, read_by, said_of, text_at, with_name, with_queryable, without_name, without_queryable, without_sent};
 
 use crate::choice::{plain, whole};
 use crate::face_nodes::FaceNodes;
+use crate::held::{Faces, declare_at, first_at, is_settled, node_at, put_queryable, take_at};
 use crate::hold::{let_go, take_hold};
-use crate::number::{
-    Faces, declare_at, first_number, is_settled, node_at, remaps, said_plainly, said_under,
-    undeclare_at,
-};
-use crate::queryable;
-use crate::queryable::{first_queryable, put_queryable, queryable_at, take_queryable};
+use crate::holder::Holder;
+use crate::number::{remaps, said_plainly, said_under};
 use crate::said::Said;
 use std::alloc::Global;
 use std::collections::BTreeMap;
@@ -83,48 +81,30 @@ impl Naming {
         let _ = self.faces.remove(&face.0);
     }
 
-    // The least number of a side of the face.
-    fn first_number(&self, face: FaceId, side: Mapping) -> Option<u16>
-        ensures first { result ≡ slice_get (keys_of (sent_side (face_naming face.0 self.now) side)) 0 }
-        ensures none { IfNone result (sent_side (face_naming face.0 self.now) side ≡ []) }
+    // The least id of a holder of the face.
+    fn first(&self, face: FaceId, holder: Holder) -> Option<u32>
+        ensures first { result ≡ slice_get (keys_of (held_keys holder (face_keys face.0 self.now))) 0 }
+        ensures none { IfNone result (held_keys holder (face_keys face.0 self.now) ≡ []) }
     {
-        first_number(&self.faces, face.0, side)
+        first_at(&self.faces, face.0, holder)
     }
 
-    // All numbers of a side of the face are given up.
-    fn give_up_numbers(&mut self, face: FaceId, side: Mapping)
-        ensures { self.new ≡ change_naming face.0 (without_all_sent side) self.old }
+    // An id of a holder of the face is let go, and its node goes with its last hold.
+    fn release(&mut self, face: FaceId, holder: Holder, id: u32)
+        ensures { self.new ≡ change_naming face.0 (without_key holder id) self.old }
     {
-        while let Some(id) = self.first_number(face, side) {
-            self.give_up_number(face, side, id);
-        }
-    }
-
-    // A number of a side of the face is given up, and its node goes with its last hold.
-    fn give_up_number(&mut self, face: FaceId, side: Mapping, id: u16)
-        ensures { self.new ≡ change_naming face.0 (without_sent side id) self.old }
-    {
-        let Some(node) = node_at(&self.faces, face.0, side, id) else {
+        let Some(node) = take_at(&mut self.faces, face.0, holder, id) else {
             return;
         };
-        undeclare_at(&mut self.names, &mut self.faces, face.0, side, id);
         let_go(&mut self.names, node);
     }
 
-    // The least id of a queryable of the face.
-    fn first_queryable(&self, face: FaceId) -> Option<u32>
-        ensures first { result ≡ slice_get (keys_of (face_queryables face.0 self.now)) 0 }
-        ensures none { IfNone result (face_queryables face.0 self.now ≡ []) }
+    // All ids of a holder of the face are let go.
+    fn release_all(&mut self, face: FaceId, holder: Holder)
+        ensures { self.new ≡ change_naming face.0 (without_keys holder) self.old }
     {
-        first_queryable(&self.faces, face.0)
-    }
-
-    // The face withdraws all its queryables.
-    fn give_up_queryables(&mut self, face: FaceId)
-        ensures { self.new ≡ change_naming face.0 without_queryables self.old }
-    {
-        while let Some(id) = self.first_queryable(face) {
-            self.release_queryable(face, id);
+        while let Some(id) = self.first(face, holder) {
+            self.release(face, holder, id);
         }
     }
 
@@ -132,9 +112,9 @@ impl Naming {
     fn give_up(&mut self, face: FaceId)
         ensures { self.new ≡ change_naming face.0 (λ _. no_keys) self.old }
     {
-        self.give_up_numbers(face, Mapping::Sender);
-        self.give_up_numbers(face, Mapping::Receiver);
-        self.give_up_queryables(face);
+        self.release_all(face, Holder::Number(Mapping::Sender));
+        self.release_all(face, Holder::Number(Mapping::Receiver));
+        self.release_all(face, Holder::Queryable);
     }
 
     /// What an expression says that the face sends.
@@ -180,7 +160,12 @@ impl Naming {
     pub fn standing(&self, face: FaceId, id: u16) -> Option<&str>
         ensures { option_copied result ≡ text_at id (face_naming face.0 self.now).theirs }
     {
-        match node_at(&self.faces, face.0, Mapping::Sender, id) {
+        match node_at(
+            &self.faces,
+            face.0,
+            Holder::Number(Mapping::Sender),
+            id as u32,
+        ) {
             Some(node) => Some(self.names.expr(node)),
             None => None,
         }
@@ -196,7 +181,12 @@ impl Naming {
     {
         // so many faces at most bound how often a node is held
         let _open = self.faces.len();
-        if is_settled(&self.faces, face.0, id) {
+        if is_settled(
+            &self.faces,
+            face.0,
+            Holder::Number(Mapping::Sender),
+            id as u32,
+        ) {
             return Ok(());
         }
         let wire = whole(Text::new(self.alloc, text)?);
@@ -238,7 +228,7 @@ impl Naming {
     pub fn undeclare(&mut self, face: FaceId, id: u16)
         ensures { self.new ≡ change_naming face.0 (without_name id) self.old }
     {
-        self.give_up_number(face, Mapping::Sender, id);
+        self.release(face, Holder::Number(Mapping::Sender), id as u32);
     }
 
     /// The gateway gives up a number that it declared to the face, and its node goes with its last
@@ -246,14 +236,14 @@ impl Naming {
     pub fn take_back(&mut self, face: FaceId, id: u16)
         ensures { self.new ≡ change_naming face.0 (without_sent Mapping.Receiver id) self.old }
     {
-        self.give_up_number(face, Mapping::Receiver, id);
+        self.release(face, Holder::Number(Mapping::Receiver), id as u32);
     }
 
     /// Whether a queryable of the face holds the node of its key.
     pub fn holds_queryable(&self, face: FaceId, id: u32) -> bool
         ensures { result ≡ is_some (text_at id (face_queryables face.0 self.now)) }
     {
-        queryable_at(&self.faces, face.0, id).is_some()
+        node_at(&self.faces, face.0, Holder::Queryable, id).is_some()
     }
 
     /// The face declares a queryable, which holds the node of its key from then on; one of that id
@@ -267,7 +257,7 @@ impl Naming {
         // so many faces at most bound how often a node is held
         let _open = self.faces.len();
         let fresh = !self.holds_queryable(face, id);
-        if queryable::is_settled(&self.faces, face.0, id) {
+        if is_settled(&self.faces, face.0, Holder::Queryable, id) {
             return Ok(fresh);
         }
         let node = take_hold(&mut self.names, key)?;
@@ -285,10 +275,6 @@ impl Naming {
     pub fn release_queryable(&mut self, face: FaceId, id: u32)
         ensures { self.new ≡ change_naming face.0 (without_queryable id) self.old }
     {
-        let Some(node) = queryable_at(&self.faces, face.0, id) else {
-            return;
-        };
-        take_queryable(&mut self.faces, face.0, id);
-        let_go(&mut self.names, node);
+        self.release(face, Holder::Queryable, id);
     }
 }

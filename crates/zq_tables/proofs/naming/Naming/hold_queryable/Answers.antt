@@ -1,8 +1,9 @@
 use Rattle.std.proofs.Common.{◌≡◌, ◌∙◌, ◌<◌, ◌^◌, length, ap, sym, subst, false, arith}
+use Rattle.zq_tables.specs.declared.holder.Holder.TheVariants.{Queryable}
 use Rattle.zq_tables.specs.Naming.{NamingState, change_naming, with_queryable}
-use Rattle.zq_tables.specs.Holding.{Faces, IsHeld, queryable_settled, texts_by}
+use Rattle.zq_tables.specs.Holding.{Faces, IsHeld, settled_at, texts_by}
 use Rattle.zq_tables.proofs.Letting.{in_hand_held, in_hand_live, left, left_texts, room_held, taken, taken_texts}
-use Rattle.zq_tables.proofs.Queryables.{queryable_held, queryable_held_texts, settled_queryable}
+use Rattle.zq_tables.proofs.Putting.{queryable_held, queryable_held_texts, settled_queryable}
 use Rattle.zq_tables.proofs.naming.Naming.hold_queryable.Goals as goal
 
 pub returns-then-is_settled-clause-ok : goal.returns-then-is_settled-clause-ok
@@ -19,17 +20,16 @@ take_hold-requires c =
 
 pub invariant_of-self-in-Ok : goal.invariant_of-self-in-Ok
 invariant_of-self-in-Ok c =
-    let new : queryable_settled c.args.face.0 c.args.id c.self.inside.faces.entries ≡ false = sym c.is_settled.ensures ∙ c.if-is_settled.false in
+    let new : settled_at Queryable c.args.face.0 c.args.id c.self.inside.faces.entries ≡ false = sym c.is_settled.ensures ∙ c.if-is_settled.false in
     let takes = c.in_ok-node.ensures.ok in
     let hand = taken c.self.inside.names c.take_hold.new.names c.self.inside.faces.entries c.args.key.now c.in_ok-node.node.0 c.self.invariant takes in
-    queryable_held c.take_hold.new.names c.self.inside.faces.entries c.put_queryable.new.faces.entries c.args.face.0 c.args.id c.in_ok-node.node.0 c.args.key.now hand takes.text new (omega arith) c.in-Ok.ensures.ok
+    queryable_held c.take_hold.new.names c.self.inside.faces.entries c.put_queryable.new.faces.entries c.args.face.0 c.args.id c.in_ok-node.node.0 new c.in-Ok.ensures.ok hand (omega arith)
 
 pub returns-in-Ok-clause-ok : goal.returns-in-Ok-clause-ok
 returns-in-Ok-clause-ok c =
-    let new : queryable_settled c.args.face.0 c.args.id c.self.inside.faces.entries ≡ false = sym c.is_settled.ensures ∙ c.if-is_settled.false in
+    let new : settled_at Queryable c.args.face.0 c.args.id c.self.inside.faces.entries ≡ false = sym c.is_settled.ensures ∙ c.if-is_settled.false in
     let takes = c.in_ok-node.ensures.ok in
-    let hand = taken c.self.inside.names c.take_hold.new.names c.self.inside.faces.entries c.args.key.now c.in_ok-node.node.0 c.self.invariant takes in
-    queryable_held_texts c.take_hold.new.names c.self.inside.faces.entries c.put_queryable.new.faces.entries c.args.face.0 c.args.id c.in_ok-node.node.0 c.args.key.now hand takes.text new (omega arith) c.in-Ok.ensures.ok
+    queryable_held_texts c.take_hold.new.names c.self.inside.faces.entries c.put_queryable.new.faces.entries c.args.face.0 c.args.id c.in_ok-node.node.0 new c.in-Ok.ensures.ok c.args.key.now takes.text
     ∙ ap (change_naming c.args.face.0 (with_queryable c.args.id c.args.key.now))
     (taken_texts c.self.inside.names c.take_hold.new.names c.self.inside.faces.entries c.args.key.now c.in_ok-node.node.0 c.self.invariant takes ∙ c.self.view_is)
 

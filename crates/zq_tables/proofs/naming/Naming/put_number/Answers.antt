@@ -1,6 +1,8 @@
 use Rattle.std.proofs.Common.{◌≡◌, ◌∙◌, ◌<◌, ◌^◌, ℕ, List, length, ap, sym, subst, false, IfSome, arith}
+use Rattle.zq_message.specs.declared.message.Mapping.TheVariants.{Sender}
+use Rattle.zq_tables.specs.declared.holder.Holder.TheVariants.{Number}
 use Rattle.zq_tables.specs.Naming.{NamingState, face_naming, text_at, change_naming, with_name}
-use Rattle.zq_tables.specs.Holding.{texts_by, number_settled}
+use Rattle.zq_tables.specs.Holding.{texts_by, settled_at}
 use Rattle.zq_tables.proofs.Declared.{room, declared, declared_texts, settled_texts}
 use Rattle.zq_tables.proofs.naming.Naming.put_number.Goals as goal
 
@@ -15,13 +17,13 @@ returns-then-is_settled-clause-ok c =
 
 pub hold-requires-clause-room : goal.hold-requires-clause-room
 hold-requires-clause-room c =
-    let new : number_settled c.args.face.0 c.args.id c.self.inside.faces.entries ≡ false = sym c.is_settled.ensures ∙ c.if-is_settled.false in
+    let new : settled_at (Number Sender) c.args.face.0 c.args.id c.self.inside.faces.entries ≡ false = sym c.is_settled.ensures ∙ c.if-is_settled.false in
     let few : length c.self.inside.faces.entries < 2 ^ 63 = omega (arith, c.len-open.ensures.len, c.len-open.ensures.small) in
     room c.self.inside.names c.declare_at.new.names c.self.inside.faces.entries c.declare_at.new.faces.entries c.args.face.0 c.args.id c.in_ok-node.node.0 c.whole-wire.result.suffix c.self.invariant new c.in_ok-node.ensures.ok few
 
 pub invariant_of-self-2 : goal.invariant_of-self-2
 invariant_of-self-2 c =
-    let new : number_settled c.args.face.0 c.args.id c.self.inside.faces.entries ≡ false = sym c.is_settled.ensures ∙ c.if-is_settled.false in
+    let new : settled_at (Number Sender) c.args.face.0 c.args.id c.self.inside.faces.entries ≡ false = sym c.is_settled.ensures ∙ c.if-is_settled.false in
     declared c.self.inside.names c.declare_at.new.names c.self.inside.faces.entries c.declare_at.new.faces.entries c.args.face.0 c.args.id c.in_ok-node.node.0 c.whole-wire.result.suffix c.self.invariant new c.in_ok-node.ensures.ok
     c.hold.new.self c.hold.ensures.entries c.hold.ensures.all c.requires.number (omega arith)
 
@@ -29,7 +31,7 @@ pub returns-clause-ok : goal.returns-clause-ok
 returns-clause-ok c =
     let face = c.args.face.0 in
     let id = c.args.id in
-    let new : number_settled face id c.self.inside.faces.entries ≡ false = sym c.is_settled.ensures ∙ c.if-is_settled.false in
+    let new : settled_at (Number Sender) face id c.self.inside.faces.entries ≡ false = sym c.is_settled.ensures ∙ c.if-is_settled.false in
     let text : c.whole-wire.result.suffix ≡ c.args.text.now = ap (λ w. w.suffix) c.whole-wire.ensures ∙ c.in_ok-new.ensures in
     declared_texts c.self.inside.names c.declare_at.new.names c.self.inside.faces.entries c.declare_at.new.faces.entries face id c.in_ok-node.node.0 c.whole-wire.result.suffix c.self.invariant new c.in_ok-node.ensures.ok
     c.hold.new.self c.hold.ensures.entries c.hold.ensures.all c.requires.number (omega arith)

@@ -1,11 +1,14 @@
 use Rattle.std.proofs.Common.{◌≡◌, ℕ, List, sym, subst}
 use Rattle.zq_tables.specs.FaceIds.{without_id}
 use Rattle.zq_tables.specs.FaceIndex.{IsIndex}
-use Rattle.zq_tables.proofs.IndexLemmas.{IsIndex-take, without-absent}
-use Rattle.zq_tables.proofs.ids.Ids.remove.Goals as goal
+use Rattle.zq_tables.proofs.IndexLemmas.{IsIndex-take, short_ids, without-absent}
+use Rattle.zq_tables.proofs.ids.Ids.take.Goals as goal
+
+pub node_at-requires : goal.node_at-requires
+node_at-requires c = short_ids c.self.inside.nodes.entries c.self.inside.by_node c.self.invariant
 
 pub take_out-requires-clause-node : goal.take_out-requires-clause-node
-take_out-requires-clause-node c = sym c.in-Some.ensures
+take_out-requires-clause-node c = sym c.in-Some.ensures.node
 
 pub invariant_of-self : goal.invariant_of-self
 invariant_of-self c =
@@ -14,9 +17,9 @@ invariant_of-self c =
     let I : List (ℕ × ℕ) → Type 0 = λ (l : List (ℕ × ℕ)). IsIndex l new in
     subst I (sym c.drop_id.ensures.entries) (IsIndex-take es c.self.inside.by_node new c.args.id c.drop_id.ensures.gone c.self.invariant c.take_out.ensures)
 
-pub returns-in-None-clause-entries : goal.returns-in-None-clause-entries
-returns-in-None-clause-entries c =
+pub returns-in_default-clause-entries : goal.returns-in_default-clause-entries
+returns-in_default-clause-entries c =
     let es = c.self.inside.nodes.entries in
     let view = c.self.view_is in
-    let same : without_id es c.args.id ≡ es = without-absent es c.args.id (sym c.in-None.ensures) in
+    let same : without_id es c.args.id ≡ es = without-absent es c.args.id (sym c.in_default.ensures.node) in
     cc

@@ -1,0 +1,70 @@
+-- An id comes to stand for a node, which it holds; a queryable that is there stays as it is.
+use Rattle.std.proofs.Common.{◌≡◌, ℕ, ◌<◌, ◌≤◌, true, false, List, Option, Some, None, refl, sym, ap, ◌∙◌, arith}
+use Rattle.std.specs.Option.{is_some}
+use Rattle.std.specs.Map.{set_value}
+use Rattle.std.specs.BTreeMap.{is_at}
+use Rattle.std.specs.Ordering.{nat_cmp}
+use Rattle.std.proofs.lemmas.Bool.{false≢true}
+use Rattle.zq_names.specs.Names.{NameEntry, entry_at}
+use Rattle.zq_tables.specs.FaceIds.{of_id, with_id}
+use Rattle.zq_tables.specs.FaceTexts.{id_texts}
+use Rattle.zq_tables.specs.Naming.{FaceKeys, Names, first_stays, text_at, with_queryable, change_naming}
+use Rattle.zq_tables.specs.Holding.{FaceHolds, Faces, InHand, IsHeld, hold_of, held_ids, held_keys, ids_at, is_settled, settled_at, least, limit, put_ids, change_ids, keys_of_face, texts_by, with_key, with_keys, with_node}
+use Rattle.zq_tables.specs.declared.holder.Holder.{Holder}
+use Rattle.zq_tables.specs.declared.holder.Holder.TheVariants.{Queryable}
+use Rattle.zq_tables.proofs.Entries.{Rises-with_id, weigh-with_id, shown-with_id}
+use Rattle.zq_tables.proofs.Faces.{change_idle, set_texts, shown_text}
+use Rattle.zq_tables.proofs.Holders.{holds_with, rises_with, same_ids, shown_with}
+use Rattle.zq_tables.proofs.Holds.{face_at}
+use Rattle.zq_tables.proofs.Letting.{placed}
+use Rattle.zq_key.proofs.Truth.{none_from, some_from}
+
+pub open_face : (h : Holder) (id : ℕ) (o : Option FaceHolds) → is_settled h id o ≡ false → (f : FaceHolds) × (o ≡ Some f) × (of_id (held_ids h f) id ≡ None)
+open_face h id None is = absurd (false≢true (sym is))
+open_face h id (Some f) is = (f, refl, none_from (of_id (held_ids h f) id) is)
+
+-- ---- a new id takes the hold in hand
+
+module _ (h : Holder) (names : List NameEntry) (faces faces' : Faces) (face id r : ℕ) (was : FaceHolds) (at : ids_at face faces ≡ Some was) (put : faces' ≡ set_value (is_at (nat_cmp face)) faces (with_node h id r was)) where
+  pub id_held : InHand names faces r → of_id (held_ids h was) id ≡ None → least h ≤ id → id < limit h → IsHeld names faces'
+  id_held hand absent above below =
+      let old = face_at faces face was hand.sides at in
+      let ids = held_ids h was in
+      let is_face = rises_with h was (with_id ids id r) old (Rises-with_id (limit h) (least h) id r ids above below (old.rises h)) in
+      placed names faces faces' face r was (with_node h id r was) at put is_face hand
+      (λ i. omega (arith, weigh-with_id (hold_of i) ids id r absent, holds_with h i was (with_id ids id r)))
+
+  pub id_held_texts : (t : List ℕ) (g : FaceKeys → FaceKeys) → (entry_at names r).text ≡ t → g (keys_of_face names was) ≡ with_key h id t (keys_of_face names was) → texts_by names faces' ≡ change_naming face g (texts_by names faces)
+  id_held_texts t g text is =
+      let ids = held_ids h was in
+      let shown : id_texts names (with_id ids id r) ≡ with_id (held_keys h (keys_of_face names was)) id t =
+      shown-with_id (λ (k : ℕ). (entry_at names k).text) ids id r ∙ ap (with_id (id_texts names ids) id) text ∙ ap (λ (l : Names). with_id l id t) (same_ids h names was) in
+      set_texts names faces faces' face was (with_node h id r was) g at put
+      (shown_with h names was (with_id ids id r) ∙ ap (with_keys h (keys_of_face names was)) shown ∙ sym is)
+
+-- ---- a new queryable
+
+module _ (names : List NameEntry) (faces faces' : Faces) (face id r : ℕ) (new : settled_at Queryable face id faces ≡ false) (put : faces' ≡ change_ids face (with_node Queryable id r) faces) where
+  pub queryable_held : InHand names faces r → id < 4294967296 → IsHeld names faces'
+  queryable_held hand small =
+      let there = open_face Queryable id (ids_at face faces) new in
+      id_held Queryable names faces faces' face id r there.0 there.1 (put ∙ ap (put_ids face (with_node Queryable id r) faces) there.1) hand there.2 (omega arith) small
+
+  pub queryable_held_texts : (t : List ℕ) → (entry_at names r).text ≡ t → texts_by names faces' ≡ change_naming face (with_queryable id t) (texts_by names faces)
+  queryable_held_texts t text =
+      let there = open_face Queryable id (ids_at face faces) new in
+      let was = id_texts names there.0.queryables in
+      let none : is_some (text_at id was) ≡ false = ap is_some (shown_text names there.0.queryables id None there.2) in
+      let first : first_stays id t was ≡ with_id was id t = rw none refl in
+      id_held_texts Queryable names faces faces' face id r there.0 there.1 (put ∙ ap (put_ids face (with_node Queryable id r) faces) there.1) t (with_queryable id t) text
+      (ap (λ (l : Names). record (keys_of_face names there.0) { queryables = l }) first)
+
+-- ---- nothing is to be held
+
+pub settled_queryable : (names : List NameEntry) (faces : Faces) (face id : ℕ) (t : List ℕ) → settled_at Queryable face id faces ≡ true → texts_by names faces ≡ change_naming face (with_queryable id t) (texts_by names faces)
+settled_queryable names faces face id t settled =
+    change_idle names faces face (with_queryable id t) (λ f at.
+    let node = some_from (of_id f.queryables id) (ap (λ (o : Option FaceHolds). is_settled Queryable id o) (sym at) ∙ settled) in
+    let some : is_some (text_at id (id_texts names f.queryables)) ≡ true = ap is_some (shown_text names f.queryables id (Some node.0) node.1) in
+    let kept : first_stays id t (id_texts names f.queryables) ≡ id_texts names f.queryables = rw some refl in
+    ap (λ (l : Names). record (keys_of_face names f) { queryables = l }) kept)
