@@ -1,5 +1,5 @@
 -- What the index of a hat has of its faces' declarations, and what is offered by it.
-use Rattle.std.specs.Prelude.{ℕ, ◌≡◌, ◌==◌, true, List, [], ◌∷◌, Option, Some, None, map, filter, if◌then◌else◌}
+use Rattle.std.specs.Prelude.{ℕ, ◌≡◌, ◌==◌, Bool, true, ◌&&◌, List, [], ◌∷◌, Option, Some, None, map, filter, if◌then◌else◌}
 use Rattle.std.specs.List.{flat_map}
 use Rattle.std.specs.List.Sorted.{IsStrictlySortedBy}
 use Rattle.std.specs.Option.{option_and_then, option_to_list}
@@ -17,6 +17,7 @@ use Rattle.zq_hat.specs.declared.types.QueryTargetQabl.{QueryTargetQabl}
 use Rattle.zq_hat.specs.Kept.{at_id, is_on, declaration}
 use Rattle.zq_hat.specs.State.{FaceState}
 use Rattle.zq_hat.specs.Offers.{offer_of}
+use Rattle.zq_hat.specs.Regions.{is_local}
 
 -- the information of a declaration, if it is on the key
 abbrev pub info_on : List ℕ → Declaration → Option QueryableInfoType
@@ -61,6 +62,10 @@ without_declared number index d = without_holding d.1.key (number, d.0) index
 -- the offer for a face's information
 abbrev pub group_offer : Region → List ℕ → List ℕ → ℕ × QueryableInfoType → QueryTargetQabl
 group_offer region q key g = offer_of region q key g.0 g.1
+
+-- the same where it is known whether the key includes the request's
+abbrev pub met_offer : Region → Bool → List ℕ → ℕ × QueryableInfoType → QueryTargetQabl
+met_offer region included key g = record { face = record { 0 = g.0 }; info = Some (record { complete = g.1.complete && included; distance = if is_local region then 0 else 1 }); key = key; region = region; node = 0 }
 
 -- what is offered by the declarations on a key, if it meets the request's
 abbrev pub holder_offers : Region → List ℕ → List ℕ × Holdings → List QueryTargetQabl

@@ -7,7 +7,7 @@ ghost use Rattle.std.specs.String.{string_bytes};
 ghost use Rattle.zq_key.specs.Key.{is_key};
 ghost use Rattle.zq_hat.specs.Offers.{bare_offer, bare_offers, bare_on, may_have, offer_cmp, place, sorted, distance};
 ghost use Rattle.zq_index.specs.Holders.{Holdings, AreListed};
-ghost use Rattle.zq_hat.specs.Tied.{IsKeyed, groups_from, group_offer, holder_offers};
+ghost use Rattle.zq_hat.specs.Tied.{IsKeyed, groups_from, group_offer, holder_offers, met_offer};
 ghost use Rattle.zq_index.specs.Texts.{texts_of};
 
 use crate::face::HatFace;
@@ -106,20 +106,20 @@ fn text_for(alloc: Global, key: &str, count: usize) -> Result<Text, OutOfMemory>
 }
 
 /// The offer of the face for the key.
-fn offer_of(region: Region, key: Text, q: &str, group: Group) -> QueryTargetQabl
-    requires key { IsTrue (is_key key) }
-    requires asked { IsTrue (is_key q.now) }
-    ensures { result ≡ group_offer region q.now key group }
+fn offer_of(region: Region, key: Text, included: bool, group: Group) -> QueryTargetQabl
+    ensures { result ≡ met_offer region included key group }
 {
     let distance = if matches!(region, Region::Local) {
         0
     } else {
         1
     };
-    let complete = group.1.complete && includes(key.as_str(), q);
     QueryTargetQabl {
         face: FaceId(group.0),
-        info: Some(QueryableInfoType { complete, distance }),
+        info: Some(QueryableInfoType {
+            complete: group.1.complete && included,
+            distance,
+        }),
         key,
         region,
         node: 0,
@@ -131,14 +131,12 @@ fn put_group(
     offers: &mut Vec<QueryTargetQabl>,
     region: Region,
     key: Text,
-    q: &str,
+    included: bool,
     group: Group,
 ) -> Result<(), OutOfMemory>
-    requires key { IsTrue (is_key key) }
-    requires asked { IsTrue (is_key q.now) }
-    ensures { OnOk result (offers.new.items ≡ place offer_cmp offers.old.items (group_offer region q.now key group)) }
+    ensures { OnOk result (offers.new.items ≡ place offer_cmp offers.old.items (met_offer region included key group)) }
 {
-    put(offers, offer_of(region, key, q, group))
+    put(offers, offer_of(region, key, included, group))
 }
 
 /// Merges a declaration into those of its face, or puts the offer of the face before it.
@@ -147,14 +145,12 @@ fn next_group(
     alloc: Global,
     region: Region,
     key: &Text,
-    q: &str,
+    included: bool,
     group: Option<Group>,
     face: u32,
     info: QueryableInfoType,
 ) -> Result<Group, OutOfMemory>
-    requires key { IsTrue (is_key key.now) }
-    requires asked { IsTrue (is_key q.now) }
-    ensures { IfOk result (λ next. (id : ℕ) (rest : Holdings) → fold (place offer_cmp) offers.new.items (map (group_offer region q.now key.now) (groups_from (Some next) rest)) ≡ fold (place offer_cmp) offers.old.items (map (group_offer region q.now key.now) (groups_from group (((face, id), info) ∷ rest)))) }
+    ensures { IfOk result (λ next. (id : ℕ) (rest : Holdings) → fold (place offer_cmp) offers.new.items (map (met_offer region included key.now) (groups_from (Some next) rest)) ≡ fold (place offer_cmp) offers.old.items (map (met_offer region included key.now) (groups_from group (((face, id), info) ∷ rest)))) }
 {
     let Some(open) = group else {
         return Ok((face, info));
@@ -162,7 +158,7 @@ fn next_group(
     if open.0 == face {
         return Ok((open.0, merge_qabl_infos(open.1, info)));
     }
-    put_group(offers, region, key.copy(alloc)?, q, open)?;
+    put_group(offers, region, key.copy(alloc)?, included, open)?;
     Ok((face, info))
 }
 
@@ -171,15 +167,13 @@ fn last_group(
     offers: &mut Vec<QueryTargetQabl>,
     region: Region,
     key: Text,
-    q: &str,
+    included: bool,
     group: Option<Group>,
 ) -> Result<(), OutOfMemory>
-    requires key { IsTrue (is_key key) }
-    requires asked { IsTrue (is_key q.now) }
-    ensures { OnOk result (offers.new.items ≡ fold (place offer_cmp) offers.old.items (map (group_offer region q.now key) (option_to_list group))) }
+    ensures { OnOk result (offers.new.items ≡ fold (place offer_cmp) offers.old.items (map (met_offer region included key) (option_to_list group))) }
 {
     match group {
-        Some(open) => put_group(offers, region, key, q, open),
+        Some(open) => put_group(offers, region, key, included, open),
         None => Ok(()),
     }
 }
@@ -197,12 +191,15 @@ fn add_groups(
     requires asked { IsTrue (is_key q.now) }
     ensures { OnOk result (offers.new.items ≡ fold (place offer_cmp) offers.old.items (map (group_offer region q.now key.now) (groups_from None infos.now.entries))) }
 {
+    let included = includes(key, q);
     let text = text_for(alloc, key, infos.len())?;
     let mut group = None;
     for (place, info) in infos {
-        group = Some(next_group(offers, alloc, region, &text, q, group, place.0, *info)?);
+        group = Some(next_group(
+            offers, alloc, region, &text, included, group, place.0, *info,
+        )?);
     }
-    last_group(offers, region, text, q, group)
+    last_group(offers, region, text, included, group)
 }
 
 /// Adds what is offered on the key, if it meets the request's.

@@ -1,9 +1,9 @@
 use Rattle.std.proofs.Common.{◌≡◌, fold, map, None}
 use Rattle.zq_hat.specs.Offers.{place, offer_cmp}
-use Rattle.zq_hat.specs.Tied.{group_offer, groups_from}
+use Rattle.zq_hat.specs.Tied.{groups_from, met_offer}
 use Rattle.zq_hat.proofs.offers.add_groups.Given as goal
 
 abbrev pub invariant-loop-place : goal.invariant-loop-place
 invariant-loop-place l =
-    fold (place offer_cmp) l.offers.items (map (group_offer l.region l.q l.key) (groups_from l.group l.place-iterator))
-    ≡ fold (place offer_cmp) l.initial.offers.items (map (group_offer l.region l.q l.key) (groups_from None l.infos.entries))
+    fold (place offer_cmp) l.offers.items (map (met_offer l.region l.included l.key) (groups_from l.group l.place-iterator))
+    ≡ fold (place offer_cmp) l.initial.offers.items (map (met_offer l.region l.included l.key) (groups_from None l.infos.entries))
