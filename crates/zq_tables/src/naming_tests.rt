@@ -12,11 +12,44 @@ const FACE: FaceId = FaceId(3);
 
 const OTHER: FaceId = FaceId(5);
 
-// Whether the text is handed to the face under the scope, with the suffix.
-fn is_handed(names: &Naming, face: FaceId, text: &Text, scope: u16, suffix: &str) -> bool {
-    match names.best(face, text) {
-        Ok(wire) => wire.scope == scope && wire.suffix.as_str() == suffix,
-        Err(_) => false,
+// What is done at two open faces, or asked, with what must come of it.
+#[derive(Clone, Copy)]
+enum Step<'a> {
+    Open(FaceId),
+    Close(FaceId),
+    // the face declares the number for the text, or why it can't
+    Declare(FaceId, u16, &'a str, Option<NameRefusal>),
+    Undeclare(FaceId, u16),
+    // whether the number stands for something
+    Stands(FaceId, u16, bool),
+    // the face declares a queryable, and whether none of that id was there
+    Hold(FaceId, u32, &'a str, bool),
+    Release(FaceId, u32),
+    // whether a queryable of that id is there
+    Holds(FaceId, u32, bool),
+    // the text is handed to the face under the scope, with the suffix
+    Best(FaceId, &'a str, u16, &'a str),
+    // what the suffix says under the scope, if the face has that number
+    Says(FaceId, u16, &'a str, Option<&'a str>),
+}
+
+fn refusal_of(declared: Result<(), NameRefusal>) -> Option<NameRefusal> {
+    match declared {
+        Ok(()) => None,
+        Err(refusal) => Some(refusal),
+    }
+}
+
+fn is_fresh(
+    alloc: Global,
+    names: &mut Naming,
+    face: FaceId,
+    id: u32,
+    text: &str,
+) -> Result<bool, OutOfMemory> {
+    match Key::new(alloc, text) {
+        Ok(key) => names.hold_queryable(face, id, &key),
+        Err(_) => Err(OutOfMemory),
     }
 }
 
@@ -27,21 +60,60 @@ fn is_best(
     text: &str,
     scope: u16,
     suffix: &str,
-) -> bool {
-    match Text::new(alloc, text) {
-        Ok(text) => is_handed(names, face, &text, scope, suffix),
-        Err(_) => false,
+) -> Result<bool, OutOfMemory> {
+    let text = Text::new(alloc, text)?;
+    let wire = names.best(face, &text)?;
+    Ok(wire.scope == scope && wire.suffix.as_str() == suffix)
+}
+
+fn says(
+    alloc: Global,
+    names: &Naming,
+    face: FaceId,
+    scope: u16,
+    suffix: &str,
+    full: Option<&str>,
+) -> Result<bool, OutOfMemory> {
+    let wire = WireExpr {
+        scope,
+        mapping: Mapping::Sender,
+        suffix: Text::new(alloc, suffix)?,
+    };
+    match names.said(face, &wire)? {
+        Said::Full(text) => Ok(full == Some(text.as_str())),
+        Said::Empty => Ok(false),
+        Said::Unscoped => Ok(full.is_none()),
     }
 }
 
-// Whether the face declares the number for the text.
-fn declares(names: &mut Naming, face: FaceId, id: u16, text: &str) -> bool {
-    names.declare(face, id, text).is_ok()
-}
-
-// Whether the face declares a queryable of an id that held nothing before.
-fn holds(names: &mut Naming, face: FaceId, id: u32, key: &Key) -> bool {
-    matches!(names.hold_queryable(face, id, key), Ok(true))
+// Whether it came out as it must.
+fn is_right(alloc: Global, names: &mut Naming, step: Step<'_>) -> Result<bool, OutOfMemory> {
+    match step {
+        Step::Open(face) => {
+            names.open(face)?;
+            Ok(true)
+        }
+        Step::Close(face) => {
+            names.close(face);
+            Ok(true)
+        }
+        Step::Declare(face, id, text, refusal) => {
+            Ok(refusal_of(names.declare(face, id, text)) == refusal)
+        }
+        Step::Undeclare(face, id) => {
+            names.undeclare(face, id);
+            Ok(true)
+        }
+        Step::Stands(face, id, there) => Ok(names.standing(face, id).is_some() == there),
+        Step::Hold(face, id, text, fresh) => Ok(is_fresh(alloc, names, face, id, text)? == fresh),
+        Step::Release(face, id) => {
+            names.release_queryable(face, id);
+            Ok(true)
+        }
+        Step::Holds(face, id, there) => Ok(names.holds_queryable(face, id) == there),
+        Step::Best(face, text, scope, suffix) => is_best(alloc, names, face, text, scope, suffix),
+        Step::Says(face, scope, suffix, full) => says(alloc, names, face, scope, suffix, full),
+    }
 }
 
 fn two_faces(alloc: Global) -> Result<Naming, OutOfMemory> {
@@ -51,138 +123,135 @@ fn two_faces(alloc: Global) -> Result<Naming, OutOfMemory> {
     Ok(names)
 }
 
+// The first step, from two open faces on, that did not come out as it must.
+fn wrong_step(alloc: Global, steps: &[Step<'_>]) -> Result<Option<usize>, OutOfMemory> {
+    let mut names = two_faces(alloc)?;
+    for k in 0..steps.len() {
+        if !is_right(alloc, &mut names, steps[k])? {
+            return Ok(Some(k));
+        }
+    }
+    Ok(None)
+}
+
 // Numbers on nested texts: the longest part of whole chunks, and the least of several numbers.
 #[test]
-fn best_keys(rt: HostRuntime) {
-    let Ok(mut names) = two_faces(rt.alloc()) else {
-        panic!(rt; "no memory");
-    };
-    for (id, text) in [(7, "a"), (5, "a/b"), (9, "a/b/c/d"), (6, "a/b"), (2, "x/*")] {
-        assert!(rt; declares(&mut names, FACE, id, text));
-    }
-    for (text, scope, suffix) in [
-        ("a", 7, ""),
-        ("a/b", 5, ""),
-        ("a/b/c", 5, "/c"),
-        ("a/b/c/d", 9, ""),
-        ("a/b/c/d/e", 9, "/e"),
-        ("a/bc", 7, "/bc"),
-        ("ab", 0, "ab"),
-        ("x/*", 2, ""),
-        ("x/y", 0, "x/y"),
-    ] {
-        assert!(rt;
-            is_best(rt.alloc(), &names, FACE, text, scope, suffix),
-            "{text}"
-        );
-        assert!(rt; is_best(rt.alloc(), &names, OTHER, text, 0, text), "{text}");
-    }
+fn best_keys(rt: HostRuntime) -> Result<(), Fail> {
+    let steps = [
+        Step::Declare(FACE, 7, "a", None),
+        Step::Declare(FACE, 5, "a/b", None),
+        Step::Declare(FACE, 9, "a/b/c/d", None),
+        Step::Declare(FACE, 6, "a/b", None),
+        Step::Declare(FACE, 2, "x/*", None),
+        Step::Best(FACE, "a", 7, ""),
+        Step::Best(FACE, "a/b", 5, ""),
+        Step::Best(FACE, "a/b/c", 5, "/c"),
+        Step::Best(FACE, "a/b/c/d", 9, ""),
+        Step::Best(FACE, "a/b/c/d/e", 9, "/e"),
+        Step::Best(FACE, "a/bc", 7, "/bc"),
+        Step::Best(FACE, "ab", 0, "ab"),
+        Step::Best(FACE, "x/*", 2, ""),
+        Step::Best(FACE, "x/y", 0, "x/y"),
+        Step::Best(OTHER, "a", 0, "a"),
+        Step::Best(OTHER, "a/b/c", 0, "a/b/c"),
+        Step::Best(OTHER, "x/*", 0, "x/*"),
+    ];
+    assert_eq!(rt; wrong_step(rt.alloc(), &steps)?, None);
+    Ok(())
 }
 
 // A number that is given up is no key, and leaves the other numbers of its text and of the texts
 // above and below it.
 #[test]
-fn given_up(rt: HostRuntime) {
-    let Ok(mut names) = two_faces(rt.alloc()) else {
-        panic!(rt; "no memory");
-    };
-    for (id, text) in [(7, "a"), (5, "a/b"), (6, "a/b"), (9, "a/b/c")] {
-        assert!(rt; declares(&mut names, FACE, id, text));
-    }
-    names.undeclare(FACE, 5);
-    assert!(rt; is_best(rt.alloc(), &names, FACE, "a/b", 6, ""));
-    names.undeclare(FACE, 6);
-    assert!(rt; names.standing(FACE, 6).is_none());
-    assert!(rt; is_best(rt.alloc(), &names, FACE, "a/b", 7, "/b"));
-    assert!(rt; is_best(rt.alloc(), &names, FACE, "a/b/c", 9, ""));
-    names.undeclare(FACE, 9);
-    assert!(rt; is_best(rt.alloc(), &names, FACE, "a/b/c", 7, "/b/c"));
-    assert!(rt; declares(&mut names, FACE, 5, "a/b/c"));
-    assert!(rt; declares(&mut names, FACE, 5, "a/b/c"));
-    assert!(rt; !declares(&mut names, FACE, 5, "a/b"));
-    names.undeclare(FACE, 5);
-    assert!(rt; is_best(rt.alloc(), &names, FACE, "a/b/c", 7, "/b/c"));
+fn given_up(rt: HostRuntime) -> Result<(), Fail> {
+    let steps = [
+        Step::Declare(FACE, 7, "a", None),
+        Step::Declare(FACE, 5, "a/b", None),
+        Step::Declare(FACE, 6, "a/b", None),
+        Step::Declare(FACE, 9, "a/b/c", None),
+        Step::Undeclare(FACE, 5),
+        Step::Best(FACE, "a/b", 6, ""),
+        Step::Undeclare(FACE, 6),
+        Step::Stands(FACE, 6, false),
+        Step::Best(FACE, "a/b", 7, "/b"),
+        Step::Best(FACE, "a/b/c", 9, ""),
+        Step::Undeclare(FACE, 9),
+        Step::Best(FACE, "a/b/c", 7, "/b/c"),
+        Step::Declare(FACE, 5, "a/b/c", None),
+        Step::Declare(FACE, 5, "a/b/c", None),
+        Step::Declare(FACE, 5, "a/b", Some(NameRefusal::Remapped)),
+        Step::Undeclare(FACE, 5),
+        Step::Best(FACE, "a/b/c", 7, "/b/c"),
+    ];
+    assert_eq!(rt; wrong_step(rt.alloc(), &steps)?, None);
+    Ok(())
 }
 
 // A face that closes gives up its own numbers, and not those of another face for the same text.
 #[test]
-fn closed(rt: HostRuntime) {
-    let Ok(mut names) = two_faces(rt.alloc()) else {
-        panic!(rt; "no memory");
-    };
-    for (face, id, text) in [(FACE, 7, "a/b"), (FACE, 8, "c"), (OTHER, 4, "a/b")] {
-        assert!(rt; declares(&mut names, face, id, text));
-    }
-    names.close(FACE);
-    assert!(rt; is_best(rt.alloc(), &names, FACE, "a/b", 0, "a/b"));
-    assert!(rt; is_best(rt.alloc(), &names, OTHER, "a/b/c", 4, "/c"));
-    assert!(rt; names.open(OTHER).is_ok());
-    assert!(rt; is_best(rt.alloc(), &names, OTHER, "a/b/c", 0, "a/b/c"));
+fn closed(rt: HostRuntime) -> Result<(), Fail> {
+    let steps = [
+        Step::Declare(FACE, 7, "a/b", None),
+        Step::Declare(FACE, 8, "c", None),
+        Step::Declare(OTHER, 4, "a/b", None),
+        Step::Close(FACE),
+        Step::Best(FACE, "a/b", 0, "a/b"),
+        Step::Best(OTHER, "a/b/c", 4, "/c"),
+        Step::Open(OTHER),
+        Step::Best(OTHER, "a/b/c", 0, "a/b/c"),
+    ];
+    assert_eq!(rt; wrong_step(rt.alloc(), &steps)?, None);
+    Ok(())
 }
 
 #[test]
-fn said(rt: HostRuntime) {
-    let alloc = rt.alloc();
-    let Ok(mut names) = two_faces(alloc) else {
-        panic!(rt; "no memory");
-    };
-    assert!(rt; declares(&mut names, FACE, 7, "a"));
-    for (scope, suffix, full) in [(7, "/b", "a/b"), (0, "c", "c")] {
-        let Ok(suffix) = Text::new(alloc, suffix) else {
-            panic!(rt; "no memory");
-        };
-        let wire = WireExpr {
-            scope,
-            mapping: Mapping::Sender,
-            suffix,
-        };
-        match names.said(FACE, &wire) {
-            Ok(Said::Full(text)) => assert!(rt; text.as_str() == full),
-            _ => panic!(rt; "{full}"),
-        }
-        assert!(rt; (scope == 0) != matches!(names.said(OTHER, &wire), Ok(Said::Unscoped)));
-    }
+fn said(rt: HostRuntime) -> Result<(), Fail> {
+    let steps = [
+        Step::Declare(FACE, 7, "a", None),
+        Step::Says(FACE, 7, "/b", Some("a/b")),
+        Step::Says(OTHER, 7, "/b", None),
+        Step::Says(FACE, 0, "c", Some("c")),
+        Step::Says(OTHER, 0, "c", Some("c")),
+    ];
+    assert_eq!(rt; wrong_step(rt.alloc(), &steps)?, None);
+    Ok(())
 }
 
 // What can't be declared, and why.
 #[test]
-fn refused(rt: HostRuntime) {
-    let Ok(mut names) = two_faces(rt.alloc()) else {
-        panic!(rt; "no memory");
-    };
-    assert!(rt; declares(&mut names, FACE, 7, "a"));
-    for (id, text, refusal) in [
-        (0, "a//b", NameRefusal::InvalidKeyExpr),
-        (7, "", NameRefusal::InvalidKeyExpr),
-        (0, "a", NameRefusal::Remapped),
-        (7, "b", NameRefusal::Remapped),
-    ] {
-        assert!(rt; names.declare(FACE, id, text) == Err(refusal), "{text}");
-    }
-    assert!(rt; is_best(rt.alloc(), &names, FACE, "a", 7, ""));
+fn refused(rt: HostRuntime) -> Result<(), Fail> {
+    let steps = [
+        Step::Declare(FACE, 7, "a", None),
+        Step::Declare(FACE, 0, "a//b", Some(NameRefusal::InvalidKeyExpr)),
+        Step::Declare(FACE, 7, "", Some(NameRefusal::InvalidKeyExpr)),
+        Step::Declare(FACE, 0, "a", Some(NameRefusal::Remapped)),
+        Step::Declare(FACE, 7, "b", Some(NameRefusal::Remapped)),
+        Step::Best(FACE, "a", 7, ""),
+    ];
+    assert_eq!(rt; wrong_step(rt.alloc(), &steps)?, None);
+    Ok(())
 }
 
 // A queryable holds its node from its declaration on, whatever numbers stand for the same text,
-// until it is withdrawn or its face closes.
+// until it is withdrawn or its face closes. Its id may be wider than a number.
 #[test]
-fn queryables(rt: HostRuntime) {
-    let alloc = rt.alloc();
-    let Ok(mut names) = two_faces(alloc) else {
-        panic!(rt; "no memory");
-    };
-    let (Ok(key), Ok(other)) = (Key::new(alloc, "a/b"), Key::new(alloc, "c")) else {
-        panic!(rt; "no memory");
-    };
-    assert!(rt; holds(&mut names, FACE, 1, &key));
-    assert!(rt; !holds(&mut names, FACE, 1, &other));
-    assert!(rt; holds(&mut names, OTHER, 1, &key));
-    assert!(rt; declares(&mut names, FACE, 7, "a/b"));
-    names.release_queryable(FACE, 1);
-    assert!(rt; !names.holds_queryable(FACE, 1));
-    assert!(rt; is_best(rt.alloc(), &names, FACE, "a/b", 7, ""));
-    names.undeclare(FACE, 7);
-    assert!(rt; names.holds_queryable(OTHER, 1));
-    names.close(OTHER);
-    assert!(rt; holds(&mut names, OTHER, 1, &key));
-    assert!(rt; !names.holds_queryable(OTHER, 1));
+fn queryables(rt: HostRuntime) -> Result<(), Fail> {
+    let steps = [
+        Step::Hold(FACE, 1, "a/b", true),
+        Step::Hold(FACE, 1, "c", false),
+        Step::Hold(OTHER, 1, "a/b", true),
+        Step::Declare(FACE, 7, "a/b", None),
+        Step::Hold(FACE, 65543, "c", true),
+        Step::Release(FACE, 65543),
+        Step::Release(FACE, 1),
+        Step::Holds(FACE, 1, false),
+        Step::Best(FACE, "a/b", 7, ""),
+        Step::Undeclare(FACE, 7),
+        Step::Holds(OTHER, 1, true),
+        Step::Close(OTHER),
+        Step::Hold(OTHER, 1, "a/b", true),
+        Step::Holds(OTHER, 1, false),
+    ];
+    assert_eq!(rt; wrong_step(rt.alloc(), &steps)?, None);
+    Ok(())
 }

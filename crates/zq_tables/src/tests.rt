@@ -7,34 +7,6 @@ use zq_key::memory::OutOfMemory;
 use zq_key::message::{Mapping, WireExpr};
 use zq_key::text::Text;
 
-#[test]
-fn best_keys(rt: HostRuntime) -> Result<(), Fail> {
-    let alloc = rt.alloc();
-    let mut names = Names::new(alloc)?;
-    let mut face = FaceNames::new(alloc);
-    let long = WireExpr {
-        scope: 0,
-        mapping: Mapping::Sender,
-        suffix: Text::new(alloc, "test/queryable/reply")?,
-    };
-    face.register_expr(alloc, &mut names, 11, &long)?;
-    let best = face.get_best_key(alloc, &names, names.root(), "test/queryable/reply/*")?;
-    assert_eq!(rt; best.scope, 11);
-    assert_eq!(rt; best.mapping, Mapping::Receiver);
-    assert_eq!(rt; best.suffix.as_str(), "/*");
-    let near = face.get_best_key(alloc, &names, names.root(), "test/queryable/replying")?;
-    assert_eq!(rt; near.scope, 0);
-    assert_eq!(rt; near.suffix.as_str(), "test/queryable/replying");
-    assert_eq!(rt;
-        matches!(
-            face.register_expr(alloc, &mut names, 0, &long),
-            Err(NameRefusal::Remapped)
-        ),
-        true
-    );
-    Ok(())
-}
-
 // A face with its names, whose ids are live.
 #[derive(Drop)]
 struct Known {
@@ -161,6 +133,21 @@ fn by_gateway<'a>(at: &'a str, suffix: &'a str, scope: u16, rest: &'a str) -> Ro
     }
 }
 
+// A reply's key by a number of its queryable's, and one that only begins like it.
+#[test]
+fn best_keys(rt: HostRuntime) -> Result<(), Fail> {
+    let alloc = rt.alloc();
+    let mut known = Known::new(alloc, "a")?;
+    known.register(alloc, 11, "test/queryable/reply")?;
+    let rows = [
+        by_face("", "test/queryable/reply/*", 11, "/*"),
+        by_gateway("", "test/queryable/replying", 0, "test/queryable/replying"),
+    ];
+    assert_eq!(rt; known.wrong_row(alloc, &rows)?, None);
+    assert!(rt; known.register(alloc, 0, "a") == Err(NameRefusal::Remapped));
+    Ok(())
+}
+
 // The rows of zenoh's own test of best keys at its first face, which named `a`.
 #[test]
 fn best_keys_of_one_id(rt: HostRuntime) -> Result<(), Fail> {
@@ -216,37 +203,49 @@ fn best_keys_from_a_node(rt: HostRuntime) -> Result<(), Fail> {
     Ok(())
 }
 
+// Whether the best key is the next shorter one each time that an id goes.
+fn shorter(known: &mut Known, alloc: Global) -> Result<bool, NameRefusal> {
+    known.unregister(3)?;
+    if !known.best_is(alloc, &by_face("a/b/c", "/d", 2, "/c/d"))? {
+        return Ok(false);
+    }
+    known.unregister(2)?;
+    Ok(known.best_is(alloc, &by_gateway("a/b/c", "/d", 0, "a/b/c/d"))?)
+}
+
 #[test]
 fn best_keys_as_ids_go(rt: HostRuntime) -> Result<(), Fail> {
     let alloc = rt.alloc();
     let mut known = nested(alloc)?;
-    known.unregister(3)?;
-    let above = [by_face("a/b/c", "/d", 2, "/c/d")];
-    assert_eq!(rt; known.wrong_row(alloc, &above)?, None);
-    known.unregister(2)?;
-    let whole = [by_gateway("a/b/c", "/d", 0, "a/b/c/d")];
-    assert_eq!(rt; known.wrong_row(alloc, &whole)?, None);
+    assert!(rt; shorter(&mut known, alloc)?);
     Ok(())
 }
 
-// An id of the face goes before one of the gateway, and of several the least is taken.
+// Whether an id of the face goes before one of the gateway, and of several the least is taken.
+fn face_first(known: &mut Known, alloc: Global) -> Result<bool, NameRefusal> {
+    known.declare(alloc, "x/y/**")?;
+    let by_gateways = known.best_is(alloc, &by_gateway("x", "/y/z", 1, "/z"))?;
+    known.register(alloc, 9, "x/y")?;
+    let by_faces = known.best_is(alloc, &by_face("x", "/y/z", 9, "/z"))?;
+    known.register(alloc, 5, "x/y")?;
+    let by_least = known.best_is(alloc, &by_face("x", "/y/z", 5, "/z"))?;
+    Ok(by_gateways && by_faces && by_least)
+}
+
+// The same as the ids go again.
+fn gateway_last(known: &mut Known, alloc: Global) -> Result<bool, NameRefusal> {
+    known.unregister(5)?;
+    let by_faces = known.best_is(alloc, &by_face("x", "/y/z", 9, "/z"))?;
+    known.unregister(9)?;
+    Ok(by_faces && known.best_is(alloc, &by_gateway("x", "/y/z", 1, "/z"))?)
+}
+
 #[test]
 fn best_keys_of_both_sides(rt: HostRuntime) -> Result<(), Fail> {
     let alloc = rt.alloc();
     let mut known = Known::new(alloc, "x/y/**")?;
-    known.declare(alloc, "x/y/**")?;
-    let gateways = [by_gateway("x", "/y/z", 1, "/z")];
-    assert_eq!(rt; known.wrong_row(alloc, &gateways)?, None);
-    known.register(alloc, 9, "x/y")?;
-    let faces = [by_face("x", "/y/z", 9, "/z")];
-    assert_eq!(rt; known.wrong_row(alloc, &faces)?, None);
-    known.register(alloc, 5, "x/y")?;
-    let least = [by_face("x", "/y/z", 5, "/z")];
-    assert_eq!(rt; known.wrong_row(alloc, &least)?, None);
-    known.unregister(5)?;
-    assert_eq!(rt; known.wrong_row(alloc, &faces)?, None);
-    known.unregister(9)?;
-    assert_eq!(rt; known.wrong_row(alloc, &gateways)?, None);
+    assert!(rt; face_first(&mut known, alloc)?);
+    assert!(rt; gateway_last(&mut known, alloc)?);
     Ok(())
 }
 
