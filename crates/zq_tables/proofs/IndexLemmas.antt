@@ -1,5 +1,5 @@
 -- The ids of one side of a face, and the row of them by their nodes.
-use Rattle.std.proofs.Common.{◌≡◌, ◌≢◌, ℕ, ◌+◌, ◌-◌, ◌<◌, ◌≤◌, Bool, true, false, cond, eqb, List, [], ◌∷◌, length, get_or, Option, Some, None, IsSome, refl, sym, ap, subst, ◌∙◌, arith, suc, inl, inr, ◌⊎◌}
+use Rattle.std.proofs.Common.{◌≡◌, ◌≢◌, ℕ, ◌+◌, ◌-◌, ◌<◌, ◌≤◌, Bool, true, false, eqb, List, [], ◌∷◌, length, get_or, Option, Some, None, IsSome, refl, sym, ap, subst, ◌∙◌, arith, suc, inl, inr, ◌⊎◌}
 use Rattle.std.specs.declared.cmp.Ordering.{Ordering}
 use Rattle.std.specs.declared.cmp.Ordering.TheVariants.{Less, Equal, Greater}
 use Rattle.std.specs.List.{All, Contains, insert, remove}
@@ -299,15 +299,6 @@ short_ids es row index i long = none_from (of_id es i) (by (is_some (of_id es i)
     by false is = is
 
 -- ---- an id goes
-
-pub without-absent : (es : List (ℕ × ℕ)) (i : ℕ) → of_id es i ≡ None → without_id es i ≡ es
-without-absent [] i absent = refl
-without-absent (e ∷ es) i absent = by (nat_cmp i e.0) refl (without-absent es i)
-  where
-    by : (o : Ordering) → nat_cmp i e.0 ≡ o → (of_id es i ≡ None → without_id es i ≡ es) → cond (is_eq o) es (e ∷ without_id es i) ≡ e ∷ es
-    by Less is later = ap (λ (l : List (ℕ × ℕ)). e ∷ l) (later (rw is at absent))
-    by Equal is later = absurd (none-some e.1 (sym absent ∙ rw is))
-    by Greater is later = ap (λ (l : List (ℕ × ℕ)). e ∷ l) (later (rw is at absent))
 
 pub IsIndex-take : (es : List (ℕ × ℕ)) (row new : List ℕ) (i : ℕ) → of_id (without_id es i) i ≡ None → IsIndex es row → Goes row new i → IsIndex (without_id es i) new
 IsIndex-take es row new i gone index goes =

@@ -13,7 +13,7 @@ use Rattle.zq_tables.specs.declared.said.Said.TheVariants as said
 use Rattle.zq_tables.specs.FaceIds.{of_id}
 use Rattle.zq_tables.specs.FaceTexts as face
 use Rattle.zq_tables.specs.FaceTexts.{FaceTexts, or_else, text_side, swapped, is_text, names_text, least_name, known, known_at, tagged, best_to, best_part, best_key, key_from}
-use Rattle.zq_tables.specs.Naming.{FaceNaming, handed_side, sent_side, read_by, said_of, said_plainly, text_at, plain, no_names, best}
+use Rattle.zq_tables.specs.Naming.{FaceNaming, sent_side, read_by, said_of, said_plainly, text_at, plain, no_names, best}
 
 find-passes : {X : Type 0} (p : X → Bool) (xs : List X) (x : X) → find p xs ≡ Some x → p x ≡ true
 find-passes p [] x h = absurd (cc)
@@ -87,10 +87,6 @@ answer_read n text (Err e) k = tt
 
 -- ---- by the numbers of a face
 
-same_side : (n : FaceNaming) (m : Mapping) → handed_side n m ≡ text_side (swapped n) m
-same_side n mapping.Sender = refl
-same_side n mapping.Receiver = refl
-
 -- what is written for a text is read as that text
 pub best-reads : (n : FaceNaming) (text : List ℕ) → 0 < length text → read_by n (best n text) ≡ said.Full text
 best-reads n text h = by (best_part n text) refl
@@ -103,7 +99,7 @@ best-reads n text h = by (best_part n text) refl
     by None is = plainly text h
     by (Some p) is =
         let c = part-cuts n text p is in
-        rw (c.number, same_side n p.1, c.stands) (ap said.Full (take-append-drop p.2 text))
+        rw (c.number, c.stands) (ap said.Full (take-append-drop p.2 text))
 
 -- the same of an answer
 pub answer_reads : (n : FaceNaming) (text : List ℕ) (r : Result WireExpr OutOfMemory) → IfOk r (λ w. w ≡ best n text) → 0 < length text → IfOk r (λ w. read_by n w ≡ said.Full text)

@@ -10,7 +10,8 @@ use Rattle.zq_message.specs.declared.message.Mapping.TheVariants as mapping
 use Rattle.zq_message.specs.declared.message.WireExpr.{WireExpr}
 use Rattle.zq_names.specs.declared.refusal.NameRefusal.{NameRefusal}
 use Rattle.zq_names.specs.declared.refusal.NameRefusal.TheVariants as refusal
-use Rattle.zq_tables.specs.FaceTexts.{FaceTexts, whole, best_key}
+use Rattle.zq_tables.specs.FaceIds.{of_id}
+use Rattle.zq_tables.specs.FaceTexts.{FaceTexts, text_side, swapped, whole, best_key}
 use Rattle.zq_tables.specs.declared.said.Said.{Said}
 use Rattle.zq_tables.specs.declared.said.Said.TheVariants as said
 
@@ -57,17 +58,15 @@ face_queryables face s = (face_keys face s).queryables
 
 -- the text of a number
 abbrev pub text_at : ℕ → Names → Option (List ℕ)
-text_at id names = lookup (is_at (nat_cmp id)) names
+text_at id names = of_id names id
 
 -- in what a face sends, Sender reads its own numbers and Receiver the gateway's
 abbrev pub sent_side : FaceNaming → Mapping → Names
-sent_side n mapping.Sender = n.theirs
-sent_side n mapping.Receiver = n.ours
+sent_side n m = text_side n m
 
 -- in what a face is handed it is the other way round
 abbrev pub handed_side : FaceNaming → Mapping → Names
-handed_side n mapping.Sender = n.ours
-handed_side n mapping.Receiver = n.theirs
+handed_side n m = text_side (swapped n) m
 
 -- what a suffix says under a scope, by the scope's text
 abbrev pub said_under : Option (List ℕ) → List ℕ → Said

@@ -1,7 +1,10 @@
 use Rattle.std.proofs.Common.{◌≡◌, ℕ, List, sym, subst}
+use Rattle.std.specs.BTreeMap.{is_at}
+use Rattle.std.specs.Ordering.{nat_cmp}
 use Rattle.zq_tables.specs.FaceIds.{without_id}
 use Rattle.zq_tables.specs.FaceIndex.{IsIndex}
-use Rattle.zq_tables.proofs.IndexLemmas.{IsIndex-take, short_ids, without-absent}
+use Rattle.zq_tables.proofs.Entries.{removed_absent}
+use Rattle.zq_tables.proofs.IndexLemmas.{IsIndex-take, short_ids}
 use Rattle.zq_tables.proofs.ids.Ids.take.Goals as goal
 
 pub node_at-requires : goal.node_at-requires
@@ -21,5 +24,5 @@ pub returns-in_default-clause-entries : goal.returns-in_default-clause-entries
 returns-in_default-clause-entries c =
     let es = c.self.inside.nodes.entries in
     let view = c.self.view_is in
-    let same : without_id es c.args.id ≡ es = without-absent es c.args.id (sym c.in_default.ensures.node) in
+    let same : without_id es c.args.id ≡ es = removed_absent (is_at (nat_cmp c.args.id)) es (sym c.in_default.ensures.node) in
     cc
