@@ -197,12 +197,12 @@ def wild_chunks():
         yield f'ask 1 {i} 0:s:{"aab" * 12}c{i * 7919 % 10_000} all - 0 0 - 0'
 
 
-def many_wild_chunks(end=''):
+def many_wild_chunks(end='', asked=''):
     """A key of 2,500 chunks `a$*b` behind a `**`, and 20 requests that it nearly meets."""
     yield from faces(2)
     yield f'queryable 0 1 0:s:**/{"a$*b/" * 2_500}x{end} c 0 0'
     for i in range(20):
-        yield f'ask 1 {i} 0:s:{"accb/" * 5_000}y{end} all - 0 0 - 0'
+        yield f'ask 1 {i} 0:s:{"accb/" * 5_000}y{asked} all - 0 0 - 0'
 
 
 def long_payloads():
@@ -235,11 +235,11 @@ def close_of_many():
 
 
 def nearly_alike(part, size=1_024):
-    """A thousand requests on a key that differs from the declared one in one letter alone, the last before `/e`.
-    Both repeat a part."""
+    """A thousand requests on a key that differs from the declared one in one letter, before ends that meet. Both
+    repeat a part."""
     text = (part * size)[:(size - 3) // len(part) * len(part)].ljust(size - 3, 'a')
     yield from faces(2)
-    yield f'queryable 0 1 0:s:{text}x/e c 0 0'
+    yield f'queryable 0 1 0:s:{text}x/$*e c 0 0'
     for i in range(1_000):
         yield f'ask 1 {i} 0:s:{text}y/e all - 0 0 - 0'
 
