@@ -49,7 +49,7 @@ impl Text {
         Ok(Text::from_string(inner))
     }
 
-    /// The text, of which each copy shares the memory.
+    /// An equal text, whose copies may share its memory.
     pub fn shared(self, alloc: Global) -> Result<Text, OutOfMemory>
         ensures { IfOk result (λ t. t ≡ self) }
     {
@@ -59,7 +59,7 @@ impl Text {
         })
     }
 
-    /// An equal text, in the same memory if this one is shared.
+    /// An equal text. It may share the memory of this one.
     pub fn copy(&self, alloc: Global) -> Result<Text, OutOfMemory>
         ensures { IfOk result (λ t. t ≡ self.now) }
     {
@@ -100,7 +100,7 @@ impl Bytes {
         Ok(Bytes::from_vec(Vec::from_slice(alloc, bytes)?))
     }
 
-    /// The bytes, of which each copy shares the memory.
+    /// Equal bytes, whose copies may share their memory.
     pub fn shared(self, alloc: Global) -> Result<Bytes, OutOfMemory>
         ensures { IfOk result (λ b. b ≡ self) }
     {
@@ -110,7 +110,7 @@ impl Bytes {
         })
     }
 
-    /// Equal bytes, in the same memory if these are shared.
+    /// Equal bytes. They may share the memory of these.
     pub fn copy(&self, alloc: Global) -> Result<Bytes, OutOfMemory>
         ensures { IfOk result (λ t. t ≡ self.now) }
     {
