@@ -9,6 +9,7 @@ import random
 import re
 import sys
 
+import keys
 import model
 from model import U16, U32, U64, U128
 
@@ -45,6 +46,8 @@ THEMES = {
     'counters': dict(open=6, close=4, ask=22, reply=20, final=6, poll=8, sent=9, finalize=1, gateways=1),
     'keys': dict(key=16, unkey=7, queryable=16, unqueryable=6, ask=26, reply=6),
     'regions': dict(ask=22, gateways=6, finalize=8, open=4, close=3, key=3),
+    'routers': dict(open=4, close=1, network=4, nodes=4, queryable=24, unqueryable=8, ask=14, reply=2, final=2, sent=1,
+                    poll=1, finalize=0.5, gateways=1),
     'wide': dict(ask=27, queryable=45, unqueryable=10, key=13, close=0.5, reply=1, final=3, finalize=1),
 }
 
@@ -61,7 +64,7 @@ def joined(rng, chunks):
     """A key of some of the chunks."""
     while True:
         key = b'/'.join(rng.choices(chunks, k=rng.randint(1, 4)))
-        if model.is_key(key):
+        if keys.is_key(key):
             return key
 
 
@@ -135,6 +138,8 @@ class Writer:
             weights['unkey'] = 0.15
         if not any(face.queryables for face in faces):
             weights.update(unqueryable=0.15, queryable=25)
+        if any(face.region in self.gateway.routed and not face.nodes for face in faces):
+            weights['nodes'] = 20
         return weights
 
     def in_flight(self):
@@ -192,11 +197,20 @@ class Writer:
         if rng.random() < 0.8:
             text = face.queryables.get(number, [text])[0]
         return (face.number, number, self.expression(face, text), rng.choice('ccp'), rng.choice([0, 5, U16]),
-                rng.choice([0, 0, U16]))
+                self.node(face))
+
+    def node(self, face):
+        """Mostly a place of the face's table."""
+        return self.rng.choice([0, U16, *[*range(len(face.nodes))] * 8])
 
     def unqueryable(self, face):
+        """Mostly what was declared: an id, or for a router an entry."""
         number = self.rng.choice([*face.queryables] * 5 + [0, 1, U32])
-        return face.number, number, self.rng.choice([b'-', b'9:s:zz', self.expression(face, self.text())]), 0
+        entries = self.gateway.entries.get(face.region, {})
+        known = [(key, face.nodes.index(router)) for key, router in entries if router in face.nodes]
+        text, node = self.rng.choice([*known * 3, (self.text(), self.node(face))])
+        unread = [] if known else [b'-', b'9:s:zz']
+        return face.number, number, self.rng.choice([*unread, self.expression(face, text)]), node
 
     def ask(self, face):
         """Often a key that another face declared, or is marked on."""
@@ -205,10 +219,12 @@ class Writer:
         others = [other for other in self.gateway.faces.values() if other.number != face.number]
         known = [key for other in others for key, _ in other.queryables.values()]
         known += [key for other in others for key in sorted(other.told_of)] * 2
+        known += [key for entries in self.gateway.entries.values() for key, _ in entries]
         text = rng.choice(known) if known and rng.random() < 0.5 else self.text()
         return (face.number, rng.choice([0, 1, 7, 7, U32]), self.expression(face, text),
                 rng.choice(['all', 'complete', 'best']), rng.choice(['-', '-', '-', 0, 1, 2, 5, U64, U64 - 4]),
-                rng.choice([0, 3]), rng.choice([0, 5, 255]), word(rng, rng.choice(BODIES)), self.now)
+                rng.choice([0, 3, *[self.node(face)] * 3]), rng.choice([0, 5, 255]), word(rng, rng.choice(BODIES)),
+                self.now)
 
     def final(self, face):
         """Mostly for a request that is pending there."""
@@ -247,10 +263,42 @@ class Writer:
         lists = [f'{self.rng.choice(self.ids)}={self.id_list()}' for _ in range(self.rng.randint(0, 3))]
         return where, ';'.join(lists) or '-', self.rng.choice(['none', '-', self.id_list()])
 
+    def network(self, _):
+        """A table of few ids, which is often the last one with a tree changed."""
+        where = self.rng.choice(self.regions * 9 + ['south:9:router'])
+        nodes, trees, distances = self.gateway.networks.get(model.region(where.encode()), model.Network([], [], []))
+        if not nodes or self.rng.random() < 0.5:
+            nodes = self.rng.sample([*self.ids, *self.ids[:2]], k=self.rng.choice([0, 3, 4, 5, 6]))
+            distances = self.rng.choices([0, 1, 2, 5, U16], k=max(0, len(nodes) + self.rng.choice([0, 0, -1, 1])))
+            trees = [self.tree(nodes) for _ in range(len(nodes) + self.rng.choice([-1, 0, 0, 0, 1]))]
+        if trees:
+            trees = [*trees]
+            trees[self.rng.randrange(len(trees))] = self.tree(nodes)
+        shown = [f'{numbers(tree.children)}/{numbers(tree.directions)}' for tree in trees]
+        return where, numbers(nodes), ';'.join(shown) or '-', numbers(distances)
+
+    def tree(self, nodes):
+        """Children and directions among the nodes, at times beyond them, at times too few."""
+        places = [*range(len(nodes))] * 6 + [len(nodes), U16, U16 + 1]
+        directions = self.rng.choices(places * 2 + [None], k=max(0, len(nodes) - self.rng.choice([0, 0, 0, 1])))
+        return model.Tree(self.rng.choices(places, k=self.rng.choice([0, 1, 2, 3, 3, 4])), directions)
+
+    def nodes(self, face):
+        """The table of a face, mostly of one of a router."""
+        routed = [other for other in self.gateway.faces.values() if other.region in self.gateway.routed]
+        new = [other for other in routed if not other.nodes]
+        face = self.rng.choice([*new * 9, *routed * 5, face])
+        return face.number, numbers(self.rng.choices(self.ids, k=self.rng.choice([0, 2, 3, 4])))
+
     def id_list(self):
         """Often with the gateway's own id."""
         chosen = self.rng.choices([*self.ids, self.own, 1], k=self.rng.randint(0, 4))
-        return ','.join(map(str, chosen)) or '-'
+        return numbers(chosen)
+
+
+def numbers(items):
+    """A list as a word, with `x` for none."""
+    return ','.join('x' if item is None else str(item) for item in items) or '-'
 
 
 def mixed(rng):
@@ -282,6 +330,14 @@ def wide(rng):
     return writer.write(rng.randint(100, 400))
 
 
+def routers(rng):
+    """Faces of routers and others, networks and tables of few ids, and few keys."""
+    entries = ['north:' + rng.choice(['router', 'router', 'client']), 'local', 'south:0:router', 'south:1:client']
+    writer = Writer(rng, 'routers', entries[:rng.choice([3, 3, 4])], faces=rng.choice([4, 6]))
+    writer.ids = [writer.own, *rng.sample([n for n in (5, 6, 7, 8) if n != writer.own], 3)]
+    return writer.write(rng.randint(30, 120))
+
+
 def mutated(rng):
     """A short script in which a byte, a word or a line, or two, are replaced, put in or taken out."""
     script = Writer(rng, 'all', some_entries(rng, 1)).write(rng.randint(4, 14))
@@ -306,6 +362,8 @@ def change(rng, script):
 
 
 KINDS = {'mixed': mixed, 'dense': dense, 'long': long, 'wide': wide, 'mutated': mutated}
+if model.ROUTERS:
+    KINDS['routers'] = routers
 
 
 def generate(kind, seed):

@@ -9,72 +9,16 @@ import re
 import sys
 from collections import namedtuple
 from dataclasses import dataclass, field
-from functools import lru_cache
-from itertools import count
+from itertools import count, takewhile
+
+from keys import includes, intersects, is_key
 
 U8, U16, U32, U64, U128 = (2**bits - 1 for bits in (8, 16, 32, 64, 128))
 MODES = ('router', 'peer', 'client')
 FARTHEST = U16
 
-
-# Keys
-
-# `*`, `**`, or characters other than `#?*$`, with single `$*` before, between and behind them.
-CHUNK = rb'(\*\*?|(\$\*)?[^/#?*$]+(\$\*[^/#?*$]+)*(\$\*)?)'
-CHUNKS = re.compile(CHUNK + b'(/' + CHUNK + b')*')
-
-
-def is_key(text):
-    """Chunks between slashes, with neither `**` nor `*` right behind a `**`."""
-    return CHUNKS.fullmatch(text) is not None and b'**/*' not in text
-
-
-def is_verbatim(chunk):
-    """A chunk that begins with `@` is matched by itself alone."""
-    return chunk[:1] == b'@'
-
-
-def characters(chunk):
-    """The characters of a chunk, of which `$*` is one."""
-    return tuple(re.findall(rb'\$\*|.', chunk, re.DOTALL))
-
-
-@lru_cache(maxsize=2**18)
-def fits(left, right, wild, every):
-    """Whether the left list stands for something that the right one stands for, or for every such thing."""
-    if left[:1] == (wild,):
-        longer = may_take(wild, right) and fits(left, right[1:], wild, every)
-        return longer or fits(left[1:], right, wild, every)
-    if right[:1] == (wild,) and not every:
-        return fits(right, left, wild, every)
-    if not left or not right:
-        return left == right
-    same = left[0] == right[0] if wild == b'$*' else chunk_fits(left[0], right[0], every)
-    return same and fits(left[1:], right[1:], wild, every)
-
-
-def may_take(wild, parts):
-    """`$*` stands for any characters, `**` for any chunks that are not verbatim."""
-    return parts != () and (wild == b'$*' or not is_verbatim(parts[0]))
-
-
-def chunk_fits(left, right, every):
-    """`*` stands for any chunk that is not verbatim, but not for a `**`."""
-    if is_verbatim(left) or is_verbatim(right) or right == b'**':
-        return left == right
-    if left == b'*' or right == b'*' and not every:
-        return True
-    return fits(characters(left), characters(right), b'$*', every)
-
-
-def intersects(left, right):
-    """Whether two keys have a text in common."""
-    return fits(tuple(left.split(b'/')), tuple(right.split(b'/')), b'**', False)
-
-
-def includes(left, right):
-    """Whether the left key has all texts of the right one."""
-    return fits(tuple(left.split(b'/')), tuple(right.split(b'/')), b'**', True)
+# Whether the program has faces of routers. Until it has, what is about them is a bad line.
+ROUTERS = False
 
 
 # Words
@@ -136,6 +80,9 @@ def text(word):
 Expression = namedtuple('Expression', 'number side suffix')
 
 
+NOTHING = Expression(0, 's', b'')
+
+
 def expression(word):
     return Expression(*fields(word.split(b':', 2), u16, choice('s', 'r'), text))
 
@@ -143,6 +90,52 @@ def expression(word):
 def ids(word):
     """A list of ids, joined by commas."""
     return [] if word == b'-' else [u128(part) for part in word.split(b',')]
+
+
+def listed(reader):
+    """Reads a list joined by commas, `-` as the empty one."""
+    return lambda word: [] if word == b'-' else [reader(part) for part in word.split(b',')]
+
+
+# The tree of a node: places of the children of its root, and for each node the place of the next one towards it.
+Tree = namedtuple('Tree', 'children directions')
+
+
+def trees(word):
+    """Children and directions, `x` for none, of each tree."""
+    directions = listed(lambda part: None if part == b'x' else u32(part))
+    parts = [] if word == b'-' else word.split(b';')
+    return [Tree(*fields(part.split(b'/'), listed(u32), directions)) for part in parts]
+
+
+def at(items, place):
+    """What stands at a place, if anything does."""
+    return items[place] if place is not None and place < len(items) else None
+
+
+class Network(namedtuple('Network', 'nodes trees distances')):
+    """The ids of routers, and of each of them its tree and how far it is."""
+
+    def place(self, router):
+        """The first place of an id, if a message can name it."""
+        place = self.nodes.index(router) if router in self.nodes else None
+        return None if place is None or place > U16 else place
+
+    def ids(self, tree):
+        """The ids of a tree's children."""
+        return [at(self.nodes, child) for child in tree.children if child < len(self.nodes)]
+
+    def children(self, root):
+        """The ids of the children of a router's tree."""
+        tree = at(self.trees, self.place(root))
+        return self.ids(tree) if tree else []
+
+    def way(self, source, router):
+        """The next router on the way to one, in the tree at a place, and how far that one is."""
+        place, tree = self.place(router), at(self.trees, source)
+        direction = at(tree.directions, place) if tree else None
+        near = at(self.nodes, direction) if direction is not None and direction <= U16 else None
+        return near, at(self.distances, place)
 
 
 Region = namedtuple('Region', 'kind number mode', defaults=[0, ''])
@@ -225,18 +218,20 @@ FORMATS = [
     ('finalize', u32, choice('initial'), choice('0', '1')),
     ('finalize', u32, choice('key'), text, choice('0', '1')),
     ('gateways', region, gateway_lists, lambda word: None if word == b'none' else ids(word)),
+    ('network', region, ids, trees, listed(u16)),
+    ('nodes', u32, ids),
 ]
 READERS = {(kind, len(readers)): readers for kind, *readers in FORMATS}
 
 
 def read_open(words, config):
-    """In a region that is there, routers, a namespace and deny lists are not built yet."""
+    """In a region that is there, a namespace and deny lists are not built yet."""
     where, face_id, _, bound, namespace = fields(
         words[:5], region, u128, choice(*MODES), choice('north', 'south'), optional(text))
     for item in words[5:]:
         tagged('in' if item.startswith(b'in') else 'out', text)(item)
     if where in config.regions:
-        require(namespace is None and not words[5:] and config.mode(where) != 'router')
+        require(namespace is None and not words[5:] and (ROUTERS or config.mode(where) != 'router'))
     return where, face_id, bound
 
 
@@ -245,7 +240,7 @@ def read_call(words, config):
     kind, values = words[0].decode('latin-1'), words[1:]
     if kind == 'open':
         return kind, read_open(values, config)
-    require((kind, len(values)) in READERS)
+    require((kind, len(values)) in READERS and (ROUTERS or kind not in ('network', 'nodes')))
     return kind, fields(values, *READERS[kind, len(values)])
 
 
@@ -260,9 +255,16 @@ def refuse(cause, holds):
         raise Refused(cause)
 
 
+# What is declared on a key. Of two informations the lesser counts: complete ones, then the nearer.
+Info = namedtuple('Info', 'partial distance')
+
+
 @dataclass
 class Face:
-    """An open face: whether it told all, or of which keys; the texts of its numbers; its queryables."""
+    """An open face: whether it told all, or of which keys; what its numbers and the gateway's stand for; queryables.
+
+    The face of a router has a table, in which the nodes of its messages stand for ids.
+    """
     number: int
     region: Region
     id: int
@@ -271,7 +273,13 @@ class Face:
     told: bool = False
     told_of: set = field(default_factory=set)
     texts: dict = field(default_factory=dict)
+    ours: dict = field(default_factory=dict)
     queryables: dict = field(default_factory=dict)
+    nodes: list = field(default_factory=list)
+
+    def info(self, key):
+        """What was declared on the key."""
+        return min((info for declared, info in self.queryables.values() if declared == key), default=None)
 
     def says(self, written):
         """The text of an expression."""
@@ -286,13 +294,34 @@ class Face:
         refuse('InvalidKeyExpr', not is_key(key))
         return key
 
+    def number_of(self, part):
+        """The number of a text, and whose it is for the face: its own, else the gateway's; the least of several."""
+        for side, texts in (('r', self.texts), ('s', self.ours)):
+            numbers = [n for n, known in texts.items() if known == part]
+            if numbers:
+                return min(numbers), side
+        return None
+
     def writes(self, key):
-        """The key by the longest part of whole chunks that has a number, the least of several."""
-        parts = [(len(part), -n) for n, part in self.texts.items() if (key + b'/').startswith(part + b'/')]
-        if not parts:
+        """The key by the longest part of whole chunks that has a number."""
+        known = [*self.texts.values(), *self.ours.values()]
+        parts = [part for part in known if (key + b'/').startswith(part + b'/')]
+        return self.behind(key, max(parts, key=len, default=b''))
+
+    def behind(self, key, part):
+        """The key as the number of its first part, if that has one, and what follows."""
+        if not self.number_of(part):
             return f'0:s:{shown(key)}'
-        length, negated = max(parts)
-        return f'{-negated}:r:{shown(key[length:])}'
+        number, side = self.number_of(part)
+        return f'{number}:{side}:{shown(key[len(part):])}'
+
+    def gives_number(self, part):
+        """A number for a part of a key, the least that is free, for a face in North."""
+        free = [n for n in range(1, U16 + 1) if n not in self.texts and n not in self.ours]
+        if part == b'' or self.number_of(part) or self.region != NORTH or not free:
+            return None
+        self.ours[free[0]] = part
+        return free[0]
 
 
 # A target that owes its final, under which id and until when.
@@ -310,8 +339,8 @@ class Query:
     in_flight: set = field(default_factory=set)
 
 
-# A face that may answer. Offers are taken by distance, then key, then face.
-Offer = namedtuple('Offer', 'distance key face complete declared')
+# A face that may answer, for a node. Offers are taken by distance, then key, then face.
+Offer = namedtuple('Offer', 'distance key face complete declared node')
 
 
 def pick(offers, target):
@@ -331,16 +360,21 @@ class Gateway:
         self.faces = {}
         self.queries = []
         self.gateways = {}
-        self.handed = []
+        self.routed = [where for where in config.regions if config.mode(where) == 'router']
+        self.networks = {where: Network([], [], []) for where in self.routed}
+        self.entries = {where: {} for where in self.routed}
+        self.handed, self.tellings = [], set()
 
     def call(self, kind, values):
-        """The lines of a call: its answer, then requests or replies, then finals."""
-        self.handed = []
+        """The lines of a call: its answer, then requests or replies, then finals, then declarations."""
+        self.handed, self.tellings = [], set()
+        before = {where: self.own_entries(where) for where in self.routed}
         try:
             answer = getattr(self, f'on_{kind}')(*values) or 'done'
         except Refused as cause:
             return [f'= refused {cause}']
-        return [f'= {answer}', *self.handed, *self.finals()]
+        self.tell_own(before)
+        return [f'= {answer}', *self.handed, *self.finals(), *self.declarations()]
 
     def finals(self):
         """A query ends when no target owes its final and no reply is in flight. The asker is told."""
@@ -387,17 +421,26 @@ class Gateway:
         refuse('UnknownId', key_number not in self.face(face).texts)
         del self.face(face).texts[key_number]
 
-    def on_queryable(self, face, queryable, written, complete, *_):
+    def on_queryable(self, face, queryable, written, complete, distance, node):
         """An id keeps its key until it is withdrawn; whether it is complete may change."""
         face = self.face(face)
         key = face.says_key(written)
+        info = Info(complete == 'p', distance)
+        if face.region in self.routed:
+            return self.announce(face, self.router(face, node), key, info)
         refuse('IdInUse', face.queryables.get(queryable, (key,))[0] != key)
-        face.queryables[queryable] = key, complete == 'c'
+        face.queryables[queryable] = key, info
 
-    def on_unqueryable(self, face, queryable, *_):
-        """Only the id says what is withdrawn. What was asked stays pending."""
-        refuse('UnknownId', queryable not in self.face(face).queryables)
-        del self.face(face).queryables[queryable]
+    def on_unqueryable(self, face, queryable, written, node):
+        """The id says what is withdrawn; for routers key and router do. What was asked stays pending."""
+        face = self.face(face)
+        if face.region in self.routed:
+            key = face.says_key(written or NOTHING)
+            router = self.router(face, node)
+            refuse('UnknownId', (key, router) not in self.entries[face.region])
+            return self.announce(face, router, key, None)
+        refuse('UnknownId', queryable not in face.queryables)
+        del face.queryables[queryable]
 
     def on_finalize(self, face, what, *mark):
         """Sets or takes a mark, which says that the face has told all, or all of a key."""
@@ -413,15 +456,114 @@ class Gateway:
         refuse('UnknownRegion', where not in self.config.regions)
         self.gateways[where] = dict(reversed(lists))
 
+    # Routers
+
+    def on_nodes(self, face, table):
+        """The ids that the numbers of a face's messages stand for."""
+        self.face(face).nodes = table
+
+    def on_network(self, where, nodes, trees, distances):
+        """Entries of routers that are not listed go. New children of a tree are told what its root has."""
+        refuse('UnknownRegion', where not in self.config.regions)
+        if where not in self.routed:
+            return
+        old, new = self.networks[where], Network(nodes, trees, distances)
+        self.networks[where] = new
+        self.entries[where] = {entry: info for entry, info in self.entries[where].items() if entry[1] in nodes}
+        for root, tree in zip(nodes, trees):
+            fresh = [child for child in new.ids(tree) if child not in old.children(root)]
+            for key, info in self.standing(where, root).items():
+                self.tell(where, fresh, root, key, info)
+
+    def router(self, face, node):
+        """The router that declares: one of the face's table, and not this gateway."""
+        router = at(face.nodes, node)
+        refuse('UnknownRouter', router in (None, self.config.id))
+        return router
+
+    def announce(self, face, router, key, info):
+        """A router's entry comes or goes, which the children of its tree are told."""
+        self.entries[face.region][key, router] = info
+        if info is None:
+            del self.entries[face.region][key, router]
+        self.tell(face.region, self.networks[face.region].children(router), router, key, info, face)
+
+    def infos(self, where):
+        """What a region has on each key, merged."""
+        merged = {}
+        found = [(key, info) for (key, _), info in self.entries.get(where, {}).items()]
+        for key, info in found + [pair for face in self.faces_of(where) for pair in face.queryables.values()]:
+            merged[key] = min(info, merged.get(key, info))
+        return merged
+
+    def own_entries(self, where):
+        """What the gateway has on each key for a region of routers: what the other regions have, merged."""
+        merged = {}
+        others = [other for other in self.config.regions if other != where]
+        for key, info in [pair for other in others for pair in self.infos(other).items()]:
+            merged[key] = min(info, merged.get(key, info))
+        return merged
+
+    def standing(self, where, root):
+        """What a router has declared, or the gateway has, on each key."""
+        if root == self.config.id:
+            return self.own_entries(where)
+        return {key: info for (key, router), info in self.entries[where].items() if router == root}
+
+    def tell_own(self, before):
+        """The children of the gateway's own tree are told what it has now and had not."""
+        for where, had in before.items():
+            has, children = self.own_entries(where), self.networks[where].children(self.config.id)
+            for key in had | has:
+                if had.get(key) != has.get(key):
+                    self.tell(where, children, self.config.id, key, has.get(key))
+
+    def face_of(self, where, router):
+        """The first face of a router."""
+        return next((face for face in self.faces_of(where) if face.id == router), None)
+
+    def tell(self, where, children, root, key, info, source=None):
+        """Each child's face is told, but for the one that said it."""
+        place = self.networks[where].place(root)
+        for face in [self.face_of(where, child) for child in children]:
+            if face and face is not source and place is not None:
+                self.tellings.add((face.number, key, place, info))
+
+    def declarations(self):
+        """What is told, by face, key and node. The number of a key comes right before its first use."""
+        lines = []
+        for number, key, node, info in sorted(self.tellings, key=lambda telling: telling[:3]):
+            face, part = self.faces[number], b'/'.join(takewhile(lambda chunk: b'*' not in chunk, key.split(b'/')))
+            given = face.gives_number(part)
+            if given:
+                lines.append(f'> {number} - - key {given} 0:s:{shown(part)}')
+            written = face.behind(key, part)
+            if info:
+                lines.append(f'> {number} - - queryable 0 {written} {"cp"[info.partial]} {info.distance} {node} -')
+            else:
+                lines.append(f'> {number} - - unqueryable 0 {written} {node}')
+        return lines
+
     # Selection
+
+    def router_offers(self, where, key, asker, node):
+        """An offer for each entry that meets, on the way from the source: the node's router, or this gateway."""
+        network = self.networks[where]
+        source = network.place(at(asker.nodes, node) if asker.region == where else self.config.id)
+        for (declared, router), info in self.entries[where].items():
+            near, distance = network.way(source, router)
+            face = self.face_of(where, near)
+            if face and distance is not None and intersects(declared, key):
+                complete = not info.partial and includes(declared, key)
+                yield Offer(distance, declared, face.number, complete, True, source)
 
     def declared_offers(self, face, key):
         """An offer for each key that meets: complete where one that is declared so includes the key."""
         distance = 0 if face.region == LOCAL else 1
         offers = []
         for declared in {declared for declared, _ in face.queryables.values() if intersects(declared, key)}:
-            complete = (declared, True) in face.queryables.values() and includes(declared, key)
-            offers.append(Offer(distance, declared, face.number, complete, True))
+            complete = not face.info(declared).partial and includes(declared, key)
+            offers.append(Offer(distance, declared, face.number, complete, True, 0))
         return offers
 
     def may_have_more(self, face, key):
@@ -430,21 +572,24 @@ class Gateway:
             return not face.told
         return key not in face.told_of
 
-    def offers(self, where, key, asker):
+    def offers(self, where, key, asker, node):
         """The offers of a region, in order. Peers, and those in North, reach one another by themselves."""
+        if where in self.routed:
+            return sorted(self.router_offers(where, key, asker, node))
         found, apart = [], where == NORTH or self.config.mode(where) == 'peer'
         for face in self.faces_of(where):
             if asker.region != where or not apart:
                 found += self.declared_offers(face, key)
             if where == NORTH != asker.region and self.may_have_more(face, key):
-                found.append(Offer(FARTHEST, key, face.number, False, False))
+                found.append(Offer(FARTHEST, key, face.number, False, False, 0))
         return sorted(found)
 
-    def may_ask(self, asker, face):
+    def may_ask(self, asker, source, face):
         """No one is asked by itself. Between North and the rest, a list says which gateway carries requests.
 
         The list is the asker's, or for an asker in North the asked face's. With none or an empty one, this
-        gateway does; else the greatest of the list, and none where the asker is in the list itself.
+        gateway does; else the greatest of the list, and none where the source is in the list itself: the
+        asker, or the router that its table has at the request's node.
         """
         if face.number == asker.number:
             return False
@@ -454,19 +599,22 @@ class Gateway:
         carriers = self.gateways.get(listed.region, {}).get(listed.id)
         if not carriers:
             return True
-        return asker.id not in carriers and max(carriers) == self.config.id
+        return source is None or source not in carriers and max(carriers) == self.config.id
 
-    def select(self, asker, written, target):
-        """The faces that are asked: those of each region in turn, each once. No key, no face."""
+    def select(self, asker, written, target, node):
+        """The faces that are asked, with their nodes: those of each region in turn, each once. No key, no face."""
         try:
             key = asker.says_key(written)
         except Refused:
-            return []
-        picked = []
+            return {}
+        picked, source = [], at(asker.nodes, node) if asker.region in self.routed else asker.id
         for where in sorted(self.config.regions, key=region_order):
-            offers = self.offers(where, key, asker)
-            picked += pick([offer for offer in offers if self.may_ask(asker, self.faces[offer.face])], target)
-        return [self.faces[face] for face in dict.fromkeys(offer.face for offer in picked)]
+            offers = self.offers(where, key, asker, node)
+            picked += pick([offer for offer in offers if self.may_ask(asker, source, self.faces[offer.face])], target)
+        nodes = {}
+        for offer in picked:
+            nodes.setdefault(offer.face, offer.node)
+        return nodes
 
     # The life of a query
 
@@ -480,19 +628,20 @@ class Gateway:
         face.last_id = next(n % 2**32 for n in count(face.last_id + 1) if n % 2**32 not in taken)
         return face.last_id
 
-    def on_ask(self, face, own_id, written, target, timeout, _, qos, content, now):
+    def on_ask(self, face, own_id, written, target, timeout, node, qos, content, now):
         """Every target owes its final until the deadline, which is no later than time ends."""
         asker = self.face(face)
-        targets = self.select(asker, written, target)
+        targets = self.select(asker, written, target, node)
         refuse('NoFreeId', self.next_query == U64)
         query = Query(self.next_query, face, own_id, qos)
         deadline = min(U64, now + (self.config.timeout if timeout is None else timeout))
-        for to in targets:
-            entry = Entry(to.number, self.next_id(to), deadline)
+        for number, node in targets.items():
+            to = self.faces[number]
+            entry = Entry(number, self.next_id(to), deadline)
             query.pending.append(entry)
             self.handed.append(
-                f'> {to.number} {query.number} - request {entry.id} {to.writes(asker.says(written))} {target}'
-                f' {"-" if timeout is None else timeout} 0 {qos} {shown(content)}')
+                f'> {number} {query.number} - request {entry.id} {to.writes(asker.says(written))} {target}'
+                f' {"-" if timeout is None else timeout} {node} {qos} {shown(content)}')
         self.queries.append(query)
         self.next_query += 1
         return f'asked {query.number}'
