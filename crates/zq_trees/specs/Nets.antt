@@ -1,5 +1,5 @@
 -- What is read from a network: places of ids, trees, and the way to a node.
-use Rattle.std.specs.Prelude.{◌≡◌, ℕ, ◌==◌, Bool, not, List, [], ◌∷◌, filter, Option, Some, None, if◌then◌else◌, position, slice_get, nat_lt}
+use Rattle.std.specs.Prelude.{◌≡◌, ℕ, ◌==◌, Bool, not, List, [], filter, Option, Some, None, if◌then◌else◌, position, slice_get, nat_lt}
 use Rattle.std.specs.List.{list_any, filter_map}
 use Rattle.std.specs.Option.{option_map_or, option_and_then}
 use Rattle.std.specs.Map.{lookup}

@@ -1,5 +1,5 @@
 -- Which open faces have which ids.
-use Rattle.std.specs.Prelude.{◌≡◌, ℕ, ◌==◌, Bool, false, not, List, filter, find, Option, option_map}
+use Rattle.std.specs.Prelude.{ℕ, ◌==◌, Bool, false, not, List, filter, find, Option, option_map}
 use Rattle.std.specs.List.{list_any, filter_map}
 use Rattle.std.specs.Option.{option_map_or}
 use Rattle.std.specs.BTreeMap.{is_at}

@@ -1,5 +1,10 @@
 //! Networks, what node numbers stand for, and what faces are told.
+ghost use Rattle.std.specs.Prelude.{◌≡◌, IfOk};
+ghost use Rattle.zq_trees.specs.Nets.{no_network};
+
+use std::alloc::Global;
 use zq_key::items::Items;
+use zq_key::memory::OutOfMemory;
 use zq_key::message::{FaceId, QueryableInfoType, Zid};
 use zq_key::text::Text;
 
@@ -35,6 +40,18 @@ pub struct Tree {
     pub directions: DirectionList,
 }
 
+impl Tree {
+    /// An equal tree.
+    pub fn copy(&self, alloc: Global) -> Result<Tree, OutOfMemory>
+        ensures { IfOk result (λ t. t ≡ self.now) }
+    {
+        Ok(Tree {
+            children: copy_items(&self.children, alloc)?,
+            directions: copy_items(&self.directions, alloc)?,
+        })
+    }
+}
+
 /// One tree for each node.
 pub type TreeList = Items<Tree>;
 
@@ -46,8 +63,61 @@ pub struct Network {
     pub distances: U16List,
 }
 
+/// Equal items.
+fn copy_items<T: Copy>(items: &Items<T>, alloc: Global) -> Result<Items<T>, OutOfMemory>
+    ensures { IfOk result (λ i. i ≡ items.now) }
+{
+    Ok(Items::from_vec(Vec::from_slice(alloc, items.as_slice())?))
+}
+
+/// Equal trees.
+fn copy_trees(trees: &[Tree], alloc: Global) -> Result<TreeList, OutOfMemory>
+    ensures { IfOk result (λ t. t ≡ trees.now) }
+{
+    let mut made = Items::new(alloc);
+    for tree in trees {
+        made.push(tree.copy(alloc)?)?;
+    }
+    Ok(made)
+}
+
+impl Network {
+    /// A network without nodes.
+    pub fn empty(alloc: Global) -> Network
+        ensures { result ≡ no_network }
+    {
+        Network {
+            nodes: Items::new(alloc),
+            trees: Items::new(alloc),
+            distances: Items::new(alloc),
+        }
+    }
+
+    /// An equal network.
+    pub fn copy(&self, alloc: Global) -> Result<Network, OutOfMemory>
+        ensures { IfOk result (λ n. n ≡ self.now) }
+    {
+        Ok(Network {
+            nodes: copy_items(&self.nodes, alloc)?,
+            trees: copy_trees(self.trees.as_slice(), alloc)?,
+            distances: copy_items(&self.distances, alloc)?,
+        })
+    }
+}
+
 /// What the node numbers of a face stand for.
 #[derive(Debug, Drop)]
 pub struct NodeIds {
     pub ids: ZidList,
+}
+
+impl NodeIds {
+    /// An equal table.
+    pub fn copy(&self, alloc: Global) -> Result<NodeIds, OutOfMemory>
+        ensures { IfOk result (λ n. n ≡ self.now) }
+    {
+        Ok(NodeIds {
+            ids: copy_items(&self.ids, alloc)?,
+        })
+    }
 }
