@@ -1,0 +1,10 @@
+//! Networks of routers: their trees, and what is told along them.
+//!
+//! - `types`: networks, what node numbers stand for, and what faces are told
+//! - `nets`: a network whose ids' places are found by look-up
+//! - `seats`: which open faces have which ids
+#![tactic(auto)]
+
+pub mod nets;
+pub mod seats;
+pub mod types;
