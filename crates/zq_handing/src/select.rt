@@ -4,17 +4,18 @@ ghost use Rattle.std.specs.Map.{values_of};
 ghost use Rattle.zq_key.specs.Key.{is_key as key_of};
 ghost use Rattle.zq_query.specs.Asking.{are_distinct, face_numbers};
 ghost use Rattle.zq_machine.specs.State.{is_region};
-ghost use Rattle.zq_machine.specs.Selecting.{target_of, carries_between, filter_for, passes, with_part, zid_of};
+ghost use Rattle.zq_machine.specs.Selecting.{target_of, carries_between, filter_for, offers_to, passes, with_part, zid_of};
+ghost use Rattle.zq_handing.specs.Askers.{asker_of};
 ghost use Rattle.std.specs.Prelude.{filter, fold, map, true};
 
 use std::alloc::Global;
 use std::collections::BTreeMap;
 use zq_hat::hat::Hat;
-use zq_hat::strategy::is_north;
+use zq_hat::strategy::{is_north, same_region};
 use zq_hat::types::{OfferList, QueryTargetQabl};
 use zq_key::items::Items;
 use zq_key::memory::OutOfMemory;
-use zq_key::message::{FaceId, QueryTarget, Region, Zid};
+use zq_key::message::{DEFAULT_NODE_ID, FaceId, NodeId, QueryTarget, Region, Zid};
 use zq_machine::config::SOUTH_IDS;
 use zq_machine::face::OpenFace;
 use zq_route::builder::RouteBuilder;
@@ -64,12 +65,16 @@ pub struct Asker<'a> {
     pub own: Zid,
     pub face: FaceId,
     pub opened: OpenFace,
+    /// The router that the request comes from; outside regions of routers the asker itself.
+    pub source: Option<Zid>,
+    /// The place of that router in the network of the asker's region; outside regions of routers the first.
+    pub context: Option<NodeId>,
 }
 
 impl<'a> Asker<'a> {
     // Whether an offer is for the asker's request.
     fn passes(&self, offer: &QueryTargetQabl) -> bool
-        ensures { result ≡ passes self.now.faces.now.entries self.now.tables.now self.now.own self.now.face self.now.opened offer.now }
+        ensures { result ≡ passes (asker_of self.now) offer.now }
     {
         if offer.face == self.face {
             return false;
@@ -81,16 +86,30 @@ impl<'a> Asker<'a> {
         let filter = InterRegionFilter {
             src,
             dst: offer.region,
-            src_zid: Some(self.opened.zid),
+            src_zid: self.source,
             fwd_zid: Some(self.opened.zid),
             dst_zid: zid_of(self.faces, offer.face),
         };
         carries_between(self.tables, self.own, filter)
     }
 
+    // What a region offers to the asker.
+    fn offers_in(&self, key: &str, hat: &Hat) -> Result<OfferList, OutOfMemory>
+        requires { IsTrue (key_of key.now) }
+        ensures { IfOk result (λ o. o ≡ offers_to (asker_of self.now) key.now hat.now) }
+    {
+        let src = self.opened.region;
+        let node = if same_region(src, hat.region()) {
+            self.context
+        } else {
+            Some(DEFAULT_NODE_ID)
+        };
+        hat.compute_query_route(&src, key, node)
+    }
+
     // The offers that are for the asker's request.
     fn passing(&self, alloc: Global, offers: OfferList) -> Result<OfferList, OutOfMemory>
-        ensures { IfOk result (λ l. l ≡ filter (passes self.now.faces.now.entries self.now.tables.now self.now.own self.now.face self.now.opened) offers) }
+        ensures { IfOk result (λ l. l ≡ filter (passes (asker_of self.now)) offers) }
     {
         let mut kept = Items::new(alloc);
         for offer in offers.into_vec() {
@@ -113,10 +132,9 @@ impl<'a> Asker<'a> {
         hat: &Hat,
     ) -> Result<(), OutOfMemory>
         requires { IsTrue (key_of key.now) }
-        ensures { OnOk result (route.new ≡ with_part self.now.faces.now.entries self.now.tables.now self.now.own self.now.face self.now.opened key.now target route.old hat.now) }
+        ensures { OnOk result (route.new ≡ with_part (asker_of self.now) key.now target route.old hat.now) }
     {
-        let offers = hat.compute_query_route(&self.opened.region, key, Some(0))?;
-        let offers = self.passing(alloc, offers)?;
+        let offers = self.passing(alloc, self.offers_in(key, hat)?)?;
         take_final_route(target, route, offers, is_any)
     }
 
@@ -129,7 +147,7 @@ impl<'a> Asker<'a> {
         target: QueryTarget,
     ) -> Result<RouteBuilder<QueryTargetQabl>, OutOfMemory>
         requires { IsTrue (key_of key.now) }
-        ensures { IfOk result (λ r. r ≡ fold (with_part self.now.faces.now.entries self.now.tables.now self.now.own self.now.face self.now.opened key.now target) [] (values_of hats.now)) }
+        ensures { IfOk result (λ r. r ≡ fold (with_part (asker_of self.now) key.now target) [] (values_of hats.now)) }
     {
         let mut route = RouteBuilder::new(alloc);
         for hat in hats.values() {
@@ -148,7 +166,7 @@ impl<'a> Asker<'a> {
         target: QueryTarget,
     ) -> Result<Vec<QueryTargetQabl>, OutOfMemory>
         requires { IsTrue (key_of key.now) }
-        ensures offers { IfOk result (λ v. v.items ≡ values_of (fold (with_part self.now.faces.now.entries self.now.tables.now self.now.own self.now.face self.now.opened key.now target) [] (values_of hats.now))) }
+        ensures offers { IfOk result (λ v. v.items ≡ values_of (fold (with_part (asker_of self.now) key.now target) [] (values_of hats.now))) }
         ensures distinct { IfOk result (λ v. are_distinct (face_numbers (map target_of v.items)) ≡ true) }
     {
         Ok(self.route(alloc, hats, key, target)?.build())

@@ -202,6 +202,13 @@ impl Hat {
         })
     }
 
+    /// Whose hat it is.
+    pub fn region(&self) -> Region
+        ensures { result ≡ self.now.region }
+    {
+        self.region
+    }
+
     pub fn strategy(&self) -> Strategy
         ensures { result ≡ strategy_at self.now }
     {

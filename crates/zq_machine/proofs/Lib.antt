@@ -14,6 +14,7 @@ pub mod Settled
 pub mod Kept
 pub mod EntriesMoved
 pub mod HatsMoved
+mod RoutersMoved
 pub mod SelectionMoved
 pub mod CausesMoved
 pub mod DecidingMoved

@@ -20,7 +20,7 @@ use Rattle.zq_route.specs.Selection.{by_face, chosen, is_complete, may_be_comple
 use Rattle.zq_machine.specs.declared.face.OpenFace.{OpenFace}
 use Rattle.zq_tables.specs.declared.said.Said.{Said}
 use Rattle.zq_machine.specs.Asked.{is_own}
-use Rattle.zq_machine.specs.Selecting.{carries_between, filter_for, full_text, passes, route_for, says_key, select, select_for, target_of, with_part}
+use Rattle.zq_machine.specs.Selecting.{AskerState, asker_in, carries_between, filter_for, offers_to, full_text, passes, route_for, says_key, select, select_for, target_of, with_part}
 use Rattle.zq_machine.specs.State.{Core, at}
 
 pub filter_all : {X : Type 0} (xs : List X) → filter (λ _. true) xs ≡ xs
@@ -70,15 +70,13 @@ offers_route : (os : List QueryTargetQabl) (r : List (ℕ × QueryTargetQabl)) �
 offers_route [] r is = is
 offers_route (o ∷ os) r is = offers_route os (with_first r (by_face o)) (first_route r o is)
 
-module _ (faces : List (ℕ × OpenFace)) (tables : List (ℕ × Gateways)) (own : Zid) (asker : FaceId) (opened : OpenFace) (key : List ℕ) (target : QueryTarget) where
-  parts_route : (hats : List HatState) (r : List (ℕ × QueryTargetQabl)) → IsRoute r → IsRoute (fold (with_part faces tables own asker opened key target) r hats)
+module _ (a : AskerState) (key : List ℕ) (target : QueryTarget) where
+  parts_route : (hats : List HatState) (r : List (ℕ × QueryTargetQabl)) → IsRoute r → IsRoute (fold (with_part a key target) r hats)
   parts_route [] r is = is
-  parts_route (h ∷ hats) r is =
-      parts_route hats (with_part faces tables own asker opened key target r h)
-      (offers_route (chosen target (filter (passes faces tables own asker opened) (offers_of h opened.region key (Some 0)))) r is)
+  parts_route (h ∷ hats) r is = parts_route hats (with_part a key target r h) (offers_route (chosen target (filter (passes a) (offers_to a key h))) r is)
 
   -- each face is selected once
-  pub route_distinct : (hats : List HatState) → are_distinct (face_numbers (map target_of (values_of (fold (with_part faces tables own asker opened key target) [] hats)))) ≡ true
+  pub route_distinct : (hats : List HatState) → are_distinct (face_numbers (map target_of (values_of (fold (with_part a key target) [] hats)))) ≡ true
   route_distinct hats =
       let is = parts_route hats [] (record { faces = refl; once = refl }) in
       ap are_distinct is.faces ∙ is.once
@@ -131,26 +129,26 @@ none_offered p (o ∷ os) r none h =
     let parts = or_parts (p o) (list_any p os) h in
     none_offered p os (with_first r (by_face o)) (none_first p r o none parts.0) parts.1
 
-module _ (faces : List (ℕ × OpenFace)) (tables : List (ℕ × Gateways)) (own : Zid) (asker : FaceId) (opened : OpenFace) where
-  none_own : (os : List QueryTargetQabl) → list_any (is_own asker) (filter (passes faces tables own asker opened) os) ≡ false
+module _ (a : AskerState) where
+  none_own : (os : List QueryTargetQabl) → list_any (is_own a.face) (filter (passes a) os) ≡ false
   none_own [] = refl
-  none_own (o ∷ os) = by (o.face.0 == asker.0) (carries_between tables own (filter_for faces opened o)) refl (none_own os)
+  none_own (o ∷ os) = by (o.face.0 == a.face.0) (carries_between a.tables a.own (filter_for a o)) refl (none_own os)
     where
       rest : List QueryTargetQabl
-      rest = filter (passes faces tables own asker opened) os
+      rest = filter (passes a) os
 
-      by : (a b : Bool) → (o.face.0 == asker.0) ≡ a → list_any (is_own asker) rest ≡ false → list_any (is_own asker) (cond (not a && b) (o ∷ rest) rest) ≡ false
+      by : (own b : Bool) → (o.face.0 == a.face.0) ≡ own → list_any (is_own a.face) rest ≡ false → list_any (is_own a.face) (cond (not own && b) (o ∷ rest) rest) ≡ false
       by true b e none = none
       by false false e none = none
       by false true e none = rw (e, none) refl
 
-  none_in_parts : (key : List ℕ) (target : QueryTarget) (hats : List HatState) (r : List (ℕ × QueryTargetQabl)) → list_any (is_own asker) (values_of r) ≡ false
-      → list_any (is_own asker) (values_of (fold (with_part faces tables own asker opened key target) r hats)) ≡ false
+  none_in_parts : (key : List ℕ) (target : QueryTarget) (hats : List HatState) (r : List (ℕ × QueryTargetQabl)) → list_any (is_own a.face) (values_of r) ≡ false
+      → list_any (is_own a.face) (values_of (fold (with_part a key target) r hats)) ≡ false
   none_in_parts key target [] r none = none
   none_in_parts key target (h ∷ hats) r none =
-      let os = offers_of h opened.region key (Some 0) in
-      none_in_parts key target hats (with_part faces tables own asker opened key target r h)
-      (none_offered (is_own asker) (chosen target (filter (passes faces tables own asker opened) os)) r none (none_chosen (is_own asker) target _ (none_own os)))
+      let os = offers_to a key h in
+      none_in_parts key target hats (with_part a key target r h)
+      (none_offered (is_own a.face) (chosen target (filter (passes a) os)) r none (none_chosen (is_own a.face) target _ (none_own os)))
 
 -- what is selected is never the asker
 pub none_to_asker : (c : Core) (asker : FaceId) (s : Said) (r : Request) → list_any (is_own asker) (select c asker s r) ≡ false
@@ -160,6 +158,6 @@ none_to_asker c asker s r = by (at asker.0 c.faces)
     by None = refl
     by (Some opened) = keyed (says_key s)
       where
-        keyed : (b : Bool) → list_any (is_own asker) (cond b (values_of (route_for c asker opened (full_text s) r)) []) ≡ false
-        keyed true = none_in_parts c.faces c.tables c.config.zid asker opened (full_text s) r.target (values_of c.hats) [] refl
+        keyed : (b : Bool) → list_any (is_own asker) (cond b (values_of (route_for c (asker_in c asker r.node opened) (full_text s) r.target)) []) ≡ false
+        keyed true = none_in_parts (asker_in c asker r.node opened) (full_text s) r.target (values_of c.hats) [] refl
         keyed false = refl

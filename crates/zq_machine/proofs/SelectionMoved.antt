@@ -3,7 +3,7 @@ use Rattle.std.proofs.Common.{◌≡◌, ◌∙◌, sym, refl, ap, ℕ, Bool, tr
 use Rattle.std.specs.Prelude.{find}
 use Rattle.std.specs.List.{filter}
 use Rattle.std.specs.Map.{values_of}
-use Rattle.std.specs.Option.{option_map, option_map_or}
+use Rattle.std.specs.Option.{option_and_then, option_map, option_map_or}
 use Rattle.std.proofs.lemmas.List.{map-append}
 use Rattle.zq_key.proofs.Naturals.{map-map, any-map, find-map, filter-map, fold-moved}
 use Rattle.zq_key.specs.Key.{is_key}
@@ -14,6 +14,7 @@ use Rattle.zq_message.specs.declared.message.Request.{Request}
 use Rattle.zq_hat.specs.declared.types.QueryTargetQabl.{QueryTargetQabl}
 use Rattle.zq_hat.specs.State.{HatState}
 use Rattle.zq_hat.specs.Offers.{offers_of}
+use Rattle.zq_hat.specs.Routers.{context_at, source_at}
 use Rattle.zq_hat.specs.Moved.{Keeps, move_hat, move_offer}
 use Rattle.zq_hat.proofs.OffersMoved.{offers_moved}
 use Rattle.zq_tables.specs.declared.said.Said.{Said}
@@ -21,11 +22,13 @@ use Rattle.zq_tables.specs.declared.said.Said.TheVariants as said
 use Rattle.zq_route.specs.Built.{is_face, has_face, with_first}
 use Rattle.zq_route.specs.Selection.{by_face, is_complete, may_be_complete, chosen, with_offers}
 use Rattle.zq_machine.specs.declared.face.OpenFace.{OpenFace}
-use Rattle.zq_machine.specs.State.{Core, at}
-use Rattle.zq_machine.specs.Selecting.{passes, with_part, route_for, select_for, select, target_of}
+use Rattle.zq_machine.specs.State.{Core, at, hat_of}
+use Rattle.zq_machine.specs.Selecting.{AskerState, asker_in, offers_to, passes, with_part, route_for, select_for, select, target_of}
 use Rattle.zq_machine.specs.Deciding.{targets}
 use Rattle.zq_machine.specs.Moved.{move_said, move_core}
 use Rattle.zq_machine.proofs.EntriesMoved.{values-map}
+use Rattle.zq_machine.proofs.HatsMoved.{own_found}
+use Rattle.zq_machine.proofs.RoutersMoved.{place_moved, router_moved}
 
 module _ (φ : List ℕ → List ℕ) where
   -- an offer of a route, beside its face
@@ -60,24 +63,34 @@ module _ (φ : List ℕ → List ℕ) where
 
   module _ (keeps : Keeps φ) (c : Core) (asker : FaceId) (r : Request) where
     module _ (opened : OpenFace) (key : List ℕ) where
-      abbrev is_passed : QueryTargetQabl → Bool
-      is_passed = passes c.faces c.tables c.config.zid asker opened
+      abbrev who : AskerState
+      who = asker_in c asker r.node opened
+
+      -- the asker is the same with the texts moved
+      same_asker : asker_in (move_core φ c) asker r.node opened ≡ who
+      same_asker = λ j. record who {
+        source = (ap (option_and_then (source_at asker.0 r.node)) (own_found φ c asker.0) ∙ router_moved φ asker.0 r.node (hat_of asker.0 c)) j;
+        context = (ap (option_and_then (context_at asker.0 r.node)) (own_found φ c asker.0) ∙ place_moved φ asker.0 r.node (hat_of asker.0 c)) j;
+      }
 
       abbrev part : List ℕ → List (ℕ × QueryTargetQabl) → HatState → List (ℕ × QueryTargetQabl)
-      part q = with_part c.faces c.tables c.config.zid asker opened q r.target
+      part q = with_part who q r.target
 
       part_moved : (route : List (ℕ × QueryTargetQabl)) (h : HatState) → part (φ key) (map routed route) (move_hat φ h) ≡ map routed (part key route h)
       part_moved route h =
-          ap (λ os. with_offers (map routed route) (chosen r.target (filter is_passed os))) (offers_moved φ keeps h opened.region key (Some 0))
-          ∙ ap (λ os. with_offers (map routed route) (chosen r.target os)) (filter-map (move_offer φ) is_passed is_passed (λ _. refl) (offers_of h opened.region key (Some 0)))
-          ∙ ap (with_offers (map routed route)) (chosen_moved r.target (filter is_passed (offers_of h opened.region key (Some 0))))
-          ∙ added_moved route (chosen r.target (filter is_passed (offers_of h opened.region key (Some 0))))
+          ap (λ os. with_offers (map routed route) (chosen r.target (filter (passes who) os))) (offers_moved φ keeps h opened.region key _)
+          ∙ ap (λ os. with_offers (map routed route) (chosen r.target os)) (filter-map (move_offer φ) (passes who) (passes who) (λ _. refl) (offers_to who key h))
+          ∙ ap (with_offers (map routed route)) (chosen_moved r.target (filter (passes who) (offers_to who key h)))
+          ∙ added_moved route (chosen r.target (filter (passes who) (offers_to who key h)))
 
-      route_moved : route_for (move_core φ c) asker opened (φ key) r ≡ map routed (route_for c asker opened key r)
-      route_moved = ap (fold (part (φ key)) []) (values-map (move_hat φ) c.hats) ∙ fold-moved (move_hat φ) (map routed) (part (φ key)) (part key) part_moved [] (values_of c.hats)
+      route_moved : route_for (move_core φ c) (asker_in (move_core φ c) asker r.node opened) (φ key) r.target ≡ map routed (route_for c who key r.target)
+      route_moved =
+          ap (λ a. route_for (move_core φ c) a (φ key) r.target) same_asker
+          ∙ ap (fold (part (φ key)) []) (values-map (move_hat φ) c.hats)
+          ∙ fold-moved (move_hat φ) (map routed) (part (φ key)) (part key) part_moved [] (values_of c.hats)
 
-      offers_by : (b : Bool) → cond b (values_of (route_for (move_core φ c) asker opened (φ key) r)) [] ≡ map (move_offer φ) (cond b (values_of (route_for c asker opened key r)) [])
-      offers_by true = ap values_of route_moved ∙ values-map (move_offer φ) (route_for c asker opened key r)
+      offers_by : (b : Bool) → cond b (values_of (route_for (move_core φ c) (asker_in (move_core φ c) asker r.node opened) (φ key) r.target)) [] ≡ map (move_offer φ) (cond b (values_of (route_for c who key r.target)) [])
+      offers_by true = ap values_of route_moved ∙ values-map (move_offer φ) (route_for c who key r.target)
       offers_by false = refl
 
     selected : (s : Said) (o : Option OpenFace) → select_for (move_core φ c) asker (move_said φ s) r o ≡ map (move_offer φ) (select_for c asker s r o)
@@ -85,7 +98,7 @@ module _ (φ : List ℕ → List ℕ) where
     selected said.Unscoped (Some opened) = refl
     selected said.Empty (Some opened) = refl
     selected (said.Full text) (Some opened) =
-        ap (λ b. cond b (values_of (route_for (move_core φ c) asker opened (φ text) r)) []) (keeps.key text) ∙ offers_by opened text (is_key text)
+        ap (λ b. cond b (values_of (route_for (move_core φ c) (asker_in (move_core φ c) asker r.node opened) (φ text) r.target)) []) (keeps.key text) ∙ offers_by opened text (is_key text)
 
     pub select_moved : (s : Said) → select (move_core φ c) asker (move_said φ s) r ≡ map (move_offer φ) (select c asker s r)
     select_moved s = selected s (at asker.0 c.faces)

@@ -36,7 +36,7 @@ use Rattle.zq_machine.specs.declared.face.OpenFace.{OpenFace}
 use Rattle.zq_machine.specs.Agreeing.{all_pending, pending_of, stands_in}
 use Rattle.zq_machine.specs.Configs.{Settings}
 use Rattle.zq_machine.specs.Deciding.{accepted, after_replied, deadline, opened}
-use Rattle.zq_machine.specs.Selecting.{full_text, passes, route_for, says_key, select, select_for, target_of, with_part}
+use Rattle.zq_machine.specs.Selecting.{AskerState, asker_in, full_text, offers_to, passes, route_for, says_key, select, select_for, target_of, with_part}
 use Rattle.zq_machine.specs.State.{Core, at}
 use Rattle.zq_machine.specs.TextCalls.{TextCall, opening, closing, naming, unnaming, declaring, withdrawing, asking, replying, ending, reporting, passing, listing, finalizing, unbuilt}
 use Rattle.zq_machine.proofs.Agreeing.{Tied}
@@ -49,25 +49,24 @@ use Rattle.zq_machine.proofs.Routes.{none_chosen, none_filtered, none_offered, r
 use Rattle.zq_key.proofs.Lookups.{each_entry as each_at, found_after_insertion, found_after_removal}
 
 -- ---- what fails for every offer of every hat fails for what is selected
-module _ (p : QueryTargetQabl → Bool) (faces : List (ℕ × OpenFace)) (tables : List (ℕ × Gateways)) (own : Zid) (asker : FaceId) (opened : OpenFace) (key : List ℕ) (target : QueryTarget) where
-  none_in_parts : (hats : List HatState) (r : List (ℕ × QueryTargetQabl)) → AllByRecursion (λ h. list_any p (offers_of h opened.region key (Some 0)) ≡ false) hats → list_any p (values_of r) ≡ false
-      → list_any p (values_of (fold (with_part faces tables own asker opened key target) r hats)) ≡ false
+module _ (p : QueryTargetQabl → Bool) (a : AskerState) (key : List ℕ) (target : QueryTarget) where
+  none_in_parts : (hats : List HatState) (r : List (ℕ × QueryTargetQabl)) → AllByRecursion (λ h. list_any p (offers_to a key h) ≡ false) hats → list_any p (values_of r) ≡ false
+      → list_any p (values_of (fold (with_part a key target) r hats)) ≡ false
   none_in_parts [] r all none = none
   none_in_parts (h ∷ hats) r all none =
-      let os = offers_of h opened.region key (Some 0) in
-      none_in_parts hats (with_part faces tables own asker opened key target r h) all.1
-      (none_offered p (chosen target (filter (passes faces tables own asker opened) os)) r none (none_chosen p target _ (none_filtered p (passes faces tables own asker opened) os all.0)))
+      let os = offers_to a key h in
+      none_in_parts hats (with_part a key target r h) all.1 (none_offered p (chosen target (filter (passes a) os)) r none (none_chosen p target _ (none_filtered p (passes a) os all.0)))
 
 none_selected : (p : QueryTargetQabl → Bool) (c : Core) (asker : FaceId) (s : Said) (r : Request)
-    → ((o : OpenFace) → AllByRecursion (λ h. list_any p (offers_of h o.region (full_text s) (Some 0)) ≡ false) (values_of c.hats)) → list_any p (select c asker s r) ≡ false
+    → ((a : AskerState) → AllByRecursion (λ h. list_any p (offers_to a (full_text s) h) ≡ false) (values_of c.hats)) → list_any p (select c asker s r) ≡ false
 none_selected p c asker s r all = by (at asker.0 c.faces)
   where
     by : (o : Option OpenFace) → list_any p (select_for c asker s r o) ≡ false
     by None = refl
     by (Some o) = keyed (says_key s)
       where
-        keyed : (b : Bool) → list_any p (cond b (values_of (route_for c asker o (full_text s) r)) []) ≡ false
-        keyed true = none_in_parts p c.faces c.tables c.config.zid asker o (full_text s) r.target (values_of c.hats) [] (all o) refl
+        keyed : (b : Bool) → list_any p (cond b (values_of (route_for c (asker_in c asker r.node o) (full_text s) r.target)) []) ≡ false
+        keyed true = none_in_parts p (asker_in c asker r.node o) (full_text s) r.target (values_of c.hats) [] (all (asker_in c asker r.node o)) refl
         keyed false = refl
 
 -- each face is one target
@@ -78,8 +77,8 @@ targets_distinct c asker s r = by (at asker.0 c.faces)
     by None = refl
     by (Some o) = keyed (says_key s)
       where
-        keyed : (b : Bool) → are_distinct (face_numbers (map target_of (cond b (values_of (route_for c asker o (full_text s) r)) []))) ≡ true
-        keyed true = route_distinct c.faces c.tables c.config.zid asker o (full_text s) r.target (values_of c.hats)
+        keyed : (b : Bool) → are_distinct (face_numbers (map target_of (cond b (values_of (route_for c (asker_in c asker r.node o) (full_text s) r.target)) []))) ≡ true
+        keyed true = route_distinct (asker_in c asker r.node o) (full_text s) r.target (values_of c.hats)
         keyed false = refl
 
 -- ---- the faces of hats are open
@@ -113,8 +112,8 @@ module _ (config : Settings) (faces : List (ℕ × OpenFace)) (hats : List (ℕ 
       let here : is_shut o ≡ false = ap not (is_open o.face.0 (All-head (IsOf h) o os all)) in
       λ j. here j || none_shut h is_open os (All-tail (IsOf h) o os all) j
 
-  pub none_offered_shut : (src : Region) (key : List ℕ) → AllByRecursion (λ h. list_any is_shut (offers_of h src key (Some 0)) ≡ false) (values_of hats)
-  none_offered_shut src key = all_weaker AllOpen _ (λ h is_open. none_shut h is_open (offers_of h src key (Some 0)) (offers_of_faces h src key (Some 0))) (values_of hats) all_open
+  pub none_offered_shut : (a : AskerState) (key : List ℕ) → AllByRecursion (λ h. list_any is_shut (offers_to a key h) ≡ false) (values_of hats)
+  none_offered_shut a key = all_weaker AllOpen _ (λ h is_open. none_shut h is_open (offers_to a key h) (offers_of_faces h a.opened.region key _)) (values_of hats) all_open
 
 -- ---- entries stay at open faces
 abbrev pub AimAt : List (ℕ × OpenFace) → Pending → Type 0
@@ -183,7 +182,7 @@ module _ (config : Settings) (c : Core) (names : NamingState) (t : Tied c.faces 
 
       each : AllByRecursion (AimAt c.faces) new.pending
       each = each_entry (AimAt c.faces) d (map (given_place c.queries) (map target_of os))
-          (given os (all_failing _ os (none_selected (λ o. not (is_some (at o.face.0 c.faces))) c face s r (λ o. none_offered_shut config c.faces c.hats names t a o.region (full_text s)))))
+          (given os (all_failing _ os (none_selected (λ o. not (is_some (at o.face.0 c.faces))) c face s r (λ asker. none_offered_shut config c.faces c.hats names t a asker (full_text s)))))
 
       by : (b : Bool) → AllAim c.faces (c.queries.records ++ cond b [] (new ∷ []))
       by true = subst (AllAim c.faces) (sym (append-nil c.queries.records)) aims

@@ -2,7 +2,7 @@
 use Rattle.std.specs.Prelude.{ℕ, ◌==◌, Bool, true, false, not, ◌&&◌, List, [], fold, Option, Some, None, if◌then◌else◌}
 use Rattle.std.specs.List.{filter}
 use Rattle.std.specs.Map.{values_of}
-use Rattle.std.specs.Option.{option_map}
+use Rattle.std.specs.Option.{option_and_then, option_map}
 use Rattle.zq_key.specs.Key.{is_key}
 use Rattle.zq_message.specs.declared.message.FaceId.{FaceId}
 use Rattle.zq_message.specs.declared.message.QueryTarget.{QueryTarget}
@@ -11,6 +11,8 @@ use Rattle.zq_message.specs.declared.message.Zid.{Zid}
 use Rattle.zq_hat.specs.declared.types.QueryTargetQabl.{QueryTargetQabl}
 use Rattle.zq_hat.specs.State.{HatState}
 use Rattle.zq_hat.specs.Offers.{offers_of}
+use Rattle.zq_hat.specs.Regions.{same_region}
+use Rattle.zq_hat.specs.Routers.{context_at, source_at}
 use Rattle.zq_tables.specs.declared.said.Said.{Said}
 use Rattle.zq_tables.specs.declared.said.Said.TheVariants as said
 use Rattle.zq_route.specs.declared.filter.InterRegionFilter.{InterRegionFilter}
@@ -18,7 +20,7 @@ use Rattle.zq_route.specs.declared.gateways.Gateways.{Gateways}
 use Rattle.zq_route.specs.Filter.{passes_between}
 use Rattle.zq_route.specs.Selection.{chosen, with_offers}
 use Rattle.zq_machine.specs.declared.face.OpenFace.{OpenFace}
-use Rattle.zq_machine.specs.State.{Core, at, is_region}
+use Rattle.zq_machine.specs.State.{Core, at, hat_of, is_region}
 
 -- the expression's scope stands for nothing
 abbrev pub is_unscoped : Said → Bool
@@ -56,31 +58,56 @@ zid_in o = o.zid
 abbrev pub zid_of : ℕ → List (ℕ × OpenFace) → Option Zid
 zid_of face faces = option_map zid_in (at face faces)
 
+-- the router that a node number of the face stands for; outside regions of routers the face itself
+abbrev pub router_by : FaceId → ℕ → Core → Option Zid
+router_by face node c = option_and_then (source_at face.0 node) (hat_of face.0 c)
+
+-- the place of that router in the network of the face's region; outside regions of routers the first
+abbrev pub place_by : FaceId → ℕ → Core → Option ℕ
+place_by face node c = option_and_then (context_at face.0 node) (hat_of face.0 c)
+
+-- who asks, and what decides between regions: the open faces, the gateways that were listed and the gateway's id; the asker; the router that its request comes from, or the asker itself, and the place of that router
+pub record AskerState : Type 0 where
+  pub faces : List (ℕ × OpenFace)
+  pub tables : List (ℕ × Gateways)
+  pub own : Zid
+  pub face : FaceId
+  pub opened : OpenFace
+  pub source : Option Zid
+  pub context : Option ℕ
+
+-- an open face that asks with a request of this node
+abbrev pub asker_in : Core → FaceId → ℕ → OpenFace → AskerState
+asker_in c asker node opened = record { faces = c.faces; tables = c.tables; own = c.config.zid; face = asker; opened = opened; source = router_by asker node c; context = place_by asker node c }
+
 -- the filter between an asker's region and an offer's
-abbrev pub filter_for : List (ℕ × OpenFace) → OpenFace → QueryTargetQabl → InterRegionFilter
-filter_for faces asker o = record { src = asker.region; dst = o.region; src_zid = Some asker.zid; fwd_zid = Some asker.zid; dst_zid = zid_of o.face.0 faces }
+abbrev pub filter_for : AskerState → QueryTargetQabl → InterRegionFilter
+filter_for a o = record { src = a.opened.region; dst = o.region; src_zid = a.source; fwd_zid = Some a.opened.zid; dst_zid = zid_of o.face.0 a.faces }
 
 -- the gateway is the one to carry a request between two of its regions
 abbrev pub carries_between : List (ℕ × Gateways) → Zid → InterRegionFilter → Bool
 carries_between tables own f = is_region f.src && is_region f.dst && passes_between f tables own
 
 -- the offer is for a request of the asker: it is another face's, and the gateway is the one to carry it
-abbrev pub passes : List (ℕ × OpenFace) → List (ℕ × Gateways) → Zid → FaceId → OpenFace → QueryTargetQabl → Bool
-passes faces tables own asker opened o = not (o.face.0 == asker.0) && carries_between tables own (filter_for faces opened o)
+abbrev pub passes : AskerState → QueryTargetQabl → Bool
+passes a o = not (o.face.0 == a.face.0) && carries_between a.tables a.own (filter_for a o)
+
+-- what a region offers to the asker; in its own region by the place that its request comes from
+abbrev pub offers_to : AskerState → List ℕ → HatState → List QueryTargetQabl
+offers_to a key h = offers_of h a.opened.region key (if same_region a.opened.region h.region then a.context else Some 0)
 
 -- a region's part joins what earlier regions gave: the offers that pass and that the target picks, each face once
-abbrev pub with_part : List (ℕ × OpenFace) → List (ℕ × Gateways) → Zid → FaceId → OpenFace → List ℕ → QueryTarget → List (ℕ × QueryTargetQabl) → HatState → List (ℕ × QueryTargetQabl)
-with_part faces tables own asker opened key target route h =
-    with_offers route (chosen target (filter (passes faces tables own asker opened) (offers_of h opened.region key (Some 0))))
+abbrev pub with_part : AskerState → List ℕ → QueryTarget → List (ℕ × QueryTargetQabl) → HatState → List (ℕ × QueryTargetQabl)
+with_part a key target route h = with_offers route (chosen target (filter (passes a) (offers_to a key h)))
 
 -- region by region, in the order of their places
-abbrev pub route_for : Core → FaceId → OpenFace → List ℕ → Request → List (ℕ × QueryTargetQabl)
-route_for c asker opened key r = fold (with_part c.faces c.tables c.config.zid asker opened key r.target) [] (values_of c.hats)
+abbrev pub route_for : Core → AskerState → List ℕ → QueryTarget → List (ℕ × QueryTargetQabl)
+route_for c a key target = fold (with_part a key target) [] (values_of c.hats)
 
 -- the offers that a request of an open face is handed to
 abbrev pub select_for : Core → FaceId → Said → Request → Option OpenFace → List QueryTargetQabl
 select_for c asker s r None = []
-select_for c asker s r (Some opened) = if says_key s then values_of (route_for c asker opened (full_text s) r) else []
+select_for c asker s r (Some opened) = if says_key s then values_of (route_for c (asker_in c asker r.node opened) (full_text s) r.target) else []
 
 -- the offers that a request is handed to
 abbrev pub select : Core → FaceId → Said → Request → List QueryTargetQabl

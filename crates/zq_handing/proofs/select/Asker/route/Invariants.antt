@@ -1,11 +1,12 @@
 use Rattle.std.proofs.Common.{◌≡◌, [], fold}
 use Rattle.std.specs.Map.{values_of}
 use Rattle.zq_machine.specs.Selecting.{with_part}
+use Rattle.zq_handing.specs.Askers.{asker_of}
 use Rattle.zq_handing.proofs.select.Asker.route.Given as goal
 
 abbrev pub invariant-loop-hat : goal.invariant-loop-hat
 invariant-loop-hat l = record {
   can : (goal.iterator-loop-hat).can_next l.hat-iterator;
   ends : (goal.iterator-loop-hat).is_finite l.hat-iterator;
-  rest : fold (with_part l.self.faces.now.entries l.self.tables.now l.self.own l.self.face l.self.opened l.key l.target) l.route l.hat-iterator ≡ fold (with_part l.self.faces.now.entries l.self.tables.now l.self.own l.self.face l.self.opened l.key l.target) [] (values_of l.hats);
+  rest : fold (with_part (asker_of l.self) l.key l.target) l.route l.hat-iterator ≡ fold (with_part (asker_of l.self) l.key l.target) [] (values_of l.hats);
 }
