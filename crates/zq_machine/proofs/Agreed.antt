@@ -27,18 +27,20 @@ use Rattle.zq_machine.specs.Configs.{Settings, region_of, north_of}
 use Rattle.zq_machine.specs.Deciding.{accepted, after_replied, causes, deadline, refusal_of, targets}
 use Rattle.zq_machine.specs.Machine.{accepted_state, state_after}
 use Rattle.zq_machine.specs.Selecting.{full_text}
+use Rattle.zq_machine.specs.Writing.{with_told_number}
 use Rattle.zq_machine.specs.State.{State, at, change_hat, clashes_in, first_hats, hat_at, hat_of, is_open, is_region, opening_state, with_hat}
 use Rattle.zq_machine.specs.TextCalls.{TextCall, opening, closing, naming, unnaming, declaring, withdrawing, asking, replying, ending, reporting, passing, listing, finalizing, unbuilt}
-use Rattle.zq_machine.proofs.Agreeing.{Tied, declared_tied, marked_tied, named_tied, some_of, unnamed_tied, withdrawn_tied}
+use Rattle.zq_machine.proofs.Agreeing.{Tied, declared_tied, marked_tied, named_tied, renamed_tied, some_of, unnamed_tied, withdrawn_tied}
 use Rattle.zq_machine.proofs.Changing.{hat_found, itself, number_test, region_there}
 use Rattle.zq_machine.proofs.Finals.{IsSound, granted_sound, is_there, none_sorted, opening_sound}
 use Rattle.zq_machine.proofs.Hats.{AreHatsOf, accepted_hats, opening_hats}
 use Rattle.zq_machine.proofs.Joining.{closed_tied, opened_tied}
 use Rattle.zq_machine.proofs.NewEntries.{numbered_asked}
 use Rattle.zq_machine.proofs.Numbered.{InNumbers, numbered_if_put, numbered_landed, numbered_let_go, numbered_timing}
-use Rattle.zq_machine.proofs.Promises.{all_passed, no_full}
+use Rattle.zq_machine.proofs.Granted.{all_passed}
+use Rattle.zq_machine.proofs.Promises.{no_full}
 use Rattle.zq_machine.proofs.Targets.{AllAim, accepted_aims, targets_distinct}
-use Rattle.zq_machine.proofs.Always.{always}
+use Rattle.zq_machine.proofs.Always.{KeptByNumbers, always}
 use Rattle.zq_key.proofs.Lookups.{found_after_insertion}
 
 abbrev IsTied : State → Type 0
@@ -133,6 +135,16 @@ granted_in_order config s x h i = record {
   aims = accepted_aims config s.core s.names i.tied i.hats i.sound.sorted i.aims x;
 }
 
+-- and it is kept by each number that a face is told
+pub numbered_in_order : (config : Settings) → KeptByNumbers (InOrder config)
+numbered_in_order config core face text id names i = record {
+  sound = i.sound;
+  tied = renamed_tied core.faces core.hats names i.tied face (with_told_number text (Some id)) (λ n. refl);
+  hats = i.hats;
+  numbered = i.numbered;
+  aims = i.aims;
+}
+
 -- ---- before any call no hat has a face
 abbrev AreBare : List (ℕ × HatState) → Type 0
 AreBare hats = (r : Region) (h : HatState) → hat_at r hats ≡ Some h → h.faces ≡ []
@@ -181,7 +193,7 @@ opening_in_order config = record {
 
 -- at every point of a run
 pub run_in_order : (config : Settings) (calls : List Call) → InOrder config (state_after (opening_state config) calls)
-run_in_order config calls = always (InOrder config) (granted_in_order config) calls (opening_state config) (opening_in_order config)
+run_in_order config calls = always (InOrder config) (granted_in_order config) (numbered_in_order config) calls (opening_state config) (opening_in_order config)
 
 -- ---- in the words of the promise
 agrees : (config : Settings) (s : State) → InOrder config s → Agrees s

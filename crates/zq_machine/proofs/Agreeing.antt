@@ -79,7 +79,7 @@ module _ (face : ℕ) (g : FaceKeys → FaceKeys) (names : NamingState) where
 
 module _ (faces : List (ℕ × OpenFace)) (hats : List (ℕ × HatState)) (names : NamingState) (t : Tied faces hats names) where
   -- numbers for keys come and go
-  renamed_tied : (face : ℕ) (g : FaceKeys → FaceKeys) → ((n : FaceKeys) → (g n).queryables ≡ n.queryables) → Tied faces hats (change_naming face g names)
+  pub renamed_tied : (face : ℕ) (g : FaceKeys → FaceKeys) → ((n : FaceKeys) → (g n).queryables ≡ n.queryables) → Tied faces hats (change_naming face g names)
   renamed_tied face g same = record {
     hats_sorted = t.hats_sorted;
     names_sorted = names_in_order face g names t.names_sorted;

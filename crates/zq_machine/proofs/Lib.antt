@@ -1,5 +1,7 @@
 pub mod Lists
 pub mod Writing
+pub mod Telling
+pub mod Granted
 pub mod Hearing
 pub mod Frame
 pub mod Replies
