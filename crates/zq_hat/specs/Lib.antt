@@ -5,4 +5,6 @@ pub mod Kept
 pub mod Marks
 pub mod Offers
 pub mod Tied
+pub mod Routers
+pub mod Trees
 pub mod Moved

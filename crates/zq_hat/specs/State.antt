@@ -8,8 +8,8 @@ use Rattle.zq_message.specs.declared.message.Zid.{Zid}
 use Rattle.zq_hat.specs.declared.types.Declaration.{Declaration}
 use Rattle.zq_hat.specs.declared.types.InterestEntry.{InterestEntry}
 use Rattle.zq_hat.specs.declared.types.ToldEntry.{ToldEntry}
-use Rattle.zq_hat.specs.declared.types.NodeIds.{NodeIds}
-use Rattle.zq_hat.specs.declared.types.Network.{Network}
+use Rattle.zq_trees.specs.declared.types.NodeIds.{NodeIds}
+use Rattle.zq_trees.specs.declared.types.Network.{Network}
 
 -- a face of a hat: who it is; what it declared and asks to hear, by id; the id that it was told last; whether all that it had to declare at its opening has come; the keys, in order, on which all has come; its node table
 pub record FaceState : Type 0 where

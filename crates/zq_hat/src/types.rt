@@ -1,4 +1,4 @@
-//! What hats keep, offer and tell.
+//! What hats keep, offer and tell; networks and tellings are `zq_trees`'s.
 ghost use Rattle.std.specs.Prelude.{◌≡◌, IfOk};
 
 use std::alloc::Global;
@@ -7,6 +7,10 @@ use zq_key::items::Items;
 use zq_key::memory::OutOfMemory;
 use zq_key::message::{Bound, FaceId, Mode, QueryableInfoType, Region, Zid};
 use zq_key::text::Text;
+pub use zq_trees::types::{
+    DirectionList, Network, NodeIds, Telling, TellingList, Tree, TreeList, U16List, U32List,
+    ZidList,
+};
 
 /// How a region keeps and offers queryables.
 #[derive(Clone, Copy, Debug, PartialEq, Eq)]
@@ -87,19 +91,6 @@ pub enum FinalMark {
     Key(Text),
 }
 
-/// A declaration to a face; with no information its withdrawal.
-#[derive(Debug, Drop)]
-pub struct Telling {
-    pub face: FaceId,
-    pub id: u32,
-    pub key: Text,
-    pub info: Option<QueryableInfoType>,
-    pub node: u16,
-}
-
-/// Declarations and withdrawals, in order.
-pub type TellingList = Items<Telling>;
-
 /// An offer of a face (upstream's `QueryTargetQabl`): who would answer a key, and how completely.
 #[derive(Debug, Drop)]
 pub struct QueryTargetQabl {
@@ -127,39 +118,3 @@ impl QueryTargetQabl {
 
 /// Offers, by distance, key text and face.
 pub type OfferList = Items<QueryTargetQabl>;
-
-/// Ids of nodes.
-pub type ZidList = Items<Zid>;
-
-/// Distances.
-pub type U16List = Items<u16>;
-
-/// Places in a list of nodes.
-pub type U32List = Items<u32>;
-
-/// For each node the place of the next one towards it, or none.
-pub type DirectionList = Items<Option<u32>>;
-
-/// A tree of a network, as one node sees it.
-#[derive(Debug, Drop)]
-pub struct Tree {
-    pub children: U32List,
-    pub directions: DirectionList,
-}
-
-/// One tree for each node.
-pub type TreeList = Items<Tree>;
-
-/// The routers of a region: their ids, a tree for each, and how far each is.
-#[derive(Debug, Drop)]
-pub struct Network {
-    pub nodes: ZidList,
-    pub trees: TreeList,
-    pub distances: U16List,
-}
-
-/// What the node numbers of a face stand for.
-#[derive(Debug, Drop)]
-pub struct NodeIds {
-    pub ids: ZidList,
-}

@@ -11,8 +11,8 @@ use Rattle.zq_message.specs.declared.message.WireExpr.{WireExpr}
 use Rattle.zq_message.specs.declared.message.QueryableInfoType.{QueryableInfoType}
 use Rattle.zq_message.specs.declared.message.Region.{Region}
 use Rattle.zq_route.specs.declared.gateways.Gateways.{Gateways}
-use Rattle.zq_hat.specs.declared.types.Network.{Network}
-use Rattle.zq_hat.specs.declared.types.NodeIds.{NodeIds}
+use Rattle.zq_trees.specs.declared.types.Network.{Network}
+use Rattle.zq_trees.specs.declared.types.NodeIds.{NodeIds}
 use Rattle.zq_message.specs.declared.message.Request.{Request}
 use Rattle.zq_message.specs.declared.message.Response.{Response}
 use Rattle.zq_message.specs.declared.message.ReplyBody.{ReplyBody}

@@ -3,7 +3,7 @@ use Rattle.std.proofs.Common.{◌≡◌, ℕ, ◌<◌, List, [], ◌∷◌, refl
 use Rattle.std.specs.Prelude.{◌==◌, Some}
 use Rattle.std.specs.Fmt.{decimal}
 use Rattle.std.specs.List.{AllByRecursion}
-use Rattle.zq_hat.specs.declared.types.Tree.{Tree}
+use Rattle.zq_trees.specs.declared.types.Tree.{Tree}
 use Rattle.zq_route.specs.declared.gateways.GatewayEntry.{GatewayEntry}
 use Rattle.zq_words.specs.Words.{is_digit, number, list_of, list_word, lacks}
 use Rattle.zq_words.specs.Values.{most_32, zid_word, zids_word, direction_of, direction_word}

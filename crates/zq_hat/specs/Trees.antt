@@ -1,0 +1,50 @@
+-- What the children of trees are told.
+use Rattle.std.specs.Prelude.{◌≡◌, ℕ, List, [], ◌∷◌, ◌++◌, map, Option, Some, None, if◌then◌else◌, option_map}
+use Rattle.std.specs.List.{flat_map, filter_map}
+use Rattle.std.specs.Option.{option_map_or}
+use Rattle.zq_message.specs.declared.message.QueryableInfoType.{QueryableInfoType}
+use Rattle.zq_message.specs.declared.message.Zid.{Zid}
+use Rattle.zq_trees.specs.declared.types.Network.{Network}
+use Rattle.zq_trees.specs.declared.types.Telling.{Telling}
+use Rattle.zq_trees.specs.declared.types.Tree.{Tree}
+use Rattle.zq_trees.specs.Nets.{child_ids, children_of, fresh_ids, is_zid, place_of}
+use Rattle.zq_trees.specs.Seating.{faces_by}
+use Rattle.zq_trees.specs.Tellings.{all_told_of, same_infos, tree_telling}
+use Rattle.zq_hat.specs.Kept.{at_id}
+use Rattle.zq_hat.specs.Routers.{face_with}
+use Rattle.zq_hat.specs.State.{HatState}
+
+-- the open faces of ids, without the one that the call came from: where that has the least number of an id, no other takes its place
+abbrev pub faces_of : Option ℕ → List Zid → HatState → List ℕ
+faces_of from zids s = faces_by from (λ zid. face_with zid s.faces) zids
+
+-- the children of a root's tree are told of a key
+abbrev pub to_children : Option ℕ → Zid → List ℕ → Option QueryableInfoType → HatState → List Telling
+to_children from root key i s = option_map_or (λ node. map (tree_telling key i node) (faces_of from (children_of s.network root) s)) (place_of s.network root) []
+
+-- the own entry on a key was this and is that: the children of the gateway's own tree are told of a change
+abbrev pub own_told : List ℕ → Option QueryableInfoType → Option QueryableInfoType → HatState → List Telling
+own_told key was is s = if same_infos was is then [] else to_children None s.own key is s
+
+-- a router's entry on a key, with the key
+abbrev pub keyed_entry : Zid → List ℕ × List (ℕ × QueryableInfoType) → Option (List ℕ × QueryableInfoType)
+keyed_entry router k = option_map (λ i. (k.0, i)) (at_id router.0 k.1)
+
+-- what stands of a root: a router's entries, or the gateway's own
+abbrev pub standing_of : List (List ℕ × QueryableInfoType) → Zid → HatState → List (List ℕ × QueryableInfoType)
+standing_of own root s = if is_zid root s.own then own else filter_map (keyed_entry root) s.entries
+
+-- the new children of a tree of the root are told what stands of it
+abbrev pub root_told : List (List ℕ × QueryableInfoType) → Network → HatState → Zid → Tree → List Telling
+root_told own old s root tree =
+    option_map_or (λ node. flat_map (all_told_of (standing_of own root s) node) (faces_of None (fresh_ids old root (child_ids s.network tree)) s)) (place_of s.network root) []
+
+-- the same of each tree that has a node
+abbrev pub trees_told : List (List ℕ × QueryableInfoType) → Network → HatState → List Zid → List Tree → List Telling
+trees_told own old s [] ts = []
+trees_told own old s (z ∷ zs) [] = []
+trees_told own old s (z ∷ zs) (t ∷ ts) = root_told own old s z t ++ trees_told own old s zs ts
+
+-- what a network hands in its region, whose hat has it already
+abbrev pub network_told : List (List ℕ × QueryableInfoType) → Network → HatState → List Telling
+network_told own old s = trees_told own old s s.network.nodes s.network.trees
