@@ -1,31 +1,25 @@
--- What accepted calls keep holds after every call, and so after every run.
-use Rattle.std.proofs.Common.{◌≡◌, refl, Bool, true, false, cond, List, [], ◌∷◌, Option, Some, None}
-use Rattle.std.proofs.lemmas.Bool.{false≢true}
+-- What accepted calls keep, and what is told too, holds after every call, and so after every run.
+use Rattle.std.proofs.Common.{◌≡◌, ℕ, List, [], ◌∷◌, Some, None}
+use Rattle.zq_tables.specs.Naming.{NamingState, change_naming}
 use Rattle.zq_machine.specs.declared.call.Call.{Call}
-use Rattle.zq_machine.specs.declared.call.Refusal.{Refusal}
-use Rattle.zq_machine.specs.declared.call.Step.{Step}
-use Rattle.zq_machine.specs.Deciding.{answered, granted, is_accepted, refusal_of, refused}
-use Rattle.zq_machine.specs.Machine.{accepted_state, after, answer, settle, state_after}
-use Rattle.zq_machine.specs.State.{State}
-use Rattle.zq_machine.specs.TextCalls.{TextCall, read}
-use Rattle.zq_machine.proofs.Promises.{granted_is_accepted}
-use Rattle.zq_machine.proofs.Writing.{by_plain, plainly}
+use Rattle.zq_machine.specs.Deciding.{accepted, refusal_of, renamed, told_of}
+use Rattle.zq_machine.specs.Machine.{accepted_state, after, state_after}
+use Rattle.zq_machine.specs.State.{Core, State}
+use Rattle.zq_machine.specs.TextCalls.{read}
+use Rattle.zq_machine.specs.Writing.{with_told_number}
+use Rattle.zq_machine.proofs.Granted.{by_granted}
+use Rattle.zq_machine.proofs.Telling.{told_keeps}
 
--- what holds of what is granted, where nothing refuses, and of a refusal holds of each call
-pub by_granted : (P : Step → State → Type 0) (s : State) (t : TextCall) → (refusal_of s.core t ≡ None → P (plainly s.names (granted s.core t)) (accepted_state s t)) → ((r : Refusal) → P (plainly s.names (refused r)) s) → P (answer s t) (settle s t)
-by_granted P s t given stays = by_plain P s t (by (refusal_of s.core t) refl)
-  where
-    taken : (b : Bool) → b ≡ true → refusal_of s.core t ≡ None → P (plainly s.names (granted s.core t)) (cond b (accepted_state s t) s)
-    taken true e h = given h
-    taken false e h = absurd (false≢true e)
+-- a number that a face is told keeps it
+abbrev pub KeptByNumbers : (State → Type 0) → Type 0
+KeptByNumbers P = (core : Core) (face : ℕ) (text : List ℕ) (id : ℕ) (names : NamingState) → P (record { core = core; names = names }) → P (record { core = core; names = change_naming face (with_told_number text (Some id)) names })
 
-    by : (o : Option Refusal) → refusal_of s.core t ≡ o → P (plainly s.names (answered o (granted s.core t))) (cond (is_accepted (answered o (granted s.core t)).outcome) (accepted_state s t) s)
-    by (Some r) e = stays r
-    by None e = taken (is_accepted (granted s.core t).outcome) (granted_is_accepted s.core t e) e
-
-module _ (P : State → Type 0) (keeps : (s : State) (t : TextCall) → refusal_of s.core t ≡ None → P s → P (accepted_state s t)) where
+module _ (P : State → Type 0) (keeps : (s : State) (c : Call) → refusal_of s.core (read s c) ≡ None → P s → P (accepted_state s (read s c))) (numbers : KeptByNumbers P) where
   pub after_kept : (s : State) (c : Call) → P s → P (after s c)
-  after_kept s c p = by_granted (λ z w. P w) s (read s c) (λ h. keeps s (read s c) h p) (λ r. p)
+  after_kept s c p =
+      by_granted (λ z w. P w) s (read s c)
+      (λ h. told_keeps (λ names. P (record { core = accepted s.core (read s c); names = names })) (numbers (accepted s.core (read s c))) (accepted s.core (read s c)) (told_of s.core (read s c)) (renamed s (read s c)) (keeps s c h p))
+      (λ r. p)
 
   pub always : (cs : List Call) (s : State) → P s → P (state_after s cs)
   always [] s p = p

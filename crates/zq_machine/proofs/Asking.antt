@@ -25,21 +25,20 @@ use Rattle.zq_tables.specs.Naming.{NamingState}
 use Rattle.zq_tables.specs.declared.said.Said.{Said}
 use Rattle.zq_machine.specs.declared.call.Call.{Call}
 use Rattle.zq_machine.specs.declared.call.Call.TheVariants as call
-use Rattle.zq_machine.specs.declared.call.Refusal.{Refusal}
 use Rattle.zq_machine.specs.declared.call.Step.{Step}
 use Rattle.zq_machine.specs.declared.face.OpenFace.{OpenFace}
 use Rattle.zq_machine.specs.Asked.{AreCounted, IsAsked, IsHandedToAsker, asked_by, asked_in, asked_number}
 use Rattle.zq_machine.specs.Configs.{Settings}
-use Rattle.zq_machine.specs.Deciding.{accepted, after_replied, answered, granted, handed_reply, handed_request, handed_requests, handed_timeouts, is_accepted, passing_finals, refusal_of, replied, timed_out as text_timeout}
-use Rattle.zq_machine.specs.Machine.{accepted_state, after, answer, settle, state_after, step, steps_from}
+use Rattle.zq_machine.specs.Deciding.{accepted, after_replied, granted, handed_reply, handed_request, handed_requests, handed_timeouts, passing_finals, replied, timed_out as text_timeout}
+use Rattle.zq_machine.specs.Machine.{after, answer, settle, state_after, step, steps_from}
 use Rattle.zq_machine.specs.Messages.{TextMessage, text_final}
 use Rattle.zq_machine.specs.Writing.{write}
 use Rattle.zq_machine.specs.Selecting.{full_text, select, target_of}
 use Rattle.zq_machine.specs.State.{Core, State, opening_state}
-use Rattle.zq_machine.specs.TextCalls.{TextCall, opening, closing, naming, unnaming, declaring, withdrawing, asking, replying, ending, reporting, passing, listing, finalizing, unbuilt, read, said as said_by_face}
+use Rattle.zq_machine.specs.TextCalls.{TextCall, opening, closing, naming, unnaming, declaring, withdrawing, asking, replying, ending, reporting, passing, listing, finalizing, announcing, retracting, networking, tabling, unbuilt, read, said as said_by_face}
 use Rattle.zq_machine.proofs.Lists.{all_append, all_filter, all_weaker}
-use Rattle.zq_machine.proofs.Promises.{granted_is_accepted, is_asking}
-use Rattle.zq_machine.proofs.Writing.{by_plain, plainly}
+use Rattle.zq_machine.proofs.Granted.{all_beside, by_granted}
+use Rattle.zq_machine.proofs.Promises.{is_asking}
 
 -- ---- what holds of each record's number, asker, id and quality byte
 module _ (P : ℕ → FaceId → ℕ → ℕ → Type 0) where
@@ -150,6 +149,10 @@ module _ (P : ℕ → FaceId → ℕ → ℕ → Type 0) where
   each_kept c (passing now) h all = each_let_go (is_due now) (timing_out (timeouts now c.queries) c.queries).records (each_timing_out (timeouts now c.queries) c.queries all)
   each_kept c (listing r t) h all = all
   each_kept c (finalizing face m set) h all = all
+  each_kept c (announcing face sd i node) h all = all
+  each_kept c (retracting face sd node) h all = all
+  each_kept c (networking r net) h all = all
+  each_kept c (tabling face ids) h all = all
   each_kept c unbuilt h all = all
 
 -- ---- what is handed
@@ -207,6 +210,10 @@ module _ (asked : List Final) (names : NamingState) where
       (finals_handed (passing_finals now c.queries) (finals_let_go (IsAsked asked) (is_due now) z.closed z.records (each_timing_out (IsAsked asked) ts c.queries all)))
   all_handed c (listing r t) h all = tt
   all_handed c (finalizing face m set) h all = tt
+  all_handed c (announcing face sd i node) h all = tt
+  all_handed c (retracting face sd node) h all = tt
+  all_handed c (networking r net) h all = tt
+  all_handed c (tabling face ids) h all = tt
   all_handed c unbuilt h all = tt
 
 -- ---- numbers of requests
@@ -233,6 +240,10 @@ same_count c (reporting reply) h = refl
 same_count c (passing now) h = ap (λ (z : QueryState). z.requests) (rest_stays (timeouts now c.queries) c.queries)
 same_count c (listing r t) h = refl
 same_count c (finalizing face m set) h = refl
+same_count c (announcing face sd i node) h = refl
+same_count c (retracting face sd node) h = refl
+same_count c (networking r net) h = refl
+same_count c (tabling face ids) h = refl
 same_count c unbuilt h = refl
 
 -- ---- one call
@@ -255,25 +266,14 @@ module _ (asked : List Final) (s : State) (all : Asks asked s) where
   no_more = more_asked asked [] s all
 
   quiet : (t : TextCall) → is_asking t ≡ false → Tells asked [] s (settle s t) (answer s t)
-  quiet t h = by_plain (λ z w. Tells asked [] s w z) s t (by (refusal_of s.core t) refl)
-    where
-      kept : State
-      kept = accepted_state s t
-
-      given : Tells asked [] s kept (plainly s.names (granted s.core t))
-      given = record {
+  quiet t h =
+      by_granted (λ z w. Tells asked [] s w z) s t
+      (λ passed. record {
         records = each_kept (IsAsked (asked ++ [])) s.core t h no_more;
-        handed = all_handed (asked ++ []) s.names s.core t h no_more;
+        handed = all_beside s t (write s.names (granted s.core t).messages) (IsHandedToAsker (asked ++ [])) (λ to text d n. refl) (all_handed (asked ++ []) s.names s.core t h no_more);
         counted = λ rest are. subst (λ n. AreCounted n rest) (same_count s.core t h) are;
-      }
-
-      taken : (b : Bool) → b ≡ true → Tells asked [] s (cond b kept s) (plainly s.names (granted s.core t))
-      taken true e = given
-      taken false e = absurd (false≢true e)
-
-      by : (o : Option Refusal) → refusal_of s.core t ≡ o → Tells asked [] s (cond (is_accepted (answered o (granted s.core t)).outcome) kept s) (plainly s.names (answered o (granted s.core t)))
-      by (Some r) e = record { records = no_more; handed = tt; counted = λ rest are. are }
-      by None e = taken (is_accepted (granted s.core t).outcome) (granted_is_accepted s.core t e)
+      })
+      (λ r. record { records = no_more; handed = tt; counted = λ rest are. are })
 
   module _ (face : FaceId) (r : Request) (now : ℕ) where
     abbrev said : Said
@@ -300,16 +300,14 @@ module _ (asked : List Final) (s : State) (all : Asks asked s) where
     requests_by (o ∷ os) = requests_handed (asked ++ new) s.names s.core.queries (full_text said) r (o ∷ os)
 
     request_tells : Tells asked (asked_by (call.Request face r now) (step s (call.Request face r now))) s (after s (call.Request face r now)) (step s (call.Request face r now))
-    request_tells = by_plain (λ z w. Tells asked (asked_by (call.Request face r now) z) s w z) s asking_call (by (refusal_of s.core asking_call) refl)
-      where
-        by : (o : Option Refusal) → refusal_of s.core asking_call ≡ o
-            → Tells asked (asked_by (call.Request face r now) (plainly s.names (answered o (granted s.core asking_call)))) s (cond (is_accepted (answered o (granted s.core asking_call)).outcome) (accepted_state s asking_call) s) (plainly s.names (answered o (granted s.core asking_call)))
-        by (Some x) e = record { records = no_more; handed = tt; counted = λ rest are. are }
-        by None e = record {
+    request_tells =
+        by_granted (λ z w. Tells asked (asked_by (call.Request face r now) z) s w z) s asking_call
+        (λ passed. record {
           records = all_append _ s.core.queries.records _ (more_asked asked new s all) (records_by (is_none_left (map (given_place s.core.queries) (map target_of offers))) _ its_own);
-          handed = requests_by offers;
+          handed = all_beside s asking_call (write s.names (granted s.core asking_call).messages) (IsHandedToAsker (asked ++ new)) (λ to text d n. refl) (requests_by offers);
           counted = λ rest are. (refl, are);
-        }
+        })
+        (λ x. record { records = no_more; handed = tt; counted = λ rest are. are })
 
   call_tells : (c : Call) → Tells asked (asked_by c (step s c)) s (after s c) (step s c)
   unfolding is_asking

@@ -9,15 +9,15 @@ use Rattle.zq_query.specs.declared.records.ReplyTo.{ReplyTo}
 use Rattle.zq_query.specs.Records.{QueryState, is_closed, next_reply}
 use Rattle.zq_machine.specs.declared.call.Call.{Call}
 use Rattle.zq_machine.specs.declared.call.Call.TheVariants as call
-use Rattle.zq_machine.specs.declared.call.Refusal.{Refusal}
 use Rattle.zq_machine.specs.Asked.{closes}
-use Rattle.zq_machine.specs.Deciding.{accepted, after_replied, answered, decide, granted, is_accepted, refusal_of}
+use Rattle.zq_machine.specs.Deciding.{accepted, after_replied, decide, is_accepted}
 use Rattle.zq_machine.specs.Machine.{accepted_state, after, settle, step}
 use Rattle.zq_machine.specs.State.{Core, State}
-use Rattle.zq_machine.specs.TextCalls.{TextCall, opening, closing, naming, unnaming, declaring, withdrawing, asking, replying, ending, reporting, passing, listing, finalizing, unbuilt, read}
+use Rattle.zq_machine.specs.TextCalls.{TextCall, opening, closing, naming, unnaming, declaring, withdrawing, asking, replying, ending, reporting, passing, listing, finalizing, announcing, retracting, networking, tabling, unbuilt, read}
 use Rattle.zq_machine.proofs.Changing.{number_test}
 use Rattle.zq_machine.proofs.Finals.{put_closed, timing_closed}
-use Rattle.zq_machine.proofs.Writing.{by_plain, plainly, settles_plainly}
+use Rattle.zq_machine.proofs.Granted.{by_granted}
+use Rattle.zq_machine.proofs.Writing.{settles_core}
 use Rattle.zq_key.proofs.Sorted.{has_put}
 
 is_closing : TextCall → Bool
@@ -34,6 +34,10 @@ is_closing (reporting reply) = false
 is_closing (passing now) = false
 is_closing (listing r t) = false
 is_closing (finalizing face m set) = false
+is_closing (announcing face sd i node) = false
+is_closing (retracting face sd node) = false
+is_closing (networking r net) = false
+is_closing (tabling face ids) = false
 is_closing unbuilt = false
 
 replied_closed : (q : QueryState) (o : Option ReplyTo) → (after_replied o q).closed ≡ q.closed
@@ -55,11 +59,15 @@ same_closed c (reporting reply) h = refl
 same_closed c (passing now) h = timing_closed now c.queries
 same_closed c (listing r t) h = refl
 same_closed c (finalizing face m set) h = refl
+same_closed c (announcing face sd i node) h = refl
+same_closed c (retracting face sd node) h = refl
+same_closed c (networking r net) h = refl
+same_closed c (tabling face ids) h = refl
 same_closed c unbuilt h = refl
 
 module _ (s : State) (face : ℕ) where
   quiet : (t : TextCall) → is_closing t ≡ false → is_closed (settle s t).core.queries.closed face ≡ is_closed s.core.queries.closed face
-  quiet t h = ap (λ (z : State). is_closed z.core.queries.closed face) (settles_plainly s t) ∙ by (is_accepted (decide s.core t).outcome)
+  quiet t h = ap (λ (z : Core). is_closed z.queries.closed face) (settles_core s t) ∙ by (is_accepted (decide s.core t).outcome)
     where
       by : (b : Bool) → is_closed (cond b (accepted_state s t) s).core.queries.closed face ≡ is_closed s.core.queries.closed face
       by true = ap (λ l. is_closed l face) (same_closed s.core t h)
@@ -68,12 +76,9 @@ module _ (s : State) (face : ℕ) where
   pub call_closed : (c : Call) → is_closed (after s c).core.queries.closed face ≡ (closes face c (step s c) || is_closed s.core.queries.closed face)
   unfolding is_closing
   call_closed (call.Close f) =
-      by_plain (λ t z. is_closed z.core.queries.closed face ≡ (closes face (call.Close f) t || is_closed s.core.queries.closed face)) s (closing f) (by (refusal_of s.core (closing f)))
-    where
-      by : (o : Option Refusal) → is_closed (cond (is_accepted (answered o (granted s.core (closing f))).outcome) (accepted_state s (closing f)) s).core.queries.closed face
-          ≡ (closes face (call.Close f) (plainly s.names (answered o (granted s.core (closing f)))) || is_closed s.core.queries.closed face)
-      by (Some r) = refl
-      by None = has_put nat_cmp_total exact_unsigned face f.0 s.core.queries.closed ∙ ap (λ b. b || is_closed s.core.queries.closed face) (number_test face f.0)
+      by_granted (λ t z. is_closed z.core.queries.closed face ≡ (closes face (call.Close f) t || is_closed s.core.queries.closed face)) s (closing f)
+      (λ h. has_put nat_cmp_total exact_unsigned face f.0 s.core.queries.closed ∙ ap (λ b. b || is_closed s.core.queries.closed face) (number_test face f.0))
+      (λ r. refl)
   call_closed (call.Request f r now) = quiet (read s (call.Request f r now)) refl
   call_closed (call.Open o) = quiet (opening o) refl
   call_closed (call.DeclareKeyExpr f id wire) = quiet (read s (call.DeclareKeyExpr f id wire)) refl

@@ -29,7 +29,7 @@ use Rattle.zq_machine.specs.Selecting.{full_text, select}
 use Rattle.zq_machine.specs.State.{State, opening_state}
 use Rattle.zq_machine.specs.TextCalls.{TextCall, opening, closing, asking, replying, ending, reporting, passing, read}
 use Rattle.zq_machine.specs.Writing.{write}
-use Rattle.zq_machine.proofs.Always.{by_granted}
+use Rattle.zq_machine.proofs.Granted.{by_granted, mapped_beside}
 
 -- ---- what each call counts on from there, a run counts
 module _ (next : State → ℕ) (new : Step → List ℕ) (one : (s : State) (c : Call) (rest : List ℕ) → AreCounted (next (after s c)) rest → AreCounted (next s) (new (step s c) ++ rest)) where
@@ -153,5 +153,9 @@ replies_next s t rest = by t
 pub replies_counted : (config : Settings) (calls : List Call) → AreCounted config.start.replies (replies_in (steps_from (opening_state config) calls))
 replies_counted config calls =
     counted_run (λ s. s.core.queries.replies) replies_of
-    (λ s c rest. by_granted (λ t z. AreCounted z.core.queries.replies rest → AreCounted s.core.queries.replies (replies_of t ++ rest)) s (read s c) (λ h. replies_next s (read s c) rest) (λ r are. are))
+    (λ s c rest. by_granted (λ t z. AreCounted z.core.queries.replies rest → AreCounted s.core.queries.replies (replies_of t ++ rest)) s (read s c)
+    (λ h are.
+    subst (λ l. AreCounted s.core.queries.replies (l ++ rest)) (sym (mapped_beside s (read s c) (write s.names (granted s.core (read s c)).messages) reply_number (λ to text d n. refl)))
+    (replies_next s (read s c) rest are))
+    (λ r are. are))
     calls (opening_state config)

@@ -15,6 +15,7 @@ use Rattle.zq_hat.specs.declared.types.QueryTargetQabl.{QueryTargetQabl}
 use Rattle.zq_hat.specs.Kept.{registered, unregistered, without_face}
 use Rattle.zq_hat.specs.Marks.{finalized}
 use Rattle.zq_hat.specs.Moved.{Keeps, move_mark, move_offer}
+use Rattle.zq_hat.specs.Routers.{networked, noded}
 use Rattle.zq_query.specs.declared.records.Final.{Final}
 use Rattle.zq_query.specs.declared.records.ReplyTo.{ReplyTo}
 use Rattle.zq_query.specs.declared.records.Timeout.{Timeout}
@@ -24,17 +25,16 @@ use Rattle.zq_query.specs.Polling.{timeouts}
 use Rattle.zq_query.specs.Records.{is_entry, is_pending, next_reply}
 use Rattle.zq_tables.specs.declared.said.Said.{Said}
 use Rattle.zq_tables.specs.declared.said.Said.TheVariants as said
-use Rattle.zq_machine.specs.declared.call.Outcome.{Outcome}
-use Rattle.zq_machine.specs.declared.call.Outcome.TheVariants as outcome
 use Rattle.zq_machine.specs.declared.call.Refusal.{Refusal}
-use Rattle.zq_machine.specs.Messages.{Decided, TextMessage, text_final}
+use Rattle.zq_machine.specs.Messages.{Decided, text_final}
 use Rattle.zq_machine.specs.declared.face.OpenFace.{OpenFace}
 use Rattle.zq_machine.specs.State.{Core, at, is_open, joined}
 use Rattle.zq_machine.specs.Selecting.{select_for, select}
-use Rattle.zq_machine.specs.TextCalls.{TextCall, opening, closing, naming, unnaming, declaring, withdrawing, asking, replying, ending, reporting, passing, listing, finalizing, unbuilt}
-use Rattle.zq_machine.specs.Deciding.{refusal_of, handed_request, handed_requests, handed_reply, timed_out, handed_timeouts, passing_finals, replied, granted, outcome_of, answered, decide, is_accepted, deadline, with_queries, with_open, seat, accepted}
-use Rattle.zq_machine.specs.Moved.{move_said, move_text, move_core, move_suffix, move_message, move_decided, after_text, DecidesAlike}
+use Rattle.zq_machine.specs.TextCalls.{TextCall, opening, closing, naming, unnaming, declaring, withdrawing, asking, replying, ending, reporting, passing, listing, finalizing, announcing, retracting, networking, tabling, unbuilt}
+use Rattle.zq_machine.specs.Deciding.{refusal_of, handed_request, handed_requests, handed_reply, timed_out, handed_timeouts, passing_finals, replied, granted, messages_of, outcome_of, told_of, answered, decide, is_accepted, deadline, with_queries, with_open, seat, accepted, announced_by, retracted_by}
+use Rattle.zq_machine.specs.Moved.{move_said, move_text, move_core, move_suffix, move_message, move_telling, move_decided, after_text, DecidesAlike}
 use Rattle.zq_machine.proofs.HatsMoved.{finalized_moved, registered_moved, unregistered_moved, left_moved, joined_moved, hat_changed, own_changed}
+use Rattle.zq_machine.proofs.RoutersMoved.{announced_moved, networked_moved, noded_moved, retracted_moved}
 use Rattle.zq_machine.proofs.SelectionMoved.{select_moved, targets_moved}
 use Rattle.zq_machine.proofs.CausesMoved.{refused_alike}
 
@@ -101,32 +101,43 @@ module _ (φ : List ℕ → List ℕ) where
         ap (handed_requests c.queries face (φ []) r) (select_moved φ keeps c face r (said.Full []) ∙ ap (map (move_offer φ)) none)
         ∙ sym (ap (λ os. map (move_message φ) (handed_requests c.queries face [] r os)) none)
 
-    does : Outcome → List TextMessage → Decided
-    does o ms = record { outcome = o; messages = ms; told = [] }
-
     -- ---- what a call is answered that nothing refuses
+    messages_moved : (t : TextCall) → refusal_of c t ≡ None → messages_of (move_core φ c) (move_text φ t) ≡ map (move_message φ) (messages_of c t)
+    messages_moved (opening o) e = refl
+    messages_moved (closing face) e = finals_moved (closing_finals face.0 c.queries)
+    messages_moved (naming face id s standing) e = refl
+    messages_moved (unnaming face id standing) e = refl
+    messages_moved (declaring face id s info node) e = refl
+    messages_moved (withdrawing face id) e = refl
+    messages_moved (asking face said.Unscoped r now) e = asked_by face [] said.Unscoped r
+    messages_moved (asking face said.Empty r now) e = asked_by face [] said.Empty r
+    messages_moved (asking face (said.Full []) r now) e = asked_none face r
+    messages_moved (asking face (said.Full (b ∷ bs)) r now) e = asked_by face (b ∷ bs) (said.Full (b ∷ bs)) r
+    messages_moved (replying face said.Unscoped r) e = replied_moved [] r (next_reply face.0 r.rid c.queries)
+    messages_moved (replying face said.Empty r) e = replied_moved [] r (next_reply face.0 r.rid c.queries)
+    messages_moved (replying face (said.Full []) r) e = absurd (no_empty_reply c face r e)
+    messages_moved (replying face (said.Full (b ∷ bs)) r) e = replied_moved (b ∷ bs) r (next_reply face.0 r.rid c.queries)
+    messages_moved (ending face rid) e = finals_moved (finals_after (is_entry face.0 rid) c.queries.closed c.queries.records)
+    messages_moved (reporting reply) e = finals_moved (finals_landed reply c.queries.closed c.queries.records)
+    messages_moved (passing now) e = passing_moved c.faces (timeouts now c.queries) (passing_finals now c.queries)
+    messages_moved (listing r table) e = refl
+    messages_moved (finalizing face m set) e = refl
+    messages_moved (announcing face sd i node) e = refl
+    messages_moved (retracting face sd node) e = refl
+    messages_moved (networking r net) e = refl
+    messages_moved (tabling face ids) e = refl
+    messages_moved unbuilt e = refl
+
+    outcome_moved : (t : TextCall) → outcome_of (move_core φ c) (move_text φ t) ≡ outcome_of c t
+    outcome_moved (opening o) = refl
+    outcome_moved t = refl
+
+    -- nothing is told yet
+    told_moved : (t : TextCall) → refusal_of c t ≡ None → told_of (move_core φ c) (move_text φ t) ≡ map (move_telling φ) (told_of c t)
+    told_moved t e = refl
+
     granted_moved : (t : TextCall) → refusal_of c t ≡ None → granted (move_core φ c) (move_text φ t) ≡ move_decided φ (granted c t)
-    unfolding does
-    granted_moved (opening o) e = refl
-    granted_moved (closing face) e = ap (does outcome.Done) (finals_moved (closing_finals face.0 c.queries))
-    granted_moved (naming face id s standing) e = refl
-    granted_moved (unnaming face id standing) e = refl
-    granted_moved (declaring face id s info node) e = refl
-    granted_moved (withdrawing face id) e = refl
-    granted_moved (asking face said.Unscoped r now) e = ap (does (outcome_of c (asking face said.Empty r now))) (asked_by face [] said.Unscoped r)
-    granted_moved (asking face said.Empty r now) e = ap (does (outcome_of c (asking face said.Empty r now))) (asked_by face [] said.Empty r)
-    granted_moved (asking face (said.Full []) r now) e = ap (does (outcome_of c (asking face said.Empty r now))) (asked_none face r)
-    granted_moved (asking face (said.Full (b ∷ bs)) r now) e = ap (does (outcome_of c (asking face said.Empty r now))) (asked_by face (b ∷ bs) (said.Full (b ∷ bs)) r)
-    granted_moved (replying face said.Unscoped r) e = ap (does (outcome_of c (replying face said.Empty r))) (replied_moved [] r (next_reply face.0 r.rid c.queries))
-    granted_moved (replying face said.Empty r) e = ap (does (outcome_of c (replying face said.Empty r))) (replied_moved [] r (next_reply face.0 r.rid c.queries))
-    granted_moved (replying face (said.Full []) r) e = absurd (no_empty_reply c face r e)
-    granted_moved (replying face (said.Full (b ∷ bs)) r) e = ap (does (outcome_of c (replying face said.Empty r))) (replied_moved (b ∷ bs) r (next_reply face.0 r.rid c.queries))
-    granted_moved (ending face rid) e = ap (does outcome.Done) (finals_moved (finals_after (is_entry face.0 rid) c.queries.closed c.queries.records))
-    granted_moved (reporting reply) e = ap (does outcome.Done) (finals_moved (finals_landed reply c.queries.closed c.queries.records))
-    granted_moved (passing now) e = ap (does outcome.Done) (passing_moved c.faces (timeouts now c.queries) (passing_finals now c.queries))
-    granted_moved (listing r table) e = refl
-    granted_moved (finalizing face m set) e = refl
-    granted_moved unbuilt e = refl
+    granted_moved t e = λ j. record { outcome = outcome_moved t j; messages = messages_moved t e j; told = told_moved t e j }
 
     answer_by : (t : TextCall) (o : Option Refusal) → refusal_of c t ≡ o → answered o (granted (move_core φ c) (move_text φ t)) ≡ move_decided φ (answered o (granted c t))
     answer_by t None e = granted_moved t e
@@ -157,6 +168,16 @@ module _ (φ : List ℕ → List ℕ) where
     accepted_moved (passing now) e = refl
     accepted_moved (listing r table) e = refl
     accepted_moved (finalizing face m set) e = own_changed φ c (finalized face.0 (move_mark φ m) set) (finalized face.0 m set) (finalized_moved φ keeps face.0 m set) face.0
+    accepted_moved (announcing face said.Unscoped info node) e = absurd (second_holds (not (is_open face.0 c)) _ _ e)
+    accepted_moved (announcing face said.Empty info node) e = absurd (second_holds (not (is_open face.0 c)) _ _ e)
+    accepted_moved (announcing face (said.Full text) info node) e =
+        own_changed φ c (announced_by face.0 node (φ text) info) (announced_by face.0 node text info) (announced_moved φ keeps face.0 node text info) face.0
+    accepted_moved (retracting face said.Unscoped node) e = absurd (second_holds (not (is_open face.0 c)) _ _ e)
+    accepted_moved (retracting face said.Empty node) e = absurd (second_holds (not (is_open face.0 c)) _ _ e)
+    accepted_moved (retracting face (said.Full text) node) e =
+        own_changed φ c (retracted_by face.0 node (φ text)) (retracted_by face.0 node text) (retracted_moved φ keeps face.0 node text) face.0
+    accepted_moved (networking r net) e = ap (λ l. record (move_core φ c) { hats = l }) (hat_changed φ c.hats r (networked net) (networked net) (networked_moved φ net))
+    accepted_moved (tabling face ids) e = own_changed φ c (noded face.0 ids) (noded face.0 ids) (noded_moved φ face.0 ids) face.0
     accepted_moved unbuilt e = refl
 
     change_by : (t : TextCall) → refusal_of c t ≡ None → (b : Bool) → cond b (accepted (move_core φ c) (move_text φ t)) (move_core φ c) ≡ move_core φ (cond b (accepted c t) c)

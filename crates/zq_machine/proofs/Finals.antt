@@ -30,20 +30,18 @@ use Rattle.zq_query.proofs.Balance.{letting_balance, landing_balance, closing_ba
 use Rattle.zq_tables.specs.Naming.{NamingState}
 use Rattle.zq_machine.specs.declared.call.Call.{Call}
 use Rattle.zq_machine.specs.Handing.{Handed}
-use Rattle.zq_machine.specs.declared.call.Refusal.{Refusal}
 use Rattle.zq_machine.specs.declared.face.OpenFace.{OpenFace}
 use Rattle.zq_machine.specs.Configs.{Settings}
 use Rattle.zq_machine.specs.State.{State, Core, at, is_open, opening_state}
 use Rattle.zq_machine.specs.Selecting.{select, full_text, target_of}
-use Rattle.zq_machine.specs.TextCalls.{TextCall, opening, closing, naming, unnaming, declaring, withdrawing, asking, replying, ending, reporting, passing, listing, finalizing, unbuilt, read}
-use Rattle.zq_machine.specs.Deciding.{timed_out, causes, refusal_of, granted, answered, is_accepted, accepted, after_replied, deadline, handed_reply, handed_request, handed_requests, handed_replies, handed_timeouts, opened, passing_finals, replied}
-use Rattle.zq_machine.specs.Machine.{accepted_state, after, state_after, step}
+use Rattle.zq_machine.specs.TextCalls.{TextCall, opening, closing, naming, unnaming, declaring, withdrawing, asking, replying, ending, reporting, passing, listing, finalizing, announcing, retracting, networking, tabling, unbuilt, read}
+use Rattle.zq_machine.specs.Deciding.{timed_out, causes, refusal_of, granted, accepted, after_replied, deadline, handed_reply, handed_request, handed_requests, handed_replies, handed_timeouts, opened, passing_finals, replied}
+use Rattle.zq_machine.specs.Machine.{after, state_after, step}
 use Rattle.zq_machine.specs.Messages.{text_final}
 use Rattle.zq_machine.specs.Writing.{sent_final, write, written}
 use Rattle.zq_machine.specs.Headline.{ends, finals_of, to_come}
 use Rattle.zq_machine.proofs.Always.{after_kept, always}
-use Rattle.zq_machine.proofs.Writing.{by_plain}
-use Rattle.zq_machine.proofs.Promises.{all_passed, granted_is_accepted}
+use Rattle.zq_machine.proofs.Granted.{all_passed, by_granted, filter_beside}
 use Rattle.zq_key.proofs.Lookups.{same_key}
 use Rattle.zq_key.proofs.Sorted.{sorted_out, sorted_in, has_put}
 
@@ -148,13 +146,17 @@ granted_sound c (reporting reply) h s = same_closed c.faces c.next_face c.querie
 granted_sound c (passing now) h s = same_closed c.faces c.next_face c.queries _ s (timing_closed now c.queries) (poll_none_over now c.queries)
 granted_sound c (listing r t) h s = s
 granted_sound c (finalizing face m set) h s = s
+granted_sound c (announcing face sd i node) h s = s
+granted_sound c (retracting face sd node) h s = s
+granted_sound c (networking r net) h s = s
+granted_sound c (tabling face ids) h s = s
 granted_sound c unbuilt h s = s
 
 abbrev pub IsSound : State → Type 0
 IsSound s = Sound s.core.faces s.core.next_face s.core.queries
 
 pub after_sound : (s : State) (c : Call) → IsSound s → IsSound (after s c)
-after_sound = after_kept IsSound (λ s t. granted_sound s.core t)
+after_sound = after_kept IsSound (λ s c. granted_sound s.core (read s c)) (λ core face text id names i. i)
 
 pub none_sorted : IsStrictlySortedBy nat_cmp []
 unfolding IsStrictlySortedBy
@@ -170,7 +172,7 @@ opening_sound config = record {
 }
 
 pub run_sound : (cs : List Call) (s : State) → IsSound s → IsSound (state_after s cs)
-run_sound = always IsSound (λ s t. granted_sound s.core t)
+run_sound = always IsSound (λ s c. granted_sound s.core (read s c)) (λ core face text id names i. i)
 
 -- ---- how many finals messages are
 module _ (n : ℕ) (names : NamingState) where
@@ -274,22 +276,18 @@ granted_balance n s (passing now) h i =
     omega (arith, told, kept, same)
 granted_balance n s (listing r t) h i = omega arith
 granted_balance n s (finalizing face m set) h i = omega arith
+granted_balance n s (announcing face sd j node) h i = omega arith
+granted_balance n s (retracting face sd node) h i = omega arith
+granted_balance n s (networking r net) h i = omega arith
+granted_balance n s (tabling face ids) h i = omega arith
 granted_balance n s unbuilt h i = omega arith
-
-follow_balance : (n : ℕ) (s : State) (t : TextCall) (o : Option Refusal) → refusal_of s.core t ≡ o → IsSound s →
-    length (filter (ends n) (write s.names (answered o (granted s.core t)).messages)) + to_come (cond (is_accepted (answered o (granted s.core t)).outcome) (accepted_state s t) s).core.queries.closed n (cond (is_accepted (answered o (granted s.core t)).outcome) (accepted_state s t) s).core.queries
-    ≡ to_come (cond (is_accepted (answered o (granted s.core t)).outcome) (accepted_state s t) s).core.queries.closed n s.core.queries
-follow_balance n s t (Some r) e i = omega arith
-follow_balance n s t None e i = by (is_accepted (granted s.core t).outcome) (granted_is_accepted s.core t e)
-  where
-    by : (b : Bool) → b ≡ true → length (filter (ends n) (write s.names (granted s.core t).messages)) + to_come (cond b (accepted_state s t) s).core.queries.closed n (cond b (accepted_state s t) s).core.queries ≡ to_come (cond b (accepted_state s t) s).core.queries.closed n s.core.queries
-    by true g = granted_balance n s t e i
-    by false g = absurd (false≢true g)
 
 pub call_balance : (n : ℕ) (s : State) (c : Call) → IsSound s → finals_of n (step s c) + to_come (after s c).core.queries.closed n (after s c).core.queries ≡ to_come (after s c).core.queries.closed n s.core.queries
 call_balance n s c i =
-    by_plain (λ t z. length (filter (ends n) t.handed) + to_come z.core.queries.closed n z.core.queries ≡ to_come z.core.queries.closed n s.core.queries) s (read s c)
-    (follow_balance n s (read s c) (refusal_of s.core (read s c)) refl i)
+    let t = read s c in
+    by_granted (λ z w. finals_of n z + to_come w.core.queries.closed n w.core.queries ≡ to_come w.core.queries.closed n s.core.queries) s t
+    (λ h. ap (λ l. length l + to_come (accepted s.core t).queries.closed n (accepted s.core t).queries) (filter_beside s t (write s.names (granted s.core t).messages) (ends n) (λ to text d k. refl)) ∙ granted_balance n s t h i)
+    (λ r. omega arith)
 
 pub call_standing : (s : State) (c : Call) → IsSound s → any_over (after s c).core.queries.records ≡ false
 call_standing s c i = (after_sound s c i).standing

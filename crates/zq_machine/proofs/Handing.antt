@@ -24,15 +24,15 @@ use Rattle.zq_machine.specs.declared.face.OpenFace.{OpenFace}
 use Rattle.zq_machine.specs.Agreeing.{number_of}
 use Rattle.zq_machine.specs.Asked.{asked_number}
 use Rattle.zq_machine.specs.Deciding.{granted, is_accepted, handed_reply, handed_request, handed_requests, handed_timeouts, passing_finals, replied, timed_out}
-use Rattle.zq_machine.specs.Headline.{AnswerPromise, IsFit, ended_in, is_final, is_request, is_response, may_hand}
+use Rattle.zq_machine.specs.Headline.{AnswerPromise, IsFit, ended_by, ended_in, is_final, is_request, is_response, may_hand}
 use Rattle.zq_machine.specs.Machine.{step}
 use Rattle.zq_machine.specs.Messages.{TextMessage, text_final}
 use Rattle.zq_machine.specs.Selecting.{full_text, select}
 use Rattle.zq_machine.specs.State.{Core, State}
 use Rattle.zq_machine.specs.TextCalls.{TextCall, closing, asking, replying, ending, reporting, passing, read}
 use Rattle.zq_machine.specs.Writing.{write}
-use Rattle.zq_machine.proofs.Always.{by_granted}
-use Rattle.zq_machine.proofs.Lists.{sorted_left, sorted_numbers}
+use Rattle.zq_machine.proofs.Granted.{by_granted, mapped_beside, told_by}
+use Rattle.zq_machine.proofs.Lists.{all_append, sorted_left, sorted_numbers}
 use Rattle.zq_machine.proofs.Numbered.{InNumbers, numbered_timing}
 use Rattle.zq_key.proofs.Naturals.{map-map}
 
@@ -113,10 +113,16 @@ granted_fit names c (passing now) =
     (finals_fit names (λ m. is_response m || is_final m) (λ m e. or_right (is_response m) (is_final m) e) (passing_finals now c.queries))
 granted_fit names c t = tt
 
+-- what is told: nothing yet
+told_fit : (s : State) (t : TextCall) → AllByRecursion (IsFit (may_text t)) (told_by s t).handed
+told_fit s t = tt
+
 pub call_fits : (s : State) (c : Call) → AllByRecursion (IsFit (may_hand c)) (step s c).handed
 call_fits s c =
     subst (λ may. AllByRecursion (IsFit may) (step s c).handed) (λ j m. may_read s c m j)
-    (by_granted (λ z w. AllByRecursion (IsFit (may_text (read s c))) z.handed) s (read s c) (λ h. granted_fit s.names s.core (read s c)) (λ r. tt))
+    (by_granted (λ z w. AllByRecursion (IsFit (may_text (read s c))) z.handed) s (read s c)
+    (λ h. all_append (IsFit (may_text (read s c))) (write s.names (granted s.core (read s c)).messages) (told_by s (read s c)).handed (granted_fit s.names s.core (read s c)) (told_fit s (read s c)))
+    (λ r. tt))
 
 -- ---- finals stand by number
 module _ (names : NamingState) where
@@ -187,4 +193,8 @@ granted_rises s (passing now) i =
 granted_rises s t i = no_rise
 
 pub call_ordered : (s : State) (c : Call) → InNumbers s.core.queries → IsStrictlySortedBy nat_cmp (ended_in (step s c).handed)
-call_ordered s c i = by_granted (λ z w. Rise (ended_in z.handed)) s (read s c) (λ h. granted_rises s (read s c) i) (λ r. no_rise)
+call_ordered s c i =
+    let t = read s c in
+    by_granted (λ z w. Rise (ended_in z.handed)) s t
+    (λ h. subst Rise (sym (mapped_beside s t (write s.names (granted s.core t).messages) ended_by (λ to text d n. refl))) (granted_rises s t i))
+    (λ r. no_rise)

@@ -67,7 +67,7 @@ module _ (φ : List ℕ → List ℕ) where
   full_by (Some s) = ap (λ b. is_upstream (strategy_at s) && b) (any_moved s.faces)
 
   -- ---- changes
-  face_changed : (n : ℕ) (g h : FaceState → FaceState) → ((f : FaceState) → g (moved_face f) ≡ moved_face (h f)) → (s : HatState) → change_face n g (move_hat φ s) ≡ move_hat φ (change_face n h s)
+  pub face_changed : (n : ℕ) (g h : FaceState → FaceState) → ((f : FaceState) → g (moved_face f) ≡ moved_face (h f)) → (s : HatState) → change_face n g (move_hat φ s) ≡ move_hat φ (change_face n h s)
   face_changed n g h same s = ap (λ l. record (move_hat φ s) { faces = l }) (change-map moved_face (is_at (nat_cmp n)) g h same s.faces)
 
   declare_moved : (id : ℕ) (key : List ℕ) (i : QueryableInfoType) (f : FaceState) → declare id (φ key) i (moved_face f) ≡ moved_face (declare id key i f)

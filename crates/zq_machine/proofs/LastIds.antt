@@ -1,5 +1,5 @@
 -- The id that was last given at a face is that of the last request that was handed to it.
-use Rattle.std.proofs.Common.{◌≡◌, ◌∙◌, refl, sym, ap, ℕ, Bool, true, false, cond, List, [], ◌∷◌, fold, map, Option, Some, None, unwrap_or}
+use Rattle.std.proofs.Common.{◌≡◌, ◌∙◌, refl, sym, ap, ℕ, Bool, true, false, cond, List, [], ◌∷◌, ◌++◌, fold, map, Option, Some, None, unwrap_or}
 use Rattle.std.specs.Prelude.{◌==◌}
 use Rattle.std.specs.List.{list_any}
 use Rattle.std.specs.Map.{lookup}
@@ -31,7 +31,7 @@ use Rattle.zq_machine.specs.Selecting.{full_text, select, target_of}
 use Rattle.zq_machine.specs.State.{Core, State}
 use Rattle.zq_machine.specs.TextCalls.{TextCall, asking, replying, passing, read, said as said_by_face}
 use Rattle.zq_machine.specs.Writing.{write}
-use Rattle.zq_machine.proofs.Always.{by_granted}
+use Rattle.zq_machine.proofs.Granted.{any_beside, by_granted, by_plain, told_by}
 use Rattle.zq_machine.proofs.Changing.{number_test}
 use Rattle.zq_machine.proofs.Promises.{granted_asks, is_asking}
 use Rattle.zq_key.proofs.Lookups.{found_after_insertion}
@@ -103,14 +103,17 @@ module _ (face : ℕ) where
   quiet : (s : State) (t : TextCall) → is_asking t ≡ false → KeepsLast s t
   quiet s t h =
       by_granted (λ z w. last_given w.core.queries face ≡ last_after face (last_given s.core.queries face) z) s t
-      (λ passed. same_last s.core t h ∙ sym (none_last (write s.names (granted s.core t).messages) (last_given s.core.queries face) (granted_asks s.names s.core t h)))
+      (λ passed.
+      same_last s.core t h
+      ∙ sym (none_last (write s.names (granted s.core t).messages ++ (told_by s t).handed) (last_given s.core.queries face)
+      (any_beside s t (write s.names (granted s.core t).messages) asks (λ to text d n. refl) ∙ granted_asks s.names s.core t h)))
       (λ r. refl)
 
   call_last : (s : State) (c : Call) → KeepsLast s (read s c)
   unfolding is_asking
   call_last s (call.Request asker r now) =
       let t = read s (call.Request asker r now) in
-      by_granted (λ z w. last_given w.core.queries face ≡ last_after face (last_given s.core.queries face) z) s t
+      by_plain (λ z w. last_given w.core.queries face ≡ last_after face (last_given s.core.queries face) z) s t refl
       (λ passed. asked_last s.names s.core.queries asker (full_text (said_by_face asker r.wire s)) r (select s.core asker (said_by_face asker r.wire s) r))
       (λ x. refl)
   call_last s c = quiet s (read s c) refl

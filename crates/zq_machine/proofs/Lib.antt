@@ -1,5 +1,7 @@
 pub mod Lists
 pub mod Writing
+pub mod Telling
+pub mod Granted
 pub mod Hearing
 pub mod Frame
 pub mod Replies
@@ -14,7 +16,6 @@ pub mod Settled
 pub mod Kept
 pub mod EntriesMoved
 pub mod HatsMoved
-mod RoutersMoved
 pub mod SelectionMoved
 pub mod CausesMoved
 pub mod DecidingMoved
@@ -25,6 +26,9 @@ pub mod Agreed
 pub mod Numbered
 pub mod NewEntries
 pub mod Hats
+pub mod Unrouted
+pub mod Owning
+pub mod RoutersMoved
 pub mod Targets
 pub mod Always
 pub mod Counting

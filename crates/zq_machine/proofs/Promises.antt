@@ -31,37 +31,21 @@ use Rattle.zq_machine.specs.declared.call.Step.{Step}
 use Rattle.zq_machine.specs.declared.face.OpenFace.{OpenFace}
 use Rattle.zq_machine.specs.State.{State, Core, at}
 use Rattle.zq_machine.specs.Selecting.{select, select_for, full_text, target_of}
-use Rattle.zq_machine.specs.TextCalls.{TextCall, opening, closing, naming, unnaming, declaring, withdrawing, asking, replying, ending, reporting, passing, listing, finalizing, unbuilt, read, said as said_by_face}
-use Rattle.zq_machine.specs.Deciding.{replied_outcome, passing_finals, Cause, first_of, causes, refusal_of, granted, answered, is_accepted, targets, handed_reply, timed_out, handed_request, handed_requests, handed_replies, handed_timeouts, replied}
-use Rattle.zq_machine.specs.Machine.{answer, accepted_state, step}
+use Rattle.zq_machine.specs.TextCalls.{TextCall, opening, closing, naming, unnaming, declaring, withdrawing, asking, replying, ending, reporting, passing, listing, finalizing, announcing, retracting, networking, tabling, unbuilt, read, said as said_by_face}
+use Rattle.zq_machine.specs.Deciding.{replied_outcome, passing_finals, causes, refusal_of, granted, answered, is_accepted, targets, handed_reply, timed_out, handed_request, handed_requests, handed_replies, handed_timeouts, replied}
+use Rattle.zq_machine.specs.Machine.{answer, step}
 use Rattle.zq_machine.specs.Messages.{Decided, text_final}
 use Rattle.zq_machine.specs.Writing.{sent_final, write, written}
 use Rattle.zq_machine.specs.Headline.{HandsOn, HandsEach, HandsRequest, RequestPromise, HandsReply, ReplyPromise, RefusesBy, asks, replies_to}
 use Rattle.zq_machine.proofs.Routes.{none_to_asker}
 use Rattle.zq_machine.specs.Asked.{is_own}
-use Rattle.zq_machine.proofs.Writing.{answers_plainly, by_plain, finals_written, plainly, settles_plainly}
-use Rattle.zq_machine.proofs.Replies.{next-pending}
+use Rattle.zq_machine.proofs.Granted.{all_passed, any_beside, by_granted, by_plain, granted_is_accepted}
+use Rattle.zq_machine.proofs.Writing.{after_decided, answers_fully, finals_written, fully, settles_fully, told_after, with_told}
 
 key_some : (t : List ℕ) → is_key t ≡ true → 0 < length t
 unfolding is_key is_chunk
 key_some [] h = absurd (false≢true h)
 key_some (c ∷ t) h = omega arith
-
--- ---- causes
-pub passed : (c : Cause) (cs : List Cause) → first_of (c ∷ cs) ≡ None → (c.0 ≡ false) × (first_of cs ≡ None)
-passed c cs h = by c.0 refl h
-  where
-    by : (b : Bool) → c.0 ≡ b → cond b (Some c.1) (first_of cs) ≡ None → (c.0 ≡ false) × (first_of cs ≡ None)
-    by true e g = absurd (cc)
-    by false e g = (e, g)
-
-abbrev pub AllPassed : List Cause → Type 0
-AllPassed [] = Unit {0}
-AllPassed (c ∷ cs) = (c.0 ≡ false) × AllPassed cs
-
-pub all_passed : (cs : List Cause) → first_of cs ≡ None → AllPassed cs
-all_passed [] h = tt
-all_passed (c ∷ cs) h = let p = passed c cs h in (p.0, all_passed cs p.1)
 
 -- ---- requests
 module _ (s : State) (text : List ℕ) (r : Request) (some : 0 < length text) where
@@ -126,13 +110,11 @@ no_full s face sd r now h =
     second true b e = absurd (true≢false e)
     second false b e = e
 
-asked_promise : (s : State) (face : FaceId) (sd : Said) (r : Request) (now : ℕ) (o : Option Refusal) → refusal_of s.core (asking face sd r now) ≡ o
-    → is_accepted (plainly s.names (answered o (granted s.core (asking face sd r now)))).outcome ≡ true
-    → ((plainly s.names (answered o (granted s.core (asking face sd r now)))).outcome ≡ outcome.Asked s.core.queries.requests)
-    × HandsRequest s face (full_text sd) r (select s.core face sd r) (plainly s.names (answered o (granted s.core (asking face sd r now)))).handed
+asked_promise : (s : State) (face : FaceId) (sd : Said) (r : Request) (now : ℕ) → refusal_of s.core (asking face sd r now) ≡ None
+    → (outcome.Asked s.core.queries.requests ≡ outcome.Asked s.core.queries.requests)
+    × HandsRequest s face (full_text sd) r (select s.core face sd r) (write s.names (granted s.core (asking face sd r now)).messages)
     × (list_any (is_own face) (select s.core face sd r) ≡ false)
-asked_promise s face sd r now (Some x) e a = absurd (false≢true a)
-asked_promise s face sd r now None e a = (refl, requests_handed s face sd r (select s.core face sd r) refl (no_full s face sd r now e), none_to_asker s.core face sd r)
+asked_promise s face sd r now e = (refl, requests_handed s face sd r (select s.core face sd r) refl (no_full s face sd r now e), none_to_asker s.core face sd r)
 
 -- ---- messages that are none of a kind
 no_finals_ask : (names : NamingState) (fs : List Final) → list_any asks (write names (map text_final fs)) ≡ false
@@ -192,6 +174,10 @@ is_asking (reporting reply) = false
 is_asking (passing now) = false
 is_asking (listing r t) = false
 is_asking (finalizing face m set) = false
+is_asking (announcing face sd i node) = false
+is_asking (retracting face sd node) = false
+is_asking (networking r net) = false
+is_asking (tabling face ids) = false
 is_asking unbuilt = false
 
 pub granted_asks : (names : NamingState) (c : Core) (t : TextCall) → is_asking t ≡ false → list_any asks (write names (granted c t).messages) ≡ false
@@ -211,20 +197,24 @@ granted_asks names c (passing now) h =
     ∙ any_both asks (write names (handed_timeouts c.faces (timeouts now c.queries))) (write names (map text_final (passing_finals now c.queries))) (no_timeouts_ask names c.faces (timeouts now c.queries)) (no_finals_ask names (passing_finals now c.queries))
 granted_asks names c (listing r t) h = refl
 granted_asks names c (finalizing face m set) h = refl
+granted_asks names c (announcing face sd i node) h = refl
+granted_asks names c (retracting face sd node) h = refl
+granted_asks names c (networking r net) h = refl
+granted_asks names c (tabling face ids) h = refl
 granted_asks names c unbuilt h = refl
 
 quiet_asks : (s : State) (t : TextCall) → is_asking t ≡ false → list_any asks (answer s t).handed ≡ false
-quiet_asks s t h = ap (λ (z : Step). list_any asks z.handed) (answers_plainly s t) ∙ by (refusal_of s.core t)
-  where
-    by : (o : Option Refusal) → list_any asks (write s.names (answered o (granted s.core t)).messages) ≡ false
-    by (Some r) = refl
-    by None = granted_asks s.names s.core t h
+quiet_asks s t h =
+    by_granted (λ z w. list_any asks z.handed ≡ false) s t
+    (λ passed. any_beside s t (write s.names (granted s.core t).messages) asks (λ to text d n. refl) ∙ granted_asks s.names s.core t h)
+    (λ r. refl)
 
 pub request_promise : (s : State) (c : Call) → RequestPromise s c (step s c)
 unfolding is_asking
 request_promise s (call.Request face r now) =
-    by_plain (λ z _. RequestPromise s (call.Request face r now) z) s (read s (call.Request face r now))
-    (asked_promise s face (said_by_face face r.wire s) r now (refusal_of s.core (asking face (said_by_face face r.wire s) r now)) refl)
+    by_plain (λ z _. RequestPromise s (call.Request face r now) z) s (read s (call.Request face r now)) refl
+    (λ h a. asked_promise s face (said_by_face face r.wire s) r now h)
+    (λ x a. absurd (false≢true a))
 request_promise s (call.Open o) = quiet_asks s (opening o) refl
 request_promise s (call.Close face) = quiet_asks s (closing face) refl
 request_promise s (call.DeclareKeyExpr face id wire) = quiet_asks s (read s (call.DeclareKeyExpr face id wire)) refl
@@ -257,6 +247,10 @@ is_replying (ending face rid) = false
 is_replying (reporting reply) = false
 is_replying (listing r t) = false
 is_replying (finalizing face m set) = false
+is_replying (announcing face sd i node) = false
+is_replying (retracting face sd node) = false
+is_replying (networking r net) = false
+is_replying (tabling face ids) = false
 is_replying unbuilt = false
 
 granted_replies : (names : NamingState) (c : Core) (t : TextCall) → is_replying t ≡ false → list_any replies_to (write names (granted c t).messages) ≡ false
@@ -274,40 +268,44 @@ granted_replies names c (ending face rid) h = no_finals_reply names (finals_afte
 granted_replies names c (reporting reply) h = no_finals_reply names (finals_landed reply c.queries.closed c.queries.records)
 granted_replies names c (listing r t) h = refl
 granted_replies names c (finalizing face m set) h = refl
+granted_replies names c (announcing face sd i node) h = refl
+granted_replies names c (retracting face sd node) h = refl
+granted_replies names c (networking r net) h = refl
+granted_replies names c (tabling face ids) h = refl
 granted_replies names c unbuilt h = refl
 
 quiet_replies : (s : State) (t : TextCall) → is_replying t ≡ false → list_any replies_to (answer s t).handed ≡ false
-quiet_replies s t h = ap (λ (z : Step). list_any replies_to z.handed) (answers_plainly s t) ∙ by (refusal_of s.core t)
-  where
-    by : (o : Option Refusal) → list_any replies_to (write s.names (answered o (granted s.core t)).messages) ≡ false
-    by (Some r) = refl
-    by None = granted_replies s.names s.core t h
+quiet_replies s t h =
+    by_granted (λ z w. list_any replies_to z.handed ≡ false) s t
+    (λ passed. any_beside s t (write s.names (granted s.core t).messages) replies_to (λ to text d n. refl) ∙ granted_replies s.names s.core t h)
+    (λ r. refl)
 
-abbrev reply_decided : List ℕ → Response → Option ReplyTo → Decided
-reply_decided text r to = record { outcome = replied_outcome to; messages = replied text r to; told = [] }
+-- a reply with its outcome, by where it goes
+abbrev replied_step : NamingState → List ℕ → Response → Option ReplyTo → Step
+replied_step names text r to = record { outcome = replied_outcome to; handed = write names (replied text r to) }
 
-replied_promise : (s : State) (face : FaceId) (r : Response) (o : Option Refusal) (to : Option ReplyTo) → next_reply face.0 r.rid s.core.queries ≡ to
-    → is_accepted (plainly s.names (answered o (reply_decided (full_text (said_by_face face r.wire s)) r to))).outcome ≡ true
-    → HandsReply s face r (plainly s.names (answered o (reply_decided (full_text (said_by_face face r.wire s)) r to)))
-replied_promise s face r (Some x) to e a = absurd (false≢true a)
-replied_promise s face r None None e a = absurd (false≢true a)
-replied_promise s face r None (Some to) e a = record { goes = to; there = e; outcome = refl; handed = refl }
+replied_promise : (s : State) (face : FaceId) (r : Response) (to : Option ReplyTo) → next_reply face.0 r.rid s.core.queries ≡ to
+    → is_accepted (replied_outcome to) ≡ true
+    → HandsReply s face r (replied_step s.names (full_text (said_by_face face r.wire s)) r to)
+replied_promise s face r None e a = absurd (false≢true a)
+replied_promise s face r (Some to) e a = record { goes = to; there = e; outcome = refl; handed = refl }
 
-timed_promise : (s : State) (now : ℕ) (o : Option Refusal) → is_accepted (plainly s.names (answered o (granted s.core (passing now)))).outcome ≡ true
-    → (plainly s.names (answered o (granted s.core (passing now)))).handed ≡ write s.names (handed_timeouts s.core.faces (timeouts now s.core.queries)) ++ map sent_final (passing_finals now s.core.queries)
-timed_promise s now (Some x) a = absurd (false≢true a)
-timed_promise s now None a =
+timed_promise : (s : State) (now : ℕ)
+    → write s.names (granted s.core (passing now)).messages ≡ write s.names (handed_timeouts s.core.faces (timeouts now s.core.queries)) ++ map sent_final (passing_finals now s.core.queries)
+timed_promise s now =
     map-append (written s.names) (handed_timeouts s.core.faces (timeouts now s.core.queries)) (map text_final (passing_finals now s.core.queries))
     ∙ ap (λ l. write s.names (handed_timeouts s.core.faces (timeouts now s.core.queries)) ++ l) (finals_written s.names (passing_finals now s.core.queries))
 
 pub reply_promise : (s : State) (c : Call) → ReplyPromise s c (step s c)
 unfolding is_replying
 reply_promise s (call.Response face r) =
-    by_plain (λ z _. is_accepted z.outcome ≡ true → HandsReply s face r z) s (read s (call.Response face r))
-    (replied_promise s face r (refusal_of s.core (read s (call.Response face r))) (next_reply face.0 r.rid s.core.queries) refl)
+    by_plain (λ z _. is_accepted z.outcome ≡ true → HandsReply s face r z) s (read s (call.Response face r)) refl
+    (λ h. replied_promise s face r (next_reply face.0 r.rid s.core.queries) refl)
+    (λ x a. absurd (false≢true a))
 reply_promise s (call.Poll now) =
-    by_plain (λ z _. is_accepted z.outcome ≡ true → z.handed ≡ write s.names (handed_timeouts s.core.faces (timeouts now s.core.queries)) ++ map sent_final (passing_finals now s.core.queries)) s (passing now)
-    (timed_promise s now (refusal_of s.core (passing now)))
+    by_plain (λ z _. is_accepted z.outcome ≡ true → z.handed ≡ write s.names (handed_timeouts s.core.faces (timeouts now s.core.queries)) ++ map sent_final (passing_finals now s.core.queries)) s (passing now) refl
+    (λ h a. timed_promise s now)
+    (λ x a. absurd (false≢true a))
 reply_promise s (call.Request face r now) = quiet_replies s (read s (call.Request face r now)) refl
 reply_promise s (call.Open o) = quiet_replies s (opening o) refl
 reply_promise s (call.Close face) = quiet_replies s (closing face) refl
@@ -325,34 +323,19 @@ reply_promise s (call.SetNetwork r net) = quiet_replies s unbuilt refl
 reply_promise s (call.SetNodeIds face ids) = quiet_replies s unbuilt refl
 
 -- ---- refusals
-pending_there : (o : Option ReplyTo) (p : Bool) → is_some o ≡ p → not p ≡ false → is_accepted (replied_outcome o) ≡ true
-pending_there None p e h = absurd (true≢false (ap not e ∙ h))
-pending_there (Some to) p e h = refl
+-- what is answered and left by what is decided
+abbrev answered_so : State → TextCall → Decided → Step
+answered_so s t d = fully s.names (told_after d (after_decided s t d)) d
 
-pub granted_is_accepted : (c : Core) (t : TextCall) → refusal_of c t ≡ None → is_accepted (granted c t).outcome ≡ true
-granted_is_accepted c (replying face s r) h =
-    let p = all_passed (causes c (replying face s r)) h in
-    pending_there (next_reply face.0 r.rid c.queries) (is_pending face.0 r.rid c.queries.records) (next-pending face.0 r.rid c.queries) p.1.1.0
-granted_is_accepted c (passing now) h = refl
-granted_is_accepted c (asking face s r now) h = refl
-granted_is_accepted c (opening o) h = refl
-granted_is_accepted c (closing face) h = refl
-granted_is_accepted c (naming face id s x) h = refl
-granted_is_accepted c (unnaming face id x) h = refl
-granted_is_accepted c (declaring face id s i n) h = refl
-granted_is_accepted c (withdrawing face id) h = refl
-granted_is_accepted c (ending face rid) h = refl
-granted_is_accepted c (reporting reply) h = refl
-granted_is_accepted c (listing r t) h = refl
-granted_is_accepted c (finalizing face m set) h = refl
-granted_is_accepted c unbuilt h = refl
+abbrev left_so : State → TextCall → Decided → State
+left_so s t d = with_told (after_decided s t d) (told_after d (after_decided s t d))
 
 pub refusal_promise : (s : State) (c : Call) → RefusesBy (refusal_of s.core (read s c)) s c
 refusal_promise s c = by (refusal_of s.core (read s c)) refl
   where
     by : (o : Option Refusal) → refusal_of s.core (read s c) ≡ o → RefusesBy o s c
     by (Some r) e = (
-      answers_plainly s (read s c) ∙ ap (λ p. plainly s.names (answered p (granted s.core (read s c)))) e,
-      settles_plainly s (read s c) ∙ ap (λ p. cond (is_accepted (answered p (granted s.core (read s c))).outcome) (accepted_state s (read s c)) s) e,
+      answers_fully s (read s c) ∙ ap (λ p. answered_so s (read s c) (answered p (granted s.core (read s c)))) e,
+      settles_fully s (read s c) ∙ ap (λ p. left_so s (read s c) (answered p (granted s.core (read s c)))) e,
     )
     by None e = ap (λ p. is_accepted (answered p (granted s.core (read s c))).outcome) e ∙ granted_is_accepted s.core (read s c) e

@@ -1,9 +1,8 @@
 -- A final comes where nothing of its request is left: each number stands once.
-use Rattle.std.proofs.Common.{◌≡◌, ℕ, ◌+◌, ◌<◌, ◌≤◌, Bool, true, false, cond, List, [], ◌∷◌, map, length, Option, Some, None, refl, ap, ◌∙◌, arith}
+use Rattle.std.proofs.Common.{◌≡◌, ℕ, ◌+◌, ◌<◌, ◌≤◌, Bool, true, false, cond, List, [], ◌∷◌, map, length, Option, Some, None, refl, sym, ap, subst, ◌∙◌, arith}
 use Rattle.std.specs.List.{filter, list_any}
 use Rattle.std.specs.Prelude.{◌&&◌, ◌||◌, ◌==◌, nat_lt}
 use Rattle.std.specs.Option.{is_some}
-use Rattle.std.proofs.lemmas.Bool.{false≢true}
 use Rattle.zq_query.specs.declared.records.Final.{Final}
 use Rattle.zq_query.specs.declared.records.ReplyTo.{ReplyTo}
 use Rattle.zq_query.specs.declared.records.Timeout.{Timeout}
@@ -13,21 +12,19 @@ use Rattle.zq_query.specs.Polling.{after_timeout, is_due, timeouts, timing_out}
 use Rattle.zq_query.specs.Balance.{finals_under, owed_by}
 use Rattle.zq_query.proofs.Balance.{ask_balance, landing_balance, letting_balance, putting_balance}
 use Rattle.zq_machine.specs.declared.call.Call.{Call}
-use Rattle.zq_machine.specs.declared.call.Refusal.{Refusal}
 use Rattle.zq_machine.specs.Configs.{Settings}
 use Rattle.zq_machine.specs.State.{State, opening_state}
 use Rattle.zq_machine.specs.Selecting.{full_text, select, target_of}
-use Rattle.zq_machine.specs.TextCalls.{TextCall, opening, closing, naming, unnaming, declaring, withdrawing, asking, replying, ending, reporting, passing, listing, finalizing, unbuilt, read}
-use Rattle.zq_machine.specs.Deciding.{refusal_of, granted, answered, is_accepted, accepted, after_replied, deadline, passing_finals}
-use Rattle.zq_machine.specs.Machine.{accepted_state, after, state_after, step}
+use Rattle.zq_machine.specs.TextCalls.{TextCall, opening, closing, naming, unnaming, declaring, withdrawing, asking, replying, ending, reporting, passing, listing, finalizing, announcing, retracting, networking, tabling, unbuilt, read}
+use Rattle.zq_machine.specs.Deciding.{granted, accepted, after_replied, deadline, passing_finals}
+use Rattle.zq_machine.specs.Machine.{after, state_after, step}
 use Rattle.zq_machine.specs.Writing.{write}
 use Rattle.zq_machine.specs.Waiting.{IsSettled, is_same, waits}
 use Rattle.zq_machine.specs.Headline.{FinalPromise, ends, finals_of, to_come}
 use Rattle.zq_machine.proofs.Finals.{IsSound, asked_count, call_balance, call_standing, finals_counted, none_replied, passed_count}
+use Rattle.zq_machine.proofs.Granted.{by_granted, filter_beside}
 use Rattle.zq_machine.proofs.OneFinal.{one_at_first}
-use Rattle.zq_machine.proofs.Promises.{granted_is_accepted}
 use Rattle.zq_machine.proofs.Silent.{silent}
-use Rattle.zq_machine.proofs.Writing.{by_plain}
 
 -- how many records have the number, and one where it is still to be given
 abbrev pub numbers : ℕ → QueryState → ℕ
@@ -113,21 +110,20 @@ granted_numbers n s (passing now) =
     omega (arith, told, kept, same)
 granted_numbers n s (listing r t) = omega arith
 granted_numbers n s (finalizing face m set) = omega arith
+granted_numbers n s (announcing face sd i node) = omega arith
+granted_numbers n s (retracting face sd node) = omega arith
+granted_numbers n s (networking r net) = omega arith
+granted_numbers n s (tabling face ids) = omega arith
 granted_numbers n s unbuilt = omega arith
-
-follow_numbers : (n : ℕ) (s : State) (t : TextCall) (o : Option Refusal) → refusal_of s.core t ≡ o →
-    length (filter (ends n) (write s.names (answered o (granted s.core t)).messages)) + numbers n (cond (is_accepted (answered o (granted s.core t)).outcome) (accepted_state s t) s).core.queries
-    ≤ numbers n s.core.queries
-follow_numbers n s t (Some r) e = omega arith
-follow_numbers n s t None e = by (is_accepted (granted s.core t).outcome) (granted_is_accepted s.core t e) (granted_numbers n s t)
-  where
-    by : (b : Bool) → b ≡ true → Fewer n s t → length (filter (ends n) (write s.names (granted s.core t).messages)) + numbers n (cond b (accepted_state s t) s).core.queries ≤ numbers n s.core.queries
-    by true g l = l
-    by false g l = absurd (false≢true g)
 
 call_numbers : (n : ℕ) (s : State) (c : Call) → finals_of n (step s c) + numbers n (after s c).core.queries ≤ numbers n s.core.queries
 call_numbers n s c =
-    by_plain (λ t z. length (filter (ends n) t.handed) + numbers n z.core.queries ≤ numbers n s.core.queries) s (read s c) (follow_numbers n s (read s c) (refusal_of s.core (read s c)) refl)
+    let t = read s c in
+    by_granted (λ z w. finals_of n z + numbers n w.core.queries ≤ numbers n s.core.queries) s t
+    (λ h.
+    subst (λ l. length l + numbers n (accepted s.core t).queries ≤ numbers n s.core.queries) (sym (filter_beside s t (write s.names (granted s.core t).messages) (ends n) (λ to text d k. refl)))
+    (granted_numbers n s t))
+    (λ r. omega arith)
 
 -- each number stands once at most, all along a run
 still_once : (n : ℕ) (cs : List Call) (s : State) → numbers n s.core.queries ≤ 1 → numbers n (state_after s cs).core.queries ≤ 1

@@ -21,20 +21,18 @@ use Rattle.zq_query.specs.Balance.{finals_under, owed_by}
 use Rattle.zq_tables.specs.Naming.{NamingState}
 use Rattle.zq_machine.specs.declared.call.Call.{Call}
 use Rattle.zq_machine.specs.Handing.{Handed}
-use Rattle.zq_machine.specs.declared.call.Refusal.{Refusal}
-use Rattle.zq_machine.specs.declared.call.Step.{Step}
 use Rattle.zq_machine.specs.declared.face.OpenFace.{OpenFace}
 use Rattle.zq_machine.specs.Configs.{Settings}
 use Rattle.zq_machine.specs.State.{State, opening_state}
 use Rattle.zq_machine.specs.Selecting.{full_text, select}
-use Rattle.zq_machine.specs.TextCalls.{TextCall, opening, closing, naming, unnaming, declaring, withdrawing, asking, replying, ending, reporting, passing, listing, finalizing, unbuilt, read}
-use Rattle.zq_machine.specs.Deciding.{timed_out as text_timeout, answered, granted, handed_replies, handed_request, handed_requests, handed_timeouts, passing_finals, refusal_of, replied}
+use Rattle.zq_machine.specs.TextCalls.{TextCall, opening, closing, naming, unnaming, declaring, withdrawing, asking, replying, ending, reporting, passing, listing, finalizing, announcing, retracting, networking, tabling, unbuilt, read}
+use Rattle.zq_machine.specs.Deciding.{timed_out as text_timeout, granted, handed_replies, handed_request, handed_requests, handed_timeouts, passing_finals, replied}
 use Rattle.zq_machine.specs.Machine.{state_after, step, steps_from}
 use Rattle.zq_machine.specs.Messages.{text_final}
 use Rattle.zq_machine.specs.Writing.{write, written}
 use Rattle.zq_machine.specs.Waiting.{is_of}
 use Rattle.zq_machine.specs.Headline.{finals_over, to_come}
-use Rattle.zq_machine.proofs.Writing.{answers_plainly}
+use Rattle.zq_machine.proofs.Granted.{any_beside, by_granted}
 use Rattle.zq_machine.proofs.Finals.{opening_sound}
 use Rattle.zq_machine.proofs.OneFinal.{granted_grows, one_at_first, owed_less, run_balance}
 
@@ -194,14 +192,18 @@ granted_silent n s (passing now) none =
     ∙ ended
 granted_silent n s (listing r t) none = refl
 granted_silent n s (finalizing face m set) none = refl
+granted_silent n s (announcing face sd i node) none = refl
+granted_silent n s (retracting face sd node) none = refl
+granted_silent n s (networking r net) none = refl
+granted_silent n s (tabling face ids) none = refl
 granted_silent n s unbuilt none = refl
 
 pub silent : (n : ℕ) (s : State) (c : Call) → to_come s.core.queries.closed n s.core.queries ≡ 0 → list_any (is_of n) (step s c).handed ≡ false
-silent n s c none = ap (λ (z : Step). list_any (is_of n) z.handed) (answers_plainly s (read s c)) ∙ by (refusal_of s.core (read s c))
-  where
-    by : (o : Option Refusal) → list_any (is_of n) (write s.names (answered o (granted s.core (read s c))).messages) ≡ false
-    by (Some r) = refl
-    by None = granted_silent n s (read s c) none
+silent n s c none =
+    let t = read s c in
+    by_granted (λ z w. list_any (is_of n) z.handed ≡ false) s t
+    (λ h. any_beside s t (write s.names (granted s.core t).messages) (is_of n) (λ to text d k. refl) ∙ granted_silent n s t none)
+    (λ r. refl)
 
 -- and after its final it is handed nothing
 pub nothing_after : (config : Settings) (before : List Call) (c : Call) (n : ℕ) → finals_over n (steps_from (opening_state config) before) ≡ 1 → list_any (is_of n) (step (state_after (opening_state config) before) c).handed ≡ false

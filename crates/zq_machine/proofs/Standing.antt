@@ -1,14 +1,19 @@
 -- What the gateway has of each face, and of the lists of gateways, is what the calls of the run and their answers make of it.
-use Rattle.std.proofs.Common.{◌≡◌, ◌∙◌, refl, sym, ap, subst, ℕ, Bool, true, false, cond, List, [], ◌∷◌, Option, Some, None, ◌⊎◌, inl, inr, unwrap_or}
+use Rattle.std.proofs.Common.{◌≡◌, ◌∙◌, refl, sym, ap, subst, ℕ, Bool, true, false, cond, List, [], ◌∷◌, ◌++◌, Option, Some, None, ◌⊎◌, inl, inr, unwrap_or}
 use Rattle.std.specs.Prelude.{◌==◌}
+use Rattle.std.proofs.lemmas.List.Sums.{fold-append}
 use Rattle.std.specs.List.Sorted.{IsStrictlySortedBy}
 use Rattle.std.specs.Map.{keys_of, remove_entry}
 use Rattle.std.specs.BTreeMap.{insert_entry, is_at}
 use Rattle.std.specs.Option.{is_some, option_and_then, option_map, option_map_or}
 use Rattle.std.specs.Ordering.{nat_cmp}
+use Rattle.zq_message.specs.declared.message.Declare.{Declare}
+use Rattle.zq_message.specs.declared.message.DeclareBody.TheVariants as body
 use Rattle.zq_message.specs.declared.message.FaceId.{FaceId}
 use Rattle.zq_message.specs.declared.message.Region.{Region}
+use Rattle.zq_names.specs.Texts.{nonwild}
 use Rattle.zq_regions.specs.Region.{region_index}
+use Rattle.zq_tables.specs.declared.decl.DeclKey.{DeclKey}
 use Rattle.zq_hat.specs.State.{FaceState, HatState}
 use Rattle.zq_hat.proofs.Routing.{registered_is}
 use Rattle.zq_hat.specs.Kept.{change_face, declare, face_at, new_face, withdraw, without_face}
@@ -20,20 +25,24 @@ use Rattle.zq_machine.specs.declared.call.Opening.{Opening}
 use Rattle.zq_machine.specs.declared.face.OpenFace.{OpenFace}
 use Rattle.zq_machine.specs.Agreeing.{stands_in}
 use Rattle.zq_machine.specs.Configs.{Settings}
-use Rattle.zq_machine.specs.Deciding.{causes, granted, opened, refusal_of, seat}
+use Rattle.zq_machine.specs.Deciding.{causes, granted, opened, refusal_of, seat, told_of}
 use Rattle.zq_machine.specs.Machine.{accepted_state, after, state_after, step, steps_from}
 use Rattle.zq_machine.specs.Selecting.{full_text}
-use Rattle.zq_machine.specs.Standing.{Standing, accepted_at, declaring_at, listed_after, listed_in, newly_opened, standing_after, standing_at, standing_in, standing_of}
-use Rattle.zq_machine.specs.State.{State, at, change_hat, hat_at, joined, opening_state}
-use Rattle.zq_machine.specs.TextCalls.{closing, finalizing, opening, read, said, withdrawing}
-use Rattle.zq_machine.proofs.Agreed.{InOrder, granted_in_order, next_absent, opened_face, opening_in_order}
+use Rattle.zq_machine.specs.Standing.{Standing, accepted_at, declaring_at, heard_all, heard_at, heard_body, kept_at, listed_after, listed_in, newly_opened, standing_after, standing_at, standing_in, standing_of}
+use Rattle.zq_machine.specs.Hearing.{with_ours}
+use Rattle.zq_machine.specs.Messages.{Telling, TellingBody, TextMessage, all_told, key_ended, key_told, text_final, text_reply, text_request}
+use Rattle.zq_machine.specs.Writing.{Told, and_then, tell, tell_body, tell_by, tell_declare, tell_number, told_key, with_told_number, write, written}
+use Rattle.zq_machine.specs.State.{Core, State, at, change_hat, hat_at, joined, opening_state}
+use Rattle.zq_machine.specs.TextCalls.{TextCall, closing, finalizing, opening, read, said, withdrawing}
+use Rattle.zq_machine.proofs.Agreed.{InOrder, granted_in_order, next_absent, numbered_in_order, opened_face, opening_in_order}
 use Rattle.zq_machine.proofs.Agreeing.{Tied, some_of}
-use Rattle.zq_machine.proofs.Always.{after_kept, by_granted}
+use Rattle.zq_machine.proofs.Always.{after_kept}
 use Rattle.zq_machine.proofs.Changing.{face_here, face_other, found_here, found_other, hat_either, hat_here, itself, naming_changed, number_test, one_number, region_there}
 use Rattle.zq_machine.proofs.Finals.{is_there}
 use Rattle.zq_machine.proofs.Hats.{AreHatsOf}
 use Rattle.zq_machine.proofs.Joining.{home, in_faces, in_hat, in_names, left_in_faces, left_in_hat, left_in_names, own}
-use Rattle.zq_machine.proofs.Promises.{all_passed, granted_is_accepted}
+use Rattle.zq_machine.proofs.Granted.{all_passed, by_granted, granted_is_accepted, told_by}
+use Rattle.zq_machine.proofs.Writing.{with_told}
 
 -- what the hats have of a face that was opened so
 abbrev kept_by : ℕ → List (ℕ × HatState) → Option OpenFace → Option FaceState
@@ -195,6 +204,102 @@ module _ (config : Settings) (faces : List (ℕ × OpenFace)) (hats : List (ℕ 
       by true e = gone e ∙ ap (λ b. cond b None (stand q faces hats names)) (sym e)
       by false e = others e ∙ ap (λ b. cond b None (stand q faces hats names)) (sym e)
 
+-- ---- numbers that are declared to faces
+module _ (q : ℕ) where
+  either : (b : Bool) (st : Standing) → cond b st st ≡ st
+  either true st = refl
+  either false st = refl
+
+  one_heard : (names : NamingState) (m : TextMessage) (st : Standing) → heard_at q st (written names m) ≡ st
+  one_heard names (text_request r) st = either (r.to.0 == q) st
+  one_heard names (text_reply r) st = either (r.to.0 == q) st
+  one_heard names (text_final f) st = either (f.asker.0 == q) st
+
+  -- messages of requests declare none
+  written_heard : (names : NamingState) (ms : List TextMessage) (st : Standing) → heard_all q (write names ms) st ≡ st
+  written_heard names [] st = refl
+  written_heard names (m ∷ ms) st = ap (λ x. heard_all q (write names ms) x) (one_heard names m st) ∙ written_heard names ms st
+
+  -- a number stands for the part of a text without a `*`
+  abbrev more : List ℕ → ℕ → Standing → Standing
+  more text id st = record st { numbers = with_ours id (nonwild text) st.numbers }
+
+  module _ (o : Option OpenFace) (f : Option FaceState) where
+    abbrev with_names : NamingState → Option Standing
+    with_names names = standing_of o (naming_at q names) f
+
+    -- what is told makes of what stands what the face hears of it
+    abbrev Hears : NamingState → Told → Type 0
+    Hears names w = with_names w.names ≡ option_map (heard_all q w.handed) (with_names names)
+
+    same_map : (x : Option Standing) → x ≡ option_map (λ st. st) x
+    same_map None = refl
+    same_map (Some st) = refl
+
+    mapped_twice : (g h : Standing → Standing) (x : Option Standing) → option_map h (option_map g x) ≡ option_map (λ st. h (g st)) x
+    mapped_twice g h None = refl
+    mapped_twice g h (Some st) = refl
+
+    both_hear : (names : NamingState) (w : Told) (next : NamingState → Told) → Hears names w → Hears w.names (next w.names) → Hears names (and_then w next)
+    both_hear names w next one two =
+        two
+        ∙ ap (option_map (heard_all q (next w.names).handed)) one
+        ∙ mapped_twice (heard_all q w.handed) (heard_all q (next w.names).handed) (with_names names)
+        ∙ (λ j. option_map (λ st. sym (fold-append (heard_at q) st w.handed (next w.names).handed) j) (with_names names))
+
+    -- a declaration of no number
+    quiet_hears : (to : FaceId) (text : List ℕ) (d : Declare) (names : NamingState) → ((st : Standing) → heard_body d.body st ≡ st) → Hears names (tell_declare to text d names)
+    quiet_hears to text d names quiet = same_map (with_names names) ∙ (λ j. option_map (λ st. sym (by st (to.0 == q)) j) (with_names names))
+      where
+        by : (st : Standing) (b : Bool) → cond b (heard_body d.body st) st ≡ st
+        by st true = quiet st
+        by st false = refl
+
+    more_by : (text : List ℕ) (id : ℕ) (x : Option OpenFace) (n : Option FaceKeys) (y : Option FaceState) → standing_of x (option_map (with_told_number text (Some id)) n) y ≡ option_map (more text id) (standing_of x n y)
+    more_by text id None n y = refl
+    more_by text id (Some x) None y = refl
+    more_by text id (Some x) (Some n) None = refl
+    more_by text id (Some x) (Some n) (Some y) = refl
+
+    number_hears : (to : FaceId) (text : List ℕ) (x : Option ℕ) (names : NamingState) → Hears names (tell_number to text x names)
+    number_hears to text None names = same_map (with_names names)
+    number_hears to text (Some id) names = by (is_at (nat_cmp to.0) q) refl
+      where
+        by : (b : Bool) → is_at (nat_cmp to.0) q ≡ b → Hears names (tell_number to text (Some id) names)
+        by true e =
+            ap (λ n. standing_of o n f) (ap (λ (l : NamingState). naming_at q l) (naming_changed to.0 (with_told_number text (Some id)) names) ∙ found_here to.0 (with_told_number text (Some id)) names q e)
+            ∙ more_by text id o (naming_at q names) f
+            ∙ (λ j. option_map (λ st. cond ((sym e ∙ number_test to.0 q) j) (more text id st) st) (with_names names))
+        by false e =
+            ap (λ n. standing_of o n f) (ap (λ (l : NamingState). naming_at q l) (naming_changed to.0 (with_told_number text (Some id)) names) ∙ found_other to.0 (with_told_number text (Some id)) names q e)
+            ∙ same_map (with_names names)
+            ∙ (λ j. option_map (λ st. cond ((sym e ∙ number_test to.0 q) j) (more text id st) st) (with_names names))
+
+    key_hears : (c : Core) (to : FaceId) (text : List ℕ) (make : DeclKey → Declare) (names : NamingState) → ((k : DeclKey) (st : Standing) → heard_body (make k).body st ≡ st) → Hears names (tell_by c to text make names)
+    key_hears c to text make names quiet =
+        let k = told_key c to text names in
+        both_hear names (tell_number to text k.declared names) (tell_declare to text (make k)) (number_hears to text k.declared names)
+        (quiet_hears to text (make k) (tell_number to text k.declared names).names (quiet k))
+
+    body_hears : (c : Core) (t : Telling) (b : TellingBody) (names : NamingState) → Hears names (tell_body c t b names)
+    body_hears c t (key_told id text info) names = key_hears c t.to text (λ k. record { interest = t.interest; node = t.node; body = body.DeclareQueryable id k.wire info }) names (λ k st. refl)
+    body_hears c t (key_ended id None) names = quiet_hears t.to [] (record { interest = t.interest; node = t.node; body = body.UndeclareQueryable id None }) names (λ st. refl)
+    body_hears c t (key_ended id (Some text)) names = key_hears c t.to text (λ k. record { interest = t.interest; node = t.node; body = body.UndeclareQueryable id (Some k.wire) }) names (λ k st. refl)
+    body_hears c t all_told names = quiet_hears t.to [] (record { interest = t.interest; node = t.node; body = body.DeclareFinal }) names (λ st. refl)
+
+    tell_hears : (c : Core) (ts : List Telling) (names : NamingState) → Hears names (tell c ts names)
+    tell_hears c [] names = same_map (with_names names)
+    tell_hears c (t ∷ ts) names = both_hear names (tell_body c t t.body names) (tell c ts) (body_hears c t t.body names) (tell_hears c ts (tell_body c t t.body names).names)
+
+  -- and so it is of a step
+  told_stands : (s : State) (t : TextCall) (ms : List TextMessage)
+      → standing_at q (with_told (accepted_state s t) (told_by s t)) ≡ option_map (heard_all q (write s.names ms ++ (told_by s t).handed)) (standing_at q (accepted_state s t))
+  told_stands s t ms =
+      let z = accepted_state s t in
+      tell_hears (at q z.core.faces) (kept_at q z.core) z.core (told_of s.core t) z.names
+      ∙ (λ j. option_map (λ st. heard_all q (told_by s t).handed (sym (written_heard s.names ms st) j)) (standing_at q z))
+      ∙ (λ j. option_map (λ st. sym (fold-append (heard_at q) st (write s.names ms) (told_by s t).handed) j) (standing_at q z))
+
 -- ---- each call that nothing refuses
 module _ (config : Settings) (q : ℕ) (s : State) (i : InOrder config s) where
   abbrev its_hats : (HatState → HatState) → Option OpenFace → List (ℕ × HatState)
@@ -271,7 +376,10 @@ module _ (config : Settings) (q : ℕ) (s : State) (i : InOrder config s) where
   call_stands : (c : Call) → standing_at q (after s c) ≡ standing_after config.start.told q c (step s c) (standing_at q s)
   call_stands c =
       by_granted (λ t z. standing_at q z ≡ standing_after config.start.told q c t (standing_at q s)) s (read s c)
-      (λ h. granted_stands c h ∙ ap (λ b. cond b (accepted_at config.start.told q c (granted s.core (read s c)).outcome (standing_at q s)) (standing_at q s)) (sym (granted_is_accepted s.core (read s c) h)))
+      (λ h.
+      told_stands q s (read s c) (granted s.core (read s c)).messages
+      ∙ ap (option_map (heard_all q (write s.names (granted s.core (read s c)).messages ++ (told_by s (read s c)).handed))) (granted_stands c h)
+      ∙ ap (λ b. cond b (option_map (heard_all q (write s.names (granted s.core (read s c)).messages ++ (told_by s (read s c)).handed)) (accepted_at config.start.told q c (granted s.core (read s c)).outcome (standing_at q s))) (standing_at q s)) (sym (granted_is_accepted s.core (read s c) h)))
       (λ r. refl)
 
 -- ---- the lists of gateways
@@ -283,7 +391,7 @@ call_listed s c = by_granted (λ t z. z.core.tables ≡ s.core.tables) s (read s
 run_stands : (config : Settings) (q : ℕ) (cs : List Call) (s : State) → InOrder config s → standing_at q (state_after s cs) ≡ standing_in config.start.told q cs (steps_from s cs) (standing_at q s)
 run_stands config q [] s i = refl
 run_stands config q (c ∷ cs) s i =
-    run_stands config q cs (after s c) (after_kept (InOrder config) (granted_in_order config) s c i)
+    run_stands config q cs (after s c) (after_kept (InOrder config) (granted_in_order config) (numbered_in_order config) s c i)
     ∙ ap (standing_in config.start.told q cs (steps_from (after s c) cs)) (call_stands config q s i c)
 
 run_listed : (cs : List Call) (s : State) → (state_after s cs).core.tables ≡ listed_in cs (steps_from s cs) s.core.tables

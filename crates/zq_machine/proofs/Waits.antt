@@ -22,18 +22,18 @@ use Rattle.zq_query.proofs.Putting.{owner_there}
 use Rattle.zq_tables.specs.Naming.{NamingState}
 use Rattle.zq_machine.specs.declared.call.Call.{Call}
 use Rattle.zq_machine.specs.declared.call.Call.TheVariants as call
-use Rattle.zq_machine.specs.declared.call.Refusal.{Refusal}
 use Rattle.zq_machine.specs.declared.face.OpenFace.{OpenFace}
 use Rattle.zq_machine.specs.State.{State, Core}
 use Rattle.zq_machine.specs.Selecting.{select, full_text, target_of}
-use Rattle.zq_machine.specs.TextCalls.{TextCall, opening, closing, naming, unnaming, declaring, withdrawing, asking, replying, ending, reporting, passing, listing, finalizing, unbuilt, read}
-use Rattle.zq_machine.specs.Deciding.{refusal_of, granted, answered, is_accepted, accepted, after_replied, deadline, handed_reply, timed_out, handed_request, handed_requests, handed_replies, handed_timeouts, passing_finals, replied}
-use Rattle.zq_machine.specs.Machine.{accepted_state, answer, settle, step, after}
+use Rattle.zq_machine.specs.TextCalls.{TextCall, opening, closing, naming, unnaming, declaring, withdrawing, asking, replying, ending, reporting, passing, listing, finalizing, announcing, retracting, networking, tabling, unbuilt, read}
+use Rattle.zq_machine.specs.Deciding.{granted, is_accepted, accepted, after_replied, deadline, handed_reply, timed_out, handed_request, handed_requests, handed_replies, handed_timeouts, passing_finals, replied}
+use Rattle.zq_machine.specs.Machine.{answer, settle, step, after}
 use Rattle.zq_machine.specs.Messages.{text_final}
 use Rattle.zq_machine.specs.Writing.{write, written}
 use Rattle.zq_machine.specs.Waiting.{Waits, hands_reply, ends_entry, gives, lands, owes, until, waits}
 use Rattle.zq_machine.proofs.Waiting.{asked, owes_let, owes_landed, owes_timing, owes_after_put, owes_asked, flies_let, flies_landed, flies_put, flies_timing, flies_asked, says, timeouts_fit}
-use Rattle.zq_machine.proofs.Writing.{by_plain}
+use Rattle.zq_machine.proofs.Granted.{any_beside, by_granted, told_by}
+use Rattle.zq_machine.proofs.Writing.{fully}
 
 -- ---- what a call with its expressions read ends
 ended : TextCall → Pending → Bool
@@ -50,6 +50,10 @@ ended (replying face s r) e = false
 ended (reporting reply) e = false
 ended (listing r t) e = false
 ended (finalizing face m set) e = false
+ended (announcing face sd i node) e = false
+ended (retracting face sd node) e = false
+ended (networking r net) e = false
+ended (tabling face ids) e = false
 ended unbuilt e = false
 
 landed : TextCall → ℕ → Bool
@@ -66,6 +70,10 @@ landed (ending face rid) k = false
 landed (passing now) k = false
 landed (listing r t) k = false
 landed (finalizing face m set) k = false
+landed (announcing face sd i node) k = false
+landed (retracting face sd node) k = false
+landed (networking r net) k = false
+landed (tabling face ids) k = false
 landed unbuilt k = false
 
 moment_of : Core → TextCall → ℕ
@@ -82,6 +90,10 @@ moment_of c (reporting reply) = 0
 moment_of c (passing now) = 0
 moment_of c (listing r t) = 0
 moment_of c (finalizing face m set) = 0
+moment_of c (announcing face sd i node) = 0
+moment_of c (retracting face sd node) = 0
+moment_of c (networking r net) = 0
+moment_of c (tabling face ids) = 0
 moment_of c unbuilt = 0
 
 -- ---- messages that give no entry, or carry no reply
@@ -239,6 +251,10 @@ granted_waits s (declaring face id sd i n) = quiet 0 s.core.queries.records
 granted_waits s (withdrawing face id) = quiet 0 s.core.queries.records
 granted_waits s (listing r t) = quiet 0 s.core.queries.records
 granted_waits s (finalizing face m set) = quiet 0 s.core.queries.records
+granted_waits s (announcing face sd i node) = quiet 0 s.core.queries.records
+granted_waits s (retracting face sd node) = quiet 0 s.core.queries.records
+granted_waits s (networking r net) = quiet 0 s.core.queries.records
+granted_waits s (tabling face ids) = quiet 0 s.core.queries.records
 granted_waits s unbuilt = quiet 0 s.core.queries.records
 granted_waits s (closing face) = let_go 0 s (at_face face.0) (closing_finals face.0 s.core.queries)
 granted_waits s (ending face rid) = let_go 0 s (is_entry face.0 rid) (finals_after (is_entry face.0 rid) s.core.queries.closed s.core.queries.records)
@@ -266,18 +282,20 @@ granted_waits s (asking face sd r now) = record {
 abbrev WaitsFor : State → TextCall → (Pending → Bool) → (ℕ → Bool) → ℕ → Type 0
 WaitsFor s t ends reports moment = is_accepted (answer s t).outcome ≡ true → Waits ends reports moment s.core.queries.records (settle s t).core.queries.records (answer s t).handed
 
+-- what is told gives no entry, and carries no reply
+waits_beside : (s : State) (t : TextCall) → WaitsAfter s t → Waits (ended t) (landed t) (moment_of s.core t) s.core.queries.records (accepted s.core t).queries.records (fully s.names (told_by s t) (granted s.core t)).handed
+waits_beside s t w =
+    let hs = write s.names (granted s.core t).messages in
+    record {
+      entries = λ n e. w.entries n e ∙ ap (λ b. (owes n e s.core.queries.records && not (ended t e)) || b) (sym (any_beside s t hs (gives (moment_of s.core t) n e) (λ to text d k. refl)));
+      replies = λ n k. w.replies n k ∙ ap (λ b. (flies n k s.core.queries.records && not (landed t k)) || b) (sym (any_beside s t hs (hands_reply n k) (λ to text d x. refl)));
+    }
+
 followed : (s : State) (t : TextCall) → WaitsFor s t (ended t) (landed t) (moment_of s.core t)
 followed s t =
-    by_plain (λ z w. is_accepted z.outcome ≡ true → Waits (ended t) (landed t) (moment_of s.core t) s.core.queries.records w.core.queries.records z.handed) s t (by (refusal_of s.core t) refl)
-  where
-    taken : (b : Bool) → b ≡ true → Waits (ended t) (landed t) (moment_of s.core t) s.core.queries.records (cond b (accepted_state s t) s).core.queries.records (write s.names (granted s.core t).messages)
-    taken true e = granted_waits s t
-    taken false e = absurd (false≢true e)
-
-    by : (o : Option Refusal) → refusal_of s.core t ≡ o → is_accepted (answered o (granted s.core t)).outcome ≡ true
-        → Waits (ended t) (landed t) (moment_of s.core t) s.core.queries.records (cond (is_accepted (answered o (granted s.core t)).outcome) (accepted_state s t) s).core.queries.records (write s.names (answered o (granted s.core t)).messages)
-    by (Some r) e a = absurd (false≢true a)
-    by None e a = taken (is_accepted (granted s.core t).outcome) a
+    by_granted (λ z w. is_accepted z.outcome ≡ true → Waits (ended t) (landed t) (moment_of s.core t) s.core.queries.records w.core.queries.records z.handed) s t
+    (λ h a. waits_beside s t (granted_waits s t))
+    (λ r a. absurd (false≢true a))
 
 pub call_waits : (s : State) (c : Call) → is_accepted (step s c).outcome ≡ true → Waits (ends_entry c) (lands c) (until s c) s.core.queries.records (after s c).core.queries.records (step s c).handed
 unfolding ended landed moment_of

@@ -1,5 +1,5 @@
 -- Who asked what: the requests that a run accepted, and to whom its replies and finals go.
-use Rattle.std.specs.Prelude.{◌≡◌, ℕ, ◌+◌, ◌==◌, Bool, false, ◌&&◌, List, [], ◌∷◌, ◌++◌, fold, Option, Some, None, if◌then◌else◌, unwrap_or}
+use Rattle.std.specs.Prelude.{◌≡◌, ℕ, ◌+◌, ◌==◌, Bool, true, false, ◌&&◌, List, [], ◌∷◌, ◌++◌, fold, Option, Some, None, if◌then◌else◌, unwrap_or}
 use Rattle.std.specs.List.{Contains, filter_map, flat_map}
 use Rattle.zq_message.specs.declared.message.FaceId.{FaceId}
 use Rattle.zq_message.specs.declared.message.Message.{Message}
@@ -101,9 +101,18 @@ IsToAsker asked n to (message.Interest i) = Unit {0}
 IsToAsker asked n to (message.InterestFinal i) = Unit {0}
 IsToAsker asked n to (message.Declare d) = Unit {0}
 
--- what is handed is of a request, and goes to its asker if it is a reply or a final
+-- the message is a declaration
+abbrev pub is_declaration : Message → Bool
+is_declaration (message.Request r) = false
+is_declaration (message.Response r) = false
+is_declaration (message.ResponseFinal f) = false
+is_declaration (message.Interest i) = false
+is_declaration (message.InterestFinal i) = false
+is_declaration (message.Declare d) = true
+
+-- what is handed is of a request, and goes to its asker if it is a reply or a final; of no request are declarations alone
 abbrev pub GoesToAsker : List Final → Option ℕ → FaceId → Message → Type 0
-GoesToAsker asked None to m = ⊥
+GoesToAsker asked None to m = is_declaration m ≡ true
 GoesToAsker asked (Some n) to m = IsToAsker asked n to m
 
 -- the same of a message as it is handed

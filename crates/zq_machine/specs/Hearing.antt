@@ -13,9 +13,13 @@ use Rattle.zq_machine.specs.Handing.{Handed}
 use Rattle.zq_machine.specs.Messages.{Telling, TellingBody, all_told, key_ended, key_told}
 use Rattle.zq_machine.specs.Selecting.{full_text}
 
--- a number was declared to a face
+-- a number that was declared to a face stands for the text there
+abbrev pub with_ours : ℕ → List ℕ → FaceNaming → FaceNaming
+with_ours id text n = record n { ours = with_id n.ours id text }
+
+-- the same among all that stands for keys at the face
 abbrev pub with_heard : ℕ → List ℕ → FaceKeys → FaceKeys
-with_heard id text n = record n { numbers = record n.numbers { ours = with_id n.numbers.ours id text } }
+with_heard id text n = record n { numbers = with_ours id text n.numbers }
 
 -- what stands for keys once its receiver has a declaration
 abbrev pub heard_body : FaceId → DeclareBody → NamingState → NamingState

@@ -1,9 +1,13 @@
 -- What stands of each face, and of the lists of gateways, by the calls of a run and their answers alone.
-use Rattle.std.specs.Prelude.{◌≡◌, ℕ, ◌==◌, Bool, false, List, [], ◌∷◌, Option, Some, None, if◌then◌else◌}
+use Rattle.std.specs.Prelude.{◌≡◌, ℕ, ◌==◌, Bool, false, List, [], ◌∷◌, fold, Option, Some, None, if◌then◌else◌}
 use Rattle.std.specs.Map.{remove_entry}
 use Rattle.std.specs.BTreeMap.{insert_entry, is_at}
 use Rattle.std.specs.Option.{option_and_then, option_map}
 use Rattle.std.specs.Ordering.{nat_cmp}
+use Rattle.zq_message.specs.declared.message.DeclareBody.{DeclareBody}
+use Rattle.zq_message.specs.declared.message.DeclareBody.TheVariants as body
+use Rattle.zq_message.specs.declared.message.Message.{Message}
+use Rattle.zq_message.specs.declared.message.Message.TheVariants as message
 use Rattle.zq_message.specs.declared.message.WireExpr.{WireExpr}
 use Rattle.zq_regions.specs.RegionMap.{with_entry}
 use Rattle.zq_hat.specs.Kept.{declare, face_at, new_face, withdraw}
@@ -19,6 +23,8 @@ use Rattle.zq_machine.specs.declared.call.Outcome.TheVariants as outcome
 use Rattle.zq_machine.specs.declared.call.Step.{Step}
 use Rattle.zq_machine.specs.declared.face.OpenFace.{OpenFace}
 use Rattle.zq_machine.specs.Deciding.{is_accepted, opened, seat}
+use Rattle.zq_machine.specs.Handing.{Handed}
+use Rattle.zq_machine.specs.Hearing.{with_ours}
 use Rattle.zq_machine.specs.Selecting.{full_text}
 use Rattle.zq_machine.specs.State.{Core, State, at, hat_of}
 
@@ -78,9 +84,34 @@ accepted_at told face (call.Open o) answer was = if opens face answer then Some 
 accepted_at told face (call.Close f) answer was = if f.0 == face then None else was
 accepted_at told face c answer was = if is_by face c then option_map (declaring_at c) was else was
 
--- what stands of the face after a call; a refused one changes nothing
+-- with a number for a key that is declared to the face
+abbrev pub heard_body : DeclareBody → Standing → Standing
+heard_body (body.DeclareKeyExpr id w) s = record s { numbers = with_ours id w.suffix s.numbers }
+heard_body (body.UndeclareKeyExpr id) s = s
+heard_body (body.DeclareQueryable id w info) s = s
+heard_body (body.UndeclareQueryable id w) s = s
+heard_body body.DeclareFinal s = s
+
+-- the same by a message
+abbrev pub heard_message : Message → Standing → Standing
+heard_message (message.Declare d) s = heard_body d.body s
+heard_message (message.Request r) s = s
+heard_message (message.Response r) s = s
+heard_message (message.ResponseFinal f) s = s
+heard_message (message.Interest i) s = s
+heard_message (message.InterestFinal i) s = s
+
+-- what stands of the face once it has the message, if it is the face that is handed it
+abbrev pub heard_at : ℕ → Standing → Handed → Standing
+heard_at face s h = if h.to.0 == face then heard_message h.message s else s
+
+-- once it has all that is handed
+abbrev pub heard_all : ℕ → List Handed → Standing → Standing
+heard_all face hs s = fold (heard_at face) s hs
+
+-- what stands of the face after a call, with the numbers that the call declares to it; a refused one changes nothing
 abbrev pub standing_after : (told face : ℕ) → Call → Step → Option Standing → Option Standing
-standing_after told face c t was = if is_accepted t.outcome then accepted_at told face c t.outcome was else was
+standing_after told face c t was = if is_accepted t.outcome then option_map (heard_all face t.handed) (accepted_at told face c t.outcome was) else was
 
 -- what stands of the face after calls that are answered by these steps
 abbrev pub standing_in : (told face : ℕ) → List Call → List Step → Option Standing → Option Standing

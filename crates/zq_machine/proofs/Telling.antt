@@ -1,0 +1,85 @@
+-- What faces are told is declarations, and it changes numbers of keys alone.
+use Rattle.std.proofs.Common.{◌≡◌, ◌∙◌, ap, refl, ℕ, Bool, false, cond, List, [], ◌∷◌, Option, Some, None}
+use Rattle.std.specs.Prelude.{◌||◌}
+use Rattle.std.specs.List.{AllByRecursion, cons_option, filter, filter_map, list_any}
+use Rattle.zq_message.specs.declared.message.Declare.{Declare}
+use Rattle.zq_message.specs.declared.message.DeclareBody.TheVariants as body
+use Rattle.zq_message.specs.declared.message.FaceId.{FaceId}
+use Rattle.zq_message.specs.declared.message.Message.TheVariants as message
+use Rattle.zq_names.specs.Texts.{nonwild}
+use Rattle.zq_tables.specs.declared.decl.DeclKey.{DeclKey}
+use Rattle.zq_tables.specs.Naming.{FaceKeys, NamingState, change_naming, face_keys, plain}
+use Rattle.zq_machine.specs.Handing.{Handed}
+use Rattle.zq_machine.specs.Messages.{Telling, TellingBody, all_told, key_ended, key_told}
+use Rattle.zq_machine.specs.State.{Core}
+use Rattle.zq_machine.specs.Writing.{and_then, leaving, tell, tell_body, tell_by, tell_declare, tell_number, told_key, with_told_number}
+use Rattle.zq_machine.proofs.Lists.{all_append}
+
+-- ---- what is handed
+-- a declaration on a text as a face with these keys is handed it
+abbrev pub declared : FaceId → List ℕ → Declare → FaceKeys → Handed
+declared to text d n = record { to = to; number = None; reply = None; message = message.Declare d; leaves = leaving n text (message.Declare d) }
+
+-- it holds of every declaration
+abbrev pub OfDeclared : (Handed → Type 0) → Type 0
+OfDeclared P = (to : FaceId) (text : List ℕ) (d : Declare) (n : FaceKeys) → P (declared to text d n)
+
+-- a number is declared
+abbrev pub number_declare : List ℕ → ℕ → Declare
+number_declare text id = record { interest = None; node = 0; body = body.DeclareKeyExpr id (plain (nonwild text)) }
+
+module _ (P : Handed → Type 0) (each : OfDeclared P) where
+  one_all : (to : FaceId) (text : List ℕ) (d : Declare) (names : NamingState) → AllByRecursion P (tell_declare to text d names).handed
+  one_all to text d names = (each to text d (face_keys to.0 names), tt)
+
+  key_all : (c : Core) (to : FaceId) (text : List ℕ) (make : DeclKey → Declare) (names : NamingState) → AllByRecursion P (tell_by c to text make names).handed
+  key_all c to text make names = by (told_key c to text names).declared
+    where
+      by : (o : Option ℕ) → AllByRecursion P (and_then (tell_number to text o names) (tell_declare to text (make (told_key c to text names)))).handed
+      by None = one_all to text (make (told_key c to text names)) names
+      by (Some id) =
+          let numbered = change_naming to.0 (with_told_number text (Some id)) names in
+          (each to (nonwild text) (number_declare text id) (face_keys to.0 numbered), one_all to text (make (told_key c to text names)) numbered)
+
+  body_all : (c : Core) (t : Telling) (b : TellingBody) (names : NamingState) → AllByRecursion P (tell_body c t b names).handed
+  body_all c t (key_told id text info) names = key_all c t.to text (λ k. record { interest = t.interest; node = t.node; body = body.DeclareQueryable id k.wire info }) names
+  body_all c t (key_ended id None) names = one_all t.to [] (record { interest = t.interest; node = t.node; body = body.UndeclareQueryable id None }) names
+  body_all c t (key_ended id (Some text)) names = key_all c t.to text (λ k. record { interest = t.interest; node = t.node; body = body.UndeclareQueryable id (Some k.wire) }) names
+  body_all c t all_told names = one_all t.to [] (record { interest = t.interest; node = t.node; body = body.DeclareFinal }) names
+
+  -- what holds of every declaration holds of all that is told
+  pub told_all : (c : Core) (ts : List Telling) (names : NamingState) → AllByRecursion P (tell c ts names).handed
+  told_all c [] names = tt
+  told_all c (t ∷ ts) names =
+      all_append P (tell_body c t t.body names).handed (tell c ts (tell_body c t t.body names).names).handed
+      (body_all c t t.body names) (told_all c ts (tell_body c t t.body names).names)
+
+-- ---- what stands for keys afterwards
+module _ (P : NamingState → Type 0) (keeps : (face : ℕ) (text : List ℕ) (id : ℕ) (names : NamingState) → P names → P (change_naming face (with_told_number text (Some id)) names)) where
+  number_keeps : (to : FaceId) (text : List ℕ) (o : Option ℕ) (names : NamingState) → P names → P (tell_number to text o names).names
+  number_keeps to text None names p = p
+  number_keeps to text (Some id) names p = keeps to.0 text id names p
+
+  body_keeps : (c : Core) (t : Telling) (b : TellingBody) (names : NamingState) → P names → P (tell_body c t b names).names
+  body_keeps c t (key_told id text info) names p = number_keeps t.to text (told_key c t.to text names).declared names p
+  body_keeps c t (key_ended id None) names p = p
+  body_keeps c t (key_ended id (Some text)) names p = number_keeps t.to text (told_key c t.to text names).declared names p
+  body_keeps c t all_told names p = p
+
+  -- what each new number keeps is kept by all that is told
+  pub told_keeps : (c : Core) (ts : List Telling) (names : NamingState) → P names → P (tell c ts names).names
+  told_keeps c [] names p = p
+  told_keeps c (t ∷ ts) names p = told_keeps c ts (tell_body c t t.body names).names (body_keeps c t t.body names p)
+
+-- ---- lists of which no item passes
+pub none_any : {X : Type 0} (p : X → Bool) (xs : List X) → AllByRecursion (λ x. p x ≡ false) xs → list_any p xs ≡ false
+none_any p [] all = refl
+none_any p (x ∷ xs) all = λ j. all.0 j || none_any p xs all.1 j
+
+pub none_filtered : {X : Type 0} (p : X → Bool) (xs : List X) → AllByRecursion (λ x. p x ≡ false) xs → filter p xs ≡ []
+none_filtered p [] all = refl
+none_filtered p (x ∷ xs) all = ap (λ b. cond b (x ∷ filter p xs) (filter p xs)) all.0 ∙ none_filtered p xs all.1
+
+pub none_mapped : {X Y : Type 0} (f : X → Option Y) (xs : List X) → AllByRecursion (λ x. f x ≡ None) xs → filter_map f xs ≡ []
+none_mapped f [] all = refl
+none_mapped f (x ∷ xs) all = ap (λ o. cons_option o (filter_map f xs)) all.0 ∙ none_mapped f xs all.1
