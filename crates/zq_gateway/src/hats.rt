@@ -2,9 +2,10 @@
 #![tactic(auto, using(crate::proofs::Seats::seated_region))]
 
 ghost use Rattle.std.specs.Prelude.{◌≡◌, true, false, Some, None, IfOk, OnOk, OnErr, IsErrOf, ◌↔◌, option_copied, is_none};
-ghost use Rattle.std.specs.Option.{is_some, option_map_or};
+ghost use Rattle.std.specs.Option.{is_some, option_and_then, option_map_or};
 ghost use Rattle.zq_hat.specs.Kept.{declaration_at, has_face, is_full, registered, unregistered, without_face};
 ghost use Rattle.zq_hat.specs.Marks.{finalized};
+ghost use Rattle.zq_hat.specs.Routers.{context_at, source_at};
 ghost use Rattle.zq_regions.specs.RegionMap.{with_entry};
 ghost use Rattle.zq_machine.specs.Configs.{region_of};
 ghost use Rattle.zq_machine.specs.State.{first_hats, with_hat, change_hat, clashes_in, has_declared_in, hat_at, is_region, joined};
@@ -16,7 +17,7 @@ use zq_hat::hat::Hat;
 use zq_hat::types::{FaceRecord, FinalMark, HatRefusal};
 use zq_key::Key;
 use zq_key::memory::OutOfMemory;
-use zq_key::message::{FaceId, QueryableInfoType, Region};
+use zq_key::message::{FaceId, NodeId, QueryableInfoType, Region, Zid};
 use zq_machine::config::{Config, Entry};
 use zq_route::gateways::Gateways;
 use zq_tables::RegionMap;
@@ -29,6 +30,21 @@ pub fn hat_at(hats: &RegionMap<Hat>, region: Region) -> Option<&Hat>
         return None;
     }
     hats.get(&region)
+}
+
+/// The router that a node number of the region's face stands for; outside regions of routers the face
+/// itself.
+pub fn router_by(hats: &RegionMap<Hat>, region: Region, face: FaceId, node: NodeId) -> Option<Zid>
+    ensures { result ≡ option_and_then (source_at face.0 node) (hat_at region hats.now) }
+{
+    hat_at(hats, region)?.remote_node_id_to_zid(face, node)
+}
+
+/// The place of that router in the network of the region; outside regions of routers the first.
+pub fn place_by(hats: &RegionMap<Hat>, region: Region, face: FaceId, node: NodeId) -> Option<NodeId>
+    ensures { result ≡ option_and_then (context_at face.0 node) (hat_at region hats.now) }
+{
+    hat_at(hats, region)?.map_routing_context(face, node)
 }
 
 /// Whether the region takes no further face.

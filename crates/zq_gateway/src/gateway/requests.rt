@@ -3,6 +3,7 @@ ghost use Rattle.std.specs.Prelude.{◌≡◌, Some, true, IfOk, map};
 ghost use Rattle.zq_query.specs.Asking.{are_distinct, face_numbers};
 ghost use Rattle.zq_machine.specs.Deciding.{opened};
 ghost use Rattle.zq_machine.specs.Selecting.{select_for, target_of};
+ghost use Rattle.zq_machine.specs.State.{at};
 ghost use Rattle.zq_machine.specs.TextCalls.{asking};
 ghost use Rattle.zq_gateway.specs.Making.{Settles};
 
@@ -40,6 +41,7 @@ impl Tables {
         said: &Said,
         request: &Request,
     ) -> Result<Vec<QueryTargetQabl>, OutOfMemory>
+        requires { at face.0 self.now.core.faces ≡ Some opened }
         ensures offers { IfOk result (λ v. v.items ≡ select_for self.now.core face said.now request.now (Some opened)) }
         ensures distinct { IfOk result (λ v. are_distinct (face_numbers (map target_of v.items)) ≡ true) }
     {
@@ -52,6 +54,8 @@ impl Tables {
             own: self.config.zid(),
             face,
             opened,
+            source: hats::router_by(&self.hats, opened.region, face, request.node),
+            context: hats::place_by(&self.hats, opened.region, face, request.node),
         };
         asker.select(self.alloc, &self.hats, full_text(said), request.target)
     }
