@@ -3,12 +3,11 @@ use Rattle.std.specs.Prelude.{ℕ, ◌+◌, ◌*◌, ◌-◌, ◌/◌, ◌%◌, 
 use Rattle.std.specs.List.{count_by, flat_map}
 use Rattle.std.specs.Fmt.{decimal}
 use Rattle.zq_message.specs.declared.message.Bound.TheVariants as bound
-use Rattle.zq_message.specs.declared.message.Mapping.TheVariants as mapping
 use Rattle.zq_message.specs.declared.message.Mode.TheVariants as mode
 use Rattle.zq_message.specs.declared.message.QueryTarget.TheVariants as target
 use Rattle.zq_message.specs.declared.message.Region.TheVariants as region
 use Rattle.zq_message.specs.declared.message.ReplyBody.TheVariants as body
-use Rattle.zq_message.specs.declared.message.WireExpr.{WireExpr}
+use Rattle.zq_tables.specs.Naming.{plain}
 use Rattle.zq_machine.specs.declared.call.Call.{Call}
 use Rattle.zq_machine.specs.declared.call.Call.TheVariants as call
 use Rattle.zq_machine.specs.Handing.{Handed}
@@ -26,10 +25,6 @@ use Rattle.zq_script.specs.Head.{no_counts}
 abbrev pub load_config : Settings
 load_config = record { zid = record { 0 = 1 }; entries = entry.North mode.Client ∷ entry.Local ∷ []; timeout = 10000; start = no_counts }
 
--- an expression of a text alone
-abbrev pub plain_wire : List ℕ → WireExpr
-plain_wire text = record { scope = 0; mapping = mapping.Sender; suffix = text }
-
 -- the key on which a face declares
 abbrev pub declared_key : ℕ → List ℕ
 declared_key face = codes "load/" ++ decimal face ++ codes "/**"
@@ -44,15 +39,15 @@ open_call face = call.Open (record { region = region.Local; zid = record { 0 = 1
 
 -- a face declares its queryable, complete and near
 abbrev pub declare_call : ℕ → Call
-declare_call face = call.DeclareQueryable (record { 0 = face }) 1 (plain_wire (declared_key face)) (record { complete = true; distance = 0 }) 0
+declare_call face = call.DeclareQueryable (record { 0 = face }) 1 (plain (declared_key face)) (record { complete = true; distance = 0 }) 0
 
 -- the query is asked
 abbrev pub ask_call : ℕ → Call
-ask_call query = call.Request (record { 0 = 4 + query % 4 }) (record { id = query; wire = plain_wire (asked_key query); target = target.All; timeout = None; node = 0; qos = 0; payload = decimal query }) query
+ask_call query = call.Request (record { 0 = 4 + query % 4 }) (record { id = query; wire = plain (asked_key query); target = target.All; timeout = None; node = 0; qos = 0; payload = decimal query }) query
 
 -- it is answered, under the id that its target knows
 abbrev pub reply_call : ℕ → Call
-reply_call query = call.Response (record { 0 = query % 4 }) (record { rid = query / 4 + 1; wire = plain_wire (asked_key query); qos = 0; payload = body.Reply (decimal query); responder = None })
+reply_call query = call.Response (record { 0 = query % 4 }) (record { rid = query / 4 + 1; wire = plain (asked_key query); qos = 0; payload = body.Reply (decimal query); responder = None })
 
 -- its target ends it
 abbrev pub final_call : ℕ → Call

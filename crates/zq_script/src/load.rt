@@ -4,15 +4,16 @@ ghost use Rattle.std.specs.Prelude.{OnOk, if◌then◌else◌, ◌≡◌, ◌+�
 ghost use Rattle.std.specs.Fmt.{decimal};
 ghost use Rattle.std.specs.List.{count_by};
 ghost use Rattle.zq_machine.specs.Machine.{after, step, steps};
-ghost use Rattle.zq_script.specs.Load.{IsBelow, ask_call, asked_key, count, declare_call, declared_key, final_call, handed_over, load_call, load_calls, load_config, load_line, open_call, plain_wire, plus, query_call, reply_call, sent_call, kind_test};
+ghost use Rattle.zq_script.specs.Load.{IsBelow, ask_call, asked_key, count, declare_call, declared_key, final_call, handed_over, load_call, load_calls, load_config, load_line, open_call, plus, query_call, reply_call, sent_call, kind_test};
 
 use std::alloc::Global;
 use zq_gateway::gateway::Gateway;
+use zq_handing::write::whole;
 use zq_key::items::Items;
 use zq_key::memory::OutOfMemory;
 use zq_key::message::{
-    Bound, FaceId, Mapping, Message, Mode, QueryTarget, QueryableInfoType, Region, ReplyBody,
-    Request, Response, WireExpr, Zid,
+    Bound, FaceId, Message, Mode, QueryTarget, QueryableInfoType, Region, ReplyBody,
+    Request, Response, Zid,
 };
 use zq_key::text::{Bytes, Text};
 use zq_machine::call::{Call, Opening};
@@ -99,16 +100,6 @@ fn load_config(alloc: Global) -> Result<Config, OutOfMemory>
     }
 }
 
-fn plain_wire(suffix: Text) -> WireExpr
-    ensures { result ≡ plain_wire suffix }
-{
-    WireExpr {
-        scope: 0,
-        mapping: Mapping::Sender,
-        suffix,
-    }
-}
-
 /// The key on which a face declares its queryable.
 fn declared_key(alloc: Global, face: u32) -> Result<Text, OutOfMemory>
     ensures { IfOk result (λ t. t ≡ declared_key face) }
@@ -153,7 +144,7 @@ fn declare_call(alloc: Global, face: u32) -> Result<Call, OutOfMemory>
     Ok(Call::DeclareQueryable {
         face: FaceId(face),
         id: 1,
-        wire: plain_wire(declared_key(alloc, face)?),
+        wire: whole(declared_key(alloc, face)?),
         info: QueryableInfoType {
             complete: true,
             distance: 0,
@@ -169,7 +160,7 @@ fn ask_call(alloc: Global, query: u32) -> Result<Call, OutOfMemory>
         face: FaceId(4 + query % 4),
         request: Request {
             id: query,
-            wire: plain_wire(asked_key(alloc, query)?),
+            wire: whole(asked_key(alloc, query)?),
             target: QueryTarget::All,
             timeout: None,
             node: 0,
@@ -187,7 +178,7 @@ fn reply_call(alloc: Global, query: u32) -> Result<Call, OutOfMemory>
         face: FaceId(query % 4),
         response: Response {
             rid: query / 4 + 1,
-            wire: plain_wire(asked_key(alloc, query)?),
+            wire: whole(asked_key(alloc, query)?),
             qos: 0,
             payload: ReplyBody::Reply(payload(alloc, query)?),
             responder: None,
