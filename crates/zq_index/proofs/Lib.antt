@@ -1,6 +1,7 @@
 pub mod Orders
 pub mod Laws
 pub mod Rebuilt
+pub mod Merges
 pub mod Ranks
 pub mod Texts
 pub mod Holding
