@@ -96,7 +96,7 @@ module _ (key : List ℕ) (p : Place) (i : QueryableInfoType) (index : Index) wh
   with_at_by k q false e = refl
 
   with_at : (k : List ℕ) (q : Place) → at_place q (held_at k (with_holding key p i index)) ≡ cond (test_text key k) (cond (is_at (place_cmp p) q) (Some i) (at_place q (held_at k index))) (at_place q (held_at k index))
-  with_at k q = ap (λ o. at_place q (option_map_or (λ l. l) o [])) (found_with key p i index k) ∙ with_at_by k q (test_text key k) refl
+  with_at k q = ap (λ o. at_place q (option_map_or (λ l. l) o [])) (found_with place_cmp key p i index k) ∙ with_at_by k q (test_text key k) refl
 
 module _ (faces : List (ℕ × FaceState)) (index : Index) (t : IsTied faces index) (key : List ℕ) (p : Place) (i : QueryableInfoType) where
   with_places_by : (k : List ℕ) (hs : Holdings) (b : Bool) → cond b (Some (insert_entry place_cmp (held_at key index) p i)) (at_text k index) ≡ Some hs → IsStrictlySortedBy place_cmp (keys_of hs)
@@ -106,7 +106,7 @@ module _ (faces : List (ℕ × FaceState)) (index : Index) (t : IsTied faces ind
   with_places_by k hs false is = t.places k hs is
 
   with_used_by : (k : List ℕ) (b : Bool) → cond b (Some (insert_entry place_cmp (held_at key index) p i)) (at_text k index) ≡ Some [] → ⊥
-  with_used_by k true is = inserted_used p i (held_at key index) (let both : Some (insert_entry place_cmp (held_at key index) p i) ≡ Some [] = is in cc)
+  with_used_by k true is = inserted_used place_cmp p i (held_at key index) (let both : Some (insert_entry place_cmp (held_at key index) p i) ≡ Some [] = is in cc)
   with_used_by k false is = t.used k is
 
   with_keys_by : (k : List ℕ) (hs : Holdings) (b : Bool) → test_text key k ≡ b → is_key key ≡ true → cond b (Some (insert_entry place_cmp (held_at key index) p i)) (at_text k index) ≡ Some hs → is_key k ≡ true
@@ -132,10 +132,10 @@ module _ (faces : List (ℕ × FaceState)) (index : Index) (t : IsTied faces ind
       record {
         numbers = sorted_write nat_cmp (is_at (nat_cmp n)) x faces t.numbers;
         ids = ordered' faces index t n f at x (sorted_in nat_cmp_total f.declared i d (t.ids n f at));
-        texts = sorted_with key (n, i) info index t.texts;
-        places = λ k hs is. with_places_by faces index t key (n, i) info k hs _ (sym (found_with key (n, i) info index k) ∙ is);
-        used = λ k is. with_used_by faces index t key (n, i) info k _ (sym (found_with key (n, i) info index k) ∙ is);
-        keys = λ k hs is. with_keys_by faces index t key (n, i) info k hs _ refl valid (sym (found_with key (n, i) info index k) ∙ is);
+        texts = sorted_with place_cmp key (n, i) info index t.texts;
+        places = λ k hs is. with_places_by faces index t key (n, i) info k hs _ (sym (found_with place_cmp key (n, i) info index k) ∙ is);
+        used = λ k is. with_used_by faces index t key (n, i) info k _ (sym (found_with place_cmp key (n, i) info index k) ∙ is);
+        keys = λ k hs is. with_keys_by faces index t key (n, i) info k hs _ refl valid (sym (found_with place_cmp key (n, i) info index k) ∙ is);
         same = change faces index t n f at x key i (Some info) (Some d) (with_holding key (n, i) info index)
             (with_at key (n, i) info index)
             (λ j. found_after_insertion nat_cmp_total exact_unsigned i j d f.declared)
@@ -157,7 +157,7 @@ module _ (faces : List (ℕ × FaceState)) (index : Index) (t : IsTied faces ind
   without_at_by k q false e = refl
 
   without_at : (k : List ℕ) (q : Place) → at_place q (held_at k (without_holding key p index)) ≡ cond (test_text key k) (cond (is_at (place_cmp p) q) None (at_place q (held_at k index))) (at_place q (held_at k index))
-  without_at k q = ap (λ o. at_place q (option_map_or (λ l. l) o [])) (found_without key p index k t.texts) ∙ without_at_by k q (test_text key k) refl
+  without_at k q = ap (λ o. at_place q (option_map_or (λ l. l) o [])) (found_without place_cmp key p index k t.texts) ∙ without_at_by k q (test_text key k) refl
 
   without_places_by : (k : List ℕ) (hs : Holdings) (b : Bool) → cond b (if_any left) (at_text k index) ≡ Some hs → IsStrictlySortedBy place_cmp (keys_of hs)
   without_places_by k hs true is = subst (λ l. IsStrictlySortedBy place_cmp (keys_of l)) (if_any_some left hs is) (sorted_out place_cmp (is_at (place_cmp p)) (held_at key index) (sorted_at faces index t key))
@@ -183,10 +183,10 @@ module _ (faces : List (ℕ × FaceState)) (index : Index) (t : IsTied faces ind
       record {
         numbers = sorted_write nat_cmp (is_at (nat_cmp n)) x faces t.numbers;
         ids = ordered' faces index t n f at x (sorted_out nat_cmp (is_at (nat_cmp i)) f.declared (t.ids n f at));
-        texts = sorted_without key (n, i) index t.texts;
-        places = λ k hs is. without_places_by faces index t key (n, i) k hs _ (sym (found_without key (n, i) index k t.texts) ∙ is);
-        used = λ k is. without_used_by faces index t key (n, i) k _ (sym (found_without key (n, i) index k t.texts) ∙ is);
-        keys = λ k hs is. without_keys_by faces index t key (n, i) k hs _ refl (sym (found_without key (n, i) index k t.texts) ∙ is);
+        texts = sorted_without place_cmp key (n, i) index t.texts;
+        places = λ k hs is. without_places_by faces index t key (n, i) k hs _ (sym (found_without place_cmp key (n, i) index k t.texts) ∙ is);
+        used = λ k is. without_used_by faces index t key (n, i) k _ (sym (found_without place_cmp key (n, i) index k t.texts) ∙ is);
+        keys = λ k hs is. without_keys_by faces index t key (n, i) k hs _ refl (sym (found_without place_cmp key (n, i) index k t.texts) ∙ is);
         same = change faces index t n f at x key i None None (without_holding key (n, i) index)
             (without_at faces index t key (n, i))
             (λ j. found_after_removal nat_cmp_total exact_unsigned i j f.declared (t.ids n f at))
@@ -227,16 +227,16 @@ module _ (faces : List (ℕ × FaceState)) (index : Index) (t : IsTied faces ind
   back_by k false e = refl
 
   held_now : held_at key (with_holding key p i index) ≡ insert_entry place_cmp (held_at key index) p i
-  held_now = ap (λ o. option_map_or (λ l. l) o []) (found_with key p i index key ∙ ap (λ b. cond b (Some (insert_entry place_cmp (held_at key index) p i)) (at_text key index)) (at_itself text_total text_exact key))
+  held_now = ap (λ o. option_map_or (λ l. l) o []) (found_with place_cmp key p i index key ∙ ap (λ b. cond b (Some (insert_entry place_cmp (held_at key index) p i)) (at_text key index)) (at_itself text_total text_exact key))
 
   back_at : (k : List ℕ) → at_text k (without_holding key p (with_holding key p i index)) ≡ at_text k index
   back_at k =
-      found_without key p (with_holding key p i index) k (sorted_with key p i index t.texts)
-      ∙ (λ j. cond (test_text key k) (if_any (remove_entry (is_at (place_cmp p)) (held_now j))) (found_with key p i index k j))
+      found_without place_cmp key p (with_holding key p i index) k (sorted_with place_cmp key p i index t.texts)
+      ∙ (λ j. cond (test_text key k) (if_any (remove_entry (is_at (place_cmp p)) (held_now j))) (found_with place_cmp key p i index k j))
       ∙ back_by k (test_text key k) refl
 
   pub put_back : without_holding key p (with_holding key p i index) ≡ index
-  put_back = same_entries text_total text_exact (without_holding key p (with_holding key p i index)) index (sorted_without key p (with_holding key p i index) (sorted_with key p i index t.texts)) t.texts back_at
+  put_back = same_entries text_total text_exact (without_holding key p (with_holding key p i index)) index (sorted_without place_cmp key p (with_holding key p i index) (sorted_with place_cmp key p i index t.texts)) t.texts back_at
 
 -- ---- faces come and go
 sorted_nothing : {K : Type 0} (R : K → K → Ordering) → IsStrictlySortedBy R []

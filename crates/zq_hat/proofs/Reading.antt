@@ -18,12 +18,12 @@ use Rattle.zq_hat.specs.Kept.{is_on, with_declared, info, with_face, faces_info}
 use Rattle.zq_hat.specs.Offers.{offer_list, offers_on}
 use Rattle.zq_message.specs.declared.message.Region.{Region}
 use Rattle.zq_hat.specs.State.{FaceState}
-use Rattle.zq_index.specs.Holders.{Holdings, Index, place_cmp, held_at, with_held}
+use Rattle.zq_index.specs.Holders.{Place, Holdings, Index, place_cmp, held_at, with_held}
 use Rattle.zq_index.specs.Texts.{at_text}
 use Rattle.zq_hat.specs.Tied.{held_by, held, groups_from, group_offer, IsTied}
 use Rattle.zq_index.proofs.Orders.{place_total, place_exact}
 use Rattle.zq_hat.proofs.Held.{found_in_held, sorted_held, above_held}
-use Rattle.zq_index.proofs.Laws.{merge_regroup}
+use Rattle.zq_index.proofs.Merges.{held_from}
 use Rattle.zq_key.proofs.Lookups.{same_entries, less_apart}
 
 module _ (faces : List (ℕ × FaceState)) (index : Index) (t : IsTied faces index) (key : List ℕ) where
@@ -44,12 +44,6 @@ module _ (faces : List (ℕ × FaceState)) (index : Index) (t : IsTied faces ind
       (λ p. t.same key p ∙ sym (found_in_held key p.0 p.1 faces t.numbers t.ids))
 
 -- ---- the merge over the declarations
-joined_regroup : (a b c : Option QueryableInfoType) → joined (joined a b) c ≡ joined a (joined b c)
-joined_regroup None b c = refl
-joined_regroup (Some a) None c = refl
-joined_regroup (Some a) (Some b) None = refl
-joined_regroup (Some a) (Some b) (Some c) = ap (λ i. Some i) (merge_regroup a b c)
-
 same_group : (n : ℕ) (a b : List (ℕ × QueryableInfoType)) → cond (n == n) a b ≡ a
 same_group n a b = ap (λ c. cond c a b) (nat_eq_equiv.refl n)
 
@@ -57,26 +51,15 @@ not_same : (n m : ℕ) (b : Bool) → (n == m) ≡ b → (n ≡ m → ⊥) → (
 not_same n m true e ne = absurd (ne (eqb-true _ _ e))
 not_same n m false e ne = e
 
-joined_none : (m : Option QueryableInfoType) → joined m None ≡ m
-joined_none None = refl
-joined_none (Some i) = refl
-
 module _ (key : List ℕ) where
-  part_by : (m : Option QueryableInfoType) (n : ℕ) (d : ℕ × Declaration) (ds : List (ℕ × Declaration)) (b : Bool) (more : (x : Option QueryableInfoType) → fold with_held x (map (λ e. ((n, e.0), e.1.info)) (filter (is_on key) ds)) ≡ fold (with_declared key) x ds)
-      → fold with_held m (map (λ e. ((n, e.0), e.1.info)) (cond b (d ∷ filter (is_on key) ds) (filter (is_on key) ds))) ≡ fold (with_declared key) (cond b (joined m (Some d.1.info)) m) ds
+  part_by : (m : Option QueryableInfoType) (n : ℕ) (d : ℕ × Declaration) (ds : List (ℕ × Declaration)) (b : Bool) (more : (x : Option QueryableInfoType) → fold (with_held {P = Place}) x (map (λ e. ((n, e.0), e.1.info)) (filter (is_on key) ds)) ≡ fold (with_declared key) x ds)
+      → fold (with_held {P = Place}) m (map (λ e. ((n, e.0), e.1.info)) (cond b (d ∷ filter (is_on key) ds) (filter (is_on key) ds))) ≡ fold (with_declared key) (cond b (joined m (Some d.1.info)) m) ds
   part_by m n d ds true more = more (joined m (Some d.1.info))
   part_by m n d ds false more = more m
 
-  part_merged : (m : Option QueryableInfoType) (n : ℕ) (ds : List (ℕ × Declaration)) → fold with_held m (map (λ e. ((n, e.0), e.1.info)) (filter (is_on key) ds)) ≡ fold (with_declared key) m ds
+  part_merged : (m : Option QueryableInfoType) (n : ℕ) (ds : List (ℕ × Declaration)) → fold (with_held {P = Place}) m (map (λ e. ((n, e.0), e.1.info)) (filter (is_on key) ds)) ≡ fold (with_declared key) m ds
   part_merged m n [] = refl
   part_merged m n (d ∷ ds) = part_by m n d ds (is_on key d) (λ x. part_merged x n ds)
-
-  held_from : (m : Option QueryableInfoType) (hs : Holdings) → fold with_held m hs ≡ joined m (fold with_held None hs)
-  held_from m [] = sym (joined_none m)
-  held_from m (h ∷ hs) =
-      held_from (joined m (Some h.1)) hs
-      ∙ joined_regroup m (Some h.1) (fold with_held None hs)
-      ∙ ap (joined m) (sym (held_from (Some h.1) hs))
 
   fold_joined : (m : Option QueryableInfoType) (xs ys : Holdings) → fold with_held m (xs ++ ys) ≡ fold with_held (fold with_held m xs) ys
   fold_joined m [] ys = refl

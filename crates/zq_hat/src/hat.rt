@@ -21,7 +21,7 @@ use crate::types::{
 use std::alloc::Global;
 use std::collections::BTreeMap;
 use std::marker::Model;
-use zq_index::holders::KeyHolders;
+use zq_index::holders::{FacePlace, KeyHolders};
 use zq_index::info::same_info;
 use zq_key::Key;
 use zq_key::items::Items;
@@ -37,7 +37,7 @@ pub struct Hat {
     own: Zid,
     told_start: u32,
     faces: BTreeMap<u32, HatFace>,
-    index: KeyHolders,
+    index: KeyHolders<FacePlace>,
     alloc: Global,
 }
 
@@ -122,7 +122,7 @@ fn set_mark(
 }
 
 /// The index without what the face declared.
-fn forget(index: &mut KeyHolders, number: u32, declared: &BTreeMap<u32, Declaration>)
+fn forget(index: &mut KeyHolders<FacePlace>, number: u32, declared: &BTreeMap<u32, Declaration>)
     ensures { index.new ≡ fold (without_declared number) index.old declared.now.entries }
 {
     for (id, declaration) in declared {

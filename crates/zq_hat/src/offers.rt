@@ -17,7 +17,7 @@ use std::alloc::Global;
 use std::cmp::Ordering;
 use std::collections::{BTreeMap, BTreeSet};
 use std::ops::RangeFull;
-use zq_index::holders::{Holders, KeyHolders};
+use zq_index::holders::{FacePlace, Holders, KeyHolders};
 use zq_index::info::merge_qabl_infos;
 use zq_index::search::{Step, next_step};
 use zq_index::text_set::compare_texts;
@@ -208,7 +208,7 @@ fn add_key_offers(
     alloc: Global,
     region: Region,
     key: &str,
-    holders: &Holders,
+    holders: &Holders<FacePlace>,
     q: &str,
 ) -> Result<(), OutOfMemory>
     requires key { IsTrue (is_key key.now) }
@@ -228,7 +228,7 @@ fn add_key_offers(
 fn offers_on_keys(
     alloc: Global,
     region: Region,
-    keys: &BTreeMap<String, Holders>,
+    keys: &BTreeMap<String, Holders<FacePlace>>,
     wild: &BTreeSet<String>,
     q: &str,
 ) -> Result<Vec<QueryTargetQabl>, OutOfMemory>
@@ -255,7 +255,7 @@ fn offers_on_keys(
 pub fn declared_offers(
     alloc: Global,
     region: Region,
-    index: &KeyHolders,
+    index: &KeyHolders<FacePlace>,
     q: &str,
 ) -> Result<Vec<QueryTargetQabl>, OutOfMemory>
     requires keys { AllByRecursion IsKeyed index.now }

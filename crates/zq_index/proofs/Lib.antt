@@ -1,10 +1,12 @@
 pub mod Orders
 pub mod Laws
 pub mod Rebuilt
+pub mod Merges
 pub mod Ranks
 pub mod Texts
 pub mod Holding
 pub mod Finding
+pub mod Ordered
 pub mod Skipping
 pub mod ForkLemmas
 pub mod Listed

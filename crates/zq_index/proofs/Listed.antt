@@ -25,28 +25,25 @@ use Rattle.zq_key.proofs.Runs.{not_below_itself}
 use Rattle.zq_key.proofs.Lookups.{same_key, at_itself, found_after_insertion, each_entry}
 use Rattle.zq_key.proofs.Sorted.{has_put}
 use Rattle.zq_index.specs.Texts.{text_cmp, at_text, has_text, IsListed, NoneAfter, IsFirstAfter}
-use Rattle.zq_index.specs.Holders.{Holdings, Index, Place, with_holding, AreListed, place_cmp}
+use Rattle.zq_index.specs.Holders.{IndexBy, HeldBy, with_holding_by, AreListed}
 use Rattle.zq_index.proofs.Orders.{text_total, text_exact}
 
 or_true : (a b : Bool) → b ≡ true → (a || b) ≡ true
 or_true true b e = refl
 or_true false b e = e
 
-pub listed_nothing : (texts : List (List ℕ)) → AreListed [] texts
-listed_nothing texts t some plain = absurd (false≢true some)
-
 -- ---- a key's declarations are written over
-there_still : (key t : List ℕ) (w : Holdings) (index : Index) → is_some (at_text t (set_value (is_at (text_cmp key)) index w)) ≡ is_some (at_text t index)
+there_still : {V : Type 0} (key t : List ℕ) (w : V) (index : List (List ℕ × V)) → is_some (at_text t (set_value (is_at (text_cmp key)) index w)) ≡ is_some (at_text t index)
 there_still key t w index =
     is_some-lookup (is_at (text_cmp t)) (set_value (is_at (text_cmp key)) index w)
     ∙ ap (list_any (is_at (text_cmp t))) (keys-set_value (is_at (text_cmp key)) index w)
     ∙ sym (is_some-lookup (is_at (text_cmp t)) index)
 
-pub listed_over : (key : List ℕ) (w : Holdings) (index : Index) (texts : List (List ℕ)) → AreListed index texts → AreListed (set_value (is_at (text_cmp key)) index w) texts
+pub listed_over : {V : Type 0} (key : List ℕ) (w : V) (index : List (List ℕ × V)) (texts : List (List ℕ)) → AreListed index texts → AreListed (set_value (is_at (text_cmp key)) index w) texts
 listed_over key w index texts listed t some plain = listed t (sym (there_still key t w index) ∙ some) plain
 
 -- ---- a key comes
-pub listed_in : (key : List ℕ) (w : Holdings) (index : Index) (texts more : List (List ℕ)) → AreListed index texts → ((t : List ℕ) → has_text t texts ≡ true → has_text t more ≡ true) → IsListed more key → AreListed (insert_entry text_cmp index key w) more
+pub listed_in : {V : Type 0} (key : List ℕ) (w : V) (index : List (List ℕ × V)) (texts more : List (List ℕ)) → AreListed index texts → ((t : List ℕ) → has_text t texts ≡ true → has_text t more ≡ true) → IsListed more key → AreListed (insert_entry text_cmp index key w) more
 listed_in key w index texts more listed wider it t some plain = by (is_at (text_cmp key) t) refl (sym (ap is_some (found_after_insertion text_total text_exact key t w index)) ∙ some)
   where
     by : (b : Bool) → is_at (text_cmp key) t ≡ b → is_some (cond b (Some w) (at_text t index)) ≡ true → has_text t more ≡ true
@@ -61,14 +58,14 @@ put_keeps key t texts has = has_put text_total text_exact t key texts ∙ or_tru
 
 -- ---- a key goes
 module _ (key t : List ℕ) (other : is_at (text_cmp key) t ≡ false) where
-  was_by : (e : List ℕ × Holdings) (es : Index) (b a : Bool) → (is_some (at_text t (remove_entry (is_at (text_cmp key)) es)) ≡ true → is_some (at_text t es) ≡ true)
+  was_by : {V : Type 0} (e : List ℕ × V) (es : List (List ℕ × V)) (b a : Bool) → (is_some (at_text t (remove_entry (is_at (text_cmp key)) es)) ≡ true → is_some (at_text t es) ≡ true)
       → is_at (text_cmp t) e.0 ≡ a → is_some (at_text t (cond b es (e ∷ remove_entry (is_at (text_cmp key)) es))) ≡ true → is_some (cond a (Some e.1) (at_text t es)) ≡ true
   was_by e es true true later is some = refl
   was_by e es true false later is some = some
   was_by e es false true later is some = refl
   was_by e es false false later is some = later (ap (λ a. is_some (cond a (Some e.1) (at_text t (remove_entry (is_at (text_cmp key)) es)))) (sym is) ∙ some)
 
-  was_there : (index : Index) → is_some (at_text t (remove_entry (is_at (text_cmp key)) index)) ≡ true → is_some (at_text t index) ≡ true
+  was_there : {V : Type 0} (index : List (List ℕ × V)) → is_some (at_text t (remove_entry (is_at (text_cmp key)) index)) ≡ true → is_some (at_text t index) ≡ true
   was_there [] some = some
   was_there (e ∷ es) some = was_by e es (is_at (text_cmp key) e.0) (is_at (text_cmp t) e.0) (was_there es) refl some
 
@@ -85,7 +82,7 @@ module _ (key t : List ℕ) (other : is_at (text_cmp key) t ≡ false) where
   still_has [] has = has
   still_has (x ∷ xs) has = has_by x xs (is_at (text_cmp key) x) (is_at (text_cmp t) x) (still_has xs) refl refl has
 
-pub listed_out : (key : List ℕ) (index : Index) (texts : List (List ℕ)) → AreListed index texts → at_text key (remove_entry (is_at (text_cmp key)) index) ≡ None
+pub listed_out : {V : Type 0} (key : List ℕ) (index : List (List ℕ × V)) (texts : List (List ℕ)) → AreListed index texts → at_text key (remove_entry (is_at (text_cmp key)) index) ≡ None
     → AreListed (remove_entry (is_at (text_cmp key)) index) (remove_key (is_at (text_cmp key)) texts)
 listed_out key index texts listed gone t some plain = by (is_at (text_cmp key) t) refl
   where
@@ -96,25 +93,22 @@ listed_out key index texts listed gone t some plain = by (is_at (text_cmp key) t
     by false is = still_has key t is texts (listed t (was_there key t is index some) plain)
 
 -- a declaration beside others
-pub listed_beside : (key : List ℕ) (p : Place) (i : QueryableInfoType) (index : Index) (texts : List (List ℕ)) → is_some (at_text key index) ≡ true → AreListed index texts → AreListed (with_holding key p i index) texts
-listed_beside key p i index texts there listed = by (at_text key index) there
+pub listed_beside : {P : Type 0} (R : P → P → Ordering) (key : List ℕ) (p : P) (i : QueryableInfoType) (index : IndexBy P) (texts : List (List ℕ)) → is_some (at_text key index) ≡ true → AreListed index texts → AreListed (with_holding_by R key p i index) texts
+listed_beside {P} R key p i index texts there listed = by (at_text key index) there
   where
-    by : (o : Option Holdings) → is_some o ≡ true → AreListed (option_map_or (λ hs. set_value (is_at (text_cmp key)) index (insert_entry place_cmp hs p i)) o (insert_entry text_cmp index key ((p, i) ∷ []))) texts
-    by (Some hs) there = listed_over key (insert_entry place_cmp hs p i) index texts listed
+    by : (o : Option (HeldBy P)) → is_some o ≡ true → AreListed (option_map_or (λ hs. set_value (is_at (text_cmp key)) index (insert_entry R hs p i)) o (insert_entry text_cmp index key ((p, i) ∷ []))) texts
+    by (Some hs) there = listed_over key (insert_entry R hs p i) index texts listed
     by None there = absurd (false≢true there)
 
 -- the first declaration on a key
-pub listed_first : (key : List ℕ) (p : Place) (i : QueryableInfoType) (index : Index) (texts more : List (List ℕ)) → at_text key index ≡ None → AreListed index texts → ((t : List ℕ) → has_text t texts ≡ true → has_text t more ≡ true) → IsListed more key → AreListed (with_holding key p i index) more
-listed_first key p i index texts more none listed wider it =
-    let first : with_holding key p i index ≡ insert_entry text_cmp index key ((p, i) ∷ []) =
-    ap (λ o. option_map_or (λ hs. set_value (is_at (text_cmp key)) index (insert_entry place_cmp hs p i)) o (insert_entry text_cmp index key ((p, i) ∷ []))) none in
+pub listed_first : {P : Type 0} (R : P → P → Ordering) (key : List ℕ) (p : P) (i : QueryableInfoType) (index : IndexBy P) (texts more : List (List ℕ)) → at_text key index ≡ None → AreListed index texts → ((t : List ℕ) → has_text t texts ≡ true → has_text t more ≡ true) → IsListed more key → AreListed (with_holding_by R key p i index) more
+listed_first R key p i index texts more none listed wider it =
+    let first : with_holding_by R key p i index ≡ insert_entry text_cmp index key ((p, i) ∷ []) =
+    ap (λ o. option_map_or (λ hs. set_value (is_at (text_cmp key)) index (insert_entry R hs p i)) o (insert_entry text_cmp index key ((p, i) ∷ []))) none in
     subst (λ es. AreListed es more) (sym first) (listed_in key ((p, i) ∷ []) index texts more listed wider it)
 
-pub listed_wider : (index : Index) (texts more : List (List ℕ)) → AreListed index texts → ((t : List ℕ) → has_text t texts ≡ true → has_text t more ≡ true) → AreListed index more
-listed_wider index texts more listed wider t some plain = wider t (listed t some plain)
-
 -- each entry of an index in order
-pub each_listed : (index : Index) (texts : List (List ℕ)) → IsStrictlySortedBy text_cmp (keys_of index) → AreListed index texts → AllByRecursion (λ e. IsListed texts e.0) index
+pub each_listed : {V : Type 0} (index : List (List ℕ × V)) (texts : List (List ℕ)) → IsStrictlySortedBy text_cmp (keys_of index) → AreListed index texts → AllByRecursion (λ e. IsListed texts e.0) index
 each_listed index texts sorted listed = each_entry text_total text_exact (λ e. IsListed texts e.0) index sorted (λ k v is. listed k (ap is_some is))
 
 -- ---- the first text after another

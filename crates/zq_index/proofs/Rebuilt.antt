@@ -15,8 +15,7 @@ use Rattle.std.specs.Prelude.{String}
 use Rattle.std.specs.String.{string_bytes, string_cmp}
 use Rattle.std.specs.declared.alloc.Global.{Global}
 use Rattle.zq_index.specs.Texts.{text_cmp, texts_of}
-use Rattle.zq_index.specs.Holders.{Place, place_cmp}
-use Rattle.zq_index.proofs.Orders.{place_total, text_total}
+use Rattle.zq_index.proofs.Orders.{text_total}
 
 -- an entry is put in its place
 abbrev pub put_entry : {K X : Type 0} → (K → K → Ordering) → List (K × X) → K × X → List (K × X)
@@ -52,9 +51,6 @@ module _ {K X : Type 0} {R : K → K → Ordering} (o : IsTotalOrder R) where
 
 pub rebuilt_numbers : {X : Type 0} (es : List (ℕ × X)) → IsStrictlySortedBy nat_cmp (keys_of es) → fold (put_entry nat_cmp) [] es ≡ es
 rebuilt_numbers es s = rebuilt nat_cmp_total es s
-
-pub rebuilt_places : {X : Type 0} (es : List (Place × X)) → IsStrictlySortedBy place_cmp (keys_of es) → fold (put_entry place_cmp) [] es ≡ es
-rebuilt_places es s = rebuilt place_total es s
 
 texts_above : {X : Type 0} (s : String Global) (es : List (String Global × X)) → AllByRecursion (λ y. string_cmp s y ≡ Less) (keys_of es) → AllByRecursion (λ y. text_cmp (string_bytes s) y ≡ Less) (keys_of (texts_of es))
 texts_above s [] all = tt

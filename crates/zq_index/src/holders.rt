@@ -1,55 +1,109 @@
 //! Who declared each key, kept beside the faces' own lists so that a key is found by its text.
-ghost use Rattle.std.specs.Prelude.{◌≡◌, [], OnOk, OnErr, IfOk, Some, None, true, is_some, fold, length, map, List, ℕ, ◌==◌};
+ghost use Rattle.std.specs.Prelude.{◌≡◌, [], OnOk, OnErr, IfOk, Some, None, true, is_some, find, fold, not, length, map, List, ℕ, ◌==◌};
+ghost use Rattle.std.specs.List.Sorted.{IsStrictlySortedBy};
 ghost use Rattle.std.specs.Option.{option_copied};
-ghost use Rattle.std.specs.Map.{remove_entry, set_value};
+ghost use Rattle.std.specs.Map.{keys_of, remove_entry, set_value};
 ghost use Rattle.std.specs.BTreeMap.{insert_entry, is_at};
+ghost use Rattle.std.specs.Ordering.{nat_cmp};
 ghost use Rattle.std.specs.String.{string_bytes};
 ghost use Rattle.zq_index.specs.Texts.{text_cmp, at_text, has_text, IsListed, texts_of};
-ghost use Rattle.zq_index.specs.Holders.{place_cmp, AreListed, with_holding, without_holding, with_held, rank_of, Holdings};
+ghost use Rattle.zq_index.specs.Holders.{TellsApart, AreListed, with_holding_by, without_holding_by, with_held, rank_cmp, rank_of, is_elsewhere, HeldBy};
 
-use crate::info::same_info;
+use crate::info::{merge_qabl_infos, same_info};
 use crate::text_set::{copy_texts, put_text, take_text};
 use std::alloc::Global;
+use std::cmp::Ordering;
 use std::collections::{BTreeMap, BTreeSet};
 use std::marker::Model;
 use zq_key::is_plain;
 use zq_key::memory::OutOfMemory;
 use zq_key::message::QueryableInfoType;
 
-/// Where an information goes in merging: complete ones first, then the nearer; by face and id where
-/// they are alike.
-type Rank = ((bool, u16), (u32, u32));
+/// Where a declaration stands, as a face's number and an id there: places have an order that tells
+/// them apart, and a copy of one is the same.
+pub trait Place: Copy + Ord + Drop {
+    ghost tells_apart: { TellsApart Self.cmp };
 
-/// The declarations on one key: their informations by face and id, and the ranks of these, so that
-/// the merge is the first.
-#[derive(Drop)]
-pub struct Holders {
-    infos: BTreeMap<(u32, u32), QueryableInfoType>,
-    ranks: BTreeSet<Rank>,
+    ghost copied: { (place copy : Self) → Self.is_clone place copy → copy ≡ place };
 }
 
-impl Model for Holders {
-    ghost use Rattle.zq_index.specs.Holders.{Holdings, IsRanked};
+/// A face's number and an id there.
+pub type FacePlace = (u32, u32);
 
-    ghost Value = { Holdings };
+impl Place for FacePlace {
+    ghost use Rattle.std.proofs.lemmas.Map.Lookups.{exact_pairs, exact_unsigned};
+
+    ghost tells_apart = { exact_pairs nat_cmp nat_cmp exact_unsigned exact_unsigned };
+
+    ghost copied = { λ place copy same i. (same.0 i, same.1 i) };
+}
+
+impl Place for u128 {
+    ghost use Rattle.std.proofs.lemmas.Map.Lookups.{exact_unsigned};
+
+    ghost tells_apart = { exact_unsigned };
+
+    ghost copied = { λ place copy same. same };
+}
+
+/// Where an information goes in merging: complete ones first, then the nearer; by place where they
+/// are alike.
+type Rank<P> = ((bool, u16), P);
+
+/// The declarations on one key: their informations by place, and the ranks of these, so that the
+/// merge is the first.
+#[derive(Drop)]
+pub struct Holders<P: Place> {
+    infos: BTreeMap<P, QueryableInfoType>,
+    ranks: BTreeSet<Rank<P>>,
+}
+
+impl<P: Place> Model for Holders<P> {
+    ghost use Rattle.zq_index.specs.Holders.{HeldBy, IsRanked};
+
+    ghost Value = { HeldBy P };
 
     ghost view = { λ h. h.infos.entries };
 
-    ghost invariant = { λ h. IsRanked h.infos.entries h.ranks.keys };
+    ghost invariant = { λ h. IsRanked P.cmp h.infos.entries h.ranks.keys };
 }
 
-fn rank(place: (u32, u32), info: QueryableInfoType) -> Rank
+fn rank<P: Place>(place: P, info: QueryableInfoType) -> Rank<P>
     ensures { result ≡ rank_of place info }
 {
     ((!info.complete, info.distance), place)
 }
 
+/// The information of the rank.
+fn ranked<P: Place>(rank: &Rank<P>) -> QueryableInfoType
+    ensures { result ≡ record { complete = not rank.now.0.0; distance = rank.now.0.1 } }
+{
+    let ((incomplete, distance), _) = *rank;
+    QueryableInfoType {
+        complete: !incomplete,
+        distance,
+    }
+}
+
+/// The first rank of another place: the first or the second, as no place has two.
+fn first_elsewhere<P: Place>(ranks: &BTreeSet<Rank<P>>, place: P) -> Option<&Rank<P>>
+    ensures first { option_copied result ≡ find (is_elsewhere P.cmp place) ranks.now.keys }
+    ensures ordered { IsStrictlySortedBy (rank_cmp P.cmp) ranks.now.keys }
+{
+    for rank in ranks {
+        if place.cmp(&rank.1) != Ordering::Equal {
+            return Some(rank);
+        }
+    }
+    None
+}
+
 /// Equal informations.
-#[tactic(auto, using(crate::proofs::Rebuilt::rebuilt_places))]
-fn copy_infos(
-    infos: &BTreeMap<(u32, u32), QueryableInfoType>,
+#[tactic(auto, using(crate::proofs::Rebuilt::rebuilt))]
+fn copy_infos<P: Place>(
+    infos: &BTreeMap<P, QueryableInfoType>,
     alloc: Global,
-) -> Result<BTreeMap<(u32, u32), QueryableInfoType>, OutOfMemory>
+) -> Result<BTreeMap<P, QueryableInfoType>, OutOfMemory>
     ensures { IfOk result (λ i. i.entries ≡ infos.now.entries) }
 {
     let mut made = BTreeMap::new(alloc);
@@ -59,18 +113,25 @@ fn copy_infos(
     Ok(made)
 }
 
-impl Holders {
+/// Equal ranks.
+fn copy_ranks<P: Place>(ranks: &BTreeSet<Rank<P>>) -> Result<BTreeSet<Rank<P>>, OutOfMemory>
+    ensures { IfOk result (λ r. r.keys ≡ ranks.now.keys) }
+{
+    Ok(ranks.clone()?)
+}
+
+impl<P: Place> Holders<P> {
     /// Equal declarations.
-    fn copy(&self, alloc: Global) -> Result<Holders, OutOfMemory>
+    fn copy(&self, alloc: Global) -> Result<Holders<P>, OutOfMemory>
         ensures { IfOk result (λ h. h ≡ self.now) }
     {
         Ok(Holders {
             infos: copy_infos(&self.infos, alloc)?,
-            ranks: self.ranks.clone()?,
+            ranks: copy_ranks(&self.ranks)?,
         })
     }
 
-    fn new(alloc: Global) -> Holders
+    fn new(alloc: Global) -> Holders<P>
         ensures { result ≡ [] }
     {
         Holders {
@@ -79,8 +140,8 @@ impl Holders {
         }
     }
 
-    /// The informations by face and id.
-    pub fn infos(&self) -> &BTreeMap<(u32, u32), QueryableInfoType>
+    /// The informations by place.
+    pub fn infos(&self) -> &BTreeMap<P, QueryableInfoType>
         ensures { result.now.entries ≡ self.now }
     {
         &self.infos
@@ -91,16 +152,34 @@ impl Holders {
         ensures { result ≡ fold with_held None self.now }
     {
         match self.ranks.first() {
-            Some(((incomplete, distance), _)) => Some(QueryableInfoType {
-                complete: !*incomplete,
-                distance: *distance,
-            }),
+            Some(rank) => Some(ranked(rank)),
             None => None,
         }
     }
 
-    fn put(&mut self, place: (u32, u32), info: QueryableInfoType) -> Result<(), OutOfMemory>
-        ensures ok { OnOk result (self.new ≡ insert_entry place_cmp self.old place info) }
+    /// What the declarations would say, merged, without that of the place.
+    pub fn merged_without(&self, place: P) -> Option<QueryableInfoType>
+        ensures merged { result ≡ fold with_held None (remove_entry (is_at (P.cmp place)) self.now) }
+        ensures ordered { IsStrictlySortedBy P.cmp (keys_of self.now) }
+    {
+        match first_elsewhere(&self.ranks, place) {
+            Some(rank) => Some(ranked(rank)),
+            None => None,
+        }
+    }
+
+    /// What the declarations would say, merged, with this one of the place.
+    pub fn merged_with(&self, place: P, info: QueryableInfoType) -> QueryableInfoType
+        ensures { Some result ≡ fold with_held None (insert_entry P.cmp self.now place info) }
+    {
+        match self.merged_without(place) {
+            Some(others) => merge_qabl_infos(others, info),
+            None => info,
+        }
+    }
+
+    fn put(&mut self, place: P, info: QueryableInfoType) -> Result<(), OutOfMemory>
+        ensures ok { OnOk result (self.new ≡ insert_entry P.cmp self.old place info) }
         ensures err { OnErr result (self.new ≡ self.old) }
     {
         self.ranks.insert(rank(place, info))?;
@@ -119,8 +198,8 @@ impl Holders {
         }
     }
 
-    fn take(&mut self, place: (u32, u32)) -> bool
-        ensures after { self.new ≡ remove_entry (is_at (place_cmp place)) self.old }
+    fn take(&mut self, place: P) -> bool
+        ensures after { self.new ≡ remove_entry (is_at (P.cmp place)) self.old }
         ensures empty { result ≡ (length self.new == 0) }
     {
         if let Some(gone) = self.infos.remove(&place) {
@@ -132,18 +211,18 @@ impl Holders {
 
 /// The declarations on each key, by the key's text; the keys that are not plain stand in a set, too.
 #[derive(Drop)]
-pub struct KeyHolders {
-    keys: BTreeMap<String, Holders>,
+pub struct KeyHolders<P: Place> {
+    keys: BTreeMap<String, Holders<P>>,
     wild: BTreeSet<String>,
 }
 
-impl Model for KeyHolders {
+impl<P: Place> Model for KeyHolders<P> {
     ghost use Rattle.std.specs.Prelude.{map};
     ghost use Rattle.std.specs.String.{string_bytes};
-    ghost use Rattle.zq_index.specs.Holders.{AreListed, Index};
+    ghost use Rattle.zq_index.specs.Holders.{AreListed, IndexBy};
     ghost use Rattle.zq_index.specs.Texts.{texts_of};
 
-    ghost Value = { Index };
+    ghost Value = { IndexBy P };
 
     ghost view = { λ k. texts_of k.keys.entries };
 
@@ -152,14 +231,14 @@ impl Model for KeyHolders {
 
 /// The declaration is added to those on a key that has some.
 #[tactic(auto, using(crate::proofs::Texts::text_lookup, crate::proofs::Texts::text_set, std::proofs::lemmas::Map::Steps::set_value_same))]
-fn put_beside(
-    keys: &mut BTreeMap<String, Holders>,
+fn put_beside<P: Place>(
+    keys: &mut BTreeMap<String, Holders<P>>,
     key: &str,
-    place: (u32, u32),
+    place: P,
     info: QueryableInfoType,
 ) -> Result<(), OutOfMemory>
     requires { is_some (at_text key.now (texts_of keys.old.entries)) ≡ true }
-    ensures ok { OnOk result (texts_of keys.new.entries ≡ with_holding key.now place info (texts_of keys.old.entries)) }
+    ensures ok { OnOk result (texts_of keys.new.entries ≡ with_holding_by P.cmp key.now place info (texts_of keys.old.entries)) }
     ensures err { OnErr result (texts_of keys.new.entries ≡ texts_of keys.old.entries) }
     ensures listed { (texts : List (List ℕ)) → AreListed (texts_of keys.old.entries) texts → AreListed (texts_of keys.new.entries) texts }
 {
@@ -174,15 +253,15 @@ fn put_beside(
 
 /// The first declaration on a key.
 #[tactic(auto, using(crate::proofs::Texts::text_lookup, crate::proofs::Texts::text_insert))]
-fn put_first(
-    keys: &mut BTreeMap<String, Holders>,
+fn put_first<P: Place>(
+    keys: &mut BTreeMap<String, Holders<P>>,
     alloc: Global,
     key: &str,
-    place: (u32, u32),
+    place: P,
     info: QueryableInfoType,
 ) -> Result<(), OutOfMemory>
     requires { at_text key.now (texts_of keys.old.entries) ≡ None }
-    ensures ok { OnOk result (texts_of keys.new.entries ≡ with_holding key.now place info (texts_of keys.old.entries)) }
+    ensures ok { OnOk result (texts_of keys.new.entries ≡ with_holding_by P.cmp key.now place info (texts_of keys.old.entries)) }
     ensures err { OnErr result (texts_of keys.new.entries ≡ texts_of keys.old.entries) }
 {
     let text = String::from_str(alloc, key)?;
@@ -210,17 +289,17 @@ fn list_key(wild: &mut BTreeSet<String>, alloc: Global, key: &str) -> Result<(),
 
 /// The first declaration on a key, which is listed if it is not plain. After want of memory the list
 /// may have it without a declaration.
-fn put_new(
-    keys: &mut BTreeMap<String, Holders>,
+fn put_new<P: Place>(
+    keys: &mut BTreeMap<String, Holders<P>>,
     wild: &mut BTreeSet<String>,
     alloc: Global,
     key: &str,
-    place: (u32, u32),
+    place: P,
     info: QueryableInfoType,
 ) -> Result<(), OutOfMemory>
     requires absent { at_text key.now (texts_of keys.old.entries) ≡ None }
     requires listed { AreListed (texts_of keys.old.entries) (map string_bytes wild.old.keys) }
-    ensures ok { OnOk result (texts_of keys.new.entries ≡ with_holding key.now place info (texts_of keys.old.entries)) }
+    ensures ok { OnOk result (texts_of keys.new.entries ≡ with_holding_by P.cmp key.now place info (texts_of keys.old.entries)) }
     ensures err { OnErr result (texts_of keys.new.entries ≡ texts_of keys.old.entries) }
     ensures listed { AreListed (texts_of keys.new.entries) (map string_bytes wild.new.keys) }
 {
@@ -233,9 +312,9 @@ fn put_new(
 
 /// The declaration of the place goes; answers whether the key has none left.
 #[tactic(auto, using(crate::proofs::Texts::text_lookup, crate::proofs::Texts::text_set))]
-fn take_from(keys: &mut BTreeMap<String, Holders>, key: &str, place: (u32, u32)) -> bool
+fn take_from<P: Place>(keys: &mut BTreeMap<String, Holders<P>>, key: &str, place: P) -> bool
     requires { is_some (at_text key.now (texts_of keys.old.entries)) ≡ true }
-    ensures after { (hs : Holdings) → at_text key.now (texts_of keys.old.entries) ≡ Some hs → (result ≡ (length (remove_entry (is_at (place_cmp place)) hs) == 0)) × (texts_of keys.new.entries ≡ set_value (is_at (text_cmp key.now)) (texts_of keys.old.entries) (remove_entry (is_at (place_cmp place)) hs)) }
+    ensures after { (hs : HeldBy P) → at_text key.now (texts_of keys.old.entries) ≡ Some hs → (result ≡ (length (remove_entry (is_at (P.cmp place)) hs) == 0)) × (texts_of keys.new.entries ≡ set_value (is_at (text_cmp key.now)) (texts_of keys.old.entries) (remove_entry (is_at (P.cmp place)) hs)) }
     ensures listed { (texts : List (List ℕ)) → AreListed (texts_of keys.old.entries) texts → AreListed (texts_of keys.new.entries) texts }
 {
     match keys.get_mut(key) {
@@ -246,7 +325,7 @@ fn take_from(keys: &mut BTreeMap<String, Holders>, key: &str, place: (u32, u32))
 
 /// The key goes.
 #[tactic(auto, using(crate::proofs::Texts::text_remove))]
-fn drop_key(keys: &mut BTreeMap<String, Holders>, key: &str)
+fn drop_key<P: Place>(keys: &mut BTreeMap<String, Holders<P>>, key: &str)
     ensures after { texts_of keys.new.entries ≡ remove_entry (is_at (text_cmp key.now)) (texts_of keys.old.entries) }
     ensures gone { at_text key.now (texts_of keys.new.entries) ≡ None }
 {
@@ -254,7 +333,11 @@ fn drop_key(keys: &mut BTreeMap<String, Holders>, key: &str)
 }
 
 /// The key goes from the list, too.
-fn drop_last(keys: &mut BTreeMap<String, Holders>, wild: &mut BTreeSet<String>, key: &str)
+fn drop_last<P: Place>(
+    keys: &mut BTreeMap<String, Holders<P>>,
+    wild: &mut BTreeSet<String>,
+    key: &str,
+)
     requires { AreListed (texts_of keys.old.entries) (map string_bytes wild.old.keys) }
     ensures after { texts_of keys.new.entries ≡ remove_entry (is_at (text_cmp key.now)) (texts_of keys.old.entries) }
     ensures listed { AreListed (texts_of keys.new.entries) (map string_bytes wild.new.keys) }
@@ -265,11 +348,11 @@ fn drop_last(keys: &mut BTreeMap<String, Holders>, wild: &mut BTreeSet<String>, 
 
 /// An equal entry is put in its place.
 #[tactic(auto, using(crate::proofs::Texts::text_insert))]
-fn put_copy(
-    made: &mut BTreeMap<String, Holders>,
+fn put_copy<P: Place>(
+    made: &mut BTreeMap<String, Holders<P>>,
     alloc: Global,
     key: &str,
-    holders: &Holders,
+    holders: &Holders<P>,
 ) -> Result<(), OutOfMemory>
     ensures { OnOk result (texts_of made.new.entries ≡ insert_entry text_cmp (texts_of made.old.entries) key.now holders.now) }
 {
@@ -282,10 +365,10 @@ fn put_copy(
 
 /// Equal declarations on each key.
 #[tactic(auto, using(crate::proofs::Rebuilt::rebuilt_texts))]
-fn copy_keys(
-    keys: &BTreeMap<String, Holders>,
+fn copy_keys<P: Place>(
+    keys: &BTreeMap<String, Holders<P>>,
     alloc: Global,
-) -> Result<BTreeMap<String, Holders>, OutOfMemory>
+) -> Result<BTreeMap<String, Holders<P>>, OutOfMemory>
     ensures { IfOk result (λ k. texts_of k.entries ≡ texts_of keys.now.entries) }
 {
     let mut made = BTreeMap::new(alloc);
@@ -295,9 +378,9 @@ fn copy_keys(
     Ok(made)
 }
 
-impl KeyHolders {
+impl<P: Place> KeyHolders<P> {
     /// Equal declarations on each key.
-    pub fn copy(&self, alloc: Global) -> Result<KeyHolders, OutOfMemory>
+    pub fn copy(&self, alloc: Global) -> Result<KeyHolders<P>, OutOfMemory>
         ensures { IfOk result (λ k. k ≡ self.now) }
     {
         Ok(KeyHolders {
@@ -307,7 +390,7 @@ impl KeyHolders {
     }
 
     /// No declarations.
-    pub fn new(alloc: Global) -> KeyHolders
+    pub fn new(alloc: Global) -> KeyHolders<P>
         ensures { result ≡ [] }
     {
         KeyHolders {
@@ -317,7 +400,7 @@ impl KeyHolders {
     }
 
     /// The declarations on each key, by its text.
-    pub fn keys(&self) -> &BTreeMap<String, Holders>
+    pub fn keys(&self) -> &BTreeMap<String, Holders<P>>
         ensures { texts_of result.now.entries ≡ self.now }
     {
         &self.keys
@@ -332,7 +415,7 @@ impl KeyHolders {
 
     /// The declarations on the key.
     #[tactic(auto, using(crate::proofs::Texts::text_lookup))]
-    pub fn get(&self, key: &str) -> Option<&Holders>
+    pub fn get(&self, key: &str) -> Option<&Holders<P>>
         ensures { option_copied result ≡ at_text key.now self.now }
     {
         self.keys.get(key)
@@ -350,10 +433,10 @@ impl KeyHolders {
         &mut self,
         alloc: Global,
         key: &str,
-        place: (u32, u32),
+        place: P,
         info: QueryableInfoType,
     ) -> Result<(), OutOfMemory>
-        ensures ok { OnOk result (self.new ≡ with_holding key.now place info self.old) }
+        ensures ok { OnOk result (self.new ≡ with_holding_by P.cmp key.now place info self.old) }
         ensures err { OnErr result (self.new ≡ self.old) }
     {
         if self.has(key) {
@@ -366,8 +449,8 @@ impl KeyHolders {
     }
 
     /// Takes out the declaration of the place on the key.
-    pub fn take(&mut self, key: &str, place: (u32, u32))
-        ensures { self.new ≡ without_holding key.now place self.old }
+    pub fn take(&mut self, key: &str, place: P)
+        ensures { self.new ≡ without_holding_by P.cmp key.now place self.old }
     {
         if !self.has(key) {
             return;

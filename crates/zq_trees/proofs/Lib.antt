@@ -1,2 +1,4 @@
 pub mod Places
 pub mod Sitting
+pub mod Keys
+pub mod Entering

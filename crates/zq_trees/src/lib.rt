@@ -3,8 +3,11 @@
 //! - `types`: networks, what node numbers stand for, and what faces are told
 //! - `nets`: a network whose ids' places are found by look-up
 //! - `seats`: which open faces have which ids
+//! - `entries`: what routers announced, by key and by router
 #![tactic(auto)]
 
+pub mod entries;
 pub mod nets;
+mod router_keys;
 pub mod seats;
 pub mod types;

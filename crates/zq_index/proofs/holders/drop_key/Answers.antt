@@ -5,7 +5,7 @@ use Rattle.zq_index.proofs.Texts.{text_lookup, text_remove}
 use Rattle.zq_index.proofs.holders.drop_key.Goals as goal
 
 pub returns-clause-after : goal.returns-clause-after
-returns-clause-after c = ap texts_of c.remove.ensures.entries ∙ text_remove (is_at (text_cmp c.args.key.now)) c.args.keys.now.entries
+returns-clause-after g c = ap texts_of c.remove.ensures.entries ∙ text_remove (is_at (text_cmp c.args.key.now)) c.args.keys.now.entries
 
 pub returns-clause-gone : goal.returns-clause-gone
-returns-clause-gone c = text_lookup (is_at (text_cmp c.args.key.now)) c.remove.new.self.entries ∙ c.remove.ensures.updates.1
+returns-clause-gone g c = text_lookup (is_at (text_cmp c.args.key.now)) c.remove.new.self.entries ∙ c.remove.ensures.updates.1

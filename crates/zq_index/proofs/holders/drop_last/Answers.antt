@@ -9,7 +9,7 @@ use Rattle.zq_index.proofs.Listed.{listed_out}
 use Rattle.zq_index.proofs.holders.drop_last.Goals as goal
 
 pub returns-clause-listed : goal.returns-clause-listed
-returns-clause-listed c =
+returns-clause-listed g c =
     let key = c.args.key.now in
     let index = texts_of c.args.keys.now.entries in
     let gone : at_text key (remove_entry (is_at (text_cmp key)) index) ≡ None = ap (at_text key) (sym c.drop_key.ensures.after) ∙ c.drop_key.ensures.gone in
