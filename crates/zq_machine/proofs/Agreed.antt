@@ -1,5 +1,6 @@
 -- At every point of every run open faces, hats and what stands for keys agree.
 use Rattle.std.proofs.Common.{◌≡◌, ◌∙◌, refl, sym, ap, subst, ℕ, ◌<◌, Bool, true, false, cond, not, List, [], ◌∷◌, fold, map, Option, Some, None, arith}
+use Rattle.std.specs.List.{flat_map}
 use Rattle.std.specs.Option.{is_some, option_map_or, option_and_then}
 use Rattle.std.specs.Ordering.{nat_cmp}
 use Rattle.std.specs.List.Sorted.{IsStrictlySortedBy}
@@ -9,11 +10,16 @@ use Rattle.std.proofs.lemmas.Cmp.{nat_cmp_total}
 use Rattle.std.proofs.lemmas.Map.Lookups.{exact_unsigned}
 use Rattle.std.proofs.lemmas.Option.{option_and_then_some, same_Some}
 use Rattle.zq_message.specs.declared.message.Region.{Region}
+use Rattle.zq_message.specs.declared.message.Zid.{Zid}
 use Rattle.zq_regions.specs.Region.{region_index}
 use Rattle.zq_hat.specs.State.{FaceState, HatState}
 use Rattle.zq_hat.proofs.Routing.{registered_is}
 use Rattle.zq_hat.specs.Kept.{declaration, face_at, has_face, is_apart, new_hat, registered, unregistered, without_face}
 use Rattle.zq_hat.specs.Marks.{finalized}
+use Rattle.zq_hat.specs.declared.types.Strategy.{Strategy}
+use Rattle.zq_hat.specs.declared.types.Strategy.TheVariants as strategy
+use Rattle.zq_hat.specs.Regions.{in_routers, strategy_at}
+use Rattle.zq_hat.specs.Routers.{announced, networked, noded, retracted, source_at, staying}
 use Rattle.zq_query.specs.declared.records.ReplyTo.{ReplyTo}
 use Rattle.zq_query.specs.Closing.{at_face}
 use Rattle.zq_query.specs.Polling.{is_due, timeouts, timing_out}
@@ -24,16 +30,17 @@ use Rattle.zq_machine.specs.declared.config.Entry.{Entry}
 use Rattle.zq_machine.specs.declared.face.OpenFace.{OpenFace}
 use Rattle.zq_machine.specs.Agreeing.{Agrees, id_and_key, keys_in, stands_in}
 use Rattle.zq_machine.specs.Configs.{Settings, region_of, north_of}
-use Rattle.zq_machine.specs.Deciding.{accepted, after_replied, causes, deadline, refusal_of, targets}
+use Rattle.zq_machine.specs.Deciding.{accepted, after_replied, announced_by, causes, deadline, refusal_of, retracted_by, targets}
 use Rattle.zq_machine.specs.Machine.{accepted_state, state_after}
 use Rattle.zq_machine.specs.Selecting.{full_text}
 use Rattle.zq_machine.specs.Writing.{with_told_number}
 use Rattle.zq_machine.specs.State.{State, at, change_hat, clashes_in, first_hats, hat_at, hat_of, is_open, is_region, opening_state, with_hat}
-use Rattle.zq_machine.specs.TextCalls.{TextCall, opening, closing, naming, unnaming, declaring, withdrawing, asking, replying, ending, reporting, passing, listing, finalizing, unbuilt}
-use Rattle.zq_machine.proofs.Agreeing.{Tied, declared_tied, marked_tied, named_tied, renamed_tied, some_of, unnamed_tied, withdrawn_tied}
+use Rattle.zq_machine.specs.TextCalls.{TextCall, opening, closing, naming, unnaming, declaring, withdrawing, asking, replying, ending, reporting, passing, listing, finalizing, announcing, retracting, networking, tabling, unbuilt, read}
+use Rattle.zq_machine.proofs.Agreeing.{Tied, declared_tied, marked_tied, named_tied, noded_tied, renamed_tied, same_faces_tied, some_of, unnamed_tied, withdrawn_tied}
 use Rattle.zq_machine.proofs.Changing.{hat_found, itself, number_test, region_there}
 use Rattle.zq_machine.proofs.Finals.{IsSound, granted_sound, is_there, none_sorted, opening_sound}
 use Rattle.zq_machine.proofs.Hats.{AreHatsOf, accepted_hats, opening_hats}
+use Rattle.zq_machine.proofs.Unrouted.{AreUnrouted, accepted_unrouted, read_unrouted}
 use Rattle.zq_machine.proofs.Joining.{closed_tied, opened_tied}
 use Rattle.zq_machine.proofs.NewEntries.{numbered_asked}
 use Rattle.zq_machine.proofs.Numbered.{InNumbers, numbered_if_put, numbered_landed, numbered_let_go, numbered_timing}
@@ -53,6 +60,17 @@ next_absent s i = by (at s.core.next_face s.core.faces) refl
     by : (o : Option OpenFace) → at s.core.next_face s.core.faces ≡ o → o ≡ None
     by None e = refl
     by (Some x) e = let l : s.core.next_face < s.core.next_face = i.open_below s.core.next_face (ap is_some e) in absurd (omega (arith, l))
+
+-- what a source makes of a hat, and what goes in regions of routers, leave its faces
+by_source : (o : Option Zid) (g : Zid → HatState) (h : HatState) → ((z : Zid) → (g z).faces ≡ h.faces) → (option_map_or g o h).faces ≡ h.faces
+by_source None g h same = refl
+by_source (Some z) g h same = same z
+
+by_strategy : (k : Strategy) (x h : HatState) → x.faces ≡ h.faces → (in_routers k x h).faces ≡ h.faces
+by_strategy strategy.Broker x h same = refl
+by_strategy strategy.Client x h same = refl
+by_strategy strategy.Peer x h same = refl
+by_strategy strategy.Router x h same = same
 
 module _ (s : State) (i : IsSound s) (t : IsTied s) where
   pub opened_face : (face : ℕ) → not (is_open face s.core) ≡ false → (o : OpenFace) × (at face s.core.faces ≡ Some o)
@@ -93,6 +111,18 @@ module _ (s : State) (i : IsSound s) (t : IsTied s) where
   granted_tied (finalizing face m set) h =
       let x : (o : OpenFace) × (at face.0 s.core.faces ≡ Some o) = opened_face face.0 (all_passed (causes s.core (finalizing face m set)) h).0 in
       in_its_hat face.0 (finalized face.0 m set) s.core.faces s.names x (marked_tied s.core.faces s.core.hats s.names t face.0 x.0 x.1 m set)
+  granted_tied (announcing face sd i node) h =
+      let x : (o : OpenFace) × (at face.0 s.core.faces ≡ Some o) = opened_face face.0 (all_passed (causes s.core (announcing face sd i node)) h).0 in
+      in_its_hat face.0 (announced_by face.0 node (full_text sd) i) s.core.faces s.names x
+      (same_faces_tied s.core.faces s.core.hats s.names t x.0.region (announced_by face.0 node (full_text sd) i) (λ k. by_source (source_at face.0 node k) (λ z. announced z.0 (full_text sd) i k) k (λ z. refl)))
+  granted_tied (retracting face sd node) h =
+      let x : (o : OpenFace) × (at face.0 s.core.faces ≡ Some o) = opened_face face.0 (all_passed (causes s.core (retracting face sd node)) h).0 in
+      in_its_hat face.0 (retracted_by face.0 node (full_text sd)) s.core.faces s.names x
+      (same_faces_tied s.core.faces s.core.hats s.names t x.0.region (retracted_by face.0 node (full_text sd)) (λ k. by_source (source_at face.0 node k) (λ z. retracted z.0 (full_text sd) k) k (λ z. refl)))
+  granted_tied (networking r net) h = same_faces_tied s.core.faces s.core.hats s.names t r (networked net) (λ k. by_strategy (strategy_at k) (record k { network = net; entries = flat_map (staying net) k.entries }) k refl)
+  granted_tied (tabling face ids) h =
+      let x : (o : OpenFace) × (at face.0 s.core.faces ≡ Some o) = opened_face face.0 (all_passed (causes s.core (tabling face ids)) h).0 in
+      in_its_hat face.0 (noded face.0 ids) s.core.faces s.names x (noded_tied s.core.faces s.core.hats s.names t face.0 x.0 x.1 ids)
   granted_tied unbuilt h = t
 
 -- ---- all that holds between two calls
@@ -102,6 +132,7 @@ pub record InOrder (config : Settings) (s : State) : Type 0 where
   pub hats : AreHatsOf config s.core.hats
   pub numbered : InNumbers s.core.queries
   pub aims : AllAim s.core.faces s.core.queries.records
+  pub unrouted : AreUnrouted (first_hats config) s.core.hats
 
 replied_numbers : (q : QueryState) (o : Option ReplyTo) → InNumbers q → InNumbers (after_replied o q)
 replied_numbers q None i = i
@@ -124,15 +155,20 @@ granted_numbers s (passing now) h i =
     numbered_let_go z.records z.requests z.replies (numbered_timing (timeouts now s.core.queries) s.core.queries i) (is_due now)
 granted_numbers s (listing r table) h i = i
 granted_numbers s (finalizing face m set) h i = i
+granted_numbers s (announcing face sd j node) h i = i
+granted_numbers s (retracting face sd node) h i = i
+granted_numbers s (networking r net) h i = i
+granted_numbers s (tabling face ids) h i = i
 granted_numbers s unbuilt h i = i
 
-pub granted_in_order : (config : Settings) (s : State) (x : TextCall) → refusal_of s.core x ≡ None → InOrder config s → InOrder config (accepted_state s x)
-granted_in_order config s x h i = record {
+pub granted_in_order : (config : Settings) (s : State) (c : Call) → refusal_of s.core (read s c) ≡ None → InOrder config s → InOrder config (accepted_state s (read s c))
+granted_in_order config s c h i = let x = read s c in record {
   sound = granted_sound s.core x h i.sound;
   tied = granted_tied s i.sound i.tied x h;
   hats = accepted_hats config.start.told (first_hats config) s.core i.hats x;
   numbered = granted_numbers s x h i.numbered;
   aims = accepted_aims config s.core s.names i.tied i.hats i.sound.sorted i.aims x;
+  unrouted = λ k. accepted_unrouted s.core x (read_unrouted s c) k ∙ i.unrouted k;
 }
 
 -- and it is kept by each number that a face is told
@@ -143,6 +179,7 @@ numbered_in_order config core face text id names i = record {
   hats = i.hats;
   numbered = i.numbered;
   aims = i.aims;
+  unrouted = i.unrouted;
 }
 
 -- ---- before any call no hat has a face
@@ -189,6 +226,7 @@ opening_in_order config = record {
   hats = opening_hats config;
   numbered = record { numbers = none_sorted; below = tt; places = λ face id. omega arith; once = tt; flights = λ reply. omega arith; flown = tt };
   aims = tt;
+  unrouted = λ k. refl;
 }
 
 -- at every point of a run

@@ -1,5 +1,5 @@
 -- Open faces, hats and what stands for keys agree after every call.
-use Rattle.std.proofs.Common.{◌≡◌, ◌∙◌, refl, sym, ap, subst, ℕ, Bool, true, false, cond, List, map, Option, Some, None, unwrap_or}
+use Rattle.std.proofs.Common.{◌≡◌, ◌∙◌, refl, sym, ap, subst, ℕ, Bool, true, false, cond, List, map, Option, Some, None, ◌⊎◌, inl, inr, unwrap_or}
 use Rattle.std.specs.Option.{is_some, option_map, option_map_or}
 use Rattle.std.specs.Ordering.{nat_cmp}
 use Rattle.std.specs.Str.{bytes_eq}
@@ -21,12 +21,14 @@ use Rattle.zq_hat.specs.declared.types.FinalMark.TheVariants as mark
 use Rattle.zq_hat.specs.State.{FaceState, HatState}
 use Rattle.zq_hat.specs.Kept.{change_face, declaration, declare, face_at, has_face, is_apart, withdraw}
 use Rattle.zq_hat.specs.Marks.{marked}
+use Rattle.zq_hat.specs.Routers.{noded}
+use Rattle.zq_trees.specs.declared.types.NodeIds.{NodeIds}
 use Rattle.zq_tables.specs.Naming.{FaceKeys, Names, NamingState, change_naming, face_queryables, first_stays, naming_at, no_keys, text_at, with_name, with_queryable, without_name, without_queryable}
 use Rattle.zq_tables.proofs.Entries.{insert_there}
 use Rattle.zq_machine.specs.declared.face.OpenFace.{OpenFace}
 use Rattle.zq_machine.specs.Agreeing.{IsCopy, id_and_key, is_open_in}
-use Rattle.zq_machine.specs.State.{at, hat_at, change_hat}
-use Rattle.zq_machine.proofs.Changing.{each_hat, face_here, face_other, face_stays, faces_sorted, found_here, found_other, hat_stays, itself, naming_changed, one_number, sorted_changed, there}
+use Rattle.zq_machine.specs.State.{at, hat_at, change_hat, put_hat}
+use Rattle.zq_machine.proofs.Changing.{each_hat, face_here, face_other, face_stays, faces_sorted, found_here, found_other, hat_either, hat_stays, itself, naming_changed, one_number, sorted_changed, there}
 use Rattle.zq_machine.proofs.EntriesMoved.{insert-map, remove-map}
 use Rattle.zq_key.proofs.Sorted.{sorted_in, sorted_out}
 
@@ -94,6 +96,40 @@ module _ (faces : List (ℕ × OpenFace)) (hats : List (ℕ × HatState)) (names
 
   pub unnamed_tied : (face id : ℕ) → Tied faces hats (change_naming face (without_name id) names)
   unnamed_tied face id = renamed_tied face (without_name id) (λ n. refl)
+
+  -- ---- a hat is changed, but not in its faces
+  module _ (r : Region) (g : HatState → HatState) (same : (h : HatState) → (g h).faces ≡ h.faces) where
+    -- the hat of a region as it was
+    abbrev Was : (p : Region) (h : HatState) → Type 0
+    Was p h = (old : HatState) × (hat_at p hats ≡ Some old) × (h.faces ≡ old.faces)
+
+    was : (p : Region) (h : HatState) → hat_at p (change_hat r g hats) ≡ Some h → Was p h
+    was p h e = by (hat_at r hats) refl
+      where
+        by : (o : Option HatState) → hat_at r hats ≡ o → Was p h
+        by None f = (h, sym (ap (λ o. hat_at p (put_hat r g hats o)) f) ∙ e, refl)
+        by (Some first) f = either (hat_either r first g hats f p)
+          where
+            either : (hat_at p (change_hat r g hats) ≡ hat_at p hats) ⊎ ((hat_at p hats ≡ Some first) × (hat_at p (change_hat r g hats) ≡ Some (g first))) → Was p h
+            either (inl k) = (h, sym k ∙ e, refl)
+            either (inr k) = (first, k.0, ap (λ (x : HatState). x.faces) (same_Some _ _ (sym e ∙ k.1)) ∙ same first)
+
+    still_home : (p : Region) → is_some (hat_at p hats) ≡ true → is_some (hat_at p (change_hat r g hats)) ≡ true
+    still_home p h = by (hat_at r hats) refl
+      where
+        by : (o : Option HatState) → hat_at r hats ≡ o → is_some (hat_at p (change_hat r g hats)) ≡ true
+        by None f = ap (λ o. is_some (hat_at p (put_hat r g hats o))) f ∙ h
+        by (Some first) f = hat_stays r first g hats f p h
+
+    pub same_faces_tied : Tied faces (change_hat r g hats) names
+    same_faces_tied = record {
+      hats_sorted = λ p h e. let x = was p h e in subst (λ (l : List (ℕ × FaceState)). IsStrictlySortedBy nat_cmp (keys_of l)) (sym x.2) (t.hats_sorted p x.0 x.1);
+      names_sorted = t.names_sorted;
+      seats = λ p h q e. let x = was p h e in ap (λ (l : List (ℕ × FaceState)). is_some (at q l)) x.2 ∙ t.seats p x.0 q x.1;
+      homes = λ q o e. still_home o.region (t.homes q o e);
+      named = t.named;
+      held = λ q o h f e h_at f_at. let x = was o.region h h_at in t.held q o x.0 f e x.1 (sym (ap (λ (l : List (ℕ × FaceState)). at q l) x.2) ∙ f_at);
+    }
 
   -- ---- an open face is changed in its hat, and its keys with it
   module _ (face : ℕ) (o : OpenFace) (seen : at face faces ≡ Some o) where
@@ -231,3 +267,8 @@ module _ (faces : List (ℕ × OpenFace)) (hats : List (ℕ × HatState)) (names
   marked_tied m set =
       face_tied faces hats names t face o seen (marked m set) names t.names_sorted (λ q. refl) (λ q e. refl)
       (λ h f h_at f_at holds. marked_holds o m set f (face_queryables face names) holds)
+
+  pub noded_tied : (ids : NodeIds) → Tied faces (change_hat o.region (noded face ids) hats) names
+  noded_tied ids =
+      face_tied faces hats names t face o seen (λ f. record f { nodes = ids }) names t.names_sorted (λ q. refl) (λ q e. refl)
+      (λ h f h_at f_at holds. record { copy = record { zid = holds.copy.zid; mode = holds.copy.mode; remote_bound = holds.copy.remote_bound }; same = holds.same; sorted = holds.sorted })

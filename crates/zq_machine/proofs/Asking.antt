@@ -35,7 +35,7 @@ use Rattle.zq_machine.specs.Messages.{TextMessage, text_final}
 use Rattle.zq_machine.specs.Writing.{write}
 use Rattle.zq_machine.specs.Selecting.{full_text, select, target_of}
 use Rattle.zq_machine.specs.State.{Core, State, opening_state}
-use Rattle.zq_machine.specs.TextCalls.{TextCall, opening, closing, naming, unnaming, declaring, withdrawing, asking, replying, ending, reporting, passing, listing, finalizing, unbuilt, read, said as said_by_face}
+use Rattle.zq_machine.specs.TextCalls.{TextCall, opening, closing, naming, unnaming, declaring, withdrawing, asking, replying, ending, reporting, passing, listing, finalizing, announcing, retracting, networking, tabling, unbuilt, read, said as said_by_face}
 use Rattle.zq_machine.proofs.Lists.{all_append, all_filter, all_weaker}
 use Rattle.zq_machine.proofs.Granted.{all_beside, by_granted}
 use Rattle.zq_machine.proofs.Promises.{is_asking}
@@ -149,6 +149,10 @@ module _ (P : ℕ → FaceId → ℕ → ℕ → Type 0) where
   each_kept c (passing now) h all = each_let_go (is_due now) (timing_out (timeouts now c.queries) c.queries).records (each_timing_out (timeouts now c.queries) c.queries all)
   each_kept c (listing r t) h all = all
   each_kept c (finalizing face m set) h all = all
+  each_kept c (announcing face sd i node) h all = all
+  each_kept c (retracting face sd node) h all = all
+  each_kept c (networking r net) h all = all
+  each_kept c (tabling face ids) h all = all
   each_kept c unbuilt h all = all
 
 -- ---- what is handed
@@ -206,6 +210,10 @@ module _ (asked : List Final) (names : NamingState) where
       (finals_handed (passing_finals now c.queries) (finals_let_go (IsAsked asked) (is_due now) z.closed z.records (each_timing_out (IsAsked asked) ts c.queries all)))
   all_handed c (listing r t) h all = tt
   all_handed c (finalizing face m set) h all = tt
+  all_handed c (announcing face sd i node) h all = tt
+  all_handed c (retracting face sd node) h all = tt
+  all_handed c (networking r net) h all = tt
+  all_handed c (tabling face ids) h all = tt
   all_handed c unbuilt h all = tt
 
 -- ---- numbers of requests
@@ -232,6 +240,10 @@ same_count c (reporting reply) h = refl
 same_count c (passing now) h = ap (λ (z : QueryState). z.requests) (rest_stays (timeouts now c.queries) c.queries)
 same_count c (listing r t) h = refl
 same_count c (finalizing face m set) h = refl
+same_count c (announcing face sd i node) h = refl
+same_count c (retracting face sd node) h = refl
+same_count c (networking r net) h = refl
+same_count c (tabling face ids) h = refl
 same_count c unbuilt h = refl
 
 -- ---- one call

@@ -1,19 +1,23 @@
 -- A call with its texts moved is refused for the cause that refuses the call.
-use Rattle.std.proofs.Common.{◌≡◌, ◌∙◌, refl, ap, ℕ, false, not, List, [], ◌∷◌, Option, Some, None}
-use Rattle.std.specs.Prelude.{◌==◌, ◌||◌, option_map}
+use Rattle.std.proofs.Common.{◌≡◌, ◌∙◌, refl, ap, ℕ, true, false, not, List, [], ◌∷◌, Option, Some, None}
+use Rattle.std.specs.Prelude.{◌==◌, ◌||◌, is_none, option_map}
+use Rattle.std.specs.Option.{option_and_then, option_map_or}
 use Rattle.zq_message.specs.declared.message.FaceId.{FaceId}
 use Rattle.zq_hat.specs.declared.types.FinalMark.TheVariants as mark
 use Rattle.zq_hat.specs.Moved.{Keeps}
+use Rattle.zq_hat.specs.Routers.{source_at}
+use Rattle.zq_trees.specs.Nets.{is_zid}
 use Rattle.zq_tables.specs.declared.said.Said.TheVariants as said
 use Rattle.zq_tables.specs.Naming.{remaps}
 use Rattle.zq_query.specs.Asking.{lacks_number}
 use Rattle.zq_query.specs.Records.{is_pending, lacks_reply}
 use Rattle.zq_machine.specs.declared.call.Refusal.TheVariants as refusal
 use Rattle.zq_machine.specs.State.{Core, hat_of, has_declared_in, clashes_in}
-use Rattle.zq_machine.specs.TextCalls.{TextCall, opening, closing, naming, unnaming, declaring, withdrawing, asking, replying, ending, reporting, passing, listing, finalizing, unbuilt}
-use Rattle.zq_machine.specs.Deciding.{first_of, clashes, has_declared, lacks_face_number, unknown_face, refusal_of}
+use Rattle.zq_machine.specs.TextCalls.{TextCall, opening, closing, naming, unnaming, declaring, withdrawing, asking, replying, ending, reporting, passing, listing, finalizing, announcing, retracting, networking, tabling, unbuilt}
+use Rattle.zq_machine.specs.Deciding.{entry_by, entry_of, first_of, clashes, has_declared, lacks_face_number, lacks_router, unknown_face, refusal_of}
 use Rattle.zq_machine.specs.Moved.{move_core, move_text}
 use Rattle.zq_machine.proofs.HatsMoved.{declared_moved, clashes_moved, has_moved, full_moved, own_found}
+use Rattle.zq_machine.proofs.RoutersMoved.{entry_moved, router_moved}
 use Rattle.zq_machine.proofs.SelectionMoved.{targets_moved}
 
 module _ (φ : List ℕ → List ℕ) (keeps : Keeps φ) (c : Core) where
@@ -26,6 +30,12 @@ module _ (φ : List ℕ → List ℕ) (keeps : Keeps φ) (c : Core) where
 
   known_moved : (face : FaceId) (id : ℕ) → has_declared face id (move_core φ c) ≡ has_declared face id c
   known_moved face id = ap (has_declared_in face.0 id) (own_found φ c face.0) ∙ declared_moved φ face.0 id (hat_of face.0 c)
+
+  lacks_moved : (face : FaceId) (node : ℕ) → lacks_router face node (move_core φ c) ≡ lacks_router face node c
+  lacks_moved face node = ap (λ o. option_map_or (is_zid c.config.zid) o true) (ap (option_and_then (source_at face.0 node)) (own_found φ c face.0) ∙ router_moved φ face.0 node (hat_of face.0 c))
+
+  entry_there : (face : FaceId) (node : ℕ) (text : List ℕ) → entry_of face node (φ text) (move_core φ c) ≡ entry_of face node text c
+  entry_there face node text = ap (option_and_then (entry_by face.0 node (φ text))) (own_found φ c face.0) ∙ entry_moved φ keeps face.0 node text (hat_of face.0 c)
 
   pub refused_alike : (t : TextCall) → refusal_of (move_core φ c) (move_text φ t) ≡ refusal_of c t
   refused_alike (opening o) = λ j. first_of ((not (has_moved φ c o.region j), refusal.UnknownRegion) ∷ (full_moved φ c o.region j, refusal.UpstreamInUse) ∷ (lacks_face_number c, refusal.NoFreeId) ∷ [])
@@ -53,4 +63,15 @@ module _ (φ : List ℕ → List ℕ) (keeps : Keeps φ) (c : Core) where
   refused_alike (listing r table) = ap (λ b. first_of ((not b, refusal.UnknownRegion) ∷ [])) (has_moved φ c r)
   refused_alike (finalizing face mark.Initial set) = refl
   refused_alike (finalizing face (mark.Key key) set) = ap (λ b. first_of (unknown_face face c ∷ (not b, refusal.InvalidKeyExpr) ∷ [])) (keeps.key key)
+  refused_alike (announcing face said.Unscoped info node) = refl
+  refused_alike (announcing face said.Empty info node) = refl
+  refused_alike (announcing face (said.Full text) info node) =
+      λ j. first_of (unknown_face face c ∷ (false, refusal.UnknownScope) ∷ (not (keeps.key text j), refusal.InvalidKeyExpr) ∷ (lacks_moved face node j, refusal.UnknownRouter) ∷ [])
+  refused_alike (retracting face said.Unscoped node) = refl
+  refused_alike (retracting face said.Empty node) = refl
+  refused_alike (retracting face (said.Full text) node) =
+      λ j. first_of (unknown_face face c ∷ (false, refusal.UnknownScope) ∷ (not (keeps.key text j), refusal.InvalidKeyExpr) ∷ (lacks_moved face node j, refusal.UnknownRouter)
+      ∷ (is_none (entry_there face node text j), refusal.UnknownId) ∷ [])
+  refused_alike (networking r net) = ap (λ b. first_of ((not b, refusal.UnknownRegion) ∷ [])) (has_moved φ c r)
+  refused_alike (tabling face ids) = refl
   refused_alike unbuilt = refl

@@ -13,7 +13,7 @@ use Rattle.zq_machine.specs.Asked.{closes}
 use Rattle.zq_machine.specs.Deciding.{accepted, after_replied, decide, is_accepted}
 use Rattle.zq_machine.specs.Machine.{accepted_state, after, settle, step}
 use Rattle.zq_machine.specs.State.{Core, State}
-use Rattle.zq_machine.specs.TextCalls.{TextCall, opening, closing, naming, unnaming, declaring, withdrawing, asking, replying, ending, reporting, passing, listing, finalizing, unbuilt, read}
+use Rattle.zq_machine.specs.TextCalls.{TextCall, opening, closing, naming, unnaming, declaring, withdrawing, asking, replying, ending, reporting, passing, listing, finalizing, announcing, retracting, networking, tabling, unbuilt, read}
 use Rattle.zq_machine.proofs.Changing.{number_test}
 use Rattle.zq_machine.proofs.Finals.{put_closed, timing_closed}
 use Rattle.zq_machine.proofs.Granted.{by_granted}
@@ -34,6 +34,10 @@ is_closing (reporting reply) = false
 is_closing (passing now) = false
 is_closing (listing r t) = false
 is_closing (finalizing face m set) = false
+is_closing (announcing face sd i node) = false
+is_closing (retracting face sd node) = false
+is_closing (networking r net) = false
+is_closing (tabling face ids) = false
 is_closing unbuilt = false
 
 replied_closed : (q : QueryState) (o : Option ReplyTo) → (after_replied o q).closed ≡ q.closed
@@ -55,6 +59,10 @@ same_closed c (reporting reply) h = refl
 same_closed c (passing now) h = timing_closed now c.queries
 same_closed c (listing r t) h = refl
 same_closed c (finalizing face m set) h = refl
+same_closed c (announcing face sd i node) h = refl
+same_closed c (retracting face sd node) h = refl
+same_closed c (networking r net) h = refl
+same_closed c (tabling face ids) h = refl
 same_closed c unbuilt h = refl
 
 module _ (s : State) (face : ℕ) where

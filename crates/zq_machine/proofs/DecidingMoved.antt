@@ -15,6 +15,7 @@ use Rattle.zq_hat.specs.declared.types.QueryTargetQabl.{QueryTargetQabl}
 use Rattle.zq_hat.specs.Kept.{registered, unregistered, without_face}
 use Rattle.zq_hat.specs.Marks.{finalized}
 use Rattle.zq_hat.specs.Moved.{Keeps, move_mark, move_offer}
+use Rattle.zq_hat.specs.Routers.{networked, noded}
 use Rattle.zq_query.specs.declared.records.Final.{Final}
 use Rattle.zq_query.specs.declared.records.ReplyTo.{ReplyTo}
 use Rattle.zq_query.specs.declared.records.Timeout.{Timeout}
@@ -29,10 +30,11 @@ use Rattle.zq_machine.specs.Messages.{Decided, text_final}
 use Rattle.zq_machine.specs.declared.face.OpenFace.{OpenFace}
 use Rattle.zq_machine.specs.State.{Core, at, is_open, joined}
 use Rattle.zq_machine.specs.Selecting.{select_for, select}
-use Rattle.zq_machine.specs.TextCalls.{TextCall, opening, closing, naming, unnaming, declaring, withdrawing, asking, replying, ending, reporting, passing, listing, finalizing, unbuilt}
-use Rattle.zq_machine.specs.Deciding.{refusal_of, handed_request, handed_requests, handed_reply, timed_out, handed_timeouts, passing_finals, replied, granted, messages_of, outcome_of, told_of, answered, decide, is_accepted, deadline, with_queries, with_open, seat, accepted}
+use Rattle.zq_machine.specs.TextCalls.{TextCall, opening, closing, naming, unnaming, declaring, withdrawing, asking, replying, ending, reporting, passing, listing, finalizing, announcing, retracting, networking, tabling, unbuilt}
+use Rattle.zq_machine.specs.Deciding.{refusal_of, handed_request, handed_requests, handed_reply, timed_out, handed_timeouts, passing_finals, replied, granted, messages_of, outcome_of, told_of, answered, decide, is_accepted, deadline, with_queries, with_open, seat, accepted, announced_by, retracted_by}
 use Rattle.zq_machine.specs.Moved.{move_said, move_text, move_core, move_suffix, move_message, move_telling, move_decided, after_text, DecidesAlike}
 use Rattle.zq_machine.proofs.HatsMoved.{finalized_moved, registered_moved, unregistered_moved, left_moved, joined_moved, hat_changed, own_changed}
+use Rattle.zq_machine.proofs.RoutersMoved.{announced_moved, networked_moved, noded_moved, retracted_moved}
 use Rattle.zq_machine.proofs.SelectionMoved.{select_moved, targets_moved}
 use Rattle.zq_machine.proofs.CausesMoved.{refused_alike}
 
@@ -120,6 +122,10 @@ module _ (φ : List ℕ → List ℕ) where
     messages_moved (passing now) e = passing_moved c.faces (timeouts now c.queries) (passing_finals now c.queries)
     messages_moved (listing r table) e = refl
     messages_moved (finalizing face m set) e = refl
+    messages_moved (announcing face sd i node) e = refl
+    messages_moved (retracting face sd node) e = refl
+    messages_moved (networking r net) e = refl
+    messages_moved (tabling face ids) e = refl
     messages_moved unbuilt e = refl
 
     outcome_moved : (t : TextCall) → outcome_of (move_core φ c) (move_text φ t) ≡ outcome_of c t
@@ -162,6 +168,16 @@ module _ (φ : List ℕ → List ℕ) where
     accepted_moved (passing now) e = refl
     accepted_moved (listing r table) e = refl
     accepted_moved (finalizing face m set) e = own_changed φ c (finalized face.0 (move_mark φ m) set) (finalized face.0 m set) (finalized_moved φ keeps face.0 m set) face.0
+    accepted_moved (announcing face said.Unscoped info node) e = absurd (second_holds (not (is_open face.0 c)) _ _ e)
+    accepted_moved (announcing face said.Empty info node) e = absurd (second_holds (not (is_open face.0 c)) _ _ e)
+    accepted_moved (announcing face (said.Full text) info node) e =
+        own_changed φ c (announced_by face.0 node (φ text) info) (announced_by face.0 node text info) (announced_moved φ keeps face.0 node text info) face.0
+    accepted_moved (retracting face said.Unscoped node) e = absurd (second_holds (not (is_open face.0 c)) _ _ e)
+    accepted_moved (retracting face said.Empty node) e = absurd (second_holds (not (is_open face.0 c)) _ _ e)
+    accepted_moved (retracting face (said.Full text) node) e =
+        own_changed φ c (retracted_by face.0 node (φ text)) (retracted_by face.0 node text) (retracted_moved φ keeps face.0 node text) face.0
+    accepted_moved (networking r net) e = ap (λ l. record (move_core φ c) { hats = l }) (hat_changed φ c.hats r (networked net) (networked net) (networked_moved φ net))
+    accepted_moved (tabling face ids) e = own_changed φ c (noded face.0 ids) (noded face.0 ids) (noded_moved φ face.0 ids) face.0
     accepted_moved unbuilt e = refl
 
     change_by : (t : TextCall) → refusal_of c t ≡ None → (b : Bool) → cond b (accepted (move_core φ c) (move_text φ t)) (move_core φ c) ≡ move_core φ (cond b (accepted c t) c)

@@ -25,6 +25,7 @@ use Rattle.zq_machine.proofs.Agreed.{InOrder, run_in_order}
 use Rattle.zq_machine.proofs.Changing.{hat_found, region_there}
 use Rattle.zq_machine.proofs.Frame.{run_config}
 use Rattle.zq_machine.proofs.Hats.{IsIndex, bare}
+use Rattle.zq_machine.proofs.Unrouted.{routed}
 use Rattle.zq_machine.proofs.Standing.{its_hat, its_kept, stands_so}
 use Rattle.zq_key.proofs.Lookups.{same_entries}
 
@@ -100,16 +101,17 @@ module _ (config : Settings) (s z : State) (i : InOrder config s) (l : InOrder c
       by (inl e) (inr x) = same_in k g h g_at h_at x
 
   same_hat : (k : ℕ) → at k s.core.hats ≡ at k z.core.hats
-  same_hat k = by (at k s.core.hats) (at k z.core.hats) refl refl (i.hats.shape k ∙ sym (l.hats.shape k))
+  same_hat k = by (at k s.core.hats) (at k z.core.hats) refl refl (i.hats.shape k ∙ sym (l.hats.shape k)) (i.unrouted k ∙ sym (l.unrouted k))
     where
-      by : (x y : Option HatState) → at k s.core.hats ≡ x → at k z.core.hats ≡ y → option_map bare x ≡ option_map bare y → x ≡ y
-      by None None e f b = refl
-      by None (Some h) e f b = absurd (let gap : None ≡ Some (bare h) = b in cc)
-      by (Some g) None e f b = absurd (let gap : Some (bare g) ≡ None = b in cc)
-      by (Some g) (Some h) e f b =
+      by : (x y : Option HatState) → at k s.core.hats ≡ x → at k z.core.hats ≡ y → option_map bare x ≡ option_map bare y → option_map routed x ≡ option_map routed y → x ≡ y
+      by None None e f b u = refl
+      by None (Some h) e f b u = absurd (let gap : None ≡ Some (bare h) = b in cc)
+      by (Some g) None e f b u = absurd (let gap : Some (bare g) ≡ None = b in cc)
+      by (Some g) (Some h) e f b u =
           let shape : bare g ≡ bare h = same_Some _ _ b in
           let kept : g.faces ≡ h.faces = same_kept k g h e f in
-          λ j. Some (record (shape j) { faces = kept j })
+          let same : routed g ≡ routed h = same_Some _ _ u in
+          λ j. Some (record (shape j) { faces = kept j; entries = (same j).entries; network = (same j).network })
 
   same_hats : s.core.hats ≡ z.core.hats
   same_hats = same_entries nat_cmp_total exact_unsigned s.core.hats z.core.hats i.hats.sorted l.hats.sorted same_hat

@@ -34,7 +34,7 @@ use Rattle.zq_machine.specs.declared.face.OpenFace.{OpenFace}
 use Rattle.zq_machine.specs.Configs.{Settings}
 use Rattle.zq_machine.specs.State.{State, Core, at, is_open, opening_state}
 use Rattle.zq_machine.specs.Selecting.{select, full_text, target_of}
-use Rattle.zq_machine.specs.TextCalls.{TextCall, opening, closing, naming, unnaming, declaring, withdrawing, asking, replying, ending, reporting, passing, listing, finalizing, unbuilt, read}
+use Rattle.zq_machine.specs.TextCalls.{TextCall, opening, closing, naming, unnaming, declaring, withdrawing, asking, replying, ending, reporting, passing, listing, finalizing, announcing, retracting, networking, tabling, unbuilt, read}
 use Rattle.zq_machine.specs.Deciding.{timed_out, causes, refusal_of, granted, accepted, after_replied, deadline, handed_reply, handed_request, handed_requests, handed_replies, handed_timeouts, opened, passing_finals, replied}
 use Rattle.zq_machine.specs.Machine.{after, state_after, step}
 use Rattle.zq_machine.specs.Messages.{text_final}
@@ -146,13 +146,17 @@ granted_sound c (reporting reply) h s = same_closed c.faces c.next_face c.querie
 granted_sound c (passing now) h s = same_closed c.faces c.next_face c.queries _ s (timing_closed now c.queries) (poll_none_over now c.queries)
 granted_sound c (listing r t) h s = s
 granted_sound c (finalizing face m set) h s = s
+granted_sound c (announcing face sd i node) h s = s
+granted_sound c (retracting face sd node) h s = s
+granted_sound c (networking r net) h s = s
+granted_sound c (tabling face ids) h s = s
 granted_sound c unbuilt h s = s
 
 abbrev pub IsSound : State → Type 0
 IsSound s = Sound s.core.faces s.core.next_face s.core.queries
 
 pub after_sound : (s : State) (c : Call) → IsSound s → IsSound (after s c)
-after_sound = after_kept IsSound (λ s t. granted_sound s.core t) (λ core face text id names i. i)
+after_sound = after_kept IsSound (λ s c. granted_sound s.core (read s c)) (λ core face text id names i. i)
 
 pub none_sorted : IsStrictlySortedBy nat_cmp []
 unfolding IsStrictlySortedBy
@@ -168,7 +172,7 @@ opening_sound config = record {
 }
 
 pub run_sound : (cs : List Call) (s : State) → IsSound s → IsSound (state_after s cs)
-run_sound = always IsSound (λ s t. granted_sound s.core t) (λ core face text id names i. i)
+run_sound = always IsSound (λ s c. granted_sound s.core (read s c)) (λ core face text id names i. i)
 
 -- ---- how many finals messages are
 module _ (n : ℕ) (names : NamingState) where
@@ -272,6 +276,10 @@ granted_balance n s (passing now) h i =
     omega (arith, told, kept, same)
 granted_balance n s (listing r t) h i = omega arith
 granted_balance n s (finalizing face m set) h i = omega arith
+granted_balance n s (announcing face sd j node) h i = omega arith
+granted_balance n s (retracting face sd node) h i = omega arith
+granted_balance n s (networking r net) h i = omega arith
+granted_balance n s (tabling face ids) h i = omega arith
 granted_balance n s unbuilt h i = omega arith
 
 pub call_balance : (n : ℕ) (s : State) (c : Call) → IsSound s → finals_of n (step s c) + to_come (after s c).core.queries.closed n (after s c).core.queries ≡ to_come (after s c).core.queries.closed n s.core.queries

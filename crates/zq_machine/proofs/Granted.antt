@@ -16,7 +16,7 @@ use Rattle.zq_machine.specs.Deciding.{Cause, accepted, answered, causes, first_o
 use Rattle.zq_machine.specs.Machine.{accepted_state, answer, refused_step, settle}
 use Rattle.zq_machine.specs.Messages.{Decided}
 use Rattle.zq_machine.specs.State.{Core, State}
-use Rattle.zq_machine.specs.TextCalls.{TextCall, opening, closing, naming, unnaming, declaring, withdrawing, asking, replying, ending, reporting, passing, listing, finalizing, unbuilt}
+use Rattle.zq_machine.specs.TextCalls.{TextCall, opening, closing, naming, unnaming, declaring, withdrawing, asking, replying, ending, reporting, passing, listing, finalizing, announcing, retracting, networking, tabling, unbuilt}
 use Rattle.zq_machine.specs.Writing.{Told, tell, write}
 use Rattle.zq_machine.proofs.Lists.{all_append}
 use Rattle.zq_machine.proofs.Replies.{next-pending}
@@ -59,6 +59,10 @@ granted_is_accepted c (ending face rid) h = refl
 granted_is_accepted c (reporting reply) h = refl
 granted_is_accepted c (listing r t) h = refl
 granted_is_accepted c (finalizing face m set) h = refl
+granted_is_accepted c (announcing face sd i node) h = refl
+granted_is_accepted c (retracting face sd node) h = refl
+granted_is_accepted c (networking r net) h = refl
+granted_is_accepted c (tabling face ids) h = refl
 granted_is_accepted c unbuilt h = refl
 
 -- ---- each call

@@ -31,11 +31,11 @@ module _ (φ : List ℕ → List ℕ) where
   abbrev moved_declaration : Declaration → Declaration
   moved_declaration d = (move_declared φ (0, d)).1
 
-  abbrev moved_face : FaceState → FaceState
+  abbrev pub moved_face : FaceState → FaceState
   moved_face f = (move_face φ (0, f)).1
 
   -- ---- questions
-  face_found : (n : ℕ) (s : HatState) → face_at n (move_hat φ s) ≡ option_map moved_face (face_at n s)
+  pub face_found : (n : ℕ) (s : HatState) → face_at n (move_hat φ s) ≡ option_map moved_face (face_at n s)
   face_found n s = lookup-map_values moved_face (is_at (nat_cmp n)) s.faces
 
   declaration_by : (id : ℕ) (o : Option FaceState) → option_and_then (declaration id) (option_map moved_face o) ≡ option_map moved_declaration (option_and_then (declaration id) o)
@@ -67,7 +67,7 @@ module _ (φ : List ℕ → List ℕ) where
   full_by (Some s) = ap (λ b. is_upstream (strategy_at s) && b) (any_moved s.faces)
 
   -- ---- changes
-  face_changed : (n : ℕ) (g h : FaceState → FaceState) → ((f : FaceState) → g (moved_face f) ≡ moved_face (h f)) → (s : HatState) → change_face n g (move_hat φ s) ≡ move_hat φ (change_face n h s)
+  pub face_changed : (n : ℕ) (g h : FaceState → FaceState) → ((f : FaceState) → g (moved_face f) ≡ moved_face (h f)) → (s : HatState) → change_face n g (move_hat φ s) ≡ move_hat φ (change_face n h s)
   face_changed n g h same s = ap (λ l. record (move_hat φ s) { faces = l }) (change-map moved_face (is_at (nat_cmp n)) g h same s.faces)
 
   declare_moved : (id : ℕ) (key : List ℕ) (i : QueryableInfoType) (f : FaceState) → declare id (φ key) i (moved_face f) ≡ moved_face (declare id key i f)

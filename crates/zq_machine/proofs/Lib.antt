@@ -26,6 +26,9 @@ pub mod Agreed
 pub mod Numbered
 pub mod NewEntries
 pub mod Hats
+pub mod Unrouted
+pub mod Owning
+pub mod RoutersMoved
 pub mod Targets
 pub mod Always
 pub mod Counting

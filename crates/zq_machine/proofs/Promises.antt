@@ -31,7 +31,7 @@ use Rattle.zq_machine.specs.declared.call.Step.{Step}
 use Rattle.zq_machine.specs.declared.face.OpenFace.{OpenFace}
 use Rattle.zq_machine.specs.State.{State, Core, at}
 use Rattle.zq_machine.specs.Selecting.{select, select_for, full_text, target_of}
-use Rattle.zq_machine.specs.TextCalls.{TextCall, opening, closing, naming, unnaming, declaring, withdrawing, asking, replying, ending, reporting, passing, listing, finalizing, unbuilt, read, said as said_by_face}
+use Rattle.zq_machine.specs.TextCalls.{TextCall, opening, closing, naming, unnaming, declaring, withdrawing, asking, replying, ending, reporting, passing, listing, finalizing, announcing, retracting, networking, tabling, unbuilt, read, said as said_by_face}
 use Rattle.zq_machine.specs.Deciding.{replied_outcome, passing_finals, causes, refusal_of, granted, answered, is_accepted, targets, handed_reply, timed_out, handed_request, handed_requests, handed_replies, handed_timeouts, replied}
 use Rattle.zq_machine.specs.Machine.{answer, step}
 use Rattle.zq_machine.specs.Messages.{Decided, text_final}
@@ -174,6 +174,10 @@ is_asking (reporting reply) = false
 is_asking (passing now) = false
 is_asking (listing r t) = false
 is_asking (finalizing face m set) = false
+is_asking (announcing face sd i node) = false
+is_asking (retracting face sd node) = false
+is_asking (networking r net) = false
+is_asking (tabling face ids) = false
 is_asking unbuilt = false
 
 pub granted_asks : (names : NamingState) (c : Core) (t : TextCall) → is_asking t ≡ false → list_any asks (write names (granted c t).messages) ≡ false
@@ -193,6 +197,10 @@ granted_asks names c (passing now) h =
     ∙ any_both asks (write names (handed_timeouts c.faces (timeouts now c.queries))) (write names (map text_final (passing_finals now c.queries))) (no_timeouts_ask names c.faces (timeouts now c.queries)) (no_finals_ask names (passing_finals now c.queries))
 granted_asks names c (listing r t) h = refl
 granted_asks names c (finalizing face m set) h = refl
+granted_asks names c (announcing face sd i node) h = refl
+granted_asks names c (retracting face sd node) h = refl
+granted_asks names c (networking r net) h = refl
+granted_asks names c (tabling face ids) h = refl
 granted_asks names c unbuilt h = refl
 
 quiet_asks : (s : State) (t : TextCall) → is_asking t ≡ false → list_any asks (answer s t).handed ≡ false
@@ -239,6 +247,10 @@ is_replying (ending face rid) = false
 is_replying (reporting reply) = false
 is_replying (listing r t) = false
 is_replying (finalizing face m set) = false
+is_replying (announcing face sd i node) = false
+is_replying (retracting face sd node) = false
+is_replying (networking r net) = false
+is_replying (tabling face ids) = false
 is_replying unbuilt = false
 
 granted_replies : (names : NamingState) (c : Core) (t : TextCall) → is_replying t ≡ false → list_any replies_to (write names (granted c t).messages) ≡ false
@@ -256,6 +268,10 @@ granted_replies names c (ending face rid) h = no_finals_reply names (finals_afte
 granted_replies names c (reporting reply) h = no_finals_reply names (finals_landed reply c.queries.closed c.queries.records)
 granted_replies names c (listing r t) h = refl
 granted_replies names c (finalizing face m set) h = refl
+granted_replies names c (announcing face sd i node) h = refl
+granted_replies names c (retracting face sd node) h = refl
+granted_replies names c (networking r net) h = refl
+granted_replies names c (tabling face ids) h = refl
 granted_replies names c unbuilt h = refl
 
 quiet_replies : (s : State) (t : TextCall) → is_replying t ≡ false → list_any replies_to (answer s t).handed ≡ false

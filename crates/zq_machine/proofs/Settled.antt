@@ -15,7 +15,7 @@ use Rattle.zq_machine.specs.declared.call.Call.{Call}
 use Rattle.zq_machine.specs.Configs.{Settings}
 use Rattle.zq_machine.specs.State.{State, opening_state}
 use Rattle.zq_machine.specs.Selecting.{full_text, select, target_of}
-use Rattle.zq_machine.specs.TextCalls.{TextCall, opening, closing, naming, unnaming, declaring, withdrawing, asking, replying, ending, reporting, passing, listing, finalizing, unbuilt, read}
+use Rattle.zq_machine.specs.TextCalls.{TextCall, opening, closing, naming, unnaming, declaring, withdrawing, asking, replying, ending, reporting, passing, listing, finalizing, announcing, retracting, networking, tabling, unbuilt, read}
 use Rattle.zq_machine.specs.Deciding.{granted, accepted, after_replied, deadline, passing_finals}
 use Rattle.zq_machine.specs.Machine.{after, state_after, step}
 use Rattle.zq_machine.specs.Writing.{write}
@@ -110,6 +110,10 @@ granted_numbers n s (passing now) =
     omega (arith, told, kept, same)
 granted_numbers n s (listing r t) = omega arith
 granted_numbers n s (finalizing face m set) = omega arith
+granted_numbers n s (announcing face sd i node) = omega arith
+granted_numbers n s (retracting face sd node) = omega arith
+granted_numbers n s (networking r net) = omega arith
+granted_numbers n s (tabling face ids) = omega arith
 granted_numbers n s unbuilt = omega arith
 
 call_numbers : (n : ℕ) (s : State) (c : Call) → finals_of n (step s c) + numbers n (after s c).core.queries ≤ numbers n s.core.queries

@@ -38,7 +38,7 @@ use Rattle.zq_machine.specs.Configs.{Settings}
 use Rattle.zq_machine.specs.Deciding.{accepted, after_replied, deadline, opened}
 use Rattle.zq_machine.specs.Selecting.{full_text, passes, route_for, says_key, select, select_for, target_of, with_part}
 use Rattle.zq_machine.specs.State.{Core, at}
-use Rattle.zq_machine.specs.TextCalls.{TextCall, opening, closing, naming, unnaming, declaring, withdrawing, asking, replying, ending, reporting, passing, listing, finalizing, unbuilt}
+use Rattle.zq_machine.specs.TextCalls.{TextCall, opening, closing, naming, unnaming, declaring, withdrawing, asking, replying, ending, reporting, passing, listing, finalizing, announcing, retracting, networking, tabling, unbuilt}
 use Rattle.zq_machine.proofs.Agreeing.{Tied}
 use Rattle.zq_machine.proofs.Changing.{hat_found, number_test}
 use Rattle.zq_machine.proofs.Hats.{AreHatsOf, IsIndex}
@@ -205,4 +205,8 @@ module _ (config : Settings) (c : Core) (names : NamingState) (t : Tied c.faces 
       let_go_aims c.faces z.records (timing_aims c.faces (timeouts now c.queries) c.queries aims) (is_due now)
   accepted_aims (listing r table) = aims
   accepted_aims (finalizing face m set) = aims
+  accepted_aims (announcing face sd i node) = aims
+  accepted_aims (retracting face sd node) = aims
+  accepted_aims (networking r net) = aims
+  accepted_aims (tabling face ids) = aims
   accepted_aims unbuilt = aims

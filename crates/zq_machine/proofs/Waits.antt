@@ -25,7 +25,7 @@ use Rattle.zq_machine.specs.declared.call.Call.TheVariants as call
 use Rattle.zq_machine.specs.declared.face.OpenFace.{OpenFace}
 use Rattle.zq_machine.specs.State.{State, Core}
 use Rattle.zq_machine.specs.Selecting.{select, full_text, target_of}
-use Rattle.zq_machine.specs.TextCalls.{TextCall, opening, closing, naming, unnaming, declaring, withdrawing, asking, replying, ending, reporting, passing, listing, finalizing, unbuilt, read}
+use Rattle.zq_machine.specs.TextCalls.{TextCall, opening, closing, naming, unnaming, declaring, withdrawing, asking, replying, ending, reporting, passing, listing, finalizing, announcing, retracting, networking, tabling, unbuilt, read}
 use Rattle.zq_machine.specs.Deciding.{granted, is_accepted, accepted, after_replied, deadline, handed_reply, timed_out, handed_request, handed_requests, handed_replies, handed_timeouts, passing_finals, replied}
 use Rattle.zq_machine.specs.Machine.{answer, settle, step, after}
 use Rattle.zq_machine.specs.Messages.{text_final}
@@ -50,6 +50,10 @@ ended (replying face s r) e = false
 ended (reporting reply) e = false
 ended (listing r t) e = false
 ended (finalizing face m set) e = false
+ended (announcing face sd i node) e = false
+ended (retracting face sd node) e = false
+ended (networking r net) e = false
+ended (tabling face ids) e = false
 ended unbuilt e = false
 
 landed : TextCall → ℕ → Bool
@@ -66,6 +70,10 @@ landed (ending face rid) k = false
 landed (passing now) k = false
 landed (listing r t) k = false
 landed (finalizing face m set) k = false
+landed (announcing face sd i node) k = false
+landed (retracting face sd node) k = false
+landed (networking r net) k = false
+landed (tabling face ids) k = false
 landed unbuilt k = false
 
 moment_of : Core → TextCall → ℕ
@@ -82,6 +90,10 @@ moment_of c (reporting reply) = 0
 moment_of c (passing now) = 0
 moment_of c (listing r t) = 0
 moment_of c (finalizing face m set) = 0
+moment_of c (announcing face sd i node) = 0
+moment_of c (retracting face sd node) = 0
+moment_of c (networking r net) = 0
+moment_of c (tabling face ids) = 0
 moment_of c unbuilt = 0
 
 -- ---- messages that give no entry, or carry no reply
@@ -239,6 +251,10 @@ granted_waits s (declaring face id sd i n) = quiet 0 s.core.queries.records
 granted_waits s (withdrawing face id) = quiet 0 s.core.queries.records
 granted_waits s (listing r t) = quiet 0 s.core.queries.records
 granted_waits s (finalizing face m set) = quiet 0 s.core.queries.records
+granted_waits s (announcing face sd i node) = quiet 0 s.core.queries.records
+granted_waits s (retracting face sd node) = quiet 0 s.core.queries.records
+granted_waits s (networking r net) = quiet 0 s.core.queries.records
+granted_waits s (tabling face ids) = quiet 0 s.core.queries.records
 granted_waits s unbuilt = quiet 0 s.core.queries.records
 granted_waits s (closing face) = let_go 0 s (at_face face.0) (closing_finals face.0 s.core.queries)
 granted_waits s (ending face rid) = let_go 0 s (is_entry face.0 rid) (finals_after (is_entry face.0 rid) s.core.queries.closed s.core.queries.records)

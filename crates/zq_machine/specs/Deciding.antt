@@ -1,11 +1,13 @@
 -- What a call is answered, over texts: the first cause that refuses it, or what it hands and changes.
 use Rattle.std.specs.Prelude.{codes, ℕ, ◌+◌, ◌-◌, ◌^◌, ◌==◌, min, Bool, true, false, not, List, [], ◌∷◌, ◌++◌, map, Option, Some, None, if◌then◌else◌, unwrap_or, is_none}
 use Rattle.std.specs.List.{cons_option, flat_map}
-use Rattle.std.specs.Option.{option_map}
+use Rattle.std.specs.Option.{option_and_then, option_map, option_map_or}
 use Rattle.std.specs.Ordering.{nat_cmp}
 use Rattle.std.specs.BTreeMap.{is_at, insert_entry}
 use Rattle.std.specs.Map.{remove_entry}
 use Rattle.zq_message.specs.declared.message.FaceId.{FaceId}
+use Rattle.zq_message.specs.declared.message.QueryableInfoType.{QueryableInfoType}
+use Rattle.zq_message.specs.declared.message.Zid.{Zid}
 use Rattle.zq_message.specs.declared.message.ReplyBody.TheVariants as body
 use Rattle.zq_message.specs.declared.message.Request.{Request}
 use Rattle.zq_message.specs.declared.message.Response.{Response}
@@ -17,6 +19,9 @@ use Rattle.zq_hat.specs.declared.types.FinalMark.{FinalMark}
 use Rattle.zq_hat.specs.declared.types.FinalMark.TheVariants as mark
 use Rattle.zq_hat.specs.Kept.{registered, unregistered, without_face}
 use Rattle.zq_hat.specs.Marks.{finalized}
+use Rattle.zq_hat.specs.Routers.{announced, entry_at, networked, noded, retracted, source_at}
+use Rattle.zq_hat.specs.State.{HatState}
+use Rattle.zq_trees.specs.Nets.{is_zid}
 use Rattle.zq_query.specs.declared.records.Final.{Final}
 use Rattle.zq_query.specs.declared.records.ReplyTo.{ReplyTo}
 use Rattle.zq_query.specs.declared.records.Timeout.{Timeout}
@@ -34,7 +39,7 @@ use Rattle.zq_machine.specs.declared.call.Refusal.TheVariants as refusal
 use Rattle.zq_machine.specs.Messages.{Decided, Telling, TextMessage, text_final, text_reply, text_request}
 use Rattle.zq_machine.specs.declared.face.OpenFace.{OpenFace}
 use Rattle.zq_machine.specs.State.{Core, State, is_open, has_hat, is_full_region, hat_of, has_declared_in, clashes_in, joined, change_hat, change_hat_of}
-use Rattle.zq_machine.specs.TextCalls.{TextCall, opening, closing, naming, unnaming, declaring, withdrawing, asking, replying, ending, reporting, passing, listing, finalizing, unbuilt}
+use Rattle.zq_machine.specs.TextCalls.{TextCall, opening, closing, naming, unnaming, declaring, withdrawing, asking, replying, ending, reporting, passing, listing, finalizing, announcing, retracting, networking, tabling, unbuilt}
 use Rattle.zq_machine.specs.Selecting.{select, target_of, zid_of, is_unscoped, says_key, says_key_or_nothing, full_text}
 
 -- ---- causes of a refusal
@@ -73,6 +78,22 @@ marks_key (mark.Key text) = is_key text
 abbrev pub unknown_face : FaceId → Core → Cause
 unknown_face face c = (not (is_open face.0 c), refusal.UnknownFace)
 
+-- the router that a node number of the face stands for
+abbrev pub router_by : FaceId → ℕ → Core → Option Zid
+router_by face node c = option_and_then (source_at face.0 node) (hat_of face.0 c)
+
+-- the number stands for no router, or for the gateway itself
+abbrev pub lacks_router : FaceId → ℕ → Core → Bool
+lacks_router face node c = option_map_or (is_zid c.config.zid) (router_by face node c) true
+
+-- a router's entry on a key in a region
+abbrev pub entry_by : ℕ → ℕ → List ℕ → HatState → Option QueryableInfoType
+entry_by face node key h = option_and_then (λ (z : Zid). entry_at z.0 key h) (source_at face node h)
+
+-- the entry on a key of the router that a node number of the face stands for
+abbrev pub entry_of : FaceId → ℕ → List ℕ → Core → Option QueryableInfoType
+entry_of face node key c = option_and_then (entry_by face.0 node key) (hat_of face.0 c)
+
 -- what may refuse a call, in order
 abbrev pub causes : Core → TextCall → List Cause
 causes c (opening o) = (not (has_hat o.region c), refusal.UnknownRegion) ∷ (is_full_region o.region c, refusal.UpstreamInUse) ∷ (lacks_face_number c, refusal.NoFreeId) ∷ []
@@ -94,6 +115,14 @@ causes c (reporting reply) = (not (is_in_flight reply c.queries.records), refusa
 causes c (passing now) = (lacks_replies (timeouts now c.queries) c.queries, refusal.NoFreeId) ∷ []
 causes c (listing r table) = (not (has_hat r c), refusal.UnknownRegion) ∷ []
 causes c (finalizing face mark set) = unknown_face face c ∷ (not (marks_key mark), refusal.InvalidKeyExpr) ∷ []
+causes c (announcing face s info node) =
+    unknown_face face c ∷ (is_unscoped s, refusal.UnknownScope) ∷ (not (says_key s), refusal.InvalidKeyExpr)
+    ∷ (lacks_router face node c, refusal.UnknownRouter) ∷ []
+causes c (retracting face s node) =
+    unknown_face face c ∷ (is_unscoped s, refusal.UnknownScope) ∷ (not (says_key s), refusal.InvalidKeyExpr)
+    ∷ (lacks_router face node c, refusal.UnknownRouter) ∷ (is_none (entry_of face node (full_text s) c), refusal.UnknownId) ∷ []
+causes c (networking r net) = (not (has_hat r c), refusal.UnknownRegion) ∷ []
+causes c (tabling face ids) = unknown_face face c ∷ []
 causes c unbuilt = []
 
 -- the refusal of a call, if some cause of it holds
@@ -243,6 +272,14 @@ abbrev pub after_replied : Option ReplyTo → QueryState → QueryState
 after_replied None q = q
 after_replied (Some to) q = after_reply to q
 
+-- the router that the face's node number stands for has this entry on the key
+abbrev pub announced_by : ℕ → ℕ → List ℕ → QueryableInfoType → HatState → HatState
+announced_by face node key info h = option_map_or (λ (z : Zid). announced z.0 key info h) (source_at face node h) h
+
+-- the router that the face's node number stands for has no entry on the key
+abbrev pub retracted_by : ℕ → ℕ → List ℕ → HatState → HatState
+retracted_by face node key h = option_map_or (λ (z : Zid). retracted z.0 key h) (source_at face node h) h
+
 -- the deciding part after a call that was accepted
 abbrev pub accepted : Core → TextCall → Core
 accepted c (opening o) = with_face o c
@@ -258,6 +295,10 @@ accepted c (reporting reply) = with_queries c (record c.queries { records = land
 accepted c (passing now) = with_queries c (after_poll now c.queries)
 accepted c (listing r table) = record c { tables = with_entry c.tables r table }
 accepted c (finalizing face mark set) = change_hat_of face.0 (finalized face.0 mark set) c
+accepted c (announcing face s info node) = change_hat_of face.0 (announced_by face.0 node (full_text s) info) c
+accepted c (retracting face s node) = change_hat_of face.0 (retracted_by face.0 node (full_text s)) c
+accepted c (networking r net) = record c { hats = change_hat r (networked net) c.hats }
+accepted c (tabling face ids) = change_hat_of face.0 (noded face.0 ids) c
 accepted c unbuilt = c
 
 -- nothing stands for a key at a new face yet

@@ -5,6 +5,7 @@ pub mod State
 pub mod TextCalls
 pub mod Selecting
 pub mod Messages
+pub mod Trees
 pub mod Deciding
 pub mod Writing
 pub mod Hearing

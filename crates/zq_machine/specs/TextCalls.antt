@@ -7,6 +7,8 @@ use Rattle.zq_message.specs.declared.message.Request.{Request}
 use Rattle.zq_message.specs.declared.message.Response.{Response}
 use Rattle.zq_message.specs.declared.message.WireExpr.{WireExpr}
 use Rattle.zq_hat.specs.declared.types.FinalMark.{FinalMark}
+use Rattle.zq_trees.specs.declared.types.Network.{Network}
+use Rattle.zq_trees.specs.declared.types.NodeIds.{NodeIds}
 use Rattle.zq_tables.specs.declared.said.Said.{Said}
 use Rattle.zq_tables.specs.Naming.{said_of, text_at, face_naming}
 use Rattle.zq_route.specs.declared.gateways.Gateways.{Gateways}
@@ -15,7 +17,7 @@ use Rattle.zq_machine.specs.declared.call.Call.{Call}
 use Rattle.zq_machine.specs.declared.call.Call.TheVariants as call
 use Rattle.zq_machine.specs.State.{State}
 
--- a call with texts in place of expressions; a number that is declared or given up comes with the text that it stood for
+-- a call with texts in place of expressions; a number that is declared or given up comes with the text that it stood for; what routers declare is named by its text and its node
 pub data TextCall : Type 0 where
   opening : Opening → TextCall
   closing : FaceId → TextCall
@@ -30,6 +32,10 @@ pub data TextCall : Type 0 where
   passing : ℕ → TextCall
   listing : Region → Gateways → TextCall
   finalizing : FaceId → FinalMark → Bool → TextCall
+  announcing : FaceId → Said → QueryableInfoType → ℕ → TextCall
+  retracting : FaceId → Said → ℕ → TextCall
+  networking : Region → Network → TextCall
+  tabling : FaceId → NodeIds → TextCall
   unbuilt : TextCall
 
 -- what an expression says that the face sends
