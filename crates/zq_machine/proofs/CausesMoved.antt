@@ -1,5 +1,5 @@
 -- A call with its texts moved is refused for the cause that refuses the call.
-use Rattle.std.proofs.Common.{◌≡◌, ◌∙◌, refl, ap, ℕ, true, false, not, List, [], ◌∷◌, Option, Some, None}
+use Rattle.std.proofs.Common.{◌≡◌, ◌∙◌, refl, ap, ℕ, Bool, true, false, cond, not, List, [], ◌∷◌, Option, Some, None}
 use Rattle.std.specs.Prelude.{◌==◌, ◌||◌, is_none, option_map}
 use Rattle.std.specs.Option.{option_and_then, option_map_or}
 use Rattle.zq_message.specs.declared.message.FaceId.{FaceId}
@@ -20,6 +20,16 @@ use Rattle.zq_machine.proofs.HatsMoved.{declared_moved, clashes_moved, has_moved
 use Rattle.zq_machine.proofs.RoutersMoved.{entry_moved, router_moved}
 use Rattle.zq_machine.proofs.SelectionMoved.{targets_moved}
 
+-- ---- what cannot be: a call is accepted whose second or third cause holds
+pub second_holds : {X : Type 0} (a : Bool) (x y : X) → cond a (Some x) (Some y) ≡ None → ⊥
+second_holds true x y e = cc
+second_holds false x y e = cc
+
+pub third_holds : {X : Type 0} (a b : Bool) (x y z : X) → cond a (Some x) (cond b (Some y) (Some z)) ≡ None → ⊥
+third_holds true b x y z e = cc
+third_holds false b x y z e = second_holds b y z e
+
+-- ---- causes
 module _ (φ : List ℕ → List ℕ) (keeps : Keeps φ) (c : Core) where
   remaps_moved : (id : ℕ) (text : List ℕ) (standing : Option (List ℕ)) → remaps id (φ text) (option_map φ standing) ≡ remaps id text standing
   remaps_moved id text None = refl

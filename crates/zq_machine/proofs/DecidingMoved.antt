@@ -36,16 +36,7 @@ use Rattle.zq_machine.specs.Moved.{move_said, move_text, move_core, move_suffix,
 use Rattle.zq_machine.proofs.HatsMoved.{finalized_moved, registered_moved, unregistered_moved, left_moved, joined_moved, hat_changed, own_changed}
 use Rattle.zq_machine.proofs.RoutersMoved.{announced_moved, networked_moved, noded_moved, retracted_moved}
 use Rattle.zq_machine.proofs.SelectionMoved.{select_moved, targets_moved}
-use Rattle.zq_machine.proofs.CausesMoved.{refused_alike}
-
--- ---- what cannot be: a call is accepted whose second or third cause holds
-second_holds : {X : Type 0} (a : Bool) (x y : X) → cond a (Some x) (Some y) ≡ None → ⊥
-second_holds true x y e = cc
-second_holds false x y e = cc
-
-third_holds : {X : Type 0} (a b : Bool) (x y z : X) → cond a (Some x) (cond b (Some y) (Some z)) ≡ None → ⊥
-third_holds true b x y z e = cc
-third_holds false b x y z e = second_holds b y z e
+use Rattle.zq_machine.proofs.CausesMoved.{refused_alike, second_holds, third_holds}
 
 -- ---- the empty text is no key: no request on it is handed on, and no reply on it is accepted
 nothing_selected : (c : Core) (face : FaceId) (t : Request) (o : Option OpenFace) → select_for c face (said.Full []) t o ≡ []

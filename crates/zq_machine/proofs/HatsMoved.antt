@@ -28,7 +28,7 @@ use Rattle.zq_machine.proofs.EntriesMoved.{is_some-map, insert-map, remove-map, 
 
 module _ (φ : List ℕ → List ℕ) where
   -- a declaration and a face without their numbers
-  abbrev moved_declaration : Declaration → Declaration
+  abbrev pub moved_declaration : Declaration → Declaration
   moved_declaration d = (move_declared φ (0, d)).1
 
   abbrev pub moved_face : FaceState → FaceState
@@ -42,7 +42,7 @@ module _ (φ : List ℕ → List ℕ) where
   declaration_by id None = refl
   declaration_by id (Some f) = lookup-map_values moved_declaration (is_at (nat_cmp id)) f.declared
 
-  declaration_found : (n id : ℕ) (s : HatState) → declaration_at n id (move_hat φ s) ≡ option_map moved_declaration (declaration_at n id s)
+  pub declaration_found : (n id : ℕ) (s : HatState) → declaration_at n id (move_hat φ s) ≡ option_map moved_declaration (declaration_at n id s)
   declaration_found n id s = ap (option_and_then (declaration id)) (face_found n s) ∙ declaration_by id (face_at n s)
 
   pub declared_moved : (n id : ℕ) (h : Option HatState) → has_declared_in n id (option_map (move_hat φ) h) ≡ has_declared_in n id h
@@ -112,7 +112,7 @@ module _ (φ : List ℕ → List ℕ) where
   hat_by hats r true = lookup-map_values (move_hat φ) (is_at (nat_cmp (region_index r))) hats
   hat_by hats r false = refl
 
-  hat_found : (hats : List (ℕ × HatState)) (r : Region) → hat_at r (map (move_region φ) hats) ≡ option_map (move_hat φ) (hat_at r hats)
+  pub hat_found : (hats : List (ℕ × HatState)) (r : Region) → hat_at r (map (move_region φ) hats) ≡ option_map (move_hat φ) (hat_at r hats)
   hat_found hats r = hat_by hats r (is_region r)
 
   put_moved : (hats : List (ℕ × HatState)) (r : Region) (g h : HatState → HatState) → ((s : HatState) → g (move_hat φ s) ≡ move_hat φ (h s)) → (o : Option HatState)

@@ -29,6 +29,7 @@ pub mod Hats
 pub mod Unrouted
 pub mod Owning
 pub mod RoutersMoved
+pub mod DueMoved
 pub mod Targets
 pub mod Always
 pub mod Counting

@@ -11,8 +11,8 @@ use Rattle.zq_message.specs.declared.message.QueryableInfoType.{QueryableInfoTyp
 use Rattle.zq_message.specs.declared.message.Zid.{Zid}
 use Rattle.zq_trees.specs.declared.types.Network.{Network}
 use Rattle.zq_trees.specs.declared.types.NodeIds.{NodeIds}
-use Rattle.zq_trees.specs.Nets.{place_of}
 use Rattle.zq_index.specs.Texts.{at_text, text_cmp}
+use Rattle.zq_trees.specs.Nets.{place_of}
 use Rattle.zq_hat.specs.declared.types.Strategy.{Strategy}
 use Rattle.zq_hat.specs.declared.types.Strategy.TheVariants as strategy
 use Rattle.zq_hat.specs.Kept.{at_id, face_at}

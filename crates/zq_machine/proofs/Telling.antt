@@ -1,17 +1,22 @@
 -- What faces are told is declarations, and it changes numbers of keys alone.
-use Rattle.std.proofs.Common.{◌≡◌, ◌∙◌, ap, refl, ℕ, Bool, false, cond, List, [], ◌∷◌, Option, Some, None}
+use Rattle.std.proofs.Common.{◌≡◌, ◌∙◌, ap, refl, ℕ, Bool, false, cond, List, [], ◌∷◌, ◌++◌, map, Option, Some, None}
 use Rattle.std.specs.Prelude.{◌||◌}
 use Rattle.std.specs.List.{AllByRecursion, cons_option, filter, filter_map, list_any}
 use Rattle.zq_message.specs.declared.message.Declare.{Declare}
 use Rattle.zq_message.specs.declared.message.DeclareBody.TheVariants as body
 use Rattle.zq_message.specs.declared.message.FaceId.{FaceId}
 use Rattle.zq_message.specs.declared.message.Message.TheVariants as message
+use Rattle.zq_message.specs.declared.message.WireExpr.{WireExpr}
+use Rattle.zq_trees.specs.declared.types.Telling.{Telling as TreeTelling}
+use Rattle.zq_trees.specs.Tellings.{in_order}
 use Rattle.zq_names.specs.Texts.{nonwild}
 use Rattle.zq_tables.specs.declared.decl.DeclKey.{DeclKey}
 use Rattle.zq_tables.specs.Naming.{FaceKeys, NamingState, change_naming, face_keys, plain}
 use Rattle.zq_machine.specs.Handing.{Handed}
 use Rattle.zq_machine.specs.Messages.{Telling, TellingBody, all_told, key_ended, key_told}
 use Rattle.zq_machine.specs.State.{Core}
+use Rattle.zq_machine.specs.TextCalls.{TextCall}
+use Rattle.zq_machine.specs.Trees.{all_own_told, due_told, from_tree, touched, tree_told}
 use Rattle.zq_machine.specs.Writing.{and_then, leaving, tell, tell_body, tell_by, tell_declare, tell_number, told_key, with_told_number}
 use Rattle.zq_machine.proofs.Lists.{all_append}
 
@@ -53,6 +58,47 @@ module _ (P : Handed → Type 0) (each : OfDeclared P) where
   told_all c (t ∷ ts) names =
       all_append P (tell_body c t t.body names).handed (tell c ts (tell_body c t t.body names).names).handed
       (body_all c t t.body names) (told_all c ts (tell_body c t t.body names).names)
+
+-- the declaration of what is told, by an expression of its key
+abbrev pub declare_of : Telling → TellingBody → WireExpr → Declare
+declare_of t (key_told id text info) w = record { interest = t.interest; node = t.node; body = body.DeclareQueryable id w info }
+declare_of t (key_ended id None) w = record { interest = t.interest; node = t.node; body = body.UndeclareQueryable id None }
+declare_of t (key_ended id (Some text)) w = record { interest = t.interest; node = t.node; body = body.UndeclareQueryable id (Some w) }
+declare_of t all_told w = record { interest = t.interest; node = t.node; body = body.DeclareFinal }
+
+-- what holds of each declared number, and of the declaration of each thing that is told, holds of all that is told
+module _ (P : Handed → Type 0) (number : (to : FaceId) (text : List ℕ) (id : ℕ) (n : FaceKeys) → P (declared to (nonwild text) (number_declare text id) n)) where
+  abbrev pub IsTold : Telling → Type 0
+  IsTold t = (text : List ℕ) (w : WireExpr) (n : FaceKeys) → P (declared t.to text (declare_of t t.body w) n)
+
+  key_each : (c : Core) (to : FaceId) (text : List ℕ) (make : WireExpr → Declare) → ((w : WireExpr) (n : FaceKeys) → P (declared to text (make w) n)) → (names : NamingState) → AllByRecursion P (tell_by c to text (λ k. make k.wire) names).handed
+  key_each c to text make each names = by (told_key c to text names).declared
+    where
+      by : (o : Option ℕ) → AllByRecursion P (and_then (tell_number to text o names) (tell_declare to text (make (told_key c to text names).wire))).handed
+      by None = (each (told_key c to text names).wire (face_keys to.0 names), tt)
+      by (Some id) =
+          let numbered = change_naming to.0 (with_told_number text (Some id)) names in
+          (number to text id (face_keys to.0 numbered), (each (told_key c to text names).wire (face_keys to.0 numbered), tt))
+
+  body_each : (c : Core) (t : Telling) (b : TellingBody) → ((text : List ℕ) (w : WireExpr) (n : FaceKeys) → P (declared t.to text (declare_of t b w) n)) → (names : NamingState) → AllByRecursion P (tell_body c t b names).handed
+  body_each c t (key_told id text info) each names = key_each c t.to text (declare_of t (key_told id text info)) (each text) names
+  body_each c t (key_ended id None) each names = (each [] (plain []) (face_keys t.to.0 names), tt)
+  body_each c t (key_ended id (Some text)) each names = key_each c t.to text (declare_of t (key_ended id (Some text))) (each text) names
+  body_each c t all_told each names = (each [] (plain []) (face_keys t.to.0 names), tt)
+
+  pub told_each : (c : Core) (ts : List Telling) (names : NamingState) → AllByRecursion IsTold ts → AllByRecursion P (tell c ts names).handed
+  told_each c [] names all = tt
+  told_each c (t ∷ ts) names all =
+      all_append P (tell_body c t t.body names).handed (tell c ts (tell_body c t t.body names).names).handed
+      (body_each c t t.body all.0 names) (told_each c ts (tell_body c t t.body names).names all.1)
+
+-- what holds of each telling along a tree holds of what is due
+pub due_each : (Q : Telling → Type 0) → ((t : TreeTelling) → Q (from_tree t)) → (before after : Core) (t : TextCall) → AllByRecursion Q (due_told before after t)
+due_each Q each before after t = all (in_order (tree_told before after t ++ all_own_told before.hats after.hats (touched before t)))
+  where
+    all : (ts : List TreeTelling) → AllByRecursion Q (map from_tree ts)
+    all [] = tt
+    all (x ∷ xs) = (each x, all xs)
 
 -- ---- what stands for keys afterwards
 module _ (P : NamingState → Type 0) (keeps : (face : ℕ) (text : List ℕ) (id : ℕ) (names : NamingState) → P names → P (change_naming face (with_told_number text (Some id)) names)) where

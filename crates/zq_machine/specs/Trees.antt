@@ -94,17 +94,17 @@ touched c (retracting face s node) = full_text s ∷ []
 touched c (networking r net) = option_map_or (losing net) (hat_at r c.hats) []
 touched c t = []
 
--- what the own entry on a key hands in a region, by the hats before and after a call
-abbrev pub own_told_on : (before after : List (ℕ × HatState)) → ℕ × HatState → List ℕ → List TreeTelling
-own_told_on before after h key = own_told key (own_entry h.0 key before) (own_entry h.0 key after) h.1
+-- what the own entry on a key hands in a region, if it is one of routers, by the hats before and after a call
+abbrev pub own_told_in : (before after : List (ℕ × HatState)) → List ℕ → ℕ × HatState → List TreeTelling
+own_told_in before after key h = in_routers (strategy_at h.1) (own_told key (own_entry h.0 key before) (own_entry h.0 key after) h.1) []
 
--- what own entries on keys hand in a region of routers
-abbrev pub own_told_in : List (List ℕ) → (before after : List (ℕ × HatState)) → ℕ × HatState → List TreeTelling
-own_told_in keys before after h = in_routers (strategy_at h.1) (flat_map (own_told_on before after h) keys) []
+-- what own entries on a key hand in all regions
+abbrev pub own_told_on : (before after : List (ℕ × HatState)) → List ℕ → List TreeTelling
+own_told_on before after key = flat_map (own_told_in before after key) after
 
--- what own entries on keys hand in all regions
-abbrev pub all_own_told : List (List ℕ) → (before after : List (ℕ × HatState)) → List TreeTelling
-all_own_told keys before after = flat_map (own_told_in keys before after) after
+-- what own entries on keys hand
+abbrev pub all_own_told : (before after : List (ℕ × HatState)) → List (List ℕ) → List TreeTelling
+all_own_told before after keys = flat_map (own_told_on before after) keys
 
 -- ---- what a region's own tree hands
 
@@ -144,4 +144,4 @@ from_tree t = record { to = t.face; interest = None; node = t.node; body = body_
 
 -- what faces are told by a call that is accepted, by what decides before and after it: in order, each once
 abbrev pub due_told : (before after : Core) → TextCall → List Telling
-due_told before after t = map from_tree (in_order (tree_told before after t ++ all_own_told (touched before t) before.hats after.hats))
+due_told before after t = map from_tree (in_order (tree_told before after t ++ all_own_told before.hats after.hats (touched before t)))
