@@ -159,7 +159,7 @@ IsFace-without_theirs theirs ours free i n is face = record {
       face.used j above (omega arith) (rw (← of_id-without_other theirs i j differ) unused);
 }
 
-pub IsFace-without_ours : (theirs ours : List (ℕ × ℕ)) (free i n : ℕ) → of_id ours i ≡ Some n → IsFace theirs ours free → IsFace theirs (without_id ours i) (min i free)
+pub IsFace-without_ours : (theirs ours : List (ℕ × ℕ)) (free i n : ℕ) → of_id ours i ≡ Some n → IsFace theirs ours free → IsFace theirs (without_id ours i) (min free i)
 IsFace-without_ours theirs ours free i n is face = record {
   theirs_positive = face.theirs_positive;
   ours_positive = All-map-remove_entry (is_at (nat_cmp i)) (λ (e : ℕ × ℕ). e.0) (λ k. 0 < k) ours face.ours_positive;

@@ -27,7 +27,7 @@ pub(crate) fn whole(suffix: Text) -> WireExpr
     }
 }
 
-// A copy of a text under scope 0, in the same memory if the text is shared.
+// A copy of a text under scope 0, which may share the memory of the text.
 pub(crate) fn plain(alloc: Global, text: &Text) -> Result<WireExpr, OutOfMemory>
     ensures { IfOk result (λ w. w ≡ whole_of text.now) }
 {

@@ -145,7 +145,7 @@ impl FaceNames {
         ensures names { _names.new ≡ _names.old }
         ensures live { AreLive _names.old self.old → AreLive _names.new self.new }
     {
-        match self.take_theirs(id as u32) {
+        match self.take(Mapping::Sender, id as u32) {
             Some(_) => Ok(()),
             None => Err(NameRefusal::UnknownId),
         }
@@ -155,45 +155,24 @@ impl FaceNames {
     pub fn give_up(&mut self, id: u16)
         ensures { self.new ≡ record self.old { ours = without_id self.old.ours id } }
     {
-        let _ = self.take_ours(id as u32);
+        let _ = self.take(Mapping::Receiver, id as u32);
     }
 
-    // Drops an id that the face declared, and answers its node, which stays as it is.
-    fn take_theirs(&mut self, id: u32) -> Option<ResourceId>
-        ensures node { option_map (λ r. r.0) result ≡ of_id self.old.theirs id }
-        ensures ids { self.new ≡ record self.old { theirs = without_id self.old.theirs id } }
-        ensures absent { IfNone result (self.new ≡ self.old) }
-    {
-        let Some(node) = self.theirs.take(id) else {
-            return None;
-        };
-        self.free = self.free.min(id as u16);
-        Some(ResourceId(node))
-    }
-
-    // The same of an id that was declared to the face.
-    fn take_ours(&mut self, id: u32) -> Option<ResourceId>
-        ensures node { option_map (λ r. r.0) result ≡ of_id self.old.ours id }
-        ensures ids { self.new ≡ record self.old { ours = without_id self.old.ours id } }
-        ensures absent { IfNone result (self.new ≡ self.old) }
-    {
-        let Some(node) = self.ours.take(id) else {
-            return None;
-        };
-        self.free = (id as u16).min(self.free);
-        Some(ResourceId(node))
-    }
-
-    // The same of an id of the side that the mapping names in what the face sends.
+    // Drops an id of the side that the mapping names in what the face sends, and answers its node, which stays as it is.
     pub(crate) fn take(&mut self, mapping: Mapping, id: u32) -> Option<ResourceId>
         ensures node { option_map (λ r. r.0) result ≡ of_id (side self.old mapping) id }
         ensures ids { self.new ≡ with_side self.old mapping (without_id (side self.old mapping) id) }
         ensures absent { IfNone result (self.new ≡ self.old) }
     {
-        match mapping {
-            Mapping::Sender => self.take_theirs(id),
-            Mapping::Receiver => self.take_ours(id),
-        }
+        let found = match mapping {
+            Mapping::Sender => self.theirs.take(id),
+            Mapping::Receiver => self.ours.take(id),
+        };
+        let Some(node) = found else {
+            return None;
+        };
+        self.free = self.free.min(id as u16);
+        Some(ResourceId(node))
     }
 
     // The node of an expression's scope.
@@ -320,7 +299,7 @@ impl FaceNames {
         None
     }
 
-    /// The best key of the text, in what is handed to the face. A whole text is in the same memory if it is shared.
+    /// The best key of the text, in what is handed to the face. A whole text may share the memory of the text.
     pub fn best(&self, alloc: Global, names: &Names, text: &Text) -> Result<WireExpr, OutOfMemory>
         requires { AreLive names.now self.now }
         ensures best { IfOk result (λ w. w ≡ best_key (texts_of names.now self.now) text.now) }

@@ -6,7 +6,7 @@ ghost use Rattle.std.specs.BTreeMap.{is_at, insert_entry};
 ghost use Rattle.zq_key.specs.Key.{is_key as key_of};
 ghost use Rattle.zq_tables.specs.FaceTexts.{IsReason};
 ghost use Rattle.zq_tables.specs.Holding.{held_keys, without_key, without_keys};
-ghost use Rattle.zq_tables.specs.Naming.{best, change_naming, declare_refusal, face_keys, face_naming, face_queryables, no_keys, read_by, said_of, text_at, with_name, with_queryable, without_name, without_queryable, without_sent};
+ghost use Rattle.zq_tables.specs.Naming.{best, change_naming, declare_refusal, face_keys, face_naming, face_queryables, has_context as has_context_of, no_keys, read_by, said_of, text_at, with_name, with_queryable, without_name, without_queryable, without_sent};
 
 use crate::choice::{plain, whole};
 use crate::face_nodes::FaceNodes;
@@ -147,13 +147,24 @@ impl Naming {
 
     /// The text as it is handed to the face (upstream's `get_best_key`): by the number of the
     /// longest part of whole chunks that has one, a number of the face before one of the gateway
-    /// and the least of several, else whole, in the same memory if the text is shared.
+    /// and the least of several, else whole, which may share the memory of the text.
     #[tactic(auto, using(crate::proofs::Reading::answer_reads))]
     pub fn best(&self, face: FaceId, text: &Text) -> Result<WireExpr, OutOfMemory>
         ensures key { IfOk result (λ w. w ≡ best (face_naming face.0 self.now) text.now) }
         ensures reads { 0 < length text.now → IfOk result (λ w. read_by (face_naming face.0 self.now) w ≡ Said.Full text.now) }
     {
         self.best_of(face, text)
+    }
+
+    /// Whether the text, or one of which it is a part that ends before a `/`, is what a number or a
+    /// queryable of an open face stands for: whether the names have its node. The root has none.
+    pub fn has_context(&self, text: &str) -> bool
+        ensures { result ≡ has_context_of text.now self.now }
+    {
+        if text.is_empty() {
+            return false;
+        }
+        self.names.get_resource(self.names.root(), text).is_some()
     }
 
     /// What a number of the face stands for.

@@ -31,6 +31,8 @@ enum Step<'a> {
     Best(FaceId, &'a str, u16, &'a str),
     // what the suffix says under the scope, if the face has that number
     Says(FaceId, u16, &'a str, Option<&'a str>),
+    // whether the text has a context
+    Context(&'a str, bool),
 }
 
 fn refusal_of(declared: Result<(), NameRefusal>) -> Option<NameRefusal> {
@@ -113,6 +115,7 @@ fn is_right(alloc: Global, names: &mut Naming, step: Step<'_>) -> Result<bool, O
         Step::Holds(face, id, there) => Ok(names.holds_queryable(face, id) == there),
         Step::Best(face, text, scope, suffix) => is_best(alloc, names, face, text, scope, suffix),
         Step::Says(face, scope, suffix, full) => says(alloc, names, face, scope, suffix, full),
+        Step::Context(text, there) => Ok(names.has_context(text) == there),
     }
 }
 
@@ -153,8 +156,14 @@ fn best_keys(rt: HostRuntime) -> Result<(), Fail> {
         Step::Best(FACE, "x/*", 2, ""),
         Step::Best(FACE, "x/y", 0, "x/y"),
         Step::Best(OTHER, "a", 0, "a"),
+        Step::Best(OTHER, "a/b", 0, "a/b"),
         Step::Best(OTHER, "a/b/c", 0, "a/b/c"),
+        Step::Best(OTHER, "a/b/c/d", 0, "a/b/c/d"),
+        Step::Best(OTHER, "a/b/c/d/e", 0, "a/b/c/d/e"),
+        Step::Best(OTHER, "a/bc", 0, "a/bc"),
+        Step::Best(OTHER, "ab", 0, "ab"),
         Step::Best(OTHER, "x/*", 0, "x/*"),
+        Step::Best(OTHER, "x/y", 0, "x/y"),
     ];
     assert_eq!(rt; wrong_step(rt.alloc(), &steps)?, None);
     Ok(())
@@ -251,6 +260,31 @@ fn queryables(rt: HostRuntime) -> Result<(), Fail> {
         Step::Close(OTHER),
         Step::Hold(OTHER, 1, "a/b", true),
         Step::Holds(OTHER, 1, false),
+    ];
+    assert_eq!(rt; wrong_step(rt.alloc(), &steps)?, None);
+    Ok(())
+}
+
+// A text has a context as long as a number or a queryable stands for it, or for one that it is a
+// part of whole chunks from the front of.
+#[test]
+fn contexts(rt: HostRuntime) -> Result<(), Fail> {
+    let steps = [
+        Step::Context("", false),
+        Step::Declare(FACE, 7, "a/b/c", None),
+        Step::Hold(OTHER, 1, "a/x", true),
+        Step::Context("", false),
+        Step::Context("a", true),
+        Step::Context("a/b", true),
+        Step::Context("a/b/c", true),
+        Step::Context("a/b/c/d", false),
+        Step::Context("a/", false),
+        Step::Context("b", false),
+        Step::Undeclare(FACE, 7),
+        Step::Context("a/b", false),
+        Step::Context("a", true),
+        Step::Release(OTHER, 1),
+        Step::Context("a", false),
     ];
     assert_eq!(rt; wrong_step(rt.alloc(), &steps)?, None);
     Ok(())

@@ -7,4 +7,4 @@ pub returns-in-Some-clause-live : goal.returns-in-Some-clause-live
 returns-in-Some-clause-live c live =
     let names = c.args._names.now in
     let A : FaceIds → Type 0 = λ (f : FaceIds). AreLive names f in
-    subst A (sym c.take_theirs.ensures.ids) (AreLive-without_theirs names c.args.self.now c.args.id live)
+    subst A (sym c.take.ensures.ids) (AreLive-without_theirs names c.args.self.now c.args.id live)
