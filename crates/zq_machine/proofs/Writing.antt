@@ -9,7 +9,7 @@ use Rattle.zq_message.specs.declared.message.DeclareBody.TheVariants as body
 use Rattle.zq_message.specs.declared.message.Message.{Message}
 use Rattle.zq_message.specs.declared.message.Message.TheVariants as message
 use Rattle.zq_names.specs.Texts.{nonwild}
-use Rattle.zq_tables.specs.declared.decl.DeclKey.{DeclKey}
+use Rattle.zq_ids.specs.declared.decl.DeclKey.{DeclKey}
 use Rattle.zq_query.specs.Balance.{finals_under, owed_by}
 use Rattle.zq_query.specs.Records.{any_over}
 use Rattle.zq_query.proofs.Balance.{letting_balance, letting_none_over}

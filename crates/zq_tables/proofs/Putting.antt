@@ -6,8 +6,8 @@ use Rattle.std.specs.BTreeMap.{is_at}
 use Rattle.std.specs.Ordering.{nat_cmp}
 use Rattle.std.proofs.lemmas.Bool.{false≢true}
 use Rattle.zq_names.specs.Names.{NameEntry, entry_at}
-use Rattle.zq_tables.specs.FaceIds.{of_id, with_id}
-use Rattle.zq_tables.specs.FaceTexts.{id_texts}
+use Rattle.zq_ids.specs.FaceIds.{of_id, with_id}
+use Rattle.zq_ids.specs.FaceTexts.{id_texts}
 use Rattle.zq_tables.specs.Naming.{FaceKeys, Names, first_stays, text_at, with_queryable, change_naming}
 use Rattle.zq_tables.specs.Holding.{FaceHolds, Faces, InHand, IsHeld, hold_of, held_ids, held_keys, ids_at, is_settled, settled_at, least, limit, put_ids, change_ids, keys_of_face, texts_by, with_key, with_keys, with_node}
 use Rattle.zq_tables.specs.declared.holder.Holder.{Holder}

@@ -12,8 +12,8 @@ use Rattle.zq_message.specs.declared.message.WireExpr.{WireExpr}
 use Rattle.zq_names.specs.Texts.{heads}
 use Rattle.zq_names.specs.declared.refusal.NameRefusal.{NameRefusal}
 use Rattle.zq_names.specs.declared.refusal.NameRefusal.TheVariants as refusal
-use Rattle.zq_tables.specs.FaceIds.{of_id}
-use Rattle.zq_tables.specs.FaceTexts.{FaceTexts, text_side, swapped, whole, best_key}
+use Rattle.zq_ids.specs.FaceIds.{of_id}
+use Rattle.zq_ids.specs.FaceTexts.{FaceTexts, text_side, swapped, whole, best_key}
 use Rattle.zq_tables.specs.declared.said.Said.{Said}
 use Rattle.zq_tables.specs.declared.said.Said.TheVariants as said
 

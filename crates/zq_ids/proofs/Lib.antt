@@ -1,0 +1,4 @@
+pub mod IdLemmas
+pub mod IndexLemmas
+pub mod FaceLemmas
+pub mod Reading

@@ -1,0 +1,19 @@
+use Rattle.std.proofs.Common.{◌≡◌, ℕ, List, Bool, true, Option, None, Some, sym}
+use Rattle.zq_names.specs.Names.{NameEntry}
+use Rattle.zq_ids.specs.FaceIds.{FaceIds, next_id}
+use Rattle.zq_ids.specs.FaceTexts.{texts_of, known, part_choice, new_choice}
+use Rattle.zq_ids.proofs.FaceLemmas.{part_choice-new}
+use Rattle.zq_ids.proofs.IdLemmas.{next_unused}
+use Rattle.zq_ids.proofs.face.FaceNames.part_key.Goals as goal
+
+chosen : (names : List NameEntry) (face : FaceIds) (may : Bool) (p q rest rest' : List ℕ) (next : Option ℕ) → may ≡ true → p ≡ q → rest ≡ rest' → None ≡ known (texts_of names face) p → next ≡ next_id face.theirs face.ours → new_choice rest next ≡ part_choice (texts_of names face) may q rest'
+chosen names face may p q rest rest' next is_may same same_rest none is = rw (is_may, ← same, ← same_rest) (sym (part_choice-new names face p rest next none is))
+
+pub returns-in_default-get_next_local_id-clause-chosen : goal.returns-in_default-get_next_local_id-clause-chosen
+returns-in_default-get_next_local_id-clause-chosen c = chosen c.args.names.now c.args.self.now c.args.may _ _ c.in_ok-suffix.suffix c.args.rest.now None c.if-not-may.false c.expr.ensures c.in_ok-suffix.ensures c.in_default.ensures c.in_default-get_next_local_id.ensures
+
+pub returns-clause-chosen : goal.returns-clause-chosen
+returns-clause-chosen c = chosen c.args.names.now c.args.self.now c.args.may _ _ c.in_ok-suffix.suffix c.args.rest.now (Some c.in-Some-get_next_local_id.id) c.if-not-may.false c.expr.ensures c.in_ok-suffix.ensures c.in_default.ensures c.in-Some-get_next_local_id.ensures
+
+pub returns-clause-fresh : goal.returns-clause-fresh
+returns-clause-fresh c = next_unused c.args.self.now.theirs c.args.self.now.ours c.in-Some-get_next_local_id.id (sym c.in-Some-get_next_local_id.ensures)
