@@ -1,5 +1,5 @@
 -- The ids of a face as texts.
-use Rattle.std.proofs.Common.{◌≡◌, ◌≢◌, ℕ, ◌+◌, ◌<◌, Bool, true, false, cond, eqb, List, [], ◌∷◌, ◌++◌, find, Option, Some, None, IfSome, IfNone, option_map, Result, Ok, Err, IfOk, refl, sym, ap, subst, ◌∙◌, arith, zero, suc, inl, inr}
+use Rattle.std.proofs.Common.{◌≡◌, ◌≢◌, ℕ, ◌+◌, ◌<◌, Bool, true, false, cond, eqb, List, [], ◌∷◌, ◌++◌, find, Option, Some, None, IfSome, IfNone, option_map, refl, sym, ap, subst, ◌∙◌, arith, zero, suc, inl, inr}
 use Rattle.std.specs.declared.cmp.Ordering.{Ordering}
 use Rattle.std.specs.declared.cmp.Ordering.TheVariants.{Less, Equal, Greater}
 use Rattle.std.specs.Ordering.{nat_cmp, match_ordering, is_eq}
@@ -26,11 +26,9 @@ use Rattle.zq_names.specs.Keeping.{AllStay}
 use Rattle.zq_names.specs.Texts.{nonwild}
 use Rattle.zq_ids.specs.FaceIds.{FaceIds, of_id, with_id, without_id, side, is_used, free_from, next_id, AreLiveIds, AreLive, least_id}
 use Rattle.zq_ids.proofs.IdLemmas.{free_from-used, free_from-free, free_from-none}
-use Rattle.zq_ids.specs.FaceTexts.{FaceTexts, id_texts, theirs_texts, ours_texts, texts_of, part_choice, known_choice, new_choice, with_new, with_declared, text_side, full_of, names_text, least_name, tagged, or_else, known, registered, text_refusal, register_refusal, whole_key}
+use Rattle.zq_ids.specs.FaceTexts.{FaceTexts, id_texts, theirs_texts, ours_texts, texts_of, part_choice, known_choice, new_choice, with_new, with_declared, text_side, full_of, names_text, least_name, tagged, or_else, known, registered, text_refusal, register_refusal}
 use Rattle.zq_key.specs.Key.{is_key}
 use Rattle.zq_names.specs.declared.refusal.NameRefusal.TheVariants.{Remapped}
-use Rattle.zq_message.specs.declared.memory.OutOfMemory.{OutOfMemory}
-use Rattle.zq_ids.specs.declared.decl.DeclKey.{DeclKey}
 use Rattle.zq_ids.specs.Registering.{Gives}
 
 text_of_node : List NameEntry → ℕ → List ℕ
@@ -336,22 +334,13 @@ pub declared_live : (names : List NameEntry) (face : FaceIds) (node : ℕ) (decl
 declared_live names face node None live has = live
 declared_live names face node (Some i) live has = record { theirs = live.theirs; ours = AreLiveIds-with_id names face.ours i node live.ours has }
 
--- a key under which nothing is declared
-pub gives_none : (names : List NameEntry) (face new : FaceIds) (t u : List ℕ) (r : Result DeclKey OutOfMemory) → IfOk r (λ d. d ≡ whole_key u) → new ≡ face → IfOk r (λ d. Gives names face new t d.declared)
-gives_none names face new t u (Err e) is same = tt
-gives_none names face new t u (Ok d) is same =
-    let none : d.declared ≡ None = ap (λ (k : DeclKey). k.declared) is in
-    let G : Option ℕ → Type 0 = λ (o : Option ℕ). Gives names face new t o in
-    subst G (sym none) (record { node = 0; given = same; named = tt })
+-- a new id that was given
+module _ (names : List NameEntry) (old new : FaceIds) (t : List ℕ) (i : ℕ) (gives : Gives names old new t (Some i)) where
+  pub gives_texts : texts_of names new ≡ with_declared (texts_of names old) t (Some i)
+  gives_texts = ap (texts_of names) gives.given ∙ declared_texts names old gives.node t (Some i) gives.named.2
 
--- an id that was declared for a live node
-pub gives_some : (names : List NameEntry) (face new : FaceIds) (t : List ℕ) (node : ℕ) (d : Option ℕ) → new ≡ with_new face node d → IfSome d (λ i. of_id face.ours i ≡ None) → Contains (ids names) node → (entry_at names node).text ≡ nonwild t → Gives names face new t d
-gives_some names face new t node None given fresh live text = record { node = node; given = given; named = tt }
-gives_some names face new t node (Some i) given fresh live text = record { node = node; given = given; named = (fresh, live, text) }
-
-pub with_new_theirs : (face : FaceIds) (node : ℕ) (d : Option ℕ) → (with_new face node d).theirs ≡ face.theirs
-with_new_theirs face node None = refl
-with_new_theirs face node (Some i) = refl
+  pub gives_live : AreLive names old → AreLive names new
+  gives_live live = let L : FaceIds → Type 0 = AreLive names in subst L (sym gives.given) (declared_live names old gives.node (Some i) live gives.named.1)
 
 -- ---- an id less
 

@@ -150,11 +150,6 @@ abbrev pub with_new : FaceIds → ℕ → Option ℕ → FaceIds
 with_new face node None = face
 with_new face node (Some i) = record face { ours = with_id face.ours i node }
 
--- the same, of a key that may not have been declared
-abbrev pub declared_ids : FaceIds → ℕ → Option DeclKey → FaceIds
-declared_ids face node None = face
-declared_ids face node (Some d) = with_new face node d.declared
-
 -- with the id that was declared, if one was
 abbrev pub with_declared : FaceTexts → List ℕ → Option ℕ → FaceTexts
 with_declared face t None = face

@@ -1,7 +1,7 @@
 //! The choice of an id for a text.
 ghost use Rattle.std.specs.Prelude.{◌≡◌, ◌++◌, IfOk, IfSome};
 ghost use Rattle.std.specs.Str.{IsCharBoundary};
-ghost use Rattle.zq_ids.specs.FaceTexts.{key_from, whole as whole_of, whole_key as whole_key_of};
+ghost use Rattle.zq_ids.specs.FaceTexts.{key_from, under as under_of, whole as whole_of, whole_key as whole_key_of};
 
 use crate::decl::DeclKey;
 use std::alloc::Global;
@@ -50,6 +50,20 @@ pub(crate) fn expression(
             suffix: Text::new(alloc, &text.as_str()[k..])?,
         }),
         None => plain(alloc, text),
+    }
+}
+
+// A rest behind an id, which is declared first where it is new.
+pub(crate) fn under(scope: u16, mapping: Mapping, suffix: Text, declared: Option<u16>) -> DeclKey
+    ensures { result ≡ under_of scope mapping suffix declared }
+{
+    DeclKey {
+        wire: WireExpr {
+            scope,
+            mapping,
+            suffix,
+        },
+        declared,
     }
 }
 

@@ -1,15 +1,16 @@
 //! The ids of one face.
-ghost use Rattle.std.specs.Prelude.{◌≡◌, ◌↔◌, ◌+◌, ◌<◌, ◌≤◌, ◌++◌, [], None, Some, Err, IfOk, IfErr, IfSome, IfNone, IsTrue, OnOk, OnErr, MatchOption, option_map, is_some, true, false, slice_get};
+ghost use Rattle.std.specs.Prelude.{◌≡◌, ◌↔◌, ◌+◌, ◌<◌, ◌≤◌, ◌++◌, [], None, Some, Err, IfOk, IfErr, IfSome, IfNone, IsTrue, OnOk, OnErr, MatchOption, option_map, is_some, length, true, false, slice_get};
 ghost use Rattle.std.specs.Map.{keys_of};
 ghost use Rattle.std.specs.Str.{IsCharBoundary};
 ghost use Rattle.std.specs.List.{Contains};
 ghost use Rattle.zq_key.specs.Key.{is_key as key_of};
 ghost use Rattle.zq_names.specs.Names.{IsLive, HasText, Makes, entry_at};
+ghost use Rattle.zq_names.specs.Texts.{nonwild as nonwild_of};
 ghost use Rattle.zq_ids.specs.FaceIds.{no_ids, of_id, with_id, without_id, side, with_side, handed_side, is_used as used_of, next_id, AreLive};
 ghost use Rattle.zq_ids.specs.Registering.{Gives, Maps, Registers};
-ghost use Rattle.zq_ids.specs.FaceTexts.{texts_of, full_of, read_by, known as known_of, part_choice, declared_ids, best_part as part_of, best_key, declared_key, with_declared, registered, register_refusal, IsReason};
+ghost use Rattle.zq_ids.specs.FaceTexts.{texts_of, full_of, read_by, known as known_of, part_choice, best_part as part_of, best_key, declared_key, with_declared, registered, register_refusal, IsReason};
 
-use crate::choice::{expression, joined, whole_key};
+use crate::choice::{expression, joined, under, whole_key};
 use crate::decl::DeclKey;
 use crate::ids::Ids;
 use std::alloc::Global;
@@ -18,7 +19,7 @@ use zq_key::is_key;
 use zq_key::memory::OutOfMemory;
 use zq_key::message::{Mapping, WireExpr};
 use zq_key::text::Text;
-use zq_names::{NameRefusal, Names, ResourceId};
+use zq_names::{NameRefusal, Names, ResourceId, nonwild};
 
 /// The ids that a face declared and those that were declared to it, each with the node that it stands for.
 ///
@@ -325,8 +326,8 @@ impl FaceNames {
         self.best(alloc, names, &text)
     }
 
-    // Lets the least free id, which the gateway declares, stand for a node.
-    fn declare(&mut self, id: u16, node: ResourceId) -> Result<(), OutOfMemory>
+    /// Lets the least free id, which the gateway declares, stand for a node.
+    pub fn declare(&mut self, id: u16, node: ResourceId) -> Result<(), OutOfMemory>
         requires { next_id self.old.theirs self.old.ours ≡ Some id }
         ensures ok { OnOk result (self.new ≡ record self.old { ours = with_id self.old.ours id node.0 }) }
         ensures err { OnErr result (self.new ≡ self.old) }
@@ -336,32 +337,21 @@ impl FaceNames {
         Ok(())
     }
 
-    // The declared key of a text behind its part without a `*`, which has a node.
-    fn part_key(
-        &mut self,
+    // The declared key of a text by its part without a `*`, with the rest behind it.
+    fn part_choice(
+        &self,
         alloc: Global,
         names: &Names,
-        part: ResourceId,
+        part: &str,
         rest: &str,
         may: bool,
     ) -> Result<Option<DeclKey>, OutOfMemory>
-        requires live { IsLive names.now part }
-        requires ids { AreLive names.now self.old }
-        ensures chosen { IfOk result (λ d. d ≡ part_choice (texts_of names.now self.old) may (entry_at names.now part.0).text rest.now) }
-        ensures ids { IfOk result (λ d. self.new ≡ declared_ids self.old part.0 d) }
-        ensures fresh { IfOk result (λ d. IfSome d (λ k. IfSome k.declared (λ i. of_id self.old.ours i ≡ None))) }
-        ensures err { OnErr result (self.new ≡ self.old) }
+        requires { AreLive names.now self.now }
+        ensures { IfOk result (λ d. d ≡ part_choice (texts_of names.now self.now) may part.now rest.now) }
     {
         let suffix = Text::new(alloc, rest)?;
-        if let Some((scope, mapping)) = self.known(names, names.expr(part)) {
-            return Ok(Some(DeclKey {
-                wire: WireExpr {
-                    scope,
-                    mapping,
-                    suffix,
-                },
-                declared: None,
-            }));
+        if let Some((scope, mapping)) = self.known(names, part) {
+            return Ok(Some(under(scope, mapping, suffix, None)));
         }
         if !may {
             return Ok(None);
@@ -369,15 +359,34 @@ impl FaceNames {
         let Some(id) = self.get_next_local_id() else {
             return Ok(None);
         };
-        self.declare(id, part)?;
-        Ok(Some(DeclKey {
-            wire: WireExpr {
-                scope: id,
-                mapping: Mapping::Sender,
-                suffix,
-            },
-            declared: Some(id),
-        }))
+        Ok(Some(under(id, Mapping::Sender, suffix, Some(id))))
+    }
+
+    /// The declared key of a text: by an id of its part without a `*`, by a new id for that part, which is yet to be declared, or whole.
+    ///
+    /// `local` is whether the face is local, and `may` whether a new id may be declared.
+    pub fn chosen_key(
+        &self,
+        alloc: Global,
+        names: &Names,
+        text: &str,
+        local: bool,
+        may: bool,
+    ) -> Result<DeclKey, OutOfMemory>
+        requires { AreLive names.now self.now }
+        ensures { IfOk result (λ d. d ≡ declared_key (texts_of names.now self.now) local may text.now) }
+    {
+        if local {
+            return whole_key(alloc, text);
+        }
+        let part = nonwild(text);
+        if part.is_empty() {
+            return whole_key(alloc, text);
+        }
+        match self.part_choice(alloc, names, part, &text[part.len()..], may)? {
+            Some(key) => Ok(key),
+            None => whole_key(alloc, text),
+        }
     }
 
     /// The declared key of the node's text: by an id of its part without a `*`, by a new id for that part, or whole.
@@ -401,19 +410,25 @@ impl FaceNames {
         ensures err { OnErr result (self.new ≡ self.old) }
         ensures names { names.new ≡ names.old }
     {
-        let text = names.expr(r);
-        if local {
-            return whole_key(alloc, text);
-        }
-        let (Some(part), rest) = names.nonwild_prefix(r) else {
-            return whole_key(alloc, text);
+        let key = self.chosen_key(alloc, names, names.expr(r), local, may)?;
+        let Some(id) = key.declared else {
+            return Ok(key);
         };
-        if text.is_empty() {
-            return whole_key(alloc, text);
-        }
-        match self.part_key(alloc, names, part, rest, may)? {
-            Some(key) => Ok(key),
-            None => whole_key(alloc, text),
+        self.declare_part(names, r, id)?;
+        Ok(key)
+    }
+
+    // Lets the least free id stand for the part without a `*` of a node's text.
+    fn declare_part(&mut self, names: &Names, r: ResourceId, id: u16) -> Result<(), OutOfMemory>
+        requires live { IsLive names.now r }
+        requires next { next_id self.old.theirs self.old.ours ≡ Some id }
+        requires part { 0 < length (nonwild_of (entry_at names.now r.0).text) }
+        ensures ok { OnOk result (Gives names.now self.old self.new (entry_at names.now r.0).text (Some id)) }
+        ensures err { OnErr result (self.new ≡ self.old) }
+    {
+        match names.nonwild_prefix(r).0 {
+            Some(part) => self.declare(id, part),
+            None => unreachable!(),
         }
     }
 
