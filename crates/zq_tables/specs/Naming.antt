@@ -13,7 +13,7 @@ use Rattle.zq_names.specs.Texts.{heads}
 use Rattle.zq_names.specs.declared.refusal.NameRefusal.{NameRefusal}
 use Rattle.zq_names.specs.declared.refusal.NameRefusal.TheVariants as refusal
 use Rattle.zq_ids.specs.FaceIds.{of_id}
-use Rattle.zq_ids.specs.FaceTexts.{FaceTexts, text_side, swapped, whole, best_key}
+use Rattle.zq_ids.specs.FaceTexts.{FaceTexts, text_side, swapped, whole, best_key, with_declared}
 use Rattle.zq_tables.specs.declared.said.Said.{Said}
 use Rattle.zq_tables.specs.declared.said.Said.TheVariants as said
 
@@ -126,6 +126,10 @@ with_queryable id text n = record n { queryables = first_stays id text n.queryab
 -- the face withdraws a queryable
 abbrev pub without_queryable : ℕ → FaceKeys → FaceKeys
 without_queryable id n = record n { queryables = remove_entry (is_at (nat_cmp id)) n.queryables }
+
+-- the number that was declared to the face, if one was, stands for the part of the text without a `*`
+abbrev pub with_told_number : List ℕ → Option ℕ → FaceKeys → FaceKeys
+with_told_number text id n = record n { numbers = with_declared n.numbers text id }
 
 -- what stands for keys at a face is changed, where the face is open
 abbrev pub put_naming : ℕ → (FaceKeys → FaceKeys) → NamingState → Option FaceKeys → NamingState
