@@ -1,6 +1,6 @@
 -- What changes keep of the numbers that are live.
 use Rattle.std.proofs.Common.{◌≡◌, ◌≢◌, ℕ, ◌<◌, Bool, true, false, cond, eqb, List, [], ◌∷◌, length, map, get_or, subst, sym, ap, ◌∙◌, refl, arith, suc, zero, Option, None, inl, inr}
-use Rattle.std.specs.List.{Contains, remove}
+use Rattle.std.specs.List.{AllPairs, Contains, remove}
 use Rattle.std.proofs.lemmas.Bool.{cases_eq, cases_lt}
 use Rattle.std.proofs.lemmas.Bool.Decides.{nat_tests}
 use Rattle.std.proofs.lemmas.List.{length-map, get_or-map, get_or_default}
@@ -123,7 +123,7 @@ abbrev pub Once : List ℕ → Type 0
 Once [] = Unit {0}
 Once (i ∷ is) = (Contains is i → ⊥) × Once is
 
-once_from : (is : List ℕ) → ((j k : ℕ) → j < k → k < length is → get_or is j 0 ≢ get_or is k 0) → Once is
+pub once_from : (is : List ℕ) → ((j k : ℕ) → j < k → k < length is → get_or is j 0 ≢ get_or is k 0) → Once is
 once_from [] apart = tt
 once_from (i ∷ is) apart = (λ has. twice has, once_from is (λ j k lt in_k. apart (suc j) (suc k) (omega arith) (omega arith)))
   where
@@ -136,6 +136,12 @@ once_in_table nodes order table =
 
 pub once_in_view : (nodes : List (Option Node)) (order : List ℕ) (ns : List NameEntry) → rows nodes order ≡ ns → IsTable nodes order → Once (ids ns)
 once_in_view nodes order ns view table = let O : List NameEntry → Type 0 = λ (v : List NameEntry). Once (ids v) in subst O view (once_in_table nodes order table)
+
+-- two places have different numbers
+pub distinct_in_view : (nodes : List (Option Node)) (order : List ℕ) (ns : List NameEntry) → rows nodes order ≡ ns → IsTable nodes order → AllPairs ◌≢◌ (ids ns)
+distinct_in_view nodes order ns view table =
+    let A : List ℕ → Type 0 = AllPairs ◌≢◌ in
+    subst A (sym (ids-rows nodes order) ∙ ap ids view) (λ j k d lt in_k same. one_place nodes order k j table.names.rising in_k (omega arith) (omega arith) (get_or_default order j 0 d (omega arith) ∙ same ∙ get_or_default order k d 0 in_k))
 
 entry_at-without : (i j : ℕ) (ns : List NameEntry) → entry_at (map (without_match i) ns) j ≡ without_match i (entry_at ns j)
 entry_at-without i j [] = refl

@@ -3,7 +3,7 @@
 //! - `node`: what is kept of a text, and the number that names it
 //! - `refusal`: why a name or an id is refused
 //! - `part`: texts, of which those that begin one text share its memory
-//! - `order`: the nodes in the order of their texts, and the search in it
+//! - `order`: the nodes in the order of their texts, and the search in it; what stands before a text's first `*`
 //! - `edit`: how nodes come and go
 //! - `close`: how all nodes below a text go
 //! - `forget`: how a number leaves the matches of other nodes
@@ -25,6 +25,7 @@ pub mod refusal;
 
 pub use names::Names;
 pub use node::{ResourceId, ResourceList};
+pub use order::nonwild;
 pub use refusal::NameRefusal;
 
 #[cfg(test)]

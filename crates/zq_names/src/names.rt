@@ -219,6 +219,7 @@ impl Names {
         ensures only { IfOk result (λ r. (i : ℕ) → Contains (ids self.now) i → (entry_at self.now i).text ≡ (entry_at self.now from.0).text ++ suffix.now → i ≡ r.0) }
         ensures absent { OnErr result (Contains (texts self.now) ((entry_at self.now from.0).text ++ suffix.now) → ⊥) }
         ensures names { IsNames (ids self.now) (texts self.now) }
+        ensures distinct { AllPairs ◌≢◌ (ids self.now) }
     {
         let head = self.expr(from);
         match search(&self.nodes, &self.order, head, suffix) {
@@ -234,6 +235,7 @@ impl Names {
         ensures only { IfSome result (λ r. (i : ℕ) → Contains (ids self.now) i → (entry_at self.now i).text ≡ (entry_at self.now from.0).text ++ suffix.now → i ≡ r.0) }
         ensures absent { IfNone result (Contains (texts self.now) ((entry_at self.now from.0).text ++ suffix.now) → ⊥) }
         ensures names { IsNames (ids self.now) (texts self.now) }
+        ensures distinct { AllPairs ◌≢◌ (ids self.now) }
     {
         self.find(from, suffix).ok()
     }

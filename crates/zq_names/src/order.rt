@@ -262,6 +262,16 @@ pub(crate) fn cut_before_star(text: &str) -> Option<usize>
     }
 }
 
+/// The part of a text that stands before its first chunk with a `*`, without the `/` between them.
+pub fn nonwild(text: &str) -> &str
+    ensures { result.now ≡ nonwild text.now }
+{
+    match cut_before_star(text) {
+        None => text,
+        Some(k) => &text[..k],
+    }
+}
+
 // The place of a node.
 pub(crate) fn place_of(nodes: &Slab<Node>, order: &Tree, id: usize) -> usize
     requires table { IsTable nodes.now.slots order.now }

@@ -12,7 +12,7 @@ use Rattle.std.proofs.lemmas.Map.{lookup-none}
 use Rattle.std.proofs.lemmas.Map.Entries.{none_below_head}
 use Rattle.std.proofs.lemmas.Map.Keys.{sorted_tail}
 use Rattle.std.proofs.lemmas.Option.{none-some, same_Some}
-use Rattle.zq_tables.specs.FaceIds.{of_id, with_id, without_id}
+use Rattle.zq_ids.specs.FaceIds.{of_id, with_id, without_id}
 use Rattle.zq_tables.specs.Holding.{Rises, weigh}
 
 -- ---- numbers that rise
@@ -72,14 +72,6 @@ module _ {X : Type 0} where
           → weigh f (cond b ((e.0, y) ∷ es) (e ∷ set_value test es y)) + f x ≡ f e.1 + weigh f es + f y
       by true here later = let same = ap f (same_Some _ _ here) in omega (arith, same)
       by false here later = let rest = later here in omega (arith, rest)
-
-  pub removed_absent : (test : ℕ → Bool) (es : List (ℕ × X)) → lookup test es ≡ None → remove_entry test es ≡ es
-  removed_absent test [] is = refl
-  removed_absent test (e ∷ es) is = by (test e.0) is (removed_absent test es)
-    where
-      by : (b : Bool) → cond b (Some e.1) (lookup test es) ≡ None → (lookup test es ≡ None → remove_entry test es ≡ es) → cond b es (e ∷ remove_entry test es) ≡ e ∷ es
-      by true here later = absurd (none-some e.1 (sym here))
-      by false here later = ap (λ l. e ∷ l) (later here)
 
   pub removed_set : (test : ℕ → Bool) (es : List (ℕ × X)) (y : X) → remove_entry test (set_value test es y) ≡ remove_entry test es
   removed_set test [] y = refl

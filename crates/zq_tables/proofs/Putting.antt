@@ -1,19 +1,22 @@
 -- An id comes to stand for a node, which it holds; a queryable that is there stays as it is.
-use Rattle.std.proofs.Common.{◌≡◌, ℕ, ◌<◌, ◌≤◌, true, false, List, Option, Some, None, refl, sym, ap, ◌∙◌, arith}
+use Rattle.std.proofs.Common.{◌≡◌, ℕ, ◌<◌, ◌≤◌, true, false, List, Option, Some, None, refl, sym, ap, subst, ◌∙◌, arith}
 use Rattle.std.specs.Option.{is_some}
 use Rattle.std.specs.Map.{set_value}
 use Rattle.std.specs.BTreeMap.{is_at}
 use Rattle.std.specs.Ordering.{nat_cmp}
 use Rattle.std.proofs.lemmas.Bool.{false≢true}
 use Rattle.zq_names.specs.Names.{NameEntry, entry_at}
-use Rattle.zq_tables.specs.FaceIds.{of_id, with_id}
-use Rattle.zq_tables.specs.FaceTexts.{id_texts}
-use Rattle.zq_tables.specs.Naming.{FaceKeys, Names, first_stays, text_at, with_queryable, change_naming}
+use Rattle.zq_ids.specs.FaceIds.{of_id, next_id, with_id}
+use Rattle.zq_ids.specs.FaceTexts.{id_texts}
+use Rattle.zq_tables.specs.Naming.{FaceKeys, FaceNaming, Names, face_naming, first_stays, text_at, with_queryable, change_naming}
 use Rattle.zq_tables.specs.Holding.{FaceHolds, Faces, InHand, IsHeld, hold_of, held_ids, held_keys, ids_at, is_settled, settled_at, least, limit, put_ids, change_ids, keys_of_face, texts_by, with_key, with_keys, with_node}
 use Rattle.zq_tables.specs.declared.holder.Holder.{Holder}
-use Rattle.zq_tables.specs.declared.holder.Holder.TheVariants.{Queryable}
+use Rattle.zq_tables.specs.declared.holder.Holder.TheVariants.{Number, Queryable}
+use Rattle.zq_message.specs.declared.message.Mapping.TheVariants.{Receiver}
+use Rattle.zq_ids.proofs.FaceLemmas.{next-texts}
+use Rattle.zq_ids.proofs.IdLemmas.{next_unused}
 use Rattle.zq_tables.proofs.Entries.{Rises-with_id, weigh-with_id, shown-with_id}
-use Rattle.zq_tables.proofs.Faces.{change_idle, set_texts, shown_text}
+use Rattle.zq_tables.proofs.Faces.{change_idle, face_there, set_texts, shown_text}
 use Rattle.zq_tables.proofs.Holders.{holds_with, rises_with, same_ids, shown_with}
 use Rattle.zq_tables.proofs.Holds.{face_at}
 use Rattle.zq_tables.proofs.Letting.{placed}
@@ -42,14 +45,21 @@ module _ (h : Holder) (names : List NameEntry) (faces faces' : Faces) (face id r
       set_texts names faces faces' face was (with_node h id r was) g at put
       (shown_with h names was (with_id ids id r) ∙ ap (with_keys h (keys_of_face names was)) shown ∙ sym is)
 
--- ---- a new queryable
+-- ---- a new id at a face that is open
 
+module _ (h : Holder) (names : List NameEntry) (faces faces' : Faces) (face id r : ℕ) (new : settled_at h face id faces ≡ false) (put : faces' ≡ change_ids face (with_node h id r) faces) where
+  pub new_held : InHand names faces r → least h ≤ id → id < limit h → IsHeld names faces'
+  new_held hand above below =
+      let there = open_face h id (ids_at face faces) new in
+      id_held h names faces faces' face id r there.0 there.1 (put ∙ ap (put_ids face (with_node h id r) faces) there.1) hand there.2 above below
+
+  pub new_held_texts : (t : List ℕ) → (entry_at names r).text ≡ t → texts_by names faces' ≡ change_naming face (with_key h id t) (texts_by names faces)
+  new_held_texts t text =
+      let there = open_face h id (ids_at face faces) new in
+      id_held_texts h names faces faces' face id r there.0 there.1 (put ∙ ap (put_ids face (with_node h id r) faces) there.1) t (with_key h id t) text refl
+
+-- a queryable
 module _ (names : List NameEntry) (faces faces' : Faces) (face id r : ℕ) (new : settled_at Queryable face id faces ≡ false) (put : faces' ≡ change_ids face (with_node Queryable id r) faces) where
-  pub queryable_held : InHand names faces r → id < 4294967296 → IsHeld names faces'
-  queryable_held hand small =
-      let there = open_face Queryable id (ids_at face faces) new in
-      id_held Queryable names faces faces' face id r there.0 there.1 (put ∙ ap (put_ids face (with_node Queryable id r) faces) there.1) hand there.2 (omega arith) small
-
   pub queryable_held_texts : (t : List ℕ) → (entry_at names r).text ≡ t → texts_by names faces' ≡ change_naming face (with_queryable id t) (texts_by names faces)
   queryable_held_texts t text =
       let there = open_face Queryable id (ids_at face faces) new in
@@ -68,3 +78,16 @@ settled_queryable names faces face id t settled =
     let some : is_some (text_at id (id_texts names f.queryables)) ≡ true = ap is_some (shown_text names f.queryables id (Some node.0) node.1) in
     let kept : first_stays id t (id_texts names f.queryables) ≡ id_texts names f.queryables = rw some refl in
     ap (λ (l : Names). record (keys_of_face names f) { queryables = l }) kept)
+
+-- a number that is free is settled only where the face is closed
+pub next_open : (names : List NameEntry) (faces : Faces) (face id : ℕ) (f : FaceHolds) → next_id (face_naming face (texts_by names faces)).theirs (face_naming face (texts_by names faces)).ours ≡ Some id → ids_at face faces ≡ Some f → next_id f.numbers.theirs f.numbers.ours ≡ Some id
+next_open names faces face id f next at =
+    let N : FaceNaming → Type 0 = λ (n : FaceNaming). next_id n.theirs n.ours ≡ Some id in
+    sym (next-texts names f.numbers) ∙ subst N (face_there names faces face f at) next
+
+pub settled_given : (names : List NameEntry) (faces : Faces) (face id : ℕ) (g : FaceKeys → FaceKeys) → next_id (face_naming face (texts_by names faces)).theirs (face_naming face (texts_by names faces)).ours ≡ Some id → settled_at (Number Receiver) face id faces ≡ true → texts_by names faces ≡ change_naming face g (texts_by names faces)
+settled_given names faces face id g next settled =
+    change_idle names faces face g (λ f at.
+    let free : of_id f.numbers.ours id ≡ None = next_unused f.numbers.theirs f.numbers.ours id (next_open names faces face id f next at) in
+    let some : is_some (of_id f.numbers.ours id) ≡ true = ap (λ (o : Option FaceHolds). is_settled (Number Receiver) id o) (sym at) ∙ settled in
+    absurd (false≢true (sym (ap is_some free) ∙ some)))

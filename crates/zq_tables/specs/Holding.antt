@@ -8,8 +8,8 @@ use Rattle.std.specs.BTreeMap.{is_at}
 use Rattle.zq_names.specs.Names.{NameEntry, ids, entry_at}
 use Rattle.zq_names.specs.Keeping.{AllStay}
 use Rattle.zq_names.specs.Idle.{IdleAt, NoneIdle}
-use Rattle.zq_tables.specs.FaceIds.{FaceIds, of_id, side, with_side, with_id, without_id}
-use Rattle.zq_tables.specs.FaceTexts.{id_texts, texts_of}
+use Rattle.zq_ids.specs.FaceIds.{FaceIds, of_id, next_id, side, with_side, with_id, without_id}
+use Rattle.zq_ids.specs.FaceTexts.{id_texts, texts_of}
 use Rattle.zq_tables.specs.Naming.{FaceKeys, Names, NamingState, sent_side, with_sent}
 use Rattle.zq_tables.specs.declared.holder.Holder.{Holder}
 use Rattle.zq_tables.specs.declared.holder.Holder.TheVariants.{Number, Queryable}
@@ -79,6 +79,10 @@ put_ids face f faces (Some n) = set_value (is_at (nat_cmp face)) faces (f n)
 -- what holds nodes at an open face is changed
 abbrev pub change_ids : ℕ → (FaceHolds → FaceHolds) → Faces → Faces
 change_ids face f faces = put_ids face f faces (ids_at face faces)
+
+-- the number is the least free one of the face, where it is open
+abbrev pub IsNext : ℕ → ℕ → Faces → Type 0
+IsNext face id faces = (f : FaceHolds) → ids_at face faces ≡ Some f → next_id f.numbers.theirs f.numbers.ours ≡ Some id
 
 -- ---- the same as texts
 

@@ -1,17 +1,19 @@
 -- What stands for keys at each open face, by number or by a queryable's id, and what expressions say by it.
 use Rattle.std.specs.Prelude.{ℕ, ◌==◌, Bool, false, not, ◌||◌, is_some, List, [], ◌∷◌, ◌++◌, Option, Some, None, if◌then◌else◌, unwrap_or}
+use Rattle.std.specs.List.{flat_map, list_any}
 use Rattle.std.specs.Str.{bytes_eq}
 use Rattle.std.specs.Ordering.{nat_cmp}
-use Rattle.std.specs.Map.{lookup, remove_entry, set_value}
+use Rattle.std.specs.Map.{lookup, remove_entry, set_value, values_of}
 use Rattle.std.specs.BTreeMap.{is_at, insert_entry}
 use Rattle.zq_key.specs.Key.{is_key}
 use Rattle.zq_message.specs.declared.message.Mapping.{Mapping}
 use Rattle.zq_message.specs.declared.message.Mapping.TheVariants as mapping
 use Rattle.zq_message.specs.declared.message.WireExpr.{WireExpr}
+use Rattle.zq_names.specs.Texts.{heads}
 use Rattle.zq_names.specs.declared.refusal.NameRefusal.{NameRefusal}
 use Rattle.zq_names.specs.declared.refusal.NameRefusal.TheVariants as refusal
-use Rattle.zq_tables.specs.FaceIds.{of_id}
-use Rattle.zq_tables.specs.FaceTexts.{FaceTexts, text_side, swapped, whole, best_key}
+use Rattle.zq_ids.specs.FaceIds.{of_id}
+use Rattle.zq_ids.specs.FaceTexts.{FaceTexts, text_side, swapped, whole, best_key, with_declared}
 use Rattle.zq_tables.specs.declared.said.Said.{Said}
 use Rattle.zq_tables.specs.declared.said.Said.TheVariants as said
 
@@ -125,6 +127,10 @@ with_queryable id text n = record n { queryables = first_stays id text n.queryab
 abbrev pub without_queryable : ℕ → FaceKeys → FaceKeys
 without_queryable id n = record n { queryables = remove_entry (is_at (nat_cmp id)) n.queryables }
 
+-- the number that was declared to the face, if one was, stands for the part of the text without a `*`
+abbrev pub with_told_number : List ℕ → Option ℕ → FaceKeys → FaceKeys
+with_told_number text id n = record n { numbers = with_declared n.numbers text id }
+
 -- what stands for keys at a face is changed, where the face is open
 abbrev pub put_naming : ℕ → (FaceKeys → FaceKeys) → NamingState → Option FaceKeys → NamingState
 put_naming face f s None = s
@@ -154,3 +160,16 @@ plain text = whole text
 -- the text as it is handed to the face: by the longest numbered part of whole chunks, else whole
 abbrev pub best : FaceNaming → List ℕ → WireExpr
 best n text = best_key n text
+
+-- the texts that the numbers and the queryables of a face stand for
+abbrev pub face_texts : FaceKeys → List (List ℕ)
+face_texts n = values_of n.numbers.theirs ++ values_of n.numbers.ours ++ values_of n.queryables
+
+-- the texts that the numbers and the queryables of all open faces stand for
+abbrev pub all_texts : NamingState → List (List ℕ)
+all_texts s = flat_map face_texts (values_of s)
+
+-- a number or a queryable stands for the text, or for one of which it is a part that ends before a `/`; the empty text is the root's, and no such part
+abbrev pub has_context : List ℕ → NamingState → Bool
+has_context [] s = false
+has_context (b ∷ t) s = list_any (bytes_eq (b ∷ t)) (flat_map heads (all_texts s))

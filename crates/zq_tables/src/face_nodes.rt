@@ -1,16 +1,16 @@
 //! What holds nodes of the names at one face.
-ghost use Rattle.std.specs.Prelude.{◌≡◌, ◌≢◌, [], None, IfOk, IfNone, OnOk, OnErr, option_copied, option_map, slice_get};
+ghost use Rattle.std.specs.Prelude.{◌≡◌, ◌≢◌, [], None, Some, IfOk, IfNone, OnOk, OnErr, option_copied, option_map, slice_get};
 ghost use Rattle.std.specs.List.Sorted.{IsStrictlySortedBy};
 ghost use Rattle.std.specs.Map.{keys_of};
 ghost use Rattle.std.specs.Ordering.{nat_cmp};
-ghost use Rattle.zq_tables.specs.FaceIds.{AreLive, of_id, without_id};
+ghost use Rattle.zq_ids.specs.FaceIds.{AreLive, next_id, of_id, without_id};
 ghost use Rattle.zq_tables.specs.Holding.{Numbers, held_ids, with_node, without_node};
 
-use crate::face::FaceNames;
 use crate::holder::Holder;
 use std::alloc::Global;
 use std::collections::BTreeMap;
 use std::marker::Model;
+use zq_ids::FaceNames;
 use zq_key::memory::OutOfMemory;
 use zq_key::message::{Mapping, WireExpr};
 use zq_names::{Names, ResourceId};
@@ -106,6 +106,15 @@ impl FaceNodes {
             Some(node) => Ok(node),
             None => unreachable!(),
         }
+    }
+
+    // The least free number, which the gateway declares to the face, holds a node.
+    pub(crate) fn put_given(&mut self, id: u16, node: ResourceId) -> Result<(), OutOfMemory>
+        requires { next_id self.old.numbers.theirs self.old.numbers.ours ≡ Some id }
+        ensures ok { OnOk result (self.new ≡ with_node (Holder.Number Mapping.Receiver) id node.0 self.old) }
+        ensures err { OnErr result (self.new ≡ self.old) }
+    {
+        self.numbers.declare(id, node)
     }
 
     // A queryable holds a node.

@@ -1,7 +1,7 @@
 //! What holds nodes of the names at each face.
 ghost use Rattle.std.specs.Prelude.{◌≡◌, IfOk, IfNone, OnOk, OnErr, option_map, false, slice_get};
 ghost use Rattle.std.specs.Map.{keys_of};
-ghost use Rattle.zq_tables.specs.Holding.{Declares, IsHeld, change_ids, ids_at, ids_in, node_at as node_of, settled_at, with_node, without_node};
+ghost use Rattle.zq_tables.specs.Holding.{Declares, IsHeld, IsNext, change_ids, ids_at, ids_in, node_at as node_of, settled_at, with_node, without_node};
 
 use crate::face_nodes::FaceNodes;
 use crate::holder::Holder;
@@ -68,6 +68,23 @@ pub(crate) fn put_queryable(
 {
     match faces.get_mut(&face) {
         Some(nodes) => nodes.put_queryable(id, node),
+        None => Ok(()),
+    }
+}
+
+// The least free number of the face, which the gateway declares to it, holds a node.
+pub(crate) fn put_given(
+    faces: &mut Faces,
+    face: u32,
+    id: u16,
+    node: ResourceId,
+) -> Result<(), OutOfMemory>
+    requires { IsNext face id faces.old.entries }
+    ensures ok { OnOk result (faces.new.entries ≡ change_ids face (with_node (Holder.Number Mapping.Receiver) id node.0) faces.old.entries) }
+    ensures err { OnErr result (faces.new.entries ≡ faces.old.entries) }
+{
+    match faces.get_mut(&face) {
+        Some(nodes) => nodes.put_given(id, node),
         None => Ok(()),
     }
 }

@@ -1,16 +1,18 @@
 //! The numbers and the queryables of every open face.
-ghost use Rattle.std.specs.Prelude.{◌≡◌, ◌<◌, [], None, IfErr, IfOk, IfNone, IfSome, OnOk, OnErr, true, is_none, is_some, option_copied, length, slice_get};
+ghost use Rattle.std.specs.Prelude.{◌≡◌, ◌<◌, [], None, Some, IfErr, IfOk, IfNone, IfSome, OnOk, OnErr, true, is_none, is_some, option_copied, length, slice_get};
 ghost use Rattle.std.specs.Ordering.{nat_cmp};
 ghost use Rattle.std.specs.Map.{keys_of, remove_entry};
 ghost use Rattle.std.specs.BTreeMap.{is_at, insert_entry};
 ghost use Rattle.zq_key.specs.Key.{is_key as key_of};
-ghost use Rattle.zq_tables.specs.FaceTexts.{IsReason};
-ghost use Rattle.zq_tables.specs.Holding.{held_keys, without_key, without_keys};
-ghost use Rattle.zq_tables.specs.Naming.{best, change_naming, declare_refusal, face_keys, face_naming, face_queryables, no_keys, read_by, said_of, text_at, with_name, with_queryable, without_name, without_queryable, without_sent};
+ghost use Rattle.zq_ids.specs.FaceIds.{next_id};
+ghost use Rattle.zq_ids.specs.FaceTexts.{IsReason, declared_key};
+ghost use Rattle.zq_tables.specs.Holding.{held_keys, with_key, without_key, without_keys};
+ghost use Rattle.zq_tables.specs.Naming.{best, change_naming, declare_refusal, face_keys, face_naming, face_queryables, has_context as has_context_of, no_keys, read_by, said_of, text_at, with_name, with_queryable, with_told_number, without_name, without_queryable, without_sent};
 
-use crate::choice::{plain, whole};
 use crate::face_nodes::FaceNodes;
-use crate::held::{Faces, declare_at, first_at, is_settled, node_at, put_queryable, take_at};
+use crate::held::{
+    Faces, declare_at, first_at, is_settled, node_at, put_given, put_queryable, take_at,
+};
 use crate::hold::{let_go, take_hold};
 use crate::holder::Holder;
 use crate::number::{remaps, said_plainly, said_under};
@@ -18,11 +20,13 @@ use crate::said::Said;
 use std::alloc::Global;
 use std::collections::BTreeMap;
 use std::marker::Model;
+use zq_ids::choice::{plain, whole};
+use zq_ids::{DeclKey, FaceNames};
 use zq_key::memory::OutOfMemory;
 use zq_key::message::{FaceId, Mapping, WireExpr};
 use zq_key::text::Text;
 use zq_key::{Key, is_key};
-use zq_names::{NameRefusal, Names};
+use zq_names::{NameRefusal, Names, nonwild};
 
 /// The numbers and the queryables of every open face, which hold the nodes that they stand for. A
 /// node goes with its last hold.
@@ -147,13 +151,24 @@ impl Naming {
 
     /// The text as it is handed to the face (upstream's `get_best_key`): by the number of the
     /// longest part of whole chunks that has one, a number of the face before one of the gateway
-    /// and the least of several, else whole, in the same memory if the text is shared.
+    /// and the least of several, else whole, which may share the memory of the text.
     #[tactic(auto, using(crate::proofs::Reading::answer_reads))]
     pub fn best(&self, face: FaceId, text: &Text) -> Result<WireExpr, OutOfMemory>
         ensures key { IfOk result (λ w. w ≡ best (face_naming face.0 self.now) text.now) }
         ensures reads { 0 < length text.now → IfOk result (λ w. read_by (face_naming face.0 self.now) w ≡ Said.Full text.now) }
     {
         self.best_of(face, text)
+    }
+
+    /// Whether the text, or one of which it is a part that ends before a `/`, is what a number or a
+    /// queryable of an open face stands for: whether the names have its node. The root has none.
+    pub fn has_context(&self, text: &str) -> bool
+        ensures { result ≡ has_context_of text.now self.now }
+    {
+        if text.is_empty() {
+            return false;
+        }
+        self.names.get_resource(self.names.root(), text).is_some()
     }
 
     /// What a number of the face stands for.
@@ -231,6 +246,79 @@ impl Naming {
         self.release(face, Holder::Number(Mapping::Sender), id as u32);
     }
 
+    // The key under which a text would be declared to the face.
+    fn chosen(
+        &self,
+        face: FaceId,
+        text: &str,
+        local: bool,
+        may: bool,
+    ) -> Result<DeclKey, OutOfMemory>
+        ensures { IfOk result (λ d. d ≡ declared_key (face_naming face.0 self.now) local may text.now) }
+    {
+        match self.faces.get(&face.0) {
+            Some(nodes) => nodes
+                .numbers()
+                .chosen_key(self.alloc, &self.names, text, local, may),
+            None => {
+                let none = FaceNames::new(self.alloc);
+                none.chosen_key(self.alloc, &self.names, text, local, may)
+            }
+        }
+    }
+
+    // The least free number of the face stands for a key from then on, where the face is open.
+    fn put_given(&mut self, face: FaceId, id: u16, key: &str) -> Result<(), OutOfMemory>
+        requires key { key_of key.now ≡ true }
+        requires next { next_id (face_naming face.0 self.old).theirs (face_naming face.0 self.old).ours ≡ Some id }
+        ensures ok { OnOk result (self.new ≡ change_naming face.0 (with_key (Holder.Number Mapping.Receiver) id key.now) self.old) }
+        ensures err { OnErr result (self.new ≡ self.old) }
+    {
+        // so many faces at most bound how often a node is held
+        let _open = self.faces.len();
+        if is_settled(
+            &self.faces,
+            face.0,
+            Holder::Number(Mapping::Receiver),
+            id as u32,
+        ) {
+            return Ok(());
+        }
+        let node = take_hold(&mut self.names, key)?;
+        match put_given(&mut self.faces, face.0, id, node) {
+            Ok(()) => Ok(()),
+            Err(refusal) => {
+                let_go(&mut self.names, node);
+                Err(refusal)
+            }
+        }
+    }
+
+    /// The key under which a text is declared to the face: by a number of its part without a `*`,
+    /// by a new number for that part, or whole. A new number stands for the part from then on; it
+    /// has to be declared to the face before the key is used. `local` is whether the face is local,
+    /// and `may` whether it may have a new number. (`Resource::decl_key`)
+    pub fn declared(
+        &mut self,
+        face: FaceId,
+        text: &str,
+        local: bool,
+        may: bool,
+    ) -> Result<DeclKey, OutOfMemory>
+        requires { key_of text.now ≡ true }
+        ensures key { IfOk result (λ d. d ≡ declared_key (face_naming face.0 self.old) local may text.now) }
+        ensures ok { IfOk result (λ d. self.new ≡ change_naming face.0 (with_told_number text.now d.declared) self.old) }
+        ensures fresh { IfOk result (λ d. IfSome d.declared (λ id. text_at id (face_naming face.0 self.old).ours ≡ None)) }
+        ensures err { OnErr result (self.new ≡ self.old) }
+    {
+        let key = self.chosen(face, text, local, may)?;
+        let Some(id) = key.declared else {
+            return Ok(key);
+        };
+        self.put_given(face, id, nonwild(text))?;
+        Ok(key)
+    }
+
     /// The gateway gives up a number that it declared to the face, and its node goes with its last
     /// hold. It takes no memory. A face that is not open has none.
     pub fn take_back(&mut self, face: FaceId, id: u16)
@@ -260,7 +348,7 @@ impl Naming {
         if is_settled(&self.faces, face.0, Holder::Queryable, id) {
             return Ok(fresh);
         }
-        let node = take_hold(&mut self.names, key)?;
+        let node = take_hold(&mut self.names, key.as_str())?;
         match put_queryable(&mut self.faces, face.0, id, node) {
             Ok(()) => Ok(fresh),
             Err(refusal) => {

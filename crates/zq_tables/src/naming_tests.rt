@@ -2,10 +2,10 @@ use crate::naming::Naming;
 use crate::said::Said;
 use std::alloc::Global;
 use std::test::Fail;
-use zq_key::Key;
 use zq_key::memory::OutOfMemory;
 use zq_key::message::{FaceId, Mapping, WireExpr};
 use zq_key::text::Text;
+use zq_key::{Key, is_key};
 use zq_names::NameRefusal;
 
 const FACE: FaceId = FaceId(3);
@@ -31,6 +31,12 @@ enum Step<'a> {
     Best(FaceId, &'a str, u16, &'a str),
     // what the suffix says under the scope, if the face has that number
     Says(FaceId, u16, &'a str, Option<&'a str>),
+    // whether the text has a context
+    Context(&'a str, bool),
+    // the text is declared to the face, which may have a new number: the scope, the suffix and the new number
+    Told(FaceId, &'a str, bool, u16, &'a str, Option<u16>),
+    // the gateway gives up a number that it declared
+    TakeBack(FaceId, u16),
 }
 
 fn refusal_of(declared: Result<(), NameRefusal>) -> Option<NameRefusal> {
@@ -86,6 +92,22 @@ fn says(
     }
 }
 
+fn is_told(
+    names: &mut Naming,
+    face: FaceId,
+    text: &str,
+    may: bool,
+    scope: u16,
+    suffix: &str,
+    new: Option<u16>,
+) -> Result<bool, OutOfMemory> {
+    if !is_key(text) {
+        return Ok(false);
+    }
+    let key = names.declared(face, text, false, may)?;
+    Ok(key.wire.scope == scope && key.wire.suffix.as_str() == suffix && key.declared == new)
+}
+
 // Whether it came out as it must.
 fn is_right(alloc: Global, names: &mut Naming, step: Step<'_>) -> Result<bool, OutOfMemory> {
     match step {
@@ -113,6 +135,14 @@ fn is_right(alloc: Global, names: &mut Naming, step: Step<'_>) -> Result<bool, O
         Step::Holds(face, id, there) => Ok(names.holds_queryable(face, id) == there),
         Step::Best(face, text, scope, suffix) => is_best(alloc, names, face, text, scope, suffix),
         Step::Says(face, scope, suffix, full) => says(alloc, names, face, scope, suffix, full),
+        Step::Context(text, there) => Ok(names.has_context(text) == there),
+        Step::Told(face, text, may, scope, suffix, new) => {
+            is_told(names, face, text, may, scope, suffix, new)
+        }
+        Step::TakeBack(face, id) => {
+            names.take_back(face, id);
+            Ok(true)
+        }
     }
 }
 
@@ -153,8 +183,14 @@ fn best_keys(rt: HostRuntime) -> Result<(), Fail> {
         Step::Best(FACE, "x/*", 2, ""),
         Step::Best(FACE, "x/y", 0, "x/y"),
         Step::Best(OTHER, "a", 0, "a"),
+        Step::Best(OTHER, "a/b", 0, "a/b"),
         Step::Best(OTHER, "a/b/c", 0, "a/b/c"),
+        Step::Best(OTHER, "a/b/c/d", 0, "a/b/c/d"),
+        Step::Best(OTHER, "a/b/c/d/e", 0, "a/b/c/d/e"),
+        Step::Best(OTHER, "a/bc", 0, "a/bc"),
+        Step::Best(OTHER, "ab", 0, "ab"),
         Step::Best(OTHER, "x/*", 0, "x/*"),
+        Step::Best(OTHER, "x/y", 0, "x/y"),
     ];
     assert_eq!(rt; wrong_step(rt.alloc(), &steps)?, None);
     Ok(())
@@ -251,6 +287,53 @@ fn queryables(rt: HostRuntime) -> Result<(), Fail> {
         Step::Close(OTHER),
         Step::Hold(OTHER, 1, "a/b", true),
         Step::Holds(OTHER, 1, false),
+    ];
+    assert_eq!(rt; wrong_step(rt.alloc(), &steps)?, None);
+    Ok(())
+}
+
+// A text has a context as long as a number or a queryable stands for it, or for one that it is a
+// part of whole chunks from the front of.
+#[test]
+fn contexts(rt: HostRuntime) -> Result<(), Fail> {
+    let steps = [
+        Step::Context("", false),
+        Step::Declare(FACE, 7, "a/b/c", None),
+        Step::Hold(OTHER, 1, "a/x", true),
+        Step::Context("", false),
+        Step::Context("a", true),
+        Step::Context("a/b", true),
+        Step::Context("a/b/c", true),
+        Step::Context("a/b/c/d", false),
+        Step::Context("a/", false),
+        Step::Context("b", false),
+        Step::Undeclare(FACE, 7),
+        Step::Context("a/b", false),
+        Step::Context("a", true),
+        Step::Release(OTHER, 1),
+        Step::Context("a", false),
+    ];
+    assert_eq!(rt; wrong_step(rt.alloc(), &steps)?, None);
+    Ok(())
+}
+
+// A text is declared by a number of its part before the first chunk with a `*`, by a new one where
+// there may be one, the least that neither side has, or whole.
+#[test]
+fn told(rt: HostRuntime) -> Result<(), Fail> {
+    let steps = [
+        Step::Told(FACE, "a/b/*", false, 0, "a/b/*", None),
+        Step::Context("a/b", false),
+        Step::Told(FACE, "a/b/*", true, 1, "/*", Some(1)),
+        Step::Told(FACE, "a/b/c$*", true, 1, "/c$*", None),
+        Step::Told(FACE, "*/a", true, 0, "*/a", None),
+        Step::Context("a/b", true),
+        Step::Declare(FACE, 2, "c", None),
+        Step::Told(FACE, "c/**", true, 2, "/**", None),
+        Step::Told(FACE, "d", true, 3, "", Some(3)),
+        Step::TakeBack(FACE, 1),
+        Step::Context("a/b", false),
+        Step::Told(FACE, "e", true, 1, "", Some(1)),
     ];
     assert_eq!(rt; wrong_step(rt.alloc(), &steps)?, None);
     Ok(())

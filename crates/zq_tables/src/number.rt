@@ -1,12 +1,12 @@
 //! What a number says.
 ghost use Rattle.std.specs.Prelude.{◌≡◌, ◌≢◌, IfOk, option_copied};
-ghost use Rattle.zq_tables.specs.FaceIds.{AreLive};
-ghost use Rattle.zq_tables.specs.FaceTexts.{texts_of};
+ghost use Rattle.zq_ids.specs.FaceIds.{AreLive};
+ghost use Rattle.zq_ids.specs.FaceTexts.{texts_of};
 ghost use Rattle.zq_tables.specs.Naming.{remaps as remaps_of, said_of, said_plainly as plainly_of};
 
-use crate::face::FaceNames;
 use crate::said::Said;
 use std::alloc::Global;
+use zq_ids::FaceNames;
 use zq_key::memory::OutOfMemory;
 use zq_key::message::WireExpr;
 use zq_key::text::Text;

@@ -1,7 +1,6 @@
 use Rattle.std.proofs.Common.{◌++◌, ℕ, List, subst}
 use Rattle.std.specs.List.{Contains}
-use Rattle.zq_names.specs.Texts.{IsBelow}
-use Rattle.zq_names.specs.Names.{NameEntry, texts, entry_at}
+use Rattle.zq_names.specs.Names.{texts, entry_at}
 use Rattle.zq_names.proofs.Adding.{Adds-heads, Contains-text}
 use Rattle.zq_names.proofs.names.Names.get_key.Goals as goal
 

@@ -1,9 +1,9 @@
-use Rattle.std.proofs.Common.{◌≡◌, ℕ, true, false, List, [], sym, ap, subst, ◌∙◌}
+use Rattle.std.proofs.Common.{◌≡◌, List, sym, ap, subst, ◌∙◌}
 use Rattle.std.specs.List.{Contains}
 use Rattle.std.proofs.lemmas.Bool.{false≢true}
 use Rattle.std.proofs.lemmas.List.Elements.{All-weaker, All-contains_itself}
 use Rattle.zq_names.specs.declared.node.ResourceId.{ResourceId}
-use Rattle.zq_names.specs.Names.{NameEntry, entry_at, slot, slot_matches}
+use Rattle.zq_names.specs.Names.{NameEntry, slot, slot_matches}
 use Rattle.zq_names.specs.Linking.{HasContext}
 use Rattle.zq_names.proofs.LinkLemmas.{no_members}
 use Rattle.zq_names.proofs.Table.{has_node, entry_live, context_live}

@@ -3,7 +3,7 @@ use Rattle.zq_tables.specs.declared.holder.Holder.TheVariants.{Queryable}
 use Rattle.zq_tables.specs.Naming.{NamingState, change_naming, with_queryable}
 use Rattle.zq_tables.specs.Holding.{Faces, IsHeld, settled_at, texts_by}
 use Rattle.zq_tables.proofs.Letting.{in_hand_held, in_hand_live, left, left_texts, room_held, taken, taken_texts}
-use Rattle.zq_tables.proofs.Putting.{queryable_held, queryable_held_texts, settled_queryable}
+use Rattle.zq_tables.proofs.Putting.{new_held, queryable_held_texts, settled_queryable}
 use Rattle.zq_tables.proofs.naming.Naming.hold_queryable.Goals as goal
 
 pub returns-then-is_settled-clause-ok : goal.returns-then-is_settled-clause-ok
@@ -13,8 +13,8 @@ returns-then-is_settled-clause-ok c =
     let S : NamingState → Type 0 = λ (s : NamingState). s ≡ change_naming face (with_queryable c.args.id key) s in
     subst S c.self.view_is (settled_queryable c.self.inside.names c.self.inside.faces.entries face c.args.id key (sym c.is_settled.ensures ∙ c.if-is_settled.true))
 
-pub take_hold-requires : goal.take_hold-requires
-take_hold-requires c =
+pub take_hold-requires-clause-room : goal.take_hold-requires-clause-room
+take_hold-requires-clause-room c =
     let few : length c.self.inside.faces.entries < 2 ^ 63 = omega (arith, c.len-open.ensures.len, c.len-open.ensures.small) in
     room_held c.self.inside.names c.self.inside.faces.entries c.self.invariant few
 
@@ -22,28 +22,28 @@ pub invariant_of-self-in-Ok : goal.invariant_of-self-in-Ok
 invariant_of-self-in-Ok c =
     let new : settled_at Queryable c.args.face.0 c.args.id c.self.inside.faces.entries ≡ false = sym c.is_settled.ensures ∙ c.if-is_settled.false in
     let takes = c.in_ok-node.ensures.ok in
-    let hand = taken c.self.inside.names c.take_hold.new.names c.self.inside.faces.entries c.args.key.now c.in_ok-node.node.0 c.self.invariant takes in
-    queryable_held c.take_hold.new.names c.self.inside.faces.entries c.put_queryable.new.faces.entries c.args.face.0 c.args.id c.in_ok-node.node.0 new c.in-Ok.ensures.ok hand (omega arith)
+    let hand = taken c.self.inside.names c.take_hold.new.names c.self.inside.faces.entries c.as_str.result.now c.in_ok-node.node.0 c.self.invariant takes in
+    new_held Queryable c.take_hold.new.names c.self.inside.faces.entries c.put_queryable.new.faces.entries c.args.face.0 c.args.id c.in_ok-node.node.0 new c.in-Ok.ensures.ok hand (omega arith) (omega arith)
 
 pub returns-in-Ok-clause-ok : goal.returns-in-Ok-clause-ok
 returns-in-Ok-clause-ok c =
     let new : settled_at Queryable c.args.face.0 c.args.id c.self.inside.faces.entries ≡ false = sym c.is_settled.ensures ∙ c.if-is_settled.false in
     let takes = c.in_ok-node.ensures.ok in
-    queryable_held_texts c.take_hold.new.names c.self.inside.faces.entries c.put_queryable.new.faces.entries c.args.face.0 c.args.id c.in_ok-node.node.0 new c.in-Ok.ensures.ok c.args.key.now takes.text
+    queryable_held_texts c.take_hold.new.names c.self.inside.faces.entries c.put_queryable.new.faces.entries c.args.face.0 c.args.id c.in_ok-node.node.0 new c.in-Ok.ensures.ok c.args.key.now (takes.text ∙ c.as_str.ensures.text)
     ∙ ap (change_naming c.args.face.0 (with_queryable c.args.id c.args.key.now))
-    (taken_texts c.self.inside.names c.take_hold.new.names c.self.inside.faces.entries c.args.key.now c.in_ok-node.node.0 c.self.invariant takes ∙ c.self.view_is)
+    (taken_texts c.self.inside.names c.take_hold.new.names c.self.inside.faces.entries c.as_str.result.now c.in_ok-node.node.0 c.self.invariant takes ∙ c.self.view_is)
 
 pub let_go-requires-clause-live : goal.let_go-requires-clause-live
 let_go-requires-clause-live c =
-    in_hand_live _ _ _ (taken c.self.inside.names c.take_hold.new.names c.self.inside.faces.entries c.args.key.now c.in_ok-node.node.0 c.self.invariant c.in_ok-node.ensures.ok)
+    in_hand_live _ _ _ (taken c.self.inside.names c.take_hold.new.names c.self.inside.faces.entries c.as_str.result.now c.in_ok-node.node.0 c.self.invariant c.in_ok-node.ensures.ok)
 
 pub let_go-requires-clause-held : goal.let_go-requires-clause-held
 let_go-requires-clause-held c =
-    in_hand_held _ _ _ (taken c.self.inside.names c.take_hold.new.names c.self.inside.faces.entries c.args.key.now c.in_ok-node.node.0 c.self.invariant c.in_ok-node.ensures.ok)
+    in_hand_held _ _ _ (taken c.self.inside.names c.take_hold.new.names c.self.inside.faces.entries c.as_str.result.now c.in_ok-node.node.0 c.self.invariant c.in_ok-node.ensures.ok)
 
 pub invariant_of-self-in-Err : goal.invariant_of-self-in-Err
 invariant_of-self-in-Err c =
-    let hand = taken c.self.inside.names c.take_hold.new.names c.self.inside.faces.entries c.args.key.now c.in_ok-node.node.0 c.self.invariant c.in_ok-node.ensures.ok in
+    let hand = taken c.self.inside.names c.take_hold.new.names c.self.inside.faces.entries c.as_str.result.now c.in_ok-node.node.0 c.self.invariant c.in_ok-node.ensures.ok in
     let H : Faces → Type 0 = IsHeld c.let_go.new.names in
     subst H (sym c.in-Err.ensures.err) (left _ _ _ _ hand c.let_go.ensures)
 
@@ -52,8 +52,8 @@ returns-in-Err-clause-err c =
     let names = c.self.inside.names in
     let faces = c.self.inside.faces.entries in
     let takes = c.in_ok-node.ensures.ok in
-    let hand = taken names c.take_hold.new.names faces c.args.key.now c.in_ok-node.node.0 c.self.invariant takes in
+    let hand = taken names c.take_hold.new.names faces c.as_str.result.now c.in_ok-node.node.0 c.self.invariant takes in
     ap (texts_by c.let_go.new.names) c.in-Err.ensures.err
     ∙ left_texts _ _ _ _ hand c.let_go.ensures
-    ∙ taken_texts names c.take_hold.new.names faces c.args.key.now c.in_ok-node.node.0 c.self.invariant takes
+    ∙ taken_texts names c.take_hold.new.names faces c.as_str.result.now c.in_ok-node.node.0 c.self.invariant takes
     ∙ c.self.view_is

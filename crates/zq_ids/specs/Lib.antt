@@ -1,0 +1,4 @@
+pub mod FaceIds
+pub mod FaceIndex
+pub mod FaceTexts
+pub mod Registering
