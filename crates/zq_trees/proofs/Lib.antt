@@ -2,3 +2,5 @@ pub mod Places
 pub mod Sitting
 pub mod Keys
 pub mod Entering
+pub mod Standing
+pub mod Dropping
