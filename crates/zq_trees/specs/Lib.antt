@@ -1,3 +1,4 @@
 pub mod Nets
 pub mod Seating
 pub mod Tellings
+pub mod Told

@@ -3,8 +3,12 @@
 //! - `types`: networks, what node numbers stand for, and what faces are told
 //! - `nets`: a network whose ids' places are found by look-up
 //! - `seats`: which open faces have which ids
+//! - `children`: the children of trees, the faces on them, and what these are told of a key
+//! - `tellings`: tellings in order
 #![tactic(auto)]
 
+pub mod children;
 pub mod nets;
 pub mod seats;
+pub mod tellings;
 pub mod types;
