@@ -1,3 +1,5 @@
 pub mod Places
 pub mod Sitting
 pub mod Ordered
+pub mod Sets
+pub mod Firsts
