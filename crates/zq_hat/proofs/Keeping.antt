@@ -284,6 +284,26 @@ module _ (faces : List (ℕ × FaceState)) (index : Index) (t : IsTied faces ind
         (λ m g is. rest_by m g _ (sym (found_after_removal nat_cmp_total exact_unsigned n m faces t.numbers) ∙ is))
         (λ k p. out_by k p _ refl ∙ sym (ap (option_and_then (λ g. option_and_then (info_on k) (declaration p.1 g))) (found_after_removal nat_cmp_total exact_unsigned n p.0 faces t.numbers)))
 
+  module _ (f : FaceState) (none : at_id n faces ≡ None) (bare : f.declared ≡ []) where
+    come_by : (m : ℕ) (g : FaceState) (b : Bool) → cond b (Some f) (at_id m faces) ≡ Some g → IsStrictlySortedBy nat_cmp (keys_of g.declared)
+    come_by m g true is =
+        let same : f ≡ g = let both : Some f ≡ Some g = is in cc in
+        subst (λ (ds : List (ℕ × Declaration)). IsStrictlySortedBy nat_cmp (keys_of ds)) (sym bare ∙ ap (λ (x : FaceState). x.declared) same) (sorted_nothing nat_cmp)
+    come_by m g false is = t.ids m g is
+
+    in_by : (k : List ℕ) (p : Place) (b : Bool) → is_at (nat_cmp n) p.0 ≡ b → declared_at k p faces ≡ option_and_then (λ g. option_and_then (info_on k) (declaration p.1 g)) (cond b (Some f) (at_id p.0 faces))
+    in_by k p true e =
+        ap (option_and_then (λ g. option_and_then (info_on k) (declaration p.1 g))) (ap (λ m. at_id m faces) (sym (same_key nat_cmp_total exact_unsigned n p.0 e)) ∙ none)
+        ∙ sym (ap (λ l. option_and_then (info_on k) (at_id p.1 l)) bare)
+    in_by k p false e = refl
+
+    -- a face comes that has declared nothing
+    pub opened_tied : IsTied (insert_entry nat_cmp faces n f) index
+    opened_tied =
+        retied faces (insert_entry nat_cmp faces n f) index t (sorted_in nat_cmp_total faces n f t.numbers)
+        (λ m g is. come_by m g _ (sym (found_after_insertion nat_cmp_total exact_unsigned n m f faces) ∙ is))
+        (λ k p. in_by k p _ refl ∙ sym (ap (option_and_then (λ g. option_and_then (info_on k) (declaration p.1 g))) (found_after_insertion nat_cmp_total exact_unsigned n p.0 f faces)))
+
 -- a face goes with its declarations, one after the other
 forget_from : (n : ℕ) (ds : List (ℕ × Declaration)) (faces : List (ℕ × FaceState)) (index : Index) → IsTied faces index → (f : FaceState) → at_id n faces ≡ Some f → f.declared ≡ ds
     → IsTied (remove_entry (is_at (nat_cmp n)) faces) (fold (without_declared n) index ds)

@@ -8,3 +8,4 @@ pub mod Turns
 pub mod Marking
 pub mod OfferLaws
 pub mod OffersMoved
+pub mod Seated

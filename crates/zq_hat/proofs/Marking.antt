@@ -12,6 +12,7 @@ use Rattle.zq_hat.specs.declared.types.FinalMark.{FinalMark}
 use Rattle.zq_hat.specs.declared.types.FinalMark.TheVariants as mark
 use Rattle.zq_hat.specs.Kept.{at_id, declaration}
 use Rattle.zq_hat.specs.Marks.{marked}
+use Rattle.zq_trees.specs.declared.types.NodeIds.{NodeIds}
 use Rattle.zq_hat.specs.State.{FaceState}
 use Rattle.zq_index.specs.Holders.{Index, Place}
 use Rattle.zq_hat.specs.Tied.{info_on, declared_at, AreOrdered, IsTied}
@@ -75,3 +76,12 @@ module _ (faces : List (ℕ × FaceState)) (index : Index) (t : IsTied faces ind
   pub mark_tied : {X E : Type 0} (r : Result X E) → is_some (at_id n faces) ≡ true → OnOk r ((f : FaceState) → at_id n faces ≡ Some f → fs ≡ set_value (is_at (nat_cmp n)) faces (marked m set f)) → OnErr r (fs ≡ faces) → IsTied fs index
   mark_tied (Ok v) some ok err = marked_by (at_id n faces) refl some ok
   mark_tied (Err e) some ok err = subst (λ l. IsTied l index) (sym err) t
+
+-- a node table leaves the index as it was
+module _ (faces : List (ℕ × FaceState)) (index : Index) (t : IsTied faces index) (n : ℕ) (ids : NodeIds) (fs : List (ℕ × FaceState)) where
+  noded_by : (o : Option FaceState) → at_id n faces ≡ o → is_some o ≡ true → ((f : FaceState) → at_id n faces ≡ Some f → fs ≡ set_value (is_at (nat_cmp n)) faces (record f { nodes = ids })) → IsTied fs index
+  noded_by None is some says = absurd (true≢false (sym some))
+  noded_by (Some f) is some says = subst (λ l. IsTied l index) (sym (says f is)) (kept faces index t n f (record f { nodes = ids }) is refl)
+
+  pub noded_tied : is_some (at_id n faces) ≡ true → ((f : FaceState) → at_id n faces ≡ Some f → fs ≡ set_value (is_at (nat_cmp n)) faces (record f { nodes = ids })) → IsTied fs index
+  noded_tied some says = noded_by (at_id n faces) refl some says

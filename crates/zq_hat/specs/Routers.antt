@@ -1,5 +1,5 @@
 -- What routers of a region declared, the network and node tables that are handed in, and what is offered by them.
-use Rattle.std.specs.Prelude.{◌≡◌, ℕ, Bool, true, not, ◌&&◌, List, [], ◌∷◌, filter, find, fold, Option, Some, None, if◌then◌else◌, option_map, slice_get}
+use Rattle.std.specs.Prelude.{ℕ, Bool, not, ◌&&◌, List, [], ◌∷◌, filter, find, fold, Option, Some, None, if◌then◌else◌, option_map, slice_get}
 use Rattle.std.specs.List.{flat_map, list_any}
 use Rattle.std.specs.Option.{option_map_or, option_to_list, option_and_then}
 use Rattle.std.specs.Map.{remove_entry, keys_of}

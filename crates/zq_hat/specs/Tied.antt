@@ -1,8 +1,8 @@
 -- What the index of a hat has of its faces' declarations, and what is offered by it.
-use Rattle.std.specs.Prelude.{ℕ, ◌≡◌, ◌==◌, Bool, true, ◌&&◌, List, [], ◌∷◌, Option, Some, None, map, filter, if◌then◌else◌}
+use Rattle.std.specs.Prelude.{ℕ, ◌≡◌, ◌==◌, Bool, true, false, ◌&&◌, List, [], ◌∷◌, Option, Some, None, map, filter, if◌then◌else◌}
 use Rattle.std.specs.List.{flat_map}
 use Rattle.std.specs.List.Sorted.{IsStrictlySortedBy}
-use Rattle.std.specs.Option.{option_and_then, option_to_list}
+use Rattle.std.specs.Option.{option_and_then, option_map_or, option_to_list}
 use Rattle.std.specs.Map.{keys_of}
 use Rattle.std.specs.Ordering.{nat_cmp}
 use Rattle.std.specs.Str.{bytes_eq}
@@ -17,7 +17,10 @@ use Rattle.zq_hat.specs.declared.types.QueryTargetQabl.{QueryTargetQabl}
 use Rattle.zq_hat.specs.Kept.{at_id, is_on, declaration}
 use Rattle.zq_hat.specs.State.{FaceState}
 use Rattle.zq_hat.specs.Offers.{offer_of}
-use Rattle.zq_hat.specs.Regions.{is_local}
+use Rattle.zq_hat.specs.Regions.{in_routers, is_local}
+use Rattle.zq_hat.specs.declared.types.Strategy.{Strategy}
+use Rattle.zq_trees.specs.Nets.{is_zid}
+use Rattle.zq_trees.specs.Seating.{Seat, has_seat, seat_cmp}
 
 -- the information of a declaration, if it is on the key
 abbrev pub info_on : List ℕ → Declaration → Option QueryableInfoType
@@ -74,3 +77,17 @@ holder_offers region q e = if intersects e.0 q then map (group_offer region q e.
 -- the entry's text is a key
 abbrev pub IsKeyed : List ℕ × Holdings → Type 0
 IsKeyed e = is_key e.0 ≡ true
+
+-- the face of the number has the id
+abbrev pub sits : List (ℕ × FaceState) → Seat → Bool
+sits faces seat = option_map_or (λ (f : FaceState). is_zid (record { 0 = seat.0 }) f.zid) (at_id seat.1 faces) false
+
+-- in a region of routers the seats are those of its faces, in any other there are none
+pub record IsSeated (strategy : Strategy) (faces : List (ℕ × FaceState)) (seats : List Seat) : Type 0 where
+  pub order : IsStrictlySortedBy seat_cmp seats
+  pub same : (seat : Seat) → has_seat seat seats ≡ in_routers strategy (sits faces seat) false
+
+-- the index and the seats are those of the faces
+pub record IsWhole (strategy : Strategy) (faces : List (ℕ × FaceState)) (index : Index) (seats : List Seat) : Type 0 where
+  pub tied : IsTied faces index
+  pub seated : IsSeated strategy faces seats

@@ -1,5 +1,5 @@
 -- What the children of trees are told.
-use Rattle.std.specs.Prelude.{◌≡◌, ℕ, List, [], ◌∷◌, ◌++◌, map, Option, Some, None, if◌then◌else◌, option_map}
+use Rattle.std.specs.Prelude.{ℕ, List, [], ◌∷◌, ◌++◌, Option, None, if◌then◌else◌, option_map}
 use Rattle.std.specs.List.{flat_map, filter_map}
 use Rattle.std.specs.Option.{option_map_or}
 use Rattle.zq_message.specs.declared.message.QueryableInfoType.{QueryableInfoType}
@@ -7,9 +7,9 @@ use Rattle.zq_message.specs.declared.message.Zid.{Zid}
 use Rattle.zq_trees.specs.declared.types.Network.{Network}
 use Rattle.zq_trees.specs.declared.types.Telling.{Telling}
 use Rattle.zq_trees.specs.declared.types.Tree.{Tree}
-use Rattle.zq_trees.specs.Nets.{child_ids, children_of, fresh_ids, is_zid, place_of}
+use Rattle.zq_trees.specs.Nets.{child_ids, fresh_ids, is_zid, place_of}
 use Rattle.zq_trees.specs.Seating.{faces_by}
-use Rattle.zq_trees.specs.Tellings.{all_told_of, same_infos, tree_telling}
+use Rattle.zq_trees.specs.Tellings.{all_told_of, children_told, same_infos}
 use Rattle.zq_hat.specs.Kept.{at_id}
 use Rattle.zq_hat.specs.Routers.{face_with}
 use Rattle.zq_hat.specs.State.{HatState}
@@ -20,7 +20,7 @@ faces_of from zids s = faces_by from (λ zid. face_with zid s.faces) zids
 
 -- the children of a root's tree are told of a key
 abbrev pub to_children : Option ℕ → Zid → List ℕ → Option QueryableInfoType → HatState → List Telling
-to_children from root key i s = option_map_or (λ node. map (tree_telling key i node) (faces_of from (children_of s.network root) s)) (place_of s.network root) []
+to_children from root key i s = children_told from (λ zid. face_with zid s.faces) s.network root key i
 
 -- the own entry on a key was this and is that: the children of the gateway's own tree are told of a change
 abbrev pub own_told : List ℕ → Option QueryableInfoType → Option QueryableInfoType → HatState → List Telling

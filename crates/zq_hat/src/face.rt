@@ -3,8 +3,9 @@ ghost use Rattle.std.specs.Prelude.{◌≡◌, OnOk, OnErr, IfOk, map, None};
 ghost use Rattle.std.specs.Option.{option_copied, option_map};
 ghost use Rattle.zq_hat.specs.Kept.{declaration, declare, withdraw, new_face, key_of};
 ghost use Rattle.zq_hat.specs.Marks.{is_finalized, marked};
+ghost use Rattle.zq_hat.specs.Routers.{zid_at};
 
-use crate::types::{Declaration, FaceRecord, FinalMark};
+use crate::types::{Declaration, FaceRecord, FinalMark, NodeIds};
 use std::alloc::Global;
 use std::collections::{BTreeMap, BTreeSet};
 use std::marker::Model;
@@ -12,7 +13,7 @@ use zq_index::text_set::{copy_texts, put_text, take_text};
 use zq_key::Key;
 use zq_key::items::Items;
 use zq_key::memory::OutOfMemory;
-use zq_key::message::{Bound, Mode, QueryableInfoType, TextList, Zid};
+use zq_key::message::{Bound, Mode, NodeId, QueryableInfoType, TextList, Zid};
 use zq_key::text::Text;
 
 /// A face of a hat, with what it declared.
@@ -25,6 +26,7 @@ pub struct HatFace {
     last_told: u32,
     initial: bool,
     finalized: BTreeSet<String>,
+    nodes: NodeIds,
 }
 
 impl Model for HatFace {
@@ -43,7 +45,7 @@ impl Model for HatFace {
       last_told = f.last_told;
       initial = f.initial;
       finalized = map string_bytes f.finalized.keys;
-      nodes = record { ids = [] };
+      nodes = f.nodes;
     } };
 }
 
@@ -86,6 +88,7 @@ impl HatFace {
             last_told: told_start,
             initial: false,
             finalized: BTreeSet::new(alloc),
+            nodes: NodeIds::empty(alloc),
         }
     }
 
@@ -101,7 +104,29 @@ impl HatFace {
             last_told: self.last_told,
             initial: self.initial,
             finalized: copy_texts(&self.finalized)?,
+            nodes: self.nodes.copy(alloc)?,
         })
+    }
+
+    /// The id of the remote.
+    pub fn zid(&self) -> Zid
+        ensures { result ≡ self.now.zid }
+    {
+        self.zid
+    }
+
+    /// The id that a node number of the face stands for.
+    pub fn zid_at(&self, node: NodeId) -> Option<Zid>
+        ensures { result ≡ zid_at node self.now }
+    {
+        self.nodes.ids.get(usize::from(node)).copied()
+    }
+
+    /// The face has this node table from now on.
+    pub fn set_nodes(&mut self, nodes: NodeIds)
+        ensures { self.new ≡ record self.old { nodes = nodes } }
+    {
+        self.nodes = nodes;
     }
 
     /// Which way the remote lies.

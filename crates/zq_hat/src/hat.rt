@@ -1,5 +1,5 @@
 //! The hat of one region.
-ghost use Rattle.std.specs.Prelude.{◌≡◌, ◌↔◌, Some, None, true, false, is_some, OnOk, OnErr, IfOk, IsErrOf, option_map, IsTrue, fold};
+ghost use Rattle.std.specs.Prelude.{◌≡◌, ◌↔◌, [], Some, None, true, false, is_some, OnOk, OnErr, IfOk, IsErrOf, option_map, IsTrue, fold};
 ghost use Rattle.std.specs.Map.{set_value};
 ghost use Rattle.std.specs.BTreeMap.{is_at};
 ghost use Rattle.std.specs.Ordering.{nat_cmp};
@@ -9,14 +9,18 @@ ghost use Rattle.zq_hat.specs.Tied.{without_declared};
 ghost use Rattle.zq_hat.specs.State.{FaceState};
 ghost use Rattle.zq_hat.specs.Marks.{finalized, marked};
 ghost use Rattle.zq_hat.specs.Offers.{declared_offers, offer_cmp, offers_beside, offers_of, sorted};
-ghost use Rattle.zq_hat.specs.Regions.{strategy_at};
+ghost use Rattle.std.specs.BTreeSet.{insert_key};
+ghost use Rattle.zq_trees.specs.Seating.{number, seat_cmp};
+ghost use Rattle.zq_hat.specs.Routers.{context_at, noded, source_at};
+ghost use Rattle.zq_hat.specs.Trees.{to_children};
+ghost use Rattle.zq_hat.specs.Regions.{in_routers, strategy_at};
 
 use crate::face::HatFace;
 use crate::offers;
 use crate::strategy::{same_region, strategy_of};
 use crate::types::{
-    Declaration, FaceRecord, FinalMark, HatRefusal, OfferList, QueryTargetQabl, Strategy,
-    UnregisterEntityResult,
+    Declaration, FaceRecord, FinalMark, HatRefusal, NodeIds, OfferList, QueryTargetQabl, Strategy,
+    TellingList, UnregisterEntityResult,
 };
 use std::alloc::Global;
 use std::collections::BTreeMap;
@@ -26,8 +30,13 @@ use zq_index::info::same_info;
 use zq_key::Key;
 use zq_key::items::Items;
 use zq_key::memory::OutOfMemory;
-use zq_key::message::{FaceId, Mode, QueryableInfoType, Region, TextList, Zid};
+use zq_key::message::{
+    DEFAULT_NODE_ID, FaceId, Mode, NodeId, QueryableInfoType, Region, TextList, Zid,
+};
 use zq_key::text::Text;
+use zq_trees::children::tell_children;
+use zq_trees::nets::Net;
+use zq_trees::seats::Seats;
 
 /// The hat of a region (upstream's `HatQueriesTrait` and what implements it).
 #[derive(Drop)]
@@ -38,13 +47,16 @@ pub struct Hat {
     told_start: u32,
     faces: BTreeMap<u32, HatFace>,
     index: KeyHolders<FacePlace>,
+    seats: Seats,
+    net: Net,
     alloc: Global,
 }
 
 impl Model for Hat {
     ghost use Rattle.std.specs.Prelude.{[]};
     ghost use Rattle.zq_hat.specs.State.{HatState};
-    ghost use Rattle.zq_hat.specs.Tied.{IsTied};
+    ghost use Rattle.zq_hat.specs.Regions.{strategy_of};
+    ghost use Rattle.zq_hat.specs.Tied.{IsWhole};
 
     ghost Value = { HatState };
 
@@ -57,10 +69,10 @@ impl Model for Hat {
       told = [];
       entries = [];
       owned = [];
-      network = record { nodes = []; trees = []; distances = [] };
+      network = h.net;
     } };
 
-    ghost invariant = { λ h. IsTied h.faces.entries h.index };
+    ghost invariant = { λ h. IsWhole (strategy_of h.region h.north_mode) h.faces.entries h.index h.seats };
 }
 
 /// The face declares the key under the id.
@@ -118,6 +130,33 @@ fn set_mark(
             Err(error) => Err(error),
         },
         None => unreachable!(),
+    }
+}
+
+/// The face has this node table from now on.
+fn set_nodes(faces: &mut BTreeMap<u32, HatFace>, face: FaceId, ids: NodeIds)
+    requires { is_some (at_id face.0 faces.old.entries) ≡ true }
+    ensures { (f : FaceState) → at_id face.0 faces.old.entries ≡ Some f → faces.new.entries ≡ set_value (is_at (nat_cmp face.0)) faces.old.entries (record f { nodes = ids }) }
+{
+    match faces.get_mut(&face.0) {
+        Some(found) => found.set_nodes(ids),
+        None => unreachable!(),
+    }
+}
+
+/// In a region of routers the face takes a seat of its id.
+fn take_seat(
+    seats: &mut Seats,
+    strategy: Strategy,
+    zid: Zid,
+    face: FaceId,
+) -> Result<(), OutOfMemory>
+    ensures ok { OnOk result (seats.new ≡ in_routers strategy (insert_key seat_cmp seats.old (zid.0, face.0)) seats.old) }
+    ensures err { OnErr result (seats.new ≡ seats.old) }
+{
+    match strategy {
+        Strategy::Broker | Strategy::Client | Strategy::Peer => Ok(()),
+        Strategy::Router => seats.take(zid, face),
     }
 }
 
@@ -183,6 +222,8 @@ impl Hat {
             told_start,
             faces: BTreeMap::new(alloc),
             index: KeyHolders::new(alloc),
+            seats: Seats::new(alloc),
+            net: Net::empty(alloc),
             alloc,
         }
     }
@@ -198,6 +239,8 @@ impl Hat {
             told_start: self.told_start,
             faces: copy_faces(&self.faces, alloc)?,
             index: self.index.copy(alloc)?,
+            seats: self.seats.copy()?,
+            net: self.net.copy(alloc)?,
             alloc,
         })
     }
@@ -291,10 +334,18 @@ impl Hat {
         ensures ok { OnOk result (self.new ≡ with_face_opened face self.old) }
         ensures err { OnErr result (self.new ≡ self.old) }
     {
+        let strategy = strategy_of(self.region, self.north_mode);
+        match take_seat(&mut self.seats, strategy, face.zid, face.face) {
+            Ok(()) => {}
+            Err(error) => return Err(error),
+        }
         let opened = HatFace::new(self.alloc, face, self.told_start);
         match self.faces.insert(face.face.0, opened) {
             Ok(_) => Ok(()),
-            Err(_) => Err(OutOfMemory),
+            Err(_) => {
+                self.seats.give_back(face.zid, face.face);
+                Err(OutOfMemory)
+            }
         }
     }
 
@@ -414,6 +465,61 @@ impl Hat {
         Ok(Items::from_vec(offers))
     }
 
+    /// The face has this node table from now on. Takes no memory. (`set_node_ids`)
+    pub fn set_node_ids(&mut self, face: FaceId, ids: NodeIds)
+        requires { has_face face.0 self.old ≡ true }
+        ensures { self.new ≡ noded face.0 ids self.old }
+    {
+        set_nodes(&mut self.faces, face, ids);
+    }
+
+    /// The place in the region's network of what a node number of the face stands for: 0 outside
+    /// regions of routers; none where the face's table has nothing at the number, or the network has
+    /// no place for it that a message can name.
+    pub fn map_routing_context(&self, face: FaceId, node: NodeId) -> Option<NodeId>
+        requires { has_face face.0 self.now ≡ true }
+        ensures { result ≡ context_at face.0 node self.now }
+    {
+        match self.strategy() {
+            Strategy::Broker | Strategy::Client | Strategy::Peer => Some(DEFAULT_NODE_ID),
+            Strategy::Router => match self.face(face).zid_at(node) {
+                Some(zid) => self.net.place_of(zid),
+                None => None,
+            },
+        }
+    }
+
+    /// The id that a node number of the face stands for: the face's own outside regions of routers;
+    /// none where the face's table has nothing at the number.
+    pub fn remote_node_id_to_zid(&self, face: FaceId, node: NodeId) -> Option<Zid>
+        requires { has_face face.0 self.now ≡ true }
+        ensures { result ≡ source_at face.0 node self.now }
+    {
+        match self.strategy() {
+            Strategy::Broker | Strategy::Client | Strategy::Peer => Some(self.face(face).zid()),
+            Strategy::Router => self.face(face).zid_at(node),
+        }
+    }
+
+    /// What the children of a root's tree are told of a key, without the face that the call came
+    /// from; nothing outside regions of routers.
+    pub fn to_children(
+        &self,
+        from: Option<FaceId>,
+        root: Zid,
+        key: &str,
+        info: Option<QueryableInfoType>,
+    ) -> Result<TellingList, OutOfMemory>
+        ensures { IfOk result (λ ts. ts ≡ in_routers (strategy_at self.now) (to_children (option_map number from) root key.now info self.now) []) }
+    {
+        match self.strategy() {
+            Strategy::Broker | Strategy::Client | Strategy::Peer => Ok(Items::new(self.alloc)),
+            Strategy::Router => {
+                tell_children(self.alloc, &self.net, &self.seats, from, root, key, info)
+            }
+        }
+    }
+
     /// Sets or unsets a mark of the face: that all which it had to declare has come, at its opening
     /// or on a key.
     pub fn finalize_local_interest(
@@ -435,7 +541,10 @@ impl Hat {
         ensures { self.new ≡ without_face face.0 self.old }
     {
         match self.faces.remove(&face.0) {
-            Some(gone) => forget(&mut self.index, face.0, gone.declared()),
+            Some(gone) => {
+                self.seats.give_back(gone.zid(), face);
+                forget(&mut self.index, face.0, gone.declared());
+            }
             None => unreachable!(),
         }
     }

@@ -4,3 +4,6 @@ pub mod Keys
 pub mod Entering
 pub mod Standing
 pub mod Dropping
+pub mod Ordered
+pub mod Sets
+pub mod Firsts

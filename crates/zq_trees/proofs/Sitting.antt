@@ -1,8 +1,9 @@
 -- The first seat of an id is the first one from the id on.
-use Rattle.std.proofs.Common.{◌≡◌, ◌≤◌, ℕ, subst, Bool, true, false, cond, List, [], ◌∷◌, refl, ap, ◌∙◌, sym, arith, Some, None, eqb, eqb-true, filter, true≢false}
+use Rattle.std.proofs.Common.{Option, ◌≡◌, ◌≤◌, ℕ, subst, Bool, true, false, cond, List, [], ◌∷◌, refl, ap, ◌∙◌, sym, arith, Some, None, eqb, eqb-true, filter, true≢false}
 use Rattle.std.specs.Prelude.{◌&&◌, find}
-use Rattle.std.specs.Option.{option_map}
-use Rattle.std.specs.List.{AllByRecursion}
+use Rattle.std.specs.Option.{option_map, option_and_then}
+use Rattle.std.specs.Prelude.{map, if◌then◌else◌}
+use Rattle.std.specs.List.{AllByRecursion, cons_option, filter_map}
 use Rattle.std.specs.List.Sorted.{IsStrictlySortedBy}
 use Rattle.std.specs.BTreeMap.Range.{range_contains}
 use Rattle.std.specs.Ordering.{is_le, nat_cmp, ordering_then}
@@ -13,7 +14,7 @@ use Rattle.std.proofs.lemmas.Bool.{eqb-false, false≢true}
 use Rattle.std.proofs.lemmas.List.Kept.{IsStrictlySortedBy-filter}
 use Rattle.std.proofs.lemmas.Map.Keys.{le_from_is_le, sorted_head}
 use Rattle.zq_message.specs.declared.message.Zid.{Zid}
-use Rattle.zq_trees.specs.Seating.{Seat, is_of_zid, seat_cmp, seated}
+use Rattle.zq_trees.specs.Seating.{Seat, faces_by, is_of_zid, is_other, number, other_seated, seat_cmp, seated}
 
 -- the seat is not before those of the id
 abbrev pub is_from : Zid → Seat → Bool
@@ -102,3 +103,20 @@ module _ (zid : Zid) where
   -- nothing is left: the id has no seat
   pub no_seat : (seats : List Seat) → filter (is_from zid) seats ≡ [] → seated zid seats ≡ None
   no_seat seats is = ap (option_map (λ (s : Seat). s.1)) (sym (find_kept (is_of_zid zid) (is_from zid) (of_from zid) seats) ∙ ap (find (is_of_zid zid)) is)
+
+-- ---- the faces of ids
+module _ (from : Option ℕ) (seats : List Seat) where
+  face_by : (o : Option ℕ) (rest : List Zid) → map number (filter_map (other_seated from seats) rest) ≡ faces_by from (λ z. seated z seats) rest
+      → map number (cons_option (option_and_then (λ n. if is_other from n then Some (record { 0 = n }) else None) o) (filter_map (other_seated from seats) rest))
+      ≡ filter (is_other from) (cons_option o (filter_map (λ z. seated z seats) rest))
+  face_by None rest ih = ih
+  face_by (Some n) rest ih = by (is_other from n)
+    where
+      by : (b : Bool) → map number (cons_option (if b then Some (record { 0 = n }) else None) (filter_map (other_seated from seats) rest)) ≡ cond b (n ∷ faces_by from (λ z. seated z seats) rest) (faces_by from (λ z. seated z seats) rest)
+      by true = ap (λ l. n ∷ l) ih
+      by false = ih
+
+  -- the faces of the ids' first seats, without the one that the call came from
+  pub faces_are : (zids : List Zid) → map number (filter_map (other_seated from seats) zids) ≡ faces_by from (λ z. seated z seats) zids
+  faces_are [] = refl
+  faces_are (zid ∷ zids) = face_by (seated zid seats) zids (faces_are zids)

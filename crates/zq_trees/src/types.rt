@@ -1,5 +1,5 @@
 //! Networks, what node numbers stand for, and what faces are told.
-ghost use Rattle.std.specs.Prelude.{◌≡◌, IfOk};
+ghost use Rattle.std.specs.Prelude.{◌≡◌, [], IfOk};
 ghost use Rattle.zq_trees.specs.Nets.{no_network};
 
 use std::alloc::Global;
@@ -112,6 +112,15 @@ pub struct NodeIds {
 }
 
 impl NodeIds {
+    /// A table that says nothing of any number.
+    pub fn empty(alloc: Global) -> NodeIds
+        ensures { result.ids ≡ [] }
+    {
+        NodeIds {
+            ids: Items::new(alloc),
+        }
+    }
+
     /// An equal table.
     pub fn copy(&self, alloc: Global) -> Result<NodeIds, OutOfMemory>
         ensures { IfOk result (λ n. n ≡ self.now) }

@@ -6,12 +6,12 @@ use Rattle.zq_hat.proofs.IndexKeys.{all_keyed, index_offers}
 use Rattle.zq_hat.proofs.hat.Hat.declared_offers.Goals as goal
 
 pub declared_offers-requires-clause-keys : goal.declared_offers-requires-clause-keys
-declared_offers-requires-clause-keys c = all_keyed c.self.inside.faces.entries c.self.inside.index c.self.invariant
+declared_offers-requires-clause-keys c = all_keyed c.self.inside.faces.entries c.self.inside.index c.self.invariant.tied
 
 pub returns : goal.returns
 returns c =
     let i = c.self.inside in
     let offers =
-    ap (sorted offer_cmp) (index_offers i.faces.entries i.index c.self.invariant i.region c.args.key.now)
+    ap (sorted offer_cmp) (index_offers i.faces.entries i.index c.self.invariant.tied i.region c.args.key.now)
     ∙ ap (λ (s : HatState). sorted offer_cmp (declared_offers s.region s.faces c.args.key.now)) c.self.view_is in
     subst (λ (l : List QueryTargetQabl). IfOk c.declared_offers.result (λ o. o.items ≡ l)) offers c.declared_offers.ensures

@@ -10,12 +10,12 @@ returns-in-Some c =
     let i = c.self.inside in
     c.merged.ensures
     ∙ ap (λ (o : Option Holdings). option_map_or (fold with_held None) o None) c.in-Some.ensures
-    ∙ merged_is i.faces.entries i.index c.self.invariant c.args.key.now
+    ∙ merged_is i.faces.entries i.index c.self.invariant.tied c.args.key.now
     ∙ region_info_seen c.args.key.now c.self.view_is
 
 pub returns-in-None : goal.returns-in-None
 returns-in-None c =
     let i = c.self.inside in
     ap (λ (o : Option Holdings). option_map_or (fold with_held None) o None) (sym (ap option_copied c.in-None.is) ∙ c.get.ensures)
-    ∙ merged_is i.faces.entries i.index c.self.invariant c.args.key.now
+    ∙ merged_is i.faces.entries i.index c.self.invariant.tied c.args.key.now
     ∙ region_info_seen c.args.key.now c.self.view_is

@@ -1,0 +1,105 @@
+//! The children of trees, the faces on them, and what these are told of a key.
+ghost use Rattle.std.specs.Prelude.{◌≡◌, IfOk, map, option_map};
+ghost use Rattle.std.specs.List.{filter_map};
+ghost use Rattle.zq_trees.specs.Nets.{child_ids, children_of};
+ghost use Rattle.zq_trees.specs.Seating.{number, other_seated, seated};
+ghost use Rattle.zq_trees.specs.Tellings.{children_told, tree_telling};
+
+use crate::nets::Net;
+use crate::seats::Seats;
+use crate::types::{Network, Telling, TellingList, Tree};
+use std::alloc::Global;
+use zq_key::items::Items;
+use zq_key::memory::OutOfMemory;
+use zq_key::message::{FaceId, NodeId, QueryableInfoType, Zid};
+use zq_key::text::Text;
+
+/// The ids of a tree's children.
+pub fn child_ids(alloc: Global, net: &Network, tree: &Tree) -> Result<Vec<Zid>, OutOfMemory>
+    ensures { IfOk result (λ ids. ids.items ≡ child_ids net.now tree.now) }
+{
+    let ids = tree.children.as_slice().iter();
+    let ids = ids.filter_map(|place| net.nodes.get(*place as usize).copied());
+    Ok(ids.collect(alloc)?)
+}
+
+/// The ids of the children of the tree at the root's place.
+pub fn children_of(alloc: Global, net: &Net, root: Zid) -> Result<Vec<Zid>, OutOfMemory>
+    ensures { IfOk result (λ ids. ids.items ≡ children_of net.now root) }
+{
+    match net.tree_of(root) {
+        Some(tree) => child_ids(alloc, net.network(), tree),
+        None => Ok(Vec::new(alloc)),
+    }
+}
+
+/// The open face of least number with the id, if it is not the one that the call came from.
+fn other_face(seats: &Seats, from: Option<FaceId>, zid: Zid) -> Option<FaceId>
+    ensures { result ≡ other_seated (option_map number from) seats.now zid }
+{
+    let face = seats.face_with(zid)?;
+    match from {
+        Some(from) => { if face.0 == from.0 { None } else { Some(face) } }
+        None => Some(face),
+    }
+}
+
+/// The open faces of least number with the ids, without the one that the call came from.
+pub fn faces_of(
+    alloc: Global,
+    seats: &Seats,
+    from: Option<FaceId>,
+    ids: &[Zid],
+) -> Result<Vec<FaceId>, OutOfMemory>
+    ensures { IfOk result (λ faces. faces.items ≡ filter_map (other_seated (option_map number from) seats.now) ids.now) }
+{
+    let faces = ids.iter().filter_map(|zid| other_face(seats, from, *zid));
+    Ok(faces.collect(alloc)?)
+}
+
+/// The faces are told of a key of the root at the place.
+fn tell_faces(
+    alloc: Global,
+    faces: &[FaceId],
+    node: NodeId,
+    key: &str,
+    info: Option<QueryableInfoType>,
+) -> Result<TellingList, OutOfMemory>
+    ensures { IfOk result (λ ts. ts ≡ map (tree_telling key.now info node) (map number faces.now)) }
+{
+    let mut tellings = Items::new(alloc);
+    for face in faces {
+        tellings.push(Telling {
+            face: *face,
+            id: 0,
+            key: Text::new(alloc, key)?,
+            info,
+            node,
+        })?;
+    }
+    Ok(tellings)
+}
+
+/// What the open faces on the children of a root's tree are told of a key, without the face that the
+/// call came from: nothing where the network has no place for the root that a message can name.
+#[tactic(auto, using(crate::proofs::Sitting::faces_are))]
+pub fn tell_children(
+    alloc: Global,
+    net: &Net,
+    seats: &Seats,
+    from: Option<FaceId>,
+    root: Zid,
+    key: &str,
+    info: Option<QueryableInfoType>,
+) -> Result<TellingList, OutOfMemory>
+    ensures { IfOk result (λ ts. ts ≡ children_told (option_map number from) (λ zid. seated zid seats.now) net.now root key.now info) }
+{
+    match net.place_of(root) {
+        Some(node) => {
+            let ids = children_of(alloc, net, root)?;
+            let faces = faces_of(alloc, seats, from, &ids)?;
+            tell_faces(alloc, &faces, node, key, info)
+        }
+        None => Ok(Items::new(alloc)),
+    }
+}
