@@ -35,16 +35,24 @@ pub fn hat_at(hats: &RegionMap<Hat>, region: Region) -> Option<&Hat>
 /// The router that a node number of the region's face stands for; outside regions of routers the face
 /// itself.
 pub fn router_by(hats: &RegionMap<Hat>, region: Region, face: FaceId, node: NodeId) -> Option<Zid>
+    requires { seats region face.0 hats.now ≡ Some true }
     ensures { result ≡ option_and_then (source_at face.0 node) (hat_at region hats.now) }
 {
-    hat_at(hats, region)?.remote_node_id_to_zid(face, node)
+    match hats.get(&region) {
+        Some(hat) => hat.remote_node_id_to_zid(face, node),
+        None => unreachable!(),
+    }
 }
 
 /// The place of that router in the network of the region; outside regions of routers the first.
 pub fn place_by(hats: &RegionMap<Hat>, region: Region, face: FaceId, node: NodeId) -> Option<NodeId>
+    requires { seats region face.0 hats.now ≡ Some true }
     ensures { result ≡ option_and_then (context_at face.0 node) (hat_at region hats.now) }
 {
-    hat_at(hats, region)?.map_routing_context(face, node)
+    match hats.get(&region) {
+        Some(hat) => hat.map_routing_context(face, node),
+        None => unreachable!(),
+    }
 }
 
 /// Whether the region takes no further face.

@@ -5,7 +5,8 @@ ghost use Rattle.zq_machine.specs.Deciding.{opened};
 ghost use Rattle.zq_machine.specs.Selecting.{select_for, target_of};
 ghost use Rattle.zq_machine.specs.State.{at};
 ghost use Rattle.zq_machine.specs.TextCalls.{asking};
-ghost use Rattle.zq_gateway.specs.Making.{Settles};
+ghost use Rattle.zq_gateway.specs.Making.{IsReached, Settles};
+ghost use Rattle.zq_gateway.specs.Seats.{seats};
 
 use crate::gateway::tables::Tables;
 use crate::hats;
@@ -41,7 +42,8 @@ impl Tables {
         said: &Said,
         request: &Request,
     ) -> Result<Vec<QueryTargetQabl>, OutOfMemory>
-        requires { at face.0 self.now.core.faces ≡ Some opened }
+        requires open { at face.0 self.now.core.faces ≡ Some opened }
+        requires seated { seats opened.region face.0 self.now.core.hats ≡ Some true }
         ensures offers { IfOk result (λ v. v.items ≡ select_for self.now.core face said.now request.now (Some opened)) }
         ensures distinct { IfOk result (λ v. are_distinct (face_numbers (map target_of v.items)) ≡ true) }
     {
@@ -68,6 +70,7 @@ impl Tables {
         request: &Request,
         now: u64,
     ) -> Result<Step, OutOfMemory>
+        requires { IsReached self.old }
         ensures { Settles self.old self.new (asking face said request.now now) result }
     {
         let Some(opened) = self.opened(face) else {

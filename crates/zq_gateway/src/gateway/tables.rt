@@ -128,6 +128,7 @@ impl Tables {
         msg: &Request,
         now: u64,
     ) -> Result<Step, OutOfMemory>
+        requires { IsReached self.old }
         ensures { Performs self.old self.new (call.Request face msg.now now) result }
     {
         let said = self.names.said(face, &msg.wire)?;
@@ -225,8 +226,12 @@ impl Tables {
         }
     }
 
+    /// An open face. The hat of its region has it.
+    #[tactic(auto, using(crate::proofs::Reached::reached_seated))]
     pub(super) fn opened(&self, face: FaceId) -> Option<OpenFace>
-        ensures { result ≡ at face.0 self.now.core.faces }
+        requires { IsReached self.now }
+        ensures found { result ≡ at face.0 self.now.core.faces }
+        ensures seated { IfSome result (λ o. seats o.region face.0 self.now.core.hats ≡ Some true) }
     {
         match self.faces.get(&face.0) {
             Some(opened) => Some(*opened),
