@@ -41,6 +41,7 @@ use Rattle.zq_machine.proofs.Changing.{hat_found, itself, number_test, region_th
 use Rattle.zq_machine.proofs.Finals.{IsSound, granted_sound, is_there, none_sorted, opening_sound}
 use Rattle.zq_machine.proofs.Hats.{AreHatsOf, accepted_hats, opening_hats}
 use Rattle.zq_machine.proofs.Unrouted.{AreUnrouted, accepted_unrouted, read_unrouted}
+use Rattle.zq_machine.proofs.Worded.{AreWorded, accepted_worded, opening_worded}
 use Rattle.zq_machine.proofs.Joining.{closed_tied, opened_tied}
 use Rattle.zq_machine.proofs.NewEntries.{numbered_asked}
 use Rattle.zq_machine.proofs.Numbered.{InNumbers, numbered_if_put, numbered_landed, numbered_let_go, numbered_timing}
@@ -133,6 +134,7 @@ pub record InOrder (config : Settings) (s : State) : Type 0 where
   pub numbered : InNumbers s.core.queries
   pub aims : AllAim s.core.faces s.core.queries.records
   pub unrouted : AreUnrouted (first_hats config) s.core.hats
+  pub worded : AreWorded s.core.hats
 
 replied_numbers : (q : QueryState) (o : Option ReplyTo) → InNumbers q → InNumbers (after_replied o q)
 replied_numbers q None i = i
@@ -169,6 +171,7 @@ granted_in_order config s c h i = let x = read s c in record {
   numbered = granted_numbers s x h i.numbered;
   aims = accepted_aims config s.core s.names i.tied i.hats i.sound.sorted i.aims x;
   unrouted = λ k. accepted_unrouted s.core x (read_unrouted s c) k ∙ i.unrouted k;
+  worded = accepted_worded s.core x h i.worded;
 }
 
 -- and it is kept by each number that a face is told
@@ -180,6 +183,7 @@ numbered_in_order config core face text id names i = record {
   numbered = i.numbered;
   aims = i.aims;
   unrouted = i.unrouted;
+  worded = i.worded;
 }
 
 -- ---- before any call no hat has a face
@@ -227,6 +231,7 @@ opening_in_order config = record {
   numbered = record { numbers = none_sorted; below = tt; places = λ face id. omega arith; once = tt; flights = λ reply. omega arith; flown = tt };
   aims = tt;
   unrouted = λ k. refl;
+  worded = opening_worded config;
 }
 
 -- at every point of a run

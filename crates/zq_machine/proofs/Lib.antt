@@ -30,6 +30,8 @@ pub mod Unrouted
 pub mod Owning
 pub mod RoutersMoved
 pub mod DueMoved
+pub mod Worded
+pub mod DueHeard
 pub mod Targets
 pub mod Always
 pub mod Counting

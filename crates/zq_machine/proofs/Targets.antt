@@ -83,7 +83,7 @@ targets_distinct c asker s r = by (at asker.0 c.faces)
 
 -- ---- the faces of hats are open
 module _ (config : Settings) (faces : List (ℕ × OpenFace)) (hats : List (ℕ × HatState)) (names : NamingState) (t : Tied faces hats names) (a : AreHatsOf config hats) where
-  abbrev AllOpen : HatState → Type 0
+  abbrev pub AllOpen : HatState → Type 0
   AllOpen h = (q : ℕ) → has_face q h ≡ true → is_some (at q faces) ≡ true
 
   open_there : (r : Region) (o : Option OpenFace) → option_map_or (stands_in r) o false ≡ true → is_some o ≡ true
@@ -97,8 +97,11 @@ module _ (config : Settings) (faces : List (ℕ × OpenFace)) (hats : List (ℕ 
       by (inl bare) = absurd (false≢true (sym (ap (λ (l : List (ℕ × FaceState)). is_some (at_id q l)) bare) ∙ has))
       by (inr x) = open_there x.0 (at q faces) (sym (t.seats x.0 h q (hat_found x.0 hats (Some h) x.1 (ap (λ n. at n hats) x.2 ∙ h_at))) ∙ has)
 
+  pub all_hats_open : AllByRecursion (λ (e : ℕ × HatState). AllOpen e.1) hats
+  all_hats_open = each_at nat_cmp_total exact_unsigned (λ e. AllOpen e.1) hats a.sorted hat_open
+
   all_open : AllByRecursion AllOpen (values_of hats)
-  all_open = all_mapped AllOpen (λ (e : ℕ × HatState). e.1) hats (each_at nat_cmp_total exact_unsigned (λ e. AllOpen e.1) hats a.sorted hat_open)
+  all_open = all_mapped AllOpen (λ (e : ℕ × HatState). e.1) hats all_hats_open
 
   abbrev is_shut : QueryTargetQabl → Bool
   is_shut o = not (is_some (at o.face.0 faces))
