@@ -82,7 +82,8 @@ pub fn written_finals(alloc: Global, finals: &[Final]) -> Result<HandedList, Out
     Ok(handed)
 }
 
-fn whole(text: Text) -> WireExpr
+// A text under no number.
+pub(crate) fn whole(text: Text) -> WireExpr
     ensures { result ≡ plain text }
 {
     WireExpr {
