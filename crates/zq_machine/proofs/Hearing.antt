@@ -20,13 +20,13 @@ use Rattle.zq_ids.proofs.IdLemmas.{free_from-least, of_id-with_id}
 use Rattle.zq_tables.specs.declared.said.Said.TheVariants as said
 use Rattle.zq_tables.specs.Naming.{FaceKeys, FaceNaming, NamingState, change_naming, face_keys, face_naming, handed_side, naming_at, plain, read_by, text_at}
 use Rattle.zq_message.specs.declared.message.DeclareBody.TheVariants as body
-use Rattle.zq_tables.specs.Naming.{no_keys}
+use Rattle.zq_tables.specs.Naming.{no_keys, with_told_number}
 use Rattle.zq_machine.specs.Handing.{Handed}
 use Rattle.zq_machine.specs.Hearing.{CanBeTold, body_says, has_text, hear, heard_body, telling_by, tells_text}
 use Rattle.zq_machine.specs.Messages.{Telling, TellingBody, all_told, key_ended, key_told}
 use Rattle.zq_machine.specs.Selecting.{full_text}
 use Rattle.zq_machine.specs.State.{Core}
-use Rattle.zq_machine.specs.Writing.{and_then, is_local_face, may_number, tell, tell_body, tell_declare, tell_number, told_key, with_told_number}
+use Rattle.zq_machine.specs.Writing.{and_then, is_local_face, may_number, tell, tell_body, tell_declare, tell_number, told_key}
 use Rattle.zq_machine.proofs.Changing.{found_here, itself, naming_changed, there}
 
 -- ---- a key is read as the text that was told

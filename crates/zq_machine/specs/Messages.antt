@@ -1,10 +1,11 @@
 -- What a call decides to hand, over texts: its outcome, its messages, and what faces are told.
-use Rattle.std.specs.Prelude.{ℕ, List, Option}
+use Rattle.std.specs.Prelude.{ℕ, List, Option, Some, None}
 use Rattle.zq_message.specs.declared.message.FaceId.{FaceId}
 use Rattle.zq_message.specs.declared.message.QueryTarget.{QueryTarget}
 use Rattle.zq_message.specs.declared.message.QueryableInfoType.{QueryableInfoType}
 use Rattle.zq_message.specs.declared.message.ReplyBody.{ReplyBody}
 use Rattle.zq_message.specs.declared.message.Zid.{Zid}
+use Rattle.zq_hat.specs.declared.types.Telling as hat
 use Rattle.zq_query.specs.declared.records.Final.{Final}
 use Rattle.zq_machine.specs.declared.call.Outcome.{Outcome}
 
@@ -49,6 +50,15 @@ pub record Telling : Type 0 where
   pub interest : Option ℕ
   pub node : ℕ
   pub body : TellingBody
+
+-- a hat tells of a key: that an id has it with this information, or that the id ended
+abbrev pub told_or_ended : ℕ → List ℕ → Option QueryableInfoType → TellingBody
+told_or_ended id key None = key_ended id (Some key)
+told_or_ended id key (Some info) = key_told id key info
+
+-- what a hat tells a face, in answer to no interest
+abbrev pub from_hat : hat.Telling → Telling
+from_hat t = record { to = t.face; interest = None; node = t.node; body = told_or_ended t.id t.key t.info }
 
 -- what a call decides: its outcome, the messages of requests, and what faces are told
 pub record Decided : Type 0 where

@@ -10,12 +10,12 @@ use Rattle.zq_message.specs.declared.message.Message.TheVariants as message
 use Rattle.zq_message.specs.declared.message.Region.{Region}
 use Rattle.zq_message.specs.declared.message.Region.TheVariants as region
 use Rattle.zq_names.specs.Texts.{nonwild}
-use Rattle.zq_ids.specs.FaceTexts.{declared_key, with_declared}
+use Rattle.zq_ids.specs.FaceTexts.{declared_key}
 use Rattle.zq_ids.specs.declared.decl.DeclKey.{DeclKey}
 use Rattle.zq_query.specs.declared.records.Final.{Final}
 use Rattle.zq_query.specs.Closing.{finals_after}
 use Rattle.zq_query.specs.Records.{Pending, is_entry, letting_go}
-use Rattle.zq_tables.specs.Naming.{FaceKeys, NamingState, best, change_naming, face_keys, face_naming, plain}
+use Rattle.zq_tables.specs.Naming.{FaceKeys, NamingState, best, change_naming, face_keys, face_naming, plain, with_told_number}
 use Rattle.zq_machine.specs.Handing.{Handed}
 use Rattle.zq_machine.specs.declared.face.OpenFace.{OpenFace}
 use Rattle.zq_machine.specs.Messages.{Telling, TellingBody, TextMessage, TextReply, TextRequest, all_told, key_ended, key_told, text_final, text_reply, text_request}
@@ -127,10 +127,6 @@ tell_declare to text d names = record {
   handed = record { to = to; number = None; reply = None; message = message.Declare d; leaves = leaving (face_keys to.0 names) text (message.Declare d) } ∷ [];
   names = after_exit to text (message.Declare d) names;
 }
-
--- the number stands for the part of the text without a `*`
-abbrev pub with_told_number : List ℕ → Option ℕ → FaceKeys → FaceKeys
-with_told_number text id n = record n { numbers = with_declared n.numbers text id }
 
 -- a number is declared to a face, if one is new
 abbrev pub tell_number : FaceId → List ℕ → Option ℕ → NamingState → Told

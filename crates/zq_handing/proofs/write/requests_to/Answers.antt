@@ -1,10 +1,9 @@
-use Rattle.std.proofs.Common.{◌≡◌, ◌∙◌, ◌+◌, ◌++◌, ◌∷◌, [], ℕ, List, sym, ap, get_or, map, take}
+use Rattle.std.proofs.Common.{◌∙◌, ◌+◌, ◌++◌, ◌∷◌, [], ℕ, List, sym, ap, get_or, take}
 use Rattle.std.proofs.lemmas.List.{get_or-map}
 use Rattle.zq_hat.specs.declared.types.QueryTargetQabl.{QueryTargetQabl}
 use Rattle.zq_query.specs.Asking.{given_id, given_place}
 use Rattle.zq_query.proofs.Giving.{map_more}
 use Rattle.zq_query.proofs.Entries.{map_both}
-use Rattle.zq_machine.specs.Handing.{Handed}
 use Rattle.zq_machine.specs.Selecting.{target_of}
 use Rattle.zq_machine.specs.Writing.{written}
 use Rattle.zq_machine.specs.Deciding.{handed_request}

@@ -1,21 +1,15 @@
 use Rattle.std.proofs.Common.{◌≡◌, ◌∙◌, ℕ, Bool, List, Option, Some, None, refl, ap, sym}
-use Rattle.std.specs.BTreeMap.{is_at}
-use Rattle.std.specs.Ordering.{nat_cmp}
-use Rattle.std.proofs.lemmas.Map.Steps.{set_value_same}
 use Rattle.zq_key.specs.Key.{is_key}
 use Rattle.zq_ids.specs.FaceTexts.{declared_key}
 use Rattle.zq_ids.specs.declared.decl.DeclKey.{DeclKey}
 use Rattle.zq_ids.proofs.Choosing.{IsNew, new_is, nonwild_key}
 use Rattle.zq_ids.proofs.IdLemmas.{next_unused}
-use Rattle.zq_tables.specs.Naming.{FaceKeys, FaceNaming, NamingState, change_naming, face_naming, naming_at, put_naming, with_told_number}
+use Rattle.zq_tables.specs.Naming.{FaceNaming, change_naming, face_naming, with_told_number}
+use Rattle.zq_tables.proofs.Emptied.{changed_idle}
 use Rattle.zq_tables.proofs.naming.Naming.declared.Goals as goal
 
 chosen : (n : FaceNaming) (local may : Bool) (t : List ℕ) (d : DeclKey) (id : ℕ) → d ≡ declared_key n local may t → d.declared ≡ Some id → IsNew n t id
 chosen n local may t d id is new = new_is n local may t id (sym (ap (λ (k : DeclKey). k.declared) is) ∙ new)
-
-same_face : (face : ℕ) (t : List ℕ) (s : NamingState) (o : Option FaceKeys) → naming_at face s ≡ o → s ≡ put_naming face (with_told_number t None) s o
-same_face face t s None at = refl
-same_face face t s (Some n) at = sym (set_value_same (is_at (nat_cmp face)) s n at)
 
 -- no number is new
 pub returns-in_default-clause-ok : goal.returns-in_default-clause-ok
@@ -23,7 +17,7 @@ returns-in_default-clause-ok c =
     let face = c.args.face.0 in
     let t = c.args.text.now in
     let s = c.args.self.now in
-    same_face face t s (naming_at face s) refl ∙ ap (λ (o : Option ℕ). change_naming face (with_told_number t o) s) (sym c.in_default.is)
+    sym (changed_idle face (with_told_number t None) s refl) ∙ ap (λ (o : Option ℕ). change_naming face (with_told_number t o) s) (sym c.in_default.is)
 
 pub put_given-requires-clause-next : goal.put_given-requires-clause-next
 put_given-requires-clause-next c = (chosen (face_naming c.args.face.0 c.args.self.now) c.args.local c.args.may c.args.text.now c.in_ok-key.key c.in-Some.id c.in_ok-key.ensures c.in-Some.is).next

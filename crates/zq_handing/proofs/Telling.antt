@@ -1,0 +1,118 @@
+-- What is told, message by message, and how it is taken back.
+use Rattle.std.proofs.Common.{◌≡◌, ◌∙◌, ℕ, Bool, false, List, [], ◌∷◌, ◌++◌, Option, Some, None, IfSome, refl, sym, ap, append_assoc, append-nil}
+use Rattle.std.specs.Option.{option_map_or}
+use Rattle.zq_message.specs.declared.message.Mapping.TheVariants.{Receiver}
+use Rattle.zq_message.specs.declared.message.QueryableInfoType.{QueryableInfoType}
+use Rattle.zq_message.specs.declared.message.WireExpr.{WireExpr}
+use Rattle.zq_names.specs.Texts.{nonwild}
+use Rattle.zq_hat.specs.declared.types.Telling as hat
+use Rattle.zq_ids.specs.FaceTexts.{declared_key}
+use Rattle.zq_ids.specs.declared.decl.DeclKey.{DeclKey}
+use Rattle.zq_ids.proofs.IdLemmas.{without-with_id}
+use Rattle.zq_tables.specs.Naming.{Names, NamingState, change_naming, face_keys, face_naming, text_at, with_told_number, without_sent}
+use Rattle.zq_tables.proofs.Emptied.{changed_back, changed_idle}
+use Rattle.zq_machine.specs.Handing.{Handed}
+use Rattle.zq_machine.specs.Messages.{Telling, from_hat, told_or_ended}
+use Rattle.zq_machine.specs.State.{Core, at}
+use Rattle.zq_machine.specs.declared.face.OpenFace.{OpenFace}
+use Rattle.zq_machine.specs.Writing.{Told, and_then, is_local_face, is_local_region, may_number, numbers_region, tell, tell_body, tell_by, tell_declare, tell_number, told_key}
+use Rattle.zq_handing.specs.Telling.{body_of, declare_of, handed_declare, handed_number, untold, untold_body, untold_message}
+
+-- ---- lists of what is told
+
+-- messages are taken back after those behind them
+pub untold-append : (hs is : List Handed) (names : NamingState) → untold (hs ++ is) names ≡ untold hs (untold is names)
+untold-append [] is names = refl
+untold-append (h ∷ hs) is names = ap (untold_message h.to h.message) (untold-append hs is names)
+
+-- one thing more is told
+pub tell-more : (c : Core) (ts : List Telling) (t : Telling) (names : NamingState) → tell c (ts ++ t ∷ []) names ≡ and_then (tell c ts names) (tell_body c t t.body)
+tell-more c [] t names =
+    let w = tell_body c t t.body names in
+    ap (λ (hs : List Handed). record { handed = hs; names = w.names }) (append-nil w.handed)
+tell-more c (u ∷ ts) t names =
+    let first = tell_body c u u.body names in
+    let rest = tell c ts first.names in
+    let last = tell_body c t t.body rest.names in
+    ap (λ (w : Told). record { handed = first.handed ++ w.handed; names = w.names }) (tell-more c ts t first.names)
+    ∙ ap (λ (hs : List Handed). record { handed = hs; names = last.names }) (sym (append_assoc first.handed rest.handed last.handed))
+
+-- ---- one thing that a hat tells
+
+-- it is told of its key, whether with an information or without
+told_as : (c : Core) (t : hat.Telling) (names : NamingState) → tell_body c (from_hat t) (from_hat t).body names ≡ tell_by c t.face t.key (λ k. declare_of t k.wire) names
+told_as c t names = by t.info
+  where
+    by : (o : Option QueryableInfoType) → tell_body c (from_hat t) (told_or_ended t.id t.key o) names ≡ tell_by c t.face t.key (λ k. record { interest = None; node = t.node; body = body_of t.id k.wire o }) names
+    by None = refl
+    by (Some info) = refl
+
+-- the messages: of a number, if one is new, and of the key
+abbrev pub messages_of : hat.Telling → DeclKey → List Handed
+messages_of t d = handed_number t.face (nonwild t.key) d.declared ++ handed_declare t.face (declare_of t d.wire) ∷ []
+
+module _ (c : Core) (t : hat.Telling) (names : NamingState) (d : DeclKey) (key : d ≡ told_key c t.face t.key names) where
+  abbrev told_by : DeclKey → Told
+  told_by k = and_then (tell_number t.face t.key k.declared names) (tell_declare t.face t.key (declare_of t k.wire))
+
+  told : tell_body c (from_hat t) (from_hat t).body names ≡ told_by d
+  told = told_as c t names ∙ ap told_by (sym key)
+
+  pub told_messages : (tell_body c (from_hat t) (from_hat t).body names).handed ≡ messages_of t d
+  told_messages = ap (λ (w : Told). w.handed) told ∙ by d.declared
+    where
+      by : (o : Option ℕ) → (and_then (tell_number t.face t.key o names) (tell_declare t.face t.key (declare_of t d.wire))).handed ≡ handed_number t.face (nonwild t.key) o ++ handed_declare t.face (declare_of t d.wire) ∷ []
+      by None = refl
+      by (Some id) = refl
+
+  pub told_names : (tell_body c (from_hat t) (from_hat t).body names).names ≡ change_naming t.face.0 (with_told_number t.key d.declared) names
+  told_names = ap (λ (w : Told). w.names) told ∙ by d.declared
+    where
+      by : (o : Option ℕ) → (and_then (tell_number t.face t.key o names) (tell_declare t.face t.key (declare_of t d.wire))).names ≡ change_naming t.face.0 (with_told_number t.key o) names
+      by None = sym (changed_idle t.face.0 (with_told_number t.key None) names refl)
+      by (Some id) = refl
+
+-- the key is what the code asked for
+pub key_is : (c : Core) (faces : List (ℕ × OpenFace)) (t : hat.Telling) (names : NamingState) (d : DeclKey) (local may : Bool) (text : List ℕ) → c.faces ≡ faces
+    → local ≡ option_map_or (λ (o : OpenFace). is_local_region o.region) (at t.face.0 faces) false → may ≡ option_map_or (λ (o : OpenFace). numbers_region o.region) (at t.face.0 faces) false
+    → text ≡ t.key → d ≡ declared_key (face_naming t.face.0 names) local may text → d ≡ told_key c t.face t.key names
+key_is c faces t names d local may text same is_local is_may is_text is =
+    let n = face_naming t.face.0 names in
+    let local_is : local ≡ is_local_face t.face c = is_local ∙ ap (λ (fs : List (ℕ × OpenFace)). option_map_or (λ (o : OpenFace). is_local_region o.region) (at t.face.0 fs) false) (sym same) in
+    let may_is : may ≡ may_number t.face (nonwild t.key) c = is_may ∙ ap (λ (fs : List (ℕ × OpenFace)). option_map_or (λ (o : OpenFace). numbers_region o.region) (at t.face.0 fs) false) (sym same) in
+    is
+    ∙ ap (λ (b : Bool). declared_key n b may text) local_is
+    ∙ ap (λ (b : Bool). declared_key n (is_local_face t.face c) b text) may_is
+    ∙ ap (declared_key n (is_local_face t.face c) (may_number t.face (nonwild t.key) c)) is_text
+
+-- the messages behind those that were there
+pub pushed : (old a b all : List Handed) (t : hat.Telling) (d : DeclKey) (part : List ℕ) (h : Handed) → a ≡ old → b ≡ a ++ handed_number t.face part d.declared → part ≡ nonwild t.key → h ≡ handed_declare t.face (declare_of t d.wire) → all ≡ b ++ h ∷ [] → all ≡ old ++ messages_of t d
+pushed old a b all t d part h first number is_part is_key last =
+    let numbers = handed_number t.face (nonwild t.key) d.declared in
+    last
+    ∙ ap (λ (hs : List Handed). hs ++ h ∷ []) (number ∙ ap (λ (hs : List Handed). hs ++ handed_number t.face part d.declared) first ∙ ap (λ (p : List ℕ). old ++ handed_number t.face p d.declared) is_part)
+    ∙ ap (λ (x : Handed). (old ++ numbers) ++ x ∷ []) is_key
+    ∙ append_assoc old numbers (handed_declare t.face (declare_of t d.wire) ∷ [])
+
+-- ---- it is taken back
+
+taken_back : (face id : ℕ) (text : List ℕ) (names : NamingState) → text_at id (face_naming face names).ours ≡ None → change_naming face (without_sent Receiver id) (change_naming face (with_told_number text (Some id)) names) ≡ names
+taken_back face id text names fresh =
+    let n = face_keys face names in
+    changed_back face (with_told_number text (Some id)) (without_sent Receiver id) names
+    (ap (λ (l : Names). record n { numbers = record n.numbers { ours = l } }) (without-with_id n.numbers.ours id (nonwild text) fresh))
+
+-- the message of a key declares no number
+key_kept : (t : hat.Telling) (w : WireExpr) (names : NamingState) → untold (handed_declare t.face (declare_of t w) ∷ []) names ≡ names
+key_kept t w names = by t.info
+  where
+    by : (o : Option QueryableInfoType) → untold_body t.face (body_of t.id w o) names ≡ names
+    by None = refl
+    by (Some info) = refl
+
+pub untold_messages : (t : hat.Telling) (d : DeclKey) (names : NamingState) → IfSome d.declared (λ id. text_at id (face_naming t.face.0 names).ours ≡ None) → untold (messages_of t d) (change_naming t.face.0 (with_told_number t.key d.declared) names) ≡ names
+untold_messages t d names fresh = untold-append (handed_number t.face (nonwild t.key) d.declared) (handed_declare t.face (declare_of t d.wire) ∷ []) _ ∙ ap (untold (handed_number t.face (nonwild t.key) d.declared)) (key_kept t d.wire _) ∙ by d.declared fresh
+  where
+    by : (o : Option ℕ) → IfSome o (λ id. text_at id (face_naming t.face.0 names).ours ≡ None) → untold (handed_number t.face (nonwild t.key) o) (change_naming t.face.0 (with_told_number t.key o) names) ≡ names
+    by None free = changed_idle t.face.0 (with_told_number t.key None) names refl
+    by (Some id) free = taken_back t.face.0 id t.key names free

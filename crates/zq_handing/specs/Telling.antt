@@ -1,0 +1,62 @@
+-- The messages of what a hat tells, and how the numbers that they declare are taken back.
+use Rattle.std.specs.Prelude.{ℕ, List, [], ◌∷◌, Option, Some, None}
+use Rattle.zq_message.specs.declared.message.Declare.{Declare}
+use Rattle.zq_message.specs.declared.message.DeclareBody.{DeclareBody}
+use Rattle.zq_message.specs.declared.message.DeclareBody.TheVariants as body
+use Rattle.zq_message.specs.declared.message.FaceId.{FaceId}
+use Rattle.zq_message.specs.declared.message.Mapping.TheVariants as mapping
+use Rattle.zq_message.specs.declared.message.Message.{Message}
+use Rattle.zq_message.specs.declared.message.Message.TheVariants as message
+use Rattle.zq_message.specs.declared.message.QueryableInfoType.{QueryableInfoType}
+use Rattle.zq_message.specs.declared.message.WireExpr.{WireExpr}
+use Rattle.zq_hat.specs.declared.types.Telling.{Telling}
+use Rattle.zq_tables.specs.Naming.{NamingState, change_naming, plain, without_sent}
+use Rattle.zq_machine.specs.Handing.{Handed}
+
+-- ---- messages
+
+-- a key is declared by an expression under an id, or its end is
+abbrev pub body_of : ℕ → WireExpr → Option QueryableInfoType → DeclareBody
+body_of id w None = body.UndeclareQueryable id (Some w)
+body_of id w (Some info) = body.DeclareQueryable id w info
+
+-- what a hat tells, by an expression of its key
+abbrev pub declare_of : Telling → WireExpr → Declare
+declare_of t w = record { interest = None; node = t.node; body = body_of t.id w t.info }
+
+-- a number is declared for a text
+abbrev pub number_of : ℕ → List ℕ → Declare
+number_of id text = record { interest = None; node = 0; body = body.DeclareKeyExpr id (plain text) }
+
+-- a declaration as it is handed; all of it leaves
+abbrev pub handed_declare : FaceId → Declare → Handed
+handed_declare to d = record { to = to; number = None; reply = None; message = message.Declare d; leaves = Some (message.Declare d) }
+
+-- the message of a number that has to be declared, if there is one
+abbrev pub handed_number : FaceId → List ℕ → Option ℕ → List Handed
+handed_number to text None = []
+handed_number to text (Some id) = handed_declare to (number_of id text) ∷ []
+
+-- ---- numbers are taken back
+
+-- the number that a declaration declares is taken back from its receiver
+abbrev pub untold_body : FaceId → DeclareBody → NamingState → NamingState
+untold_body to (body.DeclareKeyExpr id w) names = change_naming to.0 (without_sent mapping.Receiver id) names
+untold_body to (body.UndeclareKeyExpr id) names = names
+untold_body to (body.DeclareQueryable id w info) names = names
+untold_body to (body.UndeclareQueryable id w) names = names
+untold_body to body.DeclareFinal names = names
+
+-- the same of a message
+abbrev pub untold_message : FaceId → Message → NamingState → NamingState
+untold_message to (message.Declare d) names = untold_body to d.body names
+untold_message to (message.Request r) names = names
+untold_message to (message.Response r) names = names
+untold_message to (message.ResponseFinal f) names = names
+untold_message to (message.Interest i) names = names
+untold_message to (message.InterestFinal i) names = names
+
+-- the numbers that messages declare are taken back, the last one first
+abbrev pub untold : List Handed → NamingState → NamingState
+untold [] names = names
+untold (h ∷ hs) names = untold_message h.to h.message (untold hs names)

@@ -1,0 +1,165 @@
+//! What faces are told: declarations, each with the number that it needs declared directly before it.
+ghost use Rattle.std.specs.Prelude.{◌≡◌, ◌+◌, ◌<◌, ◌≤◌, ◌++◌, ◌∷◌, [], map, true, false, vec_capacity, vec_len, IfOk, OnOk, OnErr};
+ghost use Rattle.std.specs.List.{All};
+ghost use Rattle.std.specs.Option.{option_map_or};
+ghost use Rattle.zq_key.specs.Key.{is_key as key_of};
+ghost use Rattle.zq_names.specs.Texts.{nonwild as nonwild_of};
+ghost use Rattle.zq_machine.specs.Messages.{from_hat};
+ghost use Rattle.zq_machine.specs.State.{Core, at};
+ghost use Rattle.zq_machine.specs.Writing.{is_local_region, numbers_region, tell as tell_of, tell_body};
+ghost use Rattle.zq_handing.specs.Telling.{body_of, declare_of, handed_declare as handed_declare_of, handed_number, number_of, untold, untold_message};
+
+use crate::write::whole;
+use std::alloc::Global;
+use std::collections::BTreeMap;
+use zq_hat::types::Telling;
+use zq_key::items::Items;
+use zq_key::memory::OutOfMemory;
+use zq_key::message::{
+    DEFAULT_NODE_ID, Declare, DeclareBody, FaceId, Message, QueryableInfoType, Region, WireExpr,
+};
+use zq_key::text::Text;
+use zq_machine::face::OpenFace;
+use zq_machine::handed::{Handed, HandedList};
+use zq_names::nonwild;
+use zq_tables::naming::Naming;
+
+// Whether the face is local.
+fn is_local(faces: &BTreeMap<u32, OpenFace>, to: FaceId) -> bool
+    ensures { result ≡ option_map_or (λ o. is_local_region o.region) (at to.0 faces.now.entries) false }
+{
+    match faces.get(&to.0) {
+        Some(face) => matches!(face.region, Region::Local),
+        None => false,
+    }
+}
+
+// Whether the face may be declared a number.
+fn may_number(faces: &BTreeMap<u32, OpenFace>, to: FaceId) -> bool
+    ensures { result ≡ option_map_or (λ o. numbers_region o.region) (at to.0 faces.now.entries) false }
+{
+    match faces.get(&to.0) {
+        Some(face) => matches!(face.region, Region::North),
+        None => false,
+    }
+}
+
+fn handed_declare(to: FaceId, declare: Declare) -> Handed
+    ensures { result ≡ handed_declare_of to declare }
+{
+    Handed::new(to, None, None, Message::Declare(declare))
+}
+
+fn number_declare(id: u16, part: Text) -> Declare
+    ensures { result ≡ number_of id part }
+{
+    Declare {
+        interest: None,
+        node: DEFAULT_NODE_ID,
+        body: DeclareBody::DeclareKeyExpr {
+            id,
+            wire: whole(part),
+        },
+    }
+}
+
+fn key_body(id: u32, wire: WireExpr, info: Option<QueryableInfoType>) -> DeclareBody
+    ensures { result ≡ body_of id wire info }
+{
+    match info {
+        Some(info) => DeclareBody::DeclareQueryable { id, wire, info },
+        None => DeclareBody::UndeclareQueryable {
+            id,
+            wire: Some(wire),
+        },
+    }
+}
+
+fn key_declare(telling: &Telling, wire: WireExpr) -> Declare
+    ensures { result ≡ declare_of telling.now wire }
+{
+    Declare {
+        interest: None,
+        node: telling.node,
+        body: key_body(telling.id, wire, telling.info),
+    }
+}
+
+// The message of the number, if one is new, goes behind the others.
+fn push_number(handed: &mut Vec<Handed>, to: FaceId, part: Text, number: Option<u16>)
+    requires { vec_len handed.old + 2 ≤ vec_capacity handed.old }
+    ensures items { handed.new.items ≡ handed.old.items ++ handed_number to part number }
+    ensures room { vec_len handed.new < vec_capacity handed.new }
+{
+    if let Some(id) = number {
+        handed.push_reserved(handed_declare(to, number_declare(id, part)));
+    }
+}
+
+// A face is told one thing. A new number stands from then on.
+fn tell_one(
+    alloc: Global,
+    faces: &BTreeMap<u32, OpenFace>,
+    names: &mut Naming,
+    telling: &Telling,
+    handed: &mut Vec<Handed>,
+) -> Result<(), OutOfMemory>
+    requires { key_of telling.now.key ≡ true }
+    ensures messages { (c : Core) → c.faces ≡ faces.now.entries → OnOk result (handed.new.items ≡ handed.old.items ++ (tell_body c (from_hat telling.now) (from_hat telling.now).body names.old).handed) }
+    ensures names { (c : Core) → c.faces ≡ faces.now.entries → OnOk result (names.new ≡ (tell_body c (from_hat telling.now) (from_hat telling.now).body names.old).names) }
+    ensures back { OnOk result (untold handed.new.items names.new ≡ untold handed.old.items names.old) }
+    ensures kept { OnErr result (handed.new.items ≡ handed.old.items) }
+    ensures err { OnErr result (names.new ≡ names.old) }
+{
+    handed.reserve(2)?;
+    let to = telling.face;
+    let text = telling.key.as_str();
+    let part = Text::new(alloc, nonwild(text))?;
+    let key = names.declared(to, text, is_local(faces, to), may_number(faces, to))?;
+    push_number(handed, to, part, key.declared);
+    handed.push_reserved(handed_declare(to, key_declare(telling, key.wire)));
+    Ok(())
+}
+
+// The number that a message declares is taken back.
+fn take_back(names: &mut Naming, handed: &Handed)
+    ensures { names.new ≡ untold_message handed.now.to handed.now.message names.old }
+{
+    if let Message::Declare(declare) = handed.message() {
+        if let DeclareBody::DeclareKeyExpr { id, .. } = &declare.body {
+            names.take_back(handed.to(), *id);
+        }
+    }
+}
+
+/// The numbers that messages declare are taken back, the last one first. It takes no memory.
+pub fn untell(names: &mut Naming, handed: &[Handed])
+    ensures { names.new ≡ untold handed.now names.old }
+{
+    for i in (0..handed.len()).rev() {
+        take_back(names, &handed[i]);
+    }
+}
+
+/// The messages of what faces are told, in order. A number that a key needs is declared directly
+/// before its first use, and stands from then on; `untell` takes back all that were given.
+pub fn tell(
+    alloc: Global,
+    faces: &BTreeMap<u32, OpenFace>,
+    names: &mut Naming,
+    tellings: &[Telling],
+) -> Result<HandedList, OutOfMemory>
+    requires { All (λ t. key_of t.key ≡ true) tellings.now }
+    ensures ok { (c : Core) → c.faces ≡ faces.now.entries → IfOk result (λ l. tell_of c (map from_hat tellings.now) names.old ≡ record { handed = l; names = names.new }) }
+    ensures back { IfOk result (λ l. untold l names.new ≡ names.old) }
+    ensures err { OnErr result (names.new ≡ names.old) }
+{
+    let mut handed = Vec::new(alloc);
+    for telling in tellings {
+        if let Err(refusal) = tell_one(alloc, faces, names, telling, &mut handed) {
+            untell(names, handed.as_slice());
+            return Err(refusal);
+        }
+    }
+    Ok(Items::from_vec(handed))
+}
