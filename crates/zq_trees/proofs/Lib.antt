@@ -7,3 +7,4 @@ pub mod Dropping
 pub mod Ordered
 pub mod Sets
 pub mod Firsts
+pub mod Losing
