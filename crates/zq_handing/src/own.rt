@@ -3,7 +3,6 @@ ghost use Rattle.std.specs.Prelude.{◌≡◌, None, fold, if◌then◌else◌};
 ghost use Rattle.zq_regions.specs.Region.{HasIndex, region_index};
 ghost use Rattle.zq_index.specs.Infos.{joined};
 ghost use Rattle.zq_machine.specs.Trees.{own_entry, with_other};
-ghost use Rattle.zq_handing.specs.Own.{own_entry_with, with_other_or};
 
 use zq_hat::hat::Hat;
 use zq_index::info::joined;
