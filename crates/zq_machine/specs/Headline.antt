@@ -27,7 +27,7 @@ use Rattle.zq_machine.specs.Configs.{Settings}
 use Rattle.zq_machine.specs.State.{State, opening_state}
 use Rattle.zq_machine.specs.Selecting.{select, full_text}
 use Rattle.zq_machine.specs.TextCalls.{read, said as said_by_face}
-use Rattle.zq_machine.specs.Asked.{AreCounted, IsHandedToAsker, asked_in, asked_number, closes, is_own, last_asked, opened_in, replies_in}
+use Rattle.zq_machine.specs.Asked.{AreCounted, IsHandedToAsker, asked_in, asked_number, closes, is_declaration, is_own, last_asked, opened_in, replies_in}
 use Rattle.zq_machine.specs.Deciding.{handed_replies, handed_timeouts, passing_finals, refusal_of, is_accepted}
 use Rattle.zq_machine.specs.Waiting.{Waits, IsSettled, ends_entry, lands, until, is_of}
 use Rattle.zq_machine.specs.Standing.{listed_in, standing_at, standing_in}
@@ -169,14 +169,16 @@ ended_by h = if is_final h.message then h.number else None
 abbrev pub ended_in : List Handed → List ℕ
 ended_in hs = filter_map ended_by hs
 
--- what a call may hand: a request, requests or the asker's final; a reply, a reply; a moment that has come, replies and finals; the end of an entry or of a reply, and a closing, finals; any other call, nothing
+-- what a call may hand: a request, requests or the asker's final; a reply, a reply; a moment that has come, replies and finals; the end of an entry or of a reply, finals; a closing, finals and declarations; what is declared or withdrawn, declarations; any other call, nothing
 abbrev pub may_hand : Call → Message → Bool
 may_hand (call.Request face r now) m = is_request m || is_final m
 may_hand (call.Response face r) m = is_response m
 may_hand (call.ResponseFinal face rid) m = is_final m
 may_hand (call.Sent reply) m = is_final m
 may_hand (call.Poll now) m = is_response m || is_final m
-may_hand (call.Close face) m = is_final m
+may_hand (call.Close face) m = is_final m || is_declaration m
+may_hand (call.DeclareQueryable face id wire info node) m = is_declaration m
+may_hand (call.UndeclareQueryable face id wire node) m = is_declaration m
 may_hand c m = false
 
 -- what is handed has a reply number exactly where it is a reply, leaves as it is (as long as no face has an exit of its own), and is of a kind that the call may hand
