@@ -32,6 +32,7 @@ pub mod RoutersMoved
 pub mod DueMoved
 pub mod Worded
 pub mod DueHeard
+pub mod Tells
 pub mod Targets
 pub mod Always
 pub mod Counting

@@ -28,10 +28,11 @@ use Rattle.zq_machine.specs.State.{State, opening_state}
 use Rattle.zq_machine.specs.Selecting.{select, full_text}
 use Rattle.zq_machine.specs.TextCalls.{read, said as said_by_face}
 use Rattle.zq_machine.specs.Asked.{AreCounted, IsHandedToAsker, asked_in, asked_number, closes, is_declaration, is_own, last_asked, opened_in, replies_in}
-use Rattle.zq_machine.specs.Deciding.{handed_replies, handed_timeouts, passing_finals, refusal_of, is_accepted}
+use Rattle.zq_machine.specs.Deciding.{handed_replies, handed_timeouts, passing_finals, refusal_of, is_accepted, told_of}
 use Rattle.zq_machine.specs.Waiting.{Waits, IsSettled, ends_entry, lands, until, is_of}
 use Rattle.zq_machine.specs.Standing.{listed_in, standing_at, standing_in}
-use Rattle.zq_machine.specs.Machine.{step, steps, after, state_after, refused_step}
+use Rattle.zq_machine.specs.Hearing.{hear}
+use Rattle.zq_machine.specs.Machine.{step, steps, after, follow, state_after, refused_step}
 use Rattle.zq_machine.specs.Writing.{leaving, sent_final, write}
 
 -- ---- requests
@@ -152,6 +153,12 @@ pub record FinalPromise (n : ℕ) (s : State) (c : Call) : Type 0 where
   pub silent : to_come s.core.queries.closed n s.core.queries ≡ 0 → list_any (is_of n) (step s c).handed ≡ false
   pub standing : any_over (after s c).core.queries.records ≡ false
 
+-- ---- what faces are told
+
+-- what the receivers of an accepted call's messages hear, one after another, each key by the numbers that were declared before, is what faces are told
+abbrev pub TellPromise : State → Call → Type 0
+TellPromise s c = is_accepted (step s c).outcome ≡ true → hear (step s c).handed (follow s (read s c)).names ≡ told_of s.core (read s c)
+
 -- ---- what is answered and handed
 
 -- an accepted opening is answered the next face; the answers of requests and replies are said with them; every other call is answered that it is done
@@ -202,6 +209,7 @@ pub record KeepsPromises (s : State) (c : Call) : Type 0 where
   pub replies : ReplyPromise s c (step s c)
   pub waits : is_accepted (step s c).outcome ≡ true → Waits (ends_entry c) (lands c) (until s c) s.core.queries.records (after s c).core.queries.records (step s c).handed
   pub finals : (n : ℕ) → FinalPromise n s c
+  pub tells : TellPromise s c
   pub answer : is_accepted (step s c).outcome ≡ true → AnswerPromise s c (step s c).outcome
   pub fit : AllByRecursion (IsFit (may_hand c)) (step s c).handed
   pub ordered : IsStrictlySortedBy nat_cmp (ended_in (step s c).handed)
