@@ -22,6 +22,7 @@ use Rattle.zq_query.specs.Records.{QueryState, Record, final_of, is_entry, is_ov
 use Rattle.zq_tables.specs.Naming.{NamingState}
 use Rattle.zq_machine.specs.declared.call.Call.{Call}
 use Rattle.zq_machine.specs.declared.call.Call.TheVariants as call
+use Rattle.zq_machine.specs.declared.call.Outcome.TheVariants as outcome
 use Rattle.zq_machine.specs.declared.face.OpenFace.{OpenFace}
 use Rattle.zq_machine.specs.Agreeing.{number_of}
 use Rattle.zq_machine.specs.Asked.{asked_number, is_declaration}
@@ -35,6 +36,7 @@ use Rattle.zq_machine.specs.TextCalls.{TextCall, closing, declaring, withdrawing
 use Rattle.zq_machine.specs.Writing.{write}
 use Rattle.zq_machine.proofs.Granted.{by_granted, mapped_beside, told_by}
 use Rattle.zq_machine.proofs.Lists.{all_append, sorted_left, sorted_numbers}
+use Rattle.zq_machine.proofs.Reading.{declare_read, withdraw_read}
 use Rattle.zq_machine.proofs.Telling.{told_all}
 use Rattle.zq_machine.proofs.Numbered.{InNumbers, numbered_timing}
 use Rattle.zq_key.proofs.Naturals.{map-map}
@@ -43,6 +45,8 @@ use Rattle.zq_key.proofs.Naturals.{map-map}
 granted_answer : (s : State) (c : Call) → AnswerPromise s c (granted s.core (read s c)).outcome
 granted_answer s (call.Request face r now) = tt
 granted_answer s (call.Response face r) = tt
+granted_answer s (call.DeclareQueryable face id wire info node) = declare_read (λ t. (granted s.core t).outcome ≡ outcome.Done) s face id wire info node refl refl
+granted_answer s (call.UndeclareQueryable face id wire node) = withdraw_read (λ t. (granted s.core t).outcome ≡ outcome.Done) s face id wire node refl refl
 granted_answer s c = refl
 
 pub call_answers : (s : State) (c : Call) → is_accepted (step s c).outcome ≡ true → AnswerPromise s c (step s c).outcome
@@ -66,6 +70,8 @@ may_text t m = false
 may_read : (s : State) (c : Call) (m : Message) → may_text (read s c) m ≡ may_hand c m
 unfolding may_text
 may_read s (call.Poll now) m = refl
+may_read s (call.DeclareQueryable face id wire info node) m = declare_read (λ t. may_text t m ≡ is_declaration m) s face id wire info node refl refl
+may_read s (call.UndeclareQueryable face id wire node) m = withdraw_read (λ t. may_text t m ≡ is_declaration m) s face id wire node refl refl
 may_read s c m = refl
 
 module _ (names : NamingState) (may : Message → Bool) where

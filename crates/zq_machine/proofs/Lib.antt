@@ -1,6 +1,7 @@
 pub mod Lists
 pub mod Writing
 pub mod Telling
+pub mod Reading
 pub mod Granted
 pub mod Hearing
 pub mod Frame
@@ -26,7 +27,6 @@ pub mod Agreed
 pub mod Numbered
 pub mod NewEntries
 pub mod Hats
-pub mod Unrouted
 pub mod Owning
 pub mod RoutersMoved
 pub mod DueMoved

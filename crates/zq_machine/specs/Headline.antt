@@ -176,7 +176,7 @@ ended_by h = if is_final h.message then h.number else None
 abbrev pub ended_in : List Handed → List ℕ
 ended_in hs = filter_map ended_by hs
 
--- what a call may hand: a request, requests or the asker's final; a reply, a reply; a moment that has come, replies and finals; the end of an entry or of a reply, finals; a closing, finals and declarations; what is declared or withdrawn, declarations; any other call, nothing
+-- what a call may hand: a request, requests or the asker's final; a reply, a reply; a moment that has come, replies and finals; the end of an entry or of a reply, finals; a closing, finals and declarations; what is declared or withdrawn, and a network, declarations; any other call, nothing
 abbrev pub may_hand : Call → Message → Bool
 may_hand (call.Request face r now) m = is_request m || is_final m
 may_hand (call.Response face r) m = is_response m
@@ -186,6 +186,7 @@ may_hand (call.Poll now) m = is_response m || is_final m
 may_hand (call.Close face) m = is_final m || is_declaration m
 may_hand (call.DeclareQueryable face id wire info node) m = is_declaration m
 may_hand (call.UndeclareQueryable face id wire node) m = is_declaration m
+may_hand (call.SetNetwork r net) m = is_declaration m
 may_hand c m = false
 
 -- what is handed has a reply number exactly where it is a reply, leaves as it is (as long as no face has an exit of its own), and is of a kind that the call may hand
@@ -220,7 +221,7 @@ pub record KeepsPromises (s : State) (c : Call) : Type 0 where
 pub record RunPromise (config : Settings) (calls : List Call) : Type 0 where
   pub each : (before rest : List Call) (c : Call) → calls ≡ before ++ c ∷ rest → KeepsPromises (state_after (opening_state config) before) c
   pub settings : (state_after (opening_state config) calls).core.config ≡ config
-  pub stands : (face : ℕ) → standing_at face (state_after (opening_state config) calls) ≡ standing_in config.start.told face calls (steps config calls) None
+  pub stands : (face : ℕ) → standing_at face (state_after (opening_state config) calls) ≡ standing_in config face calls (steps config calls) None
   pub listed : (state_after (opening_state config) calls).core.tables ≡ listed_in calls (steps config calls) []
   pub numbers : AreCounted config.start.requests (map asked_number (asked_in calls (steps config calls)))
   pub faces : AreCounted config.start.faces (opened_in (steps config calls))
