@@ -40,7 +40,6 @@ use Rattle.zq_machine.proofs.Agreeing.{Tied, declared_tied, marked_tied, named_t
 use Rattle.zq_machine.proofs.Changing.{hat_found, itself, number_test, region_there}
 use Rattle.zq_machine.proofs.Finals.{IsSound, granted_sound, is_there, none_sorted, opening_sound}
 use Rattle.zq_machine.proofs.Hats.{AreHatsOf, accepted_hats, opening_hats}
-use Rattle.zq_machine.proofs.Unrouted.{AreUnrouted, accepted_unrouted, read_unrouted}
 use Rattle.zq_machine.proofs.Worded.{AreWorded, accepted_worded, opening_worded}
 use Rattle.zq_machine.proofs.Joining.{closed_tied, opened_tied}
 use Rattle.zq_machine.proofs.NewEntries.{numbered_asked}
@@ -133,7 +132,6 @@ pub record InOrder (config : Settings) (s : State) : Type 0 where
   pub hats : AreHatsOf config s.core.hats
   pub numbered : InNumbers s.core.queries
   pub aims : AllAim s.core.faces s.core.queries.records
-  pub unrouted : AreUnrouted (first_hats config) s.core.hats
   pub worded : AreWorded s.core.hats
 
 replied_numbers : (q : QueryState) (o : Option ReplyTo) → InNumbers q → InNumbers (after_replied o q)
@@ -170,7 +168,6 @@ granted_in_order config s c h i = let x = read s c in record {
   hats = accepted_hats config.start.told (first_hats config) s.core i.hats x;
   numbered = granted_numbers s x h i.numbered;
   aims = accepted_aims config s.core s.names i.tied i.hats i.sound.sorted i.aims x;
-  unrouted = λ k. accepted_unrouted s.core x (read_unrouted s c) k ∙ i.unrouted k;
   worded = accepted_worded s.core x h i.worded;
 }
 
@@ -182,7 +179,6 @@ numbered_in_order config core face text id names i = record {
   hats = i.hats;
   numbered = i.numbered;
   aims = i.aims;
-  unrouted = i.unrouted;
   worded = i.worded;
 }
 
@@ -230,7 +226,6 @@ opening_in_order config = record {
   hats = opening_hats config;
   numbered = record { numbers = none_sorted; below = tt; places = λ face id. omega arith; once = tt; flights = λ reply. omega arith; flown = tt };
   aims = tt;
-  unrouted = λ k. refl;
   worded = opening_worded config;
 }
 

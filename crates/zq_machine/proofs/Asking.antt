@@ -38,6 +38,7 @@ use Rattle.zq_machine.specs.State.{Core, State, opening_state}
 use Rattle.zq_machine.specs.TextCalls.{TextCall, opening, closing, naming, unnaming, declaring, withdrawing, asking, replying, ending, reporting, passing, listing, finalizing, announcing, retracting, networking, tabling, unbuilt, read, said as said_by_face}
 use Rattle.zq_machine.proofs.Lists.{all_append, all_filter, all_weaker}
 use Rattle.zq_machine.proofs.Granted.{all_beside, by_granted}
+use Rattle.zq_machine.proofs.Reading.{declare_read, withdraw_read}
 use Rattle.zq_machine.proofs.Promises.{is_asking}
 
 -- ---- what holds of each record's number, asker, id and quality byte
@@ -316,8 +317,8 @@ module _ (asked : List Final) (s : State) (all : Asks asked s) where
   call_tells (call.Close face) = quiet (closing face) refl
   call_tells (call.DeclareKeyExpr face id wire) = quiet (read s (call.DeclareKeyExpr face id wire)) refl
   call_tells (call.UndeclareKeyExpr face id) = quiet (read s (call.UndeclareKeyExpr face id)) refl
-  call_tells (call.DeclareQueryable face id wire info node) = quiet (read s (call.DeclareQueryable face id wire info node)) refl
-  call_tells (call.UndeclareQueryable face id wire node) = quiet (withdrawing face id) refl
+  call_tells (call.DeclareQueryable face id wire info node) = quiet (read s (call.DeclareQueryable face id wire info node)) (declare_read (λ t. is_asking t ≡ false) s face id wire info node refl refl)
+  call_tells (call.UndeclareQueryable face id wire node) = quiet (read s (call.UndeclareQueryable face id wire node)) (withdraw_read (λ t. is_asking t ≡ false) s face id wire node refl refl)
   call_tells (call.Response face r) = quiet (read s (call.Response face r)) refl
   call_tells (call.ResponseFinal face rid) = quiet (ending face rid) refl
   call_tells (call.Sent reply) = quiet (reporting reply) refl
@@ -326,8 +327,8 @@ module _ (asked : List Final) (s : State) (all : Asks asked s) where
   call_tells (call.Interest face id keys wire) = quiet unbuilt refl
   call_tells (call.InterestFinal face id) = quiet unbuilt refl
   call_tells (call.FinalizeInterest face mark set) = quiet (finalizing face mark set) refl
-  call_tells (call.SetNetwork r net) = quiet unbuilt refl
-  call_tells (call.SetNodeIds face ids) = quiet unbuilt refl
+  call_tells (call.SetNetwork r net) = quiet (networking r net) refl
+  call_tells (call.SetNodeIds face ids) = quiet (tabling face ids) refl
 
 -- ---- a run
 abbrev asked_from : State → List Call → List Final

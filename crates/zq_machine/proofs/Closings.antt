@@ -17,6 +17,7 @@ use Rattle.zq_machine.specs.TextCalls.{TextCall, opening, closing, naming, unnam
 use Rattle.zq_machine.proofs.Changing.{number_test}
 use Rattle.zq_machine.proofs.Finals.{put_closed, timing_closed}
 use Rattle.zq_machine.proofs.Granted.{by_granted}
+use Rattle.zq_machine.proofs.Reading.{declare_read, withdraw_read}
 use Rattle.zq_machine.proofs.Writing.{settles_core}
 use Rattle.zq_key.proofs.Sorted.{has_put}
 
@@ -83,8 +84,8 @@ module _ (s : State) (face : ℕ) where
   call_closed (call.Open o) = quiet (opening o) refl
   call_closed (call.DeclareKeyExpr f id wire) = quiet (read s (call.DeclareKeyExpr f id wire)) refl
   call_closed (call.UndeclareKeyExpr f id) = quiet (read s (call.UndeclareKeyExpr f id)) refl
-  call_closed (call.DeclareQueryable f id wire info node) = quiet (read s (call.DeclareQueryable f id wire info node)) refl
-  call_closed (call.UndeclareQueryable f id wire node) = quiet (withdrawing f id) refl
+  call_closed (call.DeclareQueryable f id wire info node) = quiet (read s (call.DeclareQueryable f id wire info node)) (declare_read (λ t. is_closing t ≡ false) s f id wire info node refl refl)
+  call_closed (call.UndeclareQueryable f id wire node) = quiet (read s (call.UndeclareQueryable f id wire node)) (withdraw_read (λ t. is_closing t ≡ false) s f id wire node refl refl)
   call_closed (call.Response f r) = quiet (read s (call.Response f r)) refl
   call_closed (call.ResponseFinal f rid) = quiet (ending f rid) refl
   call_closed (call.Sent reply) = quiet (reporting reply) refl
@@ -93,5 +94,5 @@ module _ (s : State) (face : ℕ) where
   call_closed (call.Interest f id keys wire) = quiet unbuilt refl
   call_closed (call.InterestFinal f id) = quiet unbuilt refl
   call_closed (call.FinalizeInterest f mark set) = quiet (finalizing f mark set) refl
-  call_closed (call.SetNetwork r net) = quiet unbuilt refl
-  call_closed (call.SetNodeIds f ids) = quiet unbuilt refl
+  call_closed (call.SetNetwork r net) = quiet (networking r net) refl
+  call_closed (call.SetNodeIds f ids) = quiet (tabling f ids) refl

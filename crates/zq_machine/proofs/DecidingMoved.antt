@@ -31,10 +31,12 @@ use Rattle.zq_machine.specs.declared.face.OpenFace.{OpenFace}
 use Rattle.zq_machine.specs.State.{Core, at, is_open, joined}
 use Rattle.zq_machine.specs.Selecting.{select_for, select}
 use Rattle.zq_machine.specs.TextCalls.{TextCall, opening, closing, naming, unnaming, declaring, withdrawing, asking, replying, ending, reporting, passing, listing, finalizing, announcing, retracting, networking, tabling, unbuilt}
+use Rattle.zq_machine.specs.Trees.{due_told}
 use Rattle.zq_machine.specs.Deciding.{refusal_of, handed_request, handed_requests, handed_reply, timed_out, handed_timeouts, passing_finals, replied, granted, messages_of, outcome_of, told_of, answered, decide, is_accepted, deadline, with_queries, with_open, seat, accepted, announced_by, retracted_by}
 use Rattle.zq_machine.specs.Moved.{move_said, move_text, move_core, move_suffix, move_message, move_telling, move_decided, after_text, DecidesAlike}
 use Rattle.zq_machine.proofs.HatsMoved.{finalized_moved, registered_moved, unregistered_moved, left_moved, joined_moved, hat_changed, own_changed}
 use Rattle.zq_machine.proofs.RoutersMoved.{announced_moved, networked_moved, noded_moved, retracted_moved}
+use Rattle.zq_machine.proofs.DueMoved.{due_moved}
 use Rattle.zq_machine.proofs.SelectionMoved.{select_moved, targets_moved}
 use Rattle.zq_machine.proofs.CausesMoved.{refused_alike, second_holds, third_holds}
 
@@ -123,20 +125,6 @@ module _ (φ : List ℕ → List ℕ) where
     outcome_moved (opening o) = refl
     outcome_moved t = refl
 
-    -- nothing is told yet
-    told_moved : (t : TextCall) → refusal_of c t ≡ None → told_of (move_core φ c) (move_text φ t) ≡ map (move_telling φ) (told_of c t)
-    told_moved t e = refl
-
-    granted_moved : (t : TextCall) → refusal_of c t ≡ None → granted (move_core φ c) (move_text φ t) ≡ move_decided φ (granted c t)
-    granted_moved t e = λ j. record { outcome = outcome_moved t j; messages = messages_moved t e j; told = told_moved t e j }
-
-    answer_by : (t : TextCall) (o : Option Refusal) → refusal_of c t ≡ o → answered o (granted (move_core φ c) (move_text φ t)) ≡ move_decided φ (answered o (granted c t))
-    answer_by t None e = granted_moved t e
-    answer_by t (Some r) e = refl
-
-    pub answer_moved : (t : TextCall) → decide (move_core φ c) (move_text φ t) ≡ move_decided φ (decide c t)
-    answer_moved t = ap (λ o. answered o (granted (move_core φ c) (move_text φ t))) (refused_alike φ keeps c t) ∙ answer_by t (refusal_of c t) refl
-
     -- ---- what an accepted call changes
     pub accepted_moved : (t : TextCall) → refusal_of c t ≡ None → accepted (move_core φ c) (move_text φ t) ≡ move_core φ (accepted c t)
     accepted_moved (opening o) e =
@@ -170,6 +158,20 @@ module _ (φ : List ℕ → List ℕ) where
     accepted_moved (networking r net) e = ap (λ l. record (move_core φ c) { hats = l }) (hat_changed φ c.hats r (networked net) (networked net) (networked_moved φ net))
     accepted_moved (tabling face ids) e = own_changed φ c (noded face.0 ids) (noded face.0 ids) (noded_moved φ face.0 ids) face.0
     accepted_moved unbuilt e = refl
+
+    -- ---- what it decides
+    told_moved : (t : TextCall) → refusal_of c t ≡ None → told_of (move_core φ c) (move_text φ t) ≡ map (move_telling φ) (told_of c t)
+    told_moved t e = ap (λ d. due_told (move_core φ c) d (move_text φ t)) (accepted_moved t e) ∙ due_moved φ keeps c (accepted c t) t e
+
+    granted_moved : (t : TextCall) → refusal_of c t ≡ None → granted (move_core φ c) (move_text φ t) ≡ move_decided φ (granted c t)
+    granted_moved t e = λ j. record { outcome = outcome_moved t j; messages = messages_moved t e j; told = told_moved t e j }
+
+    answer_by : (t : TextCall) (o : Option Refusal) → refusal_of c t ≡ o → answered o (granted (move_core φ c) (move_text φ t)) ≡ move_decided φ (answered o (granted c t))
+    answer_by t None e = granted_moved t e
+    answer_by t (Some r) e = refl
+
+    pub answer_moved : (t : TextCall) → decide (move_core φ c) (move_text φ t) ≡ move_decided φ (decide c t)
+    answer_moved t = ap (λ o. answered o (granted (move_core φ c) (move_text φ t))) (refused_alike φ keeps c t) ∙ answer_by t (refusal_of c t) refl
 
     change_by : (t : TextCall) → refusal_of c t ≡ None → (b : Bool) → cond b (accepted (move_core φ c) (move_text φ t)) (move_core φ c) ≡ move_core φ (cond b (accepted c t) c)
     change_by t e true = accepted_moved t e

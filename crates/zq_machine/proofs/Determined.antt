@@ -19,13 +19,12 @@ use Rattle.zq_machine.specs.Agreeing.{stands_in}
 use Rattle.zq_machine.specs.Configs.{Settings}
 use Rattle.zq_machine.specs.Machine.{state_after}
 use Rattle.zq_machine.specs.Selecting.{select}
-use Rattle.zq_machine.specs.Standing.{StandAlike, Standing, kept_at, standing_at, standing_of}
+use Rattle.zq_machine.specs.Standing.{StandAlike, Standing, kept_at, routed, standing_at, standing_of}
 use Rattle.zq_machine.specs.State.{State, at, hat_at, opening_state}
 use Rattle.zq_machine.proofs.Agreed.{InOrder, run_in_order}
 use Rattle.zq_machine.proofs.Changing.{hat_found, region_there}
 use Rattle.zq_machine.proofs.Frame.{run_config}
 use Rattle.zq_machine.proofs.Hats.{IsIndex, bare}
-use Rattle.zq_machine.proofs.Unrouted.{routed}
 use Rattle.zq_machine.proofs.Standing.{its_hat, its_kept, stands_so}
 use Rattle.zq_key.proofs.Lookups.{same_entries}
 
@@ -101,7 +100,7 @@ module _ (config : Settings) (s z : State) (i : InOrder config s) (l : InOrder c
       by (inl e) (inr x) = same_in k g h g_at h_at x
 
   same_hat : (k : ℕ) → at k s.core.hats ≡ at k z.core.hats
-  same_hat k = by (at k s.core.hats) (at k z.core.hats) refl refl (i.hats.shape k ∙ sym (l.hats.shape k)) (i.unrouted k ∙ sym (l.unrouted k))
+  same_hat k = by (at k s.core.hats) (at k z.core.hats) refl refl (i.hats.shape k ∙ sym (l.hats.shape k)) (alike.routers k)
     where
       by : (x y : Option HatState) → at k s.core.hats ≡ x → at k z.core.hats ≡ y → option_map bare x ≡ option_map bare y → option_map routed x ≡ option_map routed y → x ≡ y
       by None None e f b u = refl

@@ -1,5 +1,5 @@
 -- A call that is refused hands and changes nothing; one that nothing refuses is answered its messages, with what faces are told behind them, and changes no more than itself and numbers of keys.
-use Rattle.std.proofs.Common.{◌≡◌, ◌∙◌, refl, sym, ap, subst, Bool, true, false, cond, not, List, [], ◌∷◌, ◌++◌, append-nil, Option, Some, None, true≢false}
+use Rattle.std.proofs.Common.{◌≡◌, ◌∙◌, refl, sym, ap, subst, Bool, true, false, cond, not, List, [], ◌∷◌, ◌++◌, map, append-nil, Option, Some, None, true≢false}
 use Rattle.std.specs.Prelude.{◌||◌}
 use Rattle.std.specs.List.{AllByRecursion, filter, filter_map, list_any}
 use Rattle.std.specs.Option.{is_some}
@@ -9,19 +9,23 @@ use Rattle.std.proofs.lemmas.List.Elements.{filter-append, filter_map-append}
 use Rattle.std.proofs.lemmas.List.Folds.{list_any-append}
 use Rattle.zq_query.specs.declared.records.ReplyTo.{ReplyTo}
 use Rattle.zq_query.specs.Records.{is_pending, next_reply}
+use Rattle.zq_message.specs.declared.message.FaceId.{FaceId}
+use Rattle.zq_message.specs.declared.message.Region.{Region}
+use Rattle.zq_query.specs.Closing.{closing_finals}
 use Rattle.zq_machine.specs.Handing.{Handed}
+use Rattle.zq_machine.specs.declared.call.Outcome.TheVariants as outcome
 use Rattle.zq_machine.specs.declared.call.Refusal.{Refusal}
 use Rattle.zq_machine.specs.declared.call.Step.{Step}
 use Rattle.zq_machine.specs.Deciding.{Cause, accepted, answered, causes, first_of, granted, is_accepted, refusal_of, renamed, replied_outcome, told_of}
 use Rattle.zq_machine.specs.Machine.{accepted_state, answer, refused_step, settle}
 use Rattle.zq_machine.specs.Messages.{Decided}
-use Rattle.zq_machine.specs.State.{Core, State}
+use Rattle.zq_machine.specs.State.{Core, State, face_region}
 use Rattle.zq_machine.specs.TextCalls.{TextCall, opening, closing, naming, unnaming, declaring, withdrawing, asking, replying, ending, reporting, passing, listing, finalizing, announcing, retracting, networking, tabling, unbuilt}
-use Rattle.zq_machine.specs.Writing.{Told, tell, write}
+use Rattle.zq_machine.specs.Writing.{Told, sent_final, tell, write}
 use Rattle.zq_machine.proofs.Lists.{all_append}
 use Rattle.zq_machine.proofs.Replies.{next-pending}
 use Rattle.zq_machine.proofs.Telling.{OfDeclared, none_any, none_filtered, none_mapped, told_all}
-use Rattle.zq_machine.proofs.Writing.{after_decided, answers_fully, fully, plainly, settles_fully, told_after, with_told}
+use Rattle.zq_machine.proofs.Writing.{after_decided, answers_fully, close_fits, finals_written, fully, plainly, settles_fully, told_after, with_told}
 
 -- ---- causes
 pub passed : (c : Cause) (cs : List Cause) → first_of (c ∷ cs) ≡ None → (c.0 ≡ false) × (first_of cs ≡ None)
@@ -117,6 +121,15 @@ settles_told s t fits =
     settles_fully s t
     ∙ ap (λ o. with_told (after_decided s t (answered o (granted s.core t))) (told_after (answered o (granted s.core t)) (after_decided s t (answered o (granted s.core t))))) fits
     ∙ (λ j. let z = cond (granted_is_accepted s.core t fits j) (accepted_state s t) s in with_told z (told_after (granted s.core t) z))
+
+-- an open face is closed
+pub closed_step : (s : State) (face : FaceId) (r : Region) (handed : List Handed) → face_region face.0 s.core ≡ Some r → handed ≡ map sent_final (closing_finals face.0 s.core.queries) ++ (told_by s (closing face)).handed
+    → ◌≡◌ {A = Step} (record { outcome = outcome.Done; handed = handed }) (answer s (closing face))
+closed_step s face r handed there told =
+    answers_told s (closing face) handed (close_fits s face r there) (told ∙ ap (λ l. l ++ (told_by s (closing face)).handed) (sym (finals_written s.names (closing_finals face.0 s.core.queries))))
+
+pub closed_after : (s : State) (face : FaceId) (r : Region) → face_region face.0 s.core ≡ Some r → settle s (closing face) ≡ with_told (accepted_state s (closing face)) (told_by s (closing face))
+closed_after s face r there = settles_told s (closing face) (close_fits s face r there)
 
 -- ---- messages with what is told behind them
 module _ (s : State) (t : TextCall) (hs : List Handed) where

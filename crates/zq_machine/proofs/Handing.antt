@@ -7,7 +7,9 @@ use Rattle.std.specs.Option.{option_map}
 use Rattle.std.specs.Ordering.{nat_cmp}
 use Rattle.std.proofs.lemmas.Bool.{false≢true}
 use Rattle.zq_message.specs.declared.message.FaceId.{FaceId}
+use Rattle.zq_message.specs.declared.message.Declare.{Declare}
 use Rattle.zq_message.specs.declared.message.Message.{Message}
+use Rattle.zq_message.specs.declared.message.Message.TheVariants as message
 use Rattle.zq_message.specs.declared.message.Request.{Request}
 use Rattle.zq_message.specs.declared.message.Response.{Response}
 use Rattle.zq_hat.specs.declared.types.QueryTargetQabl.{QueryTargetQabl}
@@ -20,19 +22,22 @@ use Rattle.zq_query.specs.Records.{QueryState, Record, final_of, is_entry, is_ov
 use Rattle.zq_tables.specs.Naming.{NamingState}
 use Rattle.zq_machine.specs.declared.call.Call.{Call}
 use Rattle.zq_machine.specs.declared.call.Call.TheVariants as call
+use Rattle.zq_machine.specs.declared.call.Outcome.TheVariants as outcome
 use Rattle.zq_machine.specs.declared.face.OpenFace.{OpenFace}
 use Rattle.zq_machine.specs.Agreeing.{number_of}
-use Rattle.zq_machine.specs.Asked.{asked_number}
-use Rattle.zq_machine.specs.Deciding.{granted, is_accepted, handed_reply, handed_request, handed_requests, handed_timeouts, passing_finals, replied, timed_out}
+use Rattle.zq_machine.specs.Asked.{asked_number, is_declaration}
+use Rattle.zq_machine.specs.Deciding.{accepted, granted, renamed, told_of, is_accepted, handed_reply, handed_request, handed_requests, handed_timeouts, passing_finals, replied, timed_out}
 use Rattle.zq_machine.specs.Headline.{AnswerPromise, IsFit, ended_by, ended_in, is_final, is_request, is_response, may_hand}
 use Rattle.zq_machine.specs.Machine.{step}
 use Rattle.zq_machine.specs.Messages.{TextMessage, text_final}
 use Rattle.zq_machine.specs.Selecting.{full_text, select}
 use Rattle.zq_machine.specs.State.{Core, State}
-use Rattle.zq_machine.specs.TextCalls.{TextCall, closing, asking, replying, ending, reporting, passing, read}
+use Rattle.zq_machine.specs.TextCalls.{TextCall, closing, declaring, withdrawing, asking, replying, ending, reporting, passing, announcing, retracting, networking, read}
 use Rattle.zq_machine.specs.Writing.{write}
 use Rattle.zq_machine.proofs.Granted.{by_granted, mapped_beside, told_by}
 use Rattle.zq_machine.proofs.Lists.{all_append, sorted_left, sorted_numbers}
+use Rattle.zq_machine.proofs.Reading.{declare_read, withdraw_read}
+use Rattle.zq_machine.proofs.Telling.{told_all}
 use Rattle.zq_machine.proofs.Numbered.{InNumbers, numbered_timing}
 use Rattle.zq_key.proofs.Naturals.{map-map}
 
@@ -40,6 +45,8 @@ use Rattle.zq_key.proofs.Naturals.{map-map}
 granted_answer : (s : State) (c : Call) → AnswerPromise s c (granted s.core (read s c)).outcome
 granted_answer s (call.Request face r now) = tt
 granted_answer s (call.Response face r) = tt
+granted_answer s (call.DeclareQueryable face id wire info node) = declare_read (λ t. (granted s.core t).outcome ≡ outcome.Done) s face id wire info node refl refl
+granted_answer s (call.UndeclareQueryable face id wire node) = withdraw_read (λ t. (granted s.core t).outcome ≡ outcome.Done) s face id wire node refl refl
 granted_answer s c = refl
 
 pub call_answers : (s : State) (c : Call) → is_accepted (step s c).outcome ≡ true → AnswerPromise s c (step s c).outcome
@@ -52,12 +59,19 @@ may_text (replying face s r) m = is_response m
 may_text (ending face rid) m = is_final m
 may_text (reporting reply) m = is_final m
 may_text (passing now) m = is_response m || is_final m
-may_text (closing face) m = is_final m
+may_text (closing face) m = is_final m || is_declaration m
+may_text (declaring face id s i n) m = is_declaration m
+may_text (withdrawing face id) m = is_declaration m
+may_text (announcing face s i n) m = is_declaration m
+may_text (retracting face s n) m = is_declaration m
+may_text (networking r net) m = is_declaration m
 may_text t m = false
 
 may_read : (s : State) (c : Call) (m : Message) → may_text (read s c) m ≡ may_hand c m
 unfolding may_text
 may_read s (call.Poll now) m = refl
+may_read s (call.DeclareQueryable face id wire info node) m = declare_read (λ t. may_text t m ≡ is_declaration m) s face id wire info node refl refl
+may_read s (call.UndeclareQueryable face id wire node) m = withdraw_read (λ t. may_text t m ≡ is_declaration m) s face id wire node refl refl
 may_read s c m = refl
 
 module _ (names : NamingState) (may : Message → Bool) where
@@ -102,7 +116,7 @@ or_right false b e = e
 
 granted_fit : (names : NamingState) (c : Core) (t : TextCall) → AllFit names (may_text t) (granted c t).messages
 unfolding may_text
-granted_fit names c (closing face) = finals_fit names is_final (λ m e. e) (closing_finals face.0 c.queries)
+granted_fit names c (closing face) = finals_fit names (λ m. is_final m || is_declaration m) (λ m e. or_left (is_final m) (is_declaration m) e) (closing_finals face.0 c.queries)
 granted_fit names c (asking face s r now) =
     requested_fit names (λ m. is_request m || is_final m) (λ m e. or_left (is_request m) (is_final m) e) (λ m e. or_right (is_request m) (is_final m) e) c.queries face (full_text s) r (select c face s r)
 granted_fit names c (replying face s r) = replied_fit names is_response (λ m e. e) (full_text s) r (next_reply face.0 r.rid c.queries)
@@ -113,8 +127,18 @@ granted_fit names c (passing now) =
     (finals_fit names (λ m. is_response m || is_final m) (λ m e. or_right (is_response m) (is_final m) e) (passing_finals now c.queries))
 granted_fit names c t = tt
 
--- what is told: nothing yet
+-- what is told are declarations
+declared_fit : (s : State) (t : TextCall) (may : Message → Bool) → ((d : Declare) → may (message.Declare d) ≡ true) → AllByRecursion (IsFit may) (told_by s t).handed
+declared_fit s t may gives = told_all (IsFit may) (λ to text d n. record { flying = refl; out = refl; kind = gives d }) (accepted s.core t) (told_of s.core t) (renamed s t)
+
 told_fit : (s : State) (t : TextCall) → AllByRecursion (IsFit (may_text t)) (told_by s t).handed
+unfolding may_text
+told_fit s (closing face) = declared_fit s (closing face) (λ m. is_final m || is_declaration m) (λ d. refl)
+told_fit s (declaring face id sd i n) = declared_fit s (declaring face id sd i n) is_declaration (λ d. refl)
+told_fit s (withdrawing face id) = declared_fit s (withdrawing face id) is_declaration (λ d. refl)
+told_fit s (announcing face sd i n) = declared_fit s (announcing face sd i n) is_declaration (λ d. refl)
+told_fit s (retracting face sd n) = declared_fit s (retracting face sd n) is_declaration (λ d. refl)
+told_fit s (networking r net) = declared_fit s (networking r net) is_declaration (λ d. refl)
 told_fit s t = tt
 
 pub call_fits : (s : State) (c : Call) → AllByRecursion (IsFit (may_hand c)) (step s c).handed

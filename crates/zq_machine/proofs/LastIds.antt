@@ -33,6 +33,7 @@ use Rattle.zq_machine.specs.TextCalls.{TextCall, asking, replying, passing, read
 use Rattle.zq_machine.specs.Writing.{write}
 use Rattle.zq_machine.proofs.Granted.{any_beside, by_granted, by_plain, told_by}
 use Rattle.zq_machine.proofs.Changing.{number_test}
+use Rattle.zq_machine.proofs.Reading.{declare_read, withdraw_read}
 use Rattle.zq_machine.proofs.Promises.{granted_asks, is_asking}
 use Rattle.zq_key.proofs.Lookups.{found_after_insertion}
 
@@ -116,6 +117,8 @@ module _ (face : ℕ) where
       by_plain (λ z w. last_given w.core.queries face ≡ last_after face (last_given s.core.queries face) z) s t refl
       (λ passed. asked_last s.names s.core.queries asker (full_text (said_by_face asker r.wire s)) r (select s.core asker (said_by_face asker r.wire s) r))
       (λ x. refl)
+  call_last s (call.DeclareQueryable f id wire info node) = quiet s (read s (call.DeclareQueryable f id wire info node)) (declare_read (λ t. is_asking t ≡ false) s f id wire info node refl refl)
+  call_last s (call.UndeclareQueryable f id wire node) = quiet s (read s (call.UndeclareQueryable f id wire node)) (withdraw_read (λ t. is_asking t ≡ false) s f id wire node refl refl)
   call_last s c = quiet s (read s c) refl
 
   pub run_last : (cs : List Call) (s : State) → last_given (state_after s cs).core.queries face ≡ last_asked face (last_given s.core.queries face) (steps_from s cs)

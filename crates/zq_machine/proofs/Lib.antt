@@ -1,6 +1,7 @@
 pub mod Lists
 pub mod Writing
 pub mod Telling
+pub mod Reading
 pub mod Granted
 pub mod Hearing
 pub mod Frame
@@ -26,12 +27,12 @@ pub mod Agreed
 pub mod Numbered
 pub mod NewEntries
 pub mod Hats
-pub mod Unrouted
 pub mod Owning
 pub mod RoutersMoved
 pub mod DueMoved
 pub mod Worded
 pub mod DueHeard
+pub mod Tells
 pub mod Targets
 pub mod Always
 pub mod Counting

@@ -40,6 +40,7 @@ use Rattle.zq_machine.specs.Headline.{HandsOn, HandsEach, HandsRequest, RequestP
 use Rattle.zq_machine.proofs.Routes.{none_to_asker}
 use Rattle.zq_machine.specs.Asked.{is_own}
 use Rattle.zq_machine.proofs.Granted.{all_passed, any_beside, by_granted, by_plain, granted_is_accepted}
+use Rattle.zq_machine.proofs.Reading.{declare_read, withdraw_read}
 use Rattle.zq_machine.proofs.Writing.{after_decided, answers_fully, finals_written, fully, settles_fully, told_after, with_told}
 
 key_some : (t : List ℕ) → is_key t ≡ true → 0 < length t
@@ -219,8 +220,8 @@ request_promise s (call.Open o) = quiet_asks s (opening o) refl
 request_promise s (call.Close face) = quiet_asks s (closing face) refl
 request_promise s (call.DeclareKeyExpr face id wire) = quiet_asks s (read s (call.DeclareKeyExpr face id wire)) refl
 request_promise s (call.UndeclareKeyExpr face id) = quiet_asks s (read s (call.UndeclareKeyExpr face id)) refl
-request_promise s (call.DeclareQueryable face id wire info node) = quiet_asks s (read s (call.DeclareQueryable face id wire info node)) refl
-request_promise s (call.UndeclareQueryable face id wire node) = quiet_asks s (withdrawing face id) refl
+request_promise s (call.DeclareQueryable face id wire info node) = quiet_asks s (read s (call.DeclareQueryable face id wire info node)) (declare_read (λ t. is_asking t ≡ false) s face id wire info node refl refl)
+request_promise s (call.UndeclareQueryable face id wire node) = quiet_asks s (read s (call.UndeclareQueryable face id wire node)) (withdraw_read (λ t. is_asking t ≡ false) s face id wire node refl refl)
 request_promise s (call.Response face r) = quiet_asks s (read s (call.Response face r)) refl
 request_promise s (call.ResponseFinal face rid) = quiet_asks s (ending face rid) refl
 request_promise s (call.Sent reply) = quiet_asks s (reporting reply) refl
@@ -229,8 +230,8 @@ request_promise s (call.SetGateways r t) = quiet_asks s (listing r t) refl
 request_promise s (call.Interest face id keys wire) = quiet_asks s unbuilt refl
 request_promise s (call.InterestFinal face id) = quiet_asks s unbuilt refl
 request_promise s (call.FinalizeInterest face mark set) = quiet_asks s (finalizing face mark set) refl
-request_promise s (call.SetNetwork r net) = quiet_asks s unbuilt refl
-request_promise s (call.SetNodeIds face ids) = quiet_asks s unbuilt refl
+request_promise s (call.SetNetwork r net) = quiet_asks s (networking r net) refl
+request_promise s (call.SetNodeIds face ids) = quiet_asks s (tabling face ids) refl
 
 -- ---- replies
 is_replying : TextCall → Bool
@@ -311,16 +312,16 @@ reply_promise s (call.Open o) = quiet_replies s (opening o) refl
 reply_promise s (call.Close face) = quiet_replies s (closing face) refl
 reply_promise s (call.DeclareKeyExpr face id wire) = quiet_replies s (read s (call.DeclareKeyExpr face id wire)) refl
 reply_promise s (call.UndeclareKeyExpr face id) = quiet_replies s (read s (call.UndeclareKeyExpr face id)) refl
-reply_promise s (call.DeclareQueryable face id wire info node) = quiet_replies s (read s (call.DeclareQueryable face id wire info node)) refl
-reply_promise s (call.UndeclareQueryable face id wire node) = quiet_replies s (withdrawing face id) refl
+reply_promise s (call.DeclareQueryable face id wire info node) = quiet_replies s (read s (call.DeclareQueryable face id wire info node)) (declare_read (λ t. is_replying t ≡ false) s face id wire info node refl refl)
+reply_promise s (call.UndeclareQueryable face id wire node) = quiet_replies s (read s (call.UndeclareQueryable face id wire node)) (withdraw_read (λ t. is_replying t ≡ false) s face id wire node refl refl)
 reply_promise s (call.ResponseFinal face rid) = quiet_replies s (ending face rid) refl
 reply_promise s (call.Sent reply) = quiet_replies s (reporting reply) refl
 reply_promise s (call.SetGateways r t) = quiet_replies s (listing r t) refl
 reply_promise s (call.Interest face id keys wire) = quiet_replies s unbuilt refl
 reply_promise s (call.InterestFinal face id) = quiet_replies s unbuilt refl
 reply_promise s (call.FinalizeInterest face mark set) = quiet_replies s (finalizing face mark set) refl
-reply_promise s (call.SetNetwork r net) = quiet_replies s unbuilt refl
-reply_promise s (call.SetNodeIds face ids) = quiet_replies s unbuilt refl
+reply_promise s (call.SetNetwork r net) = quiet_replies s (networking r net) refl
+reply_promise s (call.SetNodeIds face ids) = quiet_replies s (tabling face ids) refl
 
 -- ---- refusals
 -- what is answered and left by what is decided

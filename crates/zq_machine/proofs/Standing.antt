@@ -5,12 +5,14 @@ use Rattle.std.proofs.lemmas.List.Sums.{fold-append}
 use Rattle.std.specs.List.Sorted.{IsStrictlySortedBy}
 use Rattle.std.specs.Map.{keys_of, remove_entry}
 use Rattle.std.specs.BTreeMap.{insert_entry, is_at}
+use Rattle.std.specs.List.{flat_map}
 use Rattle.std.specs.Option.{is_some, option_and_then, option_map, option_map_or}
 use Rattle.std.specs.Ordering.{nat_cmp}
 use Rattle.zq_message.specs.declared.message.Declare.{Declare}
 use Rattle.zq_message.specs.declared.message.DeclareBody.TheVariants as body
 use Rattle.zq_message.specs.declared.message.FaceId.{FaceId}
 use Rattle.zq_message.specs.declared.message.Region.{Region}
+use Rattle.zq_message.specs.declared.message.Zid.{Zid}
 use Rattle.zq_names.specs.Texts.{nonwild}
 use Rattle.zq_regions.specs.Region.{region_index}
 use Rattle.zq_ids.specs.declared.decl.DeclKey.{DeclKey}
@@ -18,6 +20,11 @@ use Rattle.zq_hat.specs.State.{FaceState, HatState}
 use Rattle.zq_hat.proofs.Routing.{registered_is}
 use Rattle.zq_hat.specs.Kept.{change_face, declare, face_at, new_face, withdraw, without_face}
 use Rattle.zq_hat.specs.Marks.{marked}
+use Rattle.zq_hat.specs.declared.types.Strategy.{Strategy}
+use Rattle.zq_hat.specs.declared.types.Strategy.TheVariants as strategy
+use Rattle.zq_hat.specs.Regions.{in_routers, strategy_at}
+use Rattle.zq_hat.specs.Routers.{announced, networked, retracted, source_at, staying}
+use Rattle.zq_regions.specs.RegionMap.{value_at}
 use Rattle.zq_tables.specs.Naming.{FaceKeys, FaceNaming, NamingState, change_naming, face_naming, naming_at, no_keys, said_of, with_name, with_queryable, without_name, without_queryable}
 use Rattle.zq_machine.specs.declared.call.Call.{Call}
 use Rattle.zq_machine.specs.declared.call.Call.TheVariants as call
@@ -25,23 +32,24 @@ use Rattle.zq_machine.specs.declared.call.Opening.{Opening}
 use Rattle.zq_machine.specs.declared.face.OpenFace.{OpenFace}
 use Rattle.zq_machine.specs.Agreeing.{stands_in}
 use Rattle.zq_machine.specs.Configs.{Settings}
-use Rattle.zq_machine.specs.Deciding.{causes, granted, opened, refusal_of, seat, told_of}
+use Rattle.zq_machine.specs.Deciding.{accepted, announced_by, causes, granted, opened, refusal_of, retracted_by, seat, told_of}
 use Rattle.zq_machine.specs.Machine.{accepted_state, after, state_after, step, steps_from}
 use Rattle.zq_machine.specs.Selecting.{full_text}
-use Rattle.zq_machine.specs.Standing.{Standing, accepted_at, declaring_at, heard_all, heard_at, heard_body, kept_at, listed_after, listed_in, newly_opened, standing_after, standing_at, standing_in, standing_of}
+use Rattle.zq_machine.specs.Standing.{Standing, accepted_at, declaring_at, heard_all, heard_at, heard_body, kept_at, routes_in, text_said, with_kept, listed_after, listed_in, newly_opened, standing_after, standing_at, standing_in, standing_of}
 use Rattle.zq_machine.specs.Hearing.{with_ours}
 use Rattle.zq_machine.specs.Messages.{Telling, TellingBody, TextMessage, all_told, key_ended, key_told, text_final, text_reply, text_request}
 use Rattle.zq_machine.specs.Writing.{Told, and_then, tell, tell_body, tell_by, tell_declare, tell_number, told_key, with_told_number, write, written}
-use Rattle.zq_machine.specs.State.{Core, State, at, change_hat, hat_at, joined, opening_state}
-use Rattle.zq_machine.specs.TextCalls.{TextCall, closing, finalizing, opening, read, said, withdrawing}
+use Rattle.zq_machine.specs.State.{Core, State, at, change_hat, first_hats, hat_at, is_region, is_routing, joined, opening_state, put_hat}
+use Rattle.zq_machine.specs.TextCalls.{TextCall, announcing, by_router, closing, declaring, finalizing, opening, read, retracting, said, said_or_none, tabling, withdrawing}
 use Rattle.zq_machine.proofs.Agreed.{InOrder, granted_in_order, next_absent, numbered_in_order, opened_face, opening_in_order}
 use Rattle.zq_machine.proofs.Agreeing.{Tied, some_of}
 use Rattle.zq_machine.proofs.Always.{after_kept}
 use Rattle.zq_machine.proofs.Changing.{face_here, face_other, found_here, found_other, hat_either, hat_here, itself, naming_changed, number_test, one_number, region_there}
 use Rattle.zq_machine.proofs.Finals.{is_there}
-use Rattle.zq_machine.proofs.Hats.{AreHatsOf}
+use Rattle.zq_machine.proofs.Hats.{AreHatsOf, bare}
 use Rattle.zq_machine.proofs.Joining.{home, in_faces, in_hat, in_names, left_in_faces, left_in_hat, left_in_names, own}
 use Rattle.zq_machine.proofs.Granted.{all_passed, by_granted, granted_is_accepted, told_by}
+use Rattle.zq_machine.proofs.Reading.{declare_read, withdraw_read}
 use Rattle.zq_machine.proofs.Writing.{with_told}
 
 -- what the hats have of a face that was opened so
@@ -115,14 +123,14 @@ module _ (faces : List (ℕ × OpenFace)) (hats : List (ℕ × HatState)) (names
   kept_other k q e = kept_same o.region its_hat.0 (change_face face k) hats its_hat.1 q (face_other face k its_hat.0 q e) (at q faces)
 
   -- what a call of the face makes there, and elsewhere nothing
-  module _ (c : Call) (q : ℕ) (more : List (ℕ × HatState)) (others : NamingState) (n : FaceKeys) (f : FaceState)
+  module _ (config : Settings) (c : Call) (q : ℕ) (more : List (ℕ × HatState)) (others : NamingState) (n : FaceKeys) (f : FaceState)
       (n_at : naming_at face others ≡ Some n) (f_at : kept_by face more (Some o) ≡ Some f)
       (n_other : is_at (nat_cmp face) q ≡ false → naming_at q others ≡ naming_at q names) (f_other : is_at (nat_cmp face) q ≡ false → kept_by q more (at q faces) ≡ kept_by q hats (at q faces))
-      (makes : record { opened = o; numbers = n.numbers; kept = f } ≡ declaring_at c before) where
-    declared_stands : stand q faces more others ≡ cond (face == q) (option_map (declaring_at c) (stand q faces hats names)) (stand q faces hats names)
+      (makes : record { opened = o; numbers = n.numbers; kept = f } ≡ declaring_at config c before) where
+    declared_stands : stand q faces more others ≡ cond (face == q) (option_map (declaring_at config c) (stand q faces hats names)) (stand q faces hats names)
     declared_stands =
-        by_number face q (λ m. stand m faces more others) (λ m. stand m faces hats names) (option_map (declaring_at c))
-        (whole face o n f faces more others seen n_at f_at ∙ ap Some makes ∙ sym (ap (option_map (declaring_at c)) stands_so))
+        by_number face q (λ m. stand m faces more others) (λ m. stand m faces hats names) (option_map (declaring_at config c))
+        (whole face o n f faces more others seen n_at f_at ∙ ap Some makes ∙ sym (ap (option_map (declaring_at config c)) stands_so))
         (λ e j. standing_of (at q faces) (n_other e j) (f_other e j))
 
   -- the numbers of the face are those by which its expressions are read
@@ -306,15 +314,15 @@ module _ (config : Settings) (q : ℕ) (s : State) (i : InOrder config s) where
   its_hats f x = option_map_or (λ (o : OpenFace). change_hat o.region f s.core.hats) x s.core.hats
 
   abbrev Makes : Call → List (ℕ × HatState) → NamingState → FaceId → Type 0
-  Makes c hats names f = stand q s.core.faces hats names ≡ cond (f.0 == q) (option_map (declaring_at c) (standing_at q s)) (standing_at q s)
+  Makes c hats names f = stand q s.core.faces hats names ≡ cond (f.0 == q) (option_map (declaring_at config c) (standing_at q s)) (standing_at q s)
 
   module _ (f : FaceId) (x : (o : OpenFace) × (at f.0 s.core.faces ≡ Some o)) where
     abbrev makes_there : (c : Call) (more : List (ℕ × HatState)) (others : NamingState) (n : FaceKeys) (k : FaceState)
         → naming_at f.0 others ≡ Some n → kept_by f.0 more (Some x.0) ≡ Some k
         → (is_at (nat_cmp f.0) q ≡ false → naming_at q others ≡ naming_at q s.names) → (is_at (nat_cmp f.0) q ≡ false → kept_by q more (at q s.core.faces) ≡ kept_by q s.core.hats (at q s.core.faces))
-        → record { opened = x.0; numbers = n.numbers; kept = k } ≡ declaring_at c (before s.core.faces s.core.hats s.names i.tied f.0 x.0 x.1)
+        → record { opened = x.0; numbers = n.numbers; kept = k } ≡ declaring_at config c (before s.core.faces s.core.hats s.names i.tied f.0 x.0 x.1)
         → Makes c more others f
-    makes_there c = declared_stands s.core.faces s.core.hats s.names i.tied f.0 x.0 x.1 c q
+    makes_there c = declared_stands s.core.faces s.core.hats s.names i.tied f.0 x.0 x.1 config c q
 
     abbrev keys : FaceKeys
     keys = (its_keys s.core.faces s.core.hats s.names i.tied f.0 x.0 x.1).0
@@ -326,7 +334,7 @@ module _ (config : Settings) (q : ℕ) (s : State) (i : InOrder config s) where
     reads = numbers_are s.core.faces s.core.hats s.names i.tied f.0 x.0 x.1
 
     -- its numbers are changed
-    renamed_stands : (c : Call) (g : FaceKeys → FaceKeys) → record { opened = x.0; numbers = (g keys).numbers; kept = keeps } ≡ declaring_at c (before s.core.faces s.core.hats s.names i.tied f.0 x.0 x.1)
+    renamed_stands : (c : Call) (g : FaceKeys → FaceKeys) → record { opened = x.0; numbers = (g keys).numbers; kept = keeps } ≡ declaring_at config c (before s.core.faces s.core.hats s.names i.tied f.0 x.0 x.1)
         → Makes c s.core.hats (change_naming f.0 g s.names) f
     renamed_stands c g makes =
         makes_there c s.core.hats (change_naming f.0 g s.names) (g keys) keeps
@@ -336,14 +344,62 @@ module _ (config : Settings) (q : ℕ) (s : State) (i : InOrder config s) where
     -- what its hat keeps of it is changed, and its keys with it or not
     kept_stands : (c : Call) (k : FaceState → FaceState) (others : NamingState) (n : FaceKeys)
         → naming_at f.0 others ≡ Some n → (is_at (nat_cmp f.0) q ≡ false → naming_at q others ≡ naming_at q s.names)
-        → record { opened = x.0; numbers = n.numbers; kept = k keeps } ≡ declaring_at c (before s.core.faces s.core.hats s.names i.tied f.0 x.0 x.1)
+        → record { opened = x.0; numbers = n.numbers; kept = k keeps } ≡ declaring_at config c (before s.core.faces s.core.hats s.names i.tied f.0 x.0 x.1)
         → Makes c (its_hats (change_face f.0 k) (at f.0 s.core.faces)) others f
     kept_stands c k others n n_at n_other makes =
         subst (λ hats. Makes c hats others f) (sym (ap (its_hats (change_face f.0 k)) x.1))
         (makes_there c (change_hat x.0.region (change_face f.0 k) s.core.hats) others n (k keeps) n_at
         (kept_here s.core.faces s.core.hats s.names i.tied f.0 x.0 x.1 k) n_other (kept_other s.core.faces s.core.hats s.names i.tied f.0 x.0 x.1 k q) makes)
 
-  granted_stands : (c : Call) → refusal_of s.core (read s c) ≡ None → standing_at q (accepted_state s (read s c)) ≡ accepted_at config.start.told q c (granted s.core (read s c)).outcome (standing_at q s)
+  -- the face's region is one of routers where the configuration says so
+  routing_kept : (o : Option HatState) → option_map_or is_routing o false ≡ option_map_or is_routing (option_map bare o) false
+  routing_kept None = refl
+  routing_kept (Some h) = refl
+
+  routing_is : (r : Region) → option_map_or is_routing (hat_at r s.core.hats) false ≡ routes_in config r
+  routing_is r = by (is_region r)
+    where
+      by : (b : Bool) → option_map_or is_routing (cond b (value_at s.core.hats r) None) false ≡ option_map_or is_routing (cond b (value_at (first_hats config) r) None) false
+      by true =
+          routing_kept (at (region_index r) s.core.hats)
+          ∙ ap (λ o. option_map_or is_routing o false) (i.hats.shape (region_index r))
+          ∙ sym (routing_kept (at (region_index r) (first_hats config)))
+      by false = refl
+
+  -- a hat is changed, but not in its faces
+  same_faces_stand : (r : Region) (g : HatState → HatState) → ((h : HatState) → (g h).faces ≡ h.faces) → stand q s.core.faces (change_hat r g s.core.hats) s.names ≡ standing_at q s
+  same_faces_stand r g same = by (hat_at r s.core.hats) refl
+    where
+      by : (o : Option HatState) → hat_at r s.core.hats ≡ o → stand q s.core.faces (change_hat r g s.core.hats) s.names ≡ standing_at q s
+      by None e = ap (λ o. stand q s.core.faces (put_hat r g s.core.hats o) s.names) e
+      by (Some first) e = λ j. standing_of (at q s.core.faces) (naming_at q s.names) (kept_same r first g s.core.hats e q (ap (λ (l : List (ℕ × FaceState)). at q l) (same first)) (at q s.core.faces) j)
+
+  module _ (f : FaceId) (x : (o : OpenFace) × (at f.0 s.core.faces ≡ Some o)) where
+    region_says : (b : Bool) → by_router f s.core ≡ b → routes_in config x.0.region ≡ b
+    region_says b e = sym (ap (λ y. option_map_or is_routing (option_and_then (λ (o : OpenFace). hat_at o.region s.core.hats) y) false) x.1 ∙ routing_is x.0.region) ∙ e
+
+    -- what a router declares leaves what stands of the face
+    routed_stands : (c : Call) (g : HatState → HatState) → ((h : HatState) → (g h).faces ≡ h.faces)
+        → before s.core.faces s.core.hats s.names i.tied f.0 x.0 x.1 ≡ declaring_at config c (before s.core.faces s.core.hats s.names i.tied f.0 x.0 x.1)
+        → Makes c (its_hats g (at f.0 s.core.faces)) s.names f
+    routed_stands c g same stays =
+        subst (λ hats. Makes c hats s.names f) (sym (ap (its_hats g) x.1))
+        (same_faces_stand x.0.region g same
+        ∙ by_number f.0 q (λ m. standing_at m s) (λ m. standing_at m s) (option_map (declaring_at config c))
+        (stands_so s.core.faces s.core.hats s.names i.tied f.0 x.0 x.1 ∙ ap Some stays ∙ sym (ap (option_map (declaring_at config c)) (stands_so s.core.faces s.core.hats s.names i.tied f.0 x.0 x.1)))
+        (λ e. refl))
+
+  source_faces : (o : Option Zid) (g : Zid → HatState) (h : HatState) → ((z : Zid) → (g z).faces ≡ h.faces) → (option_map_or g o h).faces ≡ h.faces
+  source_faces None g h same = refl
+  source_faces (Some z) g h same = same z
+
+  network_faces : (k : Strategy) (x h : HatState) → x.faces ≡ h.faces → (in_routers k x h).faces ≡ h.faces
+  network_faces strategy.Broker x h same = refl
+  network_faces strategy.Client x h same = refl
+  network_faces strategy.Peer x h same = refl
+  network_faces strategy.Router x h same = same
+
+  granted_stands : (c : Call) → refusal_of s.core (read s c) ≡ None → standing_at q (accepted_state s (read s c)) ≡ accepted_at config q c (granted s.core (read s c)).outcome (standing_at q s)
   granted_stands (call.Open o) h =
       opened_stands config s.core.faces s.core.hats s.names i.tied i.hats q s.core.next_face o (next_absent s i.sound) (is_there (is_some (hat_at o.region s.core.hats)) (all_passed (causes s.core (opening o)) h).0)
   granted_stands (call.Close f) h =
@@ -357,48 +413,89 @@ module _ (config : Settings) (q : ℕ) (s : State) (i : InOrder config s) where
   granted_stands (call.UndeclareKeyExpr f id) h =
       let x = opened_face s i.sound i.tied f.0 (all_passed (causes s.core (read s (call.UndeclareKeyExpr f id))) h).0 in
       renamed_stands f x (call.UndeclareKeyExpr f id) (without_name id) refl
-  granted_stands (call.DeclareQueryable f id w info node) h =
-      let x = opened_face s i.sound i.tied f.0 (all_passed (causes s.core (read s (call.DeclareQueryable f id w info node))) h).0 in
-      let g : FaceKeys → FaceKeys = with_queryable id (full_text (said f w s)) in
-      subst (λ change. Makes (call.DeclareQueryable f id w info node) (its_hats change (at f.0 s.core.faces)) (change_naming f.0 g s.names) f) (sym (registered_is f.0 id (full_text (said f w s)) node info))
-      (kept_stands f x (call.DeclareQueryable f id w info node) (declare id (full_text (said f w s)) info) (change_naming f.0 g s.names) (g (keys f x))
-      (naming_here s.core.faces s.core.hats s.names i.tied f.0 x.0 x.1 g) (naming_other s.core.faces s.core.hats s.names i.tied f.0 x.0 x.1 g q)
-      (ap (λ (m : FaceNaming). record { opened = x.0; numbers = (keys f x).numbers; kept = declare id (full_text (said_of m w)) info (keeps f x) }) (reads f x)))
-  granted_stands (call.UndeclareQueryable f id w node) h =
-      let x = opened_face s i.sound i.tied f.0 (all_passed (causes s.core (withdrawing f id)) h).0 in
-      kept_stands f x (call.UndeclareQueryable f id w node) (withdraw id) (change_naming f.0 (without_queryable id) s.names) (without_queryable id (keys f x))
-      (naming_here s.core.faces s.core.hats s.names i.tied f.0 x.0 x.1 (without_queryable id)) (naming_other s.core.faces s.core.hats s.names i.tied f.0 x.0 x.1 (without_queryable id) q) refl
+  granted_stands (call.DeclareQueryable f id w info node) h = by (by_router f s.core) refl h
+    where
+      c : Call
+      c = call.DeclareQueryable f id w info node
+
+      text : List ℕ
+      text = full_text (said f w s)
+
+      g : FaceKeys → FaceKeys
+      g = with_queryable id text
+
+      by : (b : Bool) → by_router f s.core ≡ b → refusal_of s.core (cond b (announcing f (said f w s) info node) (declaring f id (said f w s) info node)) ≡ None
+          → standing_at q (accepted_state s (cond b (announcing f (said f w s) info node) (declaring f id (said f w s) info node))) ≡ cond (f.0 == q) (option_map (declaring_at config c) (standing_at q s)) (standing_at q s)
+      by true e k =
+          let x = opened_face s i.sound i.tied f.0 (all_passed (causes s.core (announcing f (said f w s) info node)) k).0 in
+          let was = before s.core.faces s.core.hats s.names i.tied f.0 x.0 x.1 in
+          routed_stands f x c (announced_by f.0 node text info) (λ y. source_faces (source_at f.0 node y) (λ z. announced z.0 text info y) y (λ z. refl))
+          (sym (ap (λ b. cond b was (with_kept was (declare id (text_said was w) info was.kept))) (region_says f x true e)))
+      by false e k =
+          let x = opened_face s i.sound i.tied f.0 (all_passed (causes s.core (declaring f id (said f w s) info node)) k).0 in
+          let was = before s.core.faces s.core.hats s.names i.tied f.0 x.0 x.1 in
+          subst (λ change. Makes c (its_hats change (at f.0 s.core.faces)) (change_naming f.0 g s.names) f) (sym (registered_is f.0 id text node info))
+          (kept_stands f x c (declare id text info) (change_naming f.0 g s.names) (g (keys f x))
+          (naming_here s.core.faces s.core.hats s.names i.tied f.0 x.0 x.1 g) (naming_other s.core.faces s.core.hats s.names i.tied f.0 x.0 x.1 g q)
+          (ap (λ (m : FaceNaming). record { opened = x.0; numbers = (keys f x).numbers; kept = declare id (full_text (said_of m w)) info (keeps f x) }) (reads f x)
+          ∙ sym (ap (λ b. cond b was (with_kept was (declare id (text_said was w) info was.kept))) (region_says f x false e))))
+  granted_stands (call.UndeclareQueryable f id w node) h = by (by_router f s.core) refl h
+    where
+      c : Call
+      c = call.UndeclareQueryable f id w node
+
+      by : (b : Bool) → by_router f s.core ≡ b → refusal_of s.core (cond b (retracting f (said_or_none f w s) node) (withdrawing f id)) ≡ None
+          → standing_at q (accepted_state s (cond b (retracting f (said_or_none f w s) node) (withdrawing f id))) ≡ cond (f.0 == q) (option_map (declaring_at config c) (standing_at q s)) (standing_at q s)
+      by true e k =
+          let x = opened_face s i.sound i.tied f.0 (all_passed (causes s.core (retracting f (said_or_none f w s) node)) k).0 in
+          let was = before s.core.faces s.core.hats s.names i.tied f.0 x.0 x.1 in
+          routed_stands f x c (retracted_by f.0 node (full_text (said_or_none f w s))) (λ y. source_faces (source_at f.0 node y) (λ z. retracted z.0 (full_text (said_or_none f w s)) y) y (λ z. refl))
+          (sym (ap (λ b. cond b was (with_kept was (withdraw id was.kept))) (region_says f x true e)))
+      by false e k =
+          let x = opened_face s i.sound i.tied f.0 (all_passed (causes s.core (withdrawing f id)) k).0 in
+          let was = before s.core.faces s.core.hats s.names i.tied f.0 x.0 x.1 in
+          kept_stands f x c (withdraw id) (change_naming f.0 (without_queryable id) s.names) (without_queryable id (keys f x))
+          (naming_here s.core.faces s.core.hats s.names i.tied f.0 x.0 x.1 (without_queryable id)) (naming_other s.core.faces s.core.hats s.names i.tied f.0 x.0 x.1 (without_queryable id) q)
+          (sym (ap (λ b. cond b was (with_kept was (withdraw id was.kept))) (region_says f x false e)))
+  granted_stands (call.SetNetwork r net) h = same_faces_stand r (networked net) (λ y. network_faces (strategy_at y) (record y { network = net; entries = flat_map (staying net) y.entries }) y refl)
+  granted_stands (call.SetNodeIds f ids) h =
+      let x = opened_face s i.sound i.tied f.0 (all_passed (causes s.core (tabling f ids)) h).0 in
+      kept_stands f x (call.SetNodeIds f ids) (λ k. record k { nodes = ids }) s.names (keys f x) (its_keys s.core.faces s.core.hats s.names i.tied f.0 x.0 x.1).1 (λ e. refl) refl
   granted_stands (call.FinalizeInterest f mark set) h =
       let x = opened_face s i.sound i.tied f.0 (all_passed (causes s.core (finalizing f mark set)) h).0 in
       kept_stands f x (call.FinalizeInterest f mark set) (marked mark set) s.names (keys f x) (its_keys s.core.faces s.core.hats s.names i.tied f.0 x.0 x.1).1 (λ e. refl) refl
   granted_stands c h = refl
 
-  call_stands : (c : Call) → standing_at q (after s c) ≡ standing_after config.start.told q c (step s c) (standing_at q s)
+  call_stands : (c : Call) → standing_at q (after s c) ≡ standing_after config q c (step s c) (standing_at q s)
   call_stands c =
-      by_granted (λ t z. standing_at q z ≡ standing_after config.start.told q c t (standing_at q s)) s (read s c)
+      by_granted (λ t z. standing_at q z ≡ standing_after config q c t (standing_at q s)) s (read s c)
       (λ h.
       told_stands q s (read s c) (granted s.core (read s c)).messages
       ∙ ap (option_map (heard_all q (write s.names (granted s.core (read s c)).messages ++ (told_by s (read s c)).handed))) (granted_stands c h)
-      ∙ ap (λ b. cond b (option_map (heard_all q (write s.names (granted s.core (read s c)).messages ++ (told_by s (read s c)).handed)) (accepted_at config.start.told q c (granted s.core (read s c)).outcome (standing_at q s))) (standing_at q s)) (sym (granted_is_accepted s.core (read s c) h)))
+      ∙ ap (λ b. cond b (option_map (heard_all q (write s.names (granted s.core (read s c)).messages ++ (told_by s (read s c)).handed)) (accepted_at config q c (granted s.core (read s c)).outcome (standing_at q s))) (standing_at q s)) (sym (granted_is_accepted s.core (read s c) h)))
       (λ r. refl)
 
 -- ---- the lists of gateways
 call_listed : (s : State) (c : Call) → (after s c).core.tables ≡ listed_after c (step s c) s.core.tables
 call_listed s (call.SetGateways r table) = by_granted (λ t z. z.core.tables ≡ listed_after (call.SetGateways r table) t s.core.tables) s (read s (call.SetGateways r table)) (λ h. refl) (λ x. refl)
+call_listed s (call.DeclareQueryable face id wire info node) =
+    by_granted (λ t z. z.core.tables ≡ s.core.tables) s (read s (call.DeclareQueryable face id wire info node)) (λ h. declare_read (λ t. (accepted s.core t).tables ≡ s.core.tables) s face id wire info node refl refl) (λ x. refl)
+call_listed s (call.UndeclareQueryable face id wire node) =
+    by_granted (λ t z. z.core.tables ≡ s.core.tables) s (read s (call.UndeclareQueryable face id wire node)) (λ h. withdraw_read (λ t. (accepted s.core t).tables ≡ s.core.tables) s face id wire node refl refl) (λ x. refl)
 call_listed s c = by_granted (λ t z. z.core.tables ≡ s.core.tables) s (read s c) (λ h. refl) (λ x. refl)
 
 -- ---- a run
-run_stands : (config : Settings) (q : ℕ) (cs : List Call) (s : State) → InOrder config s → standing_at q (state_after s cs) ≡ standing_in config.start.told q cs (steps_from s cs) (standing_at q s)
+run_stands : (config : Settings) (q : ℕ) (cs : List Call) (s : State) → InOrder config s → standing_at q (state_after s cs) ≡ standing_in config q cs (steps_from s cs) (standing_at q s)
 run_stands config q [] s i = refl
 run_stands config q (c ∷ cs) s i =
     run_stands config q cs (after s c) (after_kept (InOrder config) (granted_in_order config) (numbered_in_order config) s c i)
-    ∙ ap (standing_in config.start.told q cs (steps_from (after s c) cs)) (call_stands config q s i c)
+    ∙ ap (standing_in config q cs (steps_from (after s c) cs)) (call_stands config q s i c)
 
 run_listed : (cs : List Call) (s : State) → (state_after s cs).core.tables ≡ listed_in cs (steps_from s cs) s.core.tables
 run_listed [] s = refl
 run_listed (c ∷ cs) s = run_listed cs (after s c) ∙ ap (listed_in cs (steps_from (after s c) cs)) (call_listed s c)
 
-pub all_stand : (config : Settings) (calls : List Call) (face : ℕ) → standing_at face (state_after (opening_state config) calls) ≡ standing_in config.start.told face calls (steps_from (opening_state config) calls) None
+pub all_stand : (config : Settings) (calls : List Call) (face : ℕ) → standing_at face (state_after (opening_state config) calls) ≡ standing_in config face calls (steps_from (opening_state config) calls) None
 all_stand config calls face = run_stands config face calls (opening_state config) (opening_in_order config)
 
 pub all_listed : (config : Settings) (calls : List Call) → (state_after (opening_state config) calls).core.tables ≡ listed_in calls (steps_from (opening_state config) calls) []

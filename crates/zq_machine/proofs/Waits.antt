@@ -25,7 +25,7 @@ use Rattle.zq_machine.specs.declared.call.Call.TheVariants as call
 use Rattle.zq_machine.specs.declared.face.OpenFace.{OpenFace}
 use Rattle.zq_machine.specs.State.{State, Core}
 use Rattle.zq_machine.specs.Selecting.{select, full_text, target_of}
-use Rattle.zq_machine.specs.TextCalls.{TextCall, opening, closing, naming, unnaming, declaring, withdrawing, asking, replying, ending, reporting, passing, listing, finalizing, announcing, retracting, networking, tabling, unbuilt, read}
+use Rattle.zq_machine.specs.TextCalls.{TextCall, opening, closing, naming, unnaming, declaring, withdrawing, asking, replying, ending, reporting, passing, listing, finalizing, announcing, retracting, networking, tabling, unbuilt, read, said as said_by, said_or_none}
 use Rattle.zq_machine.specs.Deciding.{granted, is_accepted, accepted, after_replied, deadline, handed_reply, timed_out, handed_request, handed_requests, handed_replies, handed_timeouts, passing_finals, replied}
 use Rattle.zq_machine.specs.Machine.{answer, settle, step, after}
 use Rattle.zq_machine.specs.Messages.{text_final}
@@ -33,6 +33,7 @@ use Rattle.zq_machine.specs.Writing.{write, written}
 use Rattle.zq_machine.specs.Waiting.{Waits, hands_reply, ends_entry, gives, lands, owes, until, waits}
 use Rattle.zq_machine.proofs.Waiting.{asked, owes_let, owes_landed, owes_timing, owes_after_put, owes_asked, flies_let, flies_landed, flies_put, flies_timing, flies_asked, says, timeouts_fit}
 use Rattle.zq_machine.proofs.Granted.{any_beside, by_granted, told_by}
+use Rattle.zq_machine.proofs.Reading.{declare_read, withdraw_read}
 use Rattle.zq_machine.proofs.Writing.{fully}
 
 -- ---- what a call with its expressions read ends
@@ -303,8 +304,8 @@ call_waits s (call.Open o) = followed s (opening o)
 call_waits s (call.Close face) = followed s (closing face)
 call_waits s (call.DeclareKeyExpr face id wire) = followed s (read s (call.DeclareKeyExpr face id wire))
 call_waits s (call.UndeclareKeyExpr face id) = followed s (read s (call.UndeclareKeyExpr face id))
-call_waits s (call.DeclareQueryable face id wire info node) = followed s (read s (call.DeclareQueryable face id wire info node))
-call_waits s (call.UndeclareQueryable face id wire node) = followed s (withdrawing face id)
+call_waits s (call.DeclareQueryable face id wire info node) = declare_read (λ t. WaitsFor s t (λ e. false) (λ k. false) 0) s face id wire info node (followed s (announcing face (said_by face wire s) info node)) (followed s (declaring face id (said_by face wire s) info node))
+call_waits s (call.UndeclareQueryable face id wire node) = withdraw_read (λ t. WaitsFor s t (λ e. false) (λ k. false) 0) s face id wire node (followed s (retracting face (said_or_none face wire s) node)) (followed s (withdrawing face id))
 call_waits s (call.Request face r now) = followed s (read s (call.Request face r now))
 call_waits s (call.Response face r) = followed s (read s (call.Response face r))
 call_waits s (call.ResponseFinal face rid) = followed s (ending face rid)
@@ -314,5 +315,5 @@ call_waits s (call.SetGateways r table) = followed s (listing r table)
 call_waits s (call.Interest face id keys wire) = followed s unbuilt
 call_waits s (call.InterestFinal face id) = followed s unbuilt
 call_waits s (call.FinalizeInterest face mark set) = followed s (finalizing face mark set)
-call_waits s (call.SetNetwork r net) = followed s unbuilt
-call_waits s (call.SetNodeIds face ids) = followed s unbuilt
+call_waits s (call.SetNetwork r net) = followed s (networking r net)
+call_waits s (call.SetNodeIds face ids) = followed s (tabling face ids)

@@ -9,7 +9,6 @@ use Rattle.zq_message.specs.declared.message.FaceId.{FaceId}
 use Rattle.zq_message.specs.declared.message.Region.{Region}
 use Rattle.zq_message.specs.declared.message.Request.{Request}
 use Rattle.zq_query.specs.Asking.{after_ask, lacks_number}
-use Rattle.zq_query.specs.Closing.{closing_finals}
 use Rattle.zq_tables.specs.declared.said.Said.{Said}
 use Rattle.zq_machine.specs.declared.face.OpenFace.{OpenFace}
 use Rattle.zq_machine.specs.Selecting.{full_text, select_for, target_of}
@@ -19,7 +18,6 @@ use Rattle.zq_query.specs.Polling.{timeouts, lacks_replies}
 use Rattle.zq_tables.specs.Naming.{NamingState}
 use Rattle.zq_machine.specs.Handing.{Handed}
 use Rattle.zq_machine.specs.declared.call.Outcome.TheVariants as outcome
-use Rattle.zq_machine.specs.declared.call.Refusal.{Refusal}
 use Rattle.zq_machine.specs.declared.call.Refusal.TheVariants as refusal
 use Rattle.zq_machine.specs.declared.call.Step.{Step}
 use Rattle.zq_machine.specs.Messages.{Decided, TextMessage, text_final, text_reply, text_request}
@@ -123,19 +121,12 @@ pub polled_after : (s : State) (now : ℕ) → lacks_replies (timeouts now s.cor
 polled_after s now fits = settles_granted s (passing now) refl (poll_fits s now fits) refl
 
 -- an open face is closed
-close_fits : (s : State) (face : FaceId) (r : Region) → face_region face.0 s.core ≡ Some r → refusal_of s.core (closing face) ≡ None
+pub close_fits : (s : State) (face : FaceId) (r : Region) → face_region face.0 s.core ≡ Some r → refusal_of s.core (closing face) ≡ None
 close_fits s face r there = by (at face.0 s.core.faces) there
   where
     by : (o : Option OpenFace) → option_map region_in o ≡ Some r → cond (not (is_some o)) (Some refusal.UnknownFace) None ≡ None
     by None e = absurd (cc)
     by (Some o) e = refl
-
-pub closed_step : (s : State) (face : FaceId) (r : Region) (handed : List Handed) → face_region face.0 s.core ≡ Some r → handed ≡ map sent_final (closing_finals face.0 s.core.queries)
-    → ◌≡◌ {A = Step} (record { outcome = outcome.Done; handed = handed }) (answer s (closing face))
-closed_step s face r handed there told = answers_granted s (closing face) handed refl (close_fits s face r there) (told ∙ sym (finals_written s.names (closing_finals face.0 s.core.queries)))
-
-pub closed_after : (s : State) (face : FaceId) (r : Region) → face_region face.0 s.core ≡ Some r → settle s (closing face) ≡ accepted_state s (closing face)
-closed_after s face r there = settles_granted s (closing face) refl (close_fits s face r there) refl
 
 -- an open face asks
 module _ (s : State) (face : FaceId) (sd : Said) (r : Request) (now : ℕ) (opened : OpenFace) (there : at face.0 s.core.faces ≡ Some opened) (fits : lacks_number (map target_of (select_for s.core face sd r (Some opened))) s.core.queries ≡ false) where
@@ -154,17 +145,3 @@ module _ (s : State) (face : FaceId) (sd : Said) (r : Request) (now : ℕ) (open
   asked_after =
       settles_granted s (asking face sd r now) refl ask_fits refl
       ∙ ap (λ o. record { core = with_queries s.core (after_ask face r.id r.qos (map target_of (select_for s.core face sd r o)) (deadline s.core r.timeout now) s.core.queries); names = s.names }) there
-
--- ---- as long as no call tells anything
-none_told : (c : Core) (t : TextCall) → (decide c t).told ≡ []
-none_told c t = by (refusal_of c t)
-  where
-    by : (o : Option Refusal) → (answered o (granted c t)).told ≡ []
-    by None = refl
-    by (Some r) = refl
-
-pub answers_plainly : (s : State) (t : TextCall) → answer s t ≡ plainly s.names (decide s.core t)
-answers_plainly s t =
-    answers_fully s t
-    ∙ (λ j. fully s.names (tell (follow s t).core (none_told s.core t j) (follow s t).names) (decide s.core t))
-    ∙ ap (λ (l : List Handed). record { outcome = (decide s.core t).outcome; handed = l }) (append-nil (sending s t))

@@ -41,6 +41,7 @@ use Rattle.zq_machine.specs.declared.face.OpenFace.{OpenFace}
 use Rattle.zq_machine.specs.State.{Core, State, is_open, has_hat, is_full_region, hat_of, has_declared_in, clashes_in, joined, change_hat, change_hat_of}
 use Rattle.zq_machine.specs.TextCalls.{TextCall, opening, closing, naming, unnaming, declaring, withdrawing, asking, replying, ending, reporting, passing, listing, finalizing, announcing, retracting, networking, tabling, unbuilt}
 use Rattle.zq_machine.specs.Selecting.{router_by, select, target_of, zid_of, is_unscoped, says_key, says_key_or_nothing, full_text}
+use Rattle.zq_machine.specs.Trees.{due_told}
 
 -- ---- causes of a refusal
 
@@ -209,31 +210,6 @@ messages_of c (reporting reply) = map text_final (finals_landed reply c.queries.
 messages_of c (passing now) = handed_timeouts c.faces (timeouts now c.queries) ++ map text_final (passing_finals now c.queries)
 messages_of c t = []
 
--- what faces are told after it: nothing yet
-abbrev pub told_of : Core → TextCall → List Telling
-told_of c t = []
-
--- what a call decides that nothing refuses
-abbrev pub granted : Core → TextCall → Decided
-granted c t = record { outcome = outcome_of c t; messages = messages_of c t; told = told_of c t }
-
--- the refusal, or what is granted
-abbrev pub answered : Option Refusal → Decided → Decided
-answered None d = d
-answered (Some r) d = refused r
-
--- what a call decides
-abbrev pub decide : Core → TextCall → Decided
-decide c t = answered (refusal_of c t) (granted c t)
-
--- the outcome is no refusal
-abbrev pub is_accepted : Outcome → Bool
-is_accepted (outcome.Refused r) = false
-is_accepted (outcome.Opened face) = true
-is_accepted (outcome.Asked number) = true
-is_accepted (outcome.Replied reply) = true
-is_accepted outcome.Done = true
-
 -- ---- what an accepted call changes
 
 -- with other queries
@@ -296,6 +272,35 @@ accepted c (retracting face s node) = change_hat_of face.0 (retracted_by face.0 
 accepted c (networking r net) = record c { hats = change_hat r (networked net) c.hats }
 accepted c (tabling face ids) = change_hat_of face.0 (noded face.0 ids) c
 accepted c unbuilt = c
+
+-- ---- what a call decides
+
+-- what faces are told after it
+abbrev pub told_of : Core → TextCall → List Telling
+told_of c t = due_told c (accepted c t) t
+
+-- what a call decides that nothing refuses
+abbrev pub granted : Core → TextCall → Decided
+granted c t = record { outcome = outcome_of c t; messages = messages_of c t; told = told_of c t }
+
+-- the refusal, or what is granted
+abbrev pub answered : Option Refusal → Decided → Decided
+answered None d = d
+answered (Some r) d = refused r
+
+-- what a call decides
+abbrev pub decide : Core → TextCall → Decided
+decide c t = answered (refusal_of c t) (granted c t)
+
+-- the outcome is no refusal
+abbrev pub is_accepted : Outcome → Bool
+is_accepted (outcome.Refused r) = false
+is_accepted (outcome.Opened face) = true
+is_accepted (outcome.Asked number) = true
+is_accepted (outcome.Replied reply) = true
+is_accepted outcome.Done = true
+
+-- ---- what stands for keys after it
 
 -- nothing stands for a key at a new face yet
 abbrev pub with_numbers : State → NamingState

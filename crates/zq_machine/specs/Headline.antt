@@ -27,11 +27,12 @@ use Rattle.zq_machine.specs.Configs.{Settings}
 use Rattle.zq_machine.specs.State.{State, opening_state}
 use Rattle.zq_machine.specs.Selecting.{select, full_text}
 use Rattle.zq_machine.specs.TextCalls.{read, said as said_by_face}
-use Rattle.zq_machine.specs.Asked.{AreCounted, IsHandedToAsker, asked_in, asked_number, closes, is_own, last_asked, opened_in, replies_in}
-use Rattle.zq_machine.specs.Deciding.{handed_replies, handed_timeouts, passing_finals, refusal_of, is_accepted}
+use Rattle.zq_machine.specs.Asked.{AreCounted, IsHandedToAsker, asked_in, asked_number, closes, is_declaration, is_own, last_asked, opened_in, replies_in}
+use Rattle.zq_machine.specs.Deciding.{handed_replies, handed_timeouts, passing_finals, refusal_of, is_accepted, told_of}
 use Rattle.zq_machine.specs.Waiting.{Waits, IsSettled, ends_entry, lands, until, is_of}
 use Rattle.zq_machine.specs.Standing.{listed_in, standing_at, standing_in}
-use Rattle.zq_machine.specs.Machine.{step, steps, after, state_after, refused_step}
+use Rattle.zq_machine.specs.Hearing.{hear}
+use Rattle.zq_machine.specs.Machine.{step, steps, after, follow, state_after, refused_step}
 use Rattle.zq_machine.specs.Writing.{leaving, sent_final, write}
 
 -- ---- requests
@@ -152,6 +153,12 @@ pub record FinalPromise (n : ℕ) (s : State) (c : Call) : Type 0 where
   pub silent : to_come s.core.queries.closed n s.core.queries ≡ 0 → list_any (is_of n) (step s c).handed ≡ false
   pub standing : any_over (after s c).core.queries.records ≡ false
 
+-- ---- what faces are told
+
+-- what the receivers of an accepted call's messages hear, one after another, each key by the numbers that were declared before, is what faces are told
+abbrev pub TellPromise : State → Call → Type 0
+TellPromise s c = is_accepted (step s c).outcome ≡ true → hear (step s c).handed (follow s (read s c)).names ≡ told_of s.core (read s c)
+
 -- ---- what is answered and handed
 
 -- an accepted opening is answered the next face; the answers of requests and replies are said with them; every other call is answered that it is done
@@ -169,14 +176,17 @@ ended_by h = if is_final h.message then h.number else None
 abbrev pub ended_in : List Handed → List ℕ
 ended_in hs = filter_map ended_by hs
 
--- what a call may hand: a request, requests or the asker's final; a reply, a reply; a moment that has come, replies and finals; the end of an entry or of a reply, and a closing, finals; any other call, nothing
+-- what a call may hand: a request, requests or the asker's final; a reply, a reply; a moment that has come, replies and finals; the end of an entry or of a reply, finals; a closing, finals and declarations; what is declared or withdrawn, and a network, declarations; any other call, nothing
 abbrev pub may_hand : Call → Message → Bool
 may_hand (call.Request face r now) m = is_request m || is_final m
 may_hand (call.Response face r) m = is_response m
 may_hand (call.ResponseFinal face rid) m = is_final m
 may_hand (call.Sent reply) m = is_final m
 may_hand (call.Poll now) m = is_response m || is_final m
-may_hand (call.Close face) m = is_final m
+may_hand (call.Close face) m = is_final m || is_declaration m
+may_hand (call.DeclareQueryable face id wire info node) m = is_declaration m
+may_hand (call.UndeclareQueryable face id wire node) m = is_declaration m
+may_hand (call.SetNetwork r net) m = is_declaration m
 may_hand c m = false
 
 -- what is handed has a reply number exactly where it is a reply, leaves as it is (as long as no face has an exit of its own), and is of a kind that the call may hand
@@ -200,6 +210,7 @@ pub record KeepsPromises (s : State) (c : Call) : Type 0 where
   pub replies : ReplyPromise s c (step s c)
   pub waits : is_accepted (step s c).outcome ≡ true → Waits (ends_entry c) (lands c) (until s c) s.core.queries.records (after s c).core.queries.records (step s c).handed
   pub finals : (n : ℕ) → FinalPromise n s c
+  pub tells : TellPromise s c
   pub answer : is_accepted (step s c).outcome ≡ true → AnswerPromise s c (step s c).outcome
   pub fit : AllByRecursion (IsFit (may_hand c)) (step s c).handed
   pub ordered : IsStrictlySortedBy nat_cmp (ended_in (step s c).handed)
@@ -210,7 +221,7 @@ pub record KeepsPromises (s : State) (c : Call) : Type 0 where
 pub record RunPromise (config : Settings) (calls : List Call) : Type 0 where
   pub each : (before rest : List Call) (c : Call) → calls ≡ before ++ c ∷ rest → KeepsPromises (state_after (opening_state config) before) c
   pub settings : (state_after (opening_state config) calls).core.config ≡ config
-  pub stands : (face : ℕ) → standing_at face (state_after (opening_state config) calls) ≡ standing_in config.start.told face calls (steps config calls) None
+  pub stands : (face : ℕ) → standing_at face (state_after (opening_state config) calls) ≡ standing_in config face calls (steps config calls) None
   pub listed : (state_after (opening_state config) calls).core.tables ≡ listed_in calls (steps config calls) []
   pub numbers : AreCounted config.start.requests (map asked_number (asked_in calls (steps config calls)))
   pub faces : AreCounted config.start.faces (opened_in (steps config calls))

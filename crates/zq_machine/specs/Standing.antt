@@ -2,17 +2,20 @@
 use Rattle.std.specs.Prelude.{◌≡◌, ℕ, ◌==◌, Bool, false, List, [], ◌∷◌, fold, Option, Some, None, if◌then◌else◌}
 use Rattle.std.specs.Map.{remove_entry}
 use Rattle.std.specs.BTreeMap.{insert_entry, is_at}
-use Rattle.std.specs.Option.{option_and_then, option_map}
+use Rattle.std.specs.Option.{option_and_then, option_map, option_map_or}
 use Rattle.std.specs.Ordering.{nat_cmp}
 use Rattle.zq_message.specs.declared.message.DeclareBody.{DeclareBody}
 use Rattle.zq_message.specs.declared.message.DeclareBody.TheVariants as body
 use Rattle.zq_message.specs.declared.message.Message.{Message}
 use Rattle.zq_message.specs.declared.message.Message.TheVariants as message
+use Rattle.zq_message.specs.declared.message.QueryableInfoType.{QueryableInfoType}
+use Rattle.zq_message.specs.declared.message.Region.{Region}
 use Rattle.zq_message.specs.declared.message.WireExpr.{WireExpr}
 use Rattle.zq_regions.specs.RegionMap.{with_entry}
 use Rattle.zq_hat.specs.Kept.{declare, face_at, new_face, withdraw}
 use Rattle.zq_hat.specs.Marks.{marked}
-use Rattle.zq_hat.specs.State.{FaceState}
+use Rattle.zq_hat.specs.State.{FaceState, HatState}
+use Rattle.zq_trees.specs.declared.types.Network.{Network}
 use Rattle.zq_tables.specs.Naming.{FaceKeys, FaceNaming, Names, naming_at, no_names, said_of}
 use Rattle.zq_route.specs.declared.gateways.Gateways.{Gateways}
 use Rattle.zq_machine.specs.declared.call.Call.{Call}
@@ -26,7 +29,8 @@ use Rattle.zq_machine.specs.Deciding.{is_accepted, opened, seat}
 use Rattle.zq_machine.specs.Handing.{Handed}
 use Rattle.zq_machine.specs.Hearing.{with_ours}
 use Rattle.zq_machine.specs.Selecting.{full_text}
-use Rattle.zq_machine.specs.State.{Core, State, at, hat_of}
+use Rattle.zq_machine.specs.Configs.{Settings}
+use Rattle.zq_machine.specs.State.{Core, State, at, first_hats, hat_at, hat_of, is_routing}
 
 -- what stands of an open face: how it was opened, the numbers that stand for keys there, and what its region's hat keeps of it
 pub record Standing : Type 0 where
@@ -60,14 +64,23 @@ with_kept s f = record s { kept = f }
 abbrev pub text_said : Standing → WireExpr → List ℕ
 text_said s w = full_text (said_of s.numbers w)
 
--- what an accepted call of a face makes of what stands there
-abbrev pub declaring_at : Call → Standing → Standing
-declaring_at (call.DeclareKeyExpr f id w) s = with_own s (insert_entry nat_cmp s.numbers.theirs id (text_said s w))
-declaring_at (call.UndeclareKeyExpr f id) s = with_own s (remove_entry (is_at (nat_cmp id)) s.numbers.theirs)
-declaring_at (call.DeclareQueryable f id w info node) s = with_kept s (declare id (text_said s w) info s.kept)
-declaring_at (call.UndeclareQueryable f id w node) s = with_kept s (withdraw id s.kept)
-declaring_at (call.FinalizeInterest f mark set) s = with_kept s (marked mark set s.kept)
-declaring_at c s = s
+-- a region of the configuration is one of routers
+abbrev pub routes_in : Settings → Region → Bool
+routes_in config r = option_map_or is_routing (hat_at r (first_hats config)) false
+
+-- with other declarations, where the face's region is not one of routers
+abbrev pub with_declared : Settings → Standing → FaceState → Standing
+with_declared config s f = if routes_in config s.opened.region then s else with_kept s f
+
+-- what an accepted call of a face makes of what stands there; what routers declare is theirs, and not the face's
+abbrev pub declaring_at : Settings → Call → Standing → Standing
+declaring_at config (call.DeclareKeyExpr f id w) s = with_own s (insert_entry nat_cmp s.numbers.theirs id (text_said s w))
+declaring_at config (call.UndeclareKeyExpr f id) s = with_own s (remove_entry (is_at (nat_cmp id)) s.numbers.theirs)
+declaring_at config (call.DeclareQueryable f id w info node) s = with_declared config s (declare id (text_said s w) info s.kept)
+declaring_at config (call.UndeclareQueryable f id w node) s = with_declared config s (withdraw id s.kept)
+declaring_at config (call.FinalizeInterest f mark set) s = with_kept s (marked mark set s.kept)
+declaring_at config (call.SetNodeIds f ids) s = with_kept s (record s.kept { nodes = ids })
+declaring_at config c s = s
 
 -- the face makes the call, which is one of those
 abbrev pub is_by : ℕ → Call → Bool
@@ -76,13 +89,14 @@ is_by face (call.UndeclareKeyExpr f id) = f.0 == face
 is_by face (call.DeclareQueryable f id w info node) = f.0 == face
 is_by face (call.UndeclareQueryable f id w node) = f.0 == face
 is_by face (call.FinalizeInterest f mark set) = f.0 == face
+is_by face (call.SetNodeIds f ids) = f.0 == face
 is_by face c = false
 
 -- what stands of the face after an accepted call, by its answer
-abbrev pub accepted_at : (told face : ℕ) → Call → Outcome → Option Standing → Option Standing
-accepted_at told face (call.Open o) answer was = if opens face answer then Some (newly_opened told face o) else was
-accepted_at told face (call.Close f) answer was = if f.0 == face then None else was
-accepted_at told face c answer was = if is_by face c then option_map (declaring_at c) was else was
+abbrev pub accepted_at : Settings → ℕ → Call → Outcome → Option Standing → Option Standing
+accepted_at config face (call.Open o) answer was = if opens face answer then Some (newly_opened config.start.told face o) else was
+accepted_at config face (call.Close f) answer was = if f.0 == face then None else was
+accepted_at config face c answer was = if is_by face c then option_map (declaring_at config c) was else was
 
 -- with a number for a key that is declared to the face
 abbrev pub heard_body : DeclareBody → Standing → Standing
@@ -110,14 +124,14 @@ abbrev pub heard_all : ℕ → List Handed → Standing → Standing
 heard_all face hs s = fold (heard_at face) s hs
 
 -- what stands of the face after a call, with the numbers that the call declares to it; a refused one changes nothing
-abbrev pub standing_after : (told face : ℕ) → Call → Step → Option Standing → Option Standing
-standing_after told face c t was = if is_accepted t.outcome then option_map (heard_all face t.handed) (accepted_at told face c t.outcome was) else was
+abbrev pub standing_after : Settings → ℕ → Call → Step → Option Standing → Option Standing
+standing_after config face c t was = if is_accepted t.outcome then option_map (heard_all face t.handed) (accepted_at config face c t.outcome was) else was
 
 -- what stands of the face after calls that are answered by these steps
-abbrev pub standing_in : (told face : ℕ) → List Call → List Step → Option Standing → Option Standing
-standing_in told face [] ts was = was
-standing_in told face (c ∷ cs) [] was = was
-standing_in told face (c ∷ cs) (t ∷ ts) was = standing_in told face cs ts (standing_after told face c t was)
+abbrev pub standing_in : Settings → ℕ → List Call → List Step → Option Standing → Option Standing
+standing_in config face [] ts was = was
+standing_in config face (c ∷ cs) [] was = was
+standing_in config face (c ∷ cs) (t ∷ ts) was = standing_in config face cs ts (standing_after config face c t was)
 
 -- the lists of gateways after a call
 abbrev pub listed_after : Call → Step → List (ℕ × Gateways) → List (ℕ × Gateways)
@@ -145,7 +159,21 @@ standing_of o n f = None
 abbrev pub standing_at : ℕ → State → Option Standing
 standing_at face s = standing_of (at face s.core.faces) (naming_at face s.names) (kept_at face s.core)
 
--- two gateways have the same of each face, and the same lists
+-- what stands of the routers of a region: their entries, and the network that was put in place
+pub record Routed : Type 0 where
+  pub entries : List (List ℕ × List (ℕ × QueryableInfoType))
+  pub network : Network
+
+-- what a hat has of routers
+abbrev pub routed : HatState → Routed
+routed h = record { entries = h.entries; network = h.network }
+
+-- what the gateway has of the routers of the region at a place
+abbrev pub routed_at : ℕ → State → Option Routed
+routed_at place s = option_map routed (at place s.core.hats)
+
+-- two gateways have the same of each face and of the routers of each region, and the same lists
 pub record StandAlike (s z : State) : Type 0 where
   pub faces : (face : ℕ) → standing_at face s ≡ standing_at face z
+  pub routers : (place : ℕ) → routed_at place s ≡ routed_at place z
   pub lists : s.core.tables ≡ z.core.tables

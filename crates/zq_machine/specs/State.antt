@@ -9,6 +9,7 @@ use Rattle.zq_message.specs.declared.message.Region.{Region}
 use Rattle.zq_message.specs.declared.message.Region.TheVariants as region
 use Rattle.zq_regions.specs.Region.{region_index}
 use Rattle.zq_regions.specs.RegionMap.{value_at, with_entry}
+use Rattle.zq_hat.specs.Regions.{in_routers, strategy_at}
 use Rattle.zq_hat.specs.State.{HatState}
 use Rattle.zq_hat.specs.declared.types.FaceRecord.{FaceRecord}
 use Rattle.zq_hat.specs.Kept.{clashes_at, declaration_at, has_face, is_full, new_hat, with_face_opened}
@@ -77,6 +78,10 @@ has_hat r c = is_some (hat_at r c.hats)
 -- the region takes no further face
 abbrev pub is_full_region : Region → Core → Bool
 is_full_region r c = option_map_or is_full (hat_at r c.hats) false
+
+-- a hat's region is one of routers
+abbrev pub is_routing : HatState → Bool
+is_routing h = in_routers (strategy_at h) true false
 
 -- the hat that a face belongs to
 abbrev pub hat_of : ℕ → Core → Option HatState

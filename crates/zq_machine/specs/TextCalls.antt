@@ -1,5 +1,6 @@
 -- Calls with their expressions read: each is a text, nothing, or of no known number.
-use Rattle.std.specs.Prelude.{ℕ, Bool, List, Option}
+use Rattle.std.specs.Prelude.{ℕ, Bool, false, List, Option, Some, None, if◌then◌else◌}
+use Rattle.std.specs.Option.{option_map_or}
 use Rattle.zq_message.specs.declared.message.FaceId.{FaceId}
 use Rattle.zq_message.specs.declared.message.QueryableInfoType.{QueryableInfoType}
 use Rattle.zq_message.specs.declared.message.Region.{Region}
@@ -10,12 +11,13 @@ use Rattle.zq_hat.specs.declared.types.FinalMark.{FinalMark}
 use Rattle.zq_trees.specs.declared.types.Network.{Network}
 use Rattle.zq_trees.specs.declared.types.NodeIds.{NodeIds}
 use Rattle.zq_tables.specs.declared.said.Said.{Said}
+use Rattle.zq_tables.specs.declared.said.Said.TheVariants as said_word
 use Rattle.zq_tables.specs.Naming.{said_of, text_at, face_naming}
 use Rattle.zq_route.specs.declared.gateways.Gateways.{Gateways}
 use Rattle.zq_machine.specs.declared.call.Opening.{Opening}
 use Rattle.zq_machine.specs.declared.call.Call.{Call}
 use Rattle.zq_machine.specs.declared.call.Call.TheVariants as call
-use Rattle.zq_machine.specs.State.{State}
+use Rattle.zq_machine.specs.State.{Core, State, hat_of, is_routing}
 
 -- a call with texts in place of expressions; a number that is declared or given up comes with the text that it stood for; what routers declare is named by its text and its node
 pub data TextCall : Type 0 where
@@ -46,14 +48,23 @@ said face w s = said_of (face_naming face.0 s.names) w
 abbrev pub standing : FaceId → ℕ → State → Option (List ℕ)
 standing face id s = text_at id (face_naming face.0 s.names).theirs
 
--- the call with its expressions read
+-- what an expression says that may be missing
+abbrev pub said_or_none : FaceId → Option WireExpr → State → Said
+said_or_none face None s = said_word.Empty
+said_or_none face (Some w) s = said face w s
+
+-- the face's region is one of routers
+abbrev pub by_router : FaceId → Core → Bool
+by_router face c = option_map_or is_routing (hat_of face.0 c) false
+
+-- the call with its expressions read, and by its face's region
 abbrev pub read : State → Call → TextCall
 read s (call.Open o) = opening o
 read s (call.Close face) = closing face
 read s (call.DeclareKeyExpr face id wire) = naming face id (said face wire s) (standing face id s)
 read s (call.UndeclareKeyExpr face id) = unnaming face id (standing face id s)
-read s (call.DeclareQueryable face id wire info node) = declaring face id (said face wire s) info node
-read s (call.UndeclareQueryable face id wire node) = withdrawing face id
+read s (call.DeclareQueryable face id wire info node) = if by_router face s.core then announcing face (said face wire s) info node else declaring face id (said face wire s) info node
+read s (call.UndeclareQueryable face id wire node) = if by_router face s.core then retracting face (said_or_none face wire s) node else withdrawing face id
 read s (call.Request face r now) = asking face (said face r.wire s) r now
 read s (call.Response face r) = replying face (said face r.wire s) r
 read s (call.ResponseFinal face rid) = ending face rid
@@ -63,5 +74,5 @@ read s (call.SetGateways r table) = listing r table
 read s (call.FinalizeInterest face mark set) = finalizing face mark set
 read s (call.Interest face id keys wire) = unbuilt
 read s (call.InterestFinal face id) = unbuilt
-read s (call.SetNetwork r net) = unbuilt
-read s (call.SetNodeIds face ids) = unbuilt
+read s (call.SetNetwork r net) = networking r net
+read s (call.SetNodeIds face ids) = tabling face ids

@@ -1,5 +1,5 @@
--- What faces are told along the trees of router regions, and how calls of routers are read, once both are in use.
-use Rattle.std.specs.Prelude.{ℕ, ◌==◌, Bool, true, false, List, [], ◌∷◌, ◌++◌, map, fold, Option, Some, None, if◌then◌else◌}
+-- What faces are told along the trees of router regions.
+use Rattle.std.specs.Prelude.{ℕ, ◌==◌, List, [], ◌∷◌, ◌++◌, map, fold, Option, Some, None, if◌then◌else◌}
 use Rattle.std.specs.BTreeSet.{insert_key}
 use Rattle.std.specs.List.{filter_map, flat_map}
 use Rattle.std.specs.Map.{keys_of}
@@ -7,7 +7,6 @@ use Rattle.std.specs.Option.{option_and_then, option_map, option_map_or, option_
 use Rattle.zq_message.specs.declared.message.FaceId.{FaceId}
 use Rattle.zq_message.specs.declared.message.QueryableInfoType.{QueryableInfoType}
 use Rattle.zq_message.specs.declared.message.Region.{Region}
-use Rattle.zq_message.specs.declared.message.WireExpr.{WireExpr}
 use Rattle.zq_message.specs.declared.message.Zid.{Zid}
 use Rattle.zq_regions.specs.Region.{region_index}
 use Rattle.zq_index.specs.Infos.{joined}
@@ -20,33 +19,10 @@ use Rattle.zq_hat.specs.Regions.{in_routers, strategy_at}
 use Rattle.zq_hat.specs.Routers.{losing, source_at}
 use Rattle.zq_hat.specs.State.{HatState}
 use Rattle.zq_hat.specs.Trees.{network_told, own_told, to_children}
-use Rattle.zq_tables.specs.declared.said.Said.{Said}
-use Rattle.zq_tables.specs.declared.said.Said.TheVariants as said
-use Rattle.zq_machine.specs.declared.call.Call.{Call}
-use Rattle.zq_machine.specs.declared.call.Call.TheVariants as call
 use Rattle.zq_machine.specs.Messages.{Telling, TellingBody, key_ended, key_told}
 use Rattle.zq_machine.specs.Selecting.{full_text}
-use Rattle.zq_machine.specs.State.{Core, State, hat_at, hat_of}
-use Rattle.zq_machine.specs.TextCalls.{TextCall, closing, declaring, withdrawing, announcing, retracting, networking, tabling, read, said as said_by}
-
--- ---- how calls are read
-
--- the face's region is one of routers
-abbrev pub by_router : FaceId → Core → Bool
-by_router face c = option_map_or (λ (h : HatState). in_routers (strategy_at h) true false) (hat_of face.0 c) false
-
--- what an expression says that may be missing
-abbrev pub said_or_none : FaceId → Option WireExpr → State → Said
-said_or_none face None s = said.Empty
-said_or_none face (Some w) s = said_by face w s
-
--- the call with its expressions read, and by the region of its face
-abbrev pub due_read : State → Call → TextCall
-due_read s (call.DeclareQueryable face id wire info node) = if by_router face s.core then announcing face (said_by face wire s) info node else declaring face id (said_by face wire s) info node
-due_read s (call.UndeclareQueryable face id wire node) = if by_router face s.core then retracting face (said_or_none face wire s) node else withdrawing face id
-due_read s (call.SetNetwork r net) = networking r net
-due_read s (call.SetNodeIds face ids) = tabling face ids
-due_read s c = read s c
+use Rattle.zq_machine.specs.State.{Core, hat_at, hat_of}
+use Rattle.zq_machine.specs.TextCalls.{TextCall, closing, declaring, withdrawing, announcing, retracting, networking}
 
 -- ---- the gateway's own entries in a region: what the other regions have, from scratch
 
