@@ -24,7 +24,7 @@ use Rattle.zq_query.specs.declared.records.ReplyTo.{ReplyTo}
 use Rattle.zq_query.specs.Closing.{at_face}
 use Rattle.zq_query.specs.Polling.{is_due, timeouts, timing_out}
 use Rattle.zq_query.specs.Records.{QueryState, is_entry, next_reply}
-use Rattle.zq_tables.specs.Naming.{NamingState, change_naming, face_queryables, with_queryable}
+use Rattle.zq_tables.specs.Naming.{NamingState, change_naming, face_queryables, with_queryable, with_told_number}
 use Rattle.zq_machine.specs.declared.call.Call.{Call}
 use Rattle.zq_machine.specs.declared.config.Entry.{Entry}
 use Rattle.zq_machine.specs.declared.face.OpenFace.{OpenFace}
@@ -33,7 +33,6 @@ use Rattle.zq_machine.specs.Configs.{Settings, region_of, north_of}
 use Rattle.zq_machine.specs.Deciding.{accepted, after_replied, announced_by, causes, deadline, refusal_of, retracted_by, targets}
 use Rattle.zq_machine.specs.Machine.{accepted_state, state_after}
 use Rattle.zq_machine.specs.Selecting.{full_text}
-use Rattle.zq_machine.specs.Writing.{with_told_number}
 use Rattle.zq_machine.specs.State.{State, at, change_hat, clashes_in, first_hats, hat_at, hat_of, is_open, is_region, opening_state, with_hat}
 use Rattle.zq_machine.specs.TextCalls.{TextCall, opening, closing, naming, unnaming, declaring, withdrawing, asking, replying, ending, reporting, passing, listing, finalizing, announcing, retracting, networking, tabling, unbuilt, read}
 use Rattle.zq_machine.proofs.Agreeing.{Tied, declared_tied, marked_tied, named_tied, noded_tied, renamed_tied, same_faces_tied, some_of, unnamed_tied, withdrawn_tied}

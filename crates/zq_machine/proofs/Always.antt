@@ -1,12 +1,11 @@
 -- What accepted calls keep, and what is told too, holds after every call, and so after every run.
 use Rattle.std.proofs.Common.{◌≡◌, ℕ, List, [], ◌∷◌, Some, None}
-use Rattle.zq_tables.specs.Naming.{NamingState, change_naming}
+use Rattle.zq_tables.specs.Naming.{NamingState, change_naming, with_told_number}
 use Rattle.zq_machine.specs.declared.call.Call.{Call}
 use Rattle.zq_machine.specs.Deciding.{accepted, refusal_of, renamed, told_of}
 use Rattle.zq_machine.specs.Machine.{accepted_state, after, state_after}
 use Rattle.zq_machine.specs.State.{Core, State}
 use Rattle.zq_machine.specs.TextCalls.{read}
-use Rattle.zq_machine.specs.Writing.{with_told_number}
 use Rattle.zq_machine.proofs.Granted.{by_granted}
 use Rattle.zq_machine.proofs.Telling.{told_keeps}
 

@@ -9,12 +9,9 @@ use Rattle.zq_message.specs.declared.message.FaceId.{FaceId}
 use Rattle.zq_message.specs.declared.message.QueryTarget.{QueryTarget}
 use Rattle.zq_message.specs.declared.message.QueryTarget.TheVariants as mode
 use Rattle.zq_message.specs.declared.message.Request.{Request}
-use Rattle.zq_message.specs.declared.message.Zid.{Zid}
 use Rattle.zq_hat.specs.declared.types.QueryTargetQabl.{QueryTargetQabl}
 use Rattle.zq_hat.specs.State.{HatState}
-use Rattle.zq_hat.specs.Offers.{offers_of}
 use Rattle.zq_query.specs.Asking.{are_distinct, face_numbers}
-use Rattle.zq_route.specs.declared.gateways.Gateways.{Gateways}
 use Rattle.zq_route.specs.Built.{has_face, with_first}
 use Rattle.zq_route.specs.Selection.{by_face, chosen, is_complete, may_be_complete, with_offers}
 use Rattle.zq_machine.specs.declared.face.OpenFace.{OpenFace}

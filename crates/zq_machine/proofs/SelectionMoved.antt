@@ -13,7 +13,6 @@ use Rattle.zq_message.specs.declared.message.QueryTarget.TheVariants as target
 use Rattle.zq_message.specs.declared.message.Request.{Request}
 use Rattle.zq_hat.specs.declared.types.QueryTargetQabl.{QueryTargetQabl}
 use Rattle.zq_hat.specs.State.{HatState}
-use Rattle.zq_hat.specs.Offers.{offers_of}
 use Rattle.zq_hat.specs.Routers.{context_at, source_at}
 use Rattle.zq_hat.specs.Moved.{Keeps, move_hat, move_offer}
 use Rattle.zq_hat.proofs.OffersMoved.{offers_moved}

@@ -25,7 +25,7 @@ use Rattle.zq_hat.specs.declared.types.Strategy.TheVariants as strategy
 use Rattle.zq_hat.specs.Regions.{in_routers, strategy_at}
 use Rattle.zq_hat.specs.Routers.{announced, networked, retracted, source_at, staying}
 use Rattle.zq_regions.specs.RegionMap.{value_at}
-use Rattle.zq_tables.specs.Naming.{FaceKeys, FaceNaming, NamingState, change_naming, face_naming, naming_at, no_keys, said_of, with_name, with_queryable, without_name, without_queryable}
+use Rattle.zq_tables.specs.Naming.{FaceKeys, FaceNaming, NamingState, change_naming, face_naming, naming_at, no_keys, said_of, with_name, with_queryable, with_told_number, without_name, without_queryable}
 use Rattle.zq_machine.specs.declared.call.Call.{Call}
 use Rattle.zq_machine.specs.declared.call.Call.TheVariants as call
 use Rattle.zq_machine.specs.declared.call.Opening.{Opening}
@@ -38,7 +38,7 @@ use Rattle.zq_machine.specs.Selecting.{full_text}
 use Rattle.zq_machine.specs.Standing.{Standing, accepted_at, declaring_at, heard_all, heard_at, heard_body, kept_at, routes_in, text_said, with_kept, listed_after, listed_in, newly_opened, standing_after, standing_at, standing_in, standing_of}
 use Rattle.zq_machine.specs.Hearing.{with_ours}
 use Rattle.zq_machine.specs.Messages.{Telling, TellingBody, TextMessage, all_told, key_ended, key_told, text_final, text_reply, text_request}
-use Rattle.zq_machine.specs.Writing.{Told, and_then, tell, tell_body, tell_by, tell_declare, tell_number, told_key, with_told_number, write, written}
+use Rattle.zq_machine.specs.Writing.{Told, and_then, tell, tell_body, tell_by, tell_declare, tell_number, told_key, write, written}
 use Rattle.zq_machine.specs.State.{Core, State, at, change_hat, first_hats, hat_at, is_region, is_routing, joined, opening_state, put_hat}
 use Rattle.zq_machine.specs.TextCalls.{TextCall, announcing, by_router, closing, declaring, finalizing, opening, read, retracting, said, said_or_none, tabling, withdrawing}
 use Rattle.zq_machine.proofs.Agreed.{InOrder, granted_in_order, next_absent, numbered_in_order, opened_face, opening_in_order}

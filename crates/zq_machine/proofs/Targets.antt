@@ -16,10 +16,8 @@ use Rattle.zq_message.specs.declared.message.FaceId.{FaceId}
 use Rattle.zq_message.specs.declared.message.QueryTarget.{QueryTarget}
 use Rattle.zq_message.specs.declared.message.Region.{Region}
 use Rattle.zq_message.specs.declared.message.Request.{Request}
-use Rattle.zq_message.specs.declared.message.Zid.{Zid}
 use Rattle.zq_hat.specs.declared.types.QueryTargetQabl.{QueryTargetQabl}
 use Rattle.zq_hat.specs.Kept.{at_id, has_face}
-use Rattle.zq_hat.specs.Offers.{offers_of}
 use Rattle.zq_hat.specs.State.{FaceState, HatState}
 use Rattle.zq_hat.proofs.OfferLaws.{offers_of_faces}
 use Rattle.zq_query.specs.declared.records.ReplyTo.{ReplyTo}
@@ -30,7 +28,6 @@ use Rattle.zq_query.specs.Polling.{after_timeout, is_due, timeouts, timing_out}
 use Rattle.zq_query.specs.Records.{Pending, QueryState, Record, after_put, is_entry, is_left, is_none_left, next_reply, without, without_reply}
 use Rattle.zq_tables.specs.declared.said.Said.{Said}
 use Rattle.zq_tables.specs.Naming.{NamingState}
-use Rattle.zq_route.specs.declared.gateways.Gateways.{Gateways}
 use Rattle.zq_route.specs.Selection.{chosen}
 use Rattle.zq_machine.specs.declared.face.OpenFace.{OpenFace}
 use Rattle.zq_machine.specs.Agreeing.{all_pending, pending_of, stands_in}

@@ -11,13 +11,13 @@ use Rattle.zq_trees.specs.declared.types.Telling.{Telling as TreeTelling}
 use Rattle.zq_trees.specs.Tellings.{in_order}
 use Rattle.zq_names.specs.Texts.{nonwild}
 use Rattle.zq_ids.specs.declared.decl.DeclKey.{DeclKey}
-use Rattle.zq_tables.specs.Naming.{FaceKeys, NamingState, change_naming, face_keys, plain}
+use Rattle.zq_tables.specs.Naming.{FaceKeys, NamingState, change_naming, face_keys, plain, with_told_number}
 use Rattle.zq_machine.specs.Handing.{Handed}
 use Rattle.zq_machine.specs.Messages.{Telling, TellingBody, all_told, key_ended, key_told}
 use Rattle.zq_machine.specs.State.{Core}
 use Rattle.zq_machine.specs.TextCalls.{TextCall}
 use Rattle.zq_machine.specs.Trees.{all_own_told, due_told, from_tree, touched, tree_told}
-use Rattle.zq_machine.specs.Writing.{and_then, leaving, tell, tell_body, tell_by, tell_declare, tell_number, told_key, with_told_number}
+use Rattle.zq_machine.specs.Writing.{and_then, leaving, tell, tell_body, tell_by, tell_declare, tell_number, told_key}
 use Rattle.zq_machine.proofs.Lists.{all_append}
 
 -- ---- what is handed

@@ -47,7 +47,7 @@ module _ {K X : Type 0} (A : K → Type 0) (B : X → Type 0) where
   abbrev pub Each : List (K × X) → Type 0
   Each es = AllByRecursion (λ (e : K × X). A e.0 × B e.1) es
 
-  each_in : (cmp : K → K → Ordering) (es : List (K × X)) (k : K) (v : X) → Each es → A k → B v → Each (insert_entry cmp es k v)
+  pub each_in : (cmp : K → K → Ordering) (es : List (K × X)) (k : K) (v : X) → Each es → A k → B v → Each (insert_entry cmp es k v)
   each_in cmp [] k v all a b = ((a, b), tt)
   each_in cmp (e ∷ es) k v all a b = by (cmp k e.0) (each_in cmp es k v all.1 a b)
     where
@@ -64,7 +64,7 @@ module _ {K X : Type 0} (A : K → Type 0) (B : X → Type 0) where
       by true ih = ((all.0.0, b), all.1)
       by false ih = (all.0, ih)
 
-  each_out : (test : K → Bool) (es : List (K × X)) → Each es → Each (remove_entry test es)
+  pub each_out : (test : K → Bool) (es : List (K × X)) → Each es → Each (remove_entry test es)
   each_out test [] all = tt
   each_out test (e ∷ es) all = by (test e.0) (each_out test es all.1)
     where
@@ -182,36 +182,37 @@ networked_worded net h w = by (strategy_at h)
     by strategy.Router = record { faces = w.faces; entries = network_worded net h.entries w.entries }
 
 -- ---- an accepted call changes one hat at most
-hat_worded : (r : Region) (f : HatState → HatState) (hats : List (ℕ × HatState)) → ((h : HatState) → IsWorded h → IsWorded (f h)) → AreWorded hats → AreWorded (change_hat r f hats)
-hat_worded r f hats keeps all = by (hat_at r hats) refl
-  where
-    by : (o : Option HatState) → hat_at r hats ≡ o → AreWorded (put_hat r f hats o)
-    by None e = all
-    by (Some h) e = each_set Any IsWorded (is_at (nat_cmp (region_index r))) hats (f h) all (keeps h (each_found Any IsWorded (is_at (nat_cmp (region_index r))) hats h (region_there r hats h e).1 all))
+module _ (P : HatState → Type 0) where
+  pub each_hat_keeps : (r : Region) (f : HatState → HatState) (hats : List (ℕ × HatState)) → ((h : HatState) → P h → P (f h)) → Each Any P hats → Each Any P (change_hat r f hats)
+  each_hat_keeps r f hats keeps all = by (hat_at r hats) refl
+    where
+      by : (o : Option HatState) → hat_at r hats ≡ o → Each Any P (put_hat r f hats o)
+      by None e = all
+      by (Some h) e = each_set Any P (is_at (nat_cmp (region_index r))) hats (f h) all (keeps h (each_found Any P (is_at (nat_cmp (region_index r))) hats h (region_there r hats h e).1 all))
 
-its_hat_worded : (face : ℕ) (f : HatState → HatState) (c : Core) → ((h : HatState) → IsWorded h → IsWorded (f h)) → AreWorded c.hats → AreWorded (change_hat_of face f c).hats
-its_hat_worded face f c keeps all = by (at face c.faces)
-  where
-    by : (o : Option OpenFace) → AreWorded (option_map_or (λ (x : OpenFace). change_hat x.region f c.hats) o c.hats)
-    by None = all
-    by (Some o) = hat_worded o.region f c.hats keeps all
+  pub each_keeps_in_its_hat : (face : ℕ) (f : HatState → HatState) (c : Core) → ((h : HatState) → P h → P (f h)) → Each Any P c.hats → Each Any P (change_hat_of face f c).hats
+  each_keeps_in_its_hat face f c keeps all = by (at face c.faces)
+    where
+      by : (o : Option OpenFace) → Each Any P (option_map_or (λ (x : OpenFace). change_hat x.region f c.hats) o c.hats)
+      by None = all
+      by (Some o) = each_hat_keeps o.region f c.hats keeps all
 
 pub accepted_worded : (c : Core) (t : TextCall) → refusal_of c t ≡ None → AreWorded c.hats → AreWorded (accepted c t).hats
-accepted_worded c (opening o) h all = hat_worded o.region (joined (seat c.next_face o)) c.hats (joined_worded (seat c.next_face o)) all
-accepted_worded c (closing face) h all = its_hat_worded face.0 (without_face face.0) c (left_worded face.0) all
+accepted_worded c (opening o) h all = each_hat_keeps IsWorded o.region (joined (seat c.next_face o)) c.hats (joined_worded (seat c.next_face o)) all
+accepted_worded c (closing face) h all = each_keeps_in_its_hat IsWorded face.0 (without_face face.0) c (left_worded face.0) all
 accepted_worded c (declaring face id s i node) h all =
     let some = said_text s (all_passed (causes c (declaring face id s i node)) h).1.1.0 in
-    its_hat_worded face.0 (registered face.0 id (full_text s) node i) c
+    each_keeps_in_its_hat IsWorded face.0 (registered face.0 id (full_text s) node i) c
     (λ x w. subst IsWorded (sym (registered_at face.0 id (full_text s) node i x)) (face_worded face.0 (declare id (full_text s) i) (λ f v. each_in Any (λ (d : Declaration). HasText d.key) nat_cmp f.declared id (record { key = full_text s; info = i }) v tt some) x w)) all
 accepted_worded c (withdrawing face id) h all =
-    its_hat_worded face.0 (unregistered face.0 id) c (face_worded face.0 (withdraw id) (λ f v. each_out Any (λ (d : Declaration). HasText d.key) (is_at (nat_cmp id)) f.declared v)) all
-accepted_worded c (finalizing face m set) h all = its_hat_worded face.0 (finalized face.0 m set) c (face_worded face.0 (marked m set) (marked_worded m set)) all
+    each_keeps_in_its_hat IsWorded face.0 (unregistered face.0 id) c (face_worded face.0 (withdraw id) (λ f v. each_out Any (λ (d : Declaration). HasText d.key) (is_at (nat_cmp id)) f.declared v)) all
+accepted_worded c (finalizing face m set) h all = each_keeps_in_its_hat IsWorded face.0 (finalized face.0 m set) c (face_worded face.0 (marked m set) (marked_worded m set)) all
 accepted_worded c (announcing face s i node) h all =
-    its_hat_worded face.0 (announced_by face.0 node (full_text s) i) c (announced_worded face.0 node (full_text s) i (said_text s (all_passed (causes c (announcing face s i node)) h).1.1.0)) all
+    each_keeps_in_its_hat IsWorded face.0 (announced_by face.0 node (full_text s) i) c (announced_worded face.0 node (full_text s) i (said_text s (all_passed (causes c (announcing face s i node)) h).1.1.0)) all
 accepted_worded c (retracting face s node) h all =
-    its_hat_worded face.0 (retracted_by face.0 node (full_text s)) c (retracted_worded face.0 node (full_text s) (said_text s (all_passed (causes c (retracting face s node)) h).1.1.0)) all
-accepted_worded c (networking r net) h all = hat_worded r (networked net) c.hats (networked_worded net) all
-accepted_worded c (tabling face ids) h all = its_hat_worded face.0 (noded face.0 ids) c (face_worded face.0 (λ f. record f { nodes = ids }) (λ f v. v)) all
+    each_keeps_in_its_hat IsWorded face.0 (retracted_by face.0 node (full_text s)) c (retracted_worded face.0 node (full_text s) (said_text s (all_passed (causes c (retracting face s node)) h).1.1.0)) all
+accepted_worded c (networking r net) h all = each_hat_keeps IsWorded r (networked net) c.hats (networked_worded net) all
+accepted_worded c (tabling face ids) h all = each_keeps_in_its_hat IsWorded face.0 (noded face.0 ids) c (face_worded face.0 (λ f. record f { nodes = ids }) (λ f v. v)) all
 accepted_worded c t h all = all
 
 -- ---- before any call
