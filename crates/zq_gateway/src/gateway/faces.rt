@@ -103,7 +103,7 @@ impl Tables {
     }
 
     // A face is closed: its entries are let go, and it gives up its numbers.
-    #[tactic(auto, using(zq_machine::proofs::Writing::closed_step, zq_machine::proofs::Writing::closed_after))]
+    #[tactic(auto, using(crate::proofs::Reached::reached_closed, crate::proofs::Reached::reached_left))]
     pub(super) fn close(&mut self, face: FaceId) -> Result<Step, OutOfMemory>
         requires { IsReached self.old }
         ensures { Settles self.old self.new (closing face) result }

@@ -67,6 +67,7 @@ impl Tables {
     }
 
     // A face withdraws a queryable.
+    #[tactic(auto, using(crate::proofs::Reached::reached_withdrawn, crate::proofs::Reached::reached_released))]
     pub(super) fn undeclare_queryable(
         &mut self,
         face: FaceId,

@@ -1,3 +1,4 @@
+use Rattle.zq_gateway.proofs.Reached.{reached_apart}
 use Rattle.zq_gateway.proofs.gateway.tables.Tables.call.Goals as goal
 
 pub returns-in-DeclareKeyExpr : goal.returns-in-DeclareKeyExpr
@@ -10,10 +11,13 @@ pub returns-in-DeclareQueryable : goal.returns-in-DeclareQueryable
 returns-in-DeclareQueryable c = rw c.in-DeclareQueryable.is c.register.ensures
 
 pub returns-in-UndeclareQueryable : goal.returns-in-UndeclareQueryable
-returns-in-UndeclareQueryable c = rw c.in-UndeclareQueryable.is c.undeclare_queryable.ensures
+returns-in-UndeclareQueryable c = rw (c.in-UndeclareQueryable.is, reached_apart c.args.self.now c.requires.reached c.in-UndeclareQueryable.face) c.undeclare_queryable.ensures
 
 pub returns-in-Request : goal.returns-in-Request
 returns-in-Request c = rw c.in-Request.is c.send_request.ensures
 
 pub returns-in-Response : goal.returns-in-Response
 returns-in-Response c = rw c.in-Response.is c.send_response.ensures
+
+pub returns-in-ResponseFinal : goal.returns-in-ResponseFinal
+returns-in-ResponseFinal c = rw c.in-ResponseFinal.is c.response_final.ensures

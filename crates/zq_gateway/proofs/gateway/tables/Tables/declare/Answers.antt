@@ -1,3 +1,4 @@
+use Rattle.zq_gateway.proofs.Reached.{reached_apart}
 use Rattle.zq_gateway.proofs.gateway.tables.Tables.declare.Goals as goal
 
 pub returns-in-DeclareKeyExpr : goal.returns-in-DeclareKeyExpr
@@ -5,3 +6,6 @@ returns-in-DeclareKeyExpr c = rw c.in-DeclareKeyExpr.is c.name_key.ensures
 
 pub returns-in-DeclareQueryable : goal.returns-in-DeclareQueryable
 returns-in-DeclareQueryable c = rw c.in-DeclareQueryable.is c.register.ensures
+
+pub returns-in-UndeclareQueryable : goal.returns-in-UndeclareQueryable
+returns-in-UndeclareQueryable c = rw (c.in-UndeclareQueryable.is, reached_apart c.args.self.now c.requires.reached c.args.face) c.undeclare_queryable.ensures

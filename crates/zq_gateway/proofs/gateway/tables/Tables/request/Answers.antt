@@ -30,9 +30,9 @@ returns c =
     record {
       step =
           ap (λ n. record { outcome = outcome.Asked n; handed = c.in_ok-handed.handed }) (c.next_number-number.ensures ∙ ap (λ (q : QueryState). q.requests) queries)
-          ∙ asked_step s c.args.face c.args.said r c.args.now c.in-Some.opened (sym c.in-Some.ensures) fits c.in_ok-handed.handed told;
+          ∙ asked_step s c.args.face c.args.said r c.args.now c.in-Some.opened (sym c.in-Some.ensures.found) fits c.in_ok-handed.handed told;
       after =
           (λ j. record { core = with_queries (v j).core (asked j); names = (v j).names })
-          ∙ sym (asked_after s c.args.face c.args.said r c.args.now c.in-Some.opened (sym c.in-Some.ensures) fits);
+          ∙ sym (asked_after s c.args.face c.args.said r c.args.now c.in-Some.opened (sym c.in-Some.ensures.found) fits);
       err = tt;
     }
