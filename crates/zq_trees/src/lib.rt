@@ -11,4 +11,6 @@ pub mod children;
 pub mod nets;
 pub mod seats;
 pub mod tellings;
+#[cfg(test)]
+mod tests;
 pub mod types;
