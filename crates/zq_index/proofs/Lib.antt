@@ -6,6 +6,7 @@ pub mod Ranks
 pub mod Texts
 pub mod Holding
 pub mod Finding
+pub mod Ordered
 pub mod Skipping
 pub mod ForkLemmas
 pub mod Listed

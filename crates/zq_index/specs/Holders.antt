@@ -88,6 +88,12 @@ with_held m h = joined m (Some h.1)
 abbrev pub AreListed : {V : Type 0} → List (List ℕ × V) → List (List ℕ) → Type 0
 AreListed index texts = (t : List ℕ) → is_some (at_text t index) ≡ true → IsListed texts t
 
+-- the texts are in order, and so are the places of each; each text has a declaration
+pub record IsOrderedBy {P : Type 0} (cmp : P → P → Ordering) (index : IndexBy P) : Type 0 where
+  pub texts : IsStrictlySortedBy text_cmp (keys_of index)
+  pub places : (key : List ℕ) (hs : HeldBy P) → at_text key index ≡ Some hs → IsStrictlySortedBy cmp (keys_of hs)
+  pub used : (key : List ℕ) → at_text key index ≡ Some [] → ⊥
+
 -- ---- where the places are those of faces
 
 -- a face's number and an id there

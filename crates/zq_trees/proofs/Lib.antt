@@ -3,3 +3,5 @@ pub mod Sitting
 pub mod Ordered
 pub mod Sets
 pub mod Firsts
+pub mod Keys
+pub mod Entering

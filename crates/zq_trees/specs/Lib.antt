@@ -2,3 +2,4 @@ pub mod Nets
 pub mod Seating
 pub mod Tellings
 pub mod Told
+pub mod Entries

@@ -5,10 +5,13 @@
 //! - `seats`: which open faces have which ids
 //! - `children`: the children of trees, the faces on them, and what these are told of a key
 //! - `tellings`: tellings in order
+//! - `entries`: what routers announced, by key and by router
 #![tactic(auto)]
 
 pub mod children;
+pub mod entries;
 pub mod nets;
+mod router_keys;
 pub mod seats;
 pub mod tellings;
 #[cfg(test)]

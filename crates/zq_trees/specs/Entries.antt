@@ -1,0 +1,125 @@
+-- What routers of a region announced: their entries on keys.
+use Rattle.std.specs.Prelude.{◌≡◌, ℕ, Bool, true, false, not, ◌&&◌, List, [], ◌∷◌, filter, fold, Option, None, if◌then◌else◌, cond, option_map, String}
+use Rattle.std.specs.List.{list_any, filter_map}
+use Rattle.std.specs.Option.{is_some, option_map_or}
+use Rattle.std.specs.Map.{keys_of, lookup, remove_entry}
+use Rattle.std.specs.BTreeMap.{insert_entry, is_at}
+use Rattle.std.specs.BTreeSet.{BTreeSet, contains_text}
+use Rattle.std.specs.Ordering.{nat_cmp}
+use Rattle.std.specs.declared.alloc.Global.{Global}
+use Rattle.zq_message.specs.declared.message.QueryableInfoType.{QueryableInfoType}
+use Rattle.zq_message.specs.declared.message.Zid.{Zid}
+use Rattle.zq_key.specs.Key.{is_key}
+use Rattle.zq_index.specs.Texts.{text_cmp, at_text}
+use Rattle.zq_index.specs.Holders.{IsOrderedBy, at_place_by, held_at, with_held}
+use Rattle.zq_trees.specs.declared.types.Network.{Network}
+use Rattle.zq_trees.specs.Nets.{is_listed}
+
+-- the entries on a key: the routers' informations, by id
+abbrev pub Routed : Type 0
+Routed = List (ℕ × QueryableInfoType)
+
+-- the entries on each key, by text
+abbrev pub Entries : Type 0
+Entries = List (List ℕ × Routed)
+
+-- the entries on a key
+abbrev pub entries_at : List ℕ → Entries → Routed
+entries_at key all = held_at key all
+
+-- the router's entry on a key
+abbrev pub entry_of : ℕ → List ℕ → Entries → Option QueryableInfoType
+entry_of router key all = at_place_by nat_cmp router (entries_at key all)
+
+-- entries on a key, merged
+abbrev pub routed_info : Routed → Option QueryableInfoType
+routed_info es = fold with_held None es
+
+-- with these entries on a key; a key without any goes
+abbrev pub with_entries : List ℕ → Routed → Entries → Entries
+with_entries key [] all = remove_entry (is_at (text_cmp key)) all
+with_entries key (e ∷ es) all = insert_entry text_cmp all key (e ∷ es)
+
+-- the entries on a key with this one of the router
+abbrev pub routed_with : ℕ → QueryableInfoType → Routed → Routed
+routed_with router i es = insert_entry nat_cmp es router i
+
+-- the entries on a key without that of the router
+abbrev pub routed_without : ℕ → Routed → Routed
+routed_without router es = remove_entry (is_at (nat_cmp router)) es
+
+-- the router's entry on the key is this one
+abbrev pub with_entry : ℕ → List ℕ → QueryableInfoType → Entries → Entries
+with_entry router key i all = with_entries key (routed_with router i (entries_at key all)) all
+
+-- the router's entry on the key is gone
+abbrev pub without_entry : ℕ → List ℕ → Entries → Entries
+without_entry router key all = with_entries key (routed_without router (entries_at key all)) all
+
+-- a router's entry on a key, with the key
+abbrev pub keyed_entry : Zid → List ℕ × Routed → Option (List ℕ × QueryableInfoType)
+keyed_entry router k = option_map (λ i. (k.0, i)) (at_place_by nat_cmp router.0 k.1)
+
+-- all entries of a router, by text
+abbrev pub standing : Zid → Entries → List (List ℕ × QueryableInfoType)
+standing router all = filter_map (keyed_entry router) all
+
+-- the entry's router passes the test
+abbrev pub is_by : (Zid → Bool) → ℕ × QueryableInfoType → Bool
+is_by test e = test (record { 0 = e.0 })
+
+-- the key's entries of routers that pass the test, if there are any
+abbrev pub kept_by : (Zid → Bool) → List ℕ × Routed → Entries
+kept_by test k = if list_any (is_by test) k.1 then (k.0, filter (is_by test) k.1) ∷ [] else []
+
+-- the key's entries of listed routers, if there are any
+abbrev pub staying : Network → List ℕ × Routed → Entries
+staying net k = kept_by (is_listed net) k
+
+-- the key has an entry of a router that passes the test
+abbrev pub has_by : (Zid → Bool) → List ℕ × Routed → Bool
+has_by test k = list_any (is_by test) k.1
+
+-- the keys that have an entry of a router that passes the test, in order
+abbrev pub keys_by : (Zid → Bool) → Entries → List (List ℕ)
+keys_by test all = keys_of (filter (has_by test) all)
+
+-- the network does not list the id
+abbrev pub is_unlisted : Network → Zid → Bool
+is_unlisted net zid = not (is_listed net zid)
+
+-- ---- how entries are found by their routers
+
+-- the keys of each router
+abbrev pub RouterKeys : Type 0
+RouterKeys = List (ℕ × BTreeSet (String Global))
+
+-- the key is one of the router's
+abbrev pub has_key : ℕ → List ℕ → RouterKeys → Bool
+has_key router key routers = option_map_or (λ keys. contains_text keys key) (lookup (is_at (nat_cmp router)) routers) false
+
+-- the router and the key are these
+abbrev pub is_entry : ℕ → List ℕ → ℕ → List ℕ → Bool
+is_entry router key z k = is_at (nat_cmp router) z && is_at (text_cmp key) k
+
+-- the router has one key more
+abbrev pub Gains : ℕ → List ℕ → RouterKeys → RouterKeys → Type 0
+Gains router key old new = (z : ℕ) (k : List ℕ) → has_key z k new ≡ cond (is_entry router key z k) true (has_key z k old)
+
+-- the router no longer has the key
+abbrev pub Loses : ℕ → List ℕ → RouterKeys → RouterKeys → Type 0
+Loses router key old new = (z : ℕ) (k : List ℕ) → has_key z k new ≡ cond (is_entry router key z k) false (has_key z k old)
+
+-- the router no longer has any key
+abbrev pub LosesAll : ℕ → RouterKeys → RouterKeys → Type 0
+LosesAll router old new = (z : ℕ) (k : List ℕ) → has_key z k new ≡ cond (is_at (nat_cmp router) z) false (has_key z k old)
+
+-- the routers have the same keys
+abbrev pub AreAlike : RouterKeys → RouterKeys → Type 0
+AreAlike old new = (z : ℕ) (k : List ℕ) → has_key z k new ≡ has_key z k old
+
+-- the entries are in order, on keys, and each router has just the keys of its entries
+pub record IsTied (all : Entries) (routers : RouterKeys) : Type 0 where
+  pub ordered : IsOrderedBy nat_cmp all
+  pub keys : (key : List ℕ) → is_some (at_text key all) ≡ true → is_key key ≡ true
+  pub same : (router : ℕ) (key : List ℕ) → has_key router key routers ≡ is_some (entry_of router key all)

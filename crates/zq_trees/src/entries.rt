@@ -1,0 +1,115 @@
+//! What routers of a region announced: their entries on keys, found by key and by router.
+ghost use Rattle.std.specs.Prelude.{◌≡◌, [], OnOk, OnErr, Some};
+ghost use Rattle.zq_trees.specs.Entries.{entries_at, entry_of, routed_info, routed_with, routed_without, with_entry, without_entry};
+
+use crate::router_keys::{RouterKeys, list_key, unlist_key};
+use std::alloc::Global;
+use std::collections::BTreeMap;
+use std::marker::Model;
+use zq_index::holders::KeyHolders;
+use zq_key::Key;
+use zq_key::memory::OutOfMemory;
+use zq_key::message::{QueryableInfoType, Zid};
+
+/// The entries on each key, seen by the keys' texts; the keys of each router stand beside them.
+#[derive(Drop)]
+pub struct Entries {
+    by_key: KeyHolders<u128>,
+    by_router: RouterKeys,
+}
+
+impl Model for Entries {
+    ghost use Rattle.zq_trees.specs.Entries.{Entries, IsTied};
+
+    ghost Value = { Entries };
+
+    ghost view = { λ e. e.by_key };
+
+    ghost invariant = { λ e. IsTied e.by_key e.by_router.entries };
+}
+
+impl Entries {
+    /// No entries.
+    pub fn new(alloc: Global) -> Entries
+        ensures { result ≡ [] }
+    {
+        Entries {
+            by_key: KeyHolders::new(alloc),
+            by_router: BTreeMap::new(alloc),
+        }
+    }
+
+    /// The router's entry on the key.
+    pub fn get(&self, router: Zid, key: &str) -> Option<QueryableInfoType>
+        ensures { result ≡ entry_of router.0 key.now self.now }
+    {
+        match self.by_key.get(key) {
+            Some(routed) => routed.infos().get(&router.0).copied(),
+            None => None,
+        }
+    }
+
+    /// The entries on the key, merged.
+    pub fn merged(&self, key: &str) -> Option<QueryableInfoType>
+        ensures { result ≡ routed_info (entries_at key.now self.now) }
+    {
+        match self.by_key.get(key) {
+            Some(routed) => routed.merged(),
+            None => None,
+        }
+    }
+
+    /// What the entries on the key would be, merged, with this one of the router.
+    pub fn merged_with(&self, router: Zid, key: &str, info: QueryableInfoType) -> QueryableInfoType
+        ensures { Some result ≡ routed_info (routed_with router.0 info (entries_at key.now self.now)) }
+    {
+        match self.by_key.get(key) {
+            Some(routed) => routed.merged_with(router.0, info),
+            None => info,
+        }
+    }
+
+    /// What the entries on the key would be, merged, without that of the router.
+    pub fn merged_without(&self, router: Zid, key: &str) -> Option<QueryableInfoType>
+        ensures { result ≡ routed_info (routed_without router.0 (entries_at key.now self.now)) }
+    {
+        match self.by_key.get(key) {
+            Some(routed) => routed.merged_without(router.0),
+            None => None,
+        }
+    }
+
+    /// The router's entry on the key is this one from now on.
+    pub fn put(
+        &mut self,
+        alloc: Global,
+        router: Zid,
+        key: &Key,
+        info: QueryableInfoType,
+    ) -> Result<(), OutOfMemory>
+        ensures ok { OnOk result (self.new ≡ with_entry router.0 key.now info self.old) }
+        ensures err { OnErr result (self.new ≡ self.old) }
+    {
+        let text = key.as_str();
+        if self.get(router, text).is_some() {
+            self.by_key.put(alloc, text, router.0, info)?;
+            return Ok(());
+        }
+        list_key(&mut self.by_router, alloc, router.0, text)?;
+        match self.by_key.put(alloc, text, router.0, info) {
+            Ok(()) => Ok(()),
+            Err(error) => {
+                unlist_key(&mut self.by_router, router.0, text);
+                Err(error)
+            }
+        }
+    }
+
+    /// The router's entry on the key goes.
+    pub fn take(&mut self, router: Zid, key: &str)
+        ensures { self.new ≡ without_entry router.0 key.now self.old }
+    {
+        self.by_key.take(key, router.0);
+        unlist_key(&mut self.by_router, router.0, key);
+    }
+}
