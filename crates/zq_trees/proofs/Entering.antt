@@ -16,7 +16,7 @@ use Rattle.zq_key.specs.Key.{is_key}
 use Rattle.zq_key.proofs.Lookups.{same_key, none_above}
 use Rattle.zq_key.proofs.Sorted.{chain}
 use Rattle.zq_index.specs.Texts.{text_cmp, at_text}
-use Rattle.zq_index.specs.Holders.{TellsApart, held_at, with_holding_by, with_holdings, without_holding_by, if_any}
+use Rattle.zq_index.specs.Holders.{IsOrderedBy, TellsApart, held_at, with_holding_by, with_holdings, without_holding_by, if_any}
 use Rattle.zq_index.proofs.Orders.{text_total, text_exact}
 use Rattle.zq_index.proofs.Finding.{test_text, found_with, found_without, inserted_used}
 use Rattle.zq_index.proofs.Ordered.{ordered_none, with_at, with_ordered, without_at, without_ordered}
@@ -89,6 +89,26 @@ none_in false o = refl
 pub tied_none : IsTied [] []
 tied_none = record { ordered = ordered_none nat_cmp; keys = λ key some. absurd (true≢false (sym some)); same = λ router key. refl }
 
+-- ---- an entry goes
+module _ (all : Entries) (ordered : IsOrderedBy nat_cmp all) (r : ℕ) (key : List ℕ) where
+  abbrev pub fewer : Entries
+  fewer = without_holding_by nat_cmp key r all
+
+  pub lost : (z : ℕ) (k : List ℕ) → entry_of z k fewer ≡ cond (is_entry r key z k) None (entry_of z k all)
+  lost z k = without_at nat_cmp_total exact_unsigned key r all ordered k z ∙ both_ways (is_at (nat_cmp r) z) (is_at (text_cmp key) k) None (entry_of z k all)
+
+  module _ (valid : (k : List ℕ) → is_some (at_text k all) ≡ true → is_key k ≡ true) where
+    key_left : (o : Option Routed) → at_text key all ≡ o → is_some (if_any (routed_without r (option_map_or (λ hs. hs) o []))) ≡ true → is_key key ≡ true
+    key_left None is some = absurd (true≢false (sym some))
+    key_left (Some hs) is some = valid key (ap is_some is)
+
+    left_keys_by : (k : List ℕ) (b : Bool) → test_text key k ≡ b → is_some (cond b (if_any (routed_without r (held_at key all))) (at_text k all)) ≡ true → is_key k ≡ true
+    left_keys_by k true e some = subst (λ x. is_key x ≡ true) (same_key text_total text_exact key k e) (key_left (at_text key all) refl some)
+    left_keys_by k false e some = valid k some
+
+    pub keys_fewer : (k : List ℕ) → is_some (at_text k fewer) ≡ true → is_key k ≡ true
+    keys_fewer k some = left_keys_by k (test_text key k) refl (sym (ap is_some (found_without nat_cmp key r all k ordered.texts)) ∙ some)
+
 module _ (all : Entries) (routers : RouterKeys) (tied : IsTied all routers) where
   pub tied_alike : (after : RouterKeys) → AreAlike routers after → IsTied all after
   tied_alike after alike = record { ordered = tied.ordered; keys = tied.keys; same = λ z k. alike z k ∙ tied.same z k }
@@ -141,26 +161,9 @@ module _ (all : Entries) (routers : RouterKeys) (tied : IsTied all routers) wher
         loses z k ∙ ap (cond (is_entry r key z k) false) (gains z k) ∙ back_by z k (is_at (nat_cmp r) z) (is_at (text_cmp key) k) refl refl none)
 
     -- ---- an entry goes
-    abbrev fewer : Entries
-    fewer = without_holding_by nat_cmp key r all
-
-    pub lost : (z : ℕ) (k : List ℕ) → entry_of z k fewer ≡ cond (is_entry r key z k) None (entry_of z k all)
-    lost z k = without_at nat_cmp_total exact_unsigned key r all tied.ordered k z ∙ both_ways (is_at (nat_cmp r) z) (is_at (text_cmp key) k) None (entry_of z k all)
-
-    key_left : (o : Option Routed) → at_text key all ≡ o → is_some (if_any (routed_without r (option_map_or (λ hs. hs) o []))) ≡ true → is_key key ≡ true
-    key_left None is some = absurd (true≢false (sym some))
-    key_left (Some hs) is some = tied.keys key (ap is_some is)
-
-    left_keys_by : (k : List ℕ) (b : Bool) → test_text key k ≡ b → is_some (cond b (if_any (routed_without r (held_at key all))) (at_text k all)) ≡ true → is_key k ≡ true
-    left_keys_by k true e some = subst (λ x. is_key x ≡ true) (same_key text_total text_exact key k e) (key_left (at_text key all) refl some)
-    left_keys_by k false e some = tied.keys k some
-
-    pub keys_fewer : (k : List ℕ) → is_some (at_text k fewer) ≡ true → is_key k ≡ true
-    keys_fewer k some = left_keys_by k (test_text key k) refl (sym (ap is_some (found_without nat_cmp key r all k tied.ordered.texts)) ∙ some)
-
-    pub tied_take : (after : RouterKeys) → Loses r key routers after → IsTied fewer after
+    pub tied_take : (after : RouterKeys) → Loses r key routers after → IsTied (without_holding_by nat_cmp key r all) after
     tied_take after loses = record {
       ordered = without_ordered nat_cmp_total exact_unsigned key r all tied.ordered;
-      keys = keys_fewer;
-      same = λ z k. loses z k ∙ ap (cond (is_entry r key z k) false) (tied.same z k) ∙ none_in (is_entry r key z k) (entry_of z k all) ∙ ap is_some (sym (lost z k));
+      keys = keys_fewer all tied.ordered r key tied.keys;
+      same = λ z k. loses z k ∙ ap (cond (is_entry r key z k) false) (tied.same z k) ∙ none_in (is_entry r key z k) (entry_of z k all) ∙ ap is_some (sym (lost all tied.ordered r key z k));
     }

@@ -5,3 +5,5 @@ pub mod Sets
 pub mod Firsts
 pub mod Keys
 pub mod Entering
+pub mod Standing
+pub mod Dropping

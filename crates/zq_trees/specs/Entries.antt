@@ -1,5 +1,5 @@
 -- What routers of a region announced: their entries on keys.
-use Rattle.std.specs.Prelude.{◌≡◌, ℕ, Bool, true, false, not, ◌&&◌, List, [], ◌∷◌, filter, fold, Option, None, if◌then◌else◌, cond, option_map, String}
+use Rattle.std.specs.Prelude.{◌≡◌, ℕ, Bool, true, false, not, ◌&&◌, List, [], ◌∷◌, filter, fold, Option, None, cond, option_map, String}
 use Rattle.std.specs.List.{list_any, filter_map}
 use Rattle.std.specs.Option.{is_some, option_map_or}
 use Rattle.std.specs.Map.{keys_of, lookup, remove_entry}
@@ -11,9 +11,9 @@ use Rattle.zq_message.specs.declared.message.QueryableInfoType.{QueryableInfoTyp
 use Rattle.zq_message.specs.declared.message.Zid.{Zid}
 use Rattle.zq_key.specs.Key.{is_key}
 use Rattle.zq_index.specs.Texts.{text_cmp, at_text}
-use Rattle.zq_index.specs.Holders.{IsOrderedBy, at_place_by, held_at, with_held}
+use Rattle.zq_index.specs.Holders.{IsOrderedBy, at_place_by, held_at, if_any, with_held, without_holding_by}
 use Rattle.zq_trees.specs.declared.types.Network.{Network}
-use Rattle.zq_trees.specs.Nets.{is_listed}
+use Rattle.zq_trees.specs.Nets.{is_listed, is_zid}
 
 -- the entries on a key: the routers' informations, by id
 abbrev pub Routed : Type 0
@@ -56,9 +56,17 @@ with_entry router key i all = with_entries key (routed_with router i (entries_at
 abbrev pub without_entry : ℕ → List ℕ → Entries → Entries
 without_entry router key all = with_entries key (routed_without router (entries_at key all)) all
 
+-- the router's entry on the key is gone, where keys are found by text
+abbrev pub without_key : ℕ → Entries → List ℕ → Entries
+without_key router all key = without_holding_by nat_cmp key router all
+
 -- a router's entry on a key, with the key
 abbrev pub keyed_entry : Zid → List ℕ × Routed → Option (List ℕ × QueryableInfoType)
 keyed_entry router k = option_map (λ i. (k.0, i)) (at_place_by nat_cmp router.0 k.1)
+
+-- a key with the router's entry on it
+abbrev pub keyed : ℕ → Entries → List ℕ → Option (List ℕ × QueryableInfoType)
+keyed router all key = option_map (λ i. (key, i)) (entry_of router key all)
 
 -- all entries of a router, by text
 abbrev pub standing : Zid → Entries → List (List ℕ × QueryableInfoType)
@@ -69,12 +77,16 @@ abbrev pub is_by : (Zid → Bool) → ℕ × QueryableInfoType → Bool
 is_by test e = test (record { 0 = e.0 })
 
 -- the key's entries of routers that pass the test, if there are any
-abbrev pub kept_by : (Zid → Bool) → List ℕ × Routed → Entries
-kept_by test k = if list_any (is_by test) k.1 then (k.0, filter (is_by test) k.1) ∷ [] else []
+abbrev pub staying_on : (Zid → Bool) → List ℕ × Routed → Option (List ℕ × Routed)
+staying_on test k = option_map (λ es. (k.0, es)) (if_any (filter (is_by test) k.1))
 
--- the key's entries of listed routers, if there are any
-abbrev pub staying : Network → List ℕ × Routed → Entries
-staying net k = kept_by (is_listed net) k
+-- the entries of routers that pass the test
+abbrev pub staying : (Zid → Bool) → Entries → Entries
+staying test all = filter_map (staying_on test) all
+
+-- another id
+abbrev pub is_other : Zid → Zid → Bool
+is_other a b = not (is_zid a b)
 
 -- the key has an entry of a router that passes the test
 abbrev pub has_by : (Zid → Bool) → List ℕ × Routed → Bool

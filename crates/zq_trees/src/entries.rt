@@ -1,15 +1,23 @@
 //! What routers of a region announced: their entries on keys, found by key and by router.
-ghost use Rattle.std.specs.Prelude.{◌≡◌, [], OnOk, OnErr, Some};
-ghost use Rattle.zq_trees.specs.Entries.{entries_at, entry_of, routed_info, routed_with, routed_without, with_entry, without_entry};
+ghost use Rattle.std.specs.Prelude.{◌≡◌, [], IfOk, OnOk, OnErr, Some, fold, map, string_bytes};
+ghost use Rattle.std.specs.List.{filter_map};
+ghost use Rattle.std.specs.List.Sorted.{IsStrictlySortedBy};
+ghost use Rattle.zq_index.specs.Texts.{text_cmp};
+ghost use Rattle.zq_trees.specs.Entries.{entries_at, entry_of, is_other, keyed, routed_info, routed_with, routed_without, standing, staying, with_entry, without_entry, without_key};
 
-use crate::router_keys::{RouterKeys, list_key, unlist_key};
+use crate::router_keys::{RouterKeys, list_key, take_router, unlist_key};
 use std::alloc::Global;
-use std::collections::BTreeMap;
+use std::collections::{BTreeMap, BTreeSet};
 use std::marker::Model;
 use zq_index::holders::KeyHolders;
 use zq_key::Key;
+use zq_key::items::Items;
 use zq_key::memory::OutOfMemory;
 use zq_key::message::{QueryableInfoType, Zid};
+use zq_key::text::Text;
+
+/// Keys, and the informations that stand on them.
+pub type StandingList = Items<(Text, QueryableInfoType)>;
 
 /// The entries on each key, seen by the keys' texts; the keys of each router stand beside them.
 #[derive(Drop)]
@@ -26,6 +34,15 @@ impl Model for Entries {
     ghost view = { λ e. e.by_key };
 
     ghost invariant = { λ e. IsTied e.by_key e.by_router.entries };
+}
+
+/// The router's entries on these keys go.
+fn forget(by_key: &mut KeyHolders<u128>, router: u128, keys: &BTreeSet<String>)
+    ensures { by_key.new ≡ fold (without_key router) by_key.old (map string_bytes keys.now.keys) }
+{
+    for key in keys {
+        by_key.take(key.as_str(), router);
+    }
 }
 
 impl Entries {
@@ -79,6 +96,38 @@ impl Entries {
         }
     }
 
+    /// The router's entries on these keys.
+    fn standing_on(
+        &self,
+        alloc: Global,
+        router: Zid,
+        keys: &BTreeSet<String>,
+    ) -> Result<StandingList, OutOfMemory>
+        ensures found { IfOk result (λ es. es ≡ filter_map (keyed router.0 self.now) (map string_bytes keys.now.keys)) }
+        ensures ordered { OnOk result (IsStrictlySortedBy text_cmp (map string_bytes keys.now.keys)) }
+    {
+        let mut standing = Items::new(alloc);
+        for key in keys {
+            if let Some(info) = self.get(router, key.as_str()) {
+                standing.push((Text::new(alloc, key.as_str())?, info))?;
+            }
+        }
+        Ok(standing)
+    }
+
+    /// All entries of the router, in the order of the keys' texts.
+    pub fn of_router(&self, alloc: Global, router: Zid) -> Result<StandingList, OutOfMemory>
+        ensures { IfOk result (λ es. es ≡ standing router self.now) }
+    {
+        match self.by_router.get(&router.0) {
+            Some(keys) => match self.standing_on(alloc, router, keys) {
+                Ok(standing) => Ok(standing),
+                Err(error) => Err(error),
+            },
+            None => Ok(Items::new(alloc)),
+        }
+    }
+
     /// The router's entry on the key is this one from now on.
     pub fn put(
         &mut self,
@@ -111,5 +160,15 @@ impl Entries {
     {
         self.by_key.take(key, router.0);
         unlist_key(&mut self.by_router, router.0, key);
+    }
+
+    /// All entries of the router go.
+    pub fn drop_router(&mut self, router: Zid)
+        ensures { self.new ≡ staying (is_other router) self.old }
+    {
+        match take_router(&mut self.by_router, router.0) {
+            Some(keys) => forget(&mut self.by_key, router.0, &keys),
+            None => (),
+        }
     }
 }
