@@ -1,8 +1,7 @@
 -- Entries of routers that go, all at once.
-use Rattle.std.proofs.Common.{◌≡◌, ◌∙◌, sym, ap, subst, refl, ℕ, Bool, true, false, cond, List, [], ◌∷◌, fold, map, filter, Option, Some, None, true≢false}
+use Rattle.std.proofs.Common.{◌≡◌, ◌∙◌, sym, ap, subst, refl, ℕ, Bool, true, false, cond, List, [], ◌∷◌, fold, filter, Option, Some, None}
 use Rattle.std.specs.Prelude.{◌&&◌, ◌||◌, not}
 use Rattle.std.specs.Option.{is_some, option_and_then, option_map_or}
-use Rattle.std.specs.List.{AllByRecursion}
 use Rattle.std.specs.List.Sorted.{IsStrictlySortedBy}
 use Rattle.std.specs.Map.{keys_of, lookup}
 use Rattle.std.specs.BTreeMap.{is_at}
@@ -16,11 +15,11 @@ use Rattle.zq_message.specs.declared.message.Zid.{Zid}
 use Rattle.zq_key.specs.Key.{is_key}
 use Rattle.zq_key.proofs.Lookups.{either_way, same_key}
 use Rattle.zq_index.specs.Texts.{text_cmp, at_text, has_text}
-use Rattle.zq_index.specs.Holders.{IsOrderedBy, if_any, without_holding_by}
+use Rattle.zq_index.specs.Holders.{IsOrderedBy, if_any}
 use Rattle.zq_index.proofs.Orders.{text_total, text_exact}
 use Rattle.zq_index.proofs.Finding.{held_if_any, if_any_some, if_any_used}
 use Rattle.zq_index.proofs.Ordered.{same_index, without_ordered}
-use Rattle.zq_trees.specs.Entries.{Entries, Routed, RouterKeys, IsTied, LosesAll, entry_of, has_key, is_by, is_entry, is_other, staying, without_key}
+use Rattle.zq_trees.specs.Entries.{Entries, Routed, RouterKeys, IsTied, LosesAll, entry_of, has_key, is_by, is_other, staying, without_key}
 use Rattle.zq_trees.proofs.Entering.{keys_fewer, lost}
 use Rattle.zq_trees.proofs.Places.{number_test}
 use Rattle.zq_trees.proofs.Standing.{picked_at, sorted_picked}

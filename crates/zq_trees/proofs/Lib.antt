@@ -7,3 +7,4 @@ pub mod Keys
 pub mod Entering
 pub mod Standing
 pub mod Dropping
+pub mod Losing

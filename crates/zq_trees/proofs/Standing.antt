@@ -2,11 +2,11 @@
 use Rattle.std.proofs.Common.{◌≡◌, ◌∙◌, sym, ap, subst, refl, ℕ, Bool, true, false, cond, List, [], ◌∷◌, map, Option, Some, None, true≢false}
 use Rattle.std.specs.Prelude.{◌||◌, String, string_bytes}
 use Rattle.std.specs.Option.{is_some, option_and_then, option_map, option_map_or}
-use Rattle.std.specs.List.{AllByRecursion, cons_option, filter_map, list_any}
+use Rattle.std.specs.List.{AllByRecursion, cons_option, filter_map}
 use Rattle.std.specs.List.Sorted.{IsStrictlySortedBy}
 use Rattle.std.specs.Map.{keys_of, lookup}
 use Rattle.std.specs.BTreeMap.{is_at}
-use Rattle.std.specs.BTreeSet.{BTreeSet, contains_text}
+use Rattle.std.specs.BTreeSet.{BTreeSet}
 use Rattle.std.specs.Ordering.{nat_cmp}
 use Rattle.std.specs.String.{string_cmp}
 use Rattle.std.specs.declared.alloc.Global.{Global}
@@ -19,7 +19,7 @@ use Rattle.zq_key.proofs.Lookups.{same_key, none_above, same_entries}
 use Rattle.zq_index.specs.Texts.{text_cmp, at_text, has_text}
 use Rattle.zq_index.proofs.Orders.{text_total, text_exact}
 use Rattle.zq_index.proofs.Texts.{texts_any}
-use Rattle.zq_trees.specs.Entries.{Entries, Routed, RouterKeys, IsTied, entry_of, has_key, keyed, keyed_entry, standing}
+use Rattle.zq_trees.specs.Entries.{Entries, Routed, RouterKeys, IsTied, entry_of, keyed, standing}
 use Rattle.zq_trees.proofs.Keys.{had_none, had_some}
 
 sorted_nil : {K : Type 0} (R : K → K → Ordering) → IsStrictlySortedBy R []

@@ -1,5 +1,5 @@
 -- What routers of a region announced: their entries on keys.
-use Rattle.std.specs.Prelude.{◌≡◌, ℕ, Bool, true, false, not, ◌&&◌, List, [], ◌∷◌, filter, fold, Option, None, cond, option_map, String}
+use Rattle.std.specs.Prelude.{◌≡◌, ℕ, Bool, true, false, not, ◌&&◌, List, [], ◌∷◌, filter, fold, map, Option, None, cond, option_map, String}
 use Rattle.std.specs.List.{list_any, filter_map}
 use Rattle.std.specs.Option.{is_some, option_map_or}
 use Rattle.std.specs.Map.{keys_of, lookup, remove_entry}
@@ -88,6 +88,18 @@ staying test all = filter_map (staying_on test) all
 abbrev pub is_other : Zid → Zid → Bool
 is_other a b = not (is_zid a b)
 
+-- the entries without those of a router
+abbrev pub without_router : Entries → Zid → Entries
+without_router all router = staying (is_other router) all
+
+-- the entries without those of these routers
+abbrev pub without_routers : List Zid → Entries → Entries
+without_routers routers all = fold without_router all routers
+
+-- the id is one of these
+abbrev pub is_one_of : List Zid → Zid → Bool
+is_one_of ids zid = list_any (is_zid zid) ids
+
 -- the key has an entry of a router that passes the test
 abbrev pub has_by : (Zid → Bool) → List ℕ × Routed → Bool
 has_by test k = list_any (is_by test) k.1
@@ -105,6 +117,14 @@ is_unlisted net zid = not (is_listed net zid)
 -- the keys of each router
 abbrev pub RouterKeys : Type 0
 RouterKeys = List (ℕ × BTreeSet (String Global))
+
+-- the id of a number
+abbrev pub zid_of : ℕ → Zid
+zid_of n = record { 0 = n }
+
+-- the routers that the network does not list
+abbrev pub unlisted_of : Network → RouterKeys → List Zid
+unlisted_of net routers = filter (is_unlisted net) (map zid_of (keys_of routers))
 
 -- the key is one of the router's
 abbrev pub has_key : ℕ → List ℕ → RouterKeys → Bool

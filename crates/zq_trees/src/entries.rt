@@ -3,9 +3,12 @@ ghost use Rattle.std.specs.Prelude.{◌≡◌, [], IfOk, OnOk, OnErr, Some, fold
 ghost use Rattle.std.specs.List.{filter_map};
 ghost use Rattle.std.specs.List.Sorted.{IsStrictlySortedBy};
 ghost use Rattle.zq_index.specs.Texts.{text_cmp};
-ghost use Rattle.zq_trees.specs.Entries.{entries_at, entry_of, is_other, keyed, routed_info, routed_with, routed_without, standing, staying, with_entry, without_entry, without_key};
+ghost use Rattle.zq_trees.specs.Nets.{is_listed};
+ghost use Rattle.zq_trees.specs.Entries.{entries_at, entry_of, is_other, keyed, routed_info, routed_with, routed_without, standing, staying, with_entry, without_entry, without_key, without_routers};
 
-use crate::router_keys::{RouterKeys, list_key, take_router, unlist_key};
+use crate::nets::Net;
+use crate::router_keys::{RouterKeys, list_key, take_router, unlist_key, unlisted};
+use crate::types::ZidList;
 use std::alloc::Global;
 use std::collections::{BTreeMap, BTreeSet};
 use std::marker::Model;
@@ -169,6 +172,25 @@ impl Entries {
         match take_router(&mut self.by_router, router.0) {
             Some(keys) => forget(&mut self.by_key, router.0, &keys),
             None => (),
+        }
+    }
+
+    /// All entries of these routers go.
+    pub fn drop_routers(&mut self, routers: &[Zid])
+        ensures { self.new ≡ without_routers routers.now self.old }
+    {
+        for router in routers {
+            self.drop_router(*router);
+        }
+    }
+
+    /// The routers that the network does not list, of those with entries.
+    pub fn unlisted(&self, alloc: Global, net: &Net) -> Result<ZidList, OutOfMemory>
+        ensures { IfOk result (λ ids. without_routers ids self.now ≡ staying (is_listed net.now) self.now) }
+    {
+        match unlisted(&self.by_router, alloc, net) {
+            Ok(ids) => Ok(ids),
+            Err(error) => Err(error),
         }
     }
 }

@@ -1,15 +1,19 @@
 //! The keys on which each router has an entry.
-ghost use Rattle.std.specs.Prelude.{◌≡◌, ℕ, List, OnOk, OnErr, true, false, None};
+ghost use Rattle.std.specs.Prelude.{◌≡◌, ℕ, List, IfOk, OnOk, OnErr, true, false, None};
 ghost use Rattle.std.specs.BTreeMap.{is_at};
 ghost use Rattle.std.specs.BTreeSet.{contains_text};
 ghost use Rattle.std.specs.Map.{lookup};
 ghost use Rattle.std.specs.Option.{is_some, option_map_or};
 ghost use Rattle.std.specs.Ordering.{nat_cmp};
-ghost use Rattle.zq_trees.specs.Entries.{AreAlike, Gains, Loses, LosesAll, has_key};
+ghost use Rattle.zq_trees.specs.Entries.{AreAlike, Gains, Loses, LosesAll, has_key, unlisted_of};
 
+use crate::nets::Net;
+use crate::types::ZidList;
 use std::alloc::Global;
 use std::collections::{BTreeMap, BTreeSet};
+use zq_key::items::Items;
 use zq_key::memory::OutOfMemory;
+use zq_key::message::Zid;
 
 /// The keys of each router, by its id.
 pub type RouterKeys = BTreeMap<u128, BTreeSet<String>>;
@@ -100,4 +104,18 @@ pub fn unlist_key(routers: &mut RouterKeys, router: u128, key: &str)
     if take_key(routers, router, key) {
         let _ = take_router(routers, router);
     }
+}
+
+/// The routers that the network does not list.
+pub fn unlisted(routers: &RouterKeys, alloc: Global, net: &Net) -> Result<ZidList, OutOfMemory>
+    ensures { IfOk result (λ ids. ids ≡ unlisted_of net.now routers.now.entries) }
+{
+    let mut ids = Items::new(alloc);
+    for (router, _) in routers {
+        let router = Zid(*router);
+        if !net.is_listed(router) {
+            ids.push(router)?;
+        }
+    }
+    Ok(ids)
 }
