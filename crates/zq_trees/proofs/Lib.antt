@@ -8,3 +8,4 @@ pub mod Entering
 pub mod Standing
 pub mod Dropping
 pub mod Losing
+pub mod Gathering
