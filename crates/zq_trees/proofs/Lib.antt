@@ -9,3 +9,4 @@ pub mod Standing
 pub mod Dropping
 pub mod Losing
 pub mod Gathering
+pub mod LosingKeys

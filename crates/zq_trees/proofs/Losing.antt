@@ -31,7 +31,7 @@ without_by false false false o e = refl
 without_by true false c o e = absurd (true≢false (sym e))
 without_by false true c o e = absurd (true≢false e)
 
-same_id : (a b : ℕ) → eqb a b ≡ eqb b a
+pub same_id : (a b : ℕ) → eqb a b ≡ eqb b a
 same_id a b = sym (number_test a b) ∙ either_way nat_cmp_total exact_unsigned a b ∙ number_test b a
 
 pub without_ordered : (zids : List Zid) (all : Entries) → IsOrderedBy nat_cmp all → IsOrderedBy nat_cmp (without_routers zids all)

@@ -4,10 +4,10 @@ ghost use Rattle.std.specs.List.{filter_map};
 ghost use Rattle.std.specs.List.Sorted.{IsStrictlySortedBy};
 ghost use Rattle.zq_index.specs.Texts.{text_cmp};
 ghost use Rattle.zq_trees.specs.Nets.{is_listed};
-ghost use Rattle.zq_trees.specs.Entries.{entries_at, entry_of, is_other, keyed, routed_info, routed_with, routed_without, standing, staying, with_entry, without_entry, without_key, without_routers};
+ghost use Rattle.zq_trees.specs.Entries.{entries_at, entry_of, is_one_of, is_other, is_unlisted, keyed, keys_by, routed_info, routed_with, routed_without, standing, staying, with_entry, without_entry, without_key, without_routers};
 
 use crate::nets::Net;
-use crate::router_keys::{RouterKeys, list_key, take_router, unlist_key, unlisted};
+use crate::router_keys::{RouterKeys, keys_in_order, list_key, take_router, unlist_key, unlisted};
 use crate::types::ZidList;
 use std::alloc::Global;
 use std::collections::{BTreeMap, BTreeSet};
@@ -16,7 +16,7 @@ use zq_index::holders::KeyHolders;
 use zq_key::Key;
 use zq_key::items::Items;
 use zq_key::memory::OutOfMemory;
-use zq_key::message::{QueryableInfoType, Zid};
+use zq_key::message::{QueryableInfoType, TextList, Zid};
 use zq_key::text::Text;
 
 /// Keys, and the informations that stand on them.
@@ -186,10 +186,21 @@ impl Entries {
 
     /// The routers that the network does not list, of those with entries.
     pub fn unlisted(&self, alloc: Global, net: &Net) -> Result<ZidList, OutOfMemory>
-        ensures { IfOk result (λ ids. without_routers ids self.now ≡ staying (is_listed net.now) self.now) }
+        ensures left { IfOk result (λ ids. without_routers ids self.now ≡ staying (is_listed net.now) self.now) }
+        ensures losing { IfOk result (λ ids. keys_by (is_one_of ids) self.now ≡ keys_by (is_unlisted net.now) self.now) }
     {
         match unlisted(&self.by_router, alloc, net) {
             Ok(ids) => Ok(ids),
+            Err(error) => Err(error),
+        }
+    }
+
+    /// The keys that have an entry of one of these routers, in order, each once.
+    pub fn losing(&self, alloc: Global, routers: &[Zid]) -> Result<TextList, OutOfMemory>
+        ensures { IfOk result (λ keys. keys ≡ keys_by (is_one_of routers.now) self.now) }
+    {
+        match keys_in_order(&self.by_router, alloc, routers) {
+            Ok(keys) => Ok(keys),
             Err(error) => Err(error),
         }
     }

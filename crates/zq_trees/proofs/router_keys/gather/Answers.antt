@@ -1,5 +1,5 @@
 use Rattle.std.proofs.Common.{◌∙◌, ap, sym, map}
-use Rattle.std.specs.Prelude.{◌||◌, String}
+use Rattle.std.specs.Prelude.{◌||◌}
 use Rattle.std.specs.BTreeSet.{contains_text, insert_key}
 use Rattle.std.specs.String.{string_bytes}
 use Rattle.zq_index.specs.Texts.{text_cmp, has_text}
