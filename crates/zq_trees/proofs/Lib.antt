@@ -10,3 +10,4 @@ pub mod Dropping
 pub mod Losing
 pub mod Gathering
 pub mod LosingKeys
+pub mod Copied

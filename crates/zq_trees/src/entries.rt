@@ -1,13 +1,18 @@
 //! What routers of a region announced: their entries on keys, found by key and by router.
-ghost use Rattle.std.specs.Prelude.{◌≡◌, [], IfOk, OnOk, OnErr, Some, fold, map, string_bytes};
-ghost use Rattle.std.specs.List.{filter_map};
+ghost use Rattle.std.specs.Prelude.{◌≡◌, [], IfOk, OnOk, OnErr, Some, true, fold, map, string_bytes};
+ghost use Rattle.std.specs.List.{AllByRecursion, filter_map};
 ghost use Rattle.std.specs.List.Sorted.{IsStrictlySortedBy};
+ghost use Rattle.std.specs.Ordering.{nat_cmp};
+ghost use Rattle.zq_key.specs.Key.{is_key};
 ghost use Rattle.zq_index.specs.Texts.{text_cmp};
+ghost use Rattle.zq_index.specs.Holders.{IsOrderedBy};
 ghost use Rattle.zq_trees.specs.Nets.{is_listed};
 ghost use Rattle.zq_trees.specs.Entries.{entries_at, entry_of, is_one_of, is_other, is_unlisted, keyed, keys_by, routed_info, routed_with, routed_without, standing, staying, with_entry, without_entry, without_key, without_routers};
 
 use crate::nets::Net;
-use crate::router_keys::{RouterKeys, keys_in_order, list_key, take_router, unlist_key, unlisted};
+use crate::router_keys::{
+    RouterKeys, copy_router_keys, keys_in_order, list_key, take_router, unlist_key, unlisted,
+};
 use crate::types::ZidList;
 use std::alloc::Global;
 use std::collections::{BTreeMap, BTreeSet};
@@ -57,6 +62,25 @@ impl Entries {
             by_key: KeyHolders::new(alloc),
             by_router: BTreeMap::new(alloc),
         }
+    }
+
+    /// Equal entries.
+    pub fn copy(&self, alloc: Global) -> Result<Entries, OutOfMemory>
+        ensures { IfOk result (λ e. e ≡ self.now) }
+    {
+        Ok(Entries {
+            by_key: self.by_key.copy(alloc)?,
+            by_router: copy_router_keys(&self.by_router)?,
+        })
+    }
+
+    /// The entries on each key, by its text.
+    pub fn by_key(&self) -> &KeyHolders<u128>
+        ensures value { result.now ≡ self.now }
+        ensures keys { AllByRecursion (λ e. is_key e.0 ≡ true) self.now }
+        ensures ordered { IsOrderedBy nat_cmp self.now }
+    {
+        &self.by_key
     }
 
     /// The router's entry on the key.

@@ -23,6 +23,13 @@ use zq_key::text::Text;
 /// The keys of each router, by its id.
 pub type RouterKeys = BTreeMap<u128, BTreeSet<String>>;
 
+/// Equal keys of each router.
+pub fn copy_router_keys(routers: &RouterKeys) -> Result<RouterKeys, OutOfMemory>
+    ensures { IfOk result (λ made. AreAlike routers.now.entries made.entries) }
+{
+    Ok(routers.clone()?)
+}
+
 /// A key more for a router that has some.
 fn list_beside(
     routers: &mut RouterKeys,
