@@ -86,12 +86,12 @@ abbrev pub staying : (Zid → Bool) → Entries → Entries
 staying test all = filter_map (staying_on test) all
 
 -- another id
-abbrev pub is_other : Zid → Zid → Bool
-is_other a b = not (is_zid a b)
+abbrev pub is_another : Zid → Zid → Bool
+is_another a b = not (is_zid a b)
 
 -- the entries without those of a router
 abbrev pub without_router : Entries → Zid → Entries
-without_router all router = staying (is_other router) all
+without_router all router = staying (is_another router) all
 
 -- the entries without those of these routers
 abbrev pub without_routers : List Zid → Entries → Entries

@@ -7,7 +7,7 @@ ghost use Rattle.zq_key.specs.Key.{is_key};
 ghost use Rattle.zq_index.specs.Texts.{text_cmp};
 ghost use Rattle.zq_index.specs.Holders.{IsOrderedBy};
 ghost use Rattle.zq_trees.specs.Nets.{is_listed};
-ghost use Rattle.zq_trees.specs.Entries.{entries_at, entry_of, is_one_of, is_other, is_unlisted, keyed, keys_by, routed_info, routed_with, routed_without, standing, staying, with_entry, without_entry, without_key, without_routers};
+ghost use Rattle.zq_trees.specs.Entries.{entries_at, entry_of, is_one_of, is_another, is_unlisted, keyed, keys_by, routed_info, routed_with, routed_without, standing, staying, with_entry, without_entry, without_key, without_routers};
 
 use crate::nets::Net;
 use crate::router_keys::{
@@ -191,7 +191,7 @@ impl Entries {
 
     /// All entries of the router go.
     pub fn drop_router(&mut self, router: Zid)
-        ensures { self.new ≡ staying (is_other router) self.old }
+        ensures { self.new ≡ staying (is_another router) self.old }
     {
         match take_router(&mut self.by_router, router.0) {
             Some(keys) => forget(&mut self.by_key, router.0, &keys),
