@@ -19,7 +19,7 @@ use Rattle.zq_index.specs.Holders.{IsOrderedBy, if_any}
 use Rattle.zq_index.proofs.Orders.{text_total, text_exact}
 use Rattle.zq_index.proofs.Finding.{held_if_any, if_any_some, if_any_used}
 use Rattle.zq_index.proofs.Ordered.{same_index, without_ordered}
-use Rattle.zq_trees.specs.Entries.{Entries, Routed, RouterKeys, IsTied, LosesAll, entry_of, has_key, is_by, is_other, staying, without_key}
+use Rattle.zq_trees.specs.Entries.{Entries, Routed, RouterKeys, IsTied, LosesAll, entry_of, has_key, is_by, is_another, staying, without_key}
 use Rattle.zq_trees.proofs.Entering.{keys_fewer, lost}
 use Rattle.zq_trees.proofs.Places.{number_test}
 use Rattle.zq_trees.proofs.Standing.{picked_at, sorted_picked}
@@ -143,6 +143,6 @@ module _ (router : Zid) (all : Entries) (routers after : RouterKeys) (tied : IsT
   turned true o = refl
   turned false o = refl
 
-  pub dropped_is : left ≡ staying (is_other router) all
-  dropped_is = staying_is (is_other router) all tied.ordered left (dropped_ordered router.0 ks all tied.ordered)
+  pub dropped_is : left ≡ staying (is_another router) all
+  dropped_is = staying_is (is_another router) all tied.ordered left (dropped_ordered router.0 ks all tied.ordered)
       (λ z key. gone z key ∙ turned (is_at (nat_cmp router.0) z) (entry_of z key all) ∙ ap (λ b. cond (not b) (entry_of z key all) None) (number_test router.0 z))

@@ -1,10 +1,13 @@
 pub mod Places
 pub mod Sitting
+pub mod Ordered
+pub mod Sets
+pub mod Firsts
 pub mod Keys
 pub mod Entering
 pub mod Standing
 pub mod Dropping
-pub mod Ordered
-pub mod Sets
-pub mod Firsts
 pub mod Losing
+pub mod Gathering
+pub mod LosingKeys
+pub mod Copied

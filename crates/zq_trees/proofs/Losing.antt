@@ -18,7 +18,7 @@ use Rattle.zq_index.specs.Holders.{IsOrderedBy}
 use Rattle.zq_index.proofs.Ordered.{same_index}
 use Rattle.zq_trees.specs.declared.types.Network.{Network}
 use Rattle.zq_trees.specs.Nets.{is_listed, is_zid}
-use Rattle.zq_trees.specs.Entries.{Entries, RouterKeys, IsTied, entry_of, is_one_of, is_other, is_unlisted, unlisted_of, zid_of, staying, without_router, without_routers}
+use Rattle.zq_trees.specs.Entries.{Entries, RouterKeys, IsTied, entry_of, is_one_of, is_another, is_unlisted, unlisted_of, zid_of, staying, without_router, without_routers}
 use Rattle.zq_trees.proofs.Dropping.{staying_entry, staying_ordered}
 use Rattle.zq_trees.proofs.Places.{number_test}
 
@@ -31,18 +31,18 @@ without_by false false false o e = refl
 without_by true false c o e = absurd (true≢false (sym e))
 without_by false true c o e = absurd (true≢false e)
 
-same_id : (a b : ℕ) → eqb a b ≡ eqb b a
+pub same_id : (a b : ℕ) → eqb a b ≡ eqb b a
 same_id a b = sym (number_test a b) ∙ either_way nat_cmp_total exact_unsigned a b ∙ number_test b a
 
 pub without_ordered : (zids : List Zid) (all : Entries) → IsOrderedBy nat_cmp all → IsOrderedBy nat_cmp (without_routers zids all)
 without_ordered [] all ordered = ordered
-without_ordered (zid ∷ zids) all ordered = without_ordered zids (without_router all zid) (staying_ordered (is_other zid) all ordered)
+without_ordered (zid ∷ zids) all ordered = without_ordered zids (without_router all zid) (staying_ordered (is_another zid) all ordered)
 
 pub without_entry : (zids : List Zid) (all : Entries) → IsOrderedBy nat_cmp all → (z : Zid) (key : List ℕ) → entry_of z.0 key (without_routers zids all) ≡ cond (is_one_of zids z) None (entry_of z.0 key all)
 without_entry [] all ordered z key = refl
 without_entry (zid ∷ zids) all ordered z key =
-    without_entry zids (without_router all zid) (staying_ordered (is_other zid) all ordered) z key
-    ∙ ap (cond (is_one_of zids z) None) (staying_entry (is_other zid) all ordered z.0 key)
+    without_entry zids (without_router all zid) (staying_ordered (is_another zid) all ordered) z key
+    ∙ ap (cond (is_one_of zids z) None) (staying_entry (is_another zid) all ordered z.0 key)
     ∙ without_by (is_zid z zid) (is_zid zid z) (is_one_of zids z) (entry_of z.0 key all) (same_id zid.0 z.0)
 
 -- ---- the routers that a network does not list

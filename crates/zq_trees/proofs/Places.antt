@@ -4,6 +4,9 @@ use Rattle.std.specs.Prelude.{position, ◌||◌}
 use Rattle.std.specs.List.{list_any, position_from}
 use Rattle.std.specs.Option.{is_some}
 use Rattle.std.specs.Map.{lookup}
+use Rattle.std.specs.BTreeSet.{insert_key}
+use Rattle.std.proofs.lemmas.List.Folds.{list_any-append}
+use Rattle.zq_key.proofs.Sorted.{has_put}
 use Rattle.std.specs.BTreeMap.{insert_entry, is_at}
 use Rattle.std.specs.Ordering.{nat_cmp}
 use Rattle.std.specs.Cmp.{nat_cmp_total}
@@ -99,3 +102,21 @@ module _ (nodes : List Zid) (i : ℕ) (d : Zid) (lt : i < length nodes) (places 
   next_new absent =
       subst (λ (xs : List Zid). IsPlaced xs (insert_entry nat_cmp places (get_or nodes i d).0 i)) (sym (take_more nodes i d lt))
       (subst (λ n. IsPlaced (take i nodes ++ get_or nodes i d ∷ []) (insert_entry nat_cmp places (get_or nodes i d).0 n)) (length-take-le i nodes (omega arith)) (placed_new (take i nodes) places placed (get_or nodes i d) absent))
+
+-- ---- ids that are kept as numbers
+or_last : (a b : Bool) → (a || b) ≡ (b || (a || false))
+or_last true true = refl
+or_last true false = refl
+or_last false true = refl
+or_last false false = refl
+
+-- the ids of one node more
+pub next_id : (nodes : List Zid) (i : ℕ) (d : Zid) → i < length nodes → (ids : List ℕ) → ((z : Zid) → list_any (is_at (nat_cmp z.0)) ids ≡ list_any (is_zid z) (take i nodes))
+    → (z : Zid) → list_any (is_at (nat_cmp z.0)) (insert_key nat_cmp ids (get_or nodes i d).0) ≡ list_any (is_zid z) (take (i + 1) nodes)
+next_id nodes i d lt ids same z =
+    let x = get_or nodes i d in
+    has_put nat_cmp_total exact_unsigned z.0 x.0 ids
+    ∙ (λ j. number_test z.0 x.0 j || same z j)
+    ∙ or_last (eqb z.0 x.0) (list_any (is_zid z) (take i nodes))
+    ∙ sym (list_any-append (is_zid z) (take i nodes) (x ∷ []))
+    ∙ ap (list_any (is_zid z)) (sym (take_more nodes i d lt))

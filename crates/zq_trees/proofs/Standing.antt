@@ -22,11 +22,11 @@ use Rattle.zq_index.proofs.Texts.{texts_any}
 use Rattle.zq_trees.specs.Entries.{Entries, Routed, RouterKeys, IsTied, entry_of, keyed, standing}
 use Rattle.zq_trees.proofs.Keys.{had_none, had_some}
 
-sorted_nil : {K : Type 0} (R : K → K → Ordering) → IsStrictlySortedBy R []
+pub sorted_nil : {K : Type 0} (R : K → K → Ordering) → IsStrictlySortedBy R []
 unfolding IsStrictlySortedBy
 sorted_nil R = tt
 
-sorted_cons : {K : Type 0} (R : K → K → Ordering) (k : K) (ks : List K) → AllByRecursion (λ y. R k y ≡ Less) ks → IsStrictlySortedBy R ks → IsStrictlySortedBy R (k ∷ ks)
+pub sorted_cons : {K : Type 0} (R : K → K → Ordering) (k : K) (ks : List K) → AllByRecursion (λ y. R k y ≡ Less) ks → IsStrictlySortedBy R ks → IsStrictlySortedBy R (k ∷ ks)
 unfolding IsStrictlySortedBy
 sorted_cons R k ks all s = (all, s)
 

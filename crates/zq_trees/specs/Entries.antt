@@ -1,6 +1,7 @@
 -- What routers of a region announced: their entries on keys.
 use Rattle.std.specs.Prelude.{◌≡◌, ℕ, Bool, true, false, not, ◌&&◌, List, [], ◌∷◌, filter, fold, map, Option, None, cond, option_map, String}
 use Rattle.std.specs.List.{list_any, filter_map}
+use Rattle.std.specs.List.Sorted.{IsStrictlySortedBy}
 use Rattle.std.specs.Option.{is_some, option_map_or}
 use Rattle.std.specs.Map.{keys_of, lookup, remove_entry}
 use Rattle.std.specs.BTreeMap.{insert_entry, is_at}
@@ -10,7 +11,7 @@ use Rattle.std.specs.declared.alloc.Global.{Global}
 use Rattle.zq_message.specs.declared.message.QueryableInfoType.{QueryableInfoType}
 use Rattle.zq_message.specs.declared.message.Zid.{Zid}
 use Rattle.zq_key.specs.Key.{is_key}
-use Rattle.zq_index.specs.Texts.{text_cmp, at_text}
+use Rattle.zq_index.specs.Texts.{text_cmp, at_text, has_text}
 use Rattle.zq_index.specs.Holders.{IsOrderedBy, at_place_by, held_at, if_any, with_held, without_holding_by}
 use Rattle.zq_trees.specs.declared.types.Network.{Network}
 use Rattle.zq_trees.specs.Nets.{is_listed, is_zid}
@@ -85,12 +86,12 @@ abbrev pub staying : (Zid → Bool) → Entries → Entries
 staying test all = filter_map (staying_on test) all
 
 -- another id
-abbrev pub is_other : Zid → Zid → Bool
-is_other a b = not (is_zid a b)
+abbrev pub is_another : Zid → Zid → Bool
+is_another a b = not (is_zid a b)
 
 -- the entries without those of a router
 abbrev pub without_router : Entries → Zid → Entries
-without_router all router = staying (is_other router) all
+without_router all router = staying (is_another router) all
 
 -- the entries without those of these routers
 abbrev pub without_routers : List Zid → Entries → Entries
@@ -129,6 +130,15 @@ unlisted_of net routers = filter (is_unlisted net) (map zid_of (keys_of routers)
 -- the key is one of the router's
 abbrev pub has_key : ℕ → List ℕ → RouterKeys → Bool
 has_key router key routers = option_map_or (λ keys. contains_text keys key) (lookup (is_at (nat_cmp router)) routers) false
+
+-- the key is one of those of the router with the id
+abbrev pub has_key_of : RouterKeys → List ℕ → Zid → Bool
+has_key_of routers key id = has_key id.0 key routers
+
+-- the keys of these routers, in order, each once
+pub record AreKeysOf (routers : RouterKeys) (ids : List Zid) (keys : List (List ℕ)) : Type 0 where
+  pub ordered : IsStrictlySortedBy text_cmp keys
+  pub same : (key : List ℕ) → has_text key keys ≡ list_any (has_key_of routers key) ids
 
 -- the router and the key are these
 abbrev pub is_entry : ℕ → List ℕ → ℕ → List ℕ → Bool

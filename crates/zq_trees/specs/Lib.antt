@@ -1,5 +1,5 @@
 pub mod Nets
 pub mod Seating
 pub mod Tellings
-pub mod Entries
 pub mod Told
+pub mod Entries

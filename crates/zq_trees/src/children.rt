@@ -1,7 +1,10 @@
 //! The children of trees, the faces on them, and what these are told of a key.
 ghost use Rattle.std.specs.Prelude.{◌≡◌, IfOk, map, option_map};
-ghost use Rattle.std.specs.List.{filter_map};
-ghost use Rattle.zq_trees.specs.Nets.{child_ids, children_of};
+ghost use Rattle.std.specs.List.{filter_map, list_any};
+ghost use Rattle.std.specs.BTreeMap.{is_at};
+ghost use Rattle.std.specs.Ordering.{nat_cmp};
+ghost use Rattle.zq_message.specs.declared.message.Zid.{Zid};
+ghost use Rattle.zq_trees.specs.Nets.{child_ids, children_of, fresh_ids, is_zid};
 ghost use Rattle.zq_trees.specs.Seating.{number, other_seated, seated};
 ghost use Rattle.zq_trees.specs.Tellings.{children_told, tree_telling};
 
@@ -9,6 +12,7 @@ use crate::nets::Net;
 use crate::seats::Seats;
 use crate::types::{Network, Telling, TellingList, Tree};
 use std::alloc::Global;
+use std::collections::BTreeSet;
 use zq_key::items::Items;
 use zq_key::memory::OutOfMemory;
 use zq_key::message::{FaceId, NodeId, QueryableInfoType, Zid};
@@ -31,6 +35,26 @@ pub fn children_of(alloc: Global, net: &Net, root: Zid) -> Result<Vec<Zid>, OutO
         Some(tree) => child_ids(alloc, net.network(), tree),
         None => Ok(Vec::new(alloc)),
     }
+}
+
+/// The ids of the children of the tree at the root's place, by id.
+fn old_children(alloc: Global, old: &Net, root: Zid) -> Result<BTreeSet<u128>, OutOfMemory>
+    ensures { IfOk result (λ ids. (zid : Zid) → list_any (is_at (nat_cmp zid.0)) ids.keys ≡ list_any (is_zid zid) (children_of old.now root)) }
+{
+    let mut ids = BTreeSet::new(alloc);
+    for zid in &children_of(alloc, old, root)? {
+        ids.insert(zid.0)?;
+    }
+    Ok(ids)
+}
+
+/// The ids that the old tree of the root did not have as children.
+pub fn fresh_ids(alloc: Global, old: &Net, root: Zid, ids: &[Zid]) -> Result<Vec<Zid>, OutOfMemory>
+    ensures { IfOk result (λ fresh. fresh.items ≡ fresh_ids old.now root ids.now) }
+{
+    let had = old_children(alloc, old, root)?;
+    let fresh = ids.iter().copied().filter(|zid| !had.contains(&zid.0));
+    Ok(fresh.collect(alloc)?)
 }
 
 /// The open face of least number with the id, if it is not the one that the call came from.

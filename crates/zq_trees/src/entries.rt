@@ -1,13 +1,18 @@
 //! What routers of a region announced: their entries on keys, found by key and by router.
-ghost use Rattle.std.specs.Prelude.{◌≡◌, [], IfOk, OnOk, OnErr, Some, fold, map, string_bytes};
-ghost use Rattle.std.specs.List.{filter_map};
+ghost use Rattle.std.specs.Prelude.{◌≡◌, [], IfOk, OnOk, OnErr, Some, true, fold, map, string_bytes};
+ghost use Rattle.std.specs.List.{AllByRecursion, filter_map};
 ghost use Rattle.std.specs.List.Sorted.{IsStrictlySortedBy};
+ghost use Rattle.std.specs.Ordering.{nat_cmp};
+ghost use Rattle.zq_key.specs.Key.{is_key};
 ghost use Rattle.zq_index.specs.Texts.{text_cmp};
+ghost use Rattle.zq_index.specs.Holders.{IsOrderedBy};
 ghost use Rattle.zq_trees.specs.Nets.{is_listed};
-ghost use Rattle.zq_trees.specs.Entries.{entries_at, entry_of, is_other, keyed, routed_info, routed_with, routed_without, standing, staying, with_entry, without_entry, without_key, without_routers};
+ghost use Rattle.zq_trees.specs.Entries.{entries_at, entry_of, is_one_of, is_another, is_unlisted, keyed, keys_by, routed_info, routed_with, routed_without, standing, staying, with_entry, without_entry, without_key, without_routers};
 
 use crate::nets::Net;
-use crate::router_keys::{RouterKeys, list_key, take_router, unlist_key, unlisted};
+use crate::router_keys::{
+    RouterKeys, copy_router_keys, keys_in_order, list_key, take_router, unlist_key, unlisted,
+};
 use crate::types::ZidList;
 use std::alloc::Global;
 use std::collections::{BTreeMap, BTreeSet};
@@ -16,7 +21,7 @@ use zq_index::holders::KeyHolders;
 use zq_key::Key;
 use zq_key::items::Items;
 use zq_key::memory::OutOfMemory;
-use zq_key::message::{QueryableInfoType, Zid};
+use zq_key::message::{QueryableInfoType, TextList, Zid};
 use zq_key::text::Text;
 
 /// Keys, and the informations that stand on them.
@@ -57,6 +62,25 @@ impl Entries {
             by_key: KeyHolders::new(alloc),
             by_router: BTreeMap::new(alloc),
         }
+    }
+
+    /// Equal entries.
+    pub fn copy(&self, alloc: Global) -> Result<Entries, OutOfMemory>
+        ensures { IfOk result (λ e. e ≡ self.now) }
+    {
+        Ok(Entries {
+            by_key: self.by_key.copy(alloc)?,
+            by_router: copy_router_keys(&self.by_router)?,
+        })
+    }
+
+    /// The entries on each key, by its text.
+    pub fn by_key(&self) -> &KeyHolders<u128>
+        ensures value { result.now ≡ self.now }
+        ensures keys { AllByRecursion (λ e. is_key e.0 ≡ true) self.now }
+        ensures ordered { IsOrderedBy nat_cmp self.now }
+    {
+        &self.by_key
     }
 
     /// The router's entry on the key.
@@ -167,7 +191,7 @@ impl Entries {
 
     /// All entries of the router go.
     pub fn drop_router(&mut self, router: Zid)
-        ensures { self.new ≡ staying (is_other router) self.old }
+        ensures { self.new ≡ staying (is_another router) self.old }
     {
         match take_router(&mut self.by_router, router.0) {
             Some(keys) => forget(&mut self.by_key, router.0, &keys),
@@ -186,10 +210,21 @@ impl Entries {
 
     /// The routers that the network does not list, of those with entries.
     pub fn unlisted(&self, alloc: Global, net: &Net) -> Result<ZidList, OutOfMemory>
-        ensures { IfOk result (λ ids. without_routers ids self.now ≡ staying (is_listed net.now) self.now) }
+        ensures left { IfOk result (λ ids. without_routers ids self.now ≡ staying (is_listed net.now) self.now) }
+        ensures losing { IfOk result (λ ids. keys_by (is_one_of ids) self.now ≡ keys_by (is_unlisted net.now) self.now) }
     {
         match unlisted(&self.by_router, alloc, net) {
             Ok(ids) => Ok(ids),
+            Err(error) => Err(error),
+        }
+    }
+
+    /// The keys that have an entry of one of these routers, in order, each once.
+    pub fn losing(&self, alloc: Global, routers: &[Zid]) -> Result<TextList, OutOfMemory>
+        ensures { IfOk result (λ keys. keys ≡ keys_by (is_one_of routers.now) self.now) }
+    {
+        match keys_in_order(&self.by_router, alloc, routers) {
+            Ok(keys) => Ok(keys),
             Err(error) => Err(error),
         }
     }

@@ -1,11 +1,11 @@
-//! Networks of routers: their trees, what routers announced, and what is told along trees.
+//! Networks of routers: their trees, and what is told along them.
 //!
 //! - `types`: networks, what node numbers stand for, and what faces are told
 //! - `nets`: a network whose ids' places are found by look-up
 //! - `seats`: which open faces have which ids
-//! - `entries`: what routers announced, by key and by router
 //! - `children`: the children of trees, the faces on them, and what these are told of a key
 //! - `tellings`: tellings in order
+//! - `entries`: what routers announced, by key and by router
 #![tactic(auto)]
 
 pub mod children;
@@ -14,4 +14,6 @@ pub mod nets;
 mod router_keys;
 pub mod seats;
 pub mod tellings;
+#[cfg(test)]
+mod tests;
 pub mod types;

@@ -1,0 +1,100 @@
+use crate::children::{fresh_ids, tell_children};
+use crate::nets::Net;
+use crate::seats::Seats;
+use crate::tellings::in_order;
+use crate::types::{Network, Tree};
+use std::alloc::Global;
+use zq_key::items::Items;
+use zq_key::memory::OutOfMemory;
+use zq_key::message::{FaceId, QueryableInfoType, Zid};
+
+fn tree(alloc: Global, children: &[u32], directions: &[Option<u32>]) -> Result<Tree, OutOfMemory> {
+    Ok(Tree {
+        children: Items::from_vec(Vec::from_slice(alloc, children)?),
+        directions: Items::from_vec(Vec::from_slice(alloc, directions)?),
+    })
+}
+
+/// Nodes 1, 2, 3 and 2 again, with trees of the first two: 1 has the children 2 and 3, and one that
+/// no node is at; 2 has 3, twice.
+fn small_net(alloc: Global) -> Result<Net, OutOfMemory> {
+    let mut trees = Items::new(alloc);
+    trees.push(tree(alloc, &[1, 2, 9], &[None, Some(1), Some(1), Some(7)])?)?;
+    trees.push(tree(alloc, &[2, 2], &[Some(0)])?)?;
+    let network = Network {
+        nodes: Items::from_vec(Vec::from_slice(alloc, &[Zid(1), Zid(2), Zid(3), Zid(2)])?),
+        trees,
+        distances: Items::from_vec(Vec::from_slice(alloc, &[0, 1, 2])?),
+    };
+    Net::new(alloc, network)
+}
+
+#[test]
+fn places(rt: HostRuntime) {
+    let made = small_net(rt.alloc());
+    let Ok(net) = made else {
+        return assert!(rt; false);
+    };
+    for (zid, place) in [(1, Some(0)), (2, Some(1)), (3, Some(2)), (4, None)] {
+        assert_eq!(rt; net.place_of(Zid(zid)), place);
+    }
+    for (source, router, way) in [
+        (0, 3, Some((Zid(2), 2))),
+        (0, 1, None),
+        (1, 1, Some((Zid(1), 0))),
+        (1, 3, None),
+        (2, 3, None),
+        (0, 4, None),
+    ] {
+        assert_eq!(rt; net.towards(source, Zid(router)), way);
+    }
+}
+
+fn seats(alloc: Global) -> Result<Seats, OutOfMemory> {
+    let mut seats = Seats::new(alloc);
+    for (zid, face) in [(3, 7), (2, 5), (2, 4)] {
+        seats.take(Zid(zid), FaceId(face))?;
+    }
+    Ok(seats)
+}
+
+/// The faces that hear of `k` of the root, and the node of the first telling.
+fn told(alloc: Global, from: Option<FaceId>, root: u128) -> Result<(usize, u32, u16), OutOfMemory> {
+    let net = small_net(alloc)?;
+    let seats = seats(alloc)?;
+    let info = QueryableInfoType {
+        complete: true,
+        distance: 0,
+    };
+    let tellings = tell_children(alloc, &net, &seats, from, Zid(root), "k", Some(info))?;
+    let tellings = in_order(alloc, tellings.as_slice())?;
+    match tellings.get(0) {
+        Some(first) => Ok((tellings.len(), first.face.0, first.node)),
+        None => Ok((0, 0, 0)),
+    }
+}
+
+#[test]
+fn children(rt: HostRuntime) {
+    for (from, root, heard) in [
+        (None, 1, (2, 4, 0)),
+        (Some(FaceId(4)), 1, (1, 7, 0)),
+        (Some(FaceId(5)), 1, (2, 4, 0)),
+        (None, 2, (1, 7, 1)),
+        (None, 3, (0, 0, 0)),
+        (None, 4, (0, 0, 0)),
+    ] {
+        assert_eq!(rt; told(rt.alloc(), from, root), Ok(heard));
+    }
+}
+
+/// How many ids are new to the children of root 1.
+fn fresh(alloc: Global) -> Result<usize, OutOfMemory> {
+    let net = small_net(alloc)?;
+    Ok(fresh_ids(alloc, &net, Zid(1), &[Zid(2), Zid(4), Zid(3)])?.len())
+}
+
+#[test]
+fn fresh_children(rt: HostRuntime) {
+    assert_eq!(rt; fresh(rt.alloc()), Ok(1));
+}
