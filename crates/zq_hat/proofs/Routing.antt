@@ -7,7 +7,7 @@ use Rattle.zq_hat.specs.Kept.{change_face, declare, faces_info, region_info, reg
 use Rattle.zq_hat.specs.Regions.{in_routers, strategy_at}
 use Rattle.zq_hat.specs.State.{HatState}
 
-same_either : {X : Type 0} (k : Strategy) (x : X) → in_routers k x x ≡ x
+pub same_either : {X : Type 0} (k : Strategy) (x : X) → in_routers k x x ≡ x
 same_either strategy.Broker x = refl
 same_either strategy.Client x = refl
 same_either strategy.Peer x = refl

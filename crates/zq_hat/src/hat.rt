@@ -12,7 +12,8 @@ ghost use Rattle.zq_hat.specs.Offers.{declared_offers, offer_cmp, offers_beside,
 ghost use Rattle.std.specs.BTreeSet.{insert_key};
 ghost use Rattle.zq_trees.specs.Seating.{number, seat_cmp};
 ghost use Rattle.zq_hat.specs.Routers.{context_at, noded, source_at};
-ghost use Rattle.zq_hat.specs.Trees.{to_children};
+ghost use Rattle.zq_trees.specs.Tellings.{same_infos};
+ghost use Rattle.zq_hat.specs.Trees.{own_told, to_children};
 ghost use Rattle.zq_hat.specs.Regions.{in_routers, strategy_at};
 
 use crate::face::HatFace;
@@ -186,6 +187,17 @@ fn changed(
                 UnregisterEntityResult::InfoUpdate(key)
             }
         }
+    }
+}
+
+/// Whether both or neither informations are there, and are the same.
+fn same_infos(a: Option<QueryableInfoType>, b: Option<QueryableInfoType>) -> bool
+    ensures { result ≡ same_infos a b }
+{
+    match (a, b) {
+        (None, None) => true,
+        (Some(a), Some(b)) => same_info(a, b),
+        (None, Some(_)) | (Some(_), None) => false,
     }
 }
 
@@ -518,6 +530,23 @@ impl Hat {
                 tell_children(self.alloc, &self.net, &self.seats, from, root, key, info)
             }
         }
+    }
+
+    /// What faces are told of the gateway's own entry on a key, which was `before` and is the other
+    /// regions' merge: in a region of routers the children of the gateway's own tree hear of a change.
+    #[tactic(auto, using(crate::proofs::Routing::same_either))]
+    pub fn propagate_queryable(
+        &self,
+        key: &str,
+        before: Option<QueryableInfoType>,
+        other: Option<QueryableInfoType>,
+    ) -> Result<TellingList, OutOfMemory>
+        ensures { IfOk result (λ ts. ts ≡ in_routers (strategy_at self.now) (own_told key.now before other self.now) []) }
+    {
+        if same_infos(before, other) {
+            return Ok(Items::new(self.alloc));
+        }
+        self.to_children(None, self.own, key, other)
     }
 
     /// Sets or unsets a mark of the face: that all which it had to declare has come, at its opening
