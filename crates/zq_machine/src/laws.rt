@@ -37,9 +37,10 @@ pub fn run_promised()
     ensures { (config : Settings) (calls : List Call) → RunPromise config calls }
 {}
 
-/// What a request is handed to is determined by what stands of the faces and by the lists of
-/// gateways, that is (by `stands` and `listed` of `run_promised`) by the calls of a run and their
-/// answers: two runs of one configuration that leave the same of both select the same.
+/// What a request is handed to is determined by what stands of the faces and of routers and by the
+/// lists of gateways, that is (by `stands`, `routed` and `listed` of `run_promised`) by the calls
+/// of a run and their answers: two runs of one configuration that leave the same of them select the
+/// same.
 pub fn select_determined()
     ensures { (config : Settings) (calls others : List Call) → StandAlike (state_after (opening_state config) calls) (state_after (opening_state config) others) → (asker : FaceId) (s : Said) (r : Request) → select (state_after (opening_state config) calls).core asker s r ≡ select (state_after (opening_state config) others).core asker s r }
 {}
