@@ -14,6 +14,7 @@ use Rattle.zq_machine.proofs.Handing.{call_answers, call_fits, call_ordered}
 use Rattle.zq_machine.proofs.LastIds.{run_last}
 use Rattle.zq_machine.proofs.Promises.{request_promise, reply_promise, refusal_promise}
 use Rattle.zq_machine.proofs.Silent.{nothing_after}
+use Rattle.zq_machine.proofs.Routed.{all_routed}
 use Rattle.zq_machine.proofs.Standing.{all_listed, all_stand}
 use Rattle.zq_machine.proofs.Settled.{final_promise, run_once}
 use Rattle.zq_machine.proofs.Tells.{tell_promise}
@@ -42,6 +43,7 @@ headline config calls = record {
   each = λ before rest c at. kept config before c;
   settings = run_config calls (opening_state config);
   stands = λ face. all_stand config calls face;
+  routed = λ place. all_routed config calls place;
   listed = all_listed config calls;
   numbers = counted config calls;
   faces = faces_counted config calls;

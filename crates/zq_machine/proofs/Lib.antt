@@ -38,6 +38,7 @@ pub mod Targets
 pub mod Always
 pub mod Counting
 pub mod Standing
+pub mod Routed
 pub mod Determined
 pub mod LastIds
 pub mod Handing

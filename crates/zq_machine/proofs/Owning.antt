@@ -1,6 +1,8 @@
 -- A call changes what regions have on the keys that it touches, and on no others.
-use Rattle.std.proofs.Common.{◌≡◌, ◌∙◌, refl, sym, ap, ℕ, Bool, true, false, cond, not, List, [], ◌∷◌, ◌++◌, map, filter, fold, Option, Some, None}
+use Rattle.std.proofs.Common.{◌≡◌, ◌∙◌, refl, sym, ap, subst, ℕ, Bool, true, false, cond, not, List, [], ◌∷◌, ◌++◌, map, filter, fold, Option, Some, None}
+use Rattle.std.specs.Prelude.{◌==◌}
 use Rattle.std.specs.BTreeMap.{insert_entry, is_at}
+use Rattle.std.specs.List.Sorted.{IsStrictlySortedBy}
 use Rattle.std.specs.List.{AllByRecursion, flat_map, list_any}
 use Rattle.std.specs.Map.{keys_of, remove_entry, set_value}
 use Rattle.std.specs.Option.{is_some, option_and_then, option_map, option_map_or, option_to_list}
@@ -10,6 +12,11 @@ use Rattle.std.specs.declared.cmp.Ordering.{Ordering}
 use Rattle.std.specs.declared.cmp.Ordering.TheVariants.{Less, Equal, Greater}
 use Rattle.std.proofs.Math.Bool.{or-false}
 use Rattle.std.proofs.lemmas.Bool.{false≢true, not-false, or_parts, true≢false}
+use Rattle.std.proofs.lemmas.Cmp.{nat_cmp_total}
+use Rattle.std.proofs.lemmas.Map.Lookups.{exact_unsigned}
+use Rattle.std.proofs.lemmas.Map.Made.{keys_of-map_values, lookup-map_values}
+use Rattle.zq_key.proofs.Naturals.{fold-map}
+use Rattle.zq_regions.specs.Region.{region_index}
 use Rattle.std.proofs.lemmas.Slice.Eq.{bytes_eq-Decides}
 use Rattle.zq_message.specs.declared.message.QueryableInfoType.{QueryableInfoType}
 use Rattle.zq_message.specs.declared.message.Region.{Region}
@@ -18,7 +25,7 @@ use Rattle.zq_trees.specs.declared.types.Network.{Network}
 use Rattle.zq_index.specs.Infos.{joined}
 use Rattle.zq_index.specs.Texts.{at_text, text_cmp}
 use Rattle.zq_index.proofs.Orders.{text_exact, text_total}
-use Rattle.zq_key.proofs.Lookups.{apart, found_after_insertion, same_key}
+use Rattle.zq_key.proofs.Lookups.{apart, found_after_insertion, same_entries, same_key}
 use Rattle.zq_hat.specs.declared.types.Declaration.{Declaration}
 use Rattle.zq_hat.specs.declared.types.FinalMark.{FinalMark}
 use Rattle.zq_hat.specs.declared.types.FinalMark.TheVariants as mark
@@ -31,13 +38,19 @@ use Rattle.zq_hat.specs.Routers.{announced, entries_on, is_losing, losing, netwo
 use Rattle.zq_hat.specs.State.{FaceState, HatState}
 use Rattle.zq_hat.specs.declared.types.FaceRecord.{FaceRecord}
 use Rattle.zq_hat.proofs.Routing.{registered_at}
+use Rattle.zq_machine.specs.declared.call.Call.{Call}
+use Rattle.zq_machine.specs.Configs.{Settings}
+use Rattle.zq_machine.specs.Machine.{accepted_state, after, state_after}
 use Rattle.zq_machine.specs.Deciding.{accepted, announced_by, causes, refusal_of, retracted_by, seat}
 use Rattle.zq_machine.specs.Selecting.{full_text}
-use Rattle.zq_machine.specs.State.{Core, at, clashes_in, hat_at, joined as join}
-use Rattle.zq_machine.specs.TextCalls.{TextCall, opening, closing, declaring, withdrawing, finalizing, announcing, retracting, networking, tabling}
-use Rattle.zq_machine.specs.Trees.{touched}
-use Rattle.zq_machine.proofs.Granted.{all_passed}
+use Rattle.zq_machine.specs.State.{Core, at, clashes_in, hat_at, joined as join, opening_state}
+use Rattle.zq_machine.specs.TextCalls.{TextCall, opening, closing, declaring, withdrawing, finalizing, announcing, retracting, networking, tabling, read}
+use Rattle.zq_machine.specs.Trees.{is_touched, own_entry, touched, with_other}
+use Rattle.zq_machine.proofs.Agreed.{InOrder, granted_in_order, run_in_order}
+use Rattle.zq_machine.proofs.Changing.{region_there}
+use Rattle.zq_machine.proofs.Granted.{all_passed, by_granted}
 use Rattle.zq_machine.proofs.Hats.{same_view, same_view_of}
+use Rattle.zq_machine.proofs.Worded.{Any, Each, HasText, IsUsed, IsWorded, each_found}
 
 abbrev Entries : Type 0
 Entries = List (List ℕ × List (ℕ × QueryableInfoType))
@@ -273,3 +286,45 @@ touches_all c used (networking r net) h key off k =
 touches_all c used (tabling face ids) h key off k =
     same_view_of (on_key key) face.0 (noded face.0 ids) c (λ x there. face_same key face.0 (λ f. record f { nodes = ids }) x (λ f is. refl)) k
 touches_all c used t h key off k = refl
+
+-- ---- own entries
+module _ (place : ℕ) (key : List ℕ) where
+  abbrev seen : ℕ × HatState → ℕ × OnKey
+  seen h = (h.0, on_key key h.1)
+
+  with_seen : Option QueryableInfoType → ℕ × OnKey → Option QueryableInfoType
+  with_seen m v = cond (v.0 == place) m (joined m (in_routers v.1.kind v.1.faces v.1.faces))
+
+  own_seen : (hats : List (ℕ × HatState)) → fold with_seen None (map seen hats) ≡ own_entry place key hats
+  unfolding with_seen
+  own_seen hats = fold-map seen with_seen (with_other place key) (λ m h. refl) None hats
+
+  seen_same : (old new : List (ℕ × HatState)) → IsStrictlySortedBy nat_cmp (keys_of old) → IsStrictlySortedBy nat_cmp (keys_of new)
+      → ((k : ℕ) → option_map (on_key key) (at k new) ≡ option_map (on_key key) (at k old)) → own_entry place key new ≡ own_entry place key old
+  seen_same old new sorted rest same =
+      sym (own_seen new)
+      ∙ ap (fold with_seen None)
+      (same_entries nat_cmp_total exact_unsigned (map seen new) (map seen old)
+      (subst (IsStrictlySortedBy nat_cmp) (sym (keys_of-map_values (on_key key) new)) rest)
+      (subst (IsStrictlySortedBy nat_cmp) (sym (keys_of-map_values (on_key key) old)) sorted)
+      (λ k. lookup-map_values (on_key key) (is_at (nat_cmp k)) new ∙ same k ∙ sym (lookup-map_values (on_key key) (is_at (nat_cmp k)) old)))
+      ∙ own_seen old
+
+-- the entries of hats that are worded are used
+used_there : (es : Entries) → Each HasText IsUsed es → AllByRecursion (λ (e : List ℕ × List (ℕ × QueryableInfoType)). has_any e.1 ≡ true) es
+used_there [] w = tt
+used_there (e ∷ es) w = (w.0.1, used_there es w.1)
+
+-- at each point of a run a call changes own entries on the keys that it touches alone
+pub own_stays : (config : Settings) (calls : List Call) (c : Call) (place : ℕ) (key : List ℕ)
+    → is_touched (state_after (opening_state config) calls).core (read (state_after (opening_state config) calls) c) key ≡ false
+    → own_entry place key (after (state_after (opening_state config) calls) c).core.hats ≡ own_entry place key (state_after (opening_state config) calls).core.hats
+own_stays config calls c place key off =
+    let s = state_after (opening_state config) calls in
+    let i : InOrder config s = run_in_order config calls in
+    by_granted (λ z w. own_entry place key w.core.hats ≡ own_entry place key s.core.hats) s (read s c)
+    (λ h.
+    let j : InOrder config (accepted_state s (read s c)) = granted_in_order config s c h i in
+    seen_same place key s.core.hats (accepted s.core (read s c)).hats i.hats.sorted j.hats.sorted
+    (touches_all s.core (λ r x there. used_there x.entries (each_found Any IsWorded (is_at (nat_cmp (region_index r))) s.core.hats x (region_there r s.core.hats x there).1 i.worded).entries) (read s c) h key off))
+    (λ r. refl)

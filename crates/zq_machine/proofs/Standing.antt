@@ -134,7 +134,7 @@ module _ (faces : List (ℕ × OpenFace)) (hats : List (ℕ × HatState)) (names
         (λ e j. standing_of (at q faces) (n_other e j) (f_other e j))
 
   -- the numbers of the face are those by which its expressions are read
-  numbers_are : face_naming face names ≡ its_keys.0.numbers
+  pub numbers_are : face_naming face names ≡ its_keys.0.numbers
   numbers_are = ap (λ x. (unwrap_or x no_keys).numbers) its_keys.1
 
 -- ---- a face is opened or closed
@@ -356,7 +356,7 @@ module _ (config : Settings) (q : ℕ) (s : State) (i : InOrder config s) where
   routing_kept None = refl
   routing_kept (Some h) = refl
 
-  routing_is : (r : Region) → option_map_or is_routing (hat_at r s.core.hats) false ≡ routes_in config r
+  pub routing_is : (r : Region) → option_map_or is_routing (hat_at r s.core.hats) false ≡ routes_in config r
   routing_is r = by (is_region r)
     where
       by : (b : Bool) → option_map_or is_routing (cond b (value_at s.core.hats r) None) false ≡ option_map_or is_routing (cond b (value_at (first_hats config) r) None) false
@@ -375,7 +375,7 @@ module _ (config : Settings) (q : ℕ) (s : State) (i : InOrder config s) where
       by (Some first) e = λ j. standing_of (at q s.core.faces) (naming_at q s.names) (kept_same r first g s.core.hats e q (ap (λ (l : List (ℕ × FaceState)). at q l) (same first)) (at q s.core.faces) j)
 
   module _ (f : FaceId) (x : (o : OpenFace) × (at f.0 s.core.faces ≡ Some o)) where
-    region_says : (b : Bool) → by_router f s.core ≡ b → routes_in config x.0.region ≡ b
+    pub region_says : (b : Bool) → by_router f s.core ≡ b → routes_in config x.0.region ≡ b
     region_says b e = sym (ap (λ y. option_map_or is_routing (option_and_then (λ (o : OpenFace). hat_at o.region s.core.hats) y) false) x.1 ∙ routing_is x.0.region) ∙ e
 
     -- what a router declares leaves what stands of the face
@@ -466,7 +466,7 @@ module _ (config : Settings) (q : ℕ) (s : State) (i : InOrder config s) where
       kept_stands f x (call.FinalizeInterest f mark set) (marked mark set) s.names (keys f x) (its_keys s.core.faces s.core.hats s.names i.tied f.0 x.0 x.1).1 (λ e. refl) refl
   granted_stands c h = refl
 
-  call_stands : (c : Call) → standing_at q (after s c) ≡ standing_after config q c (step s c) (standing_at q s)
+  pub call_stands : (c : Call) → standing_at q (after s c) ≡ standing_after config q c (step s c) (standing_at q s)
   call_stands c =
       by_granted (λ t z. standing_at q z ≡ standing_after config q c t (standing_at q s)) s (read s c)
       (λ h.

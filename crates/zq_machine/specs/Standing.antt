@@ -1,5 +1,9 @@
 -- What stands of each face, and of the lists of gateways, by the calls of a run and their answers alone.
-use Rattle.std.specs.Prelude.{◌≡◌, ℕ, ◌==◌, Bool, false, List, [], ◌∷◌, fold, Option, Some, None, if◌then◌else◌}
+use Rattle.std.specs.List.{flat_map}
+use Rattle.zq_regions.specs.Region.{region_index}
+use Rattle.zq_index.specs.Texts.{at_text}
+use Rattle.zq_hat.specs.Routers.{staying, with_entries, zid_at}
+use Rattle.std.specs.Prelude.{◌≡◌, ℕ, ◌==◌, ◌&&◌, Bool, false, List, [], ◌∷◌, fold, Option, Some, None, if◌then◌else◌}
 use Rattle.std.specs.Map.{remove_entry}
 use Rattle.std.specs.BTreeMap.{insert_entry, is_at}
 use Rattle.std.specs.Option.{option_and_then, option_map, option_map_or}
@@ -10,6 +14,7 @@ use Rattle.zq_message.specs.declared.message.Message.{Message}
 use Rattle.zq_message.specs.declared.message.Message.TheVariants as message
 use Rattle.zq_message.specs.declared.message.QueryableInfoType.{QueryableInfoType}
 use Rattle.zq_message.specs.declared.message.Region.{Region}
+use Rattle.zq_message.specs.declared.message.Zid.{Zid}
 use Rattle.zq_message.specs.declared.message.WireExpr.{WireExpr}
 use Rattle.zq_regions.specs.RegionMap.{with_entry}
 use Rattle.zq_hat.specs.Kept.{declare, face_at, new_face, withdraw}
@@ -133,6 +138,69 @@ standing_in config face [] ts was = was
 standing_in config face (c ∷ cs) [] was = was
 standing_in config face (c ∷ cs) (t ∷ ts) was = standing_in config face cs ts (standing_after config face c t was)
 
+-- what stands of the routers of a region: their entries, and the network that was put in place
+pub record Routed : Type 0 where
+  pub entries : List (List ℕ × List (ℕ × QueryableInfoType))
+  pub network : Network
+
+-- what a hat has of routers
+abbrev pub routed : HatState → Routed
+routed h = record { entries = h.entries; network = h.network }
+
+-- the routers' entries on a key
+abbrev pub routed_on : List ℕ → Routed → List (ℕ × QueryableInfoType)
+routed_on key r = option_map_or (λ es. es) (at_text key r.entries) []
+
+-- a router's entry on a key is this one
+abbrev pub with_routed : List ℕ → QueryableInfoType → Routed → Zid → Routed
+with_routed key info r z = record r { entries = with_entries key (insert_entry nat_cmp (routed_on key r) z.0 info) r.entries }
+
+-- a router's entry on a key is gone
+abbrev pub without_routed : List ℕ → Routed → Zid → Routed
+without_routed key r z = record r { entries = with_entries key (remove_entry (is_at (nat_cmp z.0)) (routed_on key r)) r.entries }
+
+-- a network is put in place
+abbrev pub with_network : Network → Routed → Routed
+with_network net r = record { network = net; entries = flat_map (staying net) r.entries }
+
+-- the place is that of the region, which is one of routers
+abbrev pub routes_at : Settings → ℕ → Region → Bool
+routes_at config place r = routes_in config r && (region_index r == place)
+
+-- the text that the face says by an expression that may be missing
+abbrev pub text_or_none : Standing → Option WireExpr → List ℕ
+text_or_none s None = []
+text_or_none s (Some w) = text_said s w
+
+-- what a declaration of a face makes of the routers of the region at a place, by what stands of the face: the router is the one that the node stands for
+abbrev pub announced_at : Settings → ℕ → WireExpr → QueryableInfoType → ℕ → Routed → Standing → Routed
+announced_at config place w info node r s = if routes_at config place s.opened.region then option_map_or (with_routed (text_said s w) info r) (zid_at node s.kept) r else r
+
+-- and what a withdrawal makes of them
+abbrev pub retracted_at : Settings → ℕ → Option WireExpr → ℕ → Routed → Standing → Routed
+retracted_at config place w node r s = if routes_at config place s.opened.region then option_map_or (without_routed (text_or_none s w) r) (zid_at node s.kept) r else r
+
+-- what an accepted call makes of the routers of the region at a place, by what stands of each face
+abbrev pub routed_by : Settings → ℕ → Call → (ℕ → Option Standing) → Routed → Routed
+routed_by config place (call.DeclareQueryable f id w info node) stands r = option_map_or (announced_at config place w info node r) (stands f.0) r
+routed_by config place (call.UndeclareQueryable f id w node) stands r = option_map_or (retracted_at config place w node r) (stands f.0) r
+routed_by config place (call.SetNetwork region net) stands r = if routes_at config place region then with_network net r else r
+routed_by config place c stands r = r
+
+-- what stands of them after a call; a refused one changes nothing
+abbrev pub routed_after : Settings → ℕ → Call → Step → (ℕ → Option Standing) → Option Routed → Option Routed
+routed_after config place c t stands was = if is_accepted t.outcome then option_map (routed_by config place c stands) was else was
+
+-- what stands of them after calls that are answered by these steps
+abbrev pub routed_in : Settings → ℕ → List Call → List Step → (ℕ → Option Standing) → Option Routed → Option Routed
+routed_in config place [] ts stands was = was
+routed_in config place (c ∷ cs) [] stands was = was
+routed_in config place (c ∷ cs) (t ∷ ts) stands was = routed_in config place cs ts (λ face. standing_after config face c t (stands face)) (routed_after config place c t stands was)
+
+-- what the first hats have of routers
+abbrev pub first_routed : Settings → ℕ → Option Routed
+first_routed config place = option_map routed (at place (first_hats config))
+
 -- the lists of gateways after a call
 abbrev pub listed_after : Call → Step → List (ℕ × Gateways) → List (ℕ × Gateways)
 listed_after (call.SetGateways r table) t was = if is_accepted t.outcome then with_entry was r table else was
@@ -158,15 +226,6 @@ standing_of o n f = None
 -- what the gateway has of the face
 abbrev pub standing_at : ℕ → State → Option Standing
 standing_at face s = standing_of (at face s.core.faces) (naming_at face s.names) (kept_at face s.core)
-
--- what stands of the routers of a region: their entries, and the network that was put in place
-pub record Routed : Type 0 where
-  pub entries : List (List ℕ × List (ℕ × QueryableInfoType))
-  pub network : Network
-
--- what a hat has of routers
-abbrev pub routed : HatState → Routed
-routed h = record { entries = h.entries; network = h.network }
 
 -- what the gateway has of the routers of the region at a place
 abbrev pub routed_at : ℕ → State → Option Routed

@@ -1,7 +1,8 @@
 -- What faces are told along the trees of router regions.
-use Rattle.std.specs.Prelude.{ℕ, ◌==◌, List, [], ◌∷◌, ◌++◌, map, fold, Option, Some, None, if◌then◌else◌}
+use Rattle.std.specs.Prelude.{ℕ, ◌==◌, Bool, List, [], ◌∷◌, ◌++◌, map, fold, Option, Some, None, if◌then◌else◌}
 use Rattle.std.specs.BTreeSet.{insert_key}
-use Rattle.std.specs.List.{filter_map, flat_map}
+use Rattle.std.specs.List.{filter_map, flat_map, list_any}
+use Rattle.std.specs.Str.{bytes_eq}
 use Rattle.std.specs.Map.{keys_of}
 use Rattle.std.specs.Option.{option_and_then, option_map, option_map_or, option_to_list}
 use Rattle.zq_message.specs.declared.message.FaceId.{FaceId}
@@ -69,6 +70,10 @@ touched c (announcing face s info node) = full_text s ∷ []
 touched c (retracting face s node) = full_text s ∷ []
 touched c (networking r net) = option_map_or (losing net) (hat_at r c.hats) []
 touched c t = []
+
+-- the key is one of those
+abbrev pub is_touched : Core → TextCall → List ℕ → Bool
+is_touched c t key = list_any (λ k. bytes_eq k key) (touched c t)
 
 -- what the own entry on a key hands in a region, if it is one of routers, by the hats before and after a call
 abbrev pub own_told_in : (before after : List (ℕ × HatState)) → List ℕ → ℕ × HatState → List TreeTelling

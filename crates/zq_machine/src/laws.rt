@@ -1,12 +1,14 @@
 //! Laws of what the gateway decides and keeps, as the contracts of calls.
-ghost use Rattle.std.specs.Prelude.{◌≡◌, ℕ, List};
+ghost use Rattle.std.specs.Prelude.{◌≡◌, ℕ, List, false};
 ghost use Rattle.std.specs.List.{AllByRecursion};
 ghost use Rattle.zq_hat.specs.Moved.{Keeps};
 ghost use Rattle.zq_machine.specs.declared.call.Call.{Call};
 ghost use Rattle.zq_machine.specs.Agreeing.{Agrees};
 ghost use Rattle.zq_machine.specs.Configs.{Settings};
 ghost use Rattle.zq_machine.specs.Headline.{RunPromise};
-ghost use Rattle.zq_machine.specs.Machine.{state_after};
+ghost use Rattle.zq_machine.specs.Machine.{after, state_after};
+ghost use Rattle.zq_machine.specs.TextCalls.{read};
+ghost use Rattle.zq_machine.specs.Trees.{is_touched, own_entry};
 ghost use Rattle.zq_machine.specs.Moved.{DecidesAlike};
 ghost use Rattle.zq_tables.specs.Naming.{NamingState};
 ghost use Rattle.zq_message.specs.declared.message.FaceId.{FaceId};
@@ -35,9 +37,10 @@ pub fn run_promised()
     ensures { (config : Settings) (calls : List Call) → RunPromise config calls }
 {}
 
-/// What a request is handed to is determined by what stands of the faces and by the lists of
-/// gateways, that is (by `stands` and `listed` of `run_promised`) by the calls of a run and their
-/// answers: two runs of one configuration that leave the same of both select the same.
+/// What a request is handed to is determined by what stands of the faces and of routers and by the
+/// lists of gateways, that is (by `stands`, `routed` and `listed` of `run_promised`) by the calls
+/// of a run and their answers: two runs of one configuration that leave the same of them select the
+/// same.
 pub fn select_determined()
     ensures { (config : Settings) (calls others : List Call) → StandAlike (state_after (opening_state config) calls) (state_after (opening_state config) others) → (asker : FaceId) (s : Said) (r : Request) → select (state_after (opening_state config) calls).core asker s r ≡ select (state_after (opening_state config) others).core asker s r }
 {}
@@ -47,4 +50,11 @@ pub fn select_determined()
 #[tactic(auto, using(crate::proofs::Hearing::told_heard))]
 pub fn told_heard()
     ensures { (c : Core) (ts : List Telling) (names : NamingState) → AllByRecursion (CanBeTold names) ts → hear (tell c ts names).handed names ≡ ts }
+{}
+
+/// A call changes the gateway's own entries on the keys that it touches and on no others, so that
+/// each change of one is told.
+#[tactic(auto, using(crate::proofs::Owning::own_stays))]
+pub fn touches_all()
+    ensures { (config : Settings) (calls : List Call) (c : Call) (place : ℕ) (key : List ℕ) → is_touched (state_after (opening_state config) calls).core (read (state_after (opening_state config) calls) c) key ≡ false → own_entry place key (after (state_after (opening_state config) calls) c).core.hats ≡ own_entry place key (state_after (opening_state config) calls).core.hats }
 {}

@@ -1,16 +1,20 @@
 -- The lines of the steps of a run show all of what is handed.
-use Rattle.std.proofs.Common.{List, [], ◌∷◌, subst, sym}
+use Rattle.std.proofs.Common.{List, [], ◌∷◌, refl, Option, Some, None}
 use Rattle.std.specs.List.{AllByRecursion}
+use Rattle.zq_message.specs.declared.message.QueryableInfoType.{QueryableInfoType}
 use Rattle.zq_tables.specs.Naming.{NamingState}
 use Rattle.zq_machine.specs.declared.call.Call.{Call}
-use Rattle.zq_machine.specs.Configs.{Settings}
-use Rattle.zq_machine.specs.State.{State, opening_state}
-use Rattle.zq_machine.specs.TextCalls.{read}
-use Rattle.zq_machine.specs.Deciding.{decide}
-use Rattle.zq_machine.specs.Machine.{after, step, steps, steps_from}
+use Rattle.zq_machine.specs.State.{State}
+use Rattle.zq_machine.specs.TextCalls.{TextCall, read}
+use Rattle.zq_machine.specs.Deciding.{accepted, granted, renamed, told_of}
+use Rattle.zq_machine.specs.Machine.{step}
 use Rattle.zq_machine.specs.Messages.{TextMessage, text_final, text_reply, text_request}
+use Rattle.zq_machine.specs.Trees.{body_on, from_tree}
 use Rattle.zq_machine.specs.Writing.{write}
-use Rattle.zq_machine.proofs.Writing.{answers_plainly}
+use Rattle.zq_trees.specs.declared.types.Telling.{Telling as TreeTelling}
+use Rattle.zq_machine.proofs.Granted.{by_granted, told_by}
+use Rattle.zq_machine.proofs.Lists.{all_append}
+use Rattle.zq_machine.proofs.Telling.{IsTold, due_each, told_each}
 use Rattle.zq_prints.specs.StepsFit.{ShowsHanded, ShowsStep}
 
 -- the lines of requests, replies and finals show all of them
@@ -20,5 +24,21 @@ written_shows names (text_request r ∷ ms) = ((tt, tt), written_shows names ms)
 written_shows names (text_reply r ∷ ms) = ((tt, tt), written_shows names ms)
 written_shows names (text_final f ∷ ms) = ((tt, tt), written_shows names ms)
 
+-- and so do those of declarations: what is told along a tree answers no interest
+tree_shows : (t : TreeTelling) → IsTold ShowsHanded (λ to text id n. ((refl, refl), (refl, refl))) (from_tree t)
+tree_shows t = by t.info
+  where
+    by : (o : Option QueryableInfoType) → IsTold ShowsHanded (λ to text id n. ((refl, refl), (refl, refl))) (record (from_tree t) { body = body_on t.key o })
+    by None text w n = (refl, refl)
+    by (Some i) text w n = (tt, tt)
+
+told_shows : (s : State) (t : TextCall) → AllByRecursion ShowsHanded (told_by s t).handed
+told_shows s t =
+    told_each ShowsHanded (λ to text id n. ((refl, refl), (refl, refl))) (accepted s.core t) (told_of s.core t) (renamed s t)
+    (due_each (IsTold ShowsHanded (λ to text id n. ((refl, refl), (refl, refl)))) tree_shows s.core (accepted s.core t) t)
+
 pub step_shows : (s : State) (c : Call) → ShowsStep (step s c)
-step_shows s c = subst ShowsStep (sym (answers_plainly s (read s c))) (written_shows s.names (decide s.core (read s c)).messages)
+step_shows s c =
+    by_granted (λ z w. ShowsStep z) s (read s c)
+    (λ h. all_append ShowsHanded (write s.names (granted s.core (read s c)).messages) (told_by s (read s c)).handed (written_shows s.names (granted s.core (read s c)).messages) (told_shows s (read s c)))
+    (λ r. tt)
