@@ -1,5 +1,2 @@
-pub mod Lent
-pub mod Valid
 pub mod Queryables
-pub mod Seats
 pub mod Reached

@@ -40,7 +40,7 @@ use Rattle.zq_machine.proofs.Changing.{itself, number_test}
 use Rattle.zq_machine.proofs.Frame.{config_kept}
 use Rattle.zq_machine.proofs.Writing.{answers_granted, close_fits, finals_written, settles_granted}
 use Rattle.zq_gateway.specs.Making.{Answers, IsReached, MayPerform}
-use Rattle.zq_gateway.specs.Seats.{seats}
+use Rattle.zq_handing.specs.Seats.{seats}
 
 -- ---- a call more
 state_last : (cs : List Call) (s : State) (c : Call) → state_after s (cs ++ c ∷ []) ≡ after (state_after s cs) c

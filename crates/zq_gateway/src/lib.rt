@@ -2,12 +2,10 @@
 //!
 //! - `gateway`: each call is one event
 //! - `runs`: whole runs, with what they promise of each request, reply and final
-//! - `hats`: the hats of the regions
 //! - what an expression says, which offers are picked, and how messages are written is of the crate below, `zq_handing`; calls, steps and configurations are of `zq_machine`
 #![tactic(auto)]
 
 pub mod gateway;
-mod hats;
 pub mod runs;
 
 pub use gateway::Gateway;

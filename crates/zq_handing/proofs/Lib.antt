@@ -1,1 +1,4 @@
 pub mod Telling
+pub mod Seats
+pub mod Lent
+pub mod Valid

@@ -7,11 +7,11 @@ ghost use Rattle.zq_machine.specs.State.{at, change_hat, joined};
 ghost use Rattle.zq_machine.specs.TextCalls.{closing, opening};
 ghost use Rattle.zq_tables.specs.Naming.{no_keys};
 ghost use Rattle.zq_gateway.specs.Making.{IsReached, Settles};
-ghost use Rattle.zq_gateway.specs.Seats.{seats};
+ghost use Rattle.zq_handing.specs.Seats.{seats};
 
 use crate::gateway::tables::Tables;
-use crate::hats;
 use std::collections::BTreeMap;
+use zq_handing::hats;
 use zq_handing::write::written_finals;
 use zq_hat::hat::Hat;
 use zq_hat::types::FaceRecord;

@@ -6,7 +6,7 @@ ghost use Rattle.zq_gateway.specs.Making.{IsReached, Performs, Settles};
 ghost use Rattle.zq_gateway.specs.Undoing.{taken_back};
 
 use crate::gateway::tables::Tables;
-use crate::hats;
+use zq_handing::hats;
 use zq_handing::read::marks_key;
 use zq_hat::types::{FinalMark, HatRefusal};
 use zq_key::memory::OutOfMemory;

@@ -9,10 +9,10 @@ ghost use Rattle.zq_hat.specs.Routers.{context_at, source_at};
 ghost use Rattle.zq_regions.specs.RegionMap.{with_entry};
 ghost use Rattle.zq_machine.specs.Configs.{region_of};
 ghost use Rattle.zq_machine.specs.State.{first_hats, with_hat, change_hat, clashes_in, has_declared_in, hat_at, is_region, joined};
-ghost use Rattle.zq_gateway.specs.Seats.{seats};
+ghost use Rattle.zq_handing.specs.Seats.{seats};
 
 use std::alloc::Global;
-use zq_handing::select::is_region;
+use crate::select::is_region;
 use zq_hat::hat::Hat;
 use zq_hat::types::{FaceRecord, FinalMark, HatRefusal};
 use zq_key::Key;

@@ -6,7 +6,7 @@ use Rattle.zq_regions.specs.RegionMap.{value_at}
 use Rattle.zq_hat.specs.State.{HatState}
 use Rattle.zq_hat.specs.Kept.{has_face}
 use Rattle.zq_machine.specs.State.{is_region}
-use Rattle.zq_gateway.specs.Seats.{seats}
+use Rattle.zq_handing.specs.Seats.{seats}
 
 pub seated_region : (r : Region) (face : ℕ) (hats : List (ℕ × HatState)) (b : Bool) → seats r face hats ≡ Some b → is_region r ≡ true
 seated_region r face hats b e = by (is_region r) refl e
