@@ -11,8 +11,8 @@ ghost use Rattle.zq_machine.specs.Configs.{region_of};
 ghost use Rattle.zq_machine.specs.State.{first_hats, with_hat, change_hat, clashes_in, has_declared_in, hat_at, is_region, joined};
 ghost use Rattle.zq_handing.specs.Seats.{seats};
 
-use std::alloc::Global;
 use crate::select::is_region;
+use std::alloc::Global;
 use zq_hat::hat::Hat;
 use zq_hat::types::{FaceRecord, FinalMark, HatRefusal};
 use zq_key::Key;

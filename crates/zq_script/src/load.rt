@@ -12,8 +12,8 @@ use zq_handing::write::whole;
 use zq_key::items::Items;
 use zq_key::memory::OutOfMemory;
 use zq_key::message::{
-    Bound, FaceId, Message, Mode, QueryTarget, QueryableInfoType, Region, ReplyBody,
-    Request, Response, Zid,
+    Bound, FaceId, Message, Mode, QueryTarget, QueryableInfoType, Region, ReplyBody, Request,
+    Response, Zid,
 };
 use zq_key::text::{Bytes, Text};
 use zq_machine::call::{Call, Opening};
