@@ -22,7 +22,7 @@ use zq_machine::handed::Handed;
 use zq_words::words::{push_number, push_text};
 
 /// How many messages were handed, and of which kinds.
-#[derive(Clone, Copy, Debug, Default, PartialEq, Eq)]
+#[derive(Clone, Copy, Default)]
 pub struct Counts {
     /// All messages.
     pub handed: u128,
