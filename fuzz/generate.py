@@ -361,9 +361,8 @@ def change(rng, script):
     return b''.join(parts)
 
 
-KINDS = {'mixed': mixed, 'dense': dense, 'long': long, 'wide': wide, 'mutated': mutated}
-if model.ROUTERS:
-    KINDS['routers'] = routers
+KINDS = {'mixed': mixed, 'dense': dense, 'long': long, 'wide': wide, 'mutated': mutated,
+         'routers': routers}
 
 
 def generate(kind, seed):

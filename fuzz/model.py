@@ -17,9 +17,6 @@ U8, U16, U32, U64, U128 = (2**bits - 1 for bits in (8, 16, 32, 64, 128))
 MODES = ('router', 'peer', 'client')
 FARTHEST = U16
 
-# Whether the program has faces of routers. Until it has, what is about them is a bad line.
-ROUTERS = False
-
 
 # Words
 
@@ -231,7 +228,7 @@ def read_open(words, config):
     for item in words[5:]:
         tagged('in' if item.startswith(b'in') else 'out', text)(item)
     if where in config.regions:
-        require(namespace is None and not words[5:] and (ROUTERS or config.mode(where) != 'router'))
+        require(namespace is None and not words[5:])
     return where, face_id, bound
 
 
@@ -240,7 +237,7 @@ def read_call(words, config):
     kind, values = words[0].decode('latin-1'), words[1:]
     if kind == 'open':
         return kind, read_open(values, config)
-    require((kind, len(values)) in READERS and (ROUTERS or kind not in ('network', 'nodes')))
+    require((kind, len(values)) in READERS)
     return kind, fields(values, *READERS[kind, len(values)])
 
 

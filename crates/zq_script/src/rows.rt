@@ -393,6 +393,118 @@ const ROWS: [(&str, &str, &str, Status); 22] = [
         Status::Done,
     ),
     (
+        "a router behind a router",
+        "config 1 10000 north:router local\n\
+         open north 2 router north -\n\
+         open local 10 client north -\n\
+         nodes 0 2,3\n\
+         network north 1,2,3 1/x,1,1;-/x,x,x;-/x,x,x 0,10,20\n\
+         queryable 0 0 0:s:k c 0 1\n\
+         ask 1 7 0:s:k all - 0 0 hi 0\n\
+         queryable 1 1 0:s:m p 0 0\n\
+         unqueryable 1 1 - 0\n\
+         queryable 0 0 0:s:k c 0 9\n",
+        "= opened 0\n\
+         = opened 1\n\
+         = done\n\
+         = done\n\
+         = done\n\
+         = asked 0\n\
+         > 0 0 - request 1 0:s:k all - 0 0 hi\n\
+         = done\n\
+         > 0 - - key 1 0:s:m\n\
+         > 0 - - queryable 0 1:s:- p 0 0 -\n\
+         = done\n\
+         > 0 - - unqueryable 0 1:s:- 0\n\
+         = refused UnknownRouter\n",
+        Status::Done,
+    ),
+    (
+        "a tree that is too short leads nowhere",
+        "config 1 10000 north:router local\n\
+         open north 2 router north -\n\
+         open local 10 client north -\n\
+         nodes 0 2,3\n\
+         network north 1,2,3 1/x,1 0\n\
+         queryable 0 0 0:s:k c 0 1\n\
+         ask 1 7 0:s:k all - 0 0 hi 0\n",
+        "= opened 0\n\
+         = opened 1\n\
+         = done\n\
+         = done\n\
+         = done\n\
+         = asked 0\n\
+         > 1 0 - final 7 0\n",
+        Status::Done,
+    ),
+    (
+        "a router that the network drops",
+        "config 1 10000 north:router local\n\
+         open north 2 router north -\n\
+         open local 10 client north -\n\
+         nodes 0 2,3\n\
+         network north 1,2,3 1/x,1,1;-/x,x,x;-/x,x,x 0,10,20\n\
+         queryable 0 0 0:s:k c 0 1\n\
+         network north 1,2 1/x,1;-/x,x 0,10\n\
+         unqueryable 0 0 0:s:k 1\n",
+        "= opened 0\n\
+         = opened 1\n\
+         = done\n\
+         = done\n\
+         = done\n\
+         = done\n\
+         = refused UnknownId\n",
+        Status::Done,
+    ),
+    (
+        "what routers are told by a closing, and by another region of routers",
+        "config 1 10000 north:router local south:0:router\n\
+         open north 2 router north -\n\
+         open south:0:router 4 router north -\n\
+         open local 10 client north -\n\
+         open local 11 client north -\n\
+         nodes 0 2,1\n\
+         nodes 1 4\n\
+         network north 1,2 1/x,1;-/0,x 0,10\n\
+         network south:0:router 4,1 1/x,0;0/1,x 5,0\n\
+         queryable 2 1 0:s:k c 3 0\n\
+         queryable 3 1 0:s:k p 2 0\n\
+         queryable 1 0 0:s:k c 1 0\n\
+         queryable 1 0 0:s:k c 1 0\n\
+         queryable 0 0 0:s:k c 1 1\n\
+         close 2\n\
+         close 3\n\
+         unqueryable 0 0 - 0\n\
+         close 1\n\
+         network south:0:router 1 -/x 0\n",
+        "= opened 0\n\
+         = opened 1\n\
+         = opened 2\n\
+         = opened 3\n\
+         = done\n\
+         = done\n\
+         = done\n\
+         = done\n\
+         = done\n\
+         > 0 - - key 1 0:s:k\n\
+         > 0 - - queryable 0 1:s:- c 3 0 -\n\
+         > 1 - - queryable 0 0:s:k c 3 1 -\n\
+         = done\n\
+         = done\n\
+         > 0 - - queryable 0 1:s:- c 1 0 -\n\
+         = done\n\
+         = refused UnknownRouter\n\
+         = done\n\
+         > 1 - - queryable 0 0:s:k p 2 1 -\n\
+         = done\n\
+         > 1 - - unqueryable 0 0:s:k 1\n\
+         = refused InvalidKeyExpr\n\
+         = done\n\
+         = done\n\
+         > 0 - - unqueryable 0 1:s:- 0\n",
+        Status::Done,
+    ),
+    (
         "a form that is not built",
         "config 1 10000 north:client local\n\
          open local 10 client north -\n\
