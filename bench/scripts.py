@@ -154,6 +154,56 @@ def faces_and_asked(count):
         yield f'ask {i * 7919 % (count - 1) + 1} {i} 0:s:k all - 0 0 hi 0'
 
 
+# The same beside routers, which the baseline does not have
+
+def routed(count):
+    """A gateway between two routers, of which one has so many keys, and an application."""
+    yield 'config 1 10000 north:router local'
+    yield 'open north 2 router north -'
+    yield 'open north 3 router north -'
+    yield 'open local 10 client north -'
+    yield 'nodes 0 2'
+    yield 'network north 1,2,3 1,2/x,1,2;2/x,x,2;1/x,1,x 0,10,20'
+    for n in range(count):
+        yield f'queryable 0 0 0:s:{key(n)} c 0 0'
+
+
+def routed_and_withdrawn(count):
+    yield from routed(count)
+    for n in range(count, count + CALLS):
+        yield f'queryable 0 0 0:s:{key(n)} c 0 0'
+        yield f'unqueryable 0 0 0:s:{key(n)} 0'
+
+
+def routed_and_declared(count):
+    """The application declares and withdraws, and both routers are told."""
+    yield from routed(count)
+    for n in range(CALLS):
+        yield f'queryable 2 1 0:s:{key(n)} p 0 0'
+        yield 'unqueryable 2 1 - 0'
+
+
+def routed_and_asked(count):
+    yield from routed(count)
+    for i in range(CALLS):
+        yield f'ask 2 {i} 0:s:{key(i * 7919 % count)} all - 0 0 - 0'
+
+
+def networks(routers=1_000, keys=10_000, times=10):
+    """Routers that have keys; the network is put in place again and again, with another child in its last tree."""
+    yield 'config 1 10000 north:router local'
+    for face in range(10):
+        yield f'open north {face + 2} router north -'
+        yield f'nodes {face} {",".join(str(zid) for zid in range(2, routers + 2))}'
+    for n in range(keys):
+        yield f'queryable {n % 10} 0 0:s:{key(n)} c 0 {n % routers}'
+    nodes = ','.join(str(zid) for zid in range(1, routers + 2))
+    far = ','.join('1' for _ in range(routers + 1))
+    tree = f'1,2,3/{",".join(str(place % 10 + 1) for place in range(routers + 1))}'
+    for i in range(times):
+        yield f'network north {nodes} {";".join([tree] * 19 + [f"{i % 10 + 1}/x"])} {far}'
+
+
 # Scripts that are made to be slow, or to take much memory
 
 def long_key(size=65_536):
