@@ -7,5 +7,6 @@ pub mod Keeping
 pub mod Turns
 pub mod Marking
 pub mod OfferLaws
+pub mod RoutersMoved
 pub mod OffersMoved
 pub mod Seated

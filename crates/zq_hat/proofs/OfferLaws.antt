@@ -1,7 +1,7 @@
 -- Every offer of a hat is of one of its faces, and of its region.
-use Rattle.std.proofs.Common.{◌≡◌, ap, refl, ℕ, zero, suc, Bool, true, false, cond, List, [], ◌∷◌, ◌++◌, Some, None, Option, fold, take, drop}
-use Rattle.std.specs.Prelude.{◌-◌, ◌&&◌, not, length}
-use Rattle.std.specs.Option.{is_some}
+use Rattle.std.proofs.Common.{◌≡◌, ap, refl, subst, ℕ, zero, suc, Bool, true, false, cond, List, [], ◌∷◌, ◌++◌, Some, None, Option, fold, take, drop}
+use Rattle.std.specs.Prelude.{◌-◌, ◌&&◌, find, not, length}
+use Rattle.std.specs.Option.{is_some, option_and_then, option_map, option_map_or, option_to_list}
 use Rattle.std.specs.declared.cmp.Ordering.{Ordering}
 use Rattle.std.specs.Ordering.{nat_cmp, is_lt}
 use Rattle.std.specs.Cmp.{nat_cmp_total}
@@ -12,11 +12,15 @@ use Rattle.std.proofs.lemmas.Map.Lookups.{exact_unsigned}
 use Rattle.zq_key.specs.Key.{intersects}
 use Rattle.zq_message.specs.declared.message.QueryableInfoType.{QueryableInfoType}
 use Rattle.zq_message.specs.declared.message.Region.{Region}
+use Rattle.zq_message.specs.declared.message.Zid.{Zid}
+use Rattle.zq_trees.specs.Entries.{Entries, Routed}
+use Rattle.zq_trees.specs.Nets.{towards}
 use Rattle.zq_hat.specs.declared.types.QueryTargetQabl.{QueryTargetQabl}
 use Rattle.zq_hat.specs.declared.types.Strategy.{Strategy}
 use Rattle.zq_hat.specs.declared.types.Strategy.TheVariants as strategy
 use Rattle.zq_hat.specs.Kept.{at_id, has_face, info, declared_keys}
 use Rattle.zq_hat.specs.Offers.{place, sorted, offer_cmp, offer_of, offer_list, offers_on, offers_for, declared_offers, bare_offer, bare_on, bare_offers, may_have, offers_by, offers_of}
+use Rattle.zq_hat.specs.Routers.{entries_offers, entry_offer, face_with, has_zid, router_offer, source_for}
 use Rattle.zq_hat.specs.Regions.{is_north, same_region, strategy_at}
 use Rattle.zq_hat.specs.State.{FaceState, HatState}
 use Rattle.zq_key.proofs.Lookups.{at_itself}
@@ -81,25 +85,65 @@ module _ (P : QueryTargetQabl → Type 0) (region : Region) (q : List ℕ) where
     beside_all s src true = tt
     beside_all s src false = all_joined P (declared_offers region fs q) (bare_offers s region src fs q) (declared_all fs (declared_keys fs) all) (some_bare s fs (is_north region && not (is_north src)) bare)
 
-module _ (P : QueryTargetQabl → Type 0) (s : HatState) (src : Region) (q : List ℕ) (node : Option ℕ) where
-  strategy_all : (k : Strategy) → AllByRecursion (λ f. (i : List ℕ) (m : QueryableInfoType) → P (offer_of s.region q i f.0 m)) s.faces → AllByRecursion (λ f. P (bare_offer s.region q f.0)) s.faces → AllByRecursion P (offers_by k s src q node)
-  strategy_all strategy.Broker all bare = declared_all P s.region q s.faces (declared_keys s.faces) all
-  strategy_all strategy.Client all bare = beside_all P s.region q s.faces all bare strategy.Client src (same_region src s.region)
-  strategy_all strategy.Peer all bare = beside_all P s.region q s.faces all bare strategy.Peer src (same_region src s.region)
-  strategy_all strategy.Router all bare = tt
-
--- each face of a list is found there
+-- what routers offer is by open faces
 found_by : (n : ℕ) (f : ℕ × FaceState) (fs : List (ℕ × FaceState)) (b : Bool) → is_some (at_id n fs) ≡ true → is_some (cond b (Some f.1) (at_id n fs)) ≡ true
 found_by n f fs true e = refl
 found_by n f fs false e = e
 
+found_itself : (f : ℕ × FaceState) (fs : List (ℕ × FaceState)) → is_some (at_id f.0 (f ∷ fs)) ≡ true
+found_itself f fs = ap (λ b. is_some (cond b (Some f.1) (at_id f.0 fs))) (at_itself nat_cmp_total exact_unsigned f.0)
+
+seated_found : (zid : Zid) (n : ℕ) (fs : List (ℕ × FaceState)) → face_with zid fs ≡ Some n → is_some (at_id n fs) ≡ true
+seated_found zid n [] e = absurd (let gap : None ≡ Some n = e in cc)
+seated_found zid n (f ∷ fs) e = by (λ later. seated_found zid n fs later) (has_zid zid f) e
+  where
+    by : (face_with zid fs ≡ Some n → is_some (at_id n fs) ≡ true) → (b : Bool) → option_map (λ (x : ℕ × FaceState). x.0) (cond b (Some f) (find (has_zid zid) fs)) ≡ Some n → is_some (at_id n (f ∷ fs)) ≡ true
+    by ih true same = subst (λ (m : ℕ). is_some (at_id m (f ∷ fs)) ≡ true) (let here : Some f.0 ≡ Some n = same in cc) (found_itself f fs)
+    by ih false same = found_by n f fs (is_at (nat_cmp n) f.0) (ih same)
+
+module _ (P : QueryTargetQabl → Type 0) (s : HatState) (q : List ℕ) (has : (key : List ℕ) (source : ℕ) (i : QueryableInfoType) (n far : ℕ) → is_some (at_id n s.faces) ≡ true → P (router_offer s q key source i (n, far))) where
+  seat_all : (key : List ℕ) (source : ℕ) (i : QueryableInfoType) (zid : Zid) (far : ℕ) (o : Option ℕ) → face_with zid s.faces ≡ o
+      → AllByRecursion P (option_to_list (option_map (router_offer s q key source i) (option_and_then (λ (face : ℕ). Some (face, far)) o)))
+  seat_all key source i zid far None e = tt
+  seat_all key source i zid far (Some n) e = (has key source i n far (seated_found zid n s.faces e), tt)
+
+  way_all : (key : List ℕ) (source : ℕ) (i : QueryableInfoType) (o : Option (Zid × ℕ))
+      → AllByRecursion P (option_to_list (option_map (router_offer s q key source i) (option_and_then (λ (step : Zid × ℕ). option_and_then (λ (face : ℕ). Some (face, step.1)) (face_with step.0 s.faces)) o)))
+  way_all key source i None = tt
+  way_all key source i (Some step) = seat_all key source i step.0 step.1 (face_with step.0 s.faces) refl
+
+  entries_all : (source : ℕ) (key : List ℕ) (es : Routed) → AllByRecursion P (flat_map (entry_offer s q source key) es)
+  entries_all source key [] = tt
+  entries_all source key (e ∷ es) =
+      all_joined P (entry_offer s q source key e) (flat_map (entry_offer s q source key) es) (way_all key source e.1 (towards s.network source (record { 0 = e.0 }))) (entries_all source key es)
+
+  met_all : (source : ℕ) (k : List ℕ × Routed) (b : Bool) → AllByRecursion P (cond b (flat_map (entry_offer s q source k.0) k.1) [])
+  met_all source k true = entries_all source k.0 k.1
+  met_all source k false = tt
+
+  routed_all : (source : ℕ) (ks : Entries) → AllByRecursion P (flat_map (entries_offers s q source) ks)
+  routed_all source [] = tt
+  routed_all source (k ∷ ks) = all_joined P (entries_offers s q source k) (flat_map (entries_offers s q source) ks) (met_all source k (intersects k.0 q)) (routed_all source ks)
+
+  sourced_all : (o : Option ℕ) → AllByRecursion P (option_map_or (λ source. flat_map (entries_offers s q source) s.entries) o [])
+  sourced_all None = tt
+  sourced_all (Some source) = routed_all source s.entries
+
+module _ (P : QueryTargetQabl → Type 0) (s : HatState) (src : Region) (q : List ℕ) (node : Option ℕ) (has : (key : List ℕ) (source : ℕ) (i : QueryableInfoType) (n far : ℕ) → is_some (at_id n s.faces) ≡ true → P (router_offer s q key source i (n, far))) where
+  strategy_all : (k : Strategy) → AllByRecursion (λ f. (i : List ℕ) (m : QueryableInfoType) → P (offer_of s.region q i f.0 m)) s.faces → AllByRecursion (λ f. P (bare_offer s.region q f.0)) s.faces → AllByRecursion P (offers_by k s src q node)
+  strategy_all strategy.Broker all bare = declared_all P s.region q s.faces (declared_keys s.faces) all
+  strategy_all strategy.Client all bare = beside_all P s.region q s.faces all bare strategy.Client src (same_region src s.region)
+  strategy_all strategy.Peer all bare = beside_all P s.region q s.faces all bare strategy.Peer src (same_region src s.region)
+  strategy_all strategy.Router all bare = sourced_all P s q has (source_for s src node)
+
+-- each face of a list is found there
 more_found : (f : ℕ × FaceState) (fs gs : List (ℕ × FaceState)) → AllByRecursion (λ g. is_some (at_id g.0 fs) ≡ true) gs → AllByRecursion (λ g. is_some (at_id g.0 (f ∷ fs)) ≡ true) gs
 more_found f fs [] all = tt
 more_found f fs (g ∷ gs) all = (found_by g.0 f fs (is_at (nat_cmp g.0) f.0) all.0, more_found f fs gs all.1)
 
 all_found : (fs : List (ℕ × FaceState)) → AllByRecursion (λ g. is_some (at_id g.0 fs) ≡ true) fs
 all_found [] = tt
-all_found (f ∷ fs) = (ap (λ b. is_some (cond b (Some f.1) (at_id f.0 fs))) (at_itself nat_cmp_total exact_unsigned f.0), more_found f fs fs (all_found fs))
+all_found (f ∷ fs) = (found_itself f fs, more_found f fs fs (all_found fs))
 
 each_has : (all fs : List (ℕ × FaceState)) (region : Region) (q : List ℕ) → AllByRecursion (λ g. is_some (at_id g.0 all) ≡ true) fs → AllByRecursion (λ f. (k : List ℕ) (i : QueryableInfoType) → is_some (at_id (offer_of region q k f.0 i).face.0 all) ≡ true) fs
 each_has all [] region q found = tt
@@ -121,10 +165,10 @@ pub offers_of_faces : (s : HatState) (src : Region) (q : List ℕ) (node : Optio
 offers_of_faces s src q node =
     all_from (λ o. has_face o.face.0 s ≡ true) (offers_of s src q node)
     (all_sorted (λ o. has_face o.face.0 s ≡ true) offer_cmp (offers_by (strategy_at s) s src q node)
-    (strategy_all (λ o. has_face o.face.0 s ≡ true) s src q node (strategy_at s) (each_has s.faces s.faces s.region q (all_found s.faces)) (each_bare s.faces s.faces s.region q (all_found s.faces))))
+    (strategy_all (λ o. has_face o.face.0 s ≡ true) s src q node (λ key source i n far found. found) (strategy_at s) (each_has s.faces s.faces s.region q (all_found s.faces)) (each_bare s.faces s.faces s.region q (all_found s.faces))))
 
 pub offers_of_region : (s : HatState) (src : Region) (q : List ℕ) (node : Option ℕ) → All (λ o. o.region ≡ s.region) (offers_of s src q node)
 offers_of_region s src q node =
     all_from (λ o. o.region ≡ s.region) (offers_of s src q node)
     (all_sorted (λ o. o.region ≡ s.region) offer_cmp (offers_by (strategy_at s) s src q node)
-    (strategy_all (λ o. o.region ≡ s.region) s src q node (strategy_at s) (each_region s.faces s.region q) (bare_region s.faces s.region q)))
+    (strategy_all (λ o. o.region ≡ s.region) s src q node (λ key source i n far found. refl) (strategy_at s) (each_region s.faces s.region q) (bare_region s.faces s.region q)))

@@ -24,6 +24,7 @@ use Rattle.zq_hat.specs.Offers.{place, sorted, offer_cmp, distance, offer_list, 
 use Rattle.zq_hat.specs.Regions.{is_local, is_north, is_south, same_region, strategy_at}
 use Rattle.zq_hat.specs.State.{FaceState, HatState}
 use Rattle.zq_hat.specs.Moved.{Keeps, move_declared, move_face, move_hat, move_offer}
+use Rattle.zq_hat.proofs.RoutersMoved.{router_offers_moved}
 
 -- ---- putting in order
 module _ {X Y : Type 0} (g : X → Y) where
@@ -145,7 +146,7 @@ module _ (φ : List ℕ → List ℕ) (keeps : Keeps φ) where
   by_moved strategy.Broker s src q _ = all_moved s.region s.faces q
   by_moved strategy.Client s src q _ = beside_moved strategy.Client s.region src s.faces q (same_region src s.region)
   by_moved strategy.Peer s src q _ = beside_moved strategy.Peer s.region src s.faces q (same_region src s.region)
-  by_moved strategy.Router s src q _ = refl
+  by_moved strategy.Router s src q node = router_offers_moved φ keeps s src q node
 
   order_moved : (a b : QueryTargetQabl) → offer_cmp (move_offer φ a) (move_offer φ b) ≡ offer_cmp a b
   order_moved a b = ap (λ r. ordering_then (nat_cmp (distance a) (distance b)) (ordering_then r (nat_cmp a.face.0 b.face.0))) (keeps.order a.key b.key)

@@ -16,6 +16,7 @@ use Rattle.zq_hat.specs.declared.types.UnregisterEntityResult.{UnregisterEntityR
 use Rattle.zq_hat.specs.declared.types.UnregisterEntityResult.TheVariants as result
 use Rattle.zq_index.specs.Infos.{joined, same_info}
 use Rattle.zq_index.specs.Texts.{text_cmp}
+use Rattle.zq_trees.specs.Entries.{entries_at, routed_info}
 use Rattle.zq_hat.specs.Regions.{in_routers, is_upstream, strategy_at}
 use Rattle.zq_hat.specs.State.{FaceState, HatState}
 
@@ -47,9 +48,13 @@ with_face key m f = joined m (info key f.1)
 abbrev pub faces_info : List ℕ → List (ℕ × FaceState) → Option QueryableInfoType
 faces_info key faces = fold (with_face key) None faces
 
--- the region's information on the key; that of a region of routers is not built yet, and is that of the others
+-- the routers' entries on the key, merged
+abbrev pub routers_info : List ℕ → HatState → Option QueryableInfoType
+routers_info key s = routed_info (entries_at key s.entries)
+
+-- the region's information on the key: of a region of routers that of their entries, else that of its faces
 abbrev pub region_info : List ℕ → HatState → Option QueryableInfoType
-region_info key s = in_routers (strategy_at s) (faces_info key s.faces) (faces_info key s.faces)
+region_info key s = in_routers (strategy_at s) (routers_info key s) (faces_info key s.faces)
 
 -- the texts in order, with the key of the declaration in its place, once
 abbrev pub with_key : List (List ℕ) → ℕ × Declaration → List (List ℕ)
@@ -88,9 +93,9 @@ declare id key i f = record f { declared = insert_entry nat_cmp f.declared id (r
 abbrev pub withdraw : ℕ → FaceState → FaceState
 withdraw id f = record f { declared = remove_entry (is_at (nat_cmp id)) f.declared }
 
--- the face declares the key under the id; the node is for regions of routers, which are not built yet, and do as the others
+-- the face declares the key under the id; the node is nothing to it
 abbrev pub registered : ℕ → ℕ → List ℕ → ℕ → QueryableInfoType → HatState → HatState
-registered number id key node i s = in_routers (strategy_at s) (change_face number (declare id key i) s) (change_face number (declare id key i) s)
+registered number id key node i s = change_face number (declare id key i) s
 
 -- the face withdraws the id
 abbrev pub unregistered : ℕ → ℕ → HatState → HatState
@@ -128,7 +133,7 @@ new_face opened told_start = record { zid = opened.zid; mode = opened.mode; remo
 
 -- a hat without faces
 abbrev pub new_hat : Region → Mode → Zid → ℕ → HatState
-new_hat region north_mode own told_start = record { region = region; north_mode = north_mode; own = own; told_start = told_start; faces = []; told = []; entries = []; owned = []; network = record { nodes = []; trees = []; distances = [] } }
+new_hat region north_mode own told_start = record { region = region; north_mode = north_mode; own = own; told_start = told_start; faces = []; told = []; entries = []; network = record { nodes = []; trees = []; distances = [] } }
 
 -- a client region has its face, and takes no other
 abbrev pub is_full : HatState → Bool

@@ -7,4 +7,5 @@ pub mod Offers
 pub mod Tied
 pub mod Routers
 pub mod Trees
+pub mod Changes
 pub mod Moved

@@ -42,7 +42,7 @@ module _ (φ : List ℕ → List ℕ) where
 
   -- a hat with all its texts moved
   abbrev pub move_hat : HatState → HatState
-  move_hat s = record s { faces = map move_face s.faces; told = map move_entry s.told; entries = map move_entry s.entries; owned = map move_entry s.owned }
+  move_hat s = record s { faces = map move_face s.faces; told = map move_entry s.told; entries = map move_entry s.entries }
 
   -- an offer with its key moved
   abbrev pub move_offer : QueryTargetQabl → QueryTargetQabl

@@ -13,6 +13,7 @@ use Rattle.zq_hat.specs.declared.types.Strategy.TheVariants as strategy
 use Rattle.zq_index.specs.Texts.{text_cmp}
 use Rattle.zq_hat.specs.Kept.{info, declared_keys}
 use Rattle.zq_hat.specs.Marks.{is_finalized}
+use Rattle.zq_hat.specs.Routers.{router_offers}
 use Rattle.zq_hat.specs.Regions.{is_local, is_north, is_south, same_region, strategy_at}
 use Rattle.zq_hat.specs.State.{FaceState, HatState}
 
@@ -80,12 +81,12 @@ bare_offers strategy region src faces q = if is_north region && not (is_north sr
 abbrev pub offers_beside : Strategy → Region → Region → List (ℕ × FaceState) → List ℕ → List QueryTargetQabl
 offers_beside strategy region src faces q = if same_region src region then [] else declared_offers region faces q ++ bare_offers strategy region src faces q
 
--- what a strategy offers to an asker of region src; that of routers, for which the node is, is not built yet
+-- what a strategy offers to an asker of region src; the node is for routers alone
 abbrev pub offers_by : Strategy → HatState → Region → List ℕ → Option ℕ → List QueryTargetQabl
 offers_by strategy.Broker s src q _ = declared_offers s.region s.faces q
 offers_by strategy.Client s src q _ = offers_beside strategy.Client s.region src s.faces q
 offers_by strategy.Peer s src q _ = offers_beside strategy.Peer s.region src s.faces q
-offers_by strategy.Router s src q _ = []
+offers_by strategy.Router s src q node = router_offers s src q node
 
 -- the offers of the hat to an asker of region src for key q, in order
 abbrev pub offers_of : HatState → Region → List ℕ → Option ℕ → List QueryTargetQabl

@@ -1,21 +1,17 @@
 -- What routers of a region declared, the network and node tables that are handed in, and what is offered by them.
-use Rattle.std.specs.Prelude.{ℕ, Bool, not, ◌&&◌, List, [], ◌∷◌, filter, find, fold, Option, Some, None, if◌then◌else◌, option_map, slice_get}
-use Rattle.std.specs.List.{flat_map, list_any}
+use Rattle.std.specs.Prelude.{ℕ, Bool, ◌&&◌, List, [], find, Option, Some, if◌then◌else◌, option_map, slice_get}
+use Rattle.std.specs.List.{flat_map}
 use Rattle.std.specs.Option.{option_map_or, option_to_list, option_and_then}
-use Rattle.std.specs.Map.{remove_entry, keys_of}
-use Rattle.std.specs.BTreeMap.{insert_entry, is_at}
-use Rattle.std.specs.Ordering.{nat_cmp}
 use Rattle.zq_message.specs.declared.message.QueryableInfoType.{QueryableInfoType}
 use Rattle.zq_message.specs.declared.message.Region.{Region}
 use Rattle.zq_message.specs.declared.message.Zid.{Zid}
 use Rattle.zq_key.specs.Key.{intersects, includes}
-use Rattle.zq_index.specs.Infos.{joined}
-use Rattle.zq_index.specs.Texts.{text_cmp, at_text}
 use Rattle.zq_trees.specs.declared.types.Network.{Network}
 use Rattle.zq_trees.specs.declared.types.NodeIds.{NodeIds}
+use Rattle.zq_trees.specs.Entries.{Routed, entry_of, is_unlisted, keys_by, staying, with_entry, without_entry}
 use Rattle.zq_trees.specs.Nets.{◌>>=◌, is_listed, is_zid, place_of, towards}
 use Rattle.zq_hat.specs.declared.types.QueryTargetQabl.{QueryTargetQabl}
-use Rattle.zq_hat.specs.Kept.{at_id, change_face, face_at}
+use Rattle.zq_hat.specs.Kept.{change_face, face_at}
 use Rattle.zq_hat.specs.Regions.{in_routers, same_region, strategy_at}
 use Rattle.zq_hat.specs.State.{FaceState, HatState}
 
@@ -46,54 +42,25 @@ context_at number node s = in_routers (strategy_at s) (do
 abbrev pub source_at : ℕ → ℕ → HatState → Option Zid
 source_at number node s = option_and_then (λ (f : FaceState). in_routers (strategy_at s) (zid_at node f) (Some f.zid)) (face_at number s)
 
--- the routers' entries on a key
-abbrev pub entries_on : List ℕ → HatState → List (ℕ × QueryableInfoType)
-entries_on key s = option_map_or (λ es. es) (at_text key s.entries) []
-
 -- the router's entry on a key
 abbrev pub entry_at : ℕ → List ℕ → HatState → Option QueryableInfoType
-entry_at router key s = at_id router (entries_on key s)
-
--- an entry is merged in
-abbrev pub with_routed : Option QueryableInfoType → ℕ × QueryableInfoType → Option QueryableInfoType
-with_routed m e = joined m (Some e.1)
-
--- the routers' entries on a key, merged
-abbrev pub routers_info : List ℕ → HatState → Option QueryableInfoType
-routers_info key s = fold with_routed None (entries_on key s)
-
--- with these entries on a key; a key without any goes
-abbrev pub with_entries : List ℕ → List (ℕ × QueryableInfoType) → List (List ℕ × List (ℕ × QueryableInfoType)) → List (List ℕ × List (ℕ × QueryableInfoType))
-with_entries key [] all = remove_entry (is_at (text_cmp key)) all
-with_entries key (e ∷ es) all = insert_entry text_cmp all key (e ∷ es)
+entry_at router key s = entry_of router key s.entries
 
 -- the router's entry on the key is this one
 abbrev pub announced : ℕ → List ℕ → QueryableInfoType → HatState → HatState
-announced router key i s = record s { entries = with_entries key (insert_entry nat_cmp (entries_on key s) router i) s.entries }
+announced router key i s = record s { entries = with_entry router key i s.entries }
 
 -- the router's entry on the key is gone
 abbrev pub retracted : ℕ → List ℕ → HatState → HatState
-retracted router key s = record s { entries = with_entries key (remove_entry (is_at (nat_cmp router)) (entries_on key s)) s.entries }
-
--- the entry's router is listed
-abbrev pub stays : Network → ℕ × QueryableInfoType → Bool
-stays net e = is_listed net (record { 0 = e.0 })
-
--- the key's entries of listed routers, if there are any
-abbrev pub staying : Network → List ℕ × List (ℕ × QueryableInfoType) → List (List ℕ × List (ℕ × QueryableInfoType))
-staying net k = if list_any (stays net) k.1 then (k.0, filter (stays net) k.1) ∷ [] else []
+retracted router key s = record s { entries = without_entry router key s.entries }
 
 -- a network is put in place: entries of routers that it does not list go
 abbrev pub networked : Network → HatState → HatState
-networked net s = in_routers (strategy_at s) (record s { network = net; entries = flat_map (staying net) s.entries }) s
-
--- the key has an entry of a router that the network does not list
-abbrev pub is_losing : Network → List ℕ × List (ℕ × QueryableInfoType) → Bool
-is_losing net k = list_any (λ e. not (stays net e)) k.1
+networked net s = in_routers (strategy_at s) (record s { network = net; entries = staying (is_listed net) s.entries }) s
 
 -- the keys that lose an entry by a network, in order
 abbrev pub losing : Network → HatState → List (List ℕ)
-losing net s = keys_of (filter (is_losing net) s.entries)
+losing net s = keys_by (is_unlisted net) s.entries
 
 -- the face on the way to a router, and how far the router is
 abbrev pub way_to : HatState → ℕ → ℕ → Option (ℕ × ℕ)
@@ -112,7 +79,7 @@ abbrev pub entry_offer : HatState → List ℕ → ℕ → List ℕ → ℕ × Q
 entry_offer s q source key e = option_to_list (option_map (router_offer s q key source e.1) (way_to s source e.0))
 
 -- the offers for the entries on a key, if it meets the request's
-abbrev pub entries_offers : HatState → List ℕ → ℕ → List ℕ × List (ℕ × QueryableInfoType) → List QueryTargetQabl
+abbrev pub entries_offers : HatState → List ℕ → ℕ → List ℕ × Routed → List QueryTargetQabl
 entries_offers s q source k = if intersects k.0 q then flat_map (entry_offer s q source k.0) k.1 else []
 
 -- the source of an asker: in this region the place that its node number stands for, else the gateway's own place

@@ -23,7 +23,7 @@ pub record FaceState : Type 0 where
   pub finalized : List (List ℕ)
   pub nodes : NodeIds
 
--- a hat: its faces, by number; told has for each key the faces that were told of it, entries has for each key the routers' informations, owned what the gateway's own tree was told
+-- a hat: its faces, by number; told has for each key the faces that were told of it, entries has for each key the routers' informations
 pub record HatState : Type 0 where
   pub region : Region
   pub north_mode : Mode
@@ -32,5 +32,4 @@ pub record HatState : Type 0 where
   pub faces : List (ℕ × FaceState)
   pub told : List (List ℕ × List (ℕ × ToldEntry))
   pub entries : List (List ℕ × List (ℕ × QueryableInfoType))
-  pub owned : List (List ℕ × QueryableInfoType)
   pub network : Network

@@ -1,18 +1,25 @@
--- What the children of trees are told.
-use Rattle.std.specs.Prelude.{ℕ, List, [], ◌∷◌, ◌++◌, Option, None, if◌then◌else◌, option_map}
-use Rattle.std.specs.List.{flat_map, filter_map}
+-- The keys of a region, and what the children of trees are told.
+use Rattle.std.specs.Prelude.{ℕ, List, [], ◌∷◌, ◌++◌, Option, None, if◌then◌else◌}
+use Rattle.std.specs.List.{flat_map}
+use Rattle.std.specs.Map.{keys_of}
 use Rattle.std.specs.Option.{option_map_or}
 use Rattle.zq_message.specs.declared.message.QueryableInfoType.{QueryableInfoType}
 use Rattle.zq_message.specs.declared.message.Zid.{Zid}
 use Rattle.zq_trees.specs.declared.types.Network.{Network}
 use Rattle.zq_trees.specs.declared.types.Telling.{Telling}
 use Rattle.zq_trees.specs.declared.types.Tree.{Tree}
+use Rattle.zq_trees.specs.Entries.{standing}
 use Rattle.zq_trees.specs.Nets.{child_ids, fresh_ids, is_zid, place_of}
 use Rattle.zq_trees.specs.Seating.{faces_by}
 use Rattle.zq_trees.specs.Tellings.{all_told_of, children_told, same_infos}
-use Rattle.zq_hat.specs.Kept.{at_id}
+use Rattle.zq_hat.specs.Kept.{declared_keys}
+use Rattle.zq_hat.specs.Regions.{in_routers, strategy_at}
 use Rattle.zq_hat.specs.Routers.{face_with}
 use Rattle.zq_hat.specs.State.{HatState}
+
+-- the keys on which a region has information
+abbrev pub region_keys : HatState → List (List ℕ)
+region_keys s = in_routers (strategy_at s) (keys_of s.entries) (declared_keys s.faces)
 
 -- the open faces of ids, without the one that the call came from: where that has the least number of an id, no other takes its place
 abbrev pub faces_of : Option ℕ → List Zid → HatState → List ℕ
@@ -26,13 +33,9 @@ to_children from root key i s = children_told from (λ zid. face_with zid s.face
 abbrev pub own_told : List ℕ → Option QueryableInfoType → Option QueryableInfoType → HatState → List Telling
 own_told key was is s = if same_infos was is then [] else to_children None s.own key is s
 
--- a router's entry on a key, with the key
-abbrev pub keyed_entry : Zid → List ℕ × List (ℕ × QueryableInfoType) → Option (List ℕ × QueryableInfoType)
-keyed_entry router k = option_map (λ i. (k.0, i)) (at_id router.0 k.1)
-
 -- what stands of a root: a router's entries, or the gateway's own
 abbrev pub standing_of : List (List ℕ × QueryableInfoType) → Zid → HatState → List (List ℕ × QueryableInfoType)
-standing_of own root s = if is_zid root s.own then own else filter_map (keyed_entry root) s.entries
+standing_of own root s = if is_zid root s.own then own else standing root s.entries
 
 -- the new children of a tree of the root are told what stands of it
 abbrev pub root_told : List (List ℕ × QueryableInfoType) → Network → HatState → Zid → Tree → List Telling

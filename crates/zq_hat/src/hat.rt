@@ -4,7 +4,7 @@ ghost use Rattle.std.specs.Map.{set_value};
 ghost use Rattle.std.specs.BTreeMap.{is_at};
 ghost use Rattle.std.specs.Ordering.{nat_cmp};
 ghost use Rattle.zq_key.specs.Key.{is_key};
-ghost use Rattle.zq_hat.specs.Kept.{new_hat, with_face_opened, without_face, keys_of_face, has_face, clashes_at, declaration_at, has_any, is_full, change_face, registered, unregistered, unregister_result, region_info, changed, at_id, face_at, declare, withdraw, declaration};
+ghost use Rattle.zq_hat.specs.Kept.{new_hat, with_face_opened, without_face, keys_of_face, has_face, clashes_at, declaration_at, has_any, is_full, change_face, registered, unregistered, unregister_result, faces_info, region_info, changed, at_id, face_at, declare, withdraw, declaration};
 ghost use Rattle.zq_hat.specs.Tied.{without_declared};
 ghost use Rattle.zq_hat.specs.State.{FaceState};
 ghost use Rattle.zq_hat.specs.Marks.{finalized, marked};
@@ -69,7 +69,6 @@ impl Model for Hat {
       faces = h.faces.entries;
       told = [];
       entries = [];
-      owned = [];
       network = h.net;
     } };
 
@@ -363,7 +362,6 @@ impl Hat {
 
     /// The face declares the key under the id; the same id replaces. `IdInUse` exactly where the id
     /// stands for another key.
-    #[tactic(auto, using(crate::proofs::Routing::registered_at))]
     pub fn register_queryable(
         &mut self,
         face: FaceId,
@@ -416,12 +414,23 @@ impl Hat {
     }
 
     /// What the region's faces declared on the key, merged.
-    pub fn remote_queryables_of(&self, key: &str) -> Option<QueryableInfoType>
-        ensures { result ≡ region_info key.now self.now }
+    fn declared_info(&self, key: &str) -> Option<QueryableInfoType>
+        ensures { result ≡ faces_info key.now self.now.faces }
     {
         match self.index.get(key) {
             Some(holders) => holders.merged(),
             None => None,
+        }
+    }
+
+    /// The region's information on the key: what its faces declared on it, merged; in a region of
+    /// routers what these announced.
+    pub fn remote_queryables_of(&self, key: &str) -> Option<QueryableInfoType>
+        ensures { result ≡ region_info key.now self.now }
+    {
+        match strategy_of(self.region, self.north_mode) {
+            Strategy::Broker | Strategy::Client | Strategy::Peer => self.declared_info(key),
+            Strategy::Router => None,
         }
     }
 

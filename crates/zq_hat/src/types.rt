@@ -7,6 +7,7 @@ use zq_key::items::Items;
 use zq_key::memory::OutOfMemory;
 use zq_key::message::{Bound, FaceId, Mode, QueryableInfoType, Region, Zid};
 use zq_key::text::Text;
+use zq_trees::nets::Net;
 pub use zq_trees::types::{
     DirectionList, Network, NodeIds, Telling, TellingList, Tree, TreeList, U16List, U32List,
     ZidList,
@@ -89,6 +90,33 @@ pub enum UnregisterEntityResult {
 pub enum FinalMark {
     Initial,
     Key(Text),
+}
+
+/// What a call may change of what a region has on a key.
+#[derive(Drop)]
+pub enum Change {
+    /// A face declares it under the id.
+    Declared {
+        face: FaceId,
+        id: u32,
+        info: QueryableInfoType,
+    },
+    /// A face withdraws the id.
+    Withdrawn {
+        face: FaceId,
+        id: u32,
+    },
+    /// A face goes, with what it declared.
+    Left(FaceId),
+    /// A router has this entry on it.
+    Announced {
+        router: Zid,
+        info: QueryableInfoType,
+    },
+    /// A router has no entry on it.
+    Retracted(Zid),
+    /// A network is put in place.
+    Networked(Net),
 }
 
 /// An offer of a face (upstream's `QueryTargetQabl`): who would answer a key, and how completely.

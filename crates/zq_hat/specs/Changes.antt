@@ -1,0 +1,16 @@
+-- What a call may change of what a region has on a key.
+use Rattle.std.specs.Prelude.{ℕ, List}
+use Rattle.zq_hat.specs.declared.types.Change.{Change}
+use Rattle.zq_hat.specs.declared.types.Change.TheVariants as change
+use Rattle.zq_hat.specs.Kept.{change_face, declare, unregistered, without_face}
+use Rattle.zq_hat.specs.Routers.{announced, networked, retracted}
+use Rattle.zq_hat.specs.State.{HatState}
+
+-- the hat after the change, on the key
+abbrev pub changed_by : Change → List ℕ → HatState → HatState
+changed_by (change.Declared face id i) key s = change_face face.0 (declare id key i) s
+changed_by (change.Withdrawn face id) key s = unregistered face.0 id s
+changed_by (change.Left face) key s = without_face face.0 s
+changed_by (change.Announced router i) key s = announced router.0 key i s
+changed_by (change.Retracted router) key s = retracted router.0 key s
+changed_by (change.Networked net) key s = networked net s
