@@ -1,6 +1,5 @@
 -- At every point of every run open faces, hats and what stands for keys agree.
 use Rattle.std.proofs.Common.{◌≡◌, ◌∙◌, refl, sym, ap, subst, ℕ, ◌<◌, Bool, true, false, cond, not, List, [], ◌∷◌, fold, map, Option, Some, None, arith}
-use Rattle.std.specs.List.{flat_map}
 use Rattle.std.specs.Option.{is_some, option_map_or, option_and_then}
 use Rattle.std.specs.Ordering.{nat_cmp}
 use Rattle.std.specs.List.Sorted.{IsStrictlySortedBy}
@@ -19,7 +18,9 @@ use Rattle.zq_hat.specs.Marks.{finalized}
 use Rattle.zq_hat.specs.declared.types.Strategy.{Strategy}
 use Rattle.zq_hat.specs.declared.types.Strategy.TheVariants as strategy
 use Rattle.zq_hat.specs.Regions.{in_routers, strategy_at}
-use Rattle.zq_hat.specs.Routers.{announced, networked, noded, retracted, source_at, staying}
+use Rattle.zq_trees.specs.Entries.{staying}
+use Rattle.zq_trees.specs.Nets.{is_listed}
+use Rattle.zq_hat.specs.Routers.{announced, networked, noded, retracted, source_at}
 use Rattle.zq_query.specs.declared.records.ReplyTo.{ReplyTo}
 use Rattle.zq_query.specs.Closing.{at_face}
 use Rattle.zq_query.specs.Polling.{is_due, timeouts, timing_out}
@@ -118,7 +119,7 @@ module _ (s : State) (i : IsSound s) (t : IsTied s) where
       let x : (o : OpenFace) × (at face.0 s.core.faces ≡ Some o) = opened_face face.0 (all_passed (causes s.core (retracting face sd node)) h).0 in
       in_its_hat face.0 (retracted_by face.0 node (full_text sd)) s.core.faces s.names x
       (same_faces_tied s.core.faces s.core.hats s.names t x.0.region (retracted_by face.0 node (full_text sd)) (λ k. by_source (source_at face.0 node k) (λ z. retracted z.0 (full_text sd) k) k (λ z. refl)))
-  granted_tied (networking r net) h = same_faces_tied s.core.faces s.core.hats s.names t r (networked net) (λ k. by_strategy (strategy_at k) (record k { network = net; entries = flat_map (staying net) k.entries }) k refl)
+  granted_tied (networking r net) h = same_faces_tied s.core.faces s.core.hats s.names t r (networked net) (λ k. by_strategy (strategy_at k) (record k { network = net; entries = staying (is_listed net) k.entries }) k refl)
   granted_tied (tabling face ids) h =
       let x : (o : OpenFace) × (at face.0 s.core.faces ≡ Some o) = opened_face face.0 (all_passed (causes s.core (tabling face ids)) h).0 in
       in_its_hat face.0 (noded face.0 ids) s.core.faces s.names x (noded_tied s.core.faces s.core.hats s.names t face.0 x.0 x.1 ids)

@@ -41,7 +41,8 @@ use Rattle.zq_machine.specs.Machine.{after, state_after}
 use Rattle.zq_machine.specs.Selecting.{full_text}
 use Rattle.zq_machine.specs.State.{Core, State, at, first_hats, has_hat, hat_at, is_routing, joined, opening_state, with_hat}
 use Rattle.zq_machine.specs.TextCalls.{TextCall, opening, closing, declaring, withdrawing, finalizing, announcing, retracting, networking, tabling, by_router, read, said, said_or_none}
-use Rattle.zq_machine.specs.Trees.{all_own_told, from_tree, own_entry, own_told_in, touched, tree_told}
+use Rattle.zq_machine.specs.Messages.{from_hat}
+use Rattle.zq_machine.specs.Trees.{all_own_told, own_entry, own_told_in, touched, tree_told}
 use Rattle.zq_machine.proofs.Agreeing.{some_of}
 use Rattle.zq_machine.proofs.Changing.{number_test, one_number, region_there}
 use Rattle.zq_machine.proofs.Granted.{all_passed, by_granted}
@@ -150,8 +151,8 @@ no_network_set t e = refl
 
 nothing_told : (c : Core) (t : TextCall) → NoNetworks c.hats → routes t ≡ false → told_of c t ≡ []
 nothing_told c t none e =
-    ap (λ l. map from_tree (in_order (l ++ all_own_told c.hats (accepted c t).hats (touched c t)))) (no_tree c (accepted c t) t e)
-    ∙ ap (λ l. map from_tree (in_order l)) (none_on c.hats (accepted c t).hats (accepted_none c t (no_network_set t e) none) (touched c t))
+    ap (λ l. map from_hat (in_order (l ++ all_own_told c.hats (accepted c t).hats (touched c t)))) (no_tree c (accepted c t) t e)
+    ∙ ap (λ l. map from_hat (in_order l)) (none_on c.hats (accepted c t).hats (accepted_none c t (no_network_set t e) none) (touched c t))
 
 -- ---- regions of one index are one
 south_mode : (id jd : ℕ) (m n : Mode) → region_index (region.South id m) ≡ region_index (region.South jd n) → region.South id m ≡ region.South jd n

@@ -27,9 +27,10 @@ use Rattle.zq_hat.specs.declared.types.Strategy.{Strategy}
 use Rattle.zq_hat.specs.declared.types.Strategy.TheVariants as strategy
 use Rattle.zq_hat.specs.Kept.{at_id, declaration_at, declared_keys, face_at, has_face, key_of, keys_of_face, with_key, with_keys}
 use Rattle.zq_hat.specs.Regions.{in_routers, strategy_at}
-use Rattle.zq_hat.specs.Routers.{face_with, has_zid, is_losing, losing, source_at}
+use Rattle.zq_hat.specs.Routers.{face_with, has_zid, losing, source_at}
 use Rattle.zq_hat.specs.State.{FaceState, HatState}
-use Rattle.zq_hat.specs.Trees.{keyed_entry, network_told, own_told, root_told, standing_of, to_children, trees_told}
+use Rattle.zq_trees.specs.Entries.{has_by, is_unlisted, keyed_entry}
+use Rattle.zq_hat.specs.Trees.{network_told, own_told, region_keys, root_told, standing_of, to_children, trees_told}
 use Rattle.zq_tables.specs.Naming.{NamingState, naming_at}
 use Rattle.zq_machine.specs.declared.face.OpenFace.{OpenFace}
 use Rattle.zq_machine.specs.Configs.{Settings}
@@ -39,9 +40,9 @@ use Rattle.zq_machine.specs.Machine.{accepted_state}
 use Rattle.zq_machine.specs.Selecting.{full_text}
 use Rattle.zq_machine.specs.State.{Core, State, at, hat_at, hat_of}
 use Rattle.zq_machine.specs.TextCalls.{TextCall, closing, declaring, withdrawing, announcing, retracting, networking}
-use Rattle.zq_machine.specs.Trees.{all_own_told, body_on, due_told, from_tree, keyed_own, networked_told, own_entries, own_entry, own_keys, own_told_in, own_told_on, placed_told, region_keys, router_told, source_told, touched, tree_told, with_other_keys}
+use Rattle.zq_machine.specs.Trees.{all_own_told, due_told, keyed_own, networked_told, own_entries, own_entry, own_keys, own_told_in, own_told_on, placed_told, router_told, source_told, touched, tree_told, with_other_keys}
 use Rattle.zq_machine.specs.Handing.{Handed}
-use Rattle.zq_machine.specs.Messages.{TextMessage, text_final, text_reply, text_request}
+use Rattle.zq_machine.specs.Messages.{TextMessage, from_hat, told_or_ended, text_final, text_reply, text_request}
 use Rattle.zq_machine.specs.Writing.{tell, write}
 use Rattle.zq_machine.proofs.Agreed.{InOrder}
 use Rattle.zq_machine.proofs.Changing.{itself, region_there}
@@ -126,11 +127,11 @@ standing_keyed own root h keyed w = by (is_zid root h.own)
     by true = keyed
     by false = keyed_entries root h.entries w.entries
 
-losing_texts : (net : Network) (es : List (List ℕ × List (ℕ × QueryableInfoType))) → Each HasText IsUsed es → AreTexts (keys_of (filter (is_losing net) es))
+losing_texts : (net : Network) (es : List (List ℕ × List (ℕ × QueryableInfoType))) → Each HasText IsUsed es → AreTexts (keys_of (filter (has_by (is_unlisted net)) es))
 losing_texts net [] w = tt
-losing_texts net (e ∷ es) w = by (is_losing net e) (losing_texts net es w.1)
+losing_texts net (e ∷ es) w = by (has_by (is_unlisted net) e) (losing_texts net es w.1)
   where
-    by : (b : Bool) → AreTexts (keys_of (filter (is_losing net) es)) → AreTexts (keys_of (cond b (e ∷ filter (is_losing net) es) (filter (is_losing net) es)))
+    by : (b : Bool) → AreTexts (keys_of (filter (has_by (is_unlisted net)) es)) → AreTexts (keys_of (cond b (e ∷ filter (has_by (is_unlisted net)) es) (filter (has_by (is_unlisted net)) es)))
     by true ih = (w.0.0, ih)
     by false ih = ih
 
@@ -244,13 +245,13 @@ module _ (names : NamingState) where
   order_can ts [] all more = all
   order_can ts (u ∷ us) all more = order_can (insert_key telling_cmp ts u) us (all_put Can telling_cmp ts u all more.0) more.1
 
-  body_can : (key : List ℕ) (i : Option QueryableInfoType) → HasText key → tells_text (body_on key i) ≡ true
-  body_can key None some = some
-  body_can key (Some i) some = some
+  body_can : (id : ℕ) (key : List ℕ) (i : Option QueryableInfoType) → HasText key → tells_text (told_or_ended id key i) ≡ true
+  body_can id key None some = some
+  body_can id key (Some i) some = some
 
-  from_can : (ts : List TreeTelling) → AllCan ts → AllByRecursion (CanBeTold names) (map from_tree ts)
+  from_can : (ts : List TreeTelling) → AllCan ts → AllByRecursion (CanBeTold names) (map from_hat ts)
   from_can [] all = tt
-  from_can (t ∷ ts) all = ((all.0.0, body_can t.key t.info all.0.1), from_can ts all.1)
+  from_can (t ∷ ts) all = ((all.0.0, body_can t.id t.key t.info all.0.1), from_can ts all.1)
 
 -- ---- the keys that are touched
 face_keys_texts : (ds : List (ℕ × Declaration)) → Each Any (λ (d : Declaration). HasText d.key) ds → AreTexts (map key_of ds)

@@ -29,16 +29,19 @@ use Rattle.zq_hat.specs.declared.types.Strategy.TheVariants as strategy
 use Rattle.zq_hat.specs.Kept.{at_id, declaration_at, declared_keys, faces_info, info, key_of, keys_of_face, region_info, with_declared, with_face, with_key, with_keys}
 use Rattle.zq_hat.specs.Moved.{Keeps, move_declared, move_entry, move_face, move_hat}
 use Rattle.zq_hat.specs.Regions.{in_routers, strategy_at}
-use Rattle.zq_hat.specs.Routers.{face_with, has_zid, is_losing, losing, source_at}
+use Rattle.zq_hat.specs.Routers.{face_with, losing, source_at}
 use Rattle.zq_hat.specs.State.{FaceState, HatState}
-use Rattle.zq_hat.specs.Trees.{keyed_entry, network_told, own_told, root_told, standing_of, to_children, trees_told}
+use Rattle.zq_trees.specs.Entries.{has_by, is_unlisted, keyed_entry}
+use Rattle.zq_hat.specs.Trees.{network_told, own_told, region_keys, root_told, standing_of, to_children, trees_told}
 use Rattle.zq_hat.proofs.OffersMoved.{key_moved}
+use Rattle.zq_hat.proofs.RoutersMoved.{joined_lists, routers_info_moved, seat_moved}
 use Rattle.zq_tables.specs.declared.said.Said.TheVariants as said
 use Rattle.zq_machine.specs.Deciding.{refusal_of}
 use Rattle.zq_machine.specs.Moved.{move_core, move_region, move_telling, move_text, move_told}
 use Rattle.zq_machine.specs.State.{Core, hat_at, hat_of, is_open}
 use Rattle.zq_machine.specs.TextCalls.{TextCall, closing, declaring, withdrawing, announcing, retracting, networking}
-use Rattle.zq_machine.specs.Trees.{all_own_told, body_on, due_told, from_tree, keyed_own, networked_told, own_entries, own_entry, own_keys, own_told_in, own_told_on, placed_told, region_keys, router_told, source_told, touched, tree_told, with_other, with_other_keys, withdrawn_key}
+use Rattle.zq_machine.specs.Messages.{from_hat, told_or_ended}
+use Rattle.zq_machine.specs.Trees.{all_own_told, due_told, keyed_own, networked_told, own_entries, own_entry, own_keys, own_told_in, own_told_on, placed_told, router_told, source_told, touched, tree_told, with_other, with_other_keys, withdrawn_key}
 use Rattle.zq_machine.proofs.CausesMoved.{second_holds}
 use Rattle.zq_machine.proofs.HatsMoved.{declaration_found, face_found, hat_found, moved_declaration, moved_face, own_found}
 use Rattle.zq_machine.proofs.RoutersMoved.{source_moved}
@@ -52,10 +55,6 @@ module _ {X Y Z W : Type 0} (g : X → Y) (k : Z → W) (f : Y → Option W) (h 
       by : (o : Option Z) → filter_map f (map g xs) ≡ map k (filter_map h xs) → cons_option (option_map k o) (filter_map f (map g xs)) ≡ map k (cons_option o (filter_map h xs))
       by None ih = ih
       by (Some z) ih = ap (λ l. k z ∷ l) ih
-
-joined_lists : {X Z W : Type 0} (k : Z → W) (f : X → List W) (h : X → List Z) → ((x : X) → f x ≡ map k (h x)) → (xs : List X) → flat_map f xs ≡ map k (flat_map h xs)
-joined_lists k f h same [] = refl
-joined_lists k f h same (x ∷ xs) = (λ j. same x j ++ joined_lists k f h same xs j) ∙ sym (map-append k (h x) (flat_map h xs))
 
 module _ (φ : List ℕ → List ℕ) (keeps : Keeps φ) where
   -- a telling along a tree with its key moved
@@ -85,28 +84,19 @@ module _ (φ : List ℕ → List ℕ) (keeps : Keeps φ) where
   ordered_moved : (ts : List TreeTelling) → in_order (map move_tree ts) ≡ map move_tree (in_order ts)
   ordered_moved ts = fold-moved move_tree (map move_tree) (insert_key telling_cmp) (insert_key telling_cmp) put_moved [] ts
 
-  body_moved : (key : List ℕ) (i : Option QueryableInfoType) → body_on (φ key) i ≡ move_told φ (body_on key i)
-  body_moved key None = refl
-  body_moved key (Some i) = refl
+  body_moved : (id : ℕ) (key : List ℕ) (i : Option QueryableInfoType) → told_or_ended id (φ key) i ≡ move_told φ (told_or_ended id key i)
+  body_moved id key None = refl
+  body_moved id key (Some i) = refl
 
-  from_moved : (ts : List TreeTelling) → map from_tree (map move_tree ts) ≡ map (move_telling φ) (map from_tree ts)
+  from_moved : (ts : List TreeTelling) → map from_hat (map move_tree ts) ≡ map (move_telling φ) (map from_hat ts)
   from_moved ts =
-      map-map move_tree from_tree (λ t. move_telling φ (from_tree t)) (λ t. ap (λ b. record (from_tree t) { body = b }) (body_moved t.key t.info)) ts
-      ∙ sym (map-map from_tree (move_telling φ) (λ t. move_telling φ (from_tree t)) (λ t. refl) ts)
+      map-map move_tree from_hat (λ t. move_telling φ (from_hat t)) (λ t. ap (λ b. record (from_hat t) { body = b }) (body_moved t.id t.key t.info)) ts
+      ∙ sym (map-map from_hat (move_telling φ) (λ t. move_telling φ (from_hat t)) (λ t. refl) ts)
 
   -- ---- children of a root
-  seat_moved : (zid : Zid) (fs : List (ℕ × FaceState)) → face_with zid (map (move_face φ) fs) ≡ face_with zid fs
-  seat_moved zid [] = refl
-  seat_moved zid (f ∷ fs) = by (has_zid zid f) (seat_moved zid fs)
-    where
-      by : (b : Bool) → face_with zid (map (move_face φ) fs) ≡ face_with zid fs
-          → option_map (λ (x : ℕ × FaceState). x.0) (cond b (Some (move_face φ f)) (find (has_zid zid) (map (move_face φ) fs))) ≡ option_map (λ (x : ℕ × FaceState). x.0) (cond b (Some f) (find (has_zid zid) fs))
-      by true ih = refl
-      by false ih = ih
-
   children_moved : (from : Option ℕ) (root : Zid) (key : List ℕ) (i : Option QueryableInfoType) (h : HatState) → to_children from root (φ key) i (move_hat φ h) ≡ map move_tree (to_children from root key i h)
   children_moved from root key i h =
-      (λ j. option_map_or (λ node. map (tree_telling (φ key) i node) (faces_by from (λ zid. seat_moved zid h.faces j) (children_of h.network root))) (place_of h.network root) [])
+      (λ j. option_map_or (λ node. map (tree_telling (φ key) i node) (faces_by from (λ zid. seat_moved φ zid h.faces j) (children_of h.network root))) (place_of h.network root) [])
       ∙ by (place_of h.network root)
     where
       ns : List ℕ
@@ -131,7 +121,7 @@ module _ (φ : List ℕ → List ℕ) (keeps : Keeps φ) where
   faces_info_moved key fs = fold-map (move_face φ) (with_face (φ key)) (with_face key) (λ m f. ap (joined m) (face_info_moved key f)) None fs
 
   region_info_moved : (key : List ℕ) (h : HatState) → region_info (φ key) (move_hat φ h) ≡ region_info key h
-  region_info_moved key h = λ j. in_routers (strategy_at h) (faces_info_moved key h.faces j) (faces_info_moved key h.faces j)
+  region_info_moved key h = λ j. in_routers (strategy_at h) (routers_info_moved φ keeps key h j) (faces_info_moved key h.faces j)
 
   own_entry_moved : (place : ℕ) (key : List ℕ) (hats : List (ℕ × HatState)) → own_entry place (φ key) (move_hats hats) ≡ own_entry place key hats
   own_entry_moved place key hats = fold-map (move_region φ) (with_other place (φ key)) (with_other place key) (λ m h. ap (λ i. cond (h.0 == place) m (joined m i)) (region_info_moved key h.1)) None hats
@@ -198,7 +188,7 @@ module _ (φ : List ℕ → List ℕ) (keeps : Keeps φ) where
 
   root_moved : (own : List (List ℕ × QueryableInfoType)) (old : Network) (h : HatState) (root : Zid) (tree : Tree) → root_told (map move_info own) old (move_hat φ h) root tree ≡ map move_tree (root_told own old h root tree)
   root_moved own old h root tree =
-      (λ j. option_map_or (λ node. flat_map (all_told_of (standing_moved own root h j) node) (faces_by None (λ zid. seat_moved zid h.faces j) (fresh_ids old root (child_ids h.network tree)))) (place_of h.network root) [])
+      (λ j. option_map_or (λ node. flat_map (all_told_of (standing_moved own root h j) node) (faces_by None (λ zid. seat_moved φ zid h.faces j) (fresh_ids old root (child_ids h.network tree)))) (place_of h.network root) [])
       ∙ by (place_of h.network root)
     where
       ns : List ℕ
@@ -268,12 +258,12 @@ module _ (φ : List ℕ → List ℕ) (keeps : Keeps φ) where
       (λ key. flat_map-map (move_region φ) move_tree (own_told_in (move_hats before) (move_hats after) (φ key)) (own_told_in before after key) (own_in_moved before after key) after) keys
 
   -- ---- keys that are touched
-  losing_moved : (net : Network) (es : List (List ℕ × List (ℕ × QueryableInfoType))) → keys_of (filter (is_losing net) (map (move_entry φ) es)) ≡ map φ (keys_of (filter (is_losing net) es))
+  losing_moved : (net : Network) (es : List (List ℕ × List (ℕ × QueryableInfoType))) → keys_of (filter (has_by (is_unlisted net)) (map (move_entry φ) es)) ≡ map φ (keys_of (filter (has_by (is_unlisted net)) es))
   losing_moved net [] = refl
-  losing_moved net (e ∷ es) = by (is_losing net e) (losing_moved net es)
+  losing_moved net (e ∷ es) = by (has_by (is_unlisted net) e) (losing_moved net es)
     where
-      by : (b : Bool) → keys_of (filter (is_losing net) (map (move_entry φ) es)) ≡ map φ (keys_of (filter (is_losing net) es))
-          → keys_of (cond b (move_entry φ e ∷ filter (is_losing net) (map (move_entry φ) es)) (filter (is_losing net) (map (move_entry φ) es))) ≡ map φ (keys_of (cond b (e ∷ filter (is_losing net) es) (filter (is_losing net) es)))
+      by : (b : Bool) → keys_of (filter (has_by (is_unlisted net)) (map (move_entry φ) es)) ≡ map φ (keys_of (filter (has_by (is_unlisted net)) es))
+          → keys_of (cond b (move_entry φ e ∷ filter (has_by (is_unlisted net)) (map (move_entry φ) es)) (filter (has_by (is_unlisted net)) (map (move_entry φ) es))) ≡ map φ (keys_of (cond b (e ∷ filter (has_by (is_unlisted net)) es) (filter (has_by (is_unlisted net)) es)))
       by true ih = ap (λ l. φ e.0 ∷ l) ih
       by false ih = ih
 
@@ -335,8 +325,8 @@ module _ (φ : List ℕ → List ℕ) (keeps : Keeps φ) where
     -- what is due by a call that nothing refuses
     pub due_moved : (d : Core) (t : TextCall) → refusal_of c t ≡ None → due_told (move_core φ c) (move_core φ d) (move_text φ t) ≡ map (move_telling φ) (due_told c d t)
     due_moved d t e =
-        ap (λ l. map from_tree (in_order l))
+        ap (λ l. map from_hat (in_order l))
         ((λ j. tree_moved d t e j ++ (ap (all_own_told (move_hats c.hats) (move_hats d.hats)) (touched_moved t e) ∙ own_all_moved c.hats d.hats (touched c t)) j)
         ∙ sym (map-append move_tree (tree_told c d t) (all_own_told c.hats d.hats (touched c t))))
-        ∙ ap (map from_tree) (ordered_moved (tree_told c d t ++ all_own_told c.hats d.hats (touched c t)))
+        ∙ ap (map from_hat) (ordered_moved (tree_told c d t ++ all_own_told c.hats d.hats (touched c t)))
         ∙ from_moved (in_order (tree_told c d t ++ all_own_told c.hats d.hats (touched c t)))

@@ -3,7 +3,6 @@ use Rattle.std.proofs.Common.{◌≡◌, ◌∙◌, refl, sym, ap, ℕ, Bool, tr
 use Rattle.std.specs.List.Sorted.{IsStrictlySortedBy}
 use Rattle.std.specs.Map.{keys_of, set_value}
 use Rattle.std.specs.BTreeMap.{is_at}
-use Rattle.std.specs.List.{flat_map}
 use Rattle.std.specs.Option.{is_some, option_and_then, option_map, option_map_or}
 use Rattle.std.specs.Ordering.{nat_cmp}
 use Rattle.std.proofs.lemmas.Cmp.{nat_cmp_total}
@@ -21,7 +20,9 @@ use Rattle.zq_hat.specs.Marks.{finalized}
 use Rattle.zq_hat.specs.declared.types.Strategy.{Strategy}
 use Rattle.zq_hat.specs.declared.types.Strategy.TheVariants as strategy
 use Rattle.zq_hat.specs.Regions.{in_routers, strategy_at}
-use Rattle.zq_hat.specs.Routers.{announced, networked, noded, retracted, source_at, staying}
+use Rattle.zq_trees.specs.Entries.{staying}
+use Rattle.zq_trees.specs.Nets.{is_listed}
+use Rattle.zq_hat.specs.Routers.{announced, networked, noded, retracted, source_at}
 use Rattle.zq_trees.specs.declared.types.Network.{Network}
 use Rattle.zq_trees.specs.Nets.{no_network}
 use Rattle.zq_machine.specs.declared.config.Entry.{Entry}
@@ -142,7 +143,7 @@ retracted_bare face node key h = by (source_at face node h)
 networked_bare : (net : Network) → KeepsBare (networked net)
 networked_bare net h = by (strategy_at h)
   where
-    by : (k : Strategy) → bare (in_routers k (record h { network = net; entries = flat_map (staying net) h.entries }) h) ≡ bare h
+    by : (k : Strategy) → bare (in_routers k (record h { network = net; entries = staying (is_listed net) h.entries }) h) ≡ bare h
     by strategy.Broker = refl
     by strategy.Client = refl
     by strategy.Peer = refl

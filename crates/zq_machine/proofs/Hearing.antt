@@ -79,9 +79,9 @@ reads_plainly n [] h = absurd (omega (arith, h))
 reads_plainly n (b ∷ text) h = refl
 
 module _ (n : FaceNaming) (part : List ℕ) where
-  record Stands (x : ℕ × Mapping) : Type 0 where
-    number : (x.0 == 0) ≡ false
-    stands : text_at x.0 (handed_side n x.1) ≡ Some part
+  pub record Stands (x : ℕ × Mapping) : Type 0 where
+    pub number : (x.0 == 0) ≡ false
+    pub stands : text_at x.0 (handed_side n x.1) ≡ Some part
 
   named : (side : Mapping) (id : ℕ) → least_name part (handed_side n side) ≡ Some id → Stands (id, side)
   named side id h =
@@ -89,7 +89,7 @@ module _ (n : FaceNaming) (part : List ℕ) where
       let q = and_parts (not (id == 0)) (is_text part (text_at id names)) (find-passes (names_text names part) (keys_of names) id h) in
       record { number = not-true (id == 0) q.0; stands = text-is part (text_at id names) q.1 }
 
-  known_stands : (x : ℕ × Mapping) → known n part ≡ Some x → Stands x
+  pub known_stands : (x : ℕ × Mapping) → known n part ≡ Some x → Stands x
   known_stands x h = first (least_name part n.theirs) refl (least_name part n.ours) refl h
     where
       is : (y : ℕ × Mapping) → Some y ≡ Some x → Stands y → Stands x
@@ -100,7 +100,7 @@ module _ (n : FaceNaming) (part : List ℕ) where
       first None e (Some id) f g = is (id, mapping.Sender) g (named mapping.Sender id f)
       first None e None f g = absurd (cc)
 
-positive : (id : ℕ) → 1 ≤ id → (id == 0) ≡ false
+pub positive : (id : ℕ) → 1 ≤ id → (id == 0) ≡ false
 positive id h = by (id == 0) refl
   where
     by : (b : Bool) → (id == 0) ≡ b → b ≡ false
@@ -137,7 +137,7 @@ module _ (n : FaceNaming) (text : List ℕ) (some : 0 < length text) where
 
 -- ---- faces that are open
 -- what stands for keys at a face that is changed, and that the open faces stay
-found_there : (face : ℕ) (g : FaceKeys → FaceKeys) (s : NamingState) → is_some (naming_at face s) ≡ true → face_naming face (change_naming face g s) ≡ (g (face_keys face s)).numbers
+pub found_there : (face : ℕ) (g : FaceKeys → FaceKeys) (s : NamingState) → is_some (naming_at face s) ≡ true → face_naming face (change_naming face g s) ≡ (g (face_keys face s)).numbers
 found_there face g s h =
     ap (λ z. (unwrap_or (naming_at face z) no_keys).numbers) (naming_changed face g s)
     ∙ ap (λ (o : Option FaceKeys). (unwrap_or o no_keys).numbers) (found_here face g s face (itself face))
@@ -160,7 +160,7 @@ told_open c t (key_ended id None) s q h = h
 told_open c t (key_ended id (Some text)) s q h = numbered_open t.to text (told_key c t.to text s).declared s q h
 told_open c t all_told s q h = h
 
-all_open : (c : Core) (t : Telling) (names : NamingState) (ts : List Telling) → AllByRecursion (CanBeTold names) ts → AllByRecursion (CanBeTold (tell_body c t t.body names).names) ts
+pub all_open : (c : Core) (t : Telling) (names : NamingState) (ts : List Telling) → AllByRecursion (CanBeTold names) ts → AllByRecursion (CanBeTold (tell_body c t t.body names).names) ts
 all_open c t names [] all = tt
 all_open c t names (u ∷ us) all = ((told_open c t t.body names u.to.0 all.0.0, all.0.1), all_open c t names us all.1)
 

@@ -17,6 +17,7 @@ use Rattle.zq_machine.proofs.Silent.{nothing_after}
 use Rattle.zq_machine.proofs.Routed.{all_routed}
 use Rattle.zq_machine.proofs.Standing.{all_listed, all_stand}
 use Rattle.zq_machine.proofs.Settled.{final_promise, run_once}
+use Rattle.zq_machine.proofs.Direct.{number_promise}
 use Rattle.zq_machine.proofs.Tells.{tell_promise}
 use Rattle.zq_machine.proofs.Waits.{call_waits}
 use Rattle.zq_machine.proofs.Finals.{opening_sound, run_sound}
@@ -30,6 +31,7 @@ kept config before c =
       replies = reply_promise s c;
       waits = call_waits s c;
       tells = tell_promise config s c (run_in_order config before);
+      direct = number_promise config s c (run_in_order config before);
       answer = call_answers s c;
       fit = call_fits s c;
       ordered = call_ordered s c (run_in_order config before).numbered;

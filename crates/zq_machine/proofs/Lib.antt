@@ -34,6 +34,7 @@ pub mod Worded
 pub mod Built
 pub mod DueHeard
 pub mod Tells
+pub mod Direct
 pub mod Targets
 pub mod Always
 pub mod Counting

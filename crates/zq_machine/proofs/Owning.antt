@@ -3,7 +3,7 @@ use Rattle.std.proofs.Common.{◌≡◌, ◌∙◌, refl, sym, ap, subst, ℕ, B
 use Rattle.std.specs.Prelude.{◌==◌}
 use Rattle.std.specs.BTreeMap.{insert_entry, is_at}
 use Rattle.std.specs.List.Sorted.{IsStrictlySortedBy}
-use Rattle.std.specs.List.{AllByRecursion, flat_map, list_any}
+use Rattle.std.specs.List.{AllByRecursion, cons_option, list_any}
 use Rattle.std.specs.Map.{keys_of, remove_entry, set_value}
 use Rattle.std.specs.Option.{is_some, option_and_then, option_map, option_map_or, option_to_list}
 use Rattle.std.specs.Ordering.{is_eq, match_ordering, nat_cmp}
@@ -22,7 +22,9 @@ use Rattle.zq_message.specs.declared.message.QueryableInfoType.{QueryableInfoTyp
 use Rattle.zq_message.specs.declared.message.Region.{Region}
 use Rattle.zq_message.specs.declared.message.Zid.{Zid}
 use Rattle.zq_trees.specs.declared.types.Network.{Network}
+use Rattle.zq_index.specs.Holders.{if_any}
 use Rattle.zq_index.specs.Infos.{joined}
+use Rattle.zq_index.proofs.Merges.{joined_none}
 use Rattle.zq_index.specs.Texts.{at_text, text_cmp}
 use Rattle.zq_index.proofs.Orders.{text_exact, text_total}
 use Rattle.zq_key.proofs.Lookups.{apart, found_after_insertion, same_entries, same_key}
@@ -31,10 +33,12 @@ use Rattle.zq_hat.specs.declared.types.FinalMark.{FinalMark}
 use Rattle.zq_hat.specs.declared.types.FinalMark.TheVariants as mark
 use Rattle.zq_hat.specs.declared.types.Strategy.{Strategy}
 use Rattle.zq_hat.specs.declared.types.Strategy.TheVariants as strategy
-use Rattle.zq_hat.specs.Kept.{at_id, change_face, clashes_at, declaration, declaration_at, declare, face_at, faces_info, has_any, has_face, info, is_apart, key_of, keys_of_face, new_face, registered, unregistered, with_declared, with_face, with_face_opened, withdraw, without_face}
+use Rattle.zq_hat.specs.Kept.{at_id, change_face, clashes_at, declaration, declaration_at, declare, face_at, faces_info, has_any, has_face, info, is_apart, key_of, keys_of_face, new_face, registered, routers_info, unregistered, with_declared, with_face, with_face_opened, withdraw, without_face}
 use Rattle.zq_hat.specs.Marks.{finalized, marked}
 use Rattle.zq_hat.specs.Regions.{in_routers, strategy_at}
-use Rattle.zq_hat.specs.Routers.{announced, entries_on, is_losing, losing, networked, noded, retracted, routers_info, source_at, staying, stays, with_entries, with_routed}
+use Rattle.zq_trees.specs.Entries.{Entries, Routed, entries_at, has_by, is_by, is_unlisted, keys_by, routed_info, routed_with, routed_without, staying, with_entries}
+use Rattle.zq_trees.specs.Nets.{is_listed}
+use Rattle.zq_hat.specs.Routers.{announced, losing, networked, noded, retracted, source_at}
 use Rattle.zq_hat.specs.State.{FaceState, HatState}
 use Rattle.zq_hat.specs.declared.types.FaceRecord.{FaceRecord}
 use Rattle.zq_hat.proofs.Routing.{registered_at}
@@ -51,13 +55,6 @@ use Rattle.zq_machine.proofs.Changing.{region_there}
 use Rattle.zq_machine.proofs.Granted.{all_passed, by_granted}
 use Rattle.zq_machine.proofs.Hats.{same_view, same_view_of}
 use Rattle.zq_machine.proofs.Worded.{Any, Each, HasText, IsUsed, IsWorded, each_found}
-
-abbrev Entries : Type 0
-Entries = List (List ℕ × List (ℕ × QueryableInfoType))
-
-joined_none : (m : Option QueryableInfoType) → joined m None ≡ m
-joined_none None = refl
-joined_none (Some i) = refl
 
 module _ (key : List ℕ) where
   -- another text
@@ -150,45 +147,49 @@ module _ (key : List ℕ) where
           sym (ap (λ b. cond b (Some e.1) (at_text key es)) away)
       by false c more = ap (λ x. cond (is_at (text_cmp key) e.0) (Some e.1) x) more
 
-  other_found : (k : List ℕ) → IsOff k → (v : List (ℕ × QueryableInfoType)) (es : Entries) → at_text key (with_entries k v es) ≡ at_text key es
+  other_found : (k : List ℕ) → IsOff k → (v : Routed) (es : Entries) → at_text key (with_entries k v es) ≡ at_text key es
   other_found k o [] es = removed_other k o es
   other_found k o (x ∷ v) es = found_after_insertion text_total text_exact k key (x ∷ v) es ∙ ap (λ b. cond b (Some (x ∷ v)) (at_text key es)) (is_apart_from k o)
 
-  all_stay : (net : Network) (xs : List (ℕ × QueryableInfoType)) → list_any (λ e. not (stays net e)) xs ≡ false → filter (stays net) xs ≡ xs
+  all_stay : (net : Network) (xs : Routed) → list_any (is_by (is_unlisted net)) xs ≡ false → filter (is_by (is_listed net)) xs ≡ xs
   all_stay net [] h = refl
   all_stay net (x ∷ xs) h =
-      let p = or_parts (not (stays net x)) (list_any (λ e. not (stays net e)) xs) h in
-      ap (λ b. cond b (x ∷ filter (stays net) xs) (filter (stays net) xs)) (not-false (stays net x) p.0) ∙ ap (λ l. x ∷ l) (all_stay net xs p.1)
+      let p = or_parts (not (is_by (is_listed net) x)) (list_any (is_by (is_unlisted net)) xs) h in
+      ap (λ b. cond b (x ∷ filter (is_by (is_listed net)) xs) (filter (is_by (is_listed net)) xs)) (not-false (is_by (is_listed net) x) p.0) ∙ ap (λ l. x ∷ l) (all_stay net xs p.1)
+
+  used_any : (xs : Routed) → has_any xs ≡ true → if_any xs ≡ Some xs
+  used_any [] has = absurd (false≢true has)
+  used_any (x ∷ xs) has = refl
 
   -- each key has an entry
   abbrev pub AreUsed : Entries → Type 0
   AreUsed es = AllByRecursion (λ e. has_any e.1 ≡ true) es
 
-  network_found : (net : Network) (es : Entries) → AreUsed es → AreOff (keys_of (filter (is_losing net) es)) → at_text key (flat_map (staying net) es) ≡ at_text key es
+  network_found : (net : Network) (es : Entries) → AreUsed es → AreOff (keys_by (is_unlisted net) es) → at_text key (staying (is_listed net) es) ≡ at_text key es
   network_found net [] used o = refl
-  network_found net (e ∷ es) used o = by (list_any (stays net) e.1) (is_losing net e) refl refl (is_at (text_cmp key) e.0) refl o (network_found net es used.1)
+  network_found net (e ∷ es) used o = by (has_by (is_unlisted net) e) refl (is_at (text_cmp key) e.0) refl o (network_found net es used.1)
     where
       on_it : is_at (text_cmp key) e.0 ≡ true → bytes_eq e.0 key ≡ true
       on_it at = (bytes_eq-Decides e.0 key).1 (sym (same_key text_total text_exact key e.0 at))
 
-      none_there : (xs : List (ℕ × QueryableInfoType)) → has_any xs ≡ true → list_any (stays net) xs ≡ false → list_any (λ x. not (stays net x)) xs ≡ false → ⊥
-      none_there [] has none all = false≢true has
-      none_there (x ∷ xs) has none all =
-          let p = or_parts (stays net x) (list_any (stays net) xs) none in
-          let q = or_parts (not (stays net x)) (list_any (λ y. not (stays net y)) xs) all in
-          true≢false (sym (ap not p.0) ∙ q.0)
+      left : Option Routed → Entries
+      left r = cons_option (option_map (λ xs. (e.0, xs)) r) (staying (is_listed net) es)
 
-      by : (some lost : Bool) → list_any (stays net) e.1 ≡ some → is_losing net e ≡ lost → (at : Bool) → is_at (text_cmp key) e.0 ≡ at
-          → AreOff (keys_of (cond lost (e ∷ filter (is_losing net) es) (filter (is_losing net) es)))
-          → (AreOff (keys_of (filter (is_losing net) es)) → at_text key (flat_map (staying net) es) ≡ at_text key es)
-          → at_text key (cond some ((e.0, filter (stays net) e.1) ∷ []) [] ++ flat_map (staying net) es) ≡ cond at (Some e.1) (at_text key es)
-      by true false s l true a off more = ap (λ b. cond b (Some (filter (stays net) e.1)) (at_text key (flat_map (staying net) es))) a ∙ ap Some (all_stay net e.1 l)
-      by false false s l true a off more = absurd (none_there e.1 used.0 s l)
-      by some true s l true a off more = absurd (true≢false (sym (on_it a) ∙ (or_parts (bytes_eq e.0 key) (list_any (λ k. bytes_eq k key) (keys_of (filter (is_losing net) es))) off).0))
-      by true true s l false a off more = ap (λ b. cond b (Some (filter (stays net) e.1)) (at_text key (flat_map (staying net) es))) a ∙ more (or_parts (bytes_eq e.0 key) (list_any (λ k. bytes_eq k key) (keys_of (filter (is_losing net) es))) off).1
-      by true false s l false a off more = ap (λ b. cond b (Some (filter (stays net) e.1)) (at_text key (flat_map (staying net) es))) a ∙ more off
-      by false true s l false a off more = more (or_parts (bytes_eq e.0 key) (list_any (λ k. bytes_eq k key) (keys_of (filter (is_losing net) es))) off).1
-      by false false s l false a off more = more off
+      beside : (r : Option Routed) → is_at (text_cmp key) e.0 ≡ false → at_text key (left r) ≡ at_text key (staying (is_listed net) es)
+      beside None a = refl
+      beside (Some xs) a = ap (λ b. cond b (Some xs) (at_text key (staying (is_listed net) es))) a
+
+      kept : has_by (is_unlisted net) e ≡ false → if_any (filter (is_by (is_listed net)) e.1) ≡ Some e.1
+      kept l = ap if_any (all_stay net e.1 l) ∙ used_any e.1 used.0
+
+      by : (lost : Bool) → has_by (is_unlisted net) e ≡ lost → (at : Bool) → is_at (text_cmp key) e.0 ≡ at
+          → AreOff (keys_of (cond lost (e ∷ filter (has_by (is_unlisted net)) es) (filter (has_by (is_unlisted net)) es)))
+          → (AreOff (keys_by (is_unlisted net) es) → at_text key (staying (is_listed net) es) ≡ at_text key es)
+          → at_text key (left (if_any (filter (is_by (is_listed net)) e.1))) ≡ cond at (Some e.1) (at_text key es)
+      by false l true a off more = ap (λ r. at_text key (left r)) (kept l) ∙ ap (λ b. cond b (Some e.1) (at_text key (staying (is_listed net) es))) a
+      by false l false a off more = beside (if_any (filter (is_by (is_listed net)) e.1)) a ∙ more off
+      by true l true a off more = absurd (true≢false (sym (on_it a) ∙ (or_parts (bytes_eq e.0 key) (list_any (λ k. bytes_eq k key) (keys_by (is_unlisted net) es)) off).0))
+      by true l false a off more = beside (if_any (filter (is_by (is_listed net)) e.1)) a ∙ more (or_parts (bytes_eq e.0 key) (list_any (λ k. bytes_eq k key) (keys_by (is_unlisted net) es)) off).1
 
 -- ---- what a region has on a key
 pub record OnKey : Type 0 where
@@ -200,8 +201,8 @@ abbrev pub on_key : List ℕ → HatState → OnKey
 on_key key h = record { kind = strategy_at h; faces = faces_info key h.faces; routers = routers_info key h }
 
 module _ (key : List ℕ) where
-  routed_by : (o p : Option (List (ℕ × QueryableInfoType))) → o ≡ p → fold with_routed None (option_map_or (λ es. es) o []) ≡ fold with_routed None (option_map_or (λ es. es) p [])
-  routed_by o p e = ap (λ x. fold with_routed None (option_map_or (λ es. es) x [])) e
+  routed_by : (o p : Option Routed) → o ≡ p → routed_info (option_map_or (λ es. es) o []) ≡ routed_info (option_map_or (λ es. es) p [])
+  routed_by o p e = ap (λ (x : Option Routed). routed_info (option_map_or (λ es. es) x [])) e
 
   face_same : (n : ℕ) (k : FaceState → FaceState) (h : HatState) → ((f : FaceState) → face_at n h ≡ Some f → info key (k f) ≡ info key f) → on_key key (change_face n k h) ≡ on_key key h
   face_same n k h same = by (face_at n h) refl
@@ -242,19 +243,19 @@ module _ (key : List ℕ) where
     where
       by : (z : Option Zid) → on_key key (option_map_or (λ (z : Zid). announced z.0 text i h) z h) ≡ on_key key h
       by None = refl
-      by (Some z) = ap (λ x. record (on_key key h) { routers = x }) (routed_by _ _ (other_found key text o (insert_entry nat_cmp (entries_on text h) z.0 i) h.entries))
+      by (Some z) = ap (λ x. record (on_key key h) { routers = x }) (routed_by _ _ (other_found key text o (routed_with z.0 i (entries_at text h.entries)) h.entries))
 
   retracted_same : (n node : ℕ) (text : List ℕ) (h : HatState) → IsOff key text → on_key key (retracted_by n node text h) ≡ on_key key h
   retracted_same n node text h o = by (source_at n node h)
     where
       by : (z : Option Zid) → on_key key (option_map_or (λ (z : Zid). retracted z.0 text h) z h) ≡ on_key key h
       by None = refl
-      by (Some z) = ap (λ x. record (on_key key h) { routers = x }) (routed_by _ _ (other_found key text o (remove_entry (is_at (nat_cmp z.0)) (entries_on text h)) h.entries))
+      by (Some z) = ap (λ x. record (on_key key h) { routers = x }) (routed_by _ _ (other_found key text o (routed_without z.0 (entries_at text h.entries)) h.entries))
 
   networked_same : (net : Network) (h : HatState) → AreUsed key h.entries → AreOff key (losing net h) → on_key key (networked net h) ≡ on_key key h
   networked_same net h used o = by (strategy_at h)
     where
-      by : (k : Strategy) → on_key key (in_routers k (record h { network = net; entries = flat_map (staying net) h.entries }) h) ≡ on_key key h
+      by : (k : Strategy) → on_key key (in_routers k (record h { network = net; entries = staying (is_listed net) h.entries }) h) ≡ on_key key h
       by strategy.Broker = refl
       by strategy.Client = refl
       by strategy.Peer = refl
@@ -293,7 +294,7 @@ module _ (place : ℕ) (key : List ℕ) where
   seen h = (h.0, on_key key h.1)
 
   with_seen : Option QueryableInfoType → ℕ × OnKey → Option QueryableInfoType
-  with_seen m v = cond (v.0 == place) m (joined m (in_routers v.1.kind v.1.faces v.1.faces))
+  with_seen m v = cond (v.0 == place) m (joined m (in_routers v.1.kind v.1.routers v.1.faces))
 
   own_seen : (hats : List (ℕ × HatState)) → fold with_seen None (map seen hats) ≡ own_entry place key hats
   unfolding with_seen
@@ -311,7 +312,7 @@ module _ (place : ℕ) (key : List ℕ) where
       ∙ own_seen old
 
 -- the entries of hats that are worded are used
-used_there : (es : Entries) → Each HasText IsUsed es → AllByRecursion (λ (e : List ℕ × List (ℕ × QueryableInfoType)). has_any e.1 ≡ true) es
+used_there : (es : Entries) → Each HasText IsUsed es → AllByRecursion (λ (e : List ℕ × Routed). has_any e.1 ≡ true) es
 used_there [] w = tt
 used_there (e ∷ es) w = (w.0.1, used_there es w.1)
 

@@ -2,7 +2,6 @@
 use Rattle.std.proofs.Common.{◌≡◌, ◌∙◌, refl, sym, ap, ℕ, Bool, true, false, cond, List, [], ◌∷◌, Option, Some, None}
 use Rattle.std.specs.Prelude.{◌==◌, ◌&&◌}
 use Rattle.std.specs.BTreeMap.{is_at}
-use Rattle.std.specs.List.{flat_map}
 use Rattle.std.specs.Option.{is_some, option_and_then, option_map, option_map_or}
 use Rattle.std.specs.Ordering.{nat_cmp}
 use Rattle.std.proofs.lemmas.Cmp.{nat_cmp_total}
@@ -21,7 +20,9 @@ use Rattle.zq_hat.specs.declared.types.Strategy.TheVariants as strategy
 use Rattle.zq_hat.specs.Kept.{face_at, has_face, registered, unregistered, with_face_opened, without_face}
 use Rattle.zq_hat.specs.Marks.{finalized}
 use Rattle.zq_hat.specs.Regions.{in_routers, strategy_at}
-use Rattle.zq_hat.specs.Routers.{announced, networked, retracted, noded, source_at, staying, zid_at}
+use Rattle.zq_trees.specs.Entries.{staying}
+use Rattle.zq_trees.specs.Nets.{is_listed}
+use Rattle.zq_hat.specs.Routers.{announced, networked, retracted, noded, source_at, zid_at}
 use Rattle.zq_hat.specs.State.{FaceState, HatState}
 use Rattle.zq_hat.proofs.Routing.{registered_at}
 use Rattle.zq_tables.specs.Naming.{face_naming, said_of}
@@ -189,7 +190,7 @@ module _ (config : Settings) (s : State) (i : InOrder config s) (place : ℕ) wh
       there
       ∙ (λ j. option_map (λ (x : Routed). swap (routes_in config r) (region_index r == place) (with_network net x) x j) was)
     where
-      by : (h : HatState) (k : Strategy) → routed (in_routers k (record h { network = net; entries = flat_map (staying net) h.entries }) h) ≡ cond (in_routers k true false) (with_network net (routed h)) (routed h)
+      by : (h : HatState) (k : Strategy) → routed (in_routers k (record h { network = net; entries = staying (is_listed net) h.entries }) h) ≡ cond (in_routers k true false) (with_network net (routed h)) (routed h)
       by h strategy.Broker = refl
       by h strategy.Client = refl
       by h strategy.Peer = refl

@@ -1,7 +1,7 @@
 -- What routers declared, and what is made of it, moves with its texts.
-use Rattle.std.proofs.Common.{◌≡◌, ◌∙◌, refl, ap, ℕ, Bool, true, false, cond, List, [], ◌∷◌, ◌++◌, map, filter, Option, Some, None}
+use Rattle.std.proofs.Common.{◌≡◌, ◌∙◌, refl, ap, ℕ, Bool, true, false, cond, List, [], ◌∷◌, map, filter, Option, Some, None}
 use Rattle.std.specs.BTreeMap.{insert_entry, is_at}
-use Rattle.std.specs.List.{flat_map, list_any}
+use Rattle.std.specs.List.{cons_option}
 use Rattle.std.specs.Map.{remove_entry}
 use Rattle.std.specs.Option.{option_and_then, option_map, option_map_or}
 use Rattle.std.specs.Ordering.{is_eq, match_ordering, nat_cmp}
@@ -11,14 +11,17 @@ use Rattle.zq_message.specs.declared.message.QueryableInfoType.{QueryableInfoTyp
 use Rattle.zq_message.specs.declared.message.Zid.{Zid}
 use Rattle.zq_trees.specs.declared.types.Network.{Network}
 use Rattle.zq_trees.specs.declared.types.NodeIds.{NodeIds}
-use Rattle.zq_index.specs.Texts.{at_text, text_cmp}
-use Rattle.zq_trees.specs.Nets.{place_of}
+use Rattle.zq_index.specs.Holders.{at_place_by, if_any}
+use Rattle.zq_index.specs.Texts.{text_cmp}
+use Rattle.zq_trees.specs.Entries.{Entries, Routed, entries_at, is_by, routed_with, routed_without, staying, with_entries}
+use Rattle.zq_trees.specs.Nets.{is_listed, place_of}
 use Rattle.zq_hat.specs.declared.types.Strategy.{Strategy}
 use Rattle.zq_hat.specs.declared.types.Strategy.TheVariants as strategy
-use Rattle.zq_hat.specs.Kept.{at_id, face_at}
+use Rattle.zq_hat.specs.Kept.{face_at}
 use Rattle.zq_hat.specs.Moved.{Keeps, move_entry, move_hat}
 use Rattle.zq_hat.specs.Regions.{in_routers, strategy_at}
-use Rattle.zq_hat.specs.Routers.{announced, context_at, entries_on, networked, noded, retracted, source_at, staying, stays, with_entries, zid_at}
+use Rattle.zq_hat.specs.Routers.{announced, context_at, networked, noded, retracted, source_at, zid_at}
+use Rattle.zq_hat.proofs.RoutersMoved.{found_moved}
 use Rattle.zq_hat.specs.State.{FaceState, HatState}
 use Rattle.zq_machine.specs.Deciding.{announced_by, entry_by, retracted_by}
 use Rattle.zq_machine.proofs.HatsMoved.{face_changed, face_found, moved_face}
@@ -36,74 +39,69 @@ module _ (φ : List ℕ → List ℕ) where
   pub noded_moved : (face : ℕ) (ids : NodeIds) (h : HatState) → noded face ids (move_hat φ h) ≡ move_hat φ (noded face ids h)
   noded_moved face ids h = face_changed φ face (λ f. record f { nodes = ids }) (λ f. record f { nodes = ids }) (λ f. refl) h
 
-  abbrev moved : List (List ℕ × List (ℕ × QueryableInfoType)) → List (List ℕ × List (ℕ × QueryableInfoType))
+  abbrev moved : Entries → Entries
   moved es = map (move_entry φ) es
 
-  staying_moved : (net : Network) (es : List (List ℕ × List (ℕ × QueryableInfoType))) → flat_map (staying net) (moved es) ≡ moved (flat_map (staying net) es)
-  staying_moved net [] = refl
-  staying_moved net (e ∷ es) = by (list_any (stays net) e.1) (staying_moved net es)
+  staying_moved : (test : Zid → Bool) (es : Entries) → staying test (moved es) ≡ moved (staying test es)
+  staying_moved test [] = refl
+  staying_moved test (e ∷ es) = by (if_any (filter (is_by test) e.1)) (staying_moved test es)
     where
-      by : (b : Bool) → flat_map (staying net) (moved es) ≡ moved (flat_map (staying net) es)
-          → cond b ((φ e.0, filter (stays net) e.1) ∷ []) [] ++ flat_map (staying net) (moved es) ≡ moved (cond b ((e.0, filter (stays net) e.1) ∷ []) [] ++ flat_map (staying net) es)
-      by true ih = ap (λ l. (φ e.0, filter (stays net) e.1) ∷ l) ih
-      by false ih = ih
+      by : (o : Option Routed) → staying test (moved es) ≡ moved (staying test es) → cons_option (option_map (λ xs. (φ e.0, xs)) o) (staying test (moved es)) ≡ moved (cons_option (option_map (λ xs. (e.0, xs)) o) (staying test es))
+      by None ih = ih
+      by (Some xs) ih = ap (λ l. (φ e.0, xs) ∷ l) ih
 
   pub networked_moved : (net : Network) (h : HatState) → networked net (move_hat φ h) ≡ move_hat φ (networked net h)
   networked_moved net h = by (strategy_at h)
     where
-      by : (k : Strategy) → in_routers k (record (move_hat φ h) { network = net; entries = flat_map (staying net) (moved h.entries) }) (move_hat φ h) ≡ move_hat φ (in_routers k (record h { network = net; entries = flat_map (staying net) h.entries }) h)
+      by : (k : Strategy) → in_routers k (record (move_hat φ h) { network = net; entries = staying (is_listed net) (moved h.entries) }) (move_hat φ h) ≡ move_hat φ (in_routers k (record h { network = net; entries = staying (is_listed net) h.entries }) h)
       by strategy.Broker = refl
       by strategy.Client = refl
       by strategy.Peer = refl
-      by strategy.Router = ap (λ l. record (move_hat φ h) { network = net; entries = l }) (staying_moved net h.entries)
+      by strategy.Router = ap (λ l. record (move_hat φ h) { network = net; entries = l }) (staying_moved (is_listed net) h.entries)
 
   -- ---- entries
   module _ (keeps : Keeps φ) where
-    found_moved : (key : List ℕ) (es : List (List ℕ × List (ℕ × QueryableInfoType))) → at_text (φ key) (moved es) ≡ at_text key es
-    found_moved key [] = refl
-    found_moved key (e ∷ es) = λ j. cond (is_eq (keeps.order key e.0 j)) (Some e.1) (found_moved key es j)
-
-    insert_by : (key : List ℕ) (v : List (ℕ × QueryableInfoType)) (e : List ℕ × List (ℕ × QueryableInfoType)) (es : List (List ℕ × List (ℕ × QueryableInfoType))) (r : Ordering)
+    insert_by : (key : List ℕ) (v : Routed) (e : List ℕ × Routed) (es : Entries) (r : Ordering)
         → insert_entry text_cmp (moved es) (φ key) v ≡ moved (insert_entry text_cmp es key v)
         → match_ordering r ((φ key, v) ∷ move_entry φ e ∷ moved es) ((φ e.0, v) ∷ moved es) (move_entry φ e ∷ insert_entry text_cmp (moved es) (φ key) v) ≡ moved (match_ordering r ((key, v) ∷ e ∷ es) ((e.0, v) ∷ es) (e ∷ insert_entry text_cmp es key v))
     insert_by key v e es Less ih = refl
     insert_by key v e es Equal ih = refl
     insert_by key v e es Greater ih = ap (λ l. move_entry φ e ∷ l) ih
 
-    insert_moved : (key : List ℕ) (v : List (ℕ × QueryableInfoType)) (es : List (List ℕ × List (ℕ × QueryableInfoType))) → insert_entry text_cmp (moved es) (φ key) v ≡ moved (insert_entry text_cmp es key v)
+    insert_moved : (key : List ℕ) (v : Routed) (es : Entries) → insert_entry text_cmp (moved es) (φ key) v ≡ moved (insert_entry text_cmp es key v)
     insert_moved key v [] = refl
     insert_moved key v (e ∷ es) =
         ap (λ r. match_ordering r ((φ key, v) ∷ move_entry φ e ∷ moved es) ((φ e.0, v) ∷ moved es) (move_entry φ e ∷ insert_entry text_cmp (moved es) (φ key) v)) (keeps.order key e.0)
         ∙ insert_by key v e es (text_cmp key e.0) (insert_moved key v es)
 
-    remove_by : (key : List ℕ) (e : List ℕ × List (ℕ × QueryableInfoType)) (es : List (List ℕ × List (ℕ × QueryableInfoType))) (b : Bool)
+    remove_by : (key : List ℕ) (e : List ℕ × Routed) (es : Entries) (b : Bool)
         → remove_entry (is_at (text_cmp (φ key))) (moved es) ≡ moved (remove_entry (is_at (text_cmp key)) es)
         → cond b (moved es) (move_entry φ e ∷ remove_entry (is_at (text_cmp (φ key))) (moved es)) ≡ moved (cond b es (e ∷ remove_entry (is_at (text_cmp key)) es))
     remove_by key e es true ih = refl
     remove_by key e es false ih = ap (λ l. move_entry φ e ∷ l) ih
 
-    remove_moved : (key : List ℕ) (es : List (List ℕ × List (ℕ × QueryableInfoType))) → remove_entry (is_at (text_cmp (φ key))) (moved es) ≡ moved (remove_entry (is_at (text_cmp key)) es)
+    remove_moved : (key : List ℕ) (es : Entries) → remove_entry (is_at (text_cmp (φ key))) (moved es) ≡ moved (remove_entry (is_at (text_cmp key)) es)
     remove_moved key [] = refl
     remove_moved key (e ∷ es) =
         ap (λ r. cond (is_eq r) (moved es) (move_entry φ e ∷ remove_entry (is_at (text_cmp (φ key))) (moved es))) (keeps.order key e.0)
         ∙ remove_by key e es (is_at (text_cmp key) e.0) (remove_moved key es)
 
-    with_moved : (key : List ℕ) (v : List (ℕ × QueryableInfoType)) (es : List (List ℕ × List (ℕ × QueryableInfoType))) → with_entries (φ key) v (moved es) ≡ moved (with_entries key v es)
+    with_moved : (key : List ℕ) (v : Routed) (es : Entries) → with_entries (φ key) v (moved es) ≡ moved (with_entries key v es)
     with_moved key [] es = remove_moved key es
     with_moved key (x ∷ v) es = insert_moved key (x ∷ v) es
 
-    on_moved : (key : List ℕ) (h : HatState) → entries_on (φ key) (move_hat φ h) ≡ entries_on key h
-    on_moved key h = ap (λ o. option_map_or (λ es. es) o []) (found_moved key h.entries)
+    on_moved : (key : List ℕ) (es : Entries) → entries_at (φ key) (moved es) ≡ entries_at key es
+    on_moved key es = ap (λ (o : Option Routed). option_map_or (λ xs. xs) o []) (found_moved φ keeps key es)
 
     one_announced : (router : ℕ) (key : List ℕ) (i : QueryableInfoType) (h : HatState) → announced router (φ key) i (move_hat φ h) ≡ move_hat φ (announced router key i h)
     one_announced router key i h =
-        (λ j. record (move_hat φ h) { entries = with_entries (φ key) (insert_entry nat_cmp (on_moved key h j) router i) (moved h.entries) })
-        ∙ ap (λ l. record (move_hat φ h) { entries = l }) (with_moved key (insert_entry nat_cmp (entries_on key h) router i) h.entries)
+        (λ j. record (move_hat φ h) { entries = with_entries (φ key) (routed_with router i (on_moved key h.entries j)) (moved h.entries) })
+        ∙ ap (λ l. record (move_hat φ h) { entries = l }) (with_moved key (routed_with router i (entries_at key h.entries)) h.entries)
 
     one_retracted : (router : ℕ) (key : List ℕ) (h : HatState) → retracted router (φ key) (move_hat φ h) ≡ move_hat φ (retracted router key h)
     one_retracted router key h =
-        (λ j. record (move_hat φ h) { entries = with_entries (φ key) (remove_entry (is_at (nat_cmp router)) (on_moved key h j)) (moved h.entries) })
-        ∙ ap (λ l. record (move_hat φ h) { entries = l }) (with_moved key (remove_entry (is_at (nat_cmp router)) (entries_on key h)) h.entries)
+        (λ j. record (move_hat φ h) { entries = with_entries (φ key) (routed_without router (on_moved key h.entries j)) (moved h.entries) })
+        ∙ ap (λ l. record (move_hat φ h) { entries = l }) (with_moved key (routed_without router (entries_at key h.entries)) h.entries)
 
     either_moved : (f g : Zid → HatState) (h : HatState) → ((z : Zid) → f z ≡ move_hat φ (g z)) → (o : Option Zid) → option_map_or f o (move_hat φ h) ≡ move_hat φ (option_map_or g o h)
     either_moved f g h same None = refl
@@ -121,7 +119,7 @@ module _ (φ : List ℕ → List ℕ) where
 
     pub entry_moved : (face node : ℕ) (key : List ℕ) (o : Option HatState) → option_and_then (entry_by face node (φ key)) (option_map (move_hat φ) o) ≡ option_and_then (entry_by face node key) o
     entry_moved face node key None = refl
-    entry_moved face node key (Some h) = λ j. option_and_then (λ (z : Zid). at_id z.0 (on_moved key h j)) (source_moved face node h j)
+    entry_moved face node key (Some h) = λ j. option_and_then (λ (z : Zid). at_place_by nat_cmp z.0 (on_moved key h.entries j)) (source_moved face node h j)
 
   pub router_moved : (face node : ℕ) (o : Option HatState) → option_and_then (source_at face node) (option_map (move_hat φ) o) ≡ option_and_then (source_at face node) o
   router_moved face node None = refl

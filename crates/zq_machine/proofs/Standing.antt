@@ -5,7 +5,6 @@ use Rattle.std.proofs.lemmas.List.Sums.{fold-append}
 use Rattle.std.specs.List.Sorted.{IsStrictlySortedBy}
 use Rattle.std.specs.Map.{keys_of, remove_entry}
 use Rattle.std.specs.BTreeMap.{insert_entry, is_at}
-use Rattle.std.specs.List.{flat_map}
 use Rattle.std.specs.Option.{is_some, option_and_then, option_map, option_map_or}
 use Rattle.std.specs.Ordering.{nat_cmp}
 use Rattle.zq_message.specs.declared.message.Declare.{Declare}
@@ -23,7 +22,9 @@ use Rattle.zq_hat.specs.Marks.{marked}
 use Rattle.zq_hat.specs.declared.types.Strategy.{Strategy}
 use Rattle.zq_hat.specs.declared.types.Strategy.TheVariants as strategy
 use Rattle.zq_hat.specs.Regions.{in_routers, strategy_at}
-use Rattle.zq_hat.specs.Routers.{announced, networked, retracted, source_at, staying}
+use Rattle.zq_trees.specs.Entries.{staying}
+use Rattle.zq_trees.specs.Nets.{is_listed}
+use Rattle.zq_hat.specs.Routers.{announced, networked, retracted, source_at}
 use Rattle.zq_regions.specs.RegionMap.{value_at}
 use Rattle.zq_tables.specs.Naming.{FaceKeys, FaceNaming, NamingState, change_naming, face_naming, naming_at, no_keys, said_of, with_name, with_queryable, with_told_number, without_name, without_queryable}
 use Rattle.zq_machine.specs.declared.call.Call.{Call}
@@ -457,7 +458,7 @@ module _ (config : Settings) (q : ℕ) (s : State) (i : InOrder config s) where
           kept_stands f x c (withdraw id) (change_naming f.0 (without_queryable id) s.names) (without_queryable id (keys f x))
           (naming_here s.core.faces s.core.hats s.names i.tied f.0 x.0 x.1 (without_queryable id)) (naming_other s.core.faces s.core.hats s.names i.tied f.0 x.0 x.1 (without_queryable id) q)
           (sym (ap (λ b. cond b was (with_kept was (withdraw id was.kept))) (region_says f x false e)))
-  granted_stands (call.SetNetwork r net) h = same_faces_stand r (networked net) (λ y. network_faces (strategy_at y) (record y { network = net; entries = flat_map (staying net) y.entries }) y refl)
+  granted_stands (call.SetNetwork r net) h = same_faces_stand r (networked net) (λ y. network_faces (strategy_at y) (record y { network = net; entries = staying (is_listed net) y.entries }) y refl)
   granted_stands (call.SetNodeIds f ids) h =
       let x = opened_face s i.sound i.tied f.0 (all_passed (causes s.core (tabling f ids)) h).0 in
       kept_stands f x (call.SetNodeIds f ids) (λ k. record k { nodes = ids }) s.names (keys f x) (its_keys s.core.faces s.core.hats s.names i.tied f.0 x.0 x.1).1 (λ e. refl) refl

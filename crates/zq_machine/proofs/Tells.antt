@@ -15,7 +15,7 @@ use Rattle.zq_machine.proofs.DueHeard.{due_heard, written_unheard}
 use Rattle.zq_machine.proofs.Granted.{by_granted, granted_is_accepted, told_by}
 
 -- an accepted call is followed
-followed : (s : State) (t : TextCall) → refusal_of s.core t ≡ None → follow s t ≡ accepted_state s t
+pub followed : (s : State) (t : TextCall) → refusal_of s.core t ≡ None → follow s t ≡ accepted_state s t
 followed s t h =
     ap (λ o. cond (is_accepted (answered o (granted s.core t)).outcome) (accepted_state s t) s) h
     ∙ ap (λ b. cond b (accepted_state s t) s) (granted_is_accepted s.core t h)

@@ -2,9 +2,9 @@
 use Rattle.std.proofs.Common.{◌≡◌, refl, sym, subst, ℕ, Bool, true, false, cond, not, List, [], ◌∷◌, ◌++◌, filter, fold, Option, Some, None}
 use Rattle.std.specs.Prelude.{◌||◌}
 use Rattle.std.specs.BTreeMap.{insert_entry, is_at}
-use Rattle.std.specs.List.{AllByRecursion, flat_map, list_any}
+use Rattle.std.specs.List.{AllByRecursion, cons_option}
 use Rattle.std.specs.Map.{lookup, remove_entry, set_value}
-use Rattle.std.specs.Option.{option_map_or}
+use Rattle.std.specs.Option.{option_map, option_map_or}
 use Rattle.std.specs.Ordering.{match_ordering, nat_cmp}
 use Rattle.std.specs.declared.cmp.Ordering.{Ordering}
 use Rattle.std.specs.declared.cmp.Ordering.TheVariants.{Less, Equal, Greater}
@@ -26,7 +26,10 @@ use Rattle.zq_hat.specs.declared.types.Strategy.TheVariants as strategy
 use Rattle.zq_hat.specs.Kept.{change_face, declare, face_at, has_any, has_face, new_face, new_hat, registered, unregistered, with_face_opened, withdraw, without_face}
 use Rattle.zq_hat.specs.Marks.{finalized, marked}
 use Rattle.zq_hat.specs.Regions.{in_routers, strategy_at}
-use Rattle.zq_hat.specs.Routers.{announced, entries_on, networked, noded, retracted, source_at, staying, stays, with_entries}
+use Rattle.zq_index.specs.Holders.{if_any}
+use Rattle.zq_trees.specs.Entries.{Entries, Routed, entries_at, is_by, routed_with, routed_without, staying, with_entries}
+use Rattle.zq_trees.specs.Nets.{is_listed}
+use Rattle.zq_hat.specs.Routers.{announced, networked, noded, retracted, source_at}
 use Rattle.zq_hat.specs.State.{FaceState, HatState}
 use Rattle.zq_hat.proofs.Routing.{registered_at}
 use Rattle.zq_tables.specs.declared.said.Said.{Said}
@@ -90,7 +93,7 @@ HasText text = has_text text ≡ true
 abbrev pub WordedFace : FaceState → Type 0
 WordedFace f = Each Any (λ (d : Declaration). HasText d.key) f.declared
 
-abbrev pub IsUsed : List (ℕ × QueryableInfoType) → Type 0
+abbrev pub IsUsed : Routed → Type 0
 IsUsed es = has_any es ≡ true
 
 pub record IsWorded (h : HatState) : Type 0 where
@@ -138,7 +141,7 @@ marked_worded mark.Initial set f w = w
 marked_worded (mark.Key k) true f w = w
 marked_worded (mark.Key k) false f w = w
 
-with_worded : (key : List ℕ) (v : List (ℕ × QueryableInfoType)) (es : List (List ℕ × List (ℕ × QueryableInfoType))) → HasText key → Each HasText IsUsed es → Each HasText IsUsed (with_entries key v es)
+with_worded : (key : List ℕ) (v : Routed) (es : Entries) → HasText key → Each HasText IsUsed es → Each HasText IsUsed (with_entries key v es)
 with_worded key [] es some all = each_out HasText IsUsed (is_at (text_cmp key)) es all
 with_worded key (x ∷ v) es some all = each_in HasText IsUsed text_cmp es key (x ∷ v) all some refl
 
@@ -149,37 +152,33 @@ source_worded (Some z) g h w each = each z
 announced_worded : (n node : ℕ) (key : List ℕ) (i : QueryableInfoType) → HasText key → (h : HatState) → IsWorded h → IsWorded (announced_by n node key i h)
 announced_worded n node key i some h w =
     source_worded (source_at n node h) (λ z. announced z.0 key i h) h w
-    (λ z. record { faces = w.faces; entries = with_worded key (insert_entry nat_cmp (entries_on key h) z.0 i) h.entries some w.entries })
+    (λ z. record { faces = w.faces; entries = with_worded key (routed_with z.0 i (entries_at key h.entries)) h.entries some w.entries })
 
 retracted_worded : (n node : ℕ) (key : List ℕ) → HasText key → (h : HatState) → IsWorded h → IsWorded (retracted_by n node key h)
 retracted_worded n node key some h w =
     source_worded (source_at n node h) (λ z. retracted z.0 key h) h w
-    (λ z. record { faces = w.faces; entries = with_worded key (remove_entry (is_at (nat_cmp z.0)) (entries_on key h)) h.entries some w.entries })
+    (λ z. record { faces = w.faces; entries = with_worded key (routed_without z.0 (entries_at key h.entries)) h.entries some w.entries })
 
-some_stay : (net : Network) (xs : List (ℕ × QueryableInfoType)) → list_any (stays net) xs ≡ true → IsUsed (filter (stays net) xs)
-some_stay net [] e = absurd (false≢true e)
-some_stay net (x ∷ xs) e = by (stays net x) e (some_stay net xs)
-  where
-    by : (b : Bool) → (b || list_any (stays net) xs) ≡ true → (list_any (stays net) xs ≡ true → IsUsed (filter (stays net) xs)) → IsUsed (cond b (x ∷ filter (stays net) xs) (filter (stays net) xs))
-    by true f more = refl
-    by false f more = more f
+some_stay : (xs ys : Routed) → if_any xs ≡ Some ys → IsUsed ys
+some_stay [] ys e = absurd (let gap : None ≡ Some ys = e in cc)
+some_stay (x ∷ xs) ys e = subst IsUsed (same_Some _ _ e) refl
 
-network_worded : (net : Network) (es : List (List ℕ × List (ℕ × QueryableInfoType))) → Each HasText IsUsed es → Each HasText IsUsed (flat_map (staying net) es)
-network_worded net [] all = tt
-network_worded net (e ∷ es) all = by (list_any (stays net) e.1) refl (network_worded net es all.1)
+network_worded : (test : Zid → Bool) (es : Entries) → Each HasText IsUsed es → Each HasText IsUsed (staying test es)
+network_worded test [] all = tt
+network_worded test (e ∷ es) all = by (if_any (filter (is_by test) e.1)) refl (network_worded test es all.1)
   where
-    by : (b : Bool) → list_any (stays net) e.1 ≡ b → Each HasText IsUsed (flat_map (staying net) es) → Each HasText IsUsed (cond b ((e.0, filter (stays net) e.1) ∷ []) [] ++ flat_map (staying net) es)
-    by true s ih = ((all.0.0, some_stay net e.1 s), ih)
-    by false s ih = ih
+    by : (o : Option Routed) → if_any (filter (is_by test) e.1) ≡ o → Each HasText IsUsed (staying test es) → Each HasText IsUsed (cons_option (option_map (λ xs. (e.0, xs)) o) (staying test es))
+    by None s ih = ih
+    by (Some xs) s ih = ((all.0.0, some_stay (filter (is_by test) e.1) xs s), ih)
 
 networked_worded : (net : Network) (h : HatState) → IsWorded h → IsWorded (networked net h)
 networked_worded net h w = by (strategy_at h)
   where
-    by : (k : Strategy) → IsWorded (in_routers k (record h { network = net; entries = flat_map (staying net) h.entries }) h)
+    by : (k : Strategy) → IsWorded (in_routers k (record h { network = net; entries = staying (is_listed net) h.entries }) h)
     by strategy.Broker = w
     by strategy.Client = w
     by strategy.Peer = w
-    by strategy.Router = record { faces = w.faces; entries = network_worded net h.entries w.entries }
+    by strategy.Router = record { faces = w.faces; entries = network_worded (is_listed net) h.entries w.entries }
 
 -- ---- an accepted call changes one hat at most
 module _ (P : HatState → Type 0) where

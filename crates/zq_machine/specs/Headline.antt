@@ -32,6 +32,7 @@ use Rattle.zq_machine.specs.Deciding.{handed_replies, handed_timeouts, passing_f
 use Rattle.zq_machine.specs.Waiting.{Waits, IsSettled, ends_entry, lands, until, is_of}
 use Rattle.zq_machine.specs.Standing.{first_routed, listed_in, routed_at, routed_in, standing_at, standing_in}
 use Rattle.zq_machine.specs.Hearing.{hear}
+use Rattle.zq_machine.specs.Direct.{AreDirect}
 use Rattle.zq_machine.specs.Machine.{step, steps, after, follow, state_after, refused_step}
 use Rattle.zq_machine.specs.Writing.{leaving, sent_final, write}
 
@@ -159,6 +160,10 @@ pub record FinalPromise (n : ℕ) (s : State) (c : Call) : Type 0 where
 abbrev pub TellPromise : State → Call → Type 0
 TellPromise s c = is_accepted (step s c).outcome ≡ true → hear (step s c).handed (follow s (read s c)).names ≡ told_of s.core (read s c)
 
+-- a number that a call declares to a face is new to it and stands directly before its first use, and a declaration uses no number that the face was not told
+abbrev pub NumberPromise : State → Call → Type 0
+NumberPromise s c = AreDirect (step s c).handed (follow s (read s c)).names
+
 -- ---- what is answered and handed
 
 -- an accepted opening is answered the next face; the answers of requests and replies are said with them; every other call is answered that it is done
@@ -211,6 +216,7 @@ pub record KeepsPromises (s : State) (c : Call) : Type 0 where
   pub waits : is_accepted (step s c).outcome ≡ true → Waits (ends_entry c) (lands c) (until s c) s.core.queries.records (after s c).core.queries.records (step s c).handed
   pub finals : (n : ℕ) → FinalPromise n s c
   pub tells : TellPromise s c
+  pub direct : NumberPromise s c
   pub answer : is_accepted (step s c).outcome ≡ true → AnswerPromise s c (step s c).outcome
   pub fit : AllByRecursion (IsFit (may_hand c)) (step s c).handed
   pub ordered : IsStrictlySortedBy nat_cmp (ended_in (step s c).handed)

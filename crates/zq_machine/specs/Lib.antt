@@ -9,6 +9,7 @@ pub mod Trees
 pub mod Deciding
 pub mod Writing
 pub mod Hearing
+pub mod Direct
 pub mod Machine
 pub mod Waiting
 pub mod Asked

@@ -1,8 +1,8 @@
 -- What stands of each face, and of the lists of gateways, by the calls of a run and their answers alone.
-use Rattle.std.specs.List.{flat_map}
 use Rattle.zq_regions.specs.Region.{region_index}
-use Rattle.zq_index.specs.Texts.{at_text}
-use Rattle.zq_hat.specs.Routers.{staying, with_entries, zid_at}
+use Rattle.zq_trees.specs.Entries.{Entries, staying, with_entry, without_entry}
+use Rattle.zq_trees.specs.Nets.{is_listed}
+use Rattle.zq_hat.specs.Routers.{zid_at}
 use Rattle.std.specs.Prelude.{◌≡◌, ℕ, ◌==◌, ◌&&◌, Bool, false, List, [], ◌∷◌, fold, Option, Some, None, if◌then◌else◌}
 use Rattle.std.specs.Map.{remove_entry}
 use Rattle.std.specs.BTreeMap.{insert_entry, is_at}
@@ -16,7 +16,7 @@ use Rattle.zq_message.specs.declared.message.QueryableInfoType.{QueryableInfoTyp
 use Rattle.zq_message.specs.declared.message.Region.{Region}
 use Rattle.zq_message.specs.declared.message.Zid.{Zid}
 use Rattle.zq_message.specs.declared.message.WireExpr.{WireExpr}
-use Rattle.zq_regions.specs.RegionMap.{with_entry}
+use Rattle.zq_regions.specs.RegionMap.{with_entry as with_value}
 use Rattle.zq_hat.specs.Kept.{declare, face_at, new_face, withdraw}
 use Rattle.zq_hat.specs.Marks.{marked}
 use Rattle.zq_hat.specs.State.{FaceState, HatState}
@@ -140,28 +140,24 @@ standing_in config face (c ∷ cs) (t ∷ ts) was = standing_in config face cs t
 
 -- what stands of the routers of a region: their entries, and the network that was put in place
 pub record Routed : Type 0 where
-  pub entries : List (List ℕ × List (ℕ × QueryableInfoType))
+  pub entries : Entries
   pub network : Network
 
 -- what a hat has of routers
 abbrev pub routed : HatState → Routed
 routed h = record { entries = h.entries; network = h.network }
 
--- the routers' entries on a key
-abbrev pub routed_on : List ℕ → Routed → List (ℕ × QueryableInfoType)
-routed_on key r = option_map_or (λ es. es) (at_text key r.entries) []
-
 -- a router's entry on a key is this one
 abbrev pub with_routed : List ℕ → QueryableInfoType → Routed → Zid → Routed
-with_routed key info r z = record r { entries = with_entries key (insert_entry nat_cmp (routed_on key r) z.0 info) r.entries }
+with_routed key info r z = record r { entries = with_entry z.0 key info r.entries }
 
 -- a router's entry on a key is gone
 abbrev pub without_routed : List ℕ → Routed → Zid → Routed
-without_routed key r z = record r { entries = with_entries key (remove_entry (is_at (nat_cmp z.0)) (routed_on key r)) r.entries }
+without_routed key r z = record r { entries = without_entry z.0 key r.entries }
 
 -- a network is put in place
 abbrev pub with_network : Network → Routed → Routed
-with_network net r = record { network = net; entries = flat_map (staying net) r.entries }
+with_network net r = record { network = net; entries = staying (is_listed net) r.entries }
 
 -- the place is that of the region, which is one of routers
 abbrev pub routes_at : Settings → ℕ → Region → Bool
@@ -203,7 +199,7 @@ first_routed config place = option_map routed (at place (first_hats config))
 
 -- the lists of gateways after a call
 abbrev pub listed_after : Call → Step → List (ℕ × Gateways) → List (ℕ × Gateways)
-listed_after (call.SetGateways r table) t was = if is_accepted t.outcome then with_entry was r table else was
+listed_after (call.SetGateways r table) t was = if is_accepted t.outcome then with_value was r table else was
 listed_after c t was = was
 
 -- the lists of gateways after calls that are answered by these steps

@@ -3,7 +3,6 @@ use Rattle.std.specs.Prelude.{ℕ, ◌==◌, Bool, List, [], ◌∷◌, ◌++◌
 use Rattle.std.specs.BTreeSet.{insert_key}
 use Rattle.std.specs.List.{filter_map, flat_map, list_any}
 use Rattle.std.specs.Str.{bytes_eq}
-use Rattle.std.specs.Map.{keys_of}
 use Rattle.std.specs.Option.{option_and_then, option_map, option_map_or, option_to_list}
 use Rattle.zq_message.specs.declared.message.FaceId.{FaceId}
 use Rattle.zq_message.specs.declared.message.QueryableInfoType.{QueryableInfoType}
@@ -15,12 +14,12 @@ use Rattle.zq_index.specs.Texts.{text_cmp}
 use Rattle.zq_trees.specs.declared.types.Telling.{Telling as TreeTelling}
 use Rattle.zq_trees.specs.Tellings.{in_order}
 use Rattle.zq_hat.specs.declared.types.Declaration.{Declaration}
-use Rattle.zq_hat.specs.Kept.{declaration_at, declared_keys, keys_of_face, region_info}
+use Rattle.zq_hat.specs.Kept.{declaration_at, keys_of_face, region_info}
 use Rattle.zq_hat.specs.Regions.{in_routers, strategy_at}
 use Rattle.zq_hat.specs.Routers.{losing, source_at}
 use Rattle.zq_hat.specs.State.{HatState}
-use Rattle.zq_hat.specs.Trees.{network_told, own_told, to_children}
-use Rattle.zq_machine.specs.Messages.{Telling, TellingBody, key_ended, key_told}
+use Rattle.zq_hat.specs.Trees.{network_told, own_told, region_keys, to_children}
+use Rattle.zq_machine.specs.Messages.{Telling, from_hat}
 use Rattle.zq_machine.specs.Selecting.{full_text}
 use Rattle.zq_machine.specs.State.{Core, hat_at, hat_of}
 use Rattle.zq_machine.specs.TextCalls.{TextCall, closing, declaring, withdrawing, announcing, retracting, networking}
@@ -34,10 +33,6 @@ with_other place key m h = if h.0 == place then m else joined m (region_info key
 -- the own entry on a key in the region at the place
 abbrev pub own_entry : ℕ → List ℕ → List (ℕ × HatState) → Option QueryableInfoType
 own_entry place key hats = fold (with_other place key) None hats
-
--- the keys on which a region has information
-abbrev pub region_keys : HatState → List (List ℕ)
-region_keys h = in_routers (strategy_at h) (keys_of h.entries) (declared_keys h.faces)
 
 -- a region's keys join others in order, each once, if the region is not at the place
 abbrev pub with_other_keys : ℕ → List (List ℕ) → ℕ × HatState → List (List ℕ)
@@ -114,15 +109,6 @@ tree_told before after t = []
 
 -- ---- all of it
 
--- what is told of a key: its information, or its end by the key
-abbrev pub body_on : List ℕ → Option QueryableInfoType → TellingBody
-body_on key None = key_ended 0 (Some key)
-body_on key (Some info) = key_told 0 key info
-
--- what a face is told along a tree
-abbrev pub from_tree : TreeTelling → Telling
-from_tree t = record { to = t.face; interest = None; node = t.node; body = body_on t.key t.info }
-
 -- what faces are told by a call that is accepted, by what decides before and after it: in order, each once
 abbrev pub due_told : (before after : Core) → TextCall → List Telling
-due_told before after t = map from_tree (in_order (tree_told before after t ++ all_own_told before.hats after.hats (touched before t)))
+due_told before after t = map from_hat (in_order (tree_told before after t ++ all_own_told before.hats after.hats (touched before t)))
