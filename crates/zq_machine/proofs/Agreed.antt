@@ -161,8 +161,8 @@ granted_numbers s (networking r net) h i = i
 granted_numbers s (tabling face ids) h i = i
 granted_numbers s unbuilt h i = i
 
-pub granted_in_order : (config : Settings) (s : State) (c : Call) → refusal_of s.core (read s c) ≡ None → InOrder config s → InOrder config (accepted_state s (read s c))
-granted_in_order config s c h i = let x = read s c in record {
+pub accepted_in_order : (config : Settings) (s : State) (x : TextCall) → refusal_of s.core x ≡ None → InOrder config s → InOrder config (accepted_state s x)
+accepted_in_order config s x h i = record {
   sound = granted_sound s.core x h i.sound;
   tied = granted_tied s i.sound i.tied x h;
   hats = accepted_hats config.start.told (first_hats config) s.core i.hats x;
@@ -170,6 +170,9 @@ granted_in_order config s c h i = let x = read s c in record {
   aims = accepted_aims config s.core s.names i.tied i.hats i.sound.sorted i.aims x;
   worded = accepted_worded s.core x h i.worded;
 }
+
+pub granted_in_order : (config : Settings) (s : State) (c : Call) → refusal_of s.core (read s c) ≡ None → InOrder config s → InOrder config (accepted_state s (read s c))
+granted_in_order config s c = accepted_in_order config s (read s c)
 
 -- and it is kept by each number that a face is told
 pub numbered_in_order : (config : Settings) → KeptByNumbers (InOrder config)

@@ -1,5 +1,5 @@
 -- Numbers that a call declares stand directly before their first use.
-use Rattle.std.proofs.Common.{◌≡◌, ◌∙◌, refl, sym, ap, subst, ℕ, ◌≤◌, Bool, true, false, cond, List, [], ◌∷◌, ◌++◌, length, drop, Option, Some, None}
+use Rattle.std.proofs.Common.{◌≡◌, ◌∙◌, refl, sym, ap, subst, ℕ, Bool, true, false, cond, List, [], ◌∷◌, ◌++◌, length, drop, Option, Some, None}
 use Rattle.std.specs.Prelude.{◌==◌, unwrap_or, is_some}
 use Rattle.std.specs.List.{AllByRecursion}
 use Rattle.std.specs.Option.{option_map_or}
@@ -15,10 +15,10 @@ use Rattle.zq_ids.specs.FaceIds.{next_id}
 use Rattle.zq_ids.specs.FaceTexts.{declared_key, known, known_choice, new_choice, prefix_key, whole_key, with_declared}
 use Rattle.zq_ids.specs.declared.decl.DeclKey.{DeclKey}
 use Rattle.zq_ids.proofs.IdLemmas.{free_from-least, of_id-with_id}
-use Rattle.zq_tables.specs.Naming.{FaceNaming, NamingState, change_naming, face_naming, naming_at, plain, text_at, with_told_number}
+use Rattle.zq_tables.specs.Naming.{FaceNaming, NamingState, change_naming, face_naming, naming_at, text_at, with_told_number}
 use Rattle.zq_machine.specs.declared.call.Call.{Call}
 use Rattle.zq_machine.specs.Configs.{Settings}
-use Rattle.zq_machine.specs.Deciding.{granted, refusal_of, renamed, told_of}
+use Rattle.zq_machine.specs.Deciding.{granted, renamed, told_of}
 use Rattle.zq_machine.specs.Direct.{AreDirect, IsDirectBody, is_declared_to, number_in, number_of}
 use Rattle.zq_machine.specs.Handing.{Handed}
 use Rattle.zq_machine.specs.Headline.{NumberPromise}
@@ -26,7 +26,7 @@ use Rattle.zq_machine.specs.Hearing.{CanBeTold, heard_body}
 use Rattle.zq_machine.specs.Machine.{accepted_state, follow}
 use Rattle.zq_machine.specs.Messages.{Telling, TellingBody, TextMessage, all_told, key_ended, key_told, text_final, text_reply, text_request}
 use Rattle.zq_machine.specs.State.{Core, State}
-use Rattle.zq_machine.specs.TextCalls.{TextCall, read}
+use Rattle.zq_machine.specs.TextCalls.{read}
 use Rattle.zq_machine.specs.Writing.{and_then, is_local_face, may_number, tell, tell_body, tell_declare, tell_number, told_key, write}
 use Rattle.zq_machine.proofs.Agreed.{InOrder, granted_in_order}
 use Rattle.zq_machine.proofs.DueHeard.{due_can}

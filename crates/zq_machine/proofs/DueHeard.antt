@@ -50,7 +50,7 @@ use Rattle.zq_machine.proofs.Granted.{all_passed}
 use Rattle.zq_machine.proofs.Hearing.{told_heard}
 use Rattle.zq_machine.proofs.Lists.{all_append, all_filter, all_mapped, all_weaker}
 use Rattle.zq_machine.proofs.Targets.{all_hats_open}
-use Rattle.zq_machine.proofs.Worded.{Any, Each, HasText, IsUsed, IsWorded, WordedFace, each_found, said_text}
+use Rattle.zq_machine.proofs.Worded.{Any, Each, IsKey, IsUsed, IsWorded, WordedFace, each_found, key_text, said_key}
 
 -- ---- keys
 all_put : {K : Type 0} (T : K → Type 0) (cmp : K → K → Ordering) (ks : List K) (k : K) → AllByRecursion T ks → T k → AllByRecursion T (insert_key cmp ks k)
@@ -63,21 +63,21 @@ all_put T cmp (x ∷ ks) k all it = by (cmp k x) (all_put T cmp ks k all.1 it)
     by Greater ih = (all.0, ih)
 
 abbrev AreTexts : List (List ℕ) → Type 0
-AreTexts ks = AllByRecursion HasText ks
+AreTexts ks = AllByRecursion IsKey ks
 
 texts_put : (ks more : List (List ℕ)) → AreTexts ks → AreTexts more → AreTexts (fold (insert_key text_cmp) ks more)
 texts_put ks [] all rest = all
-texts_put ks (k ∷ more) all rest = texts_put (insert_key text_cmp ks k) more (all_put HasText text_cmp ks k all rest.0) rest.1
+texts_put ks (k ∷ more) all rest = texts_put (insert_key text_cmp ks k) more (all_put IsKey text_cmp ks k all rest.0) rest.1
 
-face_texts : (ks : List (List ℕ)) (ds : List (ℕ × Declaration)) → AreTexts ks → Each Any (λ (d : Declaration). HasText d.key) ds → AreTexts (fold with_key ks ds)
+face_texts : (ks : List (List ℕ)) (ds : List (ℕ × Declaration)) → AreTexts ks → Each Any (λ (d : Declaration). IsKey d.key) ds → AreTexts (fold with_key ks ds)
 face_texts ks [] all w = all
-face_texts ks (d ∷ ds) all w = face_texts (insert_key text_cmp ks d.1.key) ds (all_put HasText text_cmp ks d.1.key all w.0.1) w.1
+face_texts ks (d ∷ ds) all w = face_texts (insert_key text_cmp ks d.1.key) ds (all_put IsKey text_cmp ks d.1.key all w.0.1) w.1
 
 faces_texts : (ks : List (List ℕ)) (fs : List (ℕ × FaceState)) → AreTexts ks → Each Any WordedFace fs → AreTexts (fold with_keys ks fs)
 faces_texts ks [] all w = all
 faces_texts ks (f ∷ fs) all w = faces_texts (with_keys ks f) fs (face_texts ks f.1.declared all w.0.1) w.1
 
-entry_texts : (es : List (List ℕ × List (ℕ × QueryableInfoType))) → Each HasText IsUsed es → AreTexts (keys_of es)
+entry_texts : (es : List (List ℕ × List (ℕ × QueryableInfoType))) → Each IsKey IsUsed es → AreTexts (keys_of es)
 entry_texts [] w = tt
 entry_texts (e ∷ es) w = (w.0.0, entry_texts es w.1)
 
@@ -99,7 +99,7 @@ own_texts place ks (h ∷ hats) all w = own_texts place (with_other_keys place k
     by false = texts_put ks (region_keys h.1) all (region_texts h.1 w.0.1)
 
 abbrev AreKeyed : List (List ℕ × QueryableInfoType) → Type 0
-AreKeyed es = AllByRecursion (λ (e : List ℕ × QueryableInfoType). HasText e.0) es
+AreKeyed es = AllByRecursion (λ (e : List ℕ × QueryableInfoType). IsKey e.0) es
 
 own_keyed : (place : ℕ) (hats : List (ℕ × HatState)) (ks : List (List ℕ)) → AreTexts ks → AreKeyed (filter_map (keyed_own place hats) ks)
 own_keyed place hats [] all = tt
@@ -112,7 +112,7 @@ own_keyed place hats (k ∷ ks) all = by (own_entry place k hats) (own_keyed pla
 own_entries_keyed : (place : ℕ) (hats : List (ℕ × HatState)) → Each Any IsWorded hats → AreKeyed (own_entries place hats)
 own_entries_keyed place hats w = own_keyed place hats (own_keys place hats) (own_texts place [] hats tt w)
 
-keyed_entries : (root : Zid) (es : List (List ℕ × List (ℕ × QueryableInfoType))) → Each HasText IsUsed es → AreKeyed (filter_map (keyed_entry root) es)
+keyed_entries : (root : Zid) (es : List (List ℕ × List (ℕ × QueryableInfoType))) → Each IsKey IsUsed es → AreKeyed (filter_map (keyed_entry root) es)
 keyed_entries root [] w = tt
 keyed_entries root (e ∷ es) w = by (at_id root.0 e.1) (keyed_entries root es w.1)
   where
@@ -127,7 +127,7 @@ standing_keyed own root h keyed w = by (is_zid root h.own)
     by true = keyed
     by false = keyed_entries root h.entries w.entries
 
-losing_texts : (net : Network) (es : List (List ℕ × List (ℕ × QueryableInfoType))) → Each HasText IsUsed es → AreTexts (keys_of (filter (has_by (is_unlisted net)) es))
+losing_texts : (net : Network) (es : List (List ℕ × List (ℕ × QueryableInfoType))) → Each IsKey IsUsed es → AreTexts (keys_of (filter (has_by (is_unlisted net)) es))
 losing_texts net [] w = tt
 losing_texts net (e ∷ es) w = by (has_by (is_unlisted net) e) (losing_texts net es w.1)
   where
@@ -145,7 +145,7 @@ module _ (names : NamingState) where
   Seats h = (n : ℕ) → has_face n h ≡ true → IsOpen n
 
   abbrev Can : TreeTelling → Type 0
-  Can t = IsOpen t.face.0 × HasText t.key
+  Can t = IsOpen t.face.0 × IsKey t.key
 
   abbrev AllCan : List TreeTelling → Type 0
   AllCan ts = AllByRecursion Can ts
@@ -173,7 +173,7 @@ module _ (names : NamingState) where
   faces_open : (from : Option ℕ) (zids : List Zid) (h : HatState) → Seats h → AllByRecursion IsOpen (faces_by from (λ zid. face_with zid h.faces) zids)
   faces_open from zids h seats = all_filter IsOpen (is_other from) (filter_map (λ zid. face_with zid h.faces) zids) (found_open h seats zids)
 
-  children_can : (from : Option ℕ) (root : Zid) (key : List ℕ) (i : Option QueryableInfoType) (h : HatState) → Seats h → HasText key → AllCan (to_children from root key i h)
+  children_can : (from : Option ℕ) (root : Zid) (key : List ℕ) (i : Option QueryableInfoType) (h : HatState) → Seats h → IsKey key → AllCan (to_children from root key i h)
   children_can from root key i h seats some = by (place_of h.network root)
     where
       ns : List ℕ
@@ -183,7 +183,7 @@ module _ (names : NamingState) where
       by None = tt
       by (Some node) = all_mapped Can (tree_telling key i node) ns (all_weaker IsOpen (λ n. Can (tree_telling key i node n)) (λ n there. (there, some)) ns (faces_open from (children_of h.network root) h seats))
 
-  own_can : (key : List ℕ) (was is : Option QueryableInfoType) (h : HatState) → Seats h → HasText key → AllCan (own_told key was is h)
+  own_can : (key : List ℕ) (was is : Option QueryableInfoType) (h : HatState) → Seats h → IsKey key → AllCan (own_told key was is h)
   own_can key was is h seats some = by (same_infos was is)
     where
       by : (b : Bool) → AllCan (cond b [] (to_children None h.own key is h))
@@ -222,7 +222,7 @@ module _ (names : NamingState) where
       by strategy.Peer = tt
       by strategy.Router = trees_can own old.network h keyed w seats h.network.nodes h.network.trees
 
-  own_in_can : (before after : List (ℕ × HatState)) (key : List ℕ) (h : ℕ × HatState) → HasText key → Seats h.1 → AllCan (own_told_in before after key h)
+  own_in_can : (before after : List (ℕ × HatState)) (key : List ℕ) (h : ℕ × HatState) → IsKey key → Seats h.1 → AllCan (own_told_in before after key h)
   own_in_can before after key h some seats = by (strategy_at h.1)
     where
       by : (k : Strategy) → AllCan (in_routers k (own_told key (own_entry h.0 key before) (own_entry h.0 key after) h.1) [])
@@ -231,7 +231,7 @@ module _ (names : NamingState) where
       by strategy.Peer = tt
       by strategy.Router = own_can key (own_entry h.0 key before) (own_entry h.0 key after) h.1 seats some
 
-  own_hats_can : (before after : List (ℕ × HatState)) (key : List ℕ) (hats : List (ℕ × HatState)) → HasText key → AllByRecursion (λ (e : ℕ × HatState). Seats e.1) hats → AllCan (flat_map (own_told_in before after key) hats)
+  own_hats_can : (before after : List (ℕ × HatState)) (key : List ℕ) (hats : List (ℕ × HatState)) → IsKey key → AllByRecursion (λ (e : ℕ × HatState). Seats e.1) hats → AllCan (flat_map (own_told_in before after key) hats)
   own_hats_can before after key [] some seats = tt
   own_hats_can before after key (h ∷ hats) some seats =
       all_append Can (own_told_in before after key h) (flat_map (own_told_in before after key) hats) (own_in_can before after key h some seats.0) (own_hats_can before after key hats some seats.1)
@@ -245,16 +245,16 @@ module _ (names : NamingState) where
   order_can ts [] all more = all
   order_can ts (u ∷ us) all more = order_can (insert_key telling_cmp ts u) us (all_put Can telling_cmp ts u all more.0) more.1
 
-  body_can : (id : ℕ) (key : List ℕ) (i : Option QueryableInfoType) → HasText key → tells_text (told_or_ended id key i) ≡ true
-  body_can id key None some = some
-  body_can id key (Some i) some = some
+  body_can : (id : ℕ) (key : List ℕ) (i : Option QueryableInfoType) → IsKey key → tells_text (told_or_ended id key i) ≡ true
+  body_can id key None some = key_text key some
+  body_can id key (Some i) some = key_text key some
 
   from_can : (ts : List TreeTelling) → AllCan ts → AllByRecursion (CanBeTold names) (map from_hat ts)
   from_can [] all = tt
   from_can (t ∷ ts) all = ((all.0.0, body_can t.id t.key t.info all.0.1), from_can ts all.1)
 
 -- ---- the keys that are touched
-face_keys_texts : (ds : List (ℕ × Declaration)) → Each Any (λ (d : Declaration). HasText d.key) ds → AreTexts (map key_of ds)
+face_keys_texts : (ds : List (ℕ × Declaration)) → Each Any (λ (d : Declaration). IsKey d.key) ds → AreTexts (map key_of ds)
 face_keys_texts [] w = tt
 face_keys_texts (d ∷ ds) w = (w.0.1, face_keys_texts ds w.1)
 
@@ -279,12 +279,12 @@ module _ (c : Core) (w : Each Any IsWorded c.hats) where
       by : (o : Option HatState) → hat_of face.0 c ≡ o → AreTexts (option_map_or (keys_of_face face.0) o [])
       by None e = tt
       by (Some x) e = by_face x (worded_of face.0 x e) (face_at face.0 x) refl
-  touched_texts (declaring face id s i node) h = (said_text s (all_passed (causes c (declaring face id s i node)) h).1.1.0, tt)
+  touched_texts (declaring face id s i node) h = (said_key s (all_passed (causes c (declaring face id s i node)) h).1.1.0, tt)
   touched_texts (withdrawing face id) h = by (hat_of face.0 c) refl
     where
       by_id : (f : FaceState) → WordedFace f → (o : Option Declaration) → at_id id f.declared ≡ o → AreTexts (option_to_list (option_map (λ (d : Declaration). d.key) o))
       by_id f v None e = tt
-      by_id f v (Some d) e = (each_found Any (λ (x : Declaration). HasText x.key) (is_at (nat_cmp id)) f.declared d e v, tt)
+      by_id f v (Some d) e = (each_found Any (λ (x : Declaration). IsKey x.key) (is_at (nat_cmp id)) f.declared d e v, tt)
 
       by_face : (x : HatState) → IsWorded x → (o : Option FaceState) → face_at face.0 x ≡ o → AreTexts (option_to_list (option_map (λ (d : Declaration). d.key) (option_and_then (λ (f : FaceState). at_id id f.declared) o)))
       by_face x v None e = tt
@@ -293,8 +293,8 @@ module _ (c : Core) (w : Each Any IsWorded c.hats) where
       by : (o : Option HatState) → hat_of face.0 c ≡ o → AreTexts (option_to_list (option_map (λ (d : Declaration). d.key) (option_and_then (declaration_at face.0 id) o)))
       by None e = tt
       by (Some x) e = by_face x (worded_of face.0 x e) (face_at face.0 x) refl
-  touched_texts (announcing face s i node) h = (said_text s (all_passed (causes c (announcing face s i node)) h).1.1.0, tt)
-  touched_texts (retracting face s node) h = (said_text s (all_passed (causes c (retracting face s node)) h).1.1.0, tt)
+  touched_texts (announcing face s i node) h = (said_key s (all_passed (causes c (announcing face s i node)) h).1.1.0, tt)
+  touched_texts (retracting face s node) h = (said_key s (all_passed (causes c (retracting face s node)) h).1.1.0, tt)
   touched_texts (networking r net) h = by (hat_at r c.hats) refl
     where
       by : (o : Option HatState) → hat_at r c.hats ≡ o → AreTexts (option_map_or (losing net) o [])
@@ -328,7 +328,7 @@ module _ (config : Settings) where
         by None e = absurd (let gap : None ≡ Some h = e in cc)
         by (Some x) e = seats_at x.region h e
 
-    router_can : (face : FaceId) (node : ℕ) (key : List ℕ) (info : Option QueryableInfoType) → HasText key → AllCan s.names (router_told face node key info s.core)
+    router_can : (face : FaceId) (node : ℕ) (key : List ℕ) (info : Option QueryableInfoType) → IsKey key → AllCan s.names (router_told face node key info s.core)
     router_can face node key info some = by (hat_of face.0 s.core) refl
       where
         source : (h : HatState) → Seats s.names h → (o : Option Zid) → AllCan s.names (option_map_or (λ (z : Zid). to_children (Some face.0) z key info h) o [])
@@ -351,19 +351,28 @@ module _ (config : Settings) where
             (seats_there (renamed s t) (accepted s.core t).hats (region_index r) x (region_there r (accepted s.core t).hats x e).1 (hat_seats (accepted_state s t) j))
 
     tree_can : (t : TextCall) → refusal_of s.core t ≡ None → InOrder config (accepted_state s t) → AllCan (renamed s t) (tree_told s.core (accepted s.core t) t)
-    tree_can (announcing face sd info node) h j = router_can face node (full_text sd) (Some info) (said_text sd (all_passed (causes s.core (announcing face sd info node)) h).1.1.0)
-    tree_can (retracting face sd node) h j = router_can face node (full_text sd) None (said_text sd (all_passed (causes s.core (retracting face sd node)) h).1.1.0)
+    tree_can (announcing face sd info node) h j = router_can face node (full_text sd) (Some info) (said_key sd (all_passed (causes s.core (announcing face sd info node)) h).1.1.0)
+    tree_can (retracting face sd node) h j = router_can face node (full_text sd) None (said_key sd (all_passed (causes s.core (retracting face sd node)) h).1.1.0)
     tree_can (networking r net) h j = networked_can (networking r net) j r
     tree_can t h j = tt
 
-    -- what is due by an accepted call can be told
-    pub due_can : (t : TextCall) → refusal_of s.core t ≡ None → InOrder config (accepted_state s t) → AllByRecursion (CanBeTold (renamed s t)) (due_told s.core (accepted s.core t) t)
-    due_can t h j =
+    -- what an accepted call tells, in no order
+    abbrev pub due_trees : TextCall → List TreeTelling
+    due_trees t = tree_told s.core (accepted s.core t) t ++ all_own_told s.core.hats (accepted s.core t).hats (touched s.core t)
+
+    trees_due : (t : TextCall) → refusal_of s.core t ≡ None → InOrder config (accepted_state s t) → AllCan (renamed s t) (due_trees t)
+    trees_due t h j =
         let tree = tree_told s.core (accepted s.core t) t in
         let own = all_own_told s.core.hats (accepted s.core t).hats (touched s.core t) in
-        from_can (renamed s t) (in_order (tree ++ own))
-        (order_can (renamed s t) [] (tree ++ own) tt
-        (all_append (Can (renamed s t)) tree own (tree_can t h j) (own_all_can (renamed s t) s.core.hats (accepted s.core t).hats (touched s.core t) (touched_texts s.core i.worded t h) (hat_seats (accepted_state s t) j))))
+        all_append (Can (renamed s t)) tree own (tree_can t h j) (own_all_can (renamed s t) s.core.hats (accepted s.core t).hats (touched s.core t) (touched_texts s.core i.worded t h) (hat_seats (accepted_state s t) j))
+
+    -- it is told of keys
+    pub due_keys : (t : TextCall) → refusal_of s.core t ≡ None → InOrder config (accepted_state s t) → AllByRecursion (λ (u : TreeTelling). IsKey u.key) (due_trees t)
+    due_keys t h j = all_weaker (Can (renamed s t)) (λ (u : TreeTelling). IsKey u.key) (λ u can. can.1) (due_trees t) (trees_due t h j)
+
+    -- what is due by an accepted call can be told
+    pub due_can : (t : TextCall) → refusal_of s.core t ≡ None → InOrder config (accepted_state s t) → AllByRecursion (CanBeTold (renamed s t)) (due_told s.core (accepted s.core t) t)
+    due_can t h j = from_can (renamed s t) (in_order (due_trees t)) (order_can (renamed s t) [] (due_trees t) tt (trees_due t h j))
 
     -- and once it is told it is what faces hear
     pub due_heard : (t : TextCall) → refusal_of s.core t ≡ None → InOrder config (accepted_state s t)

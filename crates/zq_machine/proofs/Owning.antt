@@ -1,5 +1,5 @@
 -- A call changes what regions have on the keys that it touches, and on no others.
-use Rattle.std.proofs.Common.{◌≡◌, ◌∙◌, refl, sym, ap, subst, ℕ, Bool, true, false, cond, not, List, [], ◌∷◌, ◌++◌, map, filter, fold, Option, Some, None}
+use Rattle.std.proofs.Common.{◌≡◌, ◌∙◌, refl, sym, ap, subst, ℕ, Bool, true, false, cond, not, List, [], ◌∷◌, map, filter, fold, Option, Some, None}
 use Rattle.std.specs.Prelude.{◌==◌}
 use Rattle.std.specs.BTreeMap.{insert_entry, is_at}
 use Rattle.std.specs.List.Sorted.{IsStrictlySortedBy}
@@ -54,7 +54,7 @@ use Rattle.zq_machine.proofs.Agreed.{InOrder, granted_in_order, run_in_order}
 use Rattle.zq_machine.proofs.Changing.{region_there}
 use Rattle.zq_machine.proofs.Granted.{all_passed, by_granted}
 use Rattle.zq_machine.proofs.Hats.{same_view, same_view_of}
-use Rattle.zq_machine.proofs.Worded.{Any, Each, HasText, IsUsed, IsWorded, each_found}
+use Rattle.zq_machine.proofs.Worded.{Any, Each, IsKey, IsUsed, IsWorded, each_found}
 
 module _ (key : List ℕ) where
   -- another text
@@ -312,7 +312,7 @@ module _ (place : ℕ) (key : List ℕ) where
       ∙ own_seen old
 
 -- the entries of hats that are worded are used
-used_there : (es : Entries) → Each HasText IsUsed es → AllByRecursion (λ (e : List ℕ × Routed). has_any e.1 ≡ true) es
+used_there : (es : Entries) → Each IsKey IsUsed es → AllByRecursion (λ (e : List ℕ × Routed). has_any e.1 ≡ true) es
 used_there [] w = tt
 used_there (e ∷ es) w = (w.0.1, used_there es w.1)
 

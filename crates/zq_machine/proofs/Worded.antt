@@ -1,6 +1,5 @@
--- No key that a face declared, and no key of routers' entries, is an empty text; and each key of entries has one.
-use Rattle.std.proofs.Common.{◌≡◌, refl, sym, subst, ℕ, Bool, true, false, cond, not, List, [], ◌∷◌, ◌++◌, filter, fold, Option, Some, None}
-use Rattle.std.specs.Prelude.{◌||◌}
+-- What faces declared, and what routers' entries are on, are keys; and each key of entries has one.
+use Rattle.std.proofs.Common.{◌≡◌, refl, sym, subst, ℕ, Bool, true, false, cond, not, List, [], ◌∷◌, filter, fold, Option, Some, None}
 use Rattle.std.specs.BTreeMap.{insert_entry, is_at}
 use Rattle.std.specs.List.{AllByRecursion, cons_option}
 use Rattle.std.specs.Map.{lookup, remove_entry, set_value}
@@ -86,36 +85,37 @@ module _ {K X : Type 0} (A : K → Type 0) (B : X → Type 0) where
 abbrev pub Any : {X : Type 0} → X → Type 0
 Any x = Unit {0}
 
--- the text is not empty
-abbrev pub HasText : List ℕ → Type 0
-HasText text = has_text text ≡ true
+-- the text is a key
+abbrev pub IsKey : List ℕ → Type 0
+IsKey text = is_key text ≡ true
 
 abbrev pub WordedFace : FaceState → Type 0
-WordedFace f = Each Any (λ (d : Declaration). HasText d.key) f.declared
+WordedFace f = Each Any (λ (d : Declaration). IsKey d.key) f.declared
 
 abbrev pub IsUsed : Routed → Type 0
 IsUsed es = has_any es ≡ true
 
 pub record IsWorded (h : HatState) : Type 0 where
   pub faces : Each Any WordedFace h.faces
-  pub entries : Each HasText IsUsed h.entries
+  pub entries : Each IsKey IsUsed h.entries
 
 abbrev pub AreWorded : List (ℕ × HatState) → Type 0
 AreWorded hats = Each Any IsWorded hats
 
 -- ---- what is said
-key_text : (t : List ℕ) → is_key t ≡ true → HasText t
+-- a key is no empty text
+pub key_text : (t : List ℕ) → IsKey t → has_text t ≡ true
 unfolding is_key is_chunk
 key_text [] h = absurd (false≢true h)
 key_text (c ∷ t) h = refl
 
-pub said_text : (s : Said) → not (says_key s) ≡ false → HasText (full_text s)
-said_text said.Unscoped h = absurd (true≢false h)
-said_text said.Empty h = absurd (true≢false h)
-said_text (said.Full text) h = by (is_key text) refl h
+pub said_key : (s : Said) → not (says_key s) ≡ false → IsKey (full_text s)
+said_key said.Unscoped h = absurd (true≢false h)
+said_key said.Empty h = absurd (true≢false h)
+said_key (said.Full text) h = by (is_key text) refl h
   where
-    by : (b : Bool) → is_key text ≡ b → not b ≡ false → HasText text
-    by true k g = key_text text k
+    by : (b : Bool) → is_key text ≡ b → not b ≡ false → IsKey text
+    by true k g = k
     by false k g = absurd (true≢false g)
 
 -- ---- changes of a hat
@@ -141,20 +141,20 @@ marked_worded mark.Initial set f w = w
 marked_worded (mark.Key k) true f w = w
 marked_worded (mark.Key k) false f w = w
 
-with_worded : (key : List ℕ) (v : Routed) (es : Entries) → HasText key → Each HasText IsUsed es → Each HasText IsUsed (with_entries key v es)
-with_worded key [] es some all = each_out HasText IsUsed (is_at (text_cmp key)) es all
-with_worded key (x ∷ v) es some all = each_in HasText IsUsed text_cmp es key (x ∷ v) all some refl
+with_worded : (key : List ℕ) (v : Routed) (es : Entries) → IsKey key → Each IsKey IsUsed es → Each IsKey IsUsed (with_entries key v es)
+with_worded key [] es some all = each_out IsKey IsUsed (is_at (text_cmp key)) es all
+with_worded key (x ∷ v) es some all = each_in IsKey IsUsed text_cmp es key (x ∷ v) all some refl
 
 source_worded : (o : Option Zid) (g : Zid → HatState) (h : HatState) → IsWorded h → ((z : Zid) → IsWorded (g z)) → IsWorded (option_map_or g o h)
 source_worded None g h w each = w
 source_worded (Some z) g h w each = each z
 
-announced_worded : (n node : ℕ) (key : List ℕ) (i : QueryableInfoType) → HasText key → (h : HatState) → IsWorded h → IsWorded (announced_by n node key i h)
+announced_worded : (n node : ℕ) (key : List ℕ) (i : QueryableInfoType) → IsKey key → (h : HatState) → IsWorded h → IsWorded (announced_by n node key i h)
 announced_worded n node key i some h w =
     source_worded (source_at n node h) (λ z. announced z.0 key i h) h w
     (λ z. record { faces = w.faces; entries = with_worded key (routed_with z.0 i (entries_at key h.entries)) h.entries some w.entries })
 
-retracted_worded : (n node : ℕ) (key : List ℕ) → HasText key → (h : HatState) → IsWorded h → IsWorded (retracted_by n node key h)
+retracted_worded : (n node : ℕ) (key : List ℕ) → IsKey key → (h : HatState) → IsWorded h → IsWorded (retracted_by n node key h)
 retracted_worded n node key some h w =
     source_worded (source_at n node h) (λ z. retracted z.0 key h) h w
     (λ z. record { faces = w.faces; entries = with_worded key (routed_without z.0 (entries_at key h.entries)) h.entries some w.entries })
@@ -163,11 +163,11 @@ some_stay : (xs ys : Routed) → if_any xs ≡ Some ys → IsUsed ys
 some_stay [] ys e = absurd (let gap : None ≡ Some ys = e in cc)
 some_stay (x ∷ xs) ys e = subst IsUsed (same_Some _ _ e) refl
 
-network_worded : (test : Zid → Bool) (es : Entries) → Each HasText IsUsed es → Each HasText IsUsed (staying test es)
+network_worded : (test : Zid → Bool) (es : Entries) → Each IsKey IsUsed es → Each IsKey IsUsed (staying test es)
 network_worded test [] all = tt
 network_worded test (e ∷ es) all = by (if_any (filter (is_by test) e.1)) refl (network_worded test es all.1)
   where
-    by : (o : Option Routed) → if_any (filter (is_by test) e.1) ≡ o → Each HasText IsUsed (staying test es) → Each HasText IsUsed (cons_option (option_map (λ xs. (e.0, xs)) o) (staying test es))
+    by : (o : Option Routed) → if_any (filter (is_by test) e.1) ≡ o → Each IsKey IsUsed (staying test es) → Each IsKey IsUsed (cons_option (option_map (λ xs. (e.0, xs)) o) (staying test es))
     by None s ih = ih
     by (Some xs) s ih = ((all.0.0, some_stay (filter (is_by test) e.1) xs s), ih)
 
@@ -200,16 +200,16 @@ pub accepted_worded : (c : Core) (t : TextCall) → refusal_of c t ≡ None → 
 accepted_worded c (opening o) h all = each_hat_keeps IsWorded o.region (joined (seat c.next_face o)) c.hats (joined_worded (seat c.next_face o)) all
 accepted_worded c (closing face) h all = each_keeps_in_its_hat IsWorded face.0 (without_face face.0) c (left_worded face.0) all
 accepted_worded c (declaring face id s i node) h all =
-    let some = said_text s (all_passed (causes c (declaring face id s i node)) h).1.1.0 in
+    let some = said_key s (all_passed (causes c (declaring face id s i node)) h).1.1.0 in
     each_keeps_in_its_hat IsWorded face.0 (registered face.0 id (full_text s) node i) c
-    (λ x w. subst IsWorded (sym (registered_at face.0 id (full_text s) node i x)) (face_worded face.0 (declare id (full_text s) i) (λ f v. each_in Any (λ (d : Declaration). HasText d.key) nat_cmp f.declared id (record { key = full_text s; info = i }) v tt some) x w)) all
+    (λ x w. subst IsWorded (sym (registered_at face.0 id (full_text s) node i x)) (face_worded face.0 (declare id (full_text s) i) (λ f v. each_in Any (λ (d : Declaration). IsKey d.key) nat_cmp f.declared id (record { key = full_text s; info = i }) v tt some) x w)) all
 accepted_worded c (withdrawing face id) h all =
-    each_keeps_in_its_hat IsWorded face.0 (unregistered face.0 id) c (face_worded face.0 (withdraw id) (λ f v. each_out Any (λ (d : Declaration). HasText d.key) (is_at (nat_cmp id)) f.declared v)) all
+    each_keeps_in_its_hat IsWorded face.0 (unregistered face.0 id) c (face_worded face.0 (withdraw id) (λ f v. each_out Any (λ (d : Declaration). IsKey d.key) (is_at (nat_cmp id)) f.declared v)) all
 accepted_worded c (finalizing face m set) h all = each_keeps_in_its_hat IsWorded face.0 (finalized face.0 m set) c (face_worded face.0 (marked m set) (marked_worded m set)) all
 accepted_worded c (announcing face s i node) h all =
-    each_keeps_in_its_hat IsWorded face.0 (announced_by face.0 node (full_text s) i) c (announced_worded face.0 node (full_text s) i (said_text s (all_passed (causes c (announcing face s i node)) h).1.1.0)) all
+    each_keeps_in_its_hat IsWorded face.0 (announced_by face.0 node (full_text s) i) c (announced_worded face.0 node (full_text s) i (said_key s (all_passed (causes c (announcing face s i node)) h).1.1.0)) all
 accepted_worded c (retracting face s node) h all =
-    each_keeps_in_its_hat IsWorded face.0 (retracted_by face.0 node (full_text s)) c (retracted_worded face.0 node (full_text s) (said_text s (all_passed (causes c (retracting face s node)) h).1.1.0)) all
+    each_keeps_in_its_hat IsWorded face.0 (retracted_by face.0 node (full_text s)) c (retracted_worded face.0 node (full_text s) (said_key s (all_passed (causes c (retracting face s node)) h).1.1.0)) all
 accepted_worded c (networking r net) h all = each_hat_keeps IsWorded r (networked net) c.hats (networked_worded net) all
 accepted_worded c (tabling face ids) h all = each_keeps_in_its_hat IsWorded face.0 (noded face.0 ids) c (face_worded face.0 (λ f. record f { nodes = ids }) (λ f v. v)) all
 accepted_worded c t h all = all
