@@ -1,14 +1,14 @@
 -- What a change of one region's information does to the gateway's own entries, and whom it is told.
-use Rattle.std.proofs.Common.{◌≡◌, ◌∙◌, refl, sym, ap, subst, ℕ, ◌+◌, ◌*◌, Bool, true, false, cond, List, [], ◌∷◌, ◌++◌, map, fold, Option, Some, None, eqb-true, arith}
-use Rattle.std.specs.Prelude.{◌&&◌, ◌==◌}
+use Rattle.std.proofs.Common.{◌≡◌, ◌∙◌, refl, sym, ap, subst, ℕ, ◌+◌, ◌*◌, Bool, true, false, cond, List, [], ◌∷◌, ◌++◌, map, fold, Option, Some, None, eqb-true, arith, true≢false}
+use Rattle.std.specs.Prelude.{not, ◌&&◌, ◌==◌}
 use Rattle.std.specs.declared.cmp.Ordering.TheVariants.{Less}
 use Rattle.std.specs.Ordering.{nat_cmp}
 use Rattle.std.specs.BTreeMap.{is_at}
-use Rattle.std.specs.List.{AllByRecursion, flat_map}
+use Rattle.std.specs.List.{AllByRecursion, flat_map, list_any}
 use Rattle.std.specs.List.Sorted.{IsStrictlySortedBy}
 use Rattle.std.specs.Map.{keys_of, set_value}
 use Rattle.std.proofs.lemmas.Map.Keys.{sorted_head, sorted_tail}
-use Rattle.std.proofs.lemmas.Bool.{eq-eqb}
+use Rattle.std.proofs.lemmas.Bool.{eq-eqb, or_parts}
 use Rattle.std.proofs.lemmas.Cmp.{nat_cmp_total}
 use Rattle.std.proofs.lemmas.List.Folds.{fold-map}
 use Rattle.std.proofs.lemmas.Map.Lookups.{exact_unsigned}
@@ -23,6 +23,8 @@ use Rattle.zq_index.specs.Infos.{joined, same_bool}
 use Rattle.zq_regions.specs.Region.{mode_offset, region_index}
 use Rattle.zq_hat.specs.declared.types.Strategy.{Strategy}
 use Rattle.zq_hat.specs.declared.types.Strategy.TheVariants as strategy
+use Rattle.zq_hat.specs.declared.types.Change.{Change}
+use Rattle.zq_hat.specs.Changes.{changed_by}
 use Rattle.zq_hat.specs.Kept.{region_info}
 use Rattle.zq_hat.specs.Regions.{in_routers, same_mode, same_region, strategy_at}
 use Rattle.zq_hat.specs.State.{HatState}
@@ -30,7 +32,7 @@ use Rattle.zq_hat.specs.Trees.{own_told, to_children}
 use Rattle.zq_machine.specs.State.{change_hat, hat_at, put_hat}
 use Rattle.zq_machine.specs.Trees.{own_entry, own_told_in, own_told_on, with_other}
 use Rattle.zq_own.specs.declared.entries.NewInfo.{NewInfo}
-use Rattle.zq_own.specs.Own.{info_as, own_entry_as, told_as, with_other_as}
+use Rattle.zq_own.specs.Own.{has_other_routing, info_as, is_other_routing, own_entry_as, told_as, told_of, with_other_as}
 
 -- ---- regions are the same where their indices are
 either : (x y : Bool) → (x ≡ true → y ≡ true) → (y ≡ true → x ≡ true) → x ≡ y
@@ -125,6 +127,20 @@ flat_alike : {A B C : Type 0} (f : B → List C) (h : A → B) (g : A → List C
 flat_alike f h g same [] = refl
 flat_alike f h g same (x ∷ xs) = (λ i. same x i ++ flat_alike f h g same xs i)
 
+-- ---- nothing is told of what stays
+flat_none : {A C : Type 0} (f : A → List C) (xs : List A) → ((x : A) → f x ≡ []) → flat_map f xs ≡ []
+flat_none f [] none = refl
+flat_none f (x ∷ xs) none = (λ i. none x i ++ flat_none f xs none i)
+
+none_by : (key : List ℕ) (k : Strategy) (was is : Option QueryableInfoType) (h : HatState) → was ≡ is → in_routers k (own_told key was is h) [] ≡ []
+none_by key strategy.Broker was is h same = refl
+none_by key strategy.Client was is h same = refl
+none_by key strategy.Peer was is h same = refl
+none_by key strategy.Router was is h same = ap (λ b. cond b [] (to_children None h.own key is h)) (ap (λ i. same_infos i is) same ∙ same_still is)
+
+unchanged : (hats : List (ℕ × HatState)) (key : List ℕ) → own_told_on hats hats key ≡ []
+unchanged hats key = flat_none (own_told_in hats hats key) hats (λ e. none_by key (strategy_at e.1) (own_entry e.0 key hats) (own_entry e.0 key hats) e.1 refl)
+
 -- ---- a region gets another information
 module _ (new : NewInfo) (key : List ℕ) (v : HatState) (info : region_info key v ≡ new.info) where
   abbrev p : ℕ
@@ -152,25 +168,60 @@ module _ (new : NewInfo) (key : List ℕ) (v : HatState) (info : region_info key
   own_here place hats same = fold_alike (with_other_as (Some new) place key) (with_other place key) (λ m e. left_out_by place m e (e.0 == place) refl same) None hats
 
   module _ (hats : List (ℕ × HatState)) where
-    none_by : (k : Strategy) (was is : Option QueryableInfoType) (h : HatState) → was ≡ is → in_routers k (own_told key was is h) [] ≡ []
-    none_by strategy.Broker was is h same = refl
-    none_by strategy.Client was is h same = refl
-    none_by strategy.Peer was is h same = refl
-    none_by strategy.Router was is h same = ap (λ b. cond b [] (to_children None h.own key is h)) (ap (λ i. same_infos i is) same ∙ same_still is)
-
     told_by : (e : ℕ × HatState) (b : Bool) → (e.0 == p) ≡ b → own_told_in hats (map one hats) key (cond b (e.0, v) e)
         ≡ cond b [] (in_routers (strategy_at e.1) (own_told key (own_entry e.0 key hats) (own_entry_as (Some new) e.0 key hats) e.1) [])
-    told_by e true is = none_by (strategy_at v) (own_entry e.0 key hats) (own_entry e.0 key (map one hats)) v (sym (own_by e.0 hats ∙ own_here e.0 hats (eqb-true e.0 p is)))
+    told_by e true is = none_by key (strategy_at v) (own_entry e.0 key hats) (own_entry e.0 key (map one hats)) v (sym (own_by e.0 hats ∙ own_here e.0 hats (eqb-true e.0 p is)))
     told_by e false is = ap (λ i. in_routers (strategy_at e.1) (own_told key (own_entry e.0 key hats) i e.1) []) (own_by e.0 hats)
 
     told_once : own_told_on hats (map one hats) key ≡ flat_map (told_as new hats key) hats
     told_once = flat_alike (own_told_in hats (map one hats) key) one (told_as new hats key) (λ e. told_by e (e.0 == p) refl) hats
 
 -- what changed own entries on a key hand is what they hand by the new information
-pub told_changed : (new : NewInfo) (key : List ℕ) (f : HatState → HatState) (h : HatState) (hats : List (ℕ × HatState))
+told_changed : (new : NewInfo) (key : List ℕ) (f : HatState → HatState) (h : HatState) (hats : List (ℕ × HatState))
     → IsStrictlySortedBy nat_cmp (keys_of hats) → hat_at new.region hats ≡ Some h → region_info key (f h) ≡ new.info
     → own_told_on hats (change_hat new.region f hats) key ≡ flat_map (told_as new hats key) hats
 told_changed new key f h hats sorted there info =
     ap (λ o. own_told_on hats (put_hat new.region f hats o) key) there
     ∙ ap (λ l. own_told_on hats l key) (each_changed (region_index new.region) (f h) hats sorted)
     ∙ told_once new key (f h) info hats
+
+-- where no other region is one of routers, nothing is told
+module _ (new : NewInfo) (hats : List (ℕ × HatState)) (key : List ℕ) where
+  quiet_in : (e : ℕ × HatState) (b : Bool) (k : Strategy) → (not b && in_routers k true false) ≡ false → (was is : Option QueryableInfoType) → cond b [] (in_routers k (own_told key was is e.1) []) ≡ []
+  quiet_in e true k none was is = refl
+  quiet_in e false strategy.Broker none was is = refl
+  quiet_in e false strategy.Client none was is = refl
+  quiet_in e false strategy.Peer none was is = refl
+  quiet_in e false strategy.Router none was is = absurd (true≢false none)
+
+  quiet_on : (es : List (ℕ × HatState)) → list_any (is_other_routing (region_index new.region)) es ≡ false → flat_map (told_as new hats key) es ≡ []
+  quiet_on [] none = refl
+  quiet_on (e ∷ es) none =
+      let parts = or_parts (is_other_routing (region_index new.region) e) (list_any (is_other_routing (region_index new.region)) es) none in
+      (λ i. quiet_in e (e.0 == region_index new.region) (strategy_at e.1) parts.0 (own_entry e.0 key hats) (own_entry_as (Some new) e.0 key hats) i ++ quiet_on es parts.1 i)
+
+pub quiet : (r : Region) (f : HatState → HatState) (hats : List (ℕ × HatState)) (key : List ℕ) → IsStrictlySortedBy nat_cmp (keys_of hats) → has_other_routing (region_index r) hats ≡ false
+    → own_told_on hats (change_hat r f hats) key ≡ []
+quiet r f hats key sorted none = by (hat_at r hats) refl
+  where
+    by : (o : Option HatState) → hat_at r hats ≡ o → own_told_on hats (put_hat r f hats o) key ≡ []
+    by None is = unchanged hats key
+    by (Some h) is = ap (λ o. own_told_on hats (put_hat r f hats o) key) (sym is) ∙ told_changed (record { region = r; info = region_info key (f h) }) key f h hats sorted is refl ∙ quiet_on (record { region = r; info = region_info key (f h) }) hats key hats none
+
+-- a region without a hat does not change
+pub no_hat : (r : Region) (f : HatState → HatState) (hats : List (ℕ × HatState)) (key : List ℕ) → hat_at r hats ≡ None → own_told_on hats (change_hat r f hats) key ≡ []
+no_hat r f hats key none = ap (λ o. own_told_on hats (put_hat r f hats o) key) none ∙ unchanged hats key
+
+-- the same of each of some keys
+pub quiet_each : (r : Region) (change : Change) (hats : List (ℕ × HatState)) (keys : List (List ℕ)) → IsStrictlySortedBy nat_cmp (keys_of hats) → has_other_routing (region_index r) hats ≡ false
+    → flat_map (told_of hats r change) keys ≡ []
+quiet_each r change hats keys sorted none = flat_none (told_of hats r change) keys (λ key. quiet r (changed_by change key) hats key sorted none)
+
+-- the same of each of some keys of a region without a hat
+pub no_hat_each : (r : Region) (change : Change) (hats : List (ℕ × HatState)) (keys : List (List ℕ)) → hat_at r hats ≡ None → flat_map (told_of hats r change) keys ≡ []
+no_hat_each r change hats keys none = flat_none (told_of hats r change) keys (λ key. no_hat r (changed_by change key) hats key none)
+
+-- where a hat changes, what is told is what the new information hands
+pub told_by_change : (r : Region) (change : Change) (key : List ℕ) (h : HatState) (hats : List (ℕ × HatState)) → IsStrictlySortedBy nat_cmp (keys_of hats) → hat_at r hats ≡ Some h
+    → (i : Option QueryableInfoType) → i ≡ region_info key (changed_by change key h) → flat_map (told_as (record { region = r; info = i }) hats key) hats ≡ told_of hats r change key
+told_by_change r change key h hats sorted there i is = sym (told_changed (record { region = r; info = i }) key (changed_by change key) h hats sorted there (sym is))

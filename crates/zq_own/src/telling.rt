@@ -5,18 +5,16 @@ ghost use Rattle.std.specs.Prelude.{◌≡◌, ◌++◌, Some, OnOk};
 ghost use Rattle.std.specs.List.{flat_map};
 ghost use Rattle.zq_regions.specs.Region.{region_index};
 ghost use Rattle.zq_regions.specs.RegionMap.{GoByIndex};
-ghost use Rattle.zq_hat.specs.State.{HatState};
-ghost use Rattle.zq_hat.specs.Kept.{region_info};
-ghost use Rattle.zq_machine.specs.State.{change_hat, hat_at, is_routing};
-ghost use Rattle.zq_machine.specs.Trees.{own_told_on};
-ghost use Rattle.zq_own.specs.Own.{told_as};
+ghost use Rattle.zq_machine.specs.State.{hat_at, is_routing};
+ghost use Rattle.zq_own.specs.Own.{has_other_routing, told_as, told_of};
 
 use crate::entries::{NewInfo, own_entry, own_entry_as};
 use zq_hat::hat::Hat;
 use zq_hat::strategy::same_region;
-use zq_hat::types::{Strategy, TellingList};
+use zq_hat::types::{Change, Strategy, TellingList};
 use zq_key::memory::OutOfMemory;
 use zq_key::message::Region;
+use zq_key::text::Text;
 use zq_tables::RegionMap;
 
 // Tellings go behind the others.
@@ -37,6 +35,19 @@ fn is_routing(hat: &Hat) -> bool
         Strategy::Broker | Strategy::Client | Strategy::Peer => false,
         Strategy::Router => true,
     }
+}
+
+// Whether a region but this one is one of routers.
+fn has_other_routing(hats: &RegionMap<Hat>, region: Region) -> bool
+    ensures value { result ≡ has_other_routing (region_index region) hats.now }
+    ensures ordered { GoByIndex hats.now }
+{
+    for (other, hat) in hats.iter() {
+        if !same_region(other, region) && is_routing(hat) {
+            return true;
+        }
+    }
+    false
 }
 
 // What the own entry on a key hands in a region joins the list.
@@ -65,8 +76,7 @@ fn tell_on(
     key: &str,
     told: &mut TellingList,
 ) -> Result<(), OutOfMemory>
-    ensures told { OnOk result (told.new ≡ told.old ++ flat_map (told_as new hats.now key.now) hats.now) }
-    ensures ordered { GoByIndex hats.now }
+    ensures { OnOk result (told.new ≡ told.old ++ flat_map (told_as new hats.now key.now) hats.now) }
 {
     for (region, hat) in hats.iter() {
         tell_in(hats, region, hat, new, key, told)?;
@@ -74,16 +84,47 @@ fn tell_on(
     Ok(())
 }
 
-/// What children of the gateway's own trees are told of a key joins the list, where a region's
-/// information on it changes to the new one: the own entries of the other regions of routers change
-/// by it. The hats stand as before the change.
-pub fn tell_own(
+/// What children of the gateway's own trees are told of a key joins the list, where a region's hat
+/// changes: the own entries of the other regions of routers change by it. The hats stand as before
+/// the change. Where no other region is one of routers, nothing is looked up.
+pub fn tell_change(
     hats: &RegionMap<Hat>,
-    new: NewInfo,
+    changed: Region,
+    hat: &Hat,
+    change: &Change,
     key: &str,
     told: &mut TellingList,
 ) -> Result<(), OutOfMemory>
-    ensures { (f : HatState → HatState) (h : HatState) → hat_at new.region hats.now ≡ Some h → region_info key.now (f h) ≡ new.info → OnOk result (told.new ≡ told.old ++ own_told_on hats.now (change_hat new.region f hats.now) key.now) }
+    requires { hat_at changed hats.now ≡ Some hat.now }
+    ensures { OnOk result (told.new ≡ told.old ++ told_of hats.now changed change.now key.now) }
 {
+    if !has_other_routing(hats, changed) {
+        return Ok(());
+    }
+    let new = NewInfo {
+        region: changed,
+        info: hat.info_after(change, key),
+    };
     tell_on(hats, new, key, told)
+}
+
+/// The same of each of the keys. Where no other region is one of routers, they are not looked at.
+pub fn tell_changes(
+    hats: &RegionMap<Hat>,
+    changed: Region,
+    hat: &Hat,
+    change: &Change,
+    keys: &[Text],
+    told: &mut TellingList,
+) -> Result<(), OutOfMemory>
+    requires { hat_at changed hats.now ≡ Some hat.now }
+    ensures { OnOk result (told.new ≡ told.old ++ flat_map (told_of hats.now changed change.now) keys.now) }
+{
+    if !has_other_routing(hats, changed) {
+        return Ok(());
+    }
+    for key in keys {
+        tell_change(hats, changed, hat, change, key.as_str(), told)?;
+    }
+    Ok(())
 }

@@ -1,6 +1,5 @@
 use Rattle.std.proofs.Common.{◌≡◌, ◌++◌}
 use Rattle.std.specs.List.{flat_map}
-use Rattle.zq_regions.specs.RegionMap.{GoByIndex}
 use Rattle.zq_own.specs.Own.{told_as}
 use Rattle.zq_own.proofs.telling.tell_on.Given as goal
 
@@ -8,6 +7,5 @@ abbrev pub invariant-loop-region : goal.invariant-loop-region
 invariant-loop-region l = record {
   can : (goal.iterator-loop-region).can_next l.region-iterator;
   ends : (goal.iterator-loop-region).is_finite l.region-iterator;
-  ordered : GoByIndex l.hats;
   rest : l.told ++ flat_map (told_as l.new l.hats l.key) l.region-iterator ≡ l.fn.told ++ flat_map (told_as l.new l.hats l.key) l.hats;
 }
