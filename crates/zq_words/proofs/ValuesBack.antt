@@ -20,7 +20,7 @@ use Rattle.zq_words.specs.Words.{is_digit, number, payload_word, list_of, list_w
 use Rattle.zq_words.specs.Values.{most_16, most_32, most_128, face_of, face_word, zid_of, zid_word, mode_of, mode_word, bound_of, bound_word, target_of, target_word, south_of, region_of, region_word, mapping_of, mapping_word, wire_of, wire_word, zids_of, zids_word, all_of, all_word, direction_of, direction_word}
 use Rattle.zq_words.specs.Fits.{FitsFace, FitsZid, FitsWire, FitsOption, FitsRegion}
 use Rattle.zq_words.proofs.Back.{lacks_append, cut_back, Reads, number_value, decimal_lacks, decimal_some, text_back, payload_lacks, space_escaped}
-use Rattle.zq_words.proofs.Lists.{Piece, not_name, list_back, list_reads, list_lacks}
+use Rattle.zq_words.proofs.Lists.{Piece, not_name, list_reads}
 
 pub face_reads : (face : FaceId) → FitsFace face → Reads face_of (face_word face) face
 face_reads face f = record {

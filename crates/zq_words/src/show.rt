@@ -4,7 +4,7 @@ ghost use Rattle.std.specs.Fmt.{decimal};
 ghost use Rattle.zq_words.specs.Words.{payload_word, list_word, rest_word, list_words, option_word, field};
 ghost use Rattle.zq_words.specs.Values.{face_word, zid_word, mode_word, bound_word, target_word, region_word, mapping_word, wire_word, zids_word, all_word, direction_word, flag_word};
 
-use crate::words::{push_number, push_text, push_word};
+use crate::words::{push_byte, push_decimal, push_number, push_text, push_word};
 use std::alloc::AllocError;
 use zq_message::items::Items;
 use zq_message::message::{Bound, FaceId, Mapping, Mode, QueryTarget, Region, WireExpr, Zid};
@@ -24,7 +24,7 @@ pub trait Shown {
 pub fn push_field<T: Shown>(out: &mut Vec<u8>, x: &T) -> Result<(), AllocError>
     ensures { OnOk result (out.new.items ≡ out.old.items ++ field (T.word x.now)) }
 {
-    push_text(out, " ")?;
+    push_byte(out, b' ')?;
     x.show(out)
 }
 
@@ -32,7 +32,7 @@ impl Shown for u8 {
     ghost word = { decimal };
 
     fn show(&self, out: &mut Vec<u8>) -> Result<(), AllocError> {
-        push_number(out, *self)
+        push_decimal(out, u64::from(*self))
     }
 }
 
@@ -40,7 +40,7 @@ impl Shown for u16 {
     ghost word = { decimal };
 
     fn show(&self, out: &mut Vec<u8>) -> Result<(), AllocError> {
-        push_number(out, *self)
+        push_decimal(out, u64::from(*self))
     }
 }
 
@@ -48,7 +48,7 @@ impl Shown for u32 {
     ghost word = { decimal };
 
     fn show(&self, out: &mut Vec<u8>) -> Result<(), AllocError> {
-        push_number(out, *self)
+        push_decimal(out, u64::from(*self))
     }
 }
 
@@ -56,7 +56,7 @@ impl Shown for u64 {
     ghost word = { decimal };
 
     fn show(&self, out: &mut Vec<u8>) -> Result<(), AllocError> {
-        push_number(out, *self)
+        push_decimal(out, *self)
     }
 }
 
@@ -64,7 +64,7 @@ impl Shown for FaceId {
     ghost word = { face_word };
 
     fn show(&self, out: &mut Vec<u8>) -> Result<(), AllocError> {
-        push_number(out, self.0)
+        self.0.show(out)
     }
 }
 
@@ -132,8 +132,8 @@ impl Shown for Mapping {
 
     fn show(&self, out: &mut Vec<u8>) -> Result<(), AllocError> {
         match self {
-            Mapping::Sender => push_text(out, "s"),
-            Mapping::Receiver => push_text(out, "r"),
+            Mapping::Sender => push_byte(out, b's'),
+            Mapping::Receiver => push_byte(out, b'r'),
         }
     }
 }
@@ -147,8 +147,8 @@ impl Shown for Region {
             Region::Local => push_text(out, "local"),
             Region::South { id, mode } => {
                 push_text(out, "south:")?;
-                push_number(out, *id)?;
-                push_text(out, ":")?;
+                id.show(out)?;
+                push_byte(out, b':')?;
                 mode.show(out)
             }
         }
@@ -159,10 +159,10 @@ impl Shown for WireExpr {
     ghost word = { wire_word };
 
     fn show(&self, out: &mut Vec<u8>) -> Result<(), AllocError> {
-        push_number(out, self.scope)?;
-        push_text(out, ":")?;
+        self.scope.show(out)?;
+        push_byte(out, b':')?;
         self.mapping.show(out)?;
-        push_text(out, ":")?;
+        push_byte(out, b':')?;
         self.suffix.show(out)
     }
 }
@@ -173,7 +173,7 @@ impl Shown for Option<u64> {
     fn show(&self, out: &mut Vec<u8>) -> Result<(), AllocError> {
         match self {
             Some(x) => x.show(out),
-            None => push_text(out, "-"),
+            None => push_byte(out, b'-'),
         }
     }
 }
@@ -184,7 +184,7 @@ impl Shown for Option<WireExpr> {
     fn show(&self, out: &mut Vec<u8>) -> Result<(), AllocError> {
         match self {
             Some(x) => x.show(out),
-            None => push_text(out, "-"),
+            None => push_byte(out, b'-'),
         }
     }
 }
@@ -195,7 +195,7 @@ impl Shown for Option<Zid> {
     fn show(&self, out: &mut Vec<u8>) -> Result<(), AllocError> {
         match self {
             Some(x) => x.show(out),
-            None => push_text(out, "-"),
+            None => push_byte(out, b'-'),
         }
     }
 }
@@ -206,7 +206,7 @@ impl Shown for Option<Text> {
     fn show(&self, out: &mut Vec<u8>) -> Result<(), AllocError> {
         match self {
             Some(x) => x.show(out),
-            None => push_text(out, "-"),
+            None => push_byte(out, b'-'),
         }
     }
 }
@@ -217,7 +217,7 @@ impl Shown for Option<u32> {
     fn show(&self, out: &mut Vec<u8>) -> Result<(), AllocError> {
         match self {
             Some(x) => x.show(out),
-            None => push_text(out, "x"),
+            None => push_byte(out, b'x'),
         }
     }
 }
@@ -242,7 +242,7 @@ fn push_list<T: Shown>(out: &mut Vec<u8>, byte: &str, items: &[T]) -> Result<(),
             first.show(out)?;
             push_rest(out, byte, rest)
         }
-        None => push_text(out, "-"),
+        None => push_byte(out, b'-'),
     }
 }
 
@@ -293,7 +293,7 @@ impl Shown for Option<Items<Zid>> {
 pub fn push_flag(out: &mut Vec<u8>, first: &str, other: &str, flag: bool) -> Result<(), AllocError>
     ensures { OnOk result (out.new.items ≡ out.old.items ++ field (flag_word first.now other.now flag)) }
 {
-    push_text(out, " ")?;
+    push_byte(out, b' ')?;
     if flag {
         push_text(out, first)
     } else {

@@ -1,5 +1,6 @@
 //! Words of a line, and what they say.
-ghost use Rattle.std.specs.Prelude.{◌≡◌, ◌<◌, ℕ, List, Option, IfOk, OnOk, map, length, ◌≤◌, ◌++◌, position, IfSome, ◌+◌};
+ghost use Rattle.std.specs.Prelude.{◌≡◌, ◌<◌, ℕ, List, Option, IfOk, OnOk, map, length, ◌≤◌, ◌++◌, ◌∷◌, [], position, IfSome, ◌+◌};
+ghost use Rattle.std.specs.Fmt.{decimal};
 ghost use Rattle.std.specs.Option.{option_map};
 ghost use Rattle.std.specs.Str.{bytes_eq};
 ghost use Rattle.percent_encoding.specs.Percent.{percent_encode};
@@ -153,6 +154,27 @@ pub fn push_text(out: &mut Vec<u8>, text: &str) -> Result<(), AllocError>
     out.extend_from_slice(text.as_bytes())
 }
 
+/// Writes a byte as it is.
+pub fn push_byte(out: &mut Vec<u8>, byte: u8) -> Result<(), AllocError>
+    ensures { OnOk result (out.new.items ≡ out.old.items ++ byte ∷ []) }
+{
+    match out.push(byte) {
+        Ok(()) => Ok(()),
+        Err(_) => Err(AllocError),
+    }
+}
+
+/// Writes a number in decimal digits; one digit as a byte, since most numbers have one.
+#[tactic(auto, using(std::proofs::lemmas::Fmt::decimal_digit))]
+pub fn push_decimal(out: &mut Vec<u8>, number: u64) -> Result<(), AllocError>
+    ensures { OnOk result (out.new.items ≡ out.old.items ++ decimal number) }
+{
+    if number < 10 {
+        return push_byte(out, b'0' + number as u8);
+    }
+    push_number(out, number)
+}
+
 /// Writes a number in decimal digits.
 pub fn push_number<N: Integer>(out: &mut Vec<u8>, number: N) -> Result<(), AllocError>
     ensures { OnOk result (out.new.items ≡ out.old.items ++ N.text number) }
@@ -176,7 +198,7 @@ pub fn push_word(out: &mut Vec<u8>, bytes: &[u8]) -> Result<(), AllocError>
     ensures { OnOk result (out.new.items ≡ out.old.items ++ payload_word bytes.now) }
 {
     if bytes.is_empty() {
-        return push_text(out, "-");
+        return push_byte(out, b'-');
     }
     if is(bytes, "-") {
         return push_text(out, "%2D");
