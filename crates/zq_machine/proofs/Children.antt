@@ -46,6 +46,7 @@ use Rattle.zq_machine.proofs.Agreeing.{some_of}
 use Rattle.zq_machine.proofs.Always.{after_kept}
 use Rattle.zq_machine.proofs.Changing.{hat_here, region_there}
 use Rattle.zq_machine.proofs.Finals.{is_there}
+use Rattle.zq_machine.proofs.Foreign.{entries_kept, entry_put, entry_taken, listed, of_routers}
 use Rattle.zq_machine.proofs.Frame.{accepted_config, config_kept, run_config}
 use Rattle.zq_machine.specs.Writing.{write}
 use Rattle.zq_machine.proofs.Granted.{all_passed, by_granted, granted_is_accepted, told_by}
@@ -56,36 +57,6 @@ use Rattle.zq_machine.proofs.NetworkTold.{entries_stay, made, network_true}
 use Rattle.zq_machine.proofs.OwnTold.{IsTrue, own_true, stands}
 use Rattle.zq_machine.proofs.RouterTold.{IsComplete, other_stands, other_stood, own_complete, router_complete, router_true}
 use Rattle.zq_machine.proofs.Tells.{granted_heard}
-
--- ---- entries of hats stay, but for calls of routers
-abbrev listed : HatState → Entries
-listed h = h.entries
-
-of_routers : TextCall → Bool
-of_routers (announcing f sd info by) = true
-of_routers (retracting f sd by) = true
-of_routers (networking r net) = true
-of_routers t = false
-
-joined_listed : (x : FaceRecord) (h : HatState) → listed (joined x h) ≡ listed h
-joined_listed x h = by (has_face x.face.0 h)
-  where
-    by : (b : Bool) → listed (cond b h (with_face_opened x h)) ≡ listed h
-    by true = refl
-    by false = refl
-
-entries_kept : (c : Core) (t : TextCall) → of_routers t ≡ false → (k : ℕ) → option_map listed (at k (accepted c t).hats) ≡ option_map listed (at k c.hats)
-unfolding of_routers
-entries_kept c (opening o) e k = same_view listed o.region (joined (seat c.next_face o)) c.hats (λ x there. joined_listed (seat c.next_face o) x) k
-entries_kept c (closing f) e k = same_view_of listed f.0 (without_face f.0) c (λ x there. refl) k
-entries_kept c (declaring f id sd info by) e k = same_view_of listed f.0 (registered f.0 id (full_text sd) by info) c (λ x there. refl) k
-entries_kept c (withdrawing f id) e k = same_view_of listed f.0 (unregistered f.0 id) c (λ x there. refl) k
-entries_kept c (finalizing f m set) e k = same_view_of listed f.0 (finalized f.0 m set) c (λ x there. refl) k
-entries_kept c (tabling f ids) e k = same_view_of listed f.0 (noded f.0 ids) c (λ x there. refl) k
-entries_kept c (announcing f sd info by) e k = absurd (true≢false e)
-entries_kept c (retracting f sd by) e k = absurd (true≢false e)
-entries_kept c (networking r net) e k = absurd (true≢false e)
-entries_kept c t e k = refl
 
 no_tree : (before after : Core) (t : TextCall) → of_routers t ≡ false → tree_told before after t ≡ []
 unfolding of_routers
@@ -147,15 +118,6 @@ module _ (config : Settings) (s : State) (i : InOrder config s) (same_config : s
   ended_by text known true = refl
   ended_by text known false = refl
 
-  -- what an entry is once it is put, and once one is taken out
-  entry_put : (text : List ℕ) (info : QueryableInfoType) (z : Zid) (x : HatState) → IsOrderedBy nat_cmp x.entries → (q : ℕ)
-      → entry_of q key (with_entry z.0 text info x.entries) ≡ cond (is_at (text_cmp text) key) (cond (is_at (nat_cmp z.0) q) (Some info) (entry_of q key x.entries)) (entry_of q key x.entries)
-  entry_put text info z x ordered q = ap (entry_of q key) (sym (put_is z.0 text x.entries ordered.texts info)) ∙ with_at nat_cmp_total exact_unsigned text z.0 info x.entries key q
-
-  entry_taken : (text : List ℕ) (z : Zid) (x : HatState) → IsOrderedBy nat_cmp x.entries → (q : ℕ)
-      → entry_of q key (without_entry z.0 text x.entries) ≡ cond (is_at (text_cmp text) key) (cond (is_at (nat_cmp z.0) q) None (entry_of q key x.entries)) (entry_of q key x.entries)
-  entry_taken text z x ordered q = ap (entry_of q key) (sym (take_is z.0 text x.entries ordered.texts)) ∙ without_at nat_cmp_total exact_unsigned text z.0 x.entries ordered key q
-
   -- the parts of it, and what is to be shown of a call
   record IsStep (t : TextCall) (known : Option QueryableInfoType) (fits : refusal_of s.core t ≡ None) (j : InOrder config (accepted_state s t)) (b : Child r face root (accepted s.core t).hats) : Type 0 where
     true_tree : AllByRecursion (IsTrue config s i t fits j r face root key b.hat b.its b.node b.place b.child b.routes) (tree_told s.core (accepted s.core t) t)
@@ -199,10 +161,10 @@ module _ (config : Settings) (s : State) (i : InOrder config s) (same_config : s
         record {
           true_tree =
               router_true config s i same_config r face root key a.hat a.its a.child (announcing f sd info by) fits j b.hat b.its b.node b.place b.child b.routes f by (full_text sd) (Some info) k lacks
-              (λ z x. refl) (entry_put (full_text sd) info) refl refl (λ known. said_by (full_text sd) info known (speaks_for face root f by s.core));
+              (λ z x. refl) (entry_put key (full_text sd) info) refl refl (λ known. said_by (full_text sd) info known (speaks_for face root f by s.core));
           complete =
               router_complete config s i same_config r face root key a.hat a.its a.child (announcing f sd info by) fits j b.hat b.its b.node b.place b.child b.routes f by (full_text sd) (Some info) k lacks
-              (λ z x. refl) (entry_put (full_text sd) info) refl refl (λ known. said_by (full_text sd) info known (speaks_for face root f by s.core));
+              (λ z x. refl) (entry_put key (full_text sd) info) refl refl (λ known. said_by (full_text sd) info known (speaks_for face root f by s.core));
         }
     one_step (retracting f sd by) fits j b =
         let lacks = (all_passed (causes s.core (retracting f sd by)) fits).1.1.1.0 in
@@ -210,10 +172,10 @@ module _ (config : Settings) (s : State) (i : InOrder config s) (same_config : s
         record {
           true_tree =
               router_true config s i same_config r face root key a.hat a.its a.child (retracting f sd by) fits j b.hat b.its b.node b.place b.child b.routes f by (full_text sd) None k lacks
-              (λ z x. refl) (entry_taken (full_text sd)) refl refl (λ known. ended_by (full_text sd) known (speaks_for face root f by s.core));
+              (λ z x. refl) (entry_taken key (full_text sd)) refl refl (λ known. ended_by (full_text sd) known (speaks_for face root f by s.core));
           complete =
               router_complete config s i same_config r face root key a.hat a.its a.child (retracting f sd by) fits j b.hat b.its b.node b.place b.child b.routes f by (full_text sd) None k lacks
-              (λ z x. refl) (entry_taken (full_text sd)) refl refl (λ known. ended_by (full_text sd) known (speaks_for face root f by s.core));
+              (λ z x. refl) (entry_taken key (full_text sd)) refl refl (λ known. ended_by (full_text sd) known (speaks_for face root f by s.core));
         }
     one_step (networking z net) fits j b =
         let first = some_of (hat_at z s.core.hats) (is_there (is_some (hat_at z s.core.hats)) (all_passed (causes s.core (networking z net)) fits).0) in
