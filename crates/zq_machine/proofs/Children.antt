@@ -1,45 +1,34 @@
 -- What a child of a root's tree knows is what stands of the root.
 use Rattle.std.proofs.Common.{◌≡◌, ◌∙◌, refl, sym, ap, subst, ℕ, Bool, true, false, cond, List, [], ◌∷◌, ◌++◌, fold, Option, Some, None}
-use Rattle.std.specs.BTreeMap.{is_at}
 use Rattle.std.specs.List.{AllByRecursion, list_any}
 use Rattle.std.specs.Option.{is_some, option_and_then, option_map, option_map_or}
-use Rattle.std.specs.Ordering.{nat_cmp}
 use Rattle.std.specs.Str.{bytes_eq}
 use Rattle.std.proofs.lemmas.Bool.{false≢true, or_parts, true≢false}
-use Rattle.std.proofs.lemmas.Cmp.{nat_cmp_total}
 use Rattle.std.proofs.lemmas.List.Folds.{list_any-append}
-use Rattle.std.proofs.lemmas.Map.Lookups.{exact_unsigned}
 use Rattle.zq_message.specs.declared.message.QueryableInfoType.{QueryableInfoType}
 use Rattle.zq_message.specs.declared.message.Region.{Region}
 use Rattle.zq_message.specs.declared.message.Zid.{Zid}
 use Rattle.zq_regions.specs.Region.{region_index}
-use Rattle.zq_index.specs.Holders.{IsOrderedBy}
-use Rattle.zq_index.specs.Texts.{text_cmp}
-use Rattle.zq_index.proofs.Ordered.{with_at, without_at}
 use Rattle.zq_trees.specs.declared.types.Network.{Network}
 use Rattle.zq_trees.specs.declared.types.Telling.{Telling as TreeTelling}
-use Rattle.zq_trees.specs.Entries.{Entries, entry_of, staying, with_entry, without_entry}
+use Rattle.zq_trees.specs.Entries.{entry_of, staying}
 use Rattle.zq_trees.specs.Nets.{child_ids, children_of, is_listed, is_zid, place_of, tree_at}
-use Rattle.zq_trees.proofs.Entering.{put_is, take_is}
-use Rattle.zq_hat.specs.declared.types.FaceRecord.{FaceRecord}
 use Rattle.zq_hat.specs.declared.types.Strategy.{Strategy}
 use Rattle.zq_hat.specs.declared.types.Strategy.TheVariants as strategy
-use Rattle.zq_hat.specs.Kept.{has_face, registered, unregistered, with_face_opened, without_face}
-use Rattle.zq_hat.specs.Marks.{finalized}
 use Rattle.zq_hat.specs.Regions.{in_routers, strategy_at}
-use Rattle.zq_hat.specs.Routers.{announced, entry_at, networked, noded, retracted}
+use Rattle.zq_hat.specs.Routers.{announced, entry_at, networked, retracted}
 use Rattle.zq_hat.specs.State.{HatState}
 use Rattle.zq_machine.specs.declared.call.Call.{Call}
 use Rattle.zq_machine.specs.declared.call.Call.TheVariants as call
 use Rattle.zq_machine.specs.Children.{ChildPromise, StaysChild, is_child, is_child_in, is_face_of, known_after, known_in, root_place, said_for, speaks_for, stands_of, with_heard_of, with_news}
 use Rattle.zq_machine.specs.Configs.{Settings}
-use Rattle.zq_machine.specs.Deciding.{accepted, causes, granted, is_accepted, refusal_of, seat, told_of}
+use Rattle.zq_machine.specs.Deciding.{accepted, causes, granted, is_accepted, refusal_of, told_of}
 use Rattle.zq_machine.specs.Hearing.{hear}
 use Rattle.zq_machine.specs.Machine.{accepted_state, after, follow, state_after}
 use Rattle.zq_machine.specs.Messages.{key_ended, key_told}
 use Rattle.zq_machine.specs.Selecting.{full_text}
-use Rattle.zq_machine.specs.State.{Core, State, at, hat_at, joined, opening_state}
-use Rattle.zq_machine.specs.TextCalls.{TextCall, opening, closing, declaring, withdrawing, finalizing, announcing, retracting, networking, tabling, read}
+use Rattle.zq_machine.specs.State.{Core, State, at, hat_at, opening_state}
+use Rattle.zq_machine.specs.TextCalls.{TextCall, announcing, retracting, networking, read}
 use Rattle.zq_machine.specs.Trees.{all_own_told, own_entry, touched, tree_told}
 use Rattle.zq_machine.proofs.Agreed.{InOrder, granted_in_order, numbered_in_order, run_in_order}
 use Rattle.zq_machine.proofs.Agreeing.{some_of}
@@ -50,7 +39,6 @@ use Rattle.zq_machine.proofs.Foreign.{entries_kept, entry_put, entry_taken, list
 use Rattle.zq_machine.proofs.Frame.{accepted_config, config_kept, run_config}
 use Rattle.zq_machine.specs.Writing.{write}
 use Rattle.zq_machine.proofs.Granted.{all_passed, by_granted, granted_is_accepted, told_by}
-use Rattle.zq_machine.proofs.Hats.{same_view, same_view_of}
 use Rattle.zq_machine.proofs.Learning.{is_news, order_heard}
 use Rattle.zq_machine.proofs.Lists.{all_append}
 use Rattle.zq_machine.proofs.NetworkTold.{entries_stay, made, network_true}

@@ -32,7 +32,7 @@ use Rattle.zq_machine.specs.declared.config.Entry.{Entry}
 use Rattle.zq_machine.specs.declared.face.OpenFace.{OpenFace}
 use Rattle.zq_machine.specs.Configs.{Settings, north_of, region_of}
 use Rattle.zq_machine.specs.Deciding.{accepted, causes, lacks_router, refusal_of, seat}
-use Rattle.zq_machine.specs.Selecting.{full_text, router_by}
+use Rattle.zq_machine.specs.Selecting.{full_text}
 use Rattle.zq_machine.specs.State.{Core, at, change_hat, change_hat_of, first_hats, hat_at, joined, put_hat, with_hat}
 use Rattle.zq_machine.specs.TextCalls.{TextCall, opening, closing, declaring, withdrawing, finalizing, announcing, retracting, networking, tabling}
 use Rattle.zq_machine.proofs.Changing.{itself, number_test, one_number, region_there}

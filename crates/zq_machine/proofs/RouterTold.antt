@@ -3,20 +3,18 @@ use Rattle.std.proofs.Common.{◌≡◌, ◌∙◌, refl, sym, ap, subst, ℕ, B
 use Rattle.std.specs.Prelude.{◌==◌, ◌&&◌}
 use Rattle.std.specs.BTreeMap.{is_at}
 use Rattle.std.specs.List.{AllByRecursion, list_any}
-use Rattle.std.specs.Option.{is_some, option_and_then, option_map_or}
+use Rattle.std.specs.Option.{option_and_then, option_map_or}
 use Rattle.std.specs.Ordering.{nat_cmp}
 use Rattle.std.specs.Str.{bytes_eq}
 use Rattle.std.proofs.lemmas.Bool.{false≢true, or_parts, true≢false}
-use Rattle.std.proofs.lemmas.Cmp.{nat_cmp_total}
 use Rattle.std.proofs.lemmas.List.Folds.{list_any-append}
-use Rattle.std.proofs.lemmas.Map.Lookups.{exact_unsigned}
 use Rattle.std.proofs.lemmas.Slice.Eq.{bytes_eq-Decides}
 use Rattle.zq_message.specs.declared.message.FaceId.{FaceId}
 use Rattle.zq_message.specs.declared.message.QueryableInfoType.{QueryableInfoType}
 use Rattle.zq_message.specs.declared.message.Region.{Region}
 use Rattle.zq_message.specs.declared.message.Zid.{Zid}
 use Rattle.zq_regions.specs.Region.{region_index}
-use Rattle.zq_key.proofs.Lookups.{at_itself, found_after_write}
+use Rattle.zq_key.proofs.Lookups.{at_itself}
 use Rattle.zq_index.specs.Holders.{IsOrderedBy}
 use Rattle.zq_index.specs.Texts.{text_cmp}
 use Rattle.zq_index.proofs.Orders.{text_exact, text_total}
@@ -36,7 +34,7 @@ use Rattle.zq_machine.specs.Configs.{Settings}
 use Rattle.zq_machine.specs.Deciding.{accepted, lacks_router, refusal_of}
 use Rattle.zq_machine.specs.Machine.{accepted_state}
 use Rattle.zq_machine.specs.Selecting.{router_by}
-use Rattle.zq_machine.specs.State.{Core, State, at, change_hat, change_hat_of, hat_at, hat_of, put_hat}
+use Rattle.zq_machine.specs.State.{State, at, change_hat, change_hat_of, hat_at, hat_of}
 use Rattle.zq_machine.specs.TextCalls.{TextCall}
 use Rattle.zq_machine.specs.Trees.{all_own_told, own_entry, router_told, source_told, touched, tree_told}
 use Rattle.zq_machine.proofs.Agreed.{InOrder}
