@@ -5,8 +5,7 @@ ghost use Rattle.std.specs.BTreeMap.{is_at};
 ghost use Rattle.std.specs.BTreeSet.{insert_key};
 ghost use Rattle.std.specs.Ordering.{nat_cmp};
 ghost use Rattle.zq_trees.specs.Seating.{seat_cmp};
-ghost use Rattle.zq_trees.specs.Tellings.{same_infos};
-ghost use Rattle.zq_hat.specs.Kept.{at_id, changed, declaration, declare, has_any, withdraw};
+ghost use Rattle.zq_hat.specs.Kept.{at_id, changed, declaration, declare, withdraw};
 ghost use Rattle.zq_hat.specs.Marks.{marked};
 ghost use Rattle.zq_hat.specs.Regions.{in_routers};
 ghost use Rattle.zq_hat.specs.State.{FaceState};
@@ -137,24 +136,6 @@ pub fn changed(
             }
         }
     }
-}
-
-/// Whether both or neither informations are there, and are the same.
-pub fn same_infos(a: Option<QueryableInfoType>, b: Option<QueryableInfoType>) -> bool
-    ensures { result ≡ same_infos a b }
-{
-    match (a, b) {
-        (None, None) => true,
-        (Some(a), Some(b)) => same_info(a, b),
-        (None, Some(_)) | (Some(_), None) => false,
-    }
-}
-
-/// Whether there is a face.
-pub fn has_any(faces: &BTreeMap<u32, HatFace>) -> bool
-    ensures { result ≡ has_any faces.now.entries }
-{
-    !faces.is_empty()
 }
 
 /// Equal faces.

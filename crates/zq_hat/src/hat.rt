@@ -17,14 +17,14 @@ ghost use Rattle.zq_hat.specs.Routers.{announced, context_at, entry_at, losing, 
 ghost use Rattle.zq_hat.specs.Changes.{changed_by};
 ghost use Rattle.zq_trees.specs.Entries.{is_one_of, keys_by, staying, without_routers};
 ghost use Rattle.zq_trees.specs.Nets.{is_listed};
+ghost use Rattle.zq_trees.specs.Networks.{Standing};
 ghost use Rattle.zq_trees.specs.Tellings.{same_infos};
 ghost use Rattle.zq_hat.specs.Trees.{network_told, own_told, region_keys, to_children};
 ghost use Rattle.zq_hat.specs.Regions.{in_routers, strategy_at};
 
 use crate::face::HatFace;
 use crate::faces::{
-    changed, copy_faces, declare, forget, has_any, same_infos, set_mark, set_nodes, take_seat,
-    withdraw,
+    changed, copy_faces, declare, forget, set_mark, set_nodes, take_seat, withdraw,
 };
 use crate::merges::{add_texts, merged_elsewhere, merged_with, merged_without};
 use crate::offers;
@@ -44,13 +44,15 @@ use zq_key::message::{
     DEFAULT_NODE_ID, FaceId, Mode, NodeId, QueryableInfoType, Region, TextList, Zid,
 };
 use zq_key::text::Text;
+use zq_offers::groups::FaceOffers;
 use zq_offers::routers::RouterOffers;
 use zq_offers::walk::offers_for;
 use zq_trees::children::tell_children;
 use zq_trees::entries::{Entries, StandingList};
 use zq_trees::nets::Net;
-use zq_trees::networks::NetworkChange;
+use zq_trees::networks::{NetworkChange, gives};
 use zq_trees::seats::Seats;
+use zq_trees::tellings::same_infos;
 
 /// The hat of a region (upstream's `HatQueriesTrait` and what implements it).
 #[derive(Drop)]
@@ -149,7 +151,7 @@ impl Hat {
     pub fn is_full(&self) -> bool
         ensures { result ≡ is_full self.now }
     {
-        self.strategy() == Strategy::Client && has_any(&self.faces)
+        self.strategy() == Strategy::Client && !self.faces.is_empty()
     }
 
     fn face(&self, face: FaceId) -> &HatFace
@@ -327,7 +329,11 @@ impl Hat {
         requires { IsTrue (is_key key.now) }
         ensures { IfOk result (λ o. o.items ≡ sorted offer_cmp (declared_offers self.now.region self.now.faces key.now)) }
     {
-        offers::declared_offers(self.alloc, self.region, &self.index, key)
+        let faces = FaceOffers {
+            alloc: self.alloc,
+            region: self.region,
+        };
+        offers_for(self.alloc, &faces, &self.index, key)
     }
 
     /// The offers to askers of other regions.
@@ -595,6 +601,26 @@ impl Hat {
             return Ok(Items::new(self.alloc));
         }
         self.to_children(None, self.own, key, other)
+    }
+
+    /// Whether the gateway's own tree gets a child by the network that it had not: only then its own
+    /// entries are handed.
+    pub fn wants_own(&self, net: &Net) -> Result<bool, OutOfMemory>
+        ensures { IfOk result (λ wants. wants ≡ false → (own : Standing) → in_routers (strategy_at self.now) (network_told own self.now.network (networked net.now self.now)) [] ≡ in_routers (strategy_at self.now) (network_told [] self.now.network (networked net.now self.now)) []) }
+    {
+        match self.strategy() {
+            Strategy::Broker | Strategy::Client | Strategy::Peer => Ok(false),
+            Strategy::Router => self.own_gives(net),
+        }
+    }
+
+    /// The same where the region is one of routers.
+    fn own_gives(&self, net: &Net) -> Result<bool, OutOfMemory>
+        requires { strategy_at self.now ≡ Strategy.Router }
+        ensures { IfOk result (λ wants. wants ≡ false → (own : Standing) → network_told own self.now.network (networked net.now self.now) ≡ network_told [] self.now.network (networked net.now self.now)) }
+    {
+        let gives = gives(self.alloc, &self.net, net, &self.seats, self.own)?;
+        Ok(gives)
     }
 
     /// What a network hands in a region of routers, before it is put in place, by the gateway's own

@@ -1,36 +1,19 @@
 //! What a region offers for the key of a request.
-ghost use Rattle.std.specs.Prelude.{◌≡◌, IfOk, IfSome, OnOk, fold, IsTrue};
-ghost use Rattle.std.specs.List.{AllByRecursion, flat_map};
-ghost use Rattle.zq_key.specs.Key.{is_key};
+ghost use Rattle.std.specs.Prelude.{◌≡◌, IfOk, IfSome, OnOk, fold};
+ghost use Rattle.std.specs.List.{flat_map};
 ghost use Rattle.zq_hat.specs.Offers.{bare_offer, bare_offers, bare_on, may_have};
-ghost use Rattle.zq_offers.specs.Offers.{IsKeyed, holder_offers, offer_cmp, place, sorted};
+ghost use Rattle.zq_offers.specs.Offers.{offer_cmp, place};
 
 use crate::face::HatFace;
 use crate::strategy::is_north;
 use crate::types::{QueryTargetQabl, Strategy};
 use std::alloc::Global;
 use std::collections::BTreeMap;
-use zq_index::holders::{FacePlace, KeyHolders};
 use zq_key::memory::OutOfMemory;
 use zq_key::message::{Bound, FaceId, Region};
 use zq_key::text::Text;
-use zq_offers::groups::{FaceOffers, text_for};
+use zq_offers::groups::text_for;
 use zq_offers::order::put;
-use zq_offers::walk::offers_for;
-
-/// The offers by declarations, in order.
-pub fn declared_offers(
-    alloc: Global,
-    region: Region,
-    index: &KeyHolders<FacePlace>,
-    q: &str,
-) -> Result<Vec<QueryTargetQabl>, OutOfMemory>
-    requires keys { AllByRecursion IsKeyed index.now }
-    requires asked { IsTrue (is_key q.now) }
-    ensures { IfOk result (λ o. o.items ≡ sorted offer_cmp (flat_map (holder_offers region q.now) index.now)) }
-{
-    offers_for(alloc, &FaceOffers { alloc, region }, index, q)
-}
 
 /// Whether the face may have a queryable on the key that it has not declared.
 fn may_have(strategy: Strategy, face: &HatFace, q: &str) -> bool

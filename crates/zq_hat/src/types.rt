@@ -23,7 +23,7 @@ pub enum Strategy {
 }
 
 /// A face of a hat, as it was opened.
-#[derive(Clone, Copy, Debug, PartialEq, Eq)]
+#[derive(Clone, Copy)]
 pub struct FaceRecord {
     pub face: FaceId,
     pub zid: Zid,
@@ -58,14 +58,14 @@ pub struct InterestEntry {
 }
 
 /// What a face was told of a key, and under which id.
-#[derive(Clone, Copy, Debug, PartialEq, Eq)]
+#[derive(Clone, Copy)]
 pub struct ToldEntry {
     pub id: u32,
     pub info: QueryableInfoType,
 }
 
 /// Why a hat refused a declaration or a withdrawal.
-#[derive(Clone, Copy, Debug, PartialEq, Eq)]
+#[derive(Clone, Copy)]
 pub enum HatRefusal {
     /// The id stands for another key.
     IdInUse,
@@ -75,7 +75,7 @@ pub enum HatRefusal {
 }
 
 /// The key of a withdrawal, and what became of the region's information on it.
-#[derive(Debug, Drop)]
+#[derive(Drop)]
 pub enum UnregisterEntityResult {
     /// It stays.
     DisableRoutes(Text),

@@ -1,11 +1,12 @@
 -- What a network hands, tree by tree.
-use Rattle.std.proofs.Common.{◌≡◌, ◌∙◌, sym, ap, refl, ℕ, ◌+◌, ◌<◌, Bool, true, cond, List, [], ◌∷◌, ◌++◌, append_assoc, drop, filter, get_or, length, Option, Some, None}
-use Rattle.std.specs.Prelude.{position}
+use Rattle.std.proofs.Common.{◌≡◌, ◌∙◌, sym, ap, refl, ℕ, ◌+◌, ◌<◌, Bool, true, false, true≢false, cond, List, [], ◌∷◌, ◌++◌, append_assoc, arith, drop, filter, get_or, length, Option, Some, None}
+use Rattle.std.specs.Prelude.{◌&&◌, ◌||◌, nat_lt, position}
 use Rattle.std.specs.BTreeMap.{is_at}
 use Rattle.std.specs.Cmp.{nat_cmp_total}
 use Rattle.std.specs.List.{cons_option, flat_map}
 use Rattle.std.specs.Option.{is_some, option_and_then, option_map, option_map_or}
 use Rattle.std.specs.Ordering.{nat_cmp}
+use Rattle.std.proofs.lemmas.Bool.{lt-ltb}
 use Rattle.std.proofs.lemmas.List.{append-nil, drop_more}
 use Rattle.std.proofs.lemmas.Map.Entries.{lookup-filter-keys}
 use Rattle.std.proofs.lemmas.Map.Lookups.{exact_unsigned}
@@ -17,7 +18,7 @@ use Rattle.zq_trees.specs.declared.types.Telling.{Telling}
 use Rattle.zq_trees.specs.declared.types.Tree.{Tree}
 use Rattle.zq_trees.specs.Entries.{Entries, Routed, is_by, standing, staying}
 use Rattle.zq_trees.specs.Nets.{is_listed, is_zid, place_of, small}
-use Rattle.zq_trees.specs.Networks.{Standing, fresh_faces, root_told_by, standing_by, trees_told_by}
+use Rattle.zq_trees.specs.Networks.{Standing, any_gives, fresh_faces, gives_child, root_told_by, standing_by, trees_told_by}
 use Rattle.zq_trees.specs.Tellings.{all_told_of}
 use Rattle.zq_trees.proofs.Places.{position_some}
 
@@ -81,3 +82,47 @@ module _ (own : Zid) (own_entries : Standing) (all : Entries) (face : Zid → Op
   same_trees [] ts = refl
   same_trees (n ∷ ns) [] = refl
   same_trees (n ∷ ns) (t ∷ ts) = λ j. same_root n t j ++ same_trees ns ts j
+
+-- ---- trees that give a root a child
+module _ (face : Zid → Option ℕ) (before net : Network) (root : Zid) where
+  abbrev gives : List Zid → List Tree → Bool
+  gives ns ts = any_gives face before net root ns ts
+
+  -- one tree more is looked at
+  pub gives_more : (ns : List Zid) (ts : List Tree) (i : ℕ) (zid : Zid) (tree : Tree) → i < length ns → i < length ts
+      → gives (drop i ns) (drop i ts) ≡ (gives_child face before net root (get_or ns i zid) (get_or ts i tree) || gives (drop (i + 1) ns) (drop (i + 1) ts))
+  gives_more ns ts i zid tree l m = λ j. gives (drop_more ns i zid l j) (drop_more ts i tree m j)
+
+  pub none_gives : (ns : List Zid) (ts : List Tree) (i : ℕ) → drop i ns ≡ [] → false ≡ gives (drop i ns) (drop i ts)
+  none_gives ns ts i none = sym (ap (λ l. gives l (drop i ts)) none)
+
+  no_tree_gives : (ns : List Zid) → false ≡ gives ns []
+  no_tree_gives [] = refl
+  no_tree_gives (n ∷ ns) = refl
+
+  pub none_gives_trees : (ns : List Zid) (ts : List Tree) (i : ℕ) → drop i ts ≡ [] → false ≡ gives (drop i ns) (drop i ts)
+  none_gives_trees ns ts i none = no_tree_gives (drop i ns) ∙ sym (ap (gives (drop i ns)) none)
+
+-- where no tree of the gateway's own gives a child, its own entries are not handed
+module _ (own : Zid) (a b : Standing) (all : Entries) (face : Zid → Option ℕ) (before net : Network) where
+  quiet_by : (root : Zid) (is : Bool) (fs : List ℕ) (o : Option ℕ) → (is && nat_lt 0 (length fs)) ≡ false
+      → option_map_or (λ node. flat_map (all_told_of (cond is a (standing root all)) node) fs) o [] ≡ option_map_or (λ node. flat_map (all_told_of (cond is b (standing root all)) node) fs) o []
+  quiet_by root false fs o e = refl
+  quiet_by root true [] None e = refl
+  quiet_by root true [] (Some node) e = refl
+  quiet_by root true (f ∷ fs) o e = let some : nat_lt 0 (length (f ∷ fs)) ≡ true = lt-ltb 0 (length (f ∷ fs)) (omega arith) in absurd (true≢false (sym some ∙ e))
+
+  first_false : (x y : Bool) → (x || y) ≡ false → x ≡ false
+  first_false true y e = e
+  first_false false y e = refl
+
+  later_false : (x y : Bool) → (x || y) ≡ false → y ≡ false
+  later_false true y e = absurd (true≢false e)
+  later_false false y e = e
+
+  pub same_told : (ns : List Zid) (ts : List Tree) → any_gives face before net own ns ts ≡ false → trees_told_by (standing_by own a all) face before net ns ts ≡ trees_told_by (standing_by own b all) face before net ns ts
+  same_told [] ts e = refl
+  same_told (n ∷ ns) [] e = refl
+  same_told (n ∷ ns) (t ∷ ts) e =
+      λ j. quiet_by n (is_zid n own) (fresh_faces face before net n t) (place_of net n) (first_false (gives_child face before net own n t) (any_gives face before net own ns ts) e) j
+      ++ same_told ns ts (later_false (gives_child face before net own n t) (any_gives face before net own ns ts) e) j

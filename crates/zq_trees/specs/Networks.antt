@@ -1,5 +1,5 @@
 -- What a network hands: to the new children of each tree what stands of its root.
-use Rattle.std.specs.Prelude.{ℕ, List, [], ◌∷◌, ◌++◌, Option, None, if◌then◌else◌}
+use Rattle.std.specs.Prelude.{ℕ, Bool, false, ◌&&◌, ◌||◌, List, [], ◌∷◌, ◌++◌, length, nat_lt, Option, None, if◌then◌else◌}
 use Rattle.std.specs.List.{flat_map}
 use Rattle.std.specs.Option.{option_map_or}
 use Rattle.zq_message.specs.declared.message.QueryableInfoType.{QueryableInfoType}
@@ -33,6 +33,16 @@ abbrev pub trees_told_by : (Zid → Standing) → (Zid → Option ℕ) → (old 
 trees_told_by stands face old net [] ts = []
 trees_told_by stands face old net (z ∷ zs) [] = []
 trees_told_by stands face old net (z ∷ zs) (t ∷ ts) = root_told_by stands face old net z t ++ trees_told_by stands face old net zs ts
+
+-- the tree is one of the root, and has a child that the old tree of the root had not
+abbrev pub gives_child : (Zid → Option ℕ) → (old net : Network) → Zid → Zid → Tree → Bool
+gives_child face old net root zid tree = is_zid zid root && nat_lt 0 (length (fresh_faces face old net zid tree))
+
+-- a tree of the root that has a node gives a child
+abbrev pub any_gives : (Zid → Option ℕ) → (old net : Network) → Zid → List Zid → List Tree → Bool
+any_gives face old net root [] ts = false
+any_gives face old net root (z ∷ zs) [] = false
+any_gives face old net root (z ∷ zs) (t ∷ ts) = gives_child face old net root z t || any_gives face old net root zs ts
 
 -- what a network hands
 abbrev pub network_told_by : (Zid → Standing) → (Zid → Option ℕ) → (old net : Network) → List Telling

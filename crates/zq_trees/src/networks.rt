@@ -1,7 +1,7 @@
 //! What a network hands: to the new children of each tree what stands of its root.
 ghost use Rattle.std.specs.Prelude.{◌≡◌, ◌++◌, [], IfOk, OnOk, Some, map};
 ghost use Rattle.std.specs.List.{flat_map};
-ghost use Rattle.zq_trees.specs.Networks.{fresh_faces, network_told_by, root_told_by, standing_by, trees_told_by};
+ghost use Rattle.zq_trees.specs.Networks.{any_gives, fresh_faces, gives_child, network_told_by, root_told_by, standing_by, trees_told_by};
 ghost use Rattle.zq_trees.specs.Entries.{staying};
 ghost use Rattle.zq_trees.specs.Nets.{is_listed};
 ghost use Rattle.zq_trees.specs.Seating.{number, seated};
@@ -68,17 +68,84 @@ fn tell_all(
     Ok(())
 }
 
-impl<'a> NetworkChange<'a> {
-    /// The open faces of a tree's children that the old tree of the root had not.
-    fn fresh_faces(&self, alloc: Global, root: Zid, tree: &Tree) -> Result<Vec<FaceId>, OutOfMemory>
-        ensures { IfOk result (λ faces. map number faces.items ≡ fresh_faces (λ zid. seated zid self.now.seats.now) self.now.before.now self.now.net.now root tree.now) }
-    {
-        let ids = child_ids(alloc, self.net.network(), tree)?;
-        let fresh = fresh_ids(alloc, self.before, root, &ids)?;
-        let faces = faces_of(alloc, self.seats, None, &fresh)?;
-        Ok(faces)
-    }
+/// The open faces of a tree's children that the old tree of the root had not.
+fn fresh_faces(
+    alloc: Global,
+    before: &Net,
+    net: &Net,
+    seats: &Seats,
+    root: Zid,
+    tree: &Tree,
+) -> Result<Vec<FaceId>, OutOfMemory>
+    ensures { IfOk result (λ faces. map number faces.items ≡ fresh_faces (λ zid. seated zid seats.now) before.now net.now root tree.now) }
+{
+    let ids = child_ids(alloc, net.network(), tree)?;
+    let fresh = fresh_ids(alloc, before, root, &ids)?;
+    let faces = faces_of(alloc, seats, None, &fresh)?;
+    Ok(faces)
+}
 
+/// Whether the tree is one of the root, and has a child that the old tree of the root had not.
+fn gives_child(
+    alloc: Global,
+    before: &Net,
+    net: &Net,
+    seats: &Seats,
+    root: Zid,
+    node: Zid,
+    tree: &Tree,
+) -> Result<bool, OutOfMemory>
+    ensures { IfOk result (λ gives. gives ≡ gives_child (λ zid. seated zid seats.now) before.now net.now root node tree.now) }
+{
+    if node.0 != root.0 {
+        return Ok(false);
+    }
+    let faces = fresh_faces(alloc, before, net, seats, node, tree)?;
+    Ok(!faces.is_empty())
+}
+
+/// Whether a tree of the root that has a node gives a child.
+fn any_gives(
+    alloc: Global,
+    before: &Net,
+    net: &Net,
+    seats: &Seats,
+    root: Zid,
+    nodes: &[Zid],
+    trees: &[Tree],
+) -> Result<bool, OutOfMemory>
+    ensures { IfOk result (λ gives. gives ≡ any_gives (λ zid. seated zid seats.now) before.now net.now root nodes.now trees.now) }
+{
+    let mut i = 0;
+    while i < nodes.len() && i < trees.len() {
+        let gives = gives_child(alloc, before, net, seats, root, nodes[i], &trees[i])?;
+        if gives {
+            return Ok(true);
+        }
+        i += 1;
+    }
+    Ok(false)
+}
+
+/// Whether the network gives the root's tree a child that it had not: only then something is handed
+/// of what stands of the root.
+pub fn gives(
+    alloc: Global,
+    before: &Net,
+    net: &Net,
+    seats: &Seats,
+    root: Zid,
+) -> Result<bool, OutOfMemory>
+    ensures { IfOk result (λ gives. gives ≡ any_gives (λ zid. seated zid seats.now) before.now net.now root net.now.nodes net.now.trees) }
+{
+    let network = net.network();
+    let nodes = network.nodes.as_slice();
+    let trees = network.trees.as_slice();
+    let gives = any_gives(alloc, before, net, seats, root, nodes, trees)?;
+    Ok(gives)
+}
+
+impl<'a> NetworkChange<'a> {
     /// The faces are told what stands of the root at the place.
     fn tell_faces(
         &self,
@@ -110,7 +177,7 @@ impl<'a> NetworkChange<'a> {
         let Some(node) = self.net.place_of(root) else {
             return Ok(());
         };
-        let faces = self.fresh_faces(alloc, root, tree)?;
+        let faces = fresh_faces(alloc, self.before, self.net, self.seats, root, tree)?;
         if faces.is_empty() {
             return Ok(());
         }

@@ -1,12 +1,13 @@
 //! Tellings in order: by face, key text and node, each once.
 ghost use Rattle.std.specs.Prelude.{◌≡◌, [], IfOk, OnOk, OnErr};
 ghost use Rattle.std.specs.BTreeSet.{insert_key};
-ghost use Rattle.zq_trees.specs.Tellings.{in_order, telling_cmp};
+ghost use Rattle.zq_trees.specs.Tellings.{in_order, same_infos, telling_cmp};
 
 use crate::types::{Telling, TellingList};
 use std::alloc::Global;
 use std::collections::BTreeMap;
 use std::marker::Model;
+use zq_index::info::same_info;
 use zq_key::items::Items;
 use zq_key::memory::OutOfMemory;
 use zq_key::message::{FaceId, QueryableInfoType};
@@ -96,4 +97,15 @@ pub fn in_order(alloc: Global, tellings: &[Telling]) -> Result<TellingList, OutO
         ordered.put(alloc, telling)?;
     }
     ordered.into_list(alloc)
+}
+
+/// Whether both or neither informations are there, and are the same.
+pub fn same_infos(a: Option<QueryableInfoType>, b: Option<QueryableInfoType>) -> bool
+    ensures { result ≡ same_infos a b }
+{
+    match (a, b) {
+        (None, None) => true,
+        (Some(a), Some(b)) => same_info(a, b),
+        (None, Some(_)) | (Some(_), None) => false,
+    }
 }

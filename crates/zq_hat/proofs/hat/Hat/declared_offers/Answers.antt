@@ -6,8 +6,8 @@ use Rattle.zq_hat.specs.State.{HatState}
 use Rattle.zq_hat.proofs.IndexKeys.{all_keyed, index_offers}
 use Rattle.zq_hat.proofs.hat.Hat.declared_offers.Goals as goal
 
-pub declared_offers-requires-clause-keys : goal.declared_offers-requires-clause-keys
-declared_offers-requires-clause-keys c = all_keyed c.self.inside.faces.entries c.self.inside.index c.self.invariant.tied
+pub offers_for-requires-clause-keys : goal.offers_for-requires-clause-keys
+offers_for-requires-clause-keys c = all_keyed c.self.inside.faces.entries c.self.inside.index c.self.invariant.tied
 
 pub returns : goal.returns
 returns c =
@@ -15,4 +15,4 @@ returns c =
     let offers =
     ap (sorted offer_cmp) (index_offers i.faces.entries i.index c.self.invariant.tied i.region c.args.key.now)
     ∙ ap (λ (s : HatState). sorted offer_cmp (declared_offers s.region s.faces c.args.key.now)) c.self.view_is in
-    subst (λ (l : List QueryTargetQabl). IfOk c.declared_offers.result (λ o. o.items ≡ l)) offers c.declared_offers.ensures
+    subst (λ (l : List QueryTargetQabl). IfOk c.offers_for.result (λ o. o.items ≡ l)) offers c.offers_for.ensures
