@@ -1,11 +1,16 @@
 -- What is told, message by message, and how it is taken back.
-use Rattle.std.proofs.Common.{◌≡◌, ◌∙◌, ℕ, Bool, false, List, [], ◌∷◌, ◌++◌, Option, Some, None, IfSome, refl, sym, ap, append_assoc, append-nil}
+use Rattle.std.proofs.Common.{◌≡◌, ◌∙◌, ℕ, Bool, false, List, [], ◌∷◌, ◌++◌, fold, Option, Some, None, IfSome, refl, sym, ap, arith, append_assoc, append-nil}
+use Rattle.std.specs.BTreeSet.{insert_key}
+use Rattle.std.specs.List.{All}
+use Rattle.std.proofs.lemmas.List.Elements.{All-nil, All-tail}
+use Rattle.std.proofs.lemmas.Map.Views.{All-insert_key}
 use Rattle.std.specs.Option.{option_map_or}
 use Rattle.zq_message.specs.declared.message.Mapping.TheVariants.{Receiver}
 use Rattle.zq_message.specs.declared.message.QueryableInfoType.{QueryableInfoType}
 use Rattle.zq_message.specs.declared.message.WireExpr.{WireExpr}
 use Rattle.zq_names.specs.Texts.{nonwild}
 use Rattle.zq_hat.specs.declared.types.Telling as hat
+use Rattle.zq_trees.specs.Tellings.{in_order, telling_cmp}
 use Rattle.zq_ids.specs.FaceTexts.{declared_key}
 use Rattle.zq_ids.specs.declared.decl.DeclKey.{DeclKey}
 use Rattle.zq_ids.proofs.IdLemmas.{without-with_id}
@@ -36,6 +41,14 @@ tell-more c (u ∷ ts) t names =
     let last = tell_body c t t.body rest.names in
     ap (λ (w : Told). record { handed = first.handed ++ w.handed; names = w.names }) (tell-more c ts t first.names)
     ∙ ap (λ (hs : List Handed). record { handed = hs; names = last.names }) (sym (append_assoc first.handed rest.handed last.handed))
+
+-- what is told in order is of the same keys
+pub all_ordered : (P : hat.Telling → Type 0) (ts : List hat.Telling) → All P ts → All P (in_order ts)
+all_ordered P ts all = by [] ts (All-nil P) all
+  where
+    by : (us ts : List hat.Telling) → All P us → All P ts → All P (fold (insert_key telling_cmp) us ts)
+    by us [] had all = had
+    by us (t ∷ ts) had all = by (insert_key telling_cmp us t) ts (All-insert_key telling_cmp t P us had (all 0 t (omega arith))) (All-tail P t ts all)
 
 -- ---- one thing that a hat tells
 

@@ -1,5 +1,5 @@
 -- The messages of what a hat tells, and how the numbers that they declare are taken back.
-use Rattle.std.specs.Prelude.{ℕ, List, [], ◌∷◌, Option, Some, None}
+use Rattle.std.specs.Prelude.{ℕ, List, [], ◌∷◌, ◌++◌, Option, Some, None}
 use Rattle.zq_message.specs.declared.message.Declare.{Declare}
 use Rattle.zq_message.specs.declared.message.DeclareBody.{DeclareBody}
 use Rattle.zq_message.specs.declared.message.DeclareBody.TheVariants as body
@@ -12,6 +12,7 @@ use Rattle.zq_message.specs.declared.message.WireExpr.{WireExpr}
 use Rattle.zq_hat.specs.declared.types.Telling.{Telling}
 use Rattle.zq_tables.specs.Naming.{NamingState, change_naming, plain, without_sent}
 use Rattle.zq_machine.specs.Handing.{Handed}
+use Rattle.zq_machine.specs.Writing.{Told}
 
 -- ---- messages
 
@@ -36,6 +37,10 @@ handed_declare to d = record { to = to; number = None; reply = None; message = m
 abbrev pub handed_number : FaceId → List ℕ → Option ℕ → List Handed
 handed_number to text None = []
 handed_number to text (Some id) = handed_declare to (number_of id text) ∷ []
+
+-- what is told, behind messages that come first
+abbrev pub behind : List Handed → Told → Told
+behind first w = record { handed = first ++ w.handed; names = w.names }
 
 -- ---- numbers are taken back
 

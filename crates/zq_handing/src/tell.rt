@@ -1,13 +1,14 @@
 //! What faces are told: declarations, each with the number that it needs declared directly before it.
-ghost use Rattle.std.specs.Prelude.{◌≡◌, ◌+◌, ◌<◌, ◌≤◌, ◌++◌, ◌∷◌, [], map, true, false, vec_capacity, vec_len, IfOk, OnOk, OnErr};
+ghost use Rattle.std.specs.Prelude.{◌≡◌, ℕ, ◌+◌, ◌<◌, ◌≤◌, ◌++◌, drop, length, map, true, false, vec_capacity, vec_len, IfOk, OnOk, OnErr};
 ghost use Rattle.std.specs.List.{All};
 ghost use Rattle.std.specs.Option.{option_map_or};
 ghost use Rattle.zq_key.specs.Key.{is_key as key_of};
 ghost use Rattle.zq_names.specs.Texts.{nonwild as nonwild_of};
+ghost use Rattle.zq_trees.specs.Tellings.{in_order};
 ghost use Rattle.zq_machine.specs.Messages.{from_hat};
 ghost use Rattle.zq_machine.specs.State.{Core, at};
 ghost use Rattle.zq_machine.specs.Writing.{is_local_region, numbers_region, tell as tell_of, tell_body};
-ghost use Rattle.zq_handing.specs.Telling.{body_of, declare_of, handed_declare as handed_declare_of, handed_number, number_of, untold, untold_message};
+ghost use Rattle.zq_handing.specs.Telling.{behind, body_of, declare_of, handed_declare as handed_declare_of, handed_number, number_of, untold, untold_message};
 
 use crate::write::whole;
 use std::alloc::Global;
@@ -23,6 +24,7 @@ use zq_machine::face::OpenFace;
 use zq_machine::handed::{Handed, HandedList};
 use zq_names::nonwild;
 use zq_tables::naming::Naming;
+use zq_trees::tellings::in_order;
 
 // Whether the face is local.
 fn is_local(faces: &BTreeMap<u32, OpenFace>, to: FaceId) -> bool
@@ -107,7 +109,8 @@ fn tell_one(
     requires { key_of telling.now.key ≡ true }
     ensures messages { (c : Core) → c.faces ≡ faces.now.entries → OnOk result (handed.new.items ≡ handed.old.items ++ (tell_body c (from_hat telling.now) (from_hat telling.now).body names.old).handed) }
     ensures names { (c : Core) → c.faces ≡ faces.now.entries → OnOk result (names.new ≡ (tell_body c (from_hat telling.now) (from_hat telling.now).body names.old).names) }
-    ensures back { OnOk result (untold handed.new.items names.new ≡ untold handed.old.items names.old) }
+    ensures longer { OnOk result (length handed.old.items ≤ length handed.new.items) }
+    ensures back { (first : ℕ) → first ≤ length handed.old.items → OnOk result (untold (drop first handed.new.items) names.new ≡ untold (drop first handed.old.items) names.old) }
     ensures kept { OnErr result (handed.new.items ≡ handed.old.items) }
     ensures err { OnErr result (names.new ≡ names.old) }
 {
@@ -141,23 +144,28 @@ pub fn untell(names: &mut Naming, handed: &[Handed])
     }
 }
 
-/// The messages of what faces are told, in order. A number that a key needs is declared directly
-/// before its first use, and stands from then on; `untell` takes back all that were given.
+/// The messages of what faces are told, by face, key and node, each once, behind messages that
+/// come first. A number that a key needs is declared directly before its first use, and stands
+/// from then on; `untell` of the messages behind the first takes back all that were given.
 pub fn tell(
     alloc: Global,
     faces: &BTreeMap<u32, OpenFace>,
     names: &mut Naming,
     tellings: &[Telling],
+    first: HandedList,
 ) -> Result<HandedList, OutOfMemory>
     requires { All (λ t. key_of t.key ≡ true) tellings.now }
-    ensures ok { (c : Core) → c.faces ≡ faces.now.entries → IfOk result (λ l. tell_of c (map from_hat tellings.now) names.old ≡ record { handed = l; names = names.new }) }
-    ensures back { IfOk result (λ l. untold l names.new ≡ names.old) }
+    ensures ok { (c : Core) → c.faces ≡ faces.now.entries → IfOk result (λ l. behind first (tell_of c (map from_hat (in_order tellings.now)) names.old) ≡ record { handed = l; names = names.new }) }
+    ensures longer { IfOk result (λ l. length first ≤ length l) }
+    ensures back { IfOk result (λ l. untold (drop (length first) l) names.new ≡ names.old) }
     ensures err { OnErr result (names.new ≡ names.old) }
 {
-    let mut handed = Vec::new(alloc);
-    for telling in tellings {
+    let ordered = in_order(alloc, tellings)?;
+    let place = first.len();
+    let mut handed = first.into_vec();
+    for telling in ordered.as_slice() {
         if let Err(refusal) = tell_one(alloc, faces, names, telling, &mut handed) {
-            untell(names, handed.as_slice());
+            untell(names, &handed[place..]);
             return Err(refusal);
         }
     }
