@@ -1,7 +1,7 @@
 //! What a region offers for the key of a request.
 ghost use Rattle.std.specs.Prelude.{◌≡◌, IfOk, IfSome, OnOk, fold};
 ghost use Rattle.std.specs.List.{flat_map};
-ghost use Rattle.zq_hat.specs.Offers.{bare_offer, bare_offers, bare_on, may_have};
+ghost use Rattle.zq_hat.specs.Offers.{bare_offers, bare_on, may_have};
 ghost use Rattle.zq_offers.specs.Offers.{offer_cmp, place};
 
 use crate::face::HatFace;
@@ -51,19 +51,6 @@ fn next_text(
     Ok(text)
 }
 
-/// The offer without information of a face for the key.
-fn bare_offer(region: Region, key: Text, number: u32) -> QueryTargetQabl
-    ensures { result ≡ bare_offer region key number }
-{
-    QueryTargetQabl {
-        face: FaceId(number),
-        info: None,
-        key,
-        region,
-        node: 0,
-    }
-}
-
 /// Adds the offers without information of the faces that may have more.
 #[tactic(auto, using(zq_offers::proofs::Folds::fold_joined))]
 fn add_bares(
@@ -80,7 +67,14 @@ fn add_bares(
     for (number, face) in faces {
         if may_have(strategy, face, q) {
             let key = next_text(&mut kept, alloc, q, faces.len())?;
-            put(offers, bare_offer(region, key, *number))?;
+            let bare = QueryTargetQabl {
+                face: FaceId(*number),
+                info: None,
+                key,
+                region,
+                node: 0,
+            };
+            put(offers, bare)?;
         }
     }
     Ok(())
