@@ -1,5 +1,5 @@
 //! The hat of one region.
-ghost use Rattle.std.specs.Prelude.{◌≡◌, ◌↔◌, [], Some, None, true, false, is_some, OnOk, OnErr, IfOk, IsErrOf, option_map, IsTrue, fold, map, string_bytes};
+ghost use Rattle.std.specs.Prelude.{◌≡◌, ◌↔◌, [], Some, None, true, false, is_some, OnOk, OnErr, IfOk, IsErrOf, option_copied, option_map, IsTrue, fold, map, string_bytes};
 ghost use Rattle.zq_index.specs.Texts.{text_cmp};
 ghost use Rattle.std.specs.Map.{set_value};
 ghost use Rattle.std.specs.BTreeMap.{is_at};
@@ -164,13 +164,36 @@ impl Hat {
         }
     }
 
-    fn clashes(&self, face: FaceId, id: u32, key: &str) -> bool
+    /// The key that the face declared under the id.
+    pub fn key_at(&self, face: FaceId, id: u32) -> Option<&str>
+        requires { has_face face.0 self.now ≡ true }
+        ensures { option_copied result ≡ option_map (λ d. d.key) (declaration_at face.0 id self.now) }
+    {
+        match self.face(face).declaration(id) {
+            Some(declaration) => Some(declaration.key.as_str()),
+            None => None,
+        }
+    }
+
+    /// Whether the id stands for another key of the face.
+    pub fn clashes(&self, face: FaceId, id: u32, key: &str) -> bool
         requires { has_face face.0 self.now ≡ true }
         ensures { result ≡ clashes_at face.0 id key.now self.now }
     {
         match self.face(face).declaration(id) {
             Some(declaration) => declaration.key.as_str() != key,
             None => false,
+        }
+    }
+
+    /// The keys that the face declared, by id, one for each declaration.
+    pub fn keys_of(&self, face: FaceId) -> Result<TextList, OutOfMemory>
+        requires { has_face face.0 self.now ≡ true }
+        ensures { IfOk result (λ ks. ks ≡ keys_of_face face.0 self.now) }
+    {
+        match self.face(face).keys(self.alloc) {
+            Ok(keys) => Ok(keys),
+            Err(error) => Err(error),
         }
     }
 
@@ -709,7 +732,7 @@ impl Hat {
         ensures after { OnOk result (self.new ≡ without_face face.0 self.old) }
         ensures err { OnErr result (self.new ≡ self.old) }
     {
-        let keys = self.face(face).keys(self.alloc)?;
+        let keys = self.keys_of(face)?;
         self.forget_face(face);
         Ok(keys)
     }
