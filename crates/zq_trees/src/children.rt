@@ -1,5 +1,6 @@
 //! The children of trees, the faces on them, and what these are told of a key.
-ghost use Rattle.std.specs.Prelude.{◌≡◌, IfOk, map, option_map};
+ghost use Rattle.std.specs.Prelude.{◌≡◌, ◌++◌, IfOk, None, OnOk, Some, if◌then◌else◌, map, option_map};
+ghost use Rattle.std.specs.Option.{option_to_list};
 ghost use Rattle.std.specs.List.{filter_map, list_any};
 ghost use Rattle.std.specs.BTreeMap.{is_at};
 ghost use Rattle.std.specs.Ordering.{nat_cmp};
@@ -18,13 +19,29 @@ use zq_key::memory::OutOfMemory;
 use zq_key::message::{FaceId, NodeId, QueryableInfoType, Zid};
 use zq_key::text::Text;
 
+/// Puts the item, if there is one, at the end.
+fn push_some<T: Copy>(list: &mut Vec<T>, item: Option<T>) -> Result<(), OutOfMemory>
+    ensures { OnOk result (list.new.items ≡ list.old.items ++ option_to_list item) }
+{
+    match item {
+        Some(item) => {
+            list.push(item)?;
+            Ok(())
+        }
+        None => Ok(()),
+    }
+}
+
 /// The ids of a tree's children.
 pub fn child_ids(alloc: Global, net: &Network, tree: &Tree) -> Result<Vec<Zid>, OutOfMemory>
     ensures { IfOk result (λ ids. ids.items ≡ child_ids net.now tree.now) }
 {
-    let ids = tree.children.as_slice().iter();
-    let ids = ids.filter_map(|place| net.nodes.get(*place as usize).copied());
-    Ok(ids.collect(alloc)?)
+    let places = tree.children.as_slice();
+    let mut ids = Vec::with_capacity(alloc, places.len())?;
+    for place in places {
+        push_some(&mut ids, net.nodes.get(*place as usize).copied())?;
+    }
+    Ok(ids)
 }
 
 /// The ids of the children of the tree at the root's place.
@@ -48,13 +65,27 @@ fn old_children(alloc: Global, old: &Net, root: Zid) -> Result<BTreeSet<u128>, O
     Ok(ids)
 }
 
+/// The id, if it is not among these.
+fn unless_among(ids: &BTreeSet<u128>, zid: Zid) -> Option<Zid>
+    ensures { result ≡ if list_any (is_at (nat_cmp zid.0)) ids.now.keys then None else Some zid }
+{
+    if ids.contains(&zid.0) {
+        None
+    } else {
+        Some(zid)
+    }
+}
+
 /// The ids that the old tree of the root did not have as children.
 pub fn fresh_ids(alloc: Global, old: &Net, root: Zid, ids: &[Zid]) -> Result<Vec<Zid>, OutOfMemory>
     ensures { IfOk result (λ fresh. fresh.items ≡ fresh_ids old.now root ids.now) }
 {
     let had = old_children(alloc, old, root)?;
-    let fresh = ids.iter().copied().filter(|zid| !had.contains(&zid.0));
-    Ok(fresh.collect(alloc)?)
+    let mut fresh = Vec::with_capacity(alloc, ids.len())?;
+    for zid in ids {
+        push_some(&mut fresh, unless_among(&had, *zid))?;
+    }
+    Ok(fresh)
 }
 
 /// The open face of least number with the id, if it is not the one that the call came from.
@@ -77,8 +108,11 @@ pub fn faces_of(
 ) -> Result<Vec<FaceId>, OutOfMemory>
     ensures { IfOk result (λ faces. faces.items ≡ filter_map (other_seated (option_map number from) seats.now) ids.now) }
 {
-    let faces = ids.iter().filter_map(|zid| other_face(seats, from, *zid));
-    Ok(faces.collect(alloc)?)
+    let mut faces = Vec::with_capacity(alloc, ids.len())?;
+    for zid in ids {
+        push_some(&mut faces, other_face(seats, from, *zid))?;
+    }
+    Ok(faces)
 }
 
 /// The faces are told of a key of the root at the place.
