@@ -31,7 +31,6 @@ pub mod Owning
 pub mod RoutersMoved
 pub mod DueMoved
 pub mod Worded
-pub mod Built
 pub mod DueHeard
 pub mod Tells
 pub mod Direct
