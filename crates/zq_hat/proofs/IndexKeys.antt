@@ -17,7 +17,8 @@ use Rattle.zq_hat.specs.Kept.{is_on, key_of, with_key, with_keys, declared_keys}
 use Rattle.zq_hat.specs.Offers.{offers_for, declared_offers}
 use Rattle.zq_hat.specs.State.{FaceState}
 use Rattle.zq_index.specs.Holders.{Holdings, Index}
-use Rattle.zq_hat.specs.Tied.{held, groups_from, group_offer, holder_offers, IsKeyed, IsTied}
+use Rattle.zq_offers.specs.Offers.{IsKeyed, group_offer, groups_from, holder_offers}
+use Rattle.zq_hat.specs.Tied.{held, IsTied}
 use Rattle.zq_index.proofs.Orders.{text_total, text_exact}
 use Rattle.zq_hat.proofs.Reading.{held_is, offers_is}
 use Rattle.zq_key.proofs.Lookups.{each_entry, either_way}

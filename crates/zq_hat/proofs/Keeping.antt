@@ -29,7 +29,7 @@ use Rattle.zq_key.proofs.Lookups.{same_key, at_itself, found_after_removal, foun
 use Rattle.zq_key.proofs.Sorted.{sorted_in, sorted_write, sorted_out}
 
 -- one place changes in both, and the others stay
-mixed : (k : List ℕ) (b c d e : Bool) (s w : Option QueryableInfoType) (v dec : Option Declaration) → (c ≡ true → s ≡ option_and_then (info_on k) dec) → (c ≡ true → e ≡ d) → (c ≡ false → e ≡ false) → (b ≡ true → w ≡ option_and_then (info_on k) v)
+pub mixed : (k : List ℕ) (b c d e : Bool) (s w : Option QueryableInfoType) (v dec : Option Declaration) → (c ≡ true → s ≡ option_and_then (info_on k) dec) → (c ≡ true → e ≡ d) → (c ≡ false → e ≡ false) → (b ≡ true → w ≡ option_and_then (info_on k) v)
     → (b ≡ false → c ≡ true → d ≡ true → (option_and_then (info_on k) v ≡ None) × (s ≡ None)) → cond b (cond e w s) s ≡ cond c (option_and_then (info_on k) (cond d v dec)) s
 mixed k true true true e s w v dec own same other new old = ap (λ x. cond x w s) (same refl) ∙ new refl
 mixed k true true false e s w v dec own same other new old = ap (λ x. cond x w s) (same refl) ∙ own refl
@@ -38,7 +38,7 @@ mixed k false true true e s w v dec own same other new old = let none = old refl
 mixed k false true false e s w v dec own same other new old = own refl
 mixed k false false d e s w v dec own same other new old = refl
 
-key_test : (key k : List ℕ) → test_text key k ≡ bytes_eq key k
+pub key_test : (key k : List ℕ) → test_text key k ≡ bytes_eq key k
 key_test key k = is_eq-slice_cmp key k
 
 module _ (faces : List (ℕ × FaceState)) (index : Index) (t : IsTied faces index) (n : ℕ) (f : FaceState) (at : at_id n faces ≡ Some f) (x : FaceState) where
@@ -52,20 +52,20 @@ module _ (faces : List (ℕ × FaceState)) (index : Index) (t : IsTied faces ind
   ids_by m g true s is = let same : x ≡ g = let both : Some x ≡ Some g = is in cc in subst (λ (y : FaceState). IsStrictlySortedBy nat_cmp (keys_of y.declared)) same s
   ids_by m g false s is = t.ids m g is
 
-  ordered' : IsStrictlySortedBy nat_cmp (keys_of x.declared) → AreOrdered faces'
+  pub ordered' : IsStrictlySortedBy nat_cmp (keys_of x.declared) → AreOrdered faces'
   ordered' s m g is = ids_by m g _ s (sym (face_found m) ∙ is)
 
   declared_by : (k : List ℕ) (p : Place) (b : Bool) → cond b (option_and_then (info_on k) (declaration p.1 x)) (declared_at k p faces) ≡ option_and_then (λ g. option_and_then (info_on k) (declaration p.1 g)) (cond b (Some x) (at_id p.0 faces))
   declared_by k p true = refl
   declared_by k p false = refl
 
-  declared' : (k : List ℕ) (p : Place) → declared_at k p faces' ≡ cond (is_at (nat_cmp n) p.0) (option_and_then (info_on k) (declaration p.1 x)) (declared_at k p faces)
+  pub declared' : (k : List ℕ) (p : Place) → declared_at k p faces' ≡ cond (is_at (nat_cmp n) p.0) (option_and_then (info_on k) (declaration p.1 x)) (declared_at k p faces)
   declared' k p = ap (option_and_then (λ g. option_and_then (info_on k) (declaration p.1 g))) (face_found p.0) ∙ sym (declared_by k p (is_at (nat_cmp n) p.0))
 
-  own' : (k : List ℕ) (p : Place) → is_at (nat_cmp n) p.0 ≡ true → declared_at k p faces ≡ option_and_then (info_on k) (declaration p.1 f)
+  pub own' : (k : List ℕ) (p : Place) → is_at (nat_cmp n) p.0 ≡ true → declared_at k p faces ≡ option_and_then (info_on k) (declaration p.1 f)
   own' k p e = ap (option_and_then (λ g. option_and_then (info_on k) (declaration p.1 g))) (ap (λ m. at_id m faces) (sym (same_key nat_cmp_total exact_unsigned n p.0 e)) ∙ at)
 
-  same_place' : (i : ℕ) (p : Place) → is_at (nat_cmp n) p.0 ≡ true → is_at (place_cmp (n, i)) p ≡ is_at (nat_cmp i) p.1
+  pub same_place' : (i : ℕ) (p : Place) → is_at (nat_cmp n) p.0 ≡ true → is_at (place_cmp (n, i)) p ≡ is_at (nat_cmp i) p.1
   same_place' i p e = ap (λ m. is_at (place_cmp (n, i)) (m, p.1)) (sym (same_key nat_cmp_total exact_unsigned n p.0 e)) ∙ own_place n i p.1
 
   -- the index after the change has at each place what the faces then declare, if it changed in the same way

@@ -1,4 +1,3 @@
-pub mod Folds
 pub mod Routing
 pub mod Held
 pub mod Reading
@@ -6,6 +5,7 @@ pub mod IndexKeys
 pub mod Keeping
 pub mod Turns
 pub mod Marking
+pub mod Afterwards
 pub mod OfferLaws
 pub mod RoutersMoved
 pub mod OffersMoved

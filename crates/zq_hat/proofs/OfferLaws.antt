@@ -9,18 +9,20 @@ use Rattle.std.specs.List.{All, AllByRecursion, flat_map, suffix_len}
 use Rattle.std.specs.BTreeMap.{is_at}
 use Rattle.std.proofs.lemmas.List.Elements.{All-nil, All-cons}
 use Rattle.std.proofs.lemmas.Map.Lookups.{exact_unsigned}
-use Rattle.zq_key.specs.Key.{intersects}
+use Rattle.zq_key.specs.Key.{includes, intersects}
 use Rattle.zq_message.specs.declared.message.QueryableInfoType.{QueryableInfoType}
 use Rattle.zq_message.specs.declared.message.Region.{Region}
 use Rattle.zq_message.specs.declared.message.Zid.{Zid}
 use Rattle.zq_trees.specs.Entries.{Entries, Routed}
 use Rattle.zq_trees.specs.Nets.{towards}
-use Rattle.zq_hat.specs.declared.types.QueryTargetQabl.{QueryTargetQabl}
+use Rattle.zq_offers.specs.declared.types.QueryTargetQabl.{QueryTargetQabl}
 use Rattle.zq_hat.specs.declared.types.Strategy.{Strategy}
 use Rattle.zq_hat.specs.declared.types.Strategy.TheVariants as strategy
 use Rattle.zq_hat.specs.Kept.{at_id, has_face, info, declared_keys}
-use Rattle.zq_hat.specs.Offers.{place, sorted, offer_cmp, offer_of, offer_list, offers_on, offers_for, declared_offers, bare_offer, bare_on, bare_offers, may_have, offers_by, offers_of}
-use Rattle.zq_hat.specs.Routers.{entries_offers, entry_offer, face_with, has_zid, router_offer, source_for}
+use Rattle.zq_offers.specs.Offers.{offer_cmp, offer_of, place, sorted}
+use Rattle.zq_hat.specs.Offers.{offer_list, offers_on, offers_for, declared_offers, bare_offer, bare_on, bare_offers, may_have, offers_by, offers_of}
+use Rattle.zq_hat.specs.Routers.{entries_offers, face_with, has_zid, source_for}
+use Rattle.zq_offers.specs.Routed.{entry_offer, routed_offers, router_offer}
 use Rattle.zq_hat.specs.Regions.{is_north, same_region, strategy_at}
 use Rattle.zq_hat.specs.State.{FaceState, HatState}
 use Rattle.zq_key.proofs.Lookups.{at_itself}
@@ -101,24 +103,28 @@ seated_found zid n (f ∷ fs) e = by (λ later. seated_found zid n fs later) (ha
     by ih true same = subst (λ (m : ℕ). is_some (at_id m (f ∷ fs)) ≡ true) (let here : Some f.0 ≡ Some n = same in cc) (found_itself f fs)
     by ih false same = found_by n f fs (is_at (nat_cmp n) f.0) (ih same)
 
-module _ (P : QueryTargetQabl → Type 0) (s : HatState) (q : List ℕ) (has : (key : List ℕ) (source : ℕ) (i : QueryableInfoType) (n far : ℕ) → is_some (at_id n s.faces) ≡ true → P (router_offer s q key source i (n, far))) where
-  seat_all : (key : List ℕ) (source : ℕ) (i : QueryableInfoType) (zid : Zid) (far : ℕ) (o : Option ℕ) → face_with zid s.faces ≡ o
-      → AllByRecursion P (option_to_list (option_map (router_offer s q key source i) (option_and_then (λ (face : ℕ). Some (face, far)) o)))
-  seat_all key source i zid far None e = tt
-  seat_all key source i zid far (Some n) e = (has key source i n far (seated_found zid n s.faces e), tt)
+module _ (P : QueryTargetQabl → Type 0) (s : HatState) (q : List ℕ) (has : (included : Bool) (key : List ℕ) (source : ℕ) (i : QueryableInfoType) (n far : ℕ) → is_some (at_id n s.faces) ≡ true → P (router_offer s.region included key source i (n, far))) where
+  abbrev face : Zid → Option ℕ
+  face zid = face_with zid s.faces
 
-  way_all : (key : List ℕ) (source : ℕ) (i : QueryableInfoType) (o : Option (Zid × ℕ))
-      → AllByRecursion P (option_to_list (option_map (router_offer s q key source i) (option_and_then (λ (step : Zid × ℕ). option_and_then (λ (face : ℕ). Some (face, step.1)) (face_with step.0 s.faces)) o)))
-  way_all key source i None = tt
-  way_all key source i (Some step) = seat_all key source i step.0 step.1 (face_with step.0 s.faces) refl
+  seat_all : (included : Bool) (key : List ℕ) (source : ℕ) (i : QueryableInfoType) (zid : Zid) (far : ℕ) (o : Option ℕ) → face zid ≡ o
+      → AllByRecursion P (option_to_list (option_map (router_offer s.region included key source i) (option_and_then (λ (n : ℕ). Some (n, far)) o)))
+  seat_all included key source i zid far None e = tt
+  seat_all included key source i zid far (Some n) e = (has included key source i n far (seated_found zid n s.faces e), tt)
 
-  entries_all : (source : ℕ) (key : List ℕ) (es : Routed) → AllByRecursion P (flat_map (entry_offer s q source key) es)
-  entries_all source key [] = tt
-  entries_all source key (e ∷ es) =
-      all_joined P (entry_offer s q source key e) (flat_map (entry_offer s q source key) es) (way_all key source e.1 (towards s.network source (record { 0 = e.0 }))) (entries_all source key es)
+  way_all : (included : Bool) (key : List ℕ) (source : ℕ) (i : QueryableInfoType) (o : Option (Zid × ℕ))
+      → AllByRecursion P (option_to_list (option_map (router_offer s.region included key source i) (option_and_then (λ (step : Zid × ℕ). option_and_then (λ (n : ℕ). Some (n, step.1)) (face step.0)) o)))
+  way_all included key source i None = tt
+  way_all included key source i (Some step) = seat_all included key source i step.0 step.1 (face step.0) refl
 
-  met_all : (source : ℕ) (k : List ℕ × Routed) (b : Bool) → AllByRecursion P (cond b (flat_map (entry_offer s q source k.0) k.1) [])
-  met_all source k true = entries_all source k.0 k.1
+  entries_all : (source : ℕ) (included : Bool) (key : List ℕ) (es : Routed) → AllByRecursion P (flat_map (entry_offer s.network face s.region source included key) es)
+  entries_all source included key [] = tt
+  entries_all source included key (e ∷ es) =
+      all_joined P (entry_offer s.network face s.region source included key e) (flat_map (entry_offer s.network face s.region source included key) es)
+      (way_all included key source e.1 (towards s.network source (record { 0 = e.0 }))) (entries_all source included key es)
+
+  met_all : (source : ℕ) (k : List ℕ × Routed) (b : Bool) → AllByRecursion P (cond b (routed_offers s.network face s.region source q k) [])
+  met_all source k true = entries_all source (includes k.0 q) k.0 k.1
   met_all source k false = tt
 
   routed_all : (source : ℕ) (ks : Entries) → AllByRecursion P (flat_map (entries_offers s q source) ks)
@@ -129,7 +135,7 @@ module _ (P : QueryTargetQabl → Type 0) (s : HatState) (q : List ℕ) (has : (
   sourced_all None = tt
   sourced_all (Some source) = routed_all source s.entries
 
-module _ (P : QueryTargetQabl → Type 0) (s : HatState) (src : Region) (q : List ℕ) (node : Option ℕ) (has : (key : List ℕ) (source : ℕ) (i : QueryableInfoType) (n far : ℕ) → is_some (at_id n s.faces) ≡ true → P (router_offer s q key source i (n, far))) where
+module _ (P : QueryTargetQabl → Type 0) (s : HatState) (src : Region) (q : List ℕ) (node : Option ℕ) (has : (included : Bool) (key : List ℕ) (source : ℕ) (i : QueryableInfoType) (n far : ℕ) → is_some (at_id n s.faces) ≡ true → P (router_offer s.region included key source i (n, far))) where
   strategy_all : (k : Strategy) → AllByRecursion (λ f. (i : List ℕ) (m : QueryableInfoType) → P (offer_of s.region q i f.0 m)) s.faces → AllByRecursion (λ f. P (bare_offer s.region q f.0)) s.faces → AllByRecursion P (offers_by k s src q node)
   strategy_all strategy.Broker all bare = declared_all P s.region q s.faces (declared_keys s.faces) all
   strategy_all strategy.Client all bare = beside_all P s.region q s.faces all bare strategy.Client src (same_region src s.region)
@@ -165,10 +171,10 @@ pub offers_of_faces : (s : HatState) (src : Region) (q : List ℕ) (node : Optio
 offers_of_faces s src q node =
     all_from (λ o. has_face o.face.0 s ≡ true) (offers_of s src q node)
     (all_sorted (λ o. has_face o.face.0 s ≡ true) offer_cmp (offers_by (strategy_at s) s src q node)
-    (strategy_all (λ o. has_face o.face.0 s ≡ true) s src q node (λ key source i n far found. found) (strategy_at s) (each_has s.faces s.faces s.region q (all_found s.faces)) (each_bare s.faces s.faces s.region q (all_found s.faces))))
+    (strategy_all (λ o. has_face o.face.0 s ≡ true) s src q node (λ included key source i n far found. found) (strategy_at s) (each_has s.faces s.faces s.region q (all_found s.faces)) (each_bare s.faces s.faces s.region q (all_found s.faces))))
 
 pub offers_of_region : (s : HatState) (src : Region) (q : List ℕ) (node : Option ℕ) → All (λ o. o.region ≡ s.region) (offers_of s src q node)
 offers_of_region s src q node =
     all_from (λ o. o.region ≡ s.region) (offers_of s src q node)
     (all_sorted (λ o. o.region ≡ s.region) offer_cmp (offers_by (strategy_at s) s src q node)
-    (strategy_all (λ o. o.region ≡ s.region) s src q node (λ key source i n far found. refl) (strategy_at s) (each_region s.faces s.region q) (bare_region s.faces s.region q)))
+    (strategy_all (λ o. o.region ≡ s.region) s src q node (λ included key source i n far found. refl) (strategy_at s) (each_region s.faces s.region q) (bare_region s.faces s.region q)))

@@ -14,14 +14,15 @@ use Rattle.zq_key.specs.Key.{intersects}
 use Rattle.zq_message.specs.declared.message.QueryableInfoType.{QueryableInfoType}
 use Rattle.zq_message.specs.declared.message.Region.{Region}
 use Rattle.zq_hat.specs.declared.types.Declaration.{Declaration}
-use Rattle.zq_hat.specs.declared.types.QueryTargetQabl.{QueryTargetQabl}
+use Rattle.zq_offers.specs.declared.types.QueryTargetQabl.{QueryTargetQabl}
 use Rattle.zq_hat.specs.declared.types.Strategy.{Strategy}
 use Rattle.zq_hat.specs.declared.types.Strategy.TheVariants as strategy
 use Rattle.zq_index.specs.Infos.{joined}
 use Rattle.zq_index.specs.Texts.{text_cmp}
 use Rattle.zq_hat.specs.Kept.{with_declared, info, with_key, with_keys, declared_keys}
-use Rattle.zq_hat.specs.Offers.{place, sorted, offer_cmp, distance, offer_list, offers_on, offers_for, declared_offers, bare_offer, bare_on, bare_offers, may_have, offers_by, offers_of}
-use Rattle.zq_hat.specs.Regions.{is_local, is_north, is_south, same_region, strategy_at}
+use Rattle.zq_offers.specs.Offers.{distance, is_local, offer_cmp, place, sorted}
+use Rattle.zq_hat.specs.Offers.{offer_list, offers_on, offers_for, declared_offers, bare_offer, bare_on, bare_offers, may_have, offers_by, offers_of}
+use Rattle.zq_hat.specs.Regions.{is_north, is_south, same_region, strategy_at}
 use Rattle.zq_hat.specs.State.{FaceState, HatState}
 use Rattle.zq_hat.specs.Moved.{Keeps, move_declared, move_face, move_hat, move_offer}
 use Rattle.zq_hat.proofs.RoutersMoved.{router_offers_moved}

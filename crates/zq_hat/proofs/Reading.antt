@@ -20,7 +20,8 @@ use Rattle.zq_message.specs.declared.message.Region.{Region}
 use Rattle.zq_hat.specs.State.{FaceState}
 use Rattle.zq_index.specs.Holders.{Place, Holdings, Index, place_cmp, held_at, with_held}
 use Rattle.zq_index.specs.Texts.{at_text}
-use Rattle.zq_hat.specs.Tied.{held_by, held, groups_from, group_offer, IsTied}
+use Rattle.zq_offers.specs.Offers.{group_offer, groups_from}
+use Rattle.zq_hat.specs.Tied.{held_by, held, IsTied}
 use Rattle.zq_index.proofs.Orders.{place_total, place_exact}
 use Rattle.zq_hat.proofs.Held.{found_in_held, sorted_held, above_held}
 use Rattle.zq_index.proofs.Merges.{held_from}

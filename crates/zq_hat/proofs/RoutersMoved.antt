@@ -1,20 +1,22 @@
 -- What routers announced, and what is offered by it, moves with its texts.
 use Rattle.std.proofs.Common.{◌≡◌, ◌∙◌, sym, ap, refl, ℕ, Bool, true, false, cond, List, [], ◌∷◌, ◌++◌, Some, None, Option, map}
-use Rattle.std.specs.Prelude.{◌&&◌, find}
+use Rattle.std.specs.Prelude.{find}
 use Rattle.std.specs.Ordering.{is_eq}
 use Rattle.std.specs.List.{flat_map}
-use Rattle.std.specs.Option.{option_and_then, option_map, option_map_or, option_to_list}
+use Rattle.std.specs.Option.{option_map, option_map_or, option_to_list}
 use Rattle.std.proofs.lemmas.List.{map-append}
 use Rattle.zq_key.proofs.Naturals.{flat_map-map}
-use Rattle.zq_key.specs.Key.{intersects}
+use Rattle.zq_key.specs.Key.{intersects, includes}
 use Rattle.zq_message.specs.declared.message.QueryableInfoType.{QueryableInfoType}
 use Rattle.zq_message.specs.declared.message.Region.{Region}
 use Rattle.zq_message.specs.declared.message.Zid.{Zid}
 use Rattle.zq_index.specs.Texts.{at_text}
 use Rattle.zq_trees.specs.Entries.{Routed, routed_info}
-use Rattle.zq_trees.specs.Nets.{towards}
+use Rattle.zq_offers.specs.declared.types.QueryTargetQabl.{QueryTargetQabl}
+use Rattle.zq_offers.specs.Offers.{met_offers}
+use Rattle.zq_offers.specs.Routed.{entry_offer, routed_offers, router_offer, way_to}
 use Rattle.zq_hat.specs.Kept.{routers_info}
-use Rattle.zq_hat.specs.Routers.{entries_offers, entry_offer, face_with, has_zid, router_offer, router_offers, source_for, way_to}
+use Rattle.zq_hat.specs.Routers.{entries_offers, face_with, has_zid, router_offers, source_for}
 use Rattle.zq_hat.specs.State.{FaceState, HatState}
 use Rattle.zq_hat.specs.Moved.{Keeps, move_entry, move_face, move_hat, move_offer}
 
@@ -33,9 +35,6 @@ module _ (φ : List ℕ → List ℕ) where
       by true ih = refl
       by false ih = ih
 
-  way_moved : (s : HatState) (source router : ℕ) → way_to (move_hat φ s) source router ≡ way_to s source router
-  way_moved s source router = λ j. option_and_then (λ (step : Zid × ℕ). option_and_then (λ (face : ℕ). Some (face, step.1)) (seat_moved step.0 s.faces j)) (towards s.network source (record { 0 = router }))
-
   module _ (keeps : Keeps φ) where
     -- a moved text is found where the text was
     pub found_moved : {X : Type 0} (key : List ℕ) (es : List (List ℕ × X)) → at_text (φ key) (map (move_entry φ) es) ≡ at_text key es
@@ -46,21 +45,35 @@ module _ (φ : List ℕ → List ℕ) where
     routers_info_moved key s = ap (λ o. routed_info (option_map_or (λ (es : Routed). es) o [])) (found_moved key s.entries)
 
     module _ (s : HatState) (q : List ℕ) (source : ℕ) where
-      offer_by : (key : List ℕ) (i : QueryableInfoType) (o : Option (ℕ × ℕ))
-          → option_to_list (option_map (router_offer (move_hat φ s) (φ q) (φ key) source i) o) ≡ map (move_offer φ) (option_to_list (option_map (router_offer s q key source i) o))
-      offer_by key i None = refl
-      offer_by key i (Some way) =
-          ap (λ b. record { face = record { 0 = way.0 }; info = Some (record { complete = i.complete && b; distance = way.1 }); key = φ key; region = s.region; node = source } ∷ []) (keeps.cover key q)
+      abbrev face : Zid → Option ℕ
+      face zid = face_with zid s.faces
 
-      one_moved : (key : List ℕ) (e : ℕ × QueryableInfoType) → entry_offer (move_hat φ s) (φ q) source (φ key) e ≡ map (move_offer φ) (entry_offer s q source key e)
-      one_moved key e = ap (λ o. option_to_list (option_map (router_offer (move_hat φ s) (φ q) (φ key) source e.1) o)) (way_moved s source e.0) ∙ offer_by key e.1 (way_to s source e.0)
+      faces_moved : (λ zid. face_with zid (map (move_face φ) s.faces)) ≡ face
+      faces_moved = λ j zid. seat_moved zid s.faces j
 
-      key_by : (k : List ℕ × Routed) (b : Bool) → cond b (flat_map (entry_offer (move_hat φ s) (φ q) source (φ k.0)) k.1) [] ≡ map (move_offer φ) (cond b (flat_map (entry_offer s q source k.0) k.1) [])
-      key_by k true = joined_lists (move_offer φ) (entry_offer (move_hat φ s) (φ q) source (φ k.0)) (entry_offer s q source k.0) (one_moved k.0) k.1
+      abbrev met : List ℕ → List ℕ × Routed → List QueryTargetQabl
+      met q k = routed_offers s.network face s.region source q k
+
+      offer_by : (included : Bool) (key : List ℕ) (i : QueryableInfoType) (o : Option (ℕ × ℕ))
+          → option_to_list (option_map (router_offer s.region included (φ key) source i) o) ≡ map (move_offer φ) (option_to_list (option_map (router_offer s.region included key source i) o))
+      offer_by included key i None = refl
+      offer_by included key i (Some way) = refl
+
+      on_moved : (k : List ℕ × Routed) → met (φ q) (move_entry φ k) ≡ map (move_offer φ) (met q k)
+      on_moved k =
+          ap (λ b. flat_map (entry_offer s.network face s.region source b (φ k.0)) k.1) (keeps.cover k.0 q)
+          ∙ joined_lists (move_offer φ) (entry_offer s.network face s.region source (includes k.0 q) (φ k.0)) (entry_offer s.network face s.region source (includes k.0 q) k.0)
+          (λ e. offer_by (includes k.0 q) k.0 e.1 (way_to s.network face source e.0)) k.1
+
+      key_by : (k : List ℕ × Routed) (b : Bool) → cond b (met (φ q) (move_entry φ k)) [] ≡ map (move_offer φ) (cond b (met q k) [])
+      key_by k true = on_moved k
       key_by k false = refl
 
       key_moved : (k : List ℕ × Routed) → entries_offers (move_hat φ s) (φ q) source (move_entry φ k) ≡ map (move_offer φ) (entries_offers s q source k)
-      key_moved k = ap (λ b. cond b (flat_map (entry_offer (move_hat φ s) (φ q) source (φ k.0)) k.1) []) (keeps.meet k.0 q) ∙ key_by k (intersects k.0 q)
+      key_moved k =
+          ap (λ f. met_offers (routed_offers s.network f s.region source (φ q)) (φ q) (move_entry φ k)) faces_moved
+          ∙ ap (λ b. cond b (met (φ q) (move_entry φ k)) []) (keeps.meet k.0 q)
+          ∙ key_by k (intersects k.0 q)
 
       all_moved : flat_map (entries_offers (move_hat φ s) (φ q) source) (map (move_entry φ) s.entries) ≡ map (move_offer φ) (flat_map (entries_offers s q source) s.entries)
       all_moved = flat_map-map (move_entry φ) (move_offer φ) (entries_offers (move_hat φ s) (φ q) source) (entries_offers s q source) key_moved s.entries

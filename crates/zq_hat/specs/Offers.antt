@@ -1,45 +1,18 @@
 -- What a region offers for the key of a request.
-use Rattle.std.specs.Prelude.{ℕ, ◌-◌, Bool, false, not, ◌&&◌, List, [], ◌∷◌, ◌++◌, fold, length, Option, Some, None, if◌then◌else◌}
-use Rattle.std.specs.List.{flat_map, suffix_len, insert}
-use Rattle.std.specs.Option.{option_map_or}
-use Rattle.std.specs.declared.cmp.Ordering.{Ordering}
-use Rattle.std.specs.Ordering.{nat_cmp, ordering_then, is_lt}
+use Rattle.std.specs.Prelude.{ℕ, Bool, false, not, ◌&&◌, List, [], ◌∷◌, ◌++◌, Option, Some, None, if◌then◌else◌}
+use Rattle.std.specs.List.{flat_map}
 use Rattle.zq_message.specs.declared.message.QueryableInfoType.{QueryableInfoType}
 use Rattle.zq_message.specs.declared.message.Region.{Region}
-use Rattle.zq_key.specs.Key.{intersects, includes}
-use Rattle.zq_hat.specs.declared.types.QueryTargetQabl.{QueryTargetQabl}
+use Rattle.zq_key.specs.Key.{intersects}
+use Rattle.zq_offers.specs.declared.types.QueryTargetQabl.{QueryTargetQabl}
 use Rattle.zq_hat.specs.declared.types.Strategy.{Strategy}
 use Rattle.zq_hat.specs.declared.types.Strategy.TheVariants as strategy
-use Rattle.zq_index.specs.Texts.{text_cmp}
 use Rattle.zq_hat.specs.Kept.{info, declared_keys}
 use Rattle.zq_hat.specs.Marks.{is_finalized}
 use Rattle.zq_hat.specs.Routers.{router_offers}
-use Rattle.zq_hat.specs.Regions.{is_local, is_north, is_south, same_region, strategy_at}
+use Rattle.zq_offers.specs.Offers.{offer_cmp, offer_of, sorted}
+use Rattle.zq_hat.specs.Regions.{is_north, is_south, same_region, strategy_at}
 use Rattle.zq_hat.specs.State.{FaceState, HatState}
-
--- x is put before the greater elements that end the list
-abbrev pub place : {X : Type 0} → (X → X → Ordering) → List X → X → List X
-place cmp xs x = insert xs (length xs - suffix_len (λ y. is_lt (cmp x y)) xs) x
-
--- the elements in order, equal ones as they came
-abbrev pub sorted : {X : Type 0} → (X → X → Ordering) → List X → List X
-sorted cmp xs = fold (place cmp) [] xs
-
--- the distance of an offer; without information it is the greatest
-abbrev pub distance : QueryTargetQabl → ℕ
-distance o = option_map_or (λ i. i.distance) o.info 65535
-
--- by distance, key text and face
-abbrev pub offer_cmp : QueryTargetQabl → QueryTargetQabl → Ordering
-offer_cmp a b = ordering_then (nat_cmp (distance a) (distance b)) (ordering_then (text_cmp a.key b.key) (nat_cmp a.face.0 b.face.0))
-
--- what is offered of an information on a declared key: complete only if the key includes the request's
-abbrev pub offered : List ℕ → List ℕ → Region → QueryableInfoType → QueryableInfoType
-offered q key region i = record { complete = i.complete && includes key q; distance = if is_local region then 0 else 1 }
-
--- the offer of a face for a declared key
-abbrev pub offer_of : Region → List ℕ → List ℕ → ℕ → QueryableInfoType → QueryTargetQabl
-offer_of region q key number i = record { face = record { 0 = number }; info = Some (offered q key region i); key = key; region = region; node = 0 }
 
 -- one offer where there is information
 abbrev pub offer_list : Region → List ℕ → List ℕ → ℕ → Option QueryableInfoType → List QueryTargetQabl

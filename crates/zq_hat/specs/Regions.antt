@@ -64,9 +64,3 @@ same_region region.North region.North = true
 same_region region.Local region.Local = true
 same_region (region.South id m) (region.South jd n) = (id == jd) && same_mode m n
 same_region a b = false
-
--- whether a region is the local one
-abbrev pub is_local : Region → Bool
-is_local region.North = false
-is_local region.Local = true
-is_local (region.South id m) = false

@@ -1,16 +1,17 @@
 -- What routers of a region declared, the network and node tables that are handed in, and what is offered by them.
-use Rattle.std.specs.Prelude.{ℕ, Bool, ◌&&◌, List, [], find, Option, Some, if◌then◌else◌, option_map, slice_get}
+use Rattle.std.specs.Prelude.{ℕ, Bool, List, [], find, Option, Some, if◌then◌else◌, option_map, slice_get}
 use Rattle.std.specs.List.{flat_map}
-use Rattle.std.specs.Option.{option_map_or, option_to_list, option_and_then}
+use Rattle.std.specs.Option.{option_map_or, option_and_then}
 use Rattle.zq_message.specs.declared.message.QueryableInfoType.{QueryableInfoType}
 use Rattle.zq_message.specs.declared.message.Region.{Region}
 use Rattle.zq_message.specs.declared.message.Zid.{Zid}
-use Rattle.zq_key.specs.Key.{intersects, includes}
 use Rattle.zq_trees.specs.declared.types.Network.{Network}
 use Rattle.zq_trees.specs.declared.types.NodeIds.{NodeIds}
 use Rattle.zq_trees.specs.Entries.{Routed, entry_of, is_unlisted, keys_by, staying, with_entry, without_entry}
-use Rattle.zq_trees.specs.Nets.{◌>>=◌, is_listed, is_zid, place_of, towards}
-use Rattle.zq_hat.specs.declared.types.QueryTargetQabl.{QueryTargetQabl}
+use Rattle.zq_trees.specs.Nets.{◌>>=◌, is_listed, is_zid, place_of}
+use Rattle.zq_offers.specs.declared.types.QueryTargetQabl.{QueryTargetQabl}
+use Rattle.zq_offers.specs.Offers.{met_offers}
+use Rattle.zq_offers.specs.Routed.{routed_offers}
 use Rattle.zq_hat.specs.Kept.{change_face, face_at}
 use Rattle.zq_hat.specs.Regions.{in_routers, same_region, strategy_at}
 use Rattle.zq_hat.specs.State.{FaceState, HatState}
@@ -62,25 +63,9 @@ networked net s = in_routers (strategy_at s) (record s { network = net; entries 
 abbrev pub losing : Network → HatState → List (List ℕ)
 losing net s = keys_by (is_unlisted net) s.entries
 
--- the face on the way to a router, and how far the router is
-abbrev pub way_to : HatState → ℕ → ℕ → Option (ℕ × ℕ)
-way_to s source router = do
-  step ← towards s.network source (record { 0 = router })
-  face ← face_with step.0 s.faces
-  Some (face, step.1)
-
--- the offer for a router's entry
-abbrev pub router_offer : HatState → List ℕ → List ℕ → ℕ → QueryableInfoType → ℕ × ℕ → QueryTargetQabl
-router_offer s q key source i way =
-    record { face = record { 0 = way.0 }; info = Some (record { complete = i.complete && includes key q; distance = way.1 }); key = key; region = s.region; node = source }
-
--- the offer for a router's entry, if the tables lead there
-abbrev pub entry_offer : HatState → List ℕ → ℕ → List ℕ → ℕ × QueryableInfoType → List QueryTargetQabl
-entry_offer s q source key e = option_to_list (option_map (router_offer s q key source e.1) (way_to s source e.0))
-
 -- the offers for the entries on a key, if it meets the request's
 abbrev pub entries_offers : HatState → List ℕ → ℕ → List ℕ × Routed → List QueryTargetQabl
-entries_offers s q source k = if intersects k.0 q then flat_map (entry_offer s q source k.0) k.1 else []
+entries_offers s q source k = met_offers (routed_offers s.network (λ zid. face_with zid s.faces) s.region source q) q k
 
 -- the source of an asker: in this region the place that its node number stands for, else the gateway's own place
 abbrev pub source_for : HatState → Region → Option ℕ → Option ℕ

@@ -1,23 +1,20 @@
 -- What the index of a hat has of its faces' declarations, and what is offered by it.
-use Rattle.std.specs.Prelude.{ℕ, ◌≡◌, ◌==◌, Bool, true, false, ◌&&◌, List, [], ◌∷◌, Option, Some, None, map, filter, if◌then◌else◌}
+use Rattle.std.specs.Prelude.{ℕ, ◌≡◌, Bool, true, false, List, [], Option, Some, None, map, filter, not, if◌then◌else◌}
 use Rattle.std.specs.List.{flat_map}
 use Rattle.std.specs.List.Sorted.{IsStrictlySortedBy}
-use Rattle.std.specs.Option.{option_and_then, option_map_or, option_to_list}
+use Rattle.std.specs.Option.{option_and_then, option_map_or}
 use Rattle.std.specs.Map.{keys_of}
+use Rattle.std.specs.BTreeMap.{is_at}
 use Rattle.std.specs.Ordering.{nat_cmp}
 use Rattle.std.specs.Str.{bytes_eq}
-use Rattle.zq_key.specs.Key.{is_key, intersects}
+use Rattle.zq_key.specs.Key.{is_key}
 use Rattle.zq_message.specs.declared.message.QueryableInfoType.{QueryableInfoType}
-use Rattle.zq_message.specs.declared.message.Region.{Region}
-use Rattle.zq_index.specs.Infos.{merge}
 use Rattle.zq_index.specs.Texts.{text_cmp, at_text}
 use Rattle.zq_index.specs.Holders.{Place, Holdings, Index, place_cmp, at_place, held_at, without_holding}
 use Rattle.zq_hat.specs.declared.types.Declaration.{Declaration}
-use Rattle.zq_hat.specs.declared.types.QueryTargetQabl.{QueryTargetQabl}
 use Rattle.zq_hat.specs.Kept.{at_id, is_on, declaration}
 use Rattle.zq_hat.specs.State.{FaceState}
-use Rattle.zq_hat.specs.Offers.{offer_of}
-use Rattle.zq_hat.specs.Regions.{in_routers, is_local}
+use Rattle.zq_hat.specs.Regions.{in_routers}
 use Rattle.zq_hat.specs.declared.types.Strategy.{Strategy}
 use Rattle.zq_trees.specs.Nets.{is_zid}
 use Rattle.zq_trees.specs.Seating.{Seat, has_seat, seat_cmp}
@@ -52,35 +49,17 @@ pub record IsTied (faces : List (ℕ × FaceState)) (index : Index) : Type 0 whe
   pub keys : (key : List ℕ) (hs : Holdings) → at_text key index ≡ Some hs → is_key key ≡ true
   pub same : (key : List ℕ) (p : Place) → at_place p (held_at key index) ≡ declared_at key p faces
 
--- the declarations' informations, merged for each face, where those of a face stand in a row
-abbrev pub groups_from : Option (ℕ × QueryableInfoType) → Holdings → List (ℕ × QueryableInfoType)
-groups_from group [] = option_to_list group
-groups_from None (h ∷ hs) = groups_from (Some (h.0.0, h.1)) hs
-groups_from (Some g) (h ∷ hs) = if g.0 == h.0.0 then groups_from (Some (g.0, merge g.1 h.1)) hs else g ∷ groups_from (Some (h.0.0, h.1)) hs
-
 -- without all that the face declared
 abbrev pub without_declared : ℕ → Index → ℕ × Declaration → Index
 without_declared number index d = without_holding d.1.key (number, d.0) index
 
--- the offer for a face's information
-abbrev pub group_offer : Region → List ℕ → List ℕ → ℕ × QueryableInfoType → QueryTargetQabl
-group_offer region q key g = offer_of region q key g.0 g.1
-
--- the same where it is known whether the key includes the request's
-abbrev pub met_offer : Region → Bool → List ℕ → ℕ × QueryableInfoType → QueryTargetQabl
-met_offer region included key g = record { face = record { 0 = g.0 }; info = Some (record { complete = g.1.complete && included; distance = if is_local region then 0 else 1 }); key = key; region = region; node = 0 }
-
--- what is offered by the declarations on a key, if it meets the request's
-abbrev pub holder_offers : Region → List ℕ → List ℕ × Holdings → List QueryTargetQabl
-holder_offers region q e = if intersects e.0 q then map (group_offer region q e.0) (groups_from None e.1) else []
-
--- the entry's text is a key
-abbrev pub IsKeyed : List ℕ × Holdings → Type 0
-IsKeyed e = is_key e.0 ≡ true
-
 -- the face of the number has the id
 abbrev pub sits : List (ℕ × FaceState) → Seat → Bool
 sits faces seat = option_map_or (λ (f : FaceState). is_zid (record { 0 = seat.0 }) f.zid) (at_id seat.1 faces) false
+
+-- the place is of another face
+abbrev pub is_elsewhere : ℕ → Place → Bool
+is_elsewhere number p = not (is_at (nat_cmp number) p.0)
 
 -- in a region of routers the seats are those of its faces, in any other there are none
 pub record IsSeated (strategy : Strategy) (faces : List (ℕ × FaceState)) (seats : List Seat) : Type 0 where

@@ -4,24 +4,29 @@ ghost use Rattle.std.specs.Map.{set_value};
 ghost use Rattle.std.specs.BTreeMap.{is_at};
 ghost use Rattle.std.specs.Ordering.{nat_cmp};
 ghost use Rattle.zq_key.specs.Key.{is_key};
-ghost use Rattle.zq_hat.specs.Kept.{new_hat, with_face_opened, without_face, keys_of_face, has_face, clashes_at, declaration_at, has_any, is_full, change_face, registered, unregistered, unregister_result, faces_info, region_info, changed, at_id, face_at, declare, withdraw, declaration};
+ghost use Rattle.zq_hat.specs.Kept.{new_hat, with_face_opened, without_face, keys_of_face, has_face, clashes_at, declaration_at, has_any, is_full, change_face, registered, unregistered, unregister_result, faces_info, region_info, routers_info, changed, at_id, face_at, declare, withdraw, declaration};
 ghost use Rattle.zq_hat.specs.Tied.{without_declared};
 ghost use Rattle.zq_hat.specs.State.{FaceState};
 ghost use Rattle.zq_hat.specs.Marks.{finalized, marked};
-ghost use Rattle.zq_hat.specs.Offers.{declared_offers, offer_cmp, offers_beside, offers_of, sorted};
+ghost use Rattle.zq_offers.specs.Offers.{offer_cmp, sorted};
+ghost use Rattle.zq_hat.specs.Offers.{declared_offers, offers_beside, offers_of};
 ghost use Rattle.std.specs.BTreeSet.{insert_key};
 ghost use Rattle.zq_trees.specs.Seating.{number, seat_cmp};
-ghost use Rattle.zq_hat.specs.Routers.{context_at, noded, source_at};
+ghost use Rattle.zq_hat.specs.Routers.{announced, context_at, entry_at, losing, networked, noded, retracted, router_offers, source_at, source_for};
+ghost use Rattle.zq_hat.specs.Changes.{changed_by};
+ghost use Rattle.zq_trees.specs.Entries.{is_one_of, keys_by, staying, without_routers};
+ghost use Rattle.zq_trees.specs.Nets.{is_listed};
 ghost use Rattle.zq_trees.specs.Tellings.{same_infos};
 ghost use Rattle.zq_hat.specs.Trees.{own_told, to_children};
 ghost use Rattle.zq_hat.specs.Regions.{in_routers, strategy_at};
 
 use crate::face::HatFace;
+use crate::merges::{merged_elsewhere, merged_with, merged_without};
 use crate::offers;
 use crate::strategy::{same_region, strategy_of};
 use crate::types::{
-    Declaration, FaceRecord, FinalMark, HatRefusal, NodeIds, OfferList, QueryTargetQabl, Strategy,
-    TellingList, UnregisterEntityResult,
+    Change, Declaration, FaceRecord, FinalMark, HatRefusal, NodeIds, OfferList, QueryTargetQabl,
+    Strategy, TellingList, UnregisterEntityResult, ZidList,
 };
 use std::alloc::Global;
 use std::collections::BTreeMap;
@@ -35,7 +40,10 @@ use zq_key::message::{
     DEFAULT_NODE_ID, FaceId, Mode, NodeId, QueryableInfoType, Region, TextList, Zid,
 };
 use zq_key::text::Text;
+use zq_offers::routers::RouterOffers;
+use zq_offers::walk::offers_for;
 use zq_trees::children::tell_children;
+use zq_trees::entries::Entries;
 use zq_trees::nets::Net;
 use zq_trees::seats::Seats;
 
@@ -50,6 +58,7 @@ pub struct Hat {
     index: KeyHolders<FacePlace>,
     seats: Seats,
     net: Net,
+    entries: Entries,
     alloc: Global,
 }
 
@@ -68,7 +77,7 @@ impl Model for Hat {
       told_start = h.told_start;
       faces = h.faces.entries;
       told = [];
-      entries = [];
+      entries = h.entries;
       network = h.net;
     } };
 
@@ -235,6 +244,7 @@ impl Hat {
             index: KeyHolders::new(alloc),
             seats: Seats::new(alloc),
             net: Net::empty(alloc),
+            entries: Entries::new(alloc),
             alloc,
         }
     }
@@ -252,6 +262,7 @@ impl Hat {
             index: self.index.copy(alloc)?,
             seats: self.seats.copy()?,
             net: self.net.copy(alloc)?,
+            entries: self.entries.copy(alloc)?,
             alloc,
         })
     }
@@ -430,7 +441,7 @@ impl Hat {
     {
         match strategy_of(self.region, self.north_mode) {
             Strategy::Broker | Strategy::Client | Strategy::Peer => self.declared_info(key),
-            Strategy::Router => None,
+            Strategy::Router => self.entries.merged(key),
         }
     }
 
@@ -448,7 +459,7 @@ impl Hat {
             Strategy::Broker => Ok(Items::from_vec(self.declared_offers(key)?)),
             Strategy::Client => self.offers_beside(Strategy::Client, *src, key),
             Strategy::Peer => self.offers_beside(Strategy::Peer, *src, key),
-            Strategy::Router => Ok(Items::new(self.alloc)),
+            Strategy::Router => self.router_offers(*src, key, node),
         }
     }
 
@@ -484,6 +495,175 @@ impl Hat {
             key,
         )?;
         Ok(Items::from_vec(offers))
+    }
+
+    /// The node whose tree leads from an asker: of this region the one that it names, of another the
+    /// gateway's own.
+    fn source_for(&self, src: Region, node: Option<NodeId>) -> Option<NodeId>
+        ensures { result ≡ source_for self.now src node }
+    {
+        let node = node?;
+        let is_own = same_region(src, self.region);
+        if is_own {
+            return Some(node);
+        }
+        self.net.place_of(self.own)
+    }
+
+    /// The offers by routers' entries, in order.
+    fn router_offers(
+        &self,
+        src: Region,
+        key: &str,
+        node: Option<NodeId>,
+    ) -> Result<OfferList, OutOfMemory>
+        requires key { IsTrue (is_key key.now) }
+        requires routers { strategy_at self.now ≡ Strategy.Router }
+        ensures { IfOk result (λ o. o ≡ sorted offer_cmp (router_offers self.now src key.now node)) }
+    {
+        let Some(source) = self.source_for(src, node) else {
+            return Ok(Items::new(self.alloc));
+        };
+        let routers = RouterOffers {
+            alloc: self.alloc,
+            region: self.region,
+            net: &self.net,
+            seats: &self.seats,
+            source,
+        };
+        let offers = offers_for(self.alloc, &routers, self.entries.by_key(), key)?;
+        Ok(Items::from_vec(offers))
+    }
+
+    /// The router's entry on the key.
+    pub fn entry(&self, router: Zid, key: &str) -> Option<QueryableInfoType>
+        ensures { result ≡ entry_at router.0 key.now self.now }
+    {
+        self.entries.get(router, key)
+    }
+
+    /// The router's entry on the key is this one from now on.
+    pub fn announce(
+        &mut self,
+        router: Zid,
+        key: &Key,
+        info: QueryableInfoType,
+    ) -> Result<(), OutOfMemory>
+        ensures ok { OnOk result (self.new ≡ announced router.0 key.now info self.old) }
+        ensures err { OnErr result (self.new ≡ self.old) }
+    {
+        self.entries.put(self.alloc, router, key, info)
+    }
+
+    /// The router's entry on the key goes. Takes no memory.
+    pub fn retract(&mut self, router: Zid, key: &str)
+        ensures { self.new ≡ retracted router.0 key.now self.old }
+    {
+        self.entries.take(router, key);
+    }
+
+    /// The routers with entries that a network does not list.
+    pub fn unlisted(&self, net: &Net) -> Result<ZidList, OutOfMemory>
+        ensures left { IfOk result (λ ids. without_routers ids self.now.entries ≡ staying (is_listed net.now) self.now.entries) }
+        ensures losing { IfOk result (λ ids. keys_by (is_one_of ids) self.now.entries ≡ losing net.now self.now) }
+    {
+        self.entries.unlisted(self.alloc, net)
+    }
+
+    /// The keys that have an entry of one of these routers, in order, each once.
+    pub fn losing(&self, gone: &[Zid]) -> Result<TextList, OutOfMemory>
+        ensures { IfOk result (λ ks. ks ≡ keys_by (is_one_of gone.now) self.now.entries) }
+    {
+        self.entries.losing(self.alloc, gone)
+    }
+
+    /// In a region of routers a network is put in place: the entries of routers that it does not
+    /// list, which are these, go. Takes no memory.
+    pub fn put_network(&mut self, net: Net, gone: &[Zid])
+        requires { without_routers gone.now self.old.entries ≡ staying (is_listed net) self.old.entries }
+        ensures { self.new ≡ networked net self.old }
+    {
+        match strategy_of(self.region, self.north_mode) {
+            Strategy::Broker | Strategy::Client | Strategy::Peer => (),
+            Strategy::Router => {
+                self.entries.drop_routers(gone);
+                self.net = net;
+            }
+        }
+    }
+
+    /// What the faces would have declared on the key, merged, with this declaration.
+    fn declared_with(
+        &self,
+        face: FaceId,
+        id: u32,
+        info: QueryableInfoType,
+        key: &str,
+    ) -> Option<QueryableInfoType>
+        ensures { result ≡ faces_info key.now (change_face face.0 (declare id key.now info) self.now).faces }
+    {
+        if self.faces.contains_key(&face.0) {
+            Some(merged_with(&self.index, (face.0, id), info, key))
+        } else {
+            self.declared_info(key)
+        }
+    }
+
+    /// The same without the declaration of the id.
+    fn declared_without(&self, face: FaceId, id: u32, key: &str) -> Option<QueryableInfoType>
+        ensures { result ≡ faces_info key.now (unregistered face.0 id self.now).faces }
+    {
+        merged_without(&self.index, (face.0, id), key)
+    }
+
+    /// The same without what the face declared.
+    fn declared_elsewhere(&self, face: FaceId, key: &str) -> Option<QueryableInfoType>
+        ensures { result ≡ faces_info key.now (without_face face.0 self.now).faces }
+    {
+        merged_elsewhere(&self.index, face, key)
+    }
+
+    /// What the faces would have declared on the key after the change, merged.
+    fn declared_after(&self, change: &Change, key: &str) -> Option<QueryableInfoType>
+        ensures { result ≡ faces_info key.now (changed_by change.now key.now self.now).faces }
+    {
+        match change {
+            Change::Declared { face, id, info } => self.declared_with(*face, *id, *info, key),
+            Change::Withdrawn { face, id } => self.declared_without(*face, *id, key),
+            Change::Left(face) => self.declared_elsewhere(*face, key),
+            Change::Announced { .. } | Change::Retracted(_) | Change::Networked(_) => {
+                self.declared_info(key)
+            }
+        }
+    }
+
+    /// What the routers' entries on the key would be after the change, merged.
+    fn routed_after(&self, change: &Change, key: &str) -> Option<QueryableInfoType>
+        requires { strategy_at self.now ≡ Strategy.Router }
+        ensures { result ≡ routers_info key.now (changed_by change.now key.now self.now) }
+    {
+        match change {
+            Change::Announced { router, info } => {
+                Some(self.entries.merged_with(*router, key, *info))
+            }
+            Change::Retracted(router) => self.entries.merged_without(*router, key),
+            Change::Networked(net) => self.entries.merged_listed(net, key),
+            Change::Declared { .. } | Change::Withdrawn { .. } | Change::Left(_) => {
+                self.entries.merged(key)
+            }
+        }
+    }
+
+    /// The region's information on the key as it would be after the change.
+    pub fn info_after(&self, change: &Change, key: &str) -> Option<QueryableInfoType>
+        ensures { result ≡ region_info key.now (changed_by change.now key.now self.now) }
+    {
+        match self.strategy() {
+            Strategy::Broker | Strategy::Client | Strategy::Peer => {
+                self.declared_after(change, key)
+            }
+            Strategy::Router => self.routed_after(change, key),
+        }
     }
 
     /// The face has this node table from now on. Takes no memory. (`set_node_ids`)

@@ -3,14 +3,16 @@
 //! - `types`: what hats keep, offer and tell
 //! - `strategy`: how a region keeps and offers queryables
 //! - `face`: what one face declared
+//! - `merges`: what the declarations on a key would say, merged, after a change
 //! - `offers`: what a region offers for the key of a request
 //! - `hat`: the hat of one region
 //!
-//! `info`, the merge of informations, is `zq_index`'s.
+//! `info`, the merge of informations, is `zq_index`'s; offers and their order are `zq_offers`'s.
 #![tactic(auto)]
 
 mod face;
 pub mod hat;
+mod merges;
 mod offers;
 pub mod strategy;
 #[cfg(test)]

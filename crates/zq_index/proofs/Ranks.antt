@@ -7,18 +7,19 @@ use Rattle.std.specs.Ordering.{nat_cmp, bool_cmp, ordering_then, is_eq, is_gt, M
 use Rattle.std.specs.Cmp.{IsTotalOrder, nat_cmp_total, bool_cmp_total, then_total, on_total, nat_eq_equiv}
 use Rattle.std.specs.List.{AllByRecursion, AllZip, list_any}
 use Rattle.std.specs.List.Sorted.{IsStrictlySortedBy}
-use Rattle.std.specs.Map.{keys_of, remove_entry}
+use Rattle.std.specs.Map.{keys_of}
 use Rattle.std.specs.BTreeMap.{is_at}
 use Rattle.std.proofs.lemmas.Cmp.{ranked}
 use Rattle.std.proofs.lemmas.List.Kept.{IsStrictlySortedBy-filter}
+use Rattle.std.proofs.lemmas.Map.Entries.{lookup-filter-keys}
 use Rattle.std.proofs.lemmas.Map.Keys.{sorted_head}
 use Rattle.std.proofs.lemmas.Map.Views.{any-filter_same}
 use Rattle.std.proofs.lemmas.Map.Lookups.{CmpEqualImpliesEq, exact_unsigned, exact_pairs}
 use Rattle.zq_message.specs.declared.message.QueryableInfoType.{QueryableInfoType}
-use Rattle.zq_key.proofs.Lookups.{same_key, at_itself, apart, differ, either_way, each_entry, found_after_removal}
-use Rattle.zq_key.proofs.Sorted.{sorted_out}
+use Rattle.zq_key.proofs.Lookups.{same_key, at_itself, apart, differ, either_way, each_entry}
+use Rattle.zq_key.proofs.Naturals.{filter-map}
 use Rattle.zq_index.specs.Infos.{merge, joined, same_bool, same_info}
-use Rattle.zq_index.specs.Holders.{TellsApart, HeldBy, RankBy, rank_cmp, rank_of, has_rank, is_rank, is_elsewhere, at_place_by, with_held, IsRanked}
+use Rattle.zq_index.specs.Holders.{TellsApart, HeldBy, RankBy, rank_cmp, rank_of, has_rank, is_rank, at_place_by, with_held, IsRanked}
 use Rattle.zq_index.proofs.Laws.{merge_swap, merge_regroup}
 
 -- ---- the order of the ranks
@@ -288,43 +289,43 @@ module _ {P : Type 0} {R : P → P → Ordering} (o : IsTotalOrder R) (exact : T
   pub none_merged : (es : HeldBy P) (ks : List (RankBy P)) → IsRanked R es ks → (0 < length ks → ⊥) → None ≡ fold with_held None es
   none_merged es ks r h = bare_by es (λ k. sym (ap (has_rank R k) (no_ranks ks h)) ∙ r.ranks k)
 
-  -- ---- the first of another place is the merge of the others
-  module _ (es : HeldBy P) (ks : List (RankBy P)) (r : IsRanked R es ks) (p : P) where
-    abbrev others : HeldBy P
-    others = remove_entry (is_at (R p)) es
+  -- ---- the first whose place passes is the merge of those that pass
+  module _ (es : HeldBy P) (ks : List (RankBy P)) (r : IsRanked R es ks) (passes : P → Bool) where
+    abbrev kept : HeldBy P
+    kept = filter (λ h. passes h.0) es
 
     abbrev rest : List (RankBy P)
-    rest = filter (is_elsewhere R p) ks
+    rest = filter (λ k. passes k.1) ks
 
-    kept_by : (k : RankBy P) (b : Bool) → is_at (R p) k.1 ≡ b → (not b && has_rank R k ks) ≡ is_rank R k (cond b None (at_place_by R k.1 es))
-    kept_by k true is = refl
-    kept_by k false is = r.ranks k
+    kept_by : (k : RankBy P) (b : Bool) → (b && has_rank R k ks) ≡ is_rank R k (cond b (at_place_by R k.1 es) None)
+    kept_by k true = r.ranks k
+    kept_by k false = refl
 
-    elsewhere_ranked : IsRanked R others rest
-    elsewhere_ranked = record {
-      places = sorted_out R (is_at (R p)) es r.places;
+    passed_ranked : IsRanked R kept rest
+    passed_ranked = record {
+      places = subst (IsStrictlySortedBy R) (filter-map (λ h. h.0) passes (λ h. passes h.0) (λ h. refl) es) (IsStrictlySortedBy-filter R passes (keys_of es) r.places);
       ranks = λ k.
-          any-filter_same (is_at (rank_cmp R k)) (is_elsewhere R p) (not (is_at (R p) k.1)) (λ l at. ap (λ (x : RankBy P). not (is_at (R p) x.1)) (sym (same_key rank_total rank_exact k l at))) ks
-          ∙ kept_by k (is_at (R p) k.1) refl
-          ∙ ap (is_rank R k) (sym (found_after_removal o exact p k.1 es r.places));
+          any-filter_same (is_at (rank_cmp R k)) (λ l. passes l.1) (passes k.1) (λ l at. ap (λ (x : RankBy P). passes x.1) (sym (same_key rank_total rank_exact k l at))) ks
+          ∙ kept_by k (passes k.1)
+          ∙ ap (is_rank R k) (sym (lookup-filter-keys (is_at (R k.1)) passes (passes k.1) (λ q at. ap passes (sym (same_key o exact k.1 q at))) es));
     }
 
     module _ (sorted : IsStrictlySortedBy (rank_cmp R) ks) where
-      pub elsewhere_merged : (f : RankBy P) → find (is_elsewhere R p) ks ≡ Some f → Some (record { complete = not f.0.0; distance = f.0.1 }) ≡ fold with_held None others
-      elsewhere_merged f found = first_by' rest refl
+      pub passed_merged : (f : RankBy P) → find (λ k. passes k.1) ks ≡ Some f → Some (record { complete = not f.0.0; distance = f.0.1 }) ≡ fold with_held None kept
+      passed_merged f found = first_by' rest refl
         where
-          first_by' : (ls : List (RankBy P)) → rest ≡ ls → Some (record { complete = not f.0.0; distance = f.0.1 }) ≡ fold with_held None others
-          first_by' [] is = absurd (let gap : None ≡ Some f = sym (ap first_of is) ∙ sym (found_first (is_elsewhere R p) ks) ∙ found in cc)
+          first_by' : (ls : List (RankBy P)) → rest ≡ ls → Some (record { complete = not f.0.0; distance = f.0.1 }) ≡ fold with_held None kept
+          first_by' [] is = absurd (let gap : None ≡ Some f = sym (ap first_of is) ∙ sym (found_first (λ k. passes k.1) ks) ∙ found in cc)
           first_by' (l ∷ ls) is =
-              let same : l ≡ f = let both : Some l ≡ Some f = sym (ap first_of is) ∙ sym (found_first (is_elsewhere R p) ks) ∙ found in cc in
-              let in_order : IsStrictlySortedBy (rank_cmp R) (f ∷ ls) = subst (λ x. IsStrictlySortedBy (rank_cmp R) (x ∷ ls)) same (subst (IsStrictlySortedBy (rank_cmp R)) is (IsStrictlySortedBy-filter (rank_cmp R) (is_elsewhere R p) ks sorted)) in
+              let same : l ≡ f = let both : Some l ≡ Some f = sym (ap first_of is) ∙ sym (found_first (λ k. passes k.1) ks) ∙ found in cc in
+              let in_order : IsStrictlySortedBy (rank_cmp R) (f ∷ ls) = subst (λ x. IsStrictlySortedBy (rank_cmp R) (x ∷ ls)) same (subst (IsStrictlySortedBy (rank_cmp R)) is (IsStrictlySortedBy-filter (rank_cmp R) (λ k. passes k.1) ks sorted)) in
               let lists : rest ≡ f ∷ ls = is ∙ ap (λ x. x ∷ ls) same in
-              first_merged others rest elsewhere_ranked f
+              first_merged kept rest passed_ranked f
               (ap (has_rank R f) lists ∙ ap (λ b. b || has_rank R f ls) (at_itself rank_total rank_exact f))
               (λ q has. head_least rank_total rank_exact f ls in_order q (sym (ap (has_rank R q) lists) ∙ has))
 
-    pub elsewhere_none : find (is_elsewhere R p) ks ≡ None → None ≡ fold with_held None others
-    elsewhere_none found = none_merged others rest elsewhere_ranked (λ l. some_first rest l (sym (found_first (is_elsewhere R p) ks) ∙ found))
+    pub passed_none : find (λ k. passes k.1) ks ≡ None → None ≡ fold with_held None kept
+    passed_none found = none_merged kept rest passed_ranked (λ l. some_first rest l (sym (found_first (λ k. passes k.1) ks) ∙ found))
 
 -- ---- copies
 module _ {P : Type 0} (C : P → P → Type 0) (copied : (p q : P) → C p q → q ≡ p) where

@@ -48,10 +48,6 @@ has_rank cmp k ks = list_any (is_at (rank_cmp cmp k)) ks
 abbrev pub is_rank : {P : Type 0} → (P → P → Ordering) → RankBy P → Option QueryableInfoType → Bool
 is_rank cmp k o = option_map_or (λ i. is_at (rank_cmp cmp k) (rank_of k.1 i)) o false
 
--- the rank is that of another place
-abbrev pub is_elsewhere : {P : Type 0} → (P → P → Ordering) → P → RankBy P → Bool
-is_elsewhere cmp p k = not (is_at (cmp p) k.1)
-
 -- the places are in order, and the ranks are those of the informations
 pub record IsRanked {P : Type 0} (cmp : P → P → Ordering) (es : HeldBy P) (ks : List (RankBy P)) : Type 0 where
   pub places : IsStrictlySortedBy cmp (keys_of es)

@@ -1,5 +1,5 @@
 //! Who declared each key, kept beside the faces' own lists so that a key is found by its text.
-ghost use Rattle.std.specs.Prelude.{◌≡◌, [], OnOk, OnErr, IfOk, Some, None, true, is_some, find, fold, not, length, map, List, ℕ, ◌==◌};
+ghost use Rattle.std.specs.Prelude.{◌≡◌, [], OnOk, OnErr, IfOk, Some, None, true, is_some, find, filter, fold, Bool, not, length, map, List, ℕ, ◌==◌};
 ghost use Rattle.std.specs.List.Sorted.{IsStrictlySortedBy};
 ghost use Rattle.std.specs.Option.{option_copied};
 ghost use Rattle.std.specs.Map.{keys_of, remove_entry, set_value};
@@ -7,7 +7,7 @@ ghost use Rattle.std.specs.BTreeMap.{insert_entry, is_at};
 ghost use Rattle.std.specs.Ordering.{nat_cmp};
 ghost use Rattle.std.specs.String.{string_bytes};
 ghost use Rattle.zq_index.specs.Texts.{text_cmp, at_text, has_text, IsListed, texts_of};
-ghost use Rattle.zq_index.specs.Holders.{TellsApart, AreListed, with_holding_by, without_holding_by, with_held, rank_cmp, rank_of, is_elsewhere, HeldBy};
+ghost use Rattle.zq_index.specs.Holders.{TellsApart, AreListed, with_holding_by, without_holding_by, with_held, rank_cmp, rank_of, HeldBy};
 
 use crate::info::{merge_qabl_infos, same_info};
 use crate::text_set::{copy_texts, put_text, take_text};
@@ -44,6 +44,29 @@ impl Place for u128 {
     ghost tells_apart = { exact_unsigned };
 
     ghost copied = { λ place copy same. same };
+}
+
+/// A test of places, by which declarations are left out of a merge.
+pub trait PlaceTest<P: Place> {
+    ghost passes: { Self → P → Bool };
+
+    /// Whether the declaration of the place stays.
+    fn is_passed(&self, place: P) -> bool
+        ensures { result ≡ passes self.now place };
+}
+
+/// The other places.
+#[derive(Drop)]
+struct Elsewhere<P: Place> {
+    place: P,
+}
+
+impl<P: Place> PlaceTest<P> for Elsewhere<P> {
+    ghost passes = { λ e p. not (is_at (P.cmp e.place) p) };
+
+    fn is_passed(&self, place: P) -> bool {
+        self.place.cmp(&place) != Ordering::Equal
+    }
 }
 
 /// Where an information goes in merging: complete ones first, then the nearer; by place where they
@@ -85,13 +108,16 @@ fn ranked<P: Place>(rank: &Rank<P>) -> QueryableInfoType
     }
 }
 
-/// The first rank of another place: the first or the second, as no place has two.
-fn first_elsewhere<P: Place>(ranks: &BTreeSet<Rank<P>>, place: P) -> Option<&Rank<P>>
-    ensures first { option_copied result ≡ find (is_elsewhere P.cmp place) ranks.now.keys }
+/// The first rank whose place passes.
+fn first_passed<'a, P: Place, T: PlaceTest<P>>(
+    ranks: &'a BTreeSet<Rank<P>>,
+    test: &T,
+) -> Option<&'a Rank<P>>
+    ensures first { option_copied result ≡ find (λ k. T.passes test.now k.1) ranks.now.keys }
     ensures ordered { IsStrictlySortedBy (rank_cmp P.cmp) ranks.now.keys }
 {
     for rank in ranks {
-        if place.cmp(&rank.1) != Ordering::Equal {
+        if test.is_passed(rank.1) {
             return Some(rank);
         }
     }
@@ -157,15 +183,24 @@ impl<P: Place> Holders<P> {
         }
     }
 
+    /// What the declarations would say, merged, without those whose places fail the test. It looks no
+    /// further than the first rank that passes.
+    pub fn merged_of<T: PlaceTest<P>>(&self, test: &T) -> Option<QueryableInfoType>
+        ensures merged { result ≡ fold with_held None (filter (λ h. T.passes test.now h.0) self.now) }
+        ensures ordered { IsStrictlySortedBy P.cmp (keys_of self.now) }
+    {
+        match first_passed(&self.ranks, test) {
+            Some(rank) => Some(ranked(rank)),
+            None => None,
+        }
+    }
+
     /// What the declarations would say, merged, without that of the place.
     pub fn merged_without(&self, place: P) -> Option<QueryableInfoType>
         ensures merged { result ≡ fold with_held None (remove_entry (is_at (P.cmp place)) self.now) }
         ensures ordered { IsStrictlySortedBy P.cmp (keys_of self.now) }
     {
-        match first_elsewhere(&self.ranks, place) {
-            Some(rank) => Some(ranked(rank)),
-            None => None,
-        }
+        self.merged_of(&Elsewhere { place })
     }
 
     /// What the declarations would say, merged, with this one of the place.

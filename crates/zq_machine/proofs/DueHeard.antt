@@ -62,6 +62,11 @@ all_put T cmp (x ∷ ks) k all it = by (cmp k x) (all_put T cmp ks k all.1 it)
     by Equal ih = all
     by Greater ih = (all.0, ih)
 
+-- what holds of tellings holds of them in order
+pub all_ordered : (P : TreeTelling → Type 0) (ts us : List TreeTelling) → AllByRecursion P ts → AllByRecursion P us → AllByRecursion P (fold (insert_key telling_cmp) ts us)
+all_ordered P ts [] all more = all
+all_ordered P ts (u ∷ us) all more = all_ordered P (insert_key telling_cmp ts u) us (all_put P telling_cmp ts u all more.0) more.1
+
 abbrev AreTexts : List (List ℕ) → Type 0
 AreTexts ks = AllByRecursion HasText ks
 
@@ -135,6 +140,32 @@ losing_texts net (e ∷ es) w = by (has_by (is_unlisted net) e) (losing_texts ne
     by true ih = (w.0.0, ih)
     by false ih = ih
 
+-- ---- faces of a hat
+pub seat_there : (zid : Zid) (n : ℕ) (fs : List (ℕ × FaceState)) → face_with zid fs ≡ Some n → is_some (at_id n fs) ≡ true
+seat_there zid n [] e = absurd (let gap : None ≡ Some n = e in cc)
+seat_there zid n (f ∷ fs) e = by (has_zid zid f) e (seat_there zid n fs)
+  where
+    either : (b : Bool) → is_some (at_id n fs) ≡ true → is_some (cond b (Some f.1) (at_id n fs)) ≡ true
+    either true there = refl
+    either false there = there
+
+    by : (b : Bool) → option_map (λ (x : ℕ × FaceState). x.0) (cond b (Some f) (find (has_zid zid) fs)) ≡ Some n → (face_with zid fs ≡ Some n → is_some (at_id n fs) ≡ true) → is_some (cond (is_at (nat_cmp n) f.0) (Some f.1) (at_id n fs)) ≡ true
+    by true same more = ap (λ m. is_some (cond (is_at (nat_cmp n) m) (Some f.1) (at_id n fs))) (same_Some _ _ same) ∙ ap (λ b. is_some (cond b (Some f.1) (at_id n fs))) (itself n)
+    by false found more = either (is_at (nat_cmp n) f.0) (more found)
+
+-- what holds of the faces of a hat holds of those that are found by ids
+module _ (P : ℕ → Type 0) (h : HatState) (each : (n : ℕ) → has_face n h ≡ true → P n) where
+  found_each : (zids : List Zid) → AllByRecursion P (filter_map (λ zid. face_with zid h.faces) zids)
+  found_each [] = tt
+  found_each (z ∷ zids) = by (face_with z h.faces) refl (found_each zids)
+    where
+      by : (o : Option ℕ) → face_with z h.faces ≡ o → AllByRecursion P (filter_map (λ zid. face_with zid h.faces) zids) → AllByRecursion P (cons_option o (filter_map (λ zid. face_with zid h.faces) zids))
+      by None e ih = ih
+      by (Some n) e ih = (each n (seat_there z n h.faces e), ih)
+
+  pub faces_each : (from : Option ℕ) (zids : List Zid) → AllByRecursion P (faces_by from (λ zid. face_with zid h.faces) zids)
+  faces_each from zids = all_filter P (is_other from) (filter_map (λ zid. face_with zid h.faces) zids) (found_each zids)
+
 -- ---- what can be told
 module _ (names : NamingState) where
   abbrev IsOpen : ℕ → Type 0
@@ -150,29 +181,6 @@ module _ (names : NamingState) where
   abbrev AllCan : List TreeTelling → Type 0
   AllCan ts = AllByRecursion Can ts
 
-  seat_there : (zid : Zid) (n : ℕ) (fs : List (ℕ × FaceState)) → face_with zid fs ≡ Some n → is_some (at_id n fs) ≡ true
-  seat_there zid n [] e = absurd (let gap : None ≡ Some n = e in cc)
-  seat_there zid n (f ∷ fs) e = by (has_zid zid f) e (seat_there zid n fs)
-    where
-      either : (b : Bool) → is_some (at_id n fs) ≡ true → is_some (cond b (Some f.1) (at_id n fs)) ≡ true
-      either true there = refl
-      either false there = there
-
-      by : (b : Bool) → option_map (λ (x : ℕ × FaceState). x.0) (cond b (Some f) (find (has_zid zid) fs)) ≡ Some n → (face_with zid fs ≡ Some n → is_some (at_id n fs) ≡ true) → is_some (cond (is_at (nat_cmp n) f.0) (Some f.1) (at_id n fs)) ≡ true
-      by true same more = ap (λ m. is_some (cond (is_at (nat_cmp n) m) (Some f.1) (at_id n fs))) (same_Some _ _ same) ∙ ap (λ b. is_some (cond b (Some f.1) (at_id n fs))) (itself n)
-      by false found more = either (is_at (nat_cmp n) f.0) (more found)
-
-  found_open : (h : HatState) → Seats h → (zids : List Zid) → AllByRecursion IsOpen (filter_map (λ zid. face_with zid h.faces) zids)
-  found_open h seats [] = tt
-  found_open h seats (z ∷ zids) = by (face_with z h.faces) refl (found_open h seats zids)
-    where
-      by : (o : Option ℕ) → face_with z h.faces ≡ o → AllByRecursion IsOpen (filter_map (λ zid. face_with zid h.faces) zids) → AllByRecursion IsOpen (cons_option o (filter_map (λ zid. face_with zid h.faces) zids))
-      by None e ih = ih
-      by (Some n) e ih = (seats n (seat_there z n h.faces e), ih)
-
-  faces_open : (from : Option ℕ) (zids : List Zid) (h : HatState) → Seats h → AllByRecursion IsOpen (faces_by from (λ zid. face_with zid h.faces) zids)
-  faces_open from zids h seats = all_filter IsOpen (is_other from) (filter_map (λ zid. face_with zid h.faces) zids) (found_open h seats zids)
-
   children_can : (from : Option ℕ) (root : Zid) (key : List ℕ) (i : Option QueryableInfoType) (h : HatState) → Seats h → HasText key → AllCan (to_children from root key i h)
   children_can from root key i h seats some = by (place_of h.network root)
     where
@@ -181,7 +189,7 @@ module _ (names : NamingState) where
 
       by : (o : Option ℕ) → AllCan (option_map_or (λ node. map (tree_telling key i node) ns) o [])
       by None = tt
-      by (Some node) = all_mapped Can (tree_telling key i node) ns (all_weaker IsOpen (λ n. Can (tree_telling key i node n)) (λ n there. (there, some)) ns (faces_open from (children_of h.network root) h seats))
+      by (Some node) = all_mapped Can (tree_telling key i node) ns (all_weaker IsOpen (λ n. Can (tree_telling key i node n)) (λ n there. (there, some)) ns (faces_each IsOpen h seats from (children_of h.network root)))
 
   own_can : (key : List ℕ) (was is : Option QueryableInfoType) (h : HatState) → Seats h → HasText key → AllCan (own_told key was is h)
   own_can key was is h seats some = by (same_infos was is)
@@ -206,7 +214,7 @@ module _ (names : NamingState) where
 
       by : (o : Option ℕ) → AllCan (option_map_or (λ node. flat_map (all_told_of (standing_of own root h) node) (faces_by None (λ zid. face_with zid h.faces) zids)) o [])
       by None = tt
-      by (Some node) = faces_told (standing_of own root h) node (faces_by None (λ zid. face_with zid h.faces) zids) (faces_open None zids h seats) (standing_keyed own root h keyed w)
+      by (Some node) = faces_told (standing_of own root h) node (faces_by None (λ zid. face_with zid h.faces) zids) (faces_each IsOpen h seats None zids) (standing_keyed own root h keyed w)
 
   trees_can : (own : List (List ℕ × QueryableInfoType)) (old : Network) (h : HatState) → AreKeyed own → IsWorded h → Seats h → (zs : List Zid) (ts : List Tree) → AllCan (trees_told own old h zs ts)
   trees_can own old h keyed w seats [] ts = tt
@@ -240,10 +248,6 @@ module _ (names : NamingState) where
   own_all_can before after [] some seats = tt
   own_all_can before after (k ∷ ks) some seats =
       all_append Can (own_told_on before after k) (all_own_told before after ks) (own_hats_can before after k after some.0 seats) (own_all_can before after ks some.1 seats)
-
-  order_can : (ts us : List TreeTelling) → AllCan ts → AllCan us → AllCan (fold (insert_key telling_cmp) ts us)
-  order_can ts [] all more = all
-  order_can ts (u ∷ us) all more = order_can (insert_key telling_cmp ts u) us (all_put Can telling_cmp ts u all more.0) more.1
 
   body_can : (id : ℕ) (key : List ℕ) (i : Option QueryableInfoType) → HasText key → tells_text (told_or_ended id key i) ≡ true
   body_can id key None some = some
@@ -362,7 +366,7 @@ module _ (config : Settings) where
         let tree = tree_told s.core (accepted s.core t) t in
         let own = all_own_told s.core.hats (accepted s.core t).hats (touched s.core t) in
         from_can (renamed s t) (in_order (tree ++ own))
-        (order_can (renamed s t) [] (tree ++ own) tt
+        (all_ordered (Can (renamed s t)) [] (tree ++ own) tt
         (all_append (Can (renamed s t)) tree own (tree_can t h j) (own_all_can (renamed s t) s.core.hats (accepted s.core t).hats (touched s.core t) (touched_texts s.core i.worded t h) (hat_seats (accepted_state s t) j))))
 
     -- and once it is told it is what faces hear

@@ -7,7 +7,7 @@ use Rattle.zq_machine.specs.State.{Core, State}
 use Rattle.zq_machine.specs.TextCalls.{TextCall, opening, read}
 use Rattle.zq_machine.proofs.Writing.{settles_core}
 
-accepted_config : (c : Core) (t : TextCall) → (accepted c t).config ≡ c.config
+pub accepted_config : (c : Core) (t : TextCall) → (accepted c t).config ≡ c.config
 accepted_config c (opening o) = refl
 accepted_config c t = refl
 

@@ -34,6 +34,12 @@ pub mod Worded
 pub mod DueHeard
 pub mod Tells
 pub mod Direct
+pub mod Learning
+pub mod Placing
+pub mod OwnTold
+pub mod RouterTold
+pub mod NetworkTold
+pub mod Children
 pub mod Targets
 pub mod Always
 pub mod Counting

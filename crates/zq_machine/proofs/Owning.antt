@@ -47,7 +47,7 @@ use Rattle.zq_machine.specs.Configs.{Settings}
 use Rattle.zq_machine.specs.Machine.{accepted_state, after, state_after}
 use Rattle.zq_machine.specs.Deciding.{accepted, announced_by, causes, refusal_of, retracted_by, seat}
 use Rattle.zq_machine.specs.Selecting.{full_text}
-use Rattle.zq_machine.specs.State.{Core, at, clashes_in, hat_at, joined as join, opening_state}
+use Rattle.zq_machine.specs.State.{Core, State, at, clashes_in, hat_at, joined as join, opening_state}
 use Rattle.zq_machine.specs.TextCalls.{TextCall, opening, closing, declaring, withdrawing, finalizing, announcing, retracting, networking, tabling, read}
 use Rattle.zq_machine.specs.Trees.{is_touched, own_entry, touched, with_other}
 use Rattle.zq_machine.proofs.Agreed.{InOrder, granted_in_order, run_in_order}
@@ -316,7 +316,14 @@ used_there : (es : Entries) → Each HasText IsUsed es → AllByRecursion (λ (e
 used_there [] w = tt
 used_there (e ∷ es) w = (w.0.1, used_there es w.1)
 
--- at each point of a run a call changes own entries on the keys that it touches alone
+-- an accepted call changes own entries on the keys that it touches alone
+pub own_kept : (config : Settings) (s : State) (t : TextCall) → refusal_of s.core t ≡ None → InOrder config s → InOrder config (accepted_state s t) → (place : ℕ) (key : List ℕ) → is_touched s.core t key ≡ false
+    → own_entry place key (accepted s.core t).hats ≡ own_entry place key s.core.hats
+own_kept config s t h i j place key off =
+    seen_same place key s.core.hats (accepted s.core t).hats i.hats.sorted j.hats.sorted
+    (touches_all s.core (λ r x there. used_there x.entries (each_found Any IsWorded (is_at (nat_cmp (region_index r))) s.core.hats x (region_there r s.core.hats x there).1 i.worded).entries) t h key off)
+
+-- at each point of a run
 pub own_stays : (config : Settings) (calls : List Call) (c : Call) (place : ℕ) (key : List ℕ)
     → is_touched (state_after (opening_state config) calls).core (read (state_after (opening_state config) calls) c) key ≡ false
     → own_entry place key (after (state_after (opening_state config) calls) c).core.hats ≡ own_entry place key (state_after (opening_state config) calls).core.hats
@@ -324,8 +331,5 @@ own_stays config calls c place key off =
     let s = state_after (opening_state config) calls in
     let i : InOrder config s = run_in_order config calls in
     by_granted (λ z w. own_entry place key w.core.hats ≡ own_entry place key s.core.hats) s (read s c)
-    (λ h.
-    let j : InOrder config (accepted_state s (read s c)) = granted_in_order config s c h i in
-    seen_same place key s.core.hats (accepted s.core (read s c)).hats i.hats.sorted j.hats.sorted
-    (touches_all s.core (λ r x there. used_there x.entries (each_found Any IsWorded (is_at (nat_cmp (region_index r))) s.core.hats x (region_there r s.core.hats x there).1 i.worded).entries) (read s c) h key off))
+    (λ h. own_kept config s (read s c) h i (granted_in_order config s c h i) place key off)
     (λ r. refl)

@@ -11,7 +11,7 @@ use Rattle.zq_message.specs.declared.message.FaceId.{FaceId}
 use Rattle.zq_message.specs.declared.message.QueryTarget.{QueryTarget}
 use Rattle.zq_message.specs.declared.message.QueryTarget.TheVariants as target
 use Rattle.zq_message.specs.declared.message.Request.{Request}
-use Rattle.zq_hat.specs.declared.types.QueryTargetQabl.{QueryTargetQabl}
+use Rattle.zq_offers.specs.declared.types.QueryTargetQabl.{QueryTargetQabl}
 use Rattle.zq_hat.specs.State.{HatState}
 use Rattle.zq_hat.specs.Routers.{context_at, source_at}
 use Rattle.zq_hat.specs.Moved.{Keeps, move_hat, move_offer}

@@ -16,7 +16,7 @@ use Rattle.zq_message.specs.declared.message.FaceId.{FaceId}
 use Rattle.zq_message.specs.declared.message.QueryTarget.{QueryTarget}
 use Rattle.zq_message.specs.declared.message.Region.{Region}
 use Rattle.zq_message.specs.declared.message.Request.{Request}
-use Rattle.zq_hat.specs.declared.types.QueryTargetQabl.{QueryTargetQabl}
+use Rattle.zq_offers.specs.declared.types.QueryTargetQabl.{QueryTargetQabl}
 use Rattle.zq_hat.specs.Kept.{at_id, has_face}
 use Rattle.zq_hat.specs.State.{FaceState, HatState}
 use Rattle.zq_hat.proofs.OfferLaws.{offers_of_faces}

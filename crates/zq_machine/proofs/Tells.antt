@@ -20,12 +20,18 @@ followed s t h =
     ap (λ o. cond (is_accepted (answered o (granted s.core t)).outcome) (accepted_state s t) s) h
     ∙ ap (λ b. cond b (accepted_state s t) s) (granted_is_accepted s.core t h)
 
+-- what the messages of an accepted call say
+pub granted_heard : (config : Settings) (s : State) (c : Call) → InOrder config s → refusal_of s.core (read s c) ≡ None
+    → hear (write s.names (granted s.core (read s c)).messages ++ (told_by s (read s c)).handed) (follow s (read s c)).names ≡ told_of s.core (read s c)
+granted_heard config s c i h =
+    let t = read s c in
+    ap (λ (z : State). hear (write s.names (granted s.core t).messages ++ (told_by s t).handed) z.names) (followed s t h)
+    ∙ written_unheard s.names (granted s.core t).messages (told_by s t).handed (renamed s t)
+    ∙ due_heard config s i t h (granted_in_order config s c h i)
+
 pub tell_promise : (config : Settings) (s : State) (c : Call) → InOrder config s → TellPromise s c
 tell_promise config s c i =
     let t = read s c in
     by_granted (λ z w. is_accepted z.outcome ≡ true → hear z.handed (follow s t).names ≡ told_of s.core t) s t
-    (λ h a.
-    ap (λ (z : State). hear (write s.names (granted s.core t).messages ++ (told_by s t).handed) z.names) (followed s t h)
-    ∙ written_unheard s.names (granted s.core t).messages (told_by s t).handed (renamed s t)
-    ∙ due_heard config s i t h (granted_in_order config s c h i))
+    (λ h a. granted_heard config s c i h)
     (λ r a. absurd (false≢true a))

@@ -9,6 +9,8 @@ use Rattle.std.specs.declared.cmp.Ordering.{Ordering}
 use Rattle.std.specs.declared.cmp.Ordering.TheVariants.{Less, Equal, Greater}
 use Rattle.std.proofs.lemmas.Bool.{false≢true, true≢false}
 use Rattle.std.proofs.lemmas.Option.{same_Some}
+use Rattle.std.proofs.lemmas.Cmp.{nat_cmp_total}
+use Rattle.std.proofs.lemmas.Map.Lookups.{exact_unsigned}
 use Rattle.zq_message.specs.declared.message.QueryableInfoType.{QueryableInfoType}
 use Rattle.zq_message.specs.declared.message.Region.{Region}
 use Rattle.zq_message.specs.declared.message.Zid.{Zid}
@@ -25,7 +27,10 @@ use Rattle.zq_hat.specs.declared.types.Strategy.TheVariants as strategy
 use Rattle.zq_hat.specs.Kept.{change_face, declare, face_at, has_any, has_face, new_face, new_hat, registered, unregistered, with_face_opened, withdraw, without_face}
 use Rattle.zq_hat.specs.Marks.{finalized, marked}
 use Rattle.zq_hat.specs.Regions.{in_routers, strategy_at}
-use Rattle.zq_index.specs.Holders.{if_any}
+use Rattle.zq_index.specs.Holders.{IsOrderedBy, if_any}
+use Rattle.zq_index.proofs.Ordered.{ordered_none, with_ordered, without_ordered}
+use Rattle.zq_trees.proofs.Dropping.{staying_ordered}
+use Rattle.zq_trees.proofs.Entering.{put_is, take_is}
 use Rattle.zq_trees.specs.Entries.{Entries, Routed, entries_at, is_by, routed_with, routed_without, staying, with_entries}
 use Rattle.zq_trees.specs.Nets.{is_listed}
 use Rattle.zq_hat.specs.Routers.{announced, networked, noded, retracted, source_at}
@@ -98,6 +103,7 @@ IsUsed es = has_any es ≡ true
 pub record IsWorded (h : HatState) : Type 0 where
   pub faces : Each Any WordedFace h.faces
   pub entries : Each HasText IsUsed h.entries
+  pub ordered : IsOrderedBy nat_cmp h.entries
 
 abbrev pub AreWorded : List (ℕ × HatState) → Type 0
 AreWorded hats = Each Any IsWorded hats
@@ -122,18 +128,18 @@ face_worded : (n : ℕ) (k : FaceState → FaceState) → ((f : FaceState) → W
 face_worded n k keeps h w = by (face_at n h) refl
   where
     by : (o : Option FaceState) → face_at n h ≡ o → IsWorded (record h { faces = option_map_or (λ x. set_value (is_at (nat_cmp n)) h.faces (k x)) o h.faces })
-    by None e = record { faces = w.faces; entries = w.entries }
-    by (Some f) e = record { faces = each_set Any WordedFace (is_at (nat_cmp n)) h.faces (k f) w.faces (keeps f (each_found Any WordedFace (is_at (nat_cmp n)) h.faces f e w.faces)); entries = w.entries }
+    by None e = record { faces = w.faces; entries = w.entries; ordered = w.ordered }
+    by (Some f) e = record { faces = each_set Any WordedFace (is_at (nat_cmp n)) h.faces (k f) w.faces (keeps f (each_found Any WordedFace (is_at (nat_cmp n)) h.faces f e w.faces)); entries = w.entries; ordered = w.ordered }
 
 joined_worded : (r : FaceRecord) (h : HatState) → IsWorded h → IsWorded (joined r h)
 joined_worded r h w = by (has_face r.face.0 h)
   where
     by : (b : Bool) → IsWorded (cond b h (with_face_opened r h))
     by true = w
-    by false = record { faces = each_in Any WordedFace nat_cmp h.faces r.face.0 (new_face r h.told_start) w.faces tt tt; entries = w.entries }
+    by false = record { faces = each_in Any WordedFace nat_cmp h.faces r.face.0 (new_face r h.told_start) w.faces tt tt; entries = w.entries; ordered = w.ordered }
 
 left_worded : (n : ℕ) (h : HatState) → IsWorded h → IsWorded (without_face n h)
-left_worded n h w = record { faces = each_out Any WordedFace (is_at (nat_cmp n)) h.faces w.faces; entries = w.entries }
+left_worded n h w = record { faces = each_out Any WordedFace (is_at (nat_cmp n)) h.faces w.faces; entries = w.entries; ordered = w.ordered }
 
 marked_worded : (m : FinalMark) (set : Bool) (f : FaceState) → WordedFace f → WordedFace (marked m set f)
 marked_worded mark.Initial set f w = w
@@ -151,12 +157,20 @@ source_worded (Some z) g h w each = each z
 announced_worded : (n node : ℕ) (key : List ℕ) (i : QueryableInfoType) → HasText key → (h : HatState) → IsWorded h → IsWorded (announced_by n node key i h)
 announced_worded n node key i some h w =
     source_worded (source_at n node h) (λ z. announced z.0 key i h) h w
-    (λ z. record { faces = w.faces; entries = with_worded key (routed_with z.0 i (entries_at key h.entries)) h.entries some w.entries })
+    (λ z. record {
+      faces = w.faces;
+      entries = with_worded key (routed_with z.0 i (entries_at key h.entries)) h.entries some w.entries;
+      ordered = subst (IsOrderedBy nat_cmp) (put_is z.0 key h.entries w.ordered.texts i) (with_ordered nat_cmp_total exact_unsigned key z.0 i h.entries w.ordered);
+    })
 
 retracted_worded : (n node : ℕ) (key : List ℕ) → HasText key → (h : HatState) → IsWorded h → IsWorded (retracted_by n node key h)
 retracted_worded n node key some h w =
     source_worded (source_at n node h) (λ z. retracted z.0 key h) h w
-    (λ z. record { faces = w.faces; entries = with_worded key (routed_without z.0 (entries_at key h.entries)) h.entries some w.entries })
+    (λ z. record {
+      faces = w.faces;
+      entries = with_worded key (routed_without z.0 (entries_at key h.entries)) h.entries some w.entries;
+      ordered = subst (IsOrderedBy nat_cmp) (take_is z.0 key h.entries w.ordered.texts) (without_ordered nat_cmp_total exact_unsigned key z.0 h.entries w.ordered);
+    })
 
 some_stay : (xs ys : Routed) → if_any xs ≡ Some ys → IsUsed ys
 some_stay [] ys e = absurd (let gap : None ≡ Some ys = e in cc)
@@ -177,7 +191,7 @@ networked_worded net h w = by (strategy_at h)
     by strategy.Broker = w
     by strategy.Client = w
     by strategy.Peer = w
-    by strategy.Router = record { faces = w.faces; entries = network_worded (is_listed net) h.entries w.entries }
+    by strategy.Router = record { faces = w.faces; entries = network_worded (is_listed net) h.entries w.entries; ordered = staying_ordered (is_listed net) h.entries w.ordered }
 
 -- ---- an accepted call changes one hat at most
 module _ (P : HatState → Type 0) where
@@ -216,7 +230,7 @@ accepted_worded c t h all = all
 -- ---- before any call
 with_hat_worded : (config : Settings) (hats : List (ℕ × HatState)) (e : Entry) → AreWorded hats → AreWorded (with_hat config hats e)
 with_hat_worded config hats e all =
-    each_in Any IsWorded nat_cmp hats (region_index (region_of e)) (new_hat (region_of e) (north_of config.entries) config.zid config.start.told) all tt (record { faces = tt; entries = tt })
+    each_in Any IsWorded nat_cmp hats (region_index (region_of e)) (new_hat (region_of e) (north_of config.entries) config.zid config.start.told) all tt (record { faces = tt; entries = tt; ordered = ordered_none nat_cmp })
 
 all_worded : (config : Settings) (es : List Entry) (hats : List (ℕ × HatState)) → AreWorded hats → AreWorded (fold (with_hat config) hats es)
 all_worded config [] hats all = all

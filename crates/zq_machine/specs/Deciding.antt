@@ -14,7 +14,7 @@ use Rattle.zq_message.specs.declared.message.Response.{Response}
 use Rattle.zq_key.specs.Key.{is_key}
 use Rattle.zq_regions.specs.RegionMap.{with_entry}
 use Rattle.zq_hat.specs.declared.types.FaceRecord.{FaceRecord}
-use Rattle.zq_hat.specs.declared.types.QueryTargetQabl.{QueryTargetQabl}
+use Rattle.zq_offers.specs.declared.types.QueryTargetQabl.{QueryTargetQabl}
 use Rattle.zq_hat.specs.declared.types.FinalMark.{FinalMark}
 use Rattle.zq_hat.specs.declared.types.FinalMark.TheVariants as mark
 use Rattle.zq_hat.specs.Kept.{registered, unregistered, without_face}

@@ -14,6 +14,7 @@ pub mod Machine
 pub mod Waiting
 pub mod Asked
 pub mod Standing
+pub mod Children
 pub mod Headline
 pub mod Moved
 pub mod Agreeing

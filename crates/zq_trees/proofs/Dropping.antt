@@ -19,17 +19,17 @@ use Rattle.zq_index.specs.Holders.{IsOrderedBy, if_any}
 use Rattle.zq_index.proofs.Orders.{text_total, text_exact}
 use Rattle.zq_index.proofs.Finding.{held_if_any, if_any_some, if_any_used}
 use Rattle.zq_index.proofs.Ordered.{same_index, without_ordered}
-use Rattle.zq_trees.specs.Entries.{Entries, Routed, RouterKeys, IsTied, LosesAll, entry_of, has_key, is_by, is_another, staying, without_key}
+use Rattle.zq_trees.specs.Entries.{Entries, Routed, RouterKeys, IsTied, LosesAll, entries_at, entry_of, has_key, is_by, is_another, staying, without_key}
 use Rattle.zq_trees.proofs.Entering.{keys_fewer, lost}
 use Rattle.zq_trees.proofs.Places.{number_test}
 use Rattle.zq_trees.proofs.Standing.{picked_at, sorted_picked}
 
-keys_filtered : (p : ℕ → Bool) (es : Routed) → keys_of (filter (λ (e : ℕ × QueryableInfoType). p e.0) es) ≡ filter p (keys_of es)
+pub keys_filtered : {K X : Type 0} (p : K → Bool) (es : List (K × X)) → keys_of (filter (λ (e : K × X). p e.0) es) ≡ filter p (keys_of es)
 keys_filtered p [] = refl
-keys_filtered p (e ∷ es) = by (p e.0) (keys_filtered p es)
+keys_filtered {K} {X} p (e ∷ es) = by (p e.0) (keys_filtered p es)
   where
-    by : (b : Bool) → keys_of (filter (λ (e : ℕ × QueryableInfoType). p e.0) es) ≡ filter p (keys_of es)
-        → keys_of (cond b (e ∷ filter (λ (e : ℕ × QueryableInfoType). p e.0) es) (filter (λ (e : ℕ × QueryableInfoType). p e.0) es)) ≡ cond b (e.0 ∷ filter p (keys_of es)) (filter p (keys_of es))
+    by : (b : Bool) → keys_of (filter (λ (e : K × X). p e.0) es) ≡ filter p (keys_of es)
+        → keys_of (cond b (e ∷ filter (λ (e : K × X). p e.0) es) (filter (λ (e : K × X). p e.0) es)) ≡ cond b (e.0 ∷ filter p (keys_of es)) (filter p (keys_of es))
     by true ih = ap (λ l. e.0 ∷ l) ih
     by false ih = ih
 
@@ -43,6 +43,14 @@ module _ (test : Zid → Bool) (all : Entries) (ordered : IsOrderedBy nat_cmp al
 
   found_on : (key : List ℕ) → at_text key (staying test all) ≡ option_and_then on (at_text key all)
   found_on key = picked_at on key all ordered.texts
+
+  -- on each key those of routers that pass stay
+  pub staying_at : (key : List ℕ) → entries_at key (staying test all) ≡ filter (is_by test) (entries_at key all)
+  staying_at key = ap (λ o. option_map_or (λ (es : Routed). es) o []) (found_on key) ∙ by (at_text key all)
+    where
+      by : (o : Option Routed) → option_map_or (λ (es : Routed). es) (option_and_then on o) [] ≡ filter (is_by test) (option_map_or (λ (es : Routed). es) o [])
+      by None = refl
+      by (Some es) = held_if_any (filter (is_by test) es)
 
   same_test : (z k : ℕ) → is_at (nat_cmp z) k ≡ true → passes k ≡ passes z
   same_test z k at = ap passes (sym (same_key nat_cmp_total exact_unsigned z k at))

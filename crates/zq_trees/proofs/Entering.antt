@@ -13,14 +13,14 @@ use Rattle.std.proofs.lemmas.Map.Keys.{sorted_head, sorted_tail}
 use Rattle.std.proofs.lemmas.Map.Lookups.{exact_unsigned}
 use Rattle.zq_message.specs.declared.message.QueryableInfoType.{QueryableInfoType}
 use Rattle.zq_key.specs.Key.{is_key}
-use Rattle.zq_key.proofs.Lookups.{same_key, none_above}
+use Rattle.zq_key.proofs.Lookups.{same_key, at_itself, none_above}
 use Rattle.zq_key.proofs.Sorted.{chain}
 use Rattle.zq_index.specs.Texts.{text_cmp, at_text}
 use Rattle.zq_index.specs.Holders.{IsOrderedBy, TellsApart, held_at, with_holding_by, with_holdings, without_holding_by, if_any}
 use Rattle.zq_index.proofs.Orders.{text_total, text_exact}
-use Rattle.zq_index.proofs.Finding.{test_text, found_with, found_without, inserted_used}
+use Rattle.zq_index.proofs.Finding.{test_text, found_with, found_without, held_if_any, inserted_used}
 use Rattle.zq_index.proofs.Ordered.{ordered_none, with_at, with_ordered, without_at, without_ordered}
-use Rattle.zq_trees.specs.Entries.{Entries, Routed, RouterKeys, Gains, Loses, AreAlike, IsTied, entry_of, has_key, is_entry, routed_with, routed_without, with_entries, with_entry, without_entry}
+use Rattle.zq_trees.specs.Entries.{Entries, Routed, RouterKeys, Gains, Loses, AreAlike, IsTied, entries_at, entry_of, has_key, is_entry, routed_with, routed_without, with_entries, with_entry, without_entry}
 
 module _ {K X : Type 0} {R : K → K → Ordering} (o : IsTotalOrder R) (exact : TellsApart R) (k : K) where
   wrote_by : (v : X) (e : K × X) (es : List (K × X)) (r : Ordering) → R k e.0 ≡ r → IsStrictlySortedBy R (keys_of (e ∷ es)) → is_some (cond (is_eq r) (Some e.1) (lookup (is_at (R k)) es)) ≡ true
@@ -70,6 +70,19 @@ module _ (r : ℕ) (key : List ℕ) (all : Entries) (texts : IsStrictlySortedBy 
 
   pub take_is : without_holding_by nat_cmp key r all ≡ without_entry r key all
   take_is = take_by (at_text key all) refl
+
+  -- the key's entries with one that comes
+  pub put_at : (i : QueryableInfoType) → entries_at key (with_entry r key i all) ≡ routed_with r i (entries_at key all)
+  put_at i =
+      ap (entries_at key) (sym (put_is i))
+      ∙ ap (λ o. option_map_or (λ (es : Routed). es) o []) (found_with nat_cmp key r i all key ∙ ap (λ b. cond b (Some (routed_with r i (entries_at key all))) (at_text key all)) (at_itself text_total text_exact key))
+
+  -- the key's entries without one that goes
+  pub taken_at : entries_at key (without_entry r key all) ≡ routed_without r (entries_at key all)
+  taken_at =
+      ap (entries_at key) (sym take_is)
+      ∙ ap (λ o. option_map_or (λ (es : Routed). es) o []) (found_without nat_cmp key r all key texts ∙ ap (λ b. cond b (if_any (routed_without r (entries_at key all))) (at_text key all)) (at_itself text_total text_exact key))
+      ∙ held_if_any (routed_without r (entries_at key all))
 
 -- ---- the keys of the routers
 both_ways : {X : Type 0} (a b : Bool) (x y : X) → cond b (cond a x y) y ≡ cond (a && b) x y

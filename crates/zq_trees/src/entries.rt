@@ -7,7 +7,7 @@ ghost use Rattle.zq_key.specs.Key.{is_key};
 ghost use Rattle.zq_index.specs.Texts.{text_cmp};
 ghost use Rattle.zq_index.specs.Holders.{IsOrderedBy};
 ghost use Rattle.zq_trees.specs.Nets.{is_listed};
-ghost use Rattle.zq_trees.specs.Entries.{entries_at, entry_of, is_one_of, is_another, is_unlisted, keyed, keys_by, routed_info, routed_with, routed_without, standing, staying, with_entry, without_entry, without_key, without_routers};
+ghost use Rattle.zq_trees.specs.Entries.{entries_at, entry_of, is_one_of, is_another, is_unlisted, keyed, keys_by, routed_info, standing, staying, with_entry, without_entry, without_key, without_routers};
 
 use crate::nets::Net;
 use crate::router_keys::{
@@ -17,7 +17,7 @@ use crate::types::ZidList;
 use std::alloc::Global;
 use std::collections::{BTreeMap, BTreeSet};
 use std::marker::Model;
-use zq_index::holders::KeyHolders;
+use zq_index::holders::{KeyHolders, PlaceTest};
 use zq_key::Key;
 use zq_key::items::Items;
 use zq_key::memory::OutOfMemory;
@@ -42,6 +42,20 @@ impl Model for Entries {
     ghost view = { λ e. e.by_key };
 
     ghost invariant = { λ e. IsTied e.by_key e.by_router.entries };
+}
+
+/// The routers that a network lists.
+#[derive(Drop)]
+struct Listed<'a> {
+    net: &'a Net,
+}
+
+impl<'a> PlaceTest<u128> for Listed<'a> {
+    ghost passes = { λ l router. is_listed l.net.now (record { 0 = router }) };
+
+    fn is_passed(&self, place: u128) -> bool {
+        self.net.is_listed(Zid(place))
+    }
 }
 
 /// The router's entries on these keys go.
@@ -105,7 +119,7 @@ impl Entries {
 
     /// What the entries on the key would be, merged, with this one of the router.
     pub fn merged_with(&self, router: Zid, key: &str, info: QueryableInfoType) -> QueryableInfoType
-        ensures { Some result ≡ routed_info (routed_with router.0 info (entries_at key.now self.now)) }
+        ensures { Some result ≡ routed_info (entries_at key.now (with_entry router.0 key.now info self.now)) }
     {
         match self.by_key.get(key) {
             Some(routed) => routed.merged_with(router.0, info),
@@ -115,10 +129,21 @@ impl Entries {
 
     /// What the entries on the key would be, merged, without that of the router.
     pub fn merged_without(&self, router: Zid, key: &str) -> Option<QueryableInfoType>
-        ensures { result ≡ routed_info (routed_without router.0 (entries_at key.now self.now)) }
+        ensures { result ≡ routed_info (entries_at key.now (without_entry router.0 key.now self.now)) }
     {
         match self.by_key.get(key) {
             Some(routed) => routed.merged_without(router.0),
+            None => None,
+        }
+    }
+
+    /// What the entries on the key would be, merged, without those of routers that the network does
+    /// not list.
+    pub fn merged_listed(&self, net: &Net, key: &str) -> Option<QueryableInfoType>
+        ensures { result ≡ routed_info (entries_at key.now (staying (is_listed net.now) self.now)) }
+    {
+        match self.by_key.get(key) {
+            Some(routed) => routed.merged_of(&Listed { net }),
             None => None,
         }
     }

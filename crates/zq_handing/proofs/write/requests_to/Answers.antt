@@ -1,6 +1,6 @@
 use Rattle.std.proofs.Common.{◌∙◌, ◌+◌, ◌++◌, ◌∷◌, [], ℕ, List, sym, ap, get_or, take}
 use Rattle.std.proofs.lemmas.List.{get_or-map}
-use Rattle.zq_hat.specs.declared.types.QueryTargetQabl.{QueryTargetQabl}
+use Rattle.zq_offers.specs.declared.types.QueryTargetQabl.{QueryTargetQabl}
 use Rattle.zq_query.specs.Asking.{given_id, given_place}
 use Rattle.zq_query.proofs.Giving.{map_more}
 use Rattle.zq_query.proofs.Entries.{map_both}

@@ -1,6 +1,7 @@
 use Rattle.std.proofs.Common.{◌≡◌, fold, IfSome}
 use Rattle.std.specs.List.{flat_map}
-use Rattle.zq_hat.specs.Offers.{bare_on, offer_cmp, place}
+use Rattle.zq_offers.specs.Offers.{offer_cmp, place}
+use Rattle.zq_hat.specs.Offers.{bare_on}
 use Rattle.zq_hat.proofs.offers.add_bares.Given as goal
 
 abbrev pub invariant-loop-number : goal.invariant-loop-number

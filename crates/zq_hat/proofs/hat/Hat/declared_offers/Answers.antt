@@ -1,6 +1,7 @@
 use Rattle.std.proofs.Common.{◌≡◌, ◌∙◌, ap, subst, IfOk, List}
-use Rattle.zq_hat.specs.declared.types.QueryTargetQabl.{QueryTargetQabl}
-use Rattle.zq_hat.specs.Offers.{sorted, offer_cmp, declared_offers}
+use Rattle.zq_offers.specs.declared.types.QueryTargetQabl.{QueryTargetQabl}
+use Rattle.zq_offers.specs.Offers.{offer_cmp, sorted}
+use Rattle.zq_hat.specs.Offers.{declared_offers}
 use Rattle.zq_hat.specs.State.{HatState}
 use Rattle.zq_hat.proofs.IndexKeys.{all_keyed, index_offers}
 use Rattle.zq_hat.proofs.hat.Hat.declared_offers.Goals as goal

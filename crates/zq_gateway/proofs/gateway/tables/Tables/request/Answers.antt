@@ -1,5 +1,5 @@
 use Rattle.std.proofs.Common.{◌≡◌, ◌∙◌, refl, sym, ap, map, List, Some, false}
-use Rattle.zq_hat.specs.declared.types.QueryTargetQabl.{QueryTargetQabl}
+use Rattle.zq_offers.specs.declared.types.QueryTargetQabl.{QueryTargetQabl}
 use Rattle.zq_query.specs.Asking.{after_ask, asking_at, given_place, lacks_number}
 use Rattle.zq_query.specs.Records.{QueryState}
 use Rattle.zq_machine.specs.declared.call.Outcome.TheVariants as outcome

@@ -1,7 +1,7 @@
 use Rattle.std.proofs.Common.{◌≡◌, fold, map, None}
-use Rattle.zq_hat.specs.Offers.{place, offer_cmp}
-use Rattle.zq_hat.specs.Tied.{groups_from, met_offer}
-use Rattle.zq_hat.proofs.offers.add_groups.Given as goal
+use Rattle.zq_offers.specs.Offers.{place, offer_cmp}
+use Rattle.zq_offers.specs.Offers.{groups_from, met_offer}
+use Rattle.zq_offers.proofs.groups.add_groups.Given as goal
 
 abbrev pub invariant-loop-place : goal.invariant-loop-place
 invariant-loop-place l =
