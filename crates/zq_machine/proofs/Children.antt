@@ -1,6 +1,5 @@
 -- What a child of a root's tree knows is what stands of the root.
-use Rattle.std.proofs.Common.{◌≡◌, ◌∙◌, refl, sym, ap, subst, ℕ, Bool, true, false, cond, not, List, [], ◌∷◌, ◌++◌, map, fold, Option, Some, None}
-use Rattle.std.specs.Prelude.{◌&&◌, ◌||◌}
+use Rattle.std.proofs.Common.{◌≡◌, ◌∙◌, refl, sym, ap, subst, ℕ, Bool, true, false, cond, List, [], ◌∷◌, ◌++◌, fold, Option, Some, None}
 use Rattle.std.specs.BTreeMap.{is_at}
 use Rattle.std.specs.List.{AllByRecursion, list_any}
 use Rattle.std.specs.Option.{is_some, option_and_then, option_map, option_map_or}
@@ -10,7 +9,6 @@ use Rattle.std.proofs.lemmas.Bool.{false≢true, or_parts, true≢false}
 use Rattle.std.proofs.lemmas.Cmp.{nat_cmp_total}
 use Rattle.std.proofs.lemmas.List.Folds.{list_any-append}
 use Rattle.std.proofs.lemmas.Map.Lookups.{exact_unsigned}
-use Rattle.zq_message.specs.declared.message.FaceId.{FaceId}
 use Rattle.zq_message.specs.declared.message.QueryableInfoType.{QueryableInfoType}
 use Rattle.zq_message.specs.declared.message.Region.{Region}
 use Rattle.zq_message.specs.declared.message.Zid.{Zid}
@@ -22,7 +20,6 @@ use Rattle.zq_trees.specs.declared.types.Network.{Network}
 use Rattle.zq_trees.specs.declared.types.Telling.{Telling as TreeTelling}
 use Rattle.zq_trees.specs.Entries.{Entries, entry_of, staying, with_entry, without_entry}
 use Rattle.zq_trees.specs.Nets.{child_ids, children_of, is_listed, is_zid, place_of, tree_at}
-use Rattle.zq_trees.specs.Tellings.{in_order}
 use Rattle.zq_trees.proofs.Entering.{put_is, take_is}
 use Rattle.zq_hat.specs.declared.types.FaceRecord.{FaceRecord}
 use Rattle.zq_hat.specs.declared.types.Strategy.{Strategy}
@@ -39,7 +36,7 @@ use Rattle.zq_machine.specs.Configs.{Settings}
 use Rattle.zq_machine.specs.Deciding.{accepted, causes, granted, is_accepted, refusal_of, seat, told_of}
 use Rattle.zq_machine.specs.Hearing.{hear}
 use Rattle.zq_machine.specs.Machine.{accepted_state, after, follow, state_after}
-use Rattle.zq_machine.specs.Messages.{from_hat, key_ended, key_told}
+use Rattle.zq_machine.specs.Messages.{key_ended, key_told}
 use Rattle.zq_machine.specs.Selecting.{full_text}
 use Rattle.zq_machine.specs.State.{Core, State, at, hat_at, joined, opening_state}
 use Rattle.zq_machine.specs.TextCalls.{TextCall, opening, closing, declaring, withdrawing, finalizing, announcing, retracting, networking, tabling, read}
@@ -57,7 +54,7 @@ use Rattle.zq_machine.proofs.Learning.{is_news, order_heard}
 use Rattle.zq_machine.proofs.Lists.{all_append}
 use Rattle.zq_machine.proofs.NetworkTold.{entries_stay, made, network_true}
 use Rattle.zq_machine.proofs.OwnTold.{IsTrue, own_true, stands}
-use Rattle.zq_machine.proofs.RouterTold.{IsComplete, Truth, all_told, none_of_tree, other_stands, other_stood, own_complete, router_complete, router_true, stands_now, stood}
+use Rattle.zq_machine.proofs.RouterTold.{IsComplete, other_stands, other_stood, own_complete, router_complete, router_true}
 use Rattle.zq_machine.proofs.Tells.{granted_heard}
 
 -- ---- entries of hats stay, but for calls of routers

@@ -1,11 +1,11 @@
 -- What a network hands is true, and a face that it makes a child is told all that stands.
-use Rattle.std.proofs.Common.{◌≡◌, ◌∙◌, refl, sym, ap, subst, ℕ, Bool, true, false, cond, List, [], ◌∷◌, ◌++◌, map, fold, Option, Some, None}
+use Rattle.std.proofs.Common.{◌≡◌, ◌∙◌, refl, sym, ap, subst, ℕ, Bool, true, false, cond, List, [], ◌∷◌, fold, Option, Some, None}
 use Rattle.std.specs.Prelude.{◌==◌, ◌||◌}
 use Rattle.std.specs.BTreeMap.{is_at}
 use Rattle.std.specs.BTreeSet.{insert_key}
 use Rattle.std.specs.List.{AllByRecursion, cons_option, filter_map, list_any}
-use Rattle.std.specs.Map.{keys_of, lookup, set_value}
-use Rattle.std.specs.Option.{is_some, option_map, option_map_or}
+use Rattle.std.specs.Map.{keys_of, set_value}
+use Rattle.std.specs.Option.{option_map, option_map_or}
 use Rattle.std.specs.Ordering.{nat_cmp}
 use Rattle.std.specs.Str.{bytes_eq}
 use Rattle.std.proofs.lemmas.Bool.{false≢true, or_parts, true≢false}
@@ -29,25 +29,25 @@ use Rattle.zq_trees.proofs.Dropping.{staying_entry}
 use Rattle.zq_hat.specs.declared.types.Declaration.{Declaration}
 use Rattle.zq_hat.specs.declared.types.Strategy.{Strategy}
 use Rattle.zq_hat.specs.declared.types.Strategy.TheVariants as strategy
-use Rattle.zq_hat.specs.Kept.{declared_keys, faces_info, has_face, info, key_of, region_info, routers_info, with_declared, with_face, with_key, with_keys}
+use Rattle.zq_hat.specs.Kept.{declared_keys, faces_info, has_face, region_info, routers_info, with_declared, with_face, with_key, with_keys}
 use Rattle.zq_hat.specs.Regions.{in_routers, strategy_at}
 use Rattle.zq_hat.specs.Routers.{face_with, networked}
 use Rattle.zq_hat.specs.State.{FaceState, HatState}
 use Rattle.zq_hat.specs.Trees.{network_told, region_keys, standing_of}
-use Rattle.zq_machine.specs.Children.{is_face_of, said_for, with_news}
+use Rattle.zq_machine.specs.Children.{is_face_of}
 use Rattle.zq_machine.specs.Configs.{Settings}
 use Rattle.zq_machine.specs.Deciding.{accepted, refusal_of}
 use Rattle.zq_machine.specs.Machine.{accepted_state}
-use Rattle.zq_machine.specs.State.{Core, State, at, change_hat, hat_at, put_hat}
-use Rattle.zq_machine.specs.TextCalls.{TextCall, networking}
-use Rattle.zq_machine.specs.Trees.{all_own_told, keyed_own, networked_told, own_entries, own_entry, own_keys, placed_told, touched, tree_told, with_other, with_other_keys}
+use Rattle.zq_machine.specs.State.{State, at, hat_at, put_hat}
+use Rattle.zq_machine.specs.TextCalls.{networking}
+use Rattle.zq_machine.specs.Trees.{keyed_own, own_entries, own_entry, own_keys, placed_told, tree_told, with_other, with_other_keys}
 use Rattle.zq_machine.proofs.Agreed.{InOrder}
 use Rattle.zq_machine.proofs.Changing.{hat_here, itself, number_test, one_number, region_there}
 use Rattle.zq_machine.proofs.Learning.{is_news}
 use Rattle.zq_machine.proofs.Lists.{all_weaker}
-use Rattle.zq_machine.proofs.OwnTold.{IsTrue, at_home, here, news_parts, own_id, stands}
+use Rattle.zq_machine.proofs.OwnTold.{IsTrue, at_home, news_parts, own_id, stands}
 use Rattle.zq_machine.proofs.Placing.{IsWord, Stands, found_stands, made_child_told, one_more, one_place, place_listed, stands_at, stands_true, text_is, trees_are}
-use Rattle.zq_machine.proofs.RouterTold.{hat_now, none_of_tree}
+use Rattle.zq_machine.proofs.RouterTold.{hat_now}
 use Rattle.zq_machine.proofs.Worded.{Any, IsWorded, each_found}
 
 -- ---- own entries: each has its key among those of the other regions

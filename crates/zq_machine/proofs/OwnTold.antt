@@ -1,5 +1,5 @@
 -- What own entries hand is true of the gateway's own tree, and a child of it is told of each change.
-use Rattle.std.proofs.Common.{◌≡◌, ◌∙◌, refl, sym, ap, subst, ℕ, Bool, true, false, cond, not, List, [], ◌∷◌, ◌++◌, fold, Option, Some, None, ◌⊎◌, inl, inr, eqb-true}
+use Rattle.std.proofs.Common.{◌≡◌, ◌∙◌, refl, sym, ap, ℕ, Bool, true, false, cond, List, [], ◌∷◌, fold, Option, Some, None, ◌⊎◌, inl, inr, eqb-true}
 use Rattle.std.specs.Prelude.{◌==◌, ◌&&◌, ◌||◌}
 use Rattle.std.specs.BTreeMap.{is_at}
 use Rattle.std.specs.List.{AllByRecursion, flat_map, list_any}
@@ -17,7 +17,7 @@ use Rattle.zq_message.specs.declared.message.Region.{Region}
 use Rattle.zq_message.specs.declared.message.Zid.{Zid}
 use Rattle.zq_regions.specs.Region.{region_index}
 use Rattle.zq_key.proofs.Lookups.{each_entry}
-use Rattle.zq_index.specs.Infos.{same_bool, same_info}
+use Rattle.zq_index.specs.Infos.{same_bool}
 use Rattle.zq_trees.specs.declared.types.Telling.{Telling as TreeTelling}
 use Rattle.zq_trees.specs.Entries.{entry_of}
 use Rattle.zq_trees.specs.Nets.{children_of, is_zid, place_of}

@@ -1,16 +1,15 @@
 -- What a router's entry hands is true, and a child of its tree is told of it, unless it says it itself.
-use Rattle.std.proofs.Common.{◌≡◌, ◌∙◌, refl, sym, ap, subst, ℕ, Bool, true, false, cond, not, List, [], ◌∷◌, ◌++◌, fold, Option, Some, None, eqb-true}
-use Rattle.std.specs.Prelude.{◌==◌, ◌&&◌, ◌||◌}
+use Rattle.std.proofs.Common.{◌≡◌, ◌∙◌, refl, sym, ap, subst, ℕ, Bool, true, false, cond, not, List, [], ◌++◌, fold, Option, Some, None, eqb-true}
+use Rattle.std.specs.Prelude.{◌==◌, ◌&&◌}
 use Rattle.std.specs.BTreeMap.{is_at}
 use Rattle.std.specs.List.{AllByRecursion, list_any}
 use Rattle.std.specs.Option.{is_some, option_and_then, option_map_or}
 use Rattle.std.specs.Ordering.{nat_cmp}
 use Rattle.std.specs.Str.{bytes_eq}
-use Rattle.std.proofs.lemmas.Bool.{and_parts, false≢true, or_parts, true≢false}
+use Rattle.std.proofs.lemmas.Bool.{false≢true, or_parts, true≢false}
 use Rattle.std.proofs.lemmas.Cmp.{nat_cmp_total}
 use Rattle.std.proofs.lemmas.List.Folds.{list_any-append}
 use Rattle.std.proofs.lemmas.Map.Lookups.{exact_unsigned}
-use Rattle.std.proofs.lemmas.Option.{option_and_then_some}
 use Rattle.std.proofs.lemmas.Slice.Eq.{bytes_eq-Decides}
 use Rattle.zq_message.specs.declared.message.FaceId.{FaceId}
 use Rattle.zq_message.specs.declared.message.QueryableInfoType.{QueryableInfoType}
@@ -44,7 +43,7 @@ use Rattle.zq_machine.proofs.Agreed.{InOrder}
 use Rattle.zq_machine.proofs.Changing.{itself, number_test, one_number, region_there}
 use Rattle.zq_machine.proofs.Learning.{is_news}
 use Rattle.zq_machine.proofs.Lists.{all_weaker}
-use Rattle.zq_machine.proofs.OwnTold.{IsTrue, child_seat, here, news_parts, one_home, own_unchanged, stands}
+use Rattle.zq_machine.proofs.OwnTold.{IsTrue, child_seat, news_parts, one_home, own_unchanged, stands}
 use Rattle.zq_machine.proofs.Placing.{IsOf, child_told, children_are, one_place, same_zid, text_is}
 use Rattle.zq_machine.proofs.Worded.{Any, IsWorded, each_found}
 
