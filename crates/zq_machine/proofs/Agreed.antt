@@ -40,6 +40,8 @@ use Rattle.zq_machine.proofs.Agreeing.{Tied, declared_tied, marked_tied, named_t
 use Rattle.zq_machine.proofs.Changing.{hat_found, itself, number_test, region_there}
 use Rattle.zq_machine.proofs.Finals.{IsSound, granted_sound, is_there, none_sorted, opening_sound}
 use Rattle.zq_machine.proofs.Hats.{AreHatsOf, accepted_hats, opening_hats}
+use Rattle.zq_machine.proofs.Foreign.{AreForeign, accepted_foreign, opening_foreign}
+use Rattle.zq_machine.proofs.Frame.{accepted_config}
 use Rattle.zq_machine.proofs.Worded.{AreWorded, accepted_worded, opening_worded}
 use Rattle.zq_machine.proofs.Joining.{closed_tied, opened_tied}
 use Rattle.zq_machine.proofs.NewEntries.{numbered_asked}
@@ -133,6 +135,7 @@ pub record InOrder (config : Settings) (s : State) : Type 0 where
   pub numbered : InNumbers s.core.queries
   pub aims : AllAim s.core.faces s.core.queries.records
   pub worded : AreWorded s.core.hats
+  pub foreign : AreForeign s.core.config.zid s.core.hats
 
 replied_numbers : (q : QueryState) (o : Option ReplyTo) → InNumbers q → InNumbers (after_replied o q)
 replied_numbers q None i = i
@@ -169,6 +172,7 @@ granted_in_order config s c h i = let x = read s c in record {
   numbered = granted_numbers s x h i.numbered;
   aims = accepted_aims config s.core s.names i.tied i.hats i.sound.sorted i.aims x;
   worded = accepted_worded s.core x h i.worded;
+  foreign = subst (λ (z : Settings). AreForeign z.zid (accepted s.core x).hats) (sym (accepted_config s.core x)) (accepted_foreign s.core i.worded i.foreign x h);
 }
 
 -- and it is kept by each number that a face is told
@@ -180,6 +184,7 @@ numbered_in_order config core face text id names i = record {
   numbered = i.numbered;
   aims = i.aims;
   worded = i.worded;
+  foreign = i.foreign;
 }
 
 -- ---- before any call no hat has a face
@@ -227,6 +232,7 @@ opening_in_order config = record {
   numbered = record { numbers = none_sorted; below = tt; places = λ face id. omega arith; once = tt; flights = λ reply. omega arith; flown = tt };
   aims = tt;
   worded = opening_worded config;
+  foreign = opening_foreign config;
 }
 
 -- at every point of a run
@@ -244,6 +250,7 @@ agrees config s x = record {
   named = λ face. t.named face;
   copies = λ face o h f seen e f_at. (t.held face o h f seen (sym (ap (option_and_then its_hat) seen) ∙ e) f_at).copy;
   held = λ face h e. option_and_then_some its_hat (at face s.core.faces) h e (λ o seen h_at. held_by face h o seen h_at);
+  foreign = λ r h key e. x.foreign (region_index r) h (region_there r s.core.hats h e).1 key;
   targets = x.aims;
   numbered = x.numbered;
 }

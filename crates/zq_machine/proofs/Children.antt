@@ -1,91 +1,50 @@
 -- What a child of a root's tree knows is what stands of the root.
 use Rattle.std.proofs.Common.{◌≡◌, ◌∙◌, refl, sym, ap, subst, ℕ, Bool, true, false, cond, List, [], ◌∷◌, ◌++◌, fold, Option, Some, None}
-use Rattle.std.specs.BTreeMap.{is_at}
 use Rattle.std.specs.List.{AllByRecursion, list_any}
 use Rattle.std.specs.Option.{is_some, option_and_then, option_map, option_map_or}
-use Rattle.std.specs.Ordering.{nat_cmp}
 use Rattle.std.specs.Str.{bytes_eq}
 use Rattle.std.proofs.lemmas.Bool.{false≢true, or_parts, true≢false}
-use Rattle.std.proofs.lemmas.Cmp.{nat_cmp_total}
 use Rattle.std.proofs.lemmas.List.Folds.{list_any-append}
-use Rattle.std.proofs.lemmas.Map.Lookups.{exact_unsigned}
 use Rattle.zq_message.specs.declared.message.QueryableInfoType.{QueryableInfoType}
 use Rattle.zq_message.specs.declared.message.Region.{Region}
 use Rattle.zq_message.specs.declared.message.Zid.{Zid}
 use Rattle.zq_regions.specs.Region.{region_index}
-use Rattle.zq_index.specs.Holders.{IsOrderedBy}
-use Rattle.zq_index.specs.Texts.{text_cmp}
-use Rattle.zq_index.proofs.Ordered.{with_at, without_at}
 use Rattle.zq_trees.specs.declared.types.Network.{Network}
 use Rattle.zq_trees.specs.declared.types.Telling.{Telling as TreeTelling}
-use Rattle.zq_trees.specs.Entries.{Entries, entry_of, staying, with_entry, without_entry}
+use Rattle.zq_trees.specs.Entries.{entry_of, staying}
 use Rattle.zq_trees.specs.Nets.{child_ids, children_of, is_listed, is_zid, place_of, tree_at}
-use Rattle.zq_trees.proofs.Entering.{put_is, take_is}
-use Rattle.zq_hat.specs.declared.types.FaceRecord.{FaceRecord}
 use Rattle.zq_hat.specs.declared.types.Strategy.{Strategy}
 use Rattle.zq_hat.specs.declared.types.Strategy.TheVariants as strategy
-use Rattle.zq_hat.specs.Kept.{has_face, registered, unregistered, with_face_opened, without_face}
-use Rattle.zq_hat.specs.Marks.{finalized}
 use Rattle.zq_hat.specs.Regions.{in_routers, strategy_at}
-use Rattle.zq_hat.specs.Routers.{announced, entry_at, networked, noded, retracted}
+use Rattle.zq_hat.specs.Routers.{announced, entry_at, networked, retracted}
 use Rattle.zq_hat.specs.State.{HatState}
 use Rattle.zq_machine.specs.declared.call.Call.{Call}
 use Rattle.zq_machine.specs.declared.call.Call.TheVariants as call
 use Rattle.zq_machine.specs.Children.{ChildPromise, StaysChild, is_child, is_child_in, is_face_of, known_after, known_in, root_place, said_for, speaks_for, stands_of, with_heard_of, with_news}
 use Rattle.zq_machine.specs.Configs.{Settings}
-use Rattle.zq_machine.specs.Deciding.{accepted, causes, granted, is_accepted, refusal_of, seat, told_of}
+use Rattle.zq_machine.specs.Deciding.{accepted, causes, granted, is_accepted, refusal_of, told_of}
 use Rattle.zq_machine.specs.Hearing.{hear}
 use Rattle.zq_machine.specs.Machine.{accepted_state, after, follow, state_after}
 use Rattle.zq_machine.specs.Messages.{key_ended, key_told}
 use Rattle.zq_machine.specs.Selecting.{full_text}
-use Rattle.zq_machine.specs.State.{Core, State, at, hat_at, joined, opening_state}
-use Rattle.zq_machine.specs.TextCalls.{TextCall, opening, closing, declaring, withdrawing, finalizing, announcing, retracting, networking, tabling, read}
+use Rattle.zq_machine.specs.State.{Core, State, at, hat_at, opening_state}
+use Rattle.zq_machine.specs.TextCalls.{TextCall, announcing, retracting, networking, read}
 use Rattle.zq_machine.specs.Trees.{all_own_told, own_entry, touched, tree_told}
 use Rattle.zq_machine.proofs.Agreed.{InOrder, granted_in_order, numbered_in_order, run_in_order}
 use Rattle.zq_machine.proofs.Agreeing.{some_of}
 use Rattle.zq_machine.proofs.Always.{after_kept}
 use Rattle.zq_machine.proofs.Changing.{hat_here, region_there}
 use Rattle.zq_machine.proofs.Finals.{is_there}
+use Rattle.zq_machine.proofs.Foreign.{entries_kept, entry_put, entry_taken, listed, of_routers}
 use Rattle.zq_machine.proofs.Frame.{accepted_config, config_kept, run_config}
 use Rattle.zq_machine.specs.Writing.{write}
 use Rattle.zq_machine.proofs.Granted.{all_passed, by_granted, granted_is_accepted, told_by}
-use Rattle.zq_machine.proofs.Hats.{same_view, same_view_of}
 use Rattle.zq_machine.proofs.Learning.{is_news, order_heard}
 use Rattle.zq_machine.proofs.Lists.{all_append}
 use Rattle.zq_machine.proofs.NetworkTold.{entries_stay, made, network_true}
 use Rattle.zq_machine.proofs.OwnTold.{IsTrue, own_true, stands}
 use Rattle.zq_machine.proofs.RouterTold.{IsComplete, other_stands, other_stood, own_complete, router_complete, router_true}
 use Rattle.zq_machine.proofs.Tells.{granted_heard}
-
--- ---- entries of hats stay, but for calls of routers
-abbrev listed : HatState → Entries
-listed h = h.entries
-
-of_routers : TextCall → Bool
-of_routers (announcing f sd info by) = true
-of_routers (retracting f sd by) = true
-of_routers (networking r net) = true
-of_routers t = false
-
-joined_listed : (x : FaceRecord) (h : HatState) → listed (joined x h) ≡ listed h
-joined_listed x h = by (has_face x.face.0 h)
-  where
-    by : (b : Bool) → listed (cond b h (with_face_opened x h)) ≡ listed h
-    by true = refl
-    by false = refl
-
-entries_kept : (c : Core) (t : TextCall) → of_routers t ≡ false → (k : ℕ) → option_map listed (at k (accepted c t).hats) ≡ option_map listed (at k c.hats)
-unfolding of_routers
-entries_kept c (opening o) e k = same_view listed o.region (joined (seat c.next_face o)) c.hats (λ x there. joined_listed (seat c.next_face o) x) k
-entries_kept c (closing f) e k = same_view_of listed f.0 (without_face f.0) c (λ x there. refl) k
-entries_kept c (declaring f id sd info by) e k = same_view_of listed f.0 (registered f.0 id (full_text sd) by info) c (λ x there. refl) k
-entries_kept c (withdrawing f id) e k = same_view_of listed f.0 (unregistered f.0 id) c (λ x there. refl) k
-entries_kept c (finalizing f m set) e k = same_view_of listed f.0 (finalized f.0 m set) c (λ x there. refl) k
-entries_kept c (tabling f ids) e k = same_view_of listed f.0 (noded f.0 ids) c (λ x there. refl) k
-entries_kept c (announcing f sd info by) e k = absurd (true≢false e)
-entries_kept c (retracting f sd by) e k = absurd (true≢false e)
-entries_kept c (networking r net) e k = absurd (true≢false e)
-entries_kept c t e k = refl
 
 no_tree : (before after : Core) (t : TextCall) → of_routers t ≡ false → tree_told before after t ≡ []
 unfolding of_routers
@@ -147,15 +106,6 @@ module _ (config : Settings) (s : State) (i : InOrder config s) (same_config : s
   ended_by text known true = refl
   ended_by text known false = refl
 
-  -- what an entry is once it is put, and once one is taken out
-  entry_put : (text : List ℕ) (info : QueryableInfoType) (z : Zid) (x : HatState) → IsOrderedBy nat_cmp x.entries → (q : ℕ)
-      → entry_of q key (with_entry z.0 text info x.entries) ≡ cond (is_at (text_cmp text) key) (cond (is_at (nat_cmp z.0) q) (Some info) (entry_of q key x.entries)) (entry_of q key x.entries)
-  entry_put text info z x ordered q = ap (entry_of q key) (sym (put_is z.0 text x.entries ordered.texts info)) ∙ with_at nat_cmp_total exact_unsigned text z.0 info x.entries key q
-
-  entry_taken : (text : List ℕ) (z : Zid) (x : HatState) → IsOrderedBy nat_cmp x.entries → (q : ℕ)
-      → entry_of q key (without_entry z.0 text x.entries) ≡ cond (is_at (text_cmp text) key) (cond (is_at (nat_cmp z.0) q) None (entry_of q key x.entries)) (entry_of q key x.entries)
-  entry_taken text z x ordered q = ap (entry_of q key) (sym (take_is z.0 text x.entries ordered.texts)) ∙ without_at nat_cmp_total exact_unsigned text z.0 x.entries ordered key q
-
   -- the parts of it, and what is to be shown of a call
   record IsStep (t : TextCall) (known : Option QueryableInfoType) (fits : refusal_of s.core t ≡ None) (j : InOrder config (accepted_state s t)) (b : Child r face root (accepted s.core t).hats) : Type 0 where
     true_tree : AllByRecursion (IsTrue config s i t fits j r face root key b.hat b.its b.node b.place b.child b.routes) (tree_told s.core (accepted s.core t) t)
@@ -199,10 +149,10 @@ module _ (config : Settings) (s : State) (i : InOrder config s) (same_config : s
         record {
           true_tree =
               router_true config s i same_config r face root key a.hat a.its a.child (announcing f sd info by) fits j b.hat b.its b.node b.place b.child b.routes f by (full_text sd) (Some info) k lacks
-              (λ z x. refl) (entry_put (full_text sd) info) refl refl (λ known. said_by (full_text sd) info known (speaks_for face root f by s.core));
+              (λ z x. refl) (entry_put key (full_text sd) info) refl refl (λ known. said_by (full_text sd) info known (speaks_for face root f by s.core));
           complete =
               router_complete config s i same_config r face root key a.hat a.its a.child (announcing f sd info by) fits j b.hat b.its b.node b.place b.child b.routes f by (full_text sd) (Some info) k lacks
-              (λ z x. refl) (entry_put (full_text sd) info) refl refl (λ known. said_by (full_text sd) info known (speaks_for face root f by s.core));
+              (λ z x. refl) (entry_put key (full_text sd) info) refl refl (λ known. said_by (full_text sd) info known (speaks_for face root f by s.core));
         }
     one_step (retracting f sd by) fits j b =
         let lacks = (all_passed (causes s.core (retracting f sd by)) fits).1.1.1.0 in
@@ -210,10 +160,10 @@ module _ (config : Settings) (s : State) (i : InOrder config s) (same_config : s
         record {
           true_tree =
               router_true config s i same_config r face root key a.hat a.its a.child (retracting f sd by) fits j b.hat b.its b.node b.place b.child b.routes f by (full_text sd) None k lacks
-              (λ z x. refl) (entry_taken (full_text sd)) refl refl (λ known. ended_by (full_text sd) known (speaks_for face root f by s.core));
+              (λ z x. refl) (entry_taken key (full_text sd)) refl refl (λ known. ended_by (full_text sd) known (speaks_for face root f by s.core));
           complete =
               router_complete config s i same_config r face root key a.hat a.its a.child (retracting f sd by) fits j b.hat b.its b.node b.place b.child b.routes f by (full_text sd) None k lacks
-              (λ z x. refl) (entry_taken (full_text sd)) refl refl (λ known. ended_by (full_text sd) known (speaks_for face root f by s.core));
+              (λ z x. refl) (entry_taken key (full_text sd)) refl refl (λ known. ended_by (full_text sd) known (speaks_for face root f by s.core));
         }
     one_step (networking z net) fits j b =
         let first = some_of (hat_at z s.core.hats) (is_there (is_some (hat_at z s.core.hats)) (all_passed (causes s.core (networking z net)) fits).0) in

@@ -31,6 +31,7 @@ pub mod Owning
 pub mod RoutersMoved
 pub mod DueMoved
 pub mod Worded
+pub mod Foreign
 pub mod DueHeard
 pub mod Tells
 pub mod Direct

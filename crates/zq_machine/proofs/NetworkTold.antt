@@ -47,7 +47,7 @@ use Rattle.zq_machine.proofs.Learning.{is_news}
 use Rattle.zq_machine.proofs.Lists.{all_weaker}
 use Rattle.zq_machine.proofs.OwnTold.{IsTrue, at_home, news_parts, own_id, stands}
 use Rattle.zq_machine.proofs.Placing.{IsWord, Stands, found_stands, made_child_told, one_more, one_place, place_listed, stands_at, stands_true, text_is, trees_are}
-use Rattle.zq_machine.proofs.RouterTold.{hat_now}
+use Rattle.zq_machine.proofs.Foreign.{hat_now}
 use Rattle.zq_machine.proofs.Worded.{Any, IsWorded, each_found}
 
 -- ---- own entries: each has its key among those of the other regions

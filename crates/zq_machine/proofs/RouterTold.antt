@@ -3,20 +3,18 @@ use Rattle.std.proofs.Common.{◌≡◌, ◌∙◌, refl, sym, ap, subst, ℕ, B
 use Rattle.std.specs.Prelude.{◌==◌, ◌&&◌}
 use Rattle.std.specs.BTreeMap.{is_at}
 use Rattle.std.specs.List.{AllByRecursion, list_any}
-use Rattle.std.specs.Option.{is_some, option_and_then, option_map_or}
+use Rattle.std.specs.Option.{option_and_then, option_map_or}
 use Rattle.std.specs.Ordering.{nat_cmp}
 use Rattle.std.specs.Str.{bytes_eq}
 use Rattle.std.proofs.lemmas.Bool.{false≢true, or_parts, true≢false}
-use Rattle.std.proofs.lemmas.Cmp.{nat_cmp_total}
 use Rattle.std.proofs.lemmas.List.Folds.{list_any-append}
-use Rattle.std.proofs.lemmas.Map.Lookups.{exact_unsigned}
 use Rattle.std.proofs.lemmas.Slice.Eq.{bytes_eq-Decides}
 use Rattle.zq_message.specs.declared.message.FaceId.{FaceId}
 use Rattle.zq_message.specs.declared.message.QueryableInfoType.{QueryableInfoType}
 use Rattle.zq_message.specs.declared.message.Region.{Region}
 use Rattle.zq_message.specs.declared.message.Zid.{Zid}
 use Rattle.zq_regions.specs.Region.{region_index}
-use Rattle.zq_key.proofs.Lookups.{at_itself, found_after_write}
+use Rattle.zq_key.proofs.Lookups.{at_itself}
 use Rattle.zq_index.specs.Holders.{IsOrderedBy}
 use Rattle.zq_index.specs.Texts.{text_cmp}
 use Rattle.zq_index.proofs.Orders.{text_exact, text_total}
@@ -36,26 +34,19 @@ use Rattle.zq_machine.specs.Configs.{Settings}
 use Rattle.zq_machine.specs.Deciding.{accepted, lacks_router, refusal_of}
 use Rattle.zq_machine.specs.Machine.{accepted_state}
 use Rattle.zq_machine.specs.Selecting.{router_by}
-use Rattle.zq_machine.specs.State.{Core, State, at, change_hat, change_hat_of, hat_at, hat_of, put_hat}
+use Rattle.zq_machine.specs.State.{State, at, change_hat, change_hat_of, hat_at, hat_of}
 use Rattle.zq_machine.specs.TextCalls.{TextCall}
 use Rattle.zq_machine.specs.Trees.{all_own_told, own_entry, router_told, source_told, touched, tree_told}
 use Rattle.zq_machine.proofs.Agreed.{InOrder}
 use Rattle.zq_machine.proofs.Changing.{itself, number_test, one_number, region_there}
+use Rattle.zq_machine.proofs.Foreign.{Source, by_source, hat_now, source_of, zid_itself}
 use Rattle.zq_machine.proofs.Learning.{is_news}
 use Rattle.zq_machine.proofs.Lists.{all_weaker}
 use Rattle.zq_machine.proofs.OwnTold.{IsTrue, child_seat, news_parts, one_home, own_unchanged, stands}
 use Rattle.zq_machine.proofs.Placing.{IsOf, child_told, children_are, one_place, same_zid, text_is}
 use Rattle.zq_machine.proofs.Worded.{Any, IsWorded, each_found}
 
--- ---- one hat is changed
-pub hat_now : (z : Region) (g : HatState → HatState) (hats : List (ℕ × HatState)) (x : HatState) → hat_at z hats ≡ Some x → (k : ℕ) → at k (change_hat z g hats) ≡ cond (is_at (nat_cmp (region_index z)) k) (Some (g x)) (at k hats)
-hat_now z g hats x e k =
-    ap (λ o. at k (put_hat z g hats o)) e
-    ∙ found_after_write nat_cmp_total exact_unsigned (region_index z) k (g x) hats (ap is_some (region_there z hats x e).1)
-
-pub zid_itself : (z : Zid) → is_zid z z ≡ true
-zid_itself z = sym (number_test z.0 z.0) ∙ itself z.0
-
+-- ---- texts that are one
 text_same : (a b : List ℕ) → is_at (text_cmp a) b ≡ bytes_eq a b
 text_same a b = by (is_at (text_cmp a) b) refl (bytes_eq a b) refl
   where
@@ -66,38 +57,6 @@ text_same a b = by (is_at (text_cmp a) b) refl (bytes_eq a b) refl
     by false e false f = refl
 
 -- ---- a router's entry comes or goes
--- who says it, and by which node
-pub record Source (c : Core) (f : FaceId) (node : ℕ) : Type 0 where
-  pub open_face : OpenFace
-  pub its : at f.0 c.faces ≡ Some open_face
-  pub hat : HatState
-  pub home : hat_at open_face.region c.hats ≡ Some hat
-  pub router : Zid
-  pub source : source_at f.0 node hat ≡ Some router
-  pub foreign : is_zid c.config.zid router ≡ false
-
-source_of : (c : Core) (f : FaceId) (node : ℕ) → lacks_router f node c ≡ false → Source c f node
-source_of c f node lacks = by_face (at f.0 c.faces) refl lacks
-  where
-    router_in : Option OpenFace → Option Zid
-    router_in o = option_and_then (source_at f.0 node) (option_and_then (λ (x : OpenFace). hat_at x.region c.hats) o)
-
-    by_source : (o : OpenFace) → at f.0 c.faces ≡ Some o → (h : HatState) → hat_at o.region c.hats ≡ Some h → (z : Option Zid) → source_at f.0 node h ≡ z → option_map_or (is_zid c.config.zid) z true ≡ false → Source c f node
-    by_source o e h g None k l = absurd (true≢false l)
-    by_source o e h g (Some z) k l = record { open_face = o; its = e; hat = h; home = g; router = z; source = k; foreign = l }
-
-    by_hat : (o : OpenFace) → at f.0 c.faces ≡ Some o → (h : Option HatState) → hat_at o.region c.hats ≡ h → option_map_or (is_zid c.config.zid) (option_and_then (source_at f.0 node) h) true ≡ false → Source c f node
-    by_hat o e None g l = absurd (true≢false l)
-    by_hat o e (Some h) g l = by_source o e h g (source_at f.0 node h) refl l
-
-    by_face : (o : Option OpenFace) → at f.0 c.faces ≡ o → option_map_or (is_zid c.config.zid) (router_in o) true ≡ false → Source c f node
-    by_face None e l = absurd (true≢false l)
-    by_face (Some o) e l = by_hat o e (hat_at o.region c.hats) refl l
-
--- by the source of a hat
-abbrev pub by_source : FaceId → ℕ → (Zid → HatState → HatState) → HatState → HatState
-by_source f node k x = option_map_or (λ z. k z x) (source_at f.0 node x) x
-
 module _ (config : Settings) (s : State) (i : InOrder config s) (same_config : s.core.config ≡ config) (r : Region) (face : ℕ) (root : Zid) (key : List ℕ)
     (was : HatState) (was_at : hat_at r s.core.hats ≡ Some was) (child_was : list_any (is_face_of face was) (children_of was.network root) ≡ true)
     (t : TextCall) (fits : refusal_of s.core t ≡ None) (j : InOrder config (accepted_state s t)) (h : HatState) (now : hat_at r (accepted s.core t).hats ≡ Some h)
