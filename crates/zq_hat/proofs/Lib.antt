@@ -6,6 +6,7 @@ pub mod Keeping
 pub mod Turns
 pub mod Marking
 pub mod Afterwards
+pub mod KeysAdded
 pub mod OfferLaws
 pub mod RoutersMoved
 pub mod OffersMoved

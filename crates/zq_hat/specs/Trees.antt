@@ -1,17 +1,14 @@
 -- The keys of a region, and what the children of trees are told.
-use Rattle.std.specs.Prelude.{ℕ, List, [], ◌∷◌, ◌++◌, Option, None, if◌then◌else◌}
-use Rattle.std.specs.List.{flat_map}
+use Rattle.std.specs.Prelude.{ℕ, List, [], Option, None, if◌then◌else◌}
 use Rattle.std.specs.Map.{keys_of}
-use Rattle.std.specs.Option.{option_map_or}
 use Rattle.zq_message.specs.declared.message.QueryableInfoType.{QueryableInfoType}
 use Rattle.zq_message.specs.declared.message.Zid.{Zid}
 use Rattle.zq_trees.specs.declared.types.Network.{Network}
 use Rattle.zq_trees.specs.declared.types.Telling.{Telling}
 use Rattle.zq_trees.specs.declared.types.Tree.{Tree}
-use Rattle.zq_trees.specs.Entries.{standing}
-use Rattle.zq_trees.specs.Nets.{child_ids, fresh_ids, is_zid, place_of}
+use Rattle.zq_trees.specs.Networks.{Standing, root_told_by, standing_by, trees_told_by}
 use Rattle.zq_trees.specs.Seating.{faces_by}
-use Rattle.zq_trees.specs.Tellings.{all_told_of, children_told, same_infos}
+use Rattle.zq_trees.specs.Tellings.{children_told, same_infos}
 use Rattle.zq_hat.specs.Kept.{declared_keys}
 use Rattle.zq_hat.specs.Regions.{in_routers, strategy_at}
 use Rattle.zq_hat.specs.Routers.{face_with}
@@ -34,20 +31,17 @@ abbrev pub own_told : List ℕ → Option QueryableInfoType → Option Queryable
 own_told key was is s = if same_infos was is then [] else to_children None s.own key is s
 
 -- what stands of a root: a router's entries, or the gateway's own
-abbrev pub standing_of : List (List ℕ × QueryableInfoType) → Zid → HatState → List (List ℕ × QueryableInfoType)
-standing_of own root s = if is_zid root s.own then own else standing root s.entries
+abbrev pub standing_of : Standing → Zid → HatState → Standing
+standing_of own root s = standing_by s.own own s.entries root
 
 -- the new children of a tree of the root are told what stands of it
-abbrev pub root_told : List (List ℕ × QueryableInfoType) → Network → HatState → Zid → Tree → List Telling
-root_told own old s root tree =
-    option_map_or (λ node. flat_map (all_told_of (standing_of own root s) node) (faces_of None (fresh_ids old root (child_ids s.network tree)) s)) (place_of s.network root) []
+abbrev pub root_told : Standing → Network → HatState → Zid → Tree → List Telling
+root_told own old s root tree = root_told_by (λ z. standing_of own z s) (λ zid. face_with zid s.faces) old s.network root tree
 
 -- the same of each tree that has a node
-abbrev pub trees_told : List (List ℕ × QueryableInfoType) → Network → HatState → List Zid → List Tree → List Telling
-trees_told own old s [] ts = []
-trees_told own old s (z ∷ zs) [] = []
-trees_told own old s (z ∷ zs) (t ∷ ts) = root_told own old s z t ++ trees_told own old s zs ts
+abbrev pub trees_told : Standing → Network → HatState → List Zid → List Tree → List Telling
+trees_told own old s zs ts = trees_told_by (λ z. standing_of own z s) (λ zid. face_with zid s.faces) old s.network zs ts
 
 -- what a network hands in its region, whose hat has it already
-abbrev pub network_told : List (List ℕ × QueryableInfoType) → Network → HatState → List Telling
+abbrev pub network_told : Standing → Network → HatState → List Telling
 network_told own old s = trees_told own old s s.network.nodes s.network.trees

@@ -1,10 +1,11 @@
 //! The hat of one region.
-ghost use Rattle.std.specs.Prelude.{◌≡◌, ◌↔◌, [], Some, None, true, false, is_some, OnOk, OnErr, IfOk, IsErrOf, option_map, IsTrue, fold};
+ghost use Rattle.std.specs.Prelude.{◌≡◌, ◌↔◌, [], Some, None, true, false, is_some, OnOk, OnErr, IfOk, IsErrOf, option_map, IsTrue, fold, map, string_bytes};
+ghost use Rattle.zq_index.specs.Texts.{text_cmp};
 ghost use Rattle.std.specs.Map.{set_value};
 ghost use Rattle.std.specs.BTreeMap.{is_at};
 ghost use Rattle.std.specs.Ordering.{nat_cmp};
 ghost use Rattle.zq_key.specs.Key.{is_key};
-ghost use Rattle.zq_hat.specs.Kept.{new_hat, with_face_opened, without_face, keys_of_face, has_face, clashes_at, declaration_at, has_any, is_full, change_face, registered, unregistered, unregister_result, faces_info, region_info, routers_info, changed, at_id, face_at, declare, withdraw, declaration};
+ghost use Rattle.zq_hat.specs.Kept.{declared_keys, new_hat, with_face_opened, without_face, keys_of_face, has_face, clashes_at, declaration_at, has_any, is_full, change_face, registered, unregistered, unregister_result, faces_info, region_info, routers_info, changed, at_id, face_at, declare, withdraw, declaration};
 ghost use Rattle.zq_hat.specs.Tied.{without_declared};
 ghost use Rattle.zq_hat.specs.State.{FaceState};
 ghost use Rattle.zq_hat.specs.Marks.{finalized, marked};
@@ -17,22 +18,25 @@ ghost use Rattle.zq_hat.specs.Changes.{changed_by};
 ghost use Rattle.zq_trees.specs.Entries.{is_one_of, keys_by, staying, without_routers};
 ghost use Rattle.zq_trees.specs.Nets.{is_listed};
 ghost use Rattle.zq_trees.specs.Tellings.{same_infos};
-ghost use Rattle.zq_hat.specs.Trees.{own_told, to_children};
+ghost use Rattle.zq_hat.specs.Trees.{network_told, own_told, region_keys, to_children};
 ghost use Rattle.zq_hat.specs.Regions.{in_routers, strategy_at};
 
 use crate::face::HatFace;
-use crate::merges::{merged_elsewhere, merged_with, merged_without};
+use crate::faces::{
+    changed, copy_faces, declare, forget, has_any, same_infos, set_mark, set_nodes, take_seat,
+    withdraw,
+};
+use crate::merges::{add_texts, merged_elsewhere, merged_with, merged_without};
 use crate::offers;
 use crate::strategy::{same_region, strategy_of};
 use crate::types::{
-    Change, Declaration, FaceRecord, FinalMark, HatRefusal, NodeIds, OfferList, QueryTargetQabl,
-    Strategy, TellingList, UnregisterEntityResult, ZidList,
+    Change, FaceRecord, FinalMark, HatRefusal, NodeIds, OfferList, QueryTargetQabl, Strategy,
+    TellingList, UnregisterEntityResult, ZidList,
 };
 use std::alloc::Global;
-use std::collections::BTreeMap;
+use std::collections::{BTreeMap, BTreeSet};
 use std::marker::Model;
 use zq_index::holders::{FacePlace, KeyHolders};
-use zq_index::info::same_info;
 use zq_key::Key;
 use zq_key::items::Items;
 use zq_key::memory::OutOfMemory;
@@ -43,8 +47,9 @@ use zq_key::text::Text;
 use zq_offers::routers::RouterOffers;
 use zq_offers::walk::offers_for;
 use zq_trees::children::tell_children;
-use zq_trees::entries::Entries;
+use zq_trees::entries::{Entries, StandingList};
 use zq_trees::nets::Net;
+use zq_trees::networks::NetworkChange;
 use zq_trees::seats::Seats;
 
 /// The hat of a region (upstream's `HatQueriesTrait` and what implements it).
@@ -82,152 +87,6 @@ impl Model for Hat {
     } };
 
     ghost invariant = { λ h. IsWhole (strategy_of h.region h.north_mode) h.faces.entries h.index h.seats };
-}
-
-/// The face declares the key under the id.
-#[tactic(auto, using(std::proofs::lemmas::Map::Steps::set_value_same))]
-fn declare(
-    faces: &mut BTreeMap<u32, HatFace>,
-    face: FaceId,
-    id: u32,
-    key: Key,
-    info: QueryableInfoType,
-) -> Result<(), OutOfMemory>
-    requires { is_some (at_id face.0 faces.old.entries) ≡ true }
-    ensures ok { OnOk result ((f : FaceState) → at_id face.0 faces.old.entries ≡ Some f → faces.new.entries ≡ set_value (is_at (nat_cmp face.0)) faces.old.entries (declare id key info f)) }
-    ensures absent { OnErr result ((f : FaceState) → at_id face.0 faces.old.entries ≡ Some f → declaration id f ≡ None) }
-    ensures err { OnErr result (faces.new.entries ≡ faces.old.entries) }
-{
-    match faces.get_mut(&face.0) {
-        Some(found) => match found.declare(id, key, info) {
-            Ok(()) => Ok(()),
-            Err(error) => Err(error),
-        },
-        None => unreachable!(),
-    }
-}
-
-/// The face withdraws the id.
-fn withdraw(faces: &mut BTreeMap<u32, HatFace>, face: FaceId, id: u32)
-    requires { is_some (at_id face.0 faces.old.entries) ≡ true }
-    ensures { (f : FaceState) → at_id face.0 faces.old.entries ≡ Some f → faces.new.entries ≡ set_value (is_at (nat_cmp face.0)) faces.old.entries (withdraw id f) }
-{
-    match faces.get_mut(&face.0) {
-        Some(found) => {
-            let _ = found.withdraw(id);
-        }
-        None => unreachable!(),
-    }
-}
-
-/// A mark of the face is set or unset.
-#[tactic(auto, using(std::proofs::lemmas::Map::Steps::set_value_same))]
-fn set_mark(
-    faces: &mut BTreeMap<u32, HatFace>,
-    alloc: Global,
-    face: FaceId,
-    mark: &FinalMark,
-    set: bool,
-) -> Result<(), OutOfMemory>
-    requires { is_some (at_id face.0 faces.old.entries) ≡ true }
-    ensures ok { OnOk result ((f : FaceState) → at_id face.0 faces.old.entries ≡ Some f → faces.new.entries ≡ set_value (is_at (nat_cmp face.0)) faces.old.entries (marked mark.now set f)) }
-    ensures err { OnErr result (faces.new.entries ≡ faces.old.entries) }
-{
-    match faces.get_mut(&face.0) {
-        Some(found) => match found.mark(alloc, mark, set) {
-            Ok(()) => Ok(()),
-            Err(error) => Err(error),
-        },
-        None => unreachable!(),
-    }
-}
-
-/// The face has this node table from now on.
-fn set_nodes(faces: &mut BTreeMap<u32, HatFace>, face: FaceId, ids: NodeIds)
-    requires { is_some (at_id face.0 faces.old.entries) ≡ true }
-    ensures { (f : FaceState) → at_id face.0 faces.old.entries ≡ Some f → faces.new.entries ≡ set_value (is_at (nat_cmp face.0)) faces.old.entries (record f { nodes = ids }) }
-{
-    match faces.get_mut(&face.0) {
-        Some(found) => found.set_nodes(ids),
-        None => unreachable!(),
-    }
-}
-
-/// In a region of routers the face takes a seat of its id.
-fn take_seat(
-    seats: &mut Seats,
-    strategy: Strategy,
-    zid: Zid,
-    face: FaceId,
-) -> Result<(), OutOfMemory>
-    ensures ok { OnOk result (seats.new ≡ in_routers strategy (insert_key seat_cmp seats.old (zid.0, face.0)) seats.old) }
-    ensures err { OnErr result (seats.new ≡ seats.old) }
-{
-    match strategy {
-        Strategy::Broker | Strategy::Client | Strategy::Peer => Ok(()),
-        Strategy::Router => seats.take(zid, face),
-    }
-}
-
-/// The index without what the face declared.
-fn forget(index: &mut KeyHolders<FacePlace>, number: u32, declared: &BTreeMap<u32, Declaration>)
-    ensures { index.new ≡ fold (without_declared number) index.old declared.now.entries }
-{
-    for (id, declaration) in declared {
-        index.take(declaration.key.as_str(), (number, *id));
-    }
-}
-
-fn changed(
-    key: Text,
-    before: Option<QueryableInfoType>,
-    after: Option<QueryableInfoType>,
-) -> UnregisterEntityResult
-    ensures { result ≡ changed key before after }
-{
-    match (before, after) {
-        (_, None) => UnregisterEntityResult::LastUnregistered(key),
-        (None, Some(_)) => UnregisterEntityResult::InfoUpdate(key),
-        (Some(a), Some(b)) => {
-            if same_info(a, b) {
-                UnregisterEntityResult::DisableRoutes(key)
-            } else {
-                UnregisterEntityResult::InfoUpdate(key)
-            }
-        }
-    }
-}
-
-/// Whether both or neither informations are there, and are the same.
-fn same_infos(a: Option<QueryableInfoType>, b: Option<QueryableInfoType>) -> bool
-    ensures { result ≡ same_infos a b }
-{
-    match (a, b) {
-        (None, None) => true,
-        (Some(a), Some(b)) => same_info(a, b),
-        (None, Some(_)) | (Some(_), None) => false,
-    }
-}
-
-fn has_any(faces: &BTreeMap<u32, HatFace>) -> bool
-    ensures { result ≡ has_any faces.now.entries }
-{
-    !faces.is_empty()
-}
-
-/// Equal faces.
-#[tactic(auto, using(zq_index::proofs::Rebuilt::rebuilt_numbers))]
-fn copy_faces(
-    faces: &BTreeMap<u32, HatFace>,
-    alloc: Global,
-) -> Result<BTreeMap<u32, HatFace>, OutOfMemory>
-    ensures { IfOk result (λ f. f.entries ≡ faces.now.entries) }
-{
-    let mut made = BTreeMap::new(alloc);
-    for (number, face) in faces {
-        made.insert(*number, face.copy(alloc)?)?;
-    }
-    Ok(made)
 }
 
 impl Hat {
@@ -736,6 +595,55 @@ impl Hat {
             return Ok(Items::new(self.alloc));
         }
         self.to_children(None, self.own, key, other)
+    }
+
+    /// What a network hands in a region of routers, before it is put in place, by the gateway's own
+    /// entries: to each new child of a tree what stands of its root.
+    pub fn network_tellings(
+        &self,
+        net: &Net,
+        own: &StandingList,
+    ) -> Result<TellingList, OutOfMemory>
+        ensures { IfOk result (λ ts. ts ≡ in_routers (strategy_at self.now) (network_told own.now self.now.network (networked net.now self.now)) []) }
+    {
+        match self.strategy() {
+            Strategy::Broker | Strategy::Client | Strategy::Peer => Ok(Items::new(self.alloc)),
+            Strategy::Router => self.routers_told(net, own),
+        }
+    }
+
+    /// The same where the region is one of routers.
+    fn routers_told(&self, net: &Net, own: &StandingList) -> Result<TellingList, OutOfMemory>
+        requires { strategy_at self.now ≡ Strategy.Router }
+        ensures { IfOk result (λ ts. ts ≡ network_told own.now self.now.network (networked net.now self.now)) }
+    {
+        let change = NetworkChange {
+            before: &self.net,
+            net,
+            seats: &self.seats,
+            own: self.own,
+            own_entries: own,
+            entries: &self.entries,
+        };
+        let tellings = change.tellings(self.alloc)?;
+        Ok(tellings)
+    }
+
+    /// The keys that the faces declared join the texts.
+    fn add_declared(&self, keys: &mut BTreeSet<String>) -> Result<(), OutOfMemory>
+        ensures { OnOk result (map string_bytes keys.new.keys ≡ fold (insert_key text_cmp) (map string_bytes keys.old.keys) (declared_keys self.now.faces)) }
+    {
+        add_texts(keys, self.alloc, &self.index)
+    }
+
+    /// The keys on which the region has information join the texts.
+    pub fn add_keys(&self, keys: &mut BTreeSet<String>) -> Result<(), OutOfMemory>
+        ensures { OnOk result (map string_bytes keys.new.keys ≡ fold (insert_key text_cmp) (map string_bytes keys.old.keys) (region_keys self.now)) }
+    {
+        match strategy_of(self.region, self.north_mode) {
+            Strategy::Broker | Strategy::Client | Strategy::Peer => self.add_declared(keys),
+            Strategy::Router => add_texts(keys, self.alloc, self.entries.by_key()),
+        }
     }
 
     /// Sets or unsets a mark of the face: that all which it had to declare has come, at its opening

@@ -3,7 +3,8 @@
 //! - `types`: what hats keep, offer and tell
 //! - `strategy`: how a region keeps and offers queryables
 //! - `face`: what one face declared
-//! - `merges`: what the declarations on a key would say, merged, after a change
+//! - `faces`: the faces of a hat, their seats and their declarations in the index
+//! - `merges`: the keys of declarations, and what these would say, merged, after a change
 //! - `offers`: what a region offers for the key of a request
 //! - `hat`: the hat of one region
 //!
@@ -11,6 +12,7 @@
 #![tactic(auto)]
 
 mod face;
+mod faces;
 pub mod hat;
 mod merges;
 mod offers;

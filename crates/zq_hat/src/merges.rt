@@ -1,11 +1,17 @@
-//! What the declarations on a key would say, merged, after a change.
-ghost use Rattle.std.specs.Prelude.{◌≡◌, None, Some, filter, fold};
+//! The keys of declarations, and what these would say on a key, merged, after a change.
+ghost use Rattle.std.specs.Prelude.{◌≡◌, None, OnOk, Some, filter, fold, map, string_bytes};
 ghost use Rattle.std.specs.BTreeMap.{insert_entry, is_at};
-ghost use Rattle.std.specs.Map.{remove_entry};
+ghost use Rattle.std.specs.BTreeSet.{insert_key};
+ghost use Rattle.std.specs.Map.{keys_of, remove_entry};
+ghost use Rattle.zq_index.specs.Texts.{text_cmp};
 ghost use Rattle.zq_index.specs.Holders.{held_at, place_cmp, with_held};
 ghost use Rattle.zq_hat.specs.Tied.{is_elsewhere};
 
-use zq_index::holders::{FacePlace, KeyHolders, PlaceTest};
+use std::alloc::Global;
+use std::collections::BTreeSet;
+use zq_index::holders::{FacePlace, KeyHolders, Place, PlaceTest};
+use zq_index::text_set::put_text;
+use zq_key::memory::OutOfMemory;
 use zq_key::message::{FaceId, QueryableInfoType};
 
 /// The places of other faces.
@@ -22,7 +28,22 @@ impl PlaceTest<FacePlace> for OtherFaces {
     }
 }
 
-/// The same with this declaration of the place.
+/// The keys join the texts.
+#[tactic(auto, using(crate::proofs::KeysAdded::text_keys))]
+pub fn add_texts<P: Place>(
+    texts: &mut BTreeSet<String>,
+    alloc: Global,
+    index: &KeyHolders<P>,
+) -> Result<(), OutOfMemory>
+    ensures { OnOk result (map string_bytes texts.new.keys ≡ fold (insert_key text_cmp) (map string_bytes texts.old.keys) (keys_of index.now)) }
+{
+    for (key, _) in index.keys() {
+        put_text(texts, alloc, key.as_str())?;
+    }
+    Ok(())
+}
+
+/// What the declarations on the key would say, merged, with this one of the place.
 pub fn merged_with(
     index: &KeyHolders<FacePlace>,
     place: FacePlace,

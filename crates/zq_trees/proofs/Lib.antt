@@ -1,5 +1,6 @@
 pub mod Places
 pub mod Sitting
+pub mod Handing
 pub mod Ordered
 pub mod Sets
 pub mod Firsts

@@ -3,3 +3,4 @@ pub mod Seating
 pub mod Tellings
 pub mod Told
 pub mod Entries
+pub mod Networks

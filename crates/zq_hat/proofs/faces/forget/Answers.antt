@@ -1,7 +1,7 @@
 use Rattle.std.proofs.Common.{◌≡◌, ◌∙◌, ap, fold, sym}
 use Rattle.zq_index.specs.Holders.{Index, without_holding}
 use Rattle.zq_hat.specs.Tied.{without_declared}
-use Rattle.zq_hat.proofs.hat.forget.Goals as goal
+use Rattle.zq_hat.proofs.faces.forget.Goals as goal
 
 pub loop-id-preserved : goal.loop-id-preserved
 loop-id-preserved c =
