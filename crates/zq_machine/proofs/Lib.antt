@@ -32,7 +32,6 @@ pub mod RoutersMoved
 pub mod DueMoved
 pub mod Worded
 pub mod Foreign
-pub mod Built
 pub mod DueHeard
 pub mod Tells
 pub mod Direct

@@ -1,30 +1,19 @@
 -- Kinds of calls.
 use Rattle.std.specs.Prelude.{ℕ, Bool, true, false, not, ◌&&◌, ◌||◌, ◌==◌, if◌then◌else◌, List, [], ◌∷◌, Option, Some, None}
-use Rattle.zq_message.specs.declared.message.Region.{Region}
 use Rattle.zq_message.specs.declared.message.Declare.{Declare}
 use Rattle.zq_message.specs.declared.message.DeclareBody.{DeclareBody}
 use Rattle.zq_message.specs.declared.message.DeclareBody.TheVariants as body
 use Rattle.zq_message.specs.declared.message.FaceId.{FaceId}
 use Rattle.zq_hat.specs.declared.types.FinalMark.TheVariants as mark
-use Rattle.zq_hat.specs.declared.types.Strategy.{Strategy}
-use Rattle.zq_hat.specs.declared.types.Strategy.TheVariants as strategy
-use Rattle.zq_hat.specs.Regions.{strategy_of}
 use Rattle.zq_machine.specs.declared.call.Opening.{Opening}
 use Rattle.zq_machine.specs.declared.call.Call.{Call}
 use Rattle.zq_machine.specs.declared.call.Call.TheVariants as call
-use Rattle.zq_machine.specs.Configs.{Settings, has_region, north_of}
+use Rattle.zq_machine.specs.Configs.{Settings, has_region}
 
 -- the call reports a reply as sent
 abbrev pub is_sent : Call → Bool
 is_sent (call.Sent n) = true
 is_sent c = false
-
--- the gateway serves the faces of all regions but those of routers
-abbrev pub is_served : Strategy → Bool
-is_served strategy.Broker = true
-is_served strategy.Client = true
-is_served strategy.Peer = true
-is_served strategy.Router = false
 
 -- no namespace is given
 abbrev pub is_absent : Option (List ℕ) → Bool
@@ -40,17 +29,11 @@ has_none (x ∷ xs) = false
 abbrev pub is_plain_opening : Opening → Bool
 is_plain_opening o = is_absent o.namespace && has_none o.entry_deny && has_none o.exit_deny
 
--- the strategy of a region of the configuration
-abbrev pub strategy_in : Settings → Region → Strategy
-strategy_in config r = strategy_of r (north_of config.entries)
-
--- calls that the gateway answers today: faces are opened in all regions but those of routers, without namespace and deny lists, and in regions that the configuration lacks, where they are refused
+-- calls that the gateway answers today: faces are opened without namespace and deny lists, and in regions that the configuration lacks, where they are refused; interests and their finals are yet to come
 abbrev pub is_built : Settings → Call → Bool
-is_built config (call.Open o) = not (has_region config.entries o.region) || (is_served (strategy_in config o.region) && is_plain_opening o)
+is_built config (call.Open o) = not (has_region config.entries o.region) || is_plain_opening o
 is_built config (call.Interest face id keys wire) = false
 is_built config (call.InterestFinal face id) = false
-is_built config (call.SetNetwork r net) = false
-is_built config (call.SetNodeIds face ids) = false
 is_built config c = true
 
 -- the call that the end of declarations makes, if it answers the interest 0

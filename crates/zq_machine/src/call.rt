@@ -1,12 +1,11 @@
 //! What a gateway is asked, and what it answers.
 ghost use Rattle.std.specs.Prelude.{◌≡◌};
 ghost use Rattle.zq_machine.specs.declared.call.Call.TheVariants as call;
-ghost use Rattle.zq_machine.specs.Calls.{has_none, is_absent, is_built, is_plain_opening, is_sent, is_served, strategy_in};
+ghost use Rattle.zq_machine.specs.Calls.{has_none, is_absent, is_built, is_plain_opening, is_sent};
 
 use crate::config::Config;
 use crate::handed::HandedList;
-use zq_hat::strategy::strategy_of;
-use zq_hat::types::{FinalMark, Network, NodeIds, Strategy};
+use zq_hat::types::{FinalMark, Network, NodeIds};
 use zq_key::items::Items;
 use zq_key::message::{
     Bound, FaceId, Mode, QueryableInfoType, Region, Request, Response, TextList, WireExpr, Zid,
@@ -111,10 +110,9 @@ impl Call {
         matches!(self, Call::Sent { .. })
     }
 
-    /// Whether the gateway answers calls of this form today. Faces are opened in all regions but
-    /// those of routers, without namespace and deny lists, and in regions that the configuration
-    /// lacks, where they are refused; interests, their finals, networks and node tables are yet to
-    /// come.
+    /// Whether the gateway answers calls of this form today. Faces are opened without namespace and
+    /// deny lists, and in regions that the configuration lacks, where they are refused; interests and
+    /// their finals are yet to come.
     pub fn is_built(&self, config: &Config) -> bool
         ensures { result ≡ is_built config.now self.now }
     {
@@ -122,40 +120,24 @@ impl Call {
             Call::Open(opening) => opening.is_built(config),
             Call::Interest { .. } => false,
             Call::InterestFinal { .. } => false,
-            Call::SetNetwork { .. } => false,
-            Call::SetNodeIds { .. } => false,
             _ => true,
         }
     }
 }
 
 impl Opening {
-    /// Whether the gateway opens faces in this way today: without a namespace and deny lists, and in
-    /// no region of routers; in a region that the configuration lacks it is refused.
+    /// Whether the gateway opens faces in this way today: without a namespace and deny lists; in a
+    /// region that the configuration lacks it is refused.
     pub fn is_built(&self, config: &Config) -> bool
         ensures { result ≡ is_built config.now (call.Open self.now) }
     {
-        if !config.has_region(self.region) {
-            return true;
-        }
-        is_served(config, self.region) && self.is_plain()
+        !config.has_region(self.region) || self.is_plain()
     }
 
     fn is_plain(&self) -> bool
         ensures { result ≡ is_plain_opening self.now }
     {
         self.namespace.is_none() && self.entry_deny.is_empty() && self.exit_deny.is_empty()
-    }
-}
-
-fn is_served(config: &Config, region: Region) -> bool
-    ensures { result ≡ is_served (strategy_in config.now region) }
-{
-    match strategy_of(region, config.north()) {
-        Strategy::Broker => true,
-        Strategy::Client => true,
-        Strategy::Peer => true,
-        Strategy::Router => false,
     }
 }
 
