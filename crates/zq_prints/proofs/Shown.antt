@@ -8,8 +8,7 @@ use Rattle.zq_machine.specs.State.{State}
 use Rattle.zq_machine.specs.TextCalls.{TextCall, read}
 use Rattle.zq_machine.specs.Deciding.{accepted, granted, renamed, told_of}
 use Rattle.zq_machine.specs.Machine.{step}
-use Rattle.zq_machine.specs.Messages.{TextMessage, text_final, text_reply, text_request}
-use Rattle.zq_machine.specs.Trees.{body_on, from_tree}
+use Rattle.zq_machine.specs.Messages.{TextMessage, from_hat, told_or_ended, text_final, text_reply, text_request}
 use Rattle.zq_machine.specs.Writing.{write}
 use Rattle.zq_trees.specs.declared.types.Telling.{Telling as TreeTelling}
 use Rattle.zq_machine.proofs.Granted.{by_granted, told_by}
@@ -25,10 +24,10 @@ written_shows names (text_reply r ∷ ms) = ((tt, tt), written_shows names ms)
 written_shows names (text_final f ∷ ms) = ((tt, tt), written_shows names ms)
 
 -- and so do those of declarations: what is told along a tree answers no interest
-tree_shows : (t : TreeTelling) → IsTold ShowsHanded (λ to text id n. ((refl, refl), (refl, refl))) (from_tree t)
+tree_shows : (t : TreeTelling) → IsTold ShowsHanded (λ to text id n. ((refl, refl), (refl, refl))) (from_hat t)
 tree_shows t = by t.info
   where
-    by : (o : Option QueryableInfoType) → IsTold ShowsHanded (λ to text id n. ((refl, refl), (refl, refl))) (record (from_tree t) { body = body_on t.key o })
+    by : (o : Option QueryableInfoType) → IsTold ShowsHanded (λ to text id n. ((refl, refl), (refl, refl))) (record (from_hat t) { body = told_or_ended t.id t.key o })
     by None text w n = (refl, refl)
     by (Some i) text w n = (tt, tt)
 
