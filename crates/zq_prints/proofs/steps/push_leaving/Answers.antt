@@ -1,4 +1,4 @@
-use Rattle.std.proofs.Common.{◌≡◌, ◌∙◌, ◌++◌, sym, ap, append-nil}
+use Rattle.std.proofs.Common.{◌∙◌, ◌++◌, sym, ap, append-nil}
 use Rattle.zq_machine.specs.Handing.{left}
 use Rattle.zq_prints.specs.Steps.{leaving_words}
 use Rattle.zq_prints.proofs.Sameness.{says_nothing}
