@@ -1,8 +1,8 @@
-use Rattle.std.proofs.Common.{◌≡◌, ◌∙◌, ◌++◌, ◌≤◌, ℕ, List, drop, length, sym, ap, arith, length-append}
+use Rattle.std.proofs.Common.{◌∙◌, ◌++◌, ℕ, List, drop, length, sym, ap, arith, length-append}
 use Rattle.std.proofs.lemmas.List.{drop-append-le}
 use Rattle.zq_names.specs.Texts.{nonwild}
 use Rattle.zq_machine.specs.Handing.{Handed}
-use Rattle.zq_tables.specs.Naming.{NamingState, change_naming, with_told_number}
+use Rattle.zq_tables.specs.Naming.{change_naming, with_told_number}
 use Rattle.zq_handing.specs.Telling.{handed_declare, untold}
 use Rattle.zq_handing.proofs.Telling.{key_is, messages_of, pushed, told_messages, told_names, untold-append, untold_messages}
 use Rattle.zq_handing.proofs.tell.tell_one.Goals as goal
