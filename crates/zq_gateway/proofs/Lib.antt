@@ -1,2 +1,4 @@
 pub mod Queryables
 pub mod Reached
+pub mod Due
+pub mod Networks

@@ -1,10 +1,8 @@
 -- What a call gives, and what a gateway has behind it.
-use Rattle.std.specs.Prelude.{◌≡◌, true, List, Option, Result, IfOk, OnOk, OnErr}
-use Rattle.std.specs.List.{AllByRecursion}
+use Rattle.std.specs.Prelude.{◌≡◌, List, Option, Result, IfOk, OnOk, OnErr}
 use Rattle.zq_message.specs.declared.memory.OutOfMemory.{OutOfMemory}
 use Rattle.zq_machine.specs.declared.call.Call.{Call}
 use Rattle.zq_machine.specs.declared.call.Step.{Step}
-use Rattle.zq_machine.specs.Calls.{is_built}
 use Rattle.zq_machine.specs.Configs.{Settings}
 use Rattle.zq_machine.specs.Machine.{after, after_of, answer, settle, state_after, step, step_of}
 use Rattle.zq_machine.specs.State.{State, opening_state}
@@ -28,9 +26,8 @@ MayPerform old new c r = Answers old new (step_of old c) (after_of old c) r
 abbrev pub Settles : State → State → TextCall → Result Step OutOfMemory → Type 0
 Settles old new t r = Answers old new (answer old t) (settle old t) r
 
--- calls that are built made this state of a new gateway's
+-- calls made this state of a new gateway's
 pub record IsReached (s : State) : Type 0 where
   pub config : Settings
   pub calls : List Call
-  pub built : AllByRecursion (λ c. is_built config c ≡ true) calls
   pub here : s ≡ state_after (opening_state config) calls

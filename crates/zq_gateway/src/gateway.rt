@@ -3,6 +3,7 @@
 //! - `tables`: what a gateway keeps, and a call by its kind
 //! - `faces`: faces that come and go
 //! - `keys`: numbers that faces declare for keys
+//! - `networks`: networks of regions of routers, and what node numbers stand for
 //! - `queryables`: queryables that faces declare and withdraw, and marks of what they have declared
 //! - `requests`: requests, and whom they are handed to
 //! - `replies`: replies, finals, reports that a reply was sent, and moments that have come
@@ -21,6 +22,7 @@ ghost use Rattle.zq_gateway.specs.Making.{Performs, MayPerform};
 
 mod faces;
 mod keys;
+mod networks;
 mod queryables;
 mod replies;
 mod requests;
@@ -29,7 +31,7 @@ mod tables;
 use crate::gateway::tables::Tables;
 use std::alloc::Global;
 use std::marker::Model;
-use zq_hat::types::FinalMark;
+use zq_hat::types::{FinalMark, Network, NodeIds};
 use zq_key::memory::OutOfMemory;
 use zq_key::message::{Declare, FaceId, Mode, Region, Request, Response, Zid};
 use zq_machine::call::{Call, Opening, Refusal, Step};
@@ -159,6 +161,23 @@ impl Gateway {
         ensures { Performs self.old self.new (call.SetGateways region table.now) result }
     {
         self.tables.list_gateways(region, table)
+    }
+
+    /// A network of a region of routers is put in place: entries of routers that it does not list go,
+    /// and children of its trees that are new are told what stands of the roots. Elsewhere it changes
+    /// nothing. `UnknownRegion` where the region has no hat.
+    pub fn set_network(&mut self, region: Region, net: &Network) -> Result<Step, OutOfMemory>
+        ensures { Performs self.old self.new (call.SetNetwork region net.now) result }
+    {
+        self.tables.set_network(region, net)
+    }
+
+    /// The node numbers of a face stand for these ids from now on. `UnknownFace` where the face is not
+    /// open.
+    pub fn set_node_ids(&mut self, face: FaceId, ids: &NodeIds) -> Result<Step, OutOfMemory>
+        ensures { Performs self.old self.new (call.SetNodeIds face ids.now) result }
+    {
+        self.tables.set_node_ids(face, ids)
     }
 
     /// A target ends a query (upstream's `Primitives::send_response_final`); the final to the asker

@@ -22,7 +22,7 @@ use zq_key::message::{Declare, DeclareBody, FaceId, Region, Request, Response};
 use zq_machine::call::{Call, Outcome, Refusal, Step};
 use zq_machine::config::Config;
 use zq_machine::face::OpenFace;
-use zq_machine::handed::Handed;
+use zq_machine::handed::{Handed, HandedList};
 use zq_query::queries::Queries;
 use zq_route::gateways::Gateways;
 use zq_tables::RegionMap;
@@ -116,8 +116,8 @@ impl Tables {
             Call::FinalizeInterest { face, mark, set } => self.finalize(*face, mark, *set),
             Call::Interest { .. } => unreachable!(),
             Call::InterestFinal { .. } => unreachable!(),
-            Call::SetNetwork { .. } => unreachable!(),
-            Call::SetNodeIds { .. } => unreachable!(),
+            Call::SetNetwork { region, net } => self.set_network(*region, net),
+            Call::SetNodeIds { face, ids } => self.set_node_ids(*face, ids),
         }
     }
 
@@ -201,9 +201,15 @@ impl Tables {
     pub(super) fn done(&self) -> Step
         ensures { result ≡ done [] }
     {
+        self.told(Items::new(self.alloc))
+    }
+
+    pub(super) fn told(&self, handed: HandedList) -> Step
+        ensures { result ≡ done handed }
+    {
         Step {
             outcome: Outcome::Done,
-            handed: Items::new(self.alloc),
+            handed,
         }
     }
 

@@ -1,12 +1,9 @@
-use Rattle.std.proofs.Common.{◌∙◌, ap}
 use Rattle.zq_machine.specs.declared.call.Call.TheVariants as call
-use Rattle.zq_machine.specs.Calls.{is_built}
-use Rattle.zq_machine.specs.State.{State}
 use Rattle.zq_gateway.proofs.Reached.{reached_given}
 use Rattle.zq_gateway.proofs.gateway.Gateway.open_face.Goals as goal
 
 pub invariant_of-self : goal.invariant_of-self
-invariant_of-self c = reached_given c.self.inside.tables _ (call.Open c.args.opening.now) _ c.open.result (ap (λ (s : State). is_built s.core.config (call.Open c.args.opening.now)) c.self.view_is ∙ c.requires) c.open.ensures c.self.invariant
+invariant_of-self c = reached_given c.self.inside.tables _ (call.Open c.args.opening.now) _ c.open.result c.open.ensures c.self.invariant
 
 pub returns : goal.returns
 returns c = rw (← c.self.view_is) c.open.ensures

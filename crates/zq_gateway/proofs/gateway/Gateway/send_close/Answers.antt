@@ -1,10 +1,9 @@
-use Rattle.std.proofs.Common.{refl}
 use Rattle.zq_machine.specs.declared.call.Call.TheVariants as call
 use Rattle.zq_gateway.proofs.Reached.{reached_given}
 use Rattle.zq_gateway.proofs.gateway.Gateway.send_close.Goals as goal
 
 pub invariant_of-self : goal.invariant_of-self
-invariant_of-self c = reached_given c.self.inside.tables _ (call.Close c.args.face) _ c.close.result refl c.close.ensures c.self.invariant
+invariant_of-self c = reached_given c.self.inside.tables _ (call.Close c.args.face) _ c.close.result c.close.ensures c.self.invariant
 
 pub returns : goal.returns
 returns c = rw (← c.self.view_is) c.close.ensures
