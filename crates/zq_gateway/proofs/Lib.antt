@@ -1,2 +1,5 @@
 pub mod Queryables
 pub mod Reached
+pub mod Beside
+pub mod Due
+pub mod Entering

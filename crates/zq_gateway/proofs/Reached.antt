@@ -138,8 +138,8 @@ module _ (s : State) (i : IsReached s) where
     reached_released = settles_granted s (withdrawing face id) (reached_quiet s i (withdrawing face id) refl) fits refl
 
 -- ---- what holds of it
-in_order : (s : State) (i : IsReached s) → InOrder i.config s
-in_order s i = subst (InOrder i.config) (sym i.here) (run_in_order i.config i.calls)
+pub reached_in_order : (s : State) (i : IsReached s) → InOrder i.config s
+reached_in_order s i = subst (InOrder i.config) (sym i.here) (run_in_order i.config i.calls)
 
 gone : {X : Type 0} (o : Option X) → is_some o ≡ false → o ≡ None
 gone None e = refl
@@ -147,18 +147,18 @@ gone (Some x) e = absurd (true≢false e)
 
 -- the next number is no open face's
 pub reached_absent : (s : State) → IsReached s → at s.core.next_face s.core.faces ≡ None
-reached_absent s i = next_absent s (in_order s i).sound
+reached_absent s i = next_absent s (reached_in_order s i).sound
 
 -- nothing stands for keys at it
 pub reached_unnamed : (s : State) → IsReached s → at s.core.next_face s.names ≡ None
-reached_unnamed s i = gone (at s.core.next_face s.names) ((in_order s i).tied.named s.core.next_face ∙ ap is_some (reached_absent s i))
+reached_unnamed s i = gone (at s.core.next_face s.names) ((reached_in_order s i).tied.named s.core.next_face ∙ ap is_some (reached_absent s i))
 
 -- and it is in no hat
 pub reached_vacant : (s : State) (r : Region) → IsReached s → has_hat r s.core ≡ true → seats r s.core.next_face s.core.hats ≡ Some false
 reached_vacant s r i there =
     let h : (h : HatState) × (hat_at r s.core.hats ≡ Some h) = some_of (hat_at r s.core.hats) there in
     ap (option_map (has_face s.core.next_face)) h.1
-    ∙ ap Some ((in_order s i).tied.seats r h.0 s.core.next_face h.1 ∙ ap (λ o. option_map_or (stands_in r) o false) (reached_absent s i))
+    ∙ ap Some ((reached_in_order s i).tied.seats r h.0 s.core.next_face h.1 ∙ ap (λ o. option_map_or (stands_in r) o false) (reached_absent s i))
 
 -- the hat of an open face's region has the face
 pub reached_seated : (s : State) (face : ℕ) (r : Region) → IsReached s → face_region face s.core ≡ Some r → seats r face s.core.hats ≡ Some true
@@ -167,7 +167,7 @@ reached_seated s face r i e = by (at face s.core.faces) refl e
     by : (o : Option OpenFace) → at face s.core.faces ≡ o → option_map region_in o ≡ Some r → seats r face s.core.hats ≡ Some true
     by None seen f = absurd (let gap : None ≡ Some r = f in cc)
     by (Some o) seen f =
-        let h : (h : HatState) × (hat_at o.region s.core.hats ≡ Some h) = some_of (hat_at o.region s.core.hats) ((in_order s i).tied.homes face o seen) in
+        let h : (h : HatState) × (hat_at o.region s.core.hats ≡ Some h) = some_of (hat_at o.region s.core.hats) ((reached_in_order s i).tied.homes face o seen) in
         let open_here = ap (λ x. option_map_or (stands_in o.region) x false) seen ∙ sym (number_test (region_index o.region) (region_index o.region)) ∙ itself (region_index o.region) in
-        let found : seats o.region face s.core.hats ≡ Some true = ap (option_map (has_face face)) h.1 ∙ ap Some ((in_order s i).tied.seats o.region h.0 face h.1 ∙ open_here) in
+        let found : seats o.region face s.core.hats ≡ Some true = ap (option_map (has_face face)) h.1 ∙ ap Some ((reached_in_order s i).tied.seats o.region h.0 face h.1 ∙ open_here) in
         subst (λ x. seats x face s.core.hats ≡ Some true) (same_Some _ _ f) found

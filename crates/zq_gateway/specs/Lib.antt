@@ -1,2 +1,3 @@
 pub mod Undoing
 pub mod Making
+pub mod Routing
