@@ -96,17 +96,17 @@ module _ (s : State) (t : TextCall) (fits : refusal_of s.core t ≡ None) (ts : 
 
 -- ---- a closing tells before the face goes
 module _ (s : State) (i : IsReached s) (face : FaceId) (r : Region) (home : face_region face.0 s.core ≡ Some r) (fits : refusal_of s.core (closing face) ≡ None) where
-  gone : NamingState → NamingState
+  abbrev gone : NamingState → NamingState
   gone = remove_entry (is_at (nat_cmp face.0))
 
   spared : (to : ℕ) → is_some (naming_at to (gone s.names)) ≡ true → is_at (nat_cmp face.0) to ≡ false
-  spared to open = by (is_at (nat_cmp face.0) to) refl
+  spared to heard = by (is_at (nat_cmp face.0) to) refl
     where
       by : (b : Bool) → is_at (nat_cmp face.0) to ≡ b → is_at (nat_cmp face.0) to ≡ false
       by false e = e
       by true e =
           let none = found_after_removal nat_cmp_total exact_unsigned face.0 to s.names (reached_in_order s i).tied.names_sorted ∙ ap (λ b. cond b None (naming_at to s.names)) e in
-          absurd (false≢true (sym (ap is_some none) ∙ open))
+          absurd (false≢true (sym (ap is_some none) ∙ heard))
 
   told_before : told_by s (closing face) ≡ changed_after s.core (accepted s.core (closing face)) gone (tell s.core (told_of s.core (closing face)) s.names)
   told_before =
@@ -136,7 +136,7 @@ module _ (s : State) (i : IsReached s) (face : FaceId) (r : Region) (home : face
 -- ---- a withdrawal tells before the queryable is let go
 module _ (s : State) (face : FaceId) (id : ℕ) (fits : refusal_of s.core (withdrawing face id) ≡ None) (ts : List TreeTelling) (same : ts ≡ due s.core (withdrawing face id)) (l : List Handed) (new : NamingState)
     (told : behind [] (tell s.core (map from_hat (ordered ts)) s.names) ≡ record { handed = l; names = new }) where
-  let_go : NamingState → NamingState
+  abbrev let_go : NamingState → NamingState
   let_go = change_naming face.0 (without_queryable id)
 
   all_beside : (us : List Telling) → AllByRecursion (λ (t : Telling). IsBeside s.core (accepted s.core (withdrawing face id)) let_go t.to.0) us

@@ -80,9 +80,9 @@ module _ (c : Core) (face : FaceId) (sd : Said) (info : Option QueryableInfoType
   pub not_open : is_open face.0 c ≡ false → refusal_of c (entering face sd info node) ≡ Some refusal.UnknownFace
   not_open e = refusal_is ∙ ap (λ b. cond (not b) (Some refusal.UnknownFace) behind_face) e
 
-  module _ (open : is_open face.0 c ≡ true) where
+  module _ (opens : is_open face.0 c ≡ true) where
     past_face : refusal_of c (entering face sd info node) ≡ behind_face
-    past_face = refusal_is ∙ ap (λ b. cond (not b) (Some refusal.UnknownFace) behind_face) open
+    past_face = refusal_is ∙ ap (λ b. cond (not b) (Some refusal.UnknownFace) behind_face) opens
 
     pub no_key : (r : Refusal) → key_refusal sd ≡ Some r → refusal_of c (entering face sd info node) ≡ Some r
     no_key r e = past_face ∙ by (is_unscoped sd) (says_key sd) e

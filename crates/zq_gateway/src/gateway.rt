@@ -24,6 +24,7 @@ mod keys;
 mod queryables;
 mod replies;
 mod requests;
+mod routers;
 mod tables;
 
 use crate::gateway::tables::Tables;

@@ -22,7 +22,7 @@ use zq_key::message::{Declare, DeclareBody, FaceId, Region, Request, Response};
 use zq_machine::call::{Call, Outcome, Refusal, Step};
 use zq_machine::config::Config;
 use zq_machine::face::OpenFace;
-use zq_machine::handed::Handed;
+use zq_machine::handed::{Handed, HandedList};
 use zq_query::queries::Queries;
 use zq_route::gateways::Gateways;
 use zq_tables::RegionMap;
@@ -104,9 +104,9 @@ impl Tables {
             Call::UndeclareQueryable {
                 face,
                 id,
-                wire: _,
+                wire,
                 node,
-            } => self.undeclare_queryable(*face, *id, *node),
+            } => self.unregister(*face, *id, wire, *node),
             Call::Request { face, request, now } => self.send_request(*face, request, *now),
             Call::Response { face, response } => self.send_response(*face, response),
             Call::ResponseFinal { face, rid } => self.response_final(*face, *rid),
@@ -201,9 +201,15 @@ impl Tables {
     pub(super) fn done(&self) -> Step
         ensures { result ≡ done [] }
     {
+        self.told(Items::new(self.alloc))
+    }
+
+    pub(super) fn told(&self, handed: HandedList) -> Step
+        ensures { result ≡ done handed }
+    {
         Step {
             outcome: Outcome::Done,
-            handed: Items::new(self.alloc),
+            handed,
         }
     }
 
@@ -256,9 +262,7 @@ impl Tables {
             DeclareBody::DeclareQueryable { id, wire, info } => {
                 self.register(face, *id, wire, *info, node)
             }
-            DeclareBody::UndeclareQueryable { id, wire: _ } => {
-                self.undeclare_queryable(face, *id, node)
-            }
+            DeclareBody::UndeclareQueryable { id, wire } => self.unregister(face, *id, wire, node),
             DeclareBody::DeclareFinal => match interest {
                 Some(0) => self.finalize(face, &FinalMark::Initial, true),
                 _ => Ok(self.done()),
