@@ -1,18 +1,67 @@
--- What a call tells: it is of keys.
-use Rattle.std.proofs.Common.{◌≡◌, sym, subst, true, List, [], ◌∷◌, ◌++◌, None}
+-- What a call tells: it is of keys; and what the call is answered and leaves, by what its tellings are told.
+use Rattle.std.proofs.Common.{◌≡◌, ◌∙◌, refl, sym, ap, subst, ℕ, Bool, true, false, cond, not, map, List, [], ◌∷◌, ◌++◌, append-nil, Option, Some, None}
+use Rattle.std.specs.BTreeMap.{is_at}
 use Rattle.std.specs.List.{All, AllByRecursion}
+use Rattle.std.specs.Map.{remove_entry}
+use Rattle.std.specs.Option.{is_some, option_and_then, option_map, option_map_or, option_to_list}
+use Rattle.std.specs.Ordering.{nat_cmp}
+use Rattle.std.proofs.lemmas.Bool.{false≢true}
+use Rattle.std.proofs.lemmas.Cmp.{nat_cmp_total}
 use Rattle.std.proofs.lemmas.List.Elements.{All-cons, All-nil}
+use Rattle.std.proofs.lemmas.Map.Lookups.{exact_unsigned}
+use Rattle.std.proofs.lemmas.Option.{same_Some}
+use Rattle.zq_message.specs.declared.message.FaceId.{FaceId}
+use Rattle.zq_message.specs.declared.message.QueryableInfoType.{QueryableInfoType}
+use Rattle.zq_message.specs.declared.message.Region.{Region}
 use Rattle.zq_key.specs.Key.{is_key}
+use Rattle.zq_key.proofs.Lookups.{found_after_removal}
 use Rattle.zq_trees.specs.declared.types.Telling.{Telling as TreeTelling}
-use Rattle.zq_machine.specs.Deciding.{accepted, refusal_of}
-use Rattle.zq_machine.specs.Machine.{accepted_state}
-use Rattle.zq_machine.specs.State.{Core, State}
-use Rattle.zq_machine.specs.TextCalls.{TextCall}
-use Rattle.zq_machine.specs.Trees.{all_own_told, touched, tree_told}
+use Rattle.zq_trees.specs.Tellings.{in_order as ordered}
+use Rattle.zq_hat.specs.declared.types.Declaration.{Declaration}
+use Rattle.zq_hat.specs.Kept.{clashes_at, declaration_at, keys_of_face, registered, unregistered, without_face}
+use Rattle.zq_hat.specs.State.{HatState}
+use Rattle.zq_tables.specs.declared.said.Said.TheVariants as said
+use Rattle.zq_tables.specs.Naming.{NamingState, change_naming, naming_at, without_queryable}
+use Rattle.zq_query.specs.Closing.{closing_finals}
+use Rattle.zq_machine.specs.declared.call.Outcome.TheVariants as outcome
+use Rattle.zq_machine.specs.declared.call.Refusal.{Refusal}
+use Rattle.zq_machine.specs.declared.call.Refusal.TheVariants as refusal
+use Rattle.zq_machine.specs.declared.call.Step.{Step}
+use Rattle.zq_machine.specs.declared.face.OpenFace.{OpenFace}
+use Rattle.zq_machine.specs.Deciding.{accepted, answered, granted, refusal_of, renamed, told_of}
+use Rattle.zq_machine.specs.Handing.{Handed}
+use Rattle.zq_machine.specs.Hearing.{CanBeTold}
+use Rattle.zq_machine.specs.Machine.{accepted_state, answer, refused_step, settle}
+use Rattle.zq_machine.specs.Messages.{Telling, from_hat}
+use Rattle.zq_machine.specs.State.{Core, State, at, change_hat, change_hat_of, clashes_in, face_region, has_declared_in, hat_at, hat_of, is_open, region_in}
+use Rattle.zq_machine.specs.TextCalls.{TextCall, closing, declaring, withdrawing}
+use Rattle.zq_machine.specs.Trees.{all_own_told, own_told_on, touched, tree_told}
+use Rattle.zq_machine.specs.Writing.{Told, sent_final, tell, write}
 use Rattle.zq_machine.proofs.Agreed.{InOrder, accepted_in_order}
-use Rattle.zq_machine.proofs.DueHeard.{due_keys}
+use Rattle.zq_machine.proofs.DueHeard.{due_can, due_keys}
+use Rattle.zq_machine.proofs.Granted.{answers_told, closed_after, closed_step, settles_told, told_by}
+use Rattle.zq_machine.proofs.Lists.{all_weaker}
+use Rattle.zq_machine.proofs.Writing.{after_decided, answers_fully, fully, settles_fully, told_after, with_told}
+use Rattle.zq_handing.specs.Telling.{behind}
 use Rattle.zq_gateway.specs.Making.{IsReached}
+use Rattle.zq_gateway.proofs.Beside.{IsBeside, changed_after, left_beside, released_beside, told_beside}
 use Rattle.zq_gateway.proofs.Reached.{reached_in_order}
+
+-- ---- the hat of an open face's region
+module _ (face : ℕ) (r : Region) (c : Core) (home : face_region face c ≡ Some r) where
+  pub hat_home : hat_of face c ≡ hat_at r c.hats
+  hat_home = by (at face c.faces) home
+    where
+      by : (x : Option OpenFace) → option_map region_in x ≡ Some r → option_and_then (λ (o : OpenFace). hat_at o.region c.hats) x ≡ hat_at r c.hats
+      by None e = absurd (let gap : None ≡ Some r = e in cc)
+      by (Some o) e = ap (λ q. hat_at q c.hats) (same_Some _ _ e)
+
+  pub changed_home : (f : HatState → HatState) → (change_hat_of face f c).hats ≡ change_hat r f c.hats
+  changed_home f = by (at face c.faces) home
+    where
+      by : (x : Option OpenFace) → option_map region_in x ≡ Some r → option_map_or (λ (o : OpenFace). change_hat o.region f c.hats) x c.hats ≡ change_hat r f c.hats
+      by None e = absurd (let gap : None ≡ Some r = e in cc)
+      by (Some o) e = ap (λ q. change_hat q f c.hats) (same_Some _ _ e)
 
 -- ---- what is due
 all_from : {X : Type 0} (P : X → Type 0) (xs : List X) → AllByRecursion P xs → All P xs
@@ -29,3 +78,169 @@ module _ (s : State) (i : IsReached s) (t : TextCall) (fits : refusal_of s.core 
 
   pub due_of_keys : (ts : List TreeTelling) → ts ≡ due s.core t → All (λ (u : TreeTelling). is_key u.key ≡ true) ts
   due_of_keys ts same = subst (All (λ (u : TreeTelling). is_key u.key ≡ true)) (sym same) (all_from (λ (u : TreeTelling). is_key u.key ≡ true) (due s.core t) (due_keys i.config s (reached_in_order s i) t fits later))
+
+  due_open : AllByRecursion (CanBeTold (renamed s t)) (told_of s.core t)
+  due_open = due_can i.config s (reached_in_order s i) t fits later
+
+-- ---- a call that changes the names before it tells, or not at all
+module _ (s : State) (t : TextCall) (fits : refusal_of s.core t ≡ None) (ts : List TreeTelling) (same : ts ≡ due s.core t) (l : List Handed) (new : NamingState)
+    (told : behind [] (tell (accepted s.core t) (map from_hat (ordered ts)) (renamed s t)) ≡ record { handed = l; names = new }) where
+  its_telling : told_by s t ≡ record { handed = l; names = new }
+  its_telling = ap (λ us. behind [] (tell (accepted s.core t) (map from_hat (ordered us)) (renamed s t))) (sym same) ∙ told
+
+  pub told_answered : (granted s.core t).messages ≡ [] → ◌≡◌ {A = Step} (record { outcome = (granted s.core t).outcome; handed = l }) (answer s t)
+  told_answered none = answers_told s t l fits (ap (λ (w : Told). w.handed) (sym its_telling) ∙ ap (λ ms. write s.names ms ++ (told_by s t).handed) (sym none))
+
+  pub told_left : settle s t ≡ record { core = accepted s.core t; names = new }
+  told_left = settles_told s t fits ∙ ap (with_told (accepted_state s t)) its_telling
+
+-- ---- a closing tells before the face goes
+module _ (s : State) (i : IsReached s) (face : FaceId) (r : Region) (home : face_region face.0 s.core ≡ Some r) (fits : refusal_of s.core (closing face) ≡ None) where
+  abbrev gone : NamingState → NamingState
+  gone = remove_entry (is_at (nat_cmp face.0))
+
+  spared : (to : ℕ) → is_some (naming_at to (gone s.names)) ≡ true → is_at (nat_cmp face.0) to ≡ false
+  spared to heard = by (is_at (nat_cmp face.0) to) refl
+    where
+      by : (b : Bool) → is_at (nat_cmp face.0) to ≡ b → is_at (nat_cmp face.0) to ≡ false
+      by false e = e
+      by true e =
+          let none = found_after_removal nat_cmp_total exact_unsigned face.0 to s.names (reached_in_order s i).tied.names_sorted ∙ ap (λ b. cond b None (naming_at to s.names)) e in
+          absurd (false≢true (sym (ap is_some none) ∙ heard))
+
+  told_before : told_by s (closing face) ≡ changed_after s.core (accepted s.core (closing face)) gone (tell s.core (told_of s.core (closing face)) s.names)
+  told_before =
+      told_beside s.core (accepted s.core (closing face)) gone (told_of s.core (closing face))
+      (all_weaker (CanBeTold (gone s.names)) (λ (t : Telling). IsBeside s.core (accepted s.core (closing face)) gone t.to.0) (λ t can. left_beside s.core (accepted s.core (closing face)) face.0 t.to.0 (spared t.to.0 can.0) refl)
+      (told_of s.core (closing face)) (due_open s i (closing face) fits))
+      s.names
+
+  module _ (ts : List TreeTelling) (same : ts ≡ due s.core (closing face)) (finals l : List Handed) (new : NamingState)
+      (told : behind finals (tell s.core (map from_hat (ordered ts)) s.names) ≡ record { handed = l; names = new }) where
+    its_told : behind finals (tell s.core (told_of s.core (closing face)) s.names) ≡ record { handed = l; names = new }
+    its_told = ap (λ us. behind finals (tell s.core (map from_hat (ordered us)) s.names)) (sym same) ∙ told
+
+    pub closed_answered : finals ≡ map sent_final (closing_finals face.0 s.core.queries) → ◌≡◌ {A = Step} (record { outcome = outcome.Done; handed = l }) (answer s (closing face))
+    closed_answered are =
+        closed_step s face r l home
+        (ap (λ (w : Told). w.handed) (sym its_told)
+        ∙ ap (λ fs. fs ++ (tell s.core (told_of s.core (closing face)) s.names).handed) are
+        ∙ ap (λ (w : Told). map sent_final (closing_finals face.0 s.core.queries) ++ w.handed) (sym told_before))
+
+    pub closed_left : settle s (closing face) ≡ record { core = accepted s.core (closing face); names = gone new }
+    closed_left =
+        closed_after s face r home
+        ∙ ap (with_told (accepted_state s (closing face))) told_before
+        ∙ ap (λ (w : Told). record { core = accepted s.core (closing face); names = gone w.names }) its_told
+
+-- ---- a withdrawal tells before the queryable is let go
+module _ (s : State) (face : FaceId) (id : ℕ) (fits : refusal_of s.core (withdrawing face id) ≡ None) (ts : List TreeTelling) (same : ts ≡ due s.core (withdrawing face id)) (l : List Handed) (new : NamingState)
+    (told : behind [] (tell s.core (map from_hat (ordered ts)) s.names) ≡ record { handed = l; names = new }) where
+  abbrev let_go : NamingState → NamingState
+  let_go = change_naming face.0 (without_queryable id)
+
+  all_beside : (us : List Telling) → AllByRecursion (λ (t : Telling). IsBeside s.core (accepted s.core (withdrawing face id)) let_go t.to.0) us
+  all_beside [] = tt
+  all_beside (u ∷ us) = (released_beside s.core (accepted s.core (withdrawing face id)) face.0 id u.to.0 refl, all_beside us)
+
+  told_first : told_by s (withdrawing face id) ≡ record { handed = l; names = let_go new }
+  told_first =
+      told_beside s.core (accepted s.core (withdrawing face id)) let_go (told_of s.core (withdrawing face id)) (all_beside (told_of s.core (withdrawing face id))) s.names
+      ∙ ap (λ us. changed_after s.core (accepted s.core (withdrawing face id)) let_go (tell s.core (map from_hat (ordered us)) s.names)) (sym same)
+      ∙ ap (changed_after s.core (accepted s.core (withdrawing face id)) let_go) told
+
+  pub withdrawn_answered : ◌≡◌ {A = Step} (record { outcome = outcome.Done; handed = l }) (answer s (withdrawing face id))
+  withdrawn_answered = answers_told s (withdrawing face id) l fits (ap (λ (w : Told). w.handed) (sym told_first))
+
+  pub withdrawn_left : settle s (withdrawing face id) ≡ record { core = accepted s.core (withdrawing face id); names = let_go new }
+  withdrawn_left = settles_told s (withdrawing face id) fits ∙ ap (with_told (accepted_state s (withdrawing face id))) told_first
+
+-- ---- what own trees tell of one key
+pub one_key : (before after : List (ℕ × HatState)) (key : List ℕ) → all_own_told before after (key ∷ []) ≡ own_told_on before after key
+one_key before after key = append-nil (own_told_on before after key)
+
+-- ---- a call that is refused
+module _ (s : State) (t : TextCall) (r : Refusal) (refuses : refusal_of s.core t ≡ Some r) where
+  pub refused_answered : refused_step r ≡ answer s t
+  refused_answered = sym (answers_fully s t ∙ ap (λ o. fully s.names (told_after (answered o (granted s.core t)) (after_decided s t (answered o (granted s.core t)))) (answered o (granted s.core t))) refuses)
+
+  pub refused_left : settle s t ≡ s
+  refused_left = settles_fully s t ∙ ap (λ o. with_told (after_decided s t (answered o (granted s.core t))) (told_after (answered o (granted s.core t)) (after_decided s t (answered o (granted s.core t))))) refuses
+
+-- ---- the tellings of calls, as the bodies gather them
+-- of a call that touches one key of a region's hat
+module _ (s : State) (t : TextCall) (r : Region) (f : HatState → HatState) (key : List ℕ) (touches : touched s.core t ≡ key ∷ []) (changes : (accepted s.core t).hats ≡ change_hat r f s.core.hats) where
+  pub key_due : (hats : List (ℕ × HatState)) → hats ≡ s.core.hats → (tree ts : List TreeTelling) → tree ≡ tree_told s.core (accepted s.core t) t → ts ≡ tree ++ own_told_on hats (change_hat r f hats) key → ts ≡ due s.core t
+  key_due hats same tree ts is_tree is =
+      is
+      ∙ (λ j. is_tree j ++ own_told_on (same j) (change_hat r f (same j)) key)
+      ∙ ap (λ l. tree_told s.core (accepted s.core t) t ++ l) (sym (one_key s.core.hats (change_hat r f s.core.hats) key))
+      ∙ (λ j. tree_told s.core (accepted s.core t) t ++ all_own_told s.core.hats (sym changes j) (sym touches j))
+
+-- of a closing
+pub closing_due : (s : State) (face : FaceId) (r : Region) → face_region face.0 s.core ≡ Some r → (hats : List (ℕ × HatState)) → hats ≡ s.core.hats
+    → (keys : List (List ℕ)) → keys ≡ option_map_or (keys_of_face face.0) (hat_at r hats) [] → (ts : List TreeTelling) → ts ≡ all_own_told hats (change_hat r (without_face face.0) hats) keys → ts ≡ due s.core (closing face)
+closing_due s face r home hats same keys are ts is =
+    let keys_are : keys ≡ touched s.core (closing face) = are ∙ ap (λ h. option_map_or (keys_of_face face.0) (hat_at r h) []) same ∙ ap (λ o. option_map_or (keys_of_face face.0) o []) (sym (hat_home face.0 r s.core home)) in
+    is
+    ∙ (λ j. all_own_told (same j) (change_hat r (without_face face.0) (same j)) keys)
+    ∙ (λ j. all_own_told s.core.hats (sym (changed_home face.0 r s.core home (without_face face.0)) j) (keys_are j))
+
+-- ---- what refuses a withdrawal and a declaration, by the hat of the face's region
+opened_there : (face : ℕ) (r : Region) (c : Core) → face_region face c ≡ Some r → is_open face c ≡ true
+opened_there face r c = by (at face c.faces)
+  where
+    by : (x : Option OpenFace) → option_map region_in x ≡ Some r → is_some x ≡ true
+    by None e = absurd (let gap : None ≡ Some r = e in cc)
+    by (Some o) e = refl
+
+module _ (s : State) (face : FaceId) (id : ℕ) (r : Region) (home : face_region face.0 s.core ≡ Some r) (h : HatState) (there : hat_at r s.core.hats ≡ Some h) where
+  hat_there : hat_of face.0 s.core ≡ Some h
+  hat_there = hat_home face.0 r s.core home ∙ there
+
+  withdrawal : (o : Option Declaration) → declaration_at face.0 id h ≡ o → refusal_of s.core (withdrawing face id) ≡ cond (not (is_some o)) (Some refusal.UnknownId) None
+  withdrawal o e =
+      ap (λ b. cond (not b) (Some refusal.UnknownFace) (cond (not (has_declared_in face.0 id (hat_of face.0 s.core))) (Some refusal.UnknownId) None)) (opened_there face.0 r s.core home)
+      ∙ ap (λ x. cond (not (has_declared_in face.0 id x)) (Some refusal.UnknownId) None) hat_there
+      ∙ ap (λ x. cond (not (is_some x)) (Some refusal.UnknownId) None) e
+
+  pub withdrawal_refused : None ≡ option_map (λ (d : Declaration). d.key) (declaration_at face.0 id h) → refusal_of s.core (withdrawing face id) ≡ Some refusal.UnknownId
+  withdrawal_refused none = by (declaration_at face.0 id h) refl none
+    where
+      by : (o : Option Declaration) → declaration_at face.0 id h ≡ o → None ≡ option_map (λ (d : Declaration). d.key) o → refusal_of s.core (withdrawing face id) ≡ Some refusal.UnknownId
+      by None e f = withdrawal None e
+      by (Some d) e f = absurd (let gap : None ≡ Some d.key = f in cc)
+
+  module _ (key : List ℕ) (declared : Some key ≡ option_map (λ (d : Declaration). d.key) (declaration_at face.0 id h)) where
+    pub withdrawal_fits : refusal_of s.core (withdrawing face id) ≡ None
+    withdrawal_fits = by (declaration_at face.0 id h) refl declared
+      where
+        by : (o : Option Declaration) → declaration_at face.0 id h ≡ o → Some key ≡ option_map (λ (d : Declaration). d.key) o → refusal_of s.core (withdrawing face id) ≡ None
+        by None e f = absurd (let gap : Some key ≡ None = f in cc)
+        by (Some d) e f = withdrawal (Some d) e
+
+    pub withdrawal_due : (hats : List (ℕ × HatState)) → hats ≡ s.core.hats → (ts : List TreeTelling) → ts ≡ own_told_on hats (change_hat r (unregistered face.0 id) hats) key → ts ≡ due s.core (withdrawing face id)
+    withdrawal_due hats same ts is =
+        key_due s (withdrawing face id) r (unregistered face.0 id) key
+        (ap (λ x. option_to_list (option_map (λ (d : Declaration). d.key) (option_and_then (declaration_at face.0 id) x))) hat_there ∙ ap option_to_list (sym declared))
+        (changed_home face.0 r s.core home (unregistered face.0 id)) hats same [] ts refl is
+
+  module _ (text : List ℕ) (info : QueryableInfoType) (node : ℕ) where
+    pub declaration_fits : is_key text ≡ true → clashes_at face.0 id text h ≡ false → refusal_of s.core (declaring face id (said.Full text) info node) ≡ None
+    declaration_fits valid free =
+        ap (λ b. cond (not b) (Some refusal.UnknownFace) (cond (not (is_key text)) (Some refusal.InvalidKeyExpr) (cond (clashes_in face.0 id text (hat_of face.0 s.core)) (Some refusal.IdInUse) None))) (opened_there face.0 r s.core home)
+        ∙ ap (λ b. cond (not b) (Some refusal.InvalidKeyExpr) (cond (clashes_in face.0 id text (hat_of face.0 s.core)) (Some refusal.IdInUse) None)) valid
+        ∙ ap (λ x. cond (clashes_in face.0 id text x) (Some refusal.IdInUse) None) hat_there
+        ∙ ap (λ b. cond b (Some refusal.IdInUse) None) free
+
+    pub declaration_clashes : is_key text ≡ true → clashes_at face.0 id text h ≡ true → refusal_of s.core (declaring face id (said.Full text) info node) ≡ Some refusal.IdInUse
+    declaration_clashes valid used =
+        ap (λ b. cond (not b) (Some refusal.UnknownFace) (cond (not (is_key text)) (Some refusal.InvalidKeyExpr) (cond (clashes_in face.0 id text (hat_of face.0 s.core)) (Some refusal.IdInUse) None))) (opened_there face.0 r s.core home)
+        ∙ ap (λ b. cond (not b) (Some refusal.InvalidKeyExpr) (cond (clashes_in face.0 id text (hat_of face.0 s.core)) (Some refusal.IdInUse) None)) valid
+        ∙ ap (λ x. cond (clashes_in face.0 id text x) (Some refusal.IdInUse) None) hat_there
+        ∙ ap (λ b. cond b (Some refusal.IdInUse) None) used
+
+    pub declaration_due : (hats : List (ℕ × HatState)) → hats ≡ s.core.hats → (ts : List TreeTelling) → ts ≡ own_told_on hats (change_hat r (registered face.0 id text node info) hats) text → ts ≡ due s.core (declaring face id (said.Full text) info node)
+    declaration_due hats same ts is =
+        key_due s (declaring face id (said.Full text) info node) r (registered face.0 id text node info) text refl
+        (changed_home face.0 r s.core home (registered face.0 id text node info)) hats same [] ts refl is

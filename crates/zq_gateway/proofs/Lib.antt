@@ -1,4 +1,6 @@
 pub mod Queryables
 pub mod Reached
+pub mod Beside
 pub mod Due
+pub mod Entering
 pub mod Networks

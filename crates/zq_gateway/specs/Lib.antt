@@ -1,3 +1,4 @@
 pub mod Undoing
 pub mod Making
 pub mod Networks
+pub mod Routing

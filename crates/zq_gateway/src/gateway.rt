@@ -26,6 +26,7 @@ mod networks;
 mod queryables;
 mod replies;
 mod requests;
+mod routers;
 mod tables;
 
 use crate::gateway::tables::Tables;

@@ -7,6 +7,7 @@
 
 pub mod gateway;
 pub mod runs;
+mod stubs;
 
 pub use gateway::Gateway;
 pub use runs::replay;

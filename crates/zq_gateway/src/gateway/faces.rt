@@ -10,16 +10,19 @@ ghost use Rattle.zq_gateway.specs.Making.{IsReached, Settles};
 ghost use Rattle.zq_handing.specs.Seats.{seats};
 
 use crate::gateway::tables::Tables;
+use crate::stubs::{home, keys_of};
 use std::collections::BTreeMap;
 use zq_handing::hats;
+use zq_handing::tell::{tell, untell};
 use zq_handing::write::written_finals;
 use zq_hat::hat::Hat;
-use zq_hat::types::FaceRecord;
+use zq_hat::types::{Change, FaceRecord};
 use zq_key::items::Items;
 use zq_key::memory::OutOfMemory;
 use zq_key::message::FaceId;
 use zq_machine::call::{Opening, Outcome, Refusal, Step};
 use zq_machine::face::OpenFace;
+use zq_own::telling::tell_changes;
 use zq_tables::RegionMap;
 use zq_tables::naming::Naming;
 
@@ -102,8 +105,8 @@ impl Tables {
         })
     }
 
-    // A face is closed: its entries are let go, and it gives up its numbers.
-    #[tactic(auto, using(crate::proofs::Reached::reached_closed, crate::proofs::Reached::reached_left))]
+    // A face is closed: its entries are let go, it gives up its numbers, and own entries that it
+    // changes are told.
     pub(super) fn close(&mut self, face: FaceId) -> Result<Step, OutOfMemory>
         requires { IsReached self.old }
         ensures { Settles self.old self.new (closing face) result }
@@ -111,15 +114,39 @@ impl Tables {
         let Some(region) = self.region_of(face) else {
             return Ok(self.refused(Refusal::UnknownFace));
         };
-        let finals = self.queries.would_close(face)?;
-        let handed = written_finals(self.alloc, finals.as_slice())?;
-        self.queries.close_planned(face)?;
-        hats::leave(&mut self.hats, region, face);
-        let _ = self.faces.remove(&face.0);
-        self.names.close(face);
-        Ok(Step {
-            outcome: Outcome::Done,
-            handed,
-        })
+        let last = self.queries.would_close(face)?;
+        let finals = written_finals(self.alloc, last.as_slice())?;
+        let count = finals.len();
+        let hat = home(&self.hats, region, face);
+        let keys = keys_of(hat, face)?;
+        let mut told = Items::new(self.alloc);
+        let change = Change::Left(face);
+        tell_changes(
+            &self.hats,
+            region,
+            hat,
+            &change,
+            keys.as_slice(),
+            &mut told,
+        )?;
+        let handed = tell(
+            self.alloc,
+            &self.faces,
+            &mut self.names,
+            told.as_slice(),
+            finals,
+        )?;
+        match self.queries.close_planned(face) {
+            Ok(()) => {
+                hats::leave(&mut self.hats, region, face);
+                let _ = self.faces.remove(&face.0);
+                self.names.close(face);
+                Ok(self.told(handed))
+            }
+            Err(_) => {
+                untell(&mut self.names, &handed.as_slice()[count..]);
+                Err(OutOfMemory)
+            }
+        }
     }
 }

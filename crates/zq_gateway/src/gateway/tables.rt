@@ -104,9 +104,9 @@ impl Tables {
             Call::UndeclareQueryable {
                 face,
                 id,
-                wire: _,
+                wire,
                 node,
-            } => self.undeclare_queryable(*face, *id, *node),
+            } => self.unregister(*face, *id, wire, *node),
             Call::Request { face, request, now } => self.send_request(*face, request, *now),
             Call::Response { face, response } => self.send_response(*face, response),
             Call::ResponseFinal { face, rid } => self.response_final(*face, *rid),
@@ -262,9 +262,7 @@ impl Tables {
             DeclareBody::DeclareQueryable { id, wire, info } => {
                 self.register(face, *id, wire, *info, node)
             }
-            DeclareBody::UndeclareQueryable { id, wire: _ } => {
-                self.undeclare_queryable(face, *id, node)
-            }
+            DeclareBody::UndeclareQueryable { id, wire } => self.unregister(face, *id, wire, node),
             DeclareBody::DeclareFinal => match interest {
                 Some(0) => self.finalize(face, &FinalMark::Initial, true),
                 _ => Ok(self.done()),

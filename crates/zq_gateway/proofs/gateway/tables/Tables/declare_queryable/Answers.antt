@@ -1,31 +1,105 @@
-use Rattle.std.proofs.Common.{◌≡◌, ◌∙◌, ap, sym, None, arith, rules}
-use Rattle.std.proofs.lemmas.Grind.{common_steps}
-use Rattle.zq_machine.specs.Deciding.{refusal_of}
-use Rattle.zq_machine.specs.State.{State}
+use Rattle.std.proofs.Common.{◌≡◌, ◌∙◌, refl, sym, ap, List, ℕ, [], ◌++◌, Option, None, Some, true, false, not}
+use Rattle.std.specs.Option.{is_none, is_some}
+use Rattle.zq_key.specs.Key.{is_key}
+use Rattle.zq_trees.specs.declared.types.Telling.{Telling as TreeTelling}
+use Rattle.zq_hat.specs.Kept.{clashes_at, registered}
+use Rattle.zq_tables.specs.Naming.{face_queryables, text_at}
+use Rattle.zq_tables.specs.declared.said.Said.TheVariants as said
+use Rattle.zq_machine.specs.Deciding.{accepted}
+use Rattle.zq_machine.specs.Machine.{answer, settle}
+use Rattle.zq_machine.specs.State.{Core, State, change_hat, face_region, hat_at}
 use Rattle.zq_machine.specs.TextCalls.{declaring}
-use Rattle.zq_gateway.proofs.Reached.{reached_declared, reached_held}
+use Rattle.zq_machine.specs.Trees.{own_told_on}
+use Rattle.zq_handing.specs.Telling.{untold}
 use Rattle.zq_gateway.specs.Undoing.{taken_back}
 use Rattle.zq_gateway.proofs.Queryables.{put_back}
+use Rattle.zq_gateway.proofs.Due.{changed_home, declaration_due, declaration_fits, due, due_of_keys, told_answered, told_left}
 use Rattle.zq_gateway.proofs.gateway.tables.Tables.declare_queryable.Goals as goal
 
-pub returns-in-Err-IdInUse : goal.returns-in-Err-IdInUse
-returns-in-Err-IdInUse c =
-    let face = c.args.face.0 in
-    let back : c.take_back.new.names ≡ c.self.inside.names = c.take_back.ensures ∙ ap (taken_back face c.args.id c.in_ok-fresh.fresh) c.in_ok-fresh.ensures.ok ∙ put_back face c.args.id _ c.in_ok-fresh.fresh c.self.inside.names c.in_ok-fresh.ensures.fresh in
-    record { step = search rules; after = rw back (search rules); err = tt }
-
-pub returns-in-Err-OutOfMemory-register : goal.returns-in-Err-OutOfMemory-register
-returns-in-Err-OutOfMemory-register c =
-    let face = c.args.face.0 in
-    let back : c.take_back-in-Err-OutOfMemory-register.new.names ≡ c.self.inside.names = c.take_back-in-Err-OutOfMemory-register.ensures ∙ ap (taken_back face c.args.id c.in_ok-fresh.fresh) c.in_ok-fresh.ensures.ok ∙ put_back face c.args.id _ c.in_ok-fresh.fresh c.self.inside.names c.in_ok-fresh.ensures.fresh in
-    record { step = tt; after = tt; err = rw (back, c.in-Err-OutOfMemory-register.ensures.err) c.self.view_is }
+pub hold_and_tell-requires : goal.hold_and_tell-requires
+hold_and_tell-requires c =
+    let s : State = c.args.self.now in
+    let i = c.self.inside in
+    let face = c.args.face in
+    let id = c.args.id in
+    let r = c.in-Some.region in
+    let h = c.home-hat.result.now in
+    let key : List ℕ = c.in-Ok.key in
+    let at_key = c.as_str-3.result.now in
+    let home : face_region face.0 s.core ≡ Some r = sym c.in-Some.ensures.region in
+    let hats = ap (λ (x : State). x.core.hats) c.self.view_is in
+    let there : hat_at r s.core.hats ≡ Some h = ap (hat_at r) (sym hats) ∙ c.home-hat.ensures.hat in
+    let valid : is_key key ≡ true = ap is_key c.in-Ok.ensures.0 ∙ c.in-Ok.ensures.1 in
+    let free : clashes_at face.0 id key h ≡ false = ap (λ k. clashes_at face.0 id k h) (sym c.as_str-2.ensures.text) ∙ sym c.clashes.ensures ∙ c.if-clashes.false in
+    let told =
+    c.in_ok-tell_change.ensures
+    ∙ ap (λ (l : List TreeTelling). l ++ own_told_on i.hats (change_hat r (registered face.0 id at_key c.args.node c.args.info) i.hats) at_key) c.new-told.ensures
+    ∙ ap (λ (k : List ℕ). own_told_on i.hats (change_hat r (registered face.0 id k c.args.node c.args.info) i.hats) k) c.as_str-3.ensures.text in
+    due_of_keys s c.requires (declaring face id (said.Full key) c.args.info c.args.node) (declaration_fits s face id r home h there key c.args.info c.args.node valid free) c.tell_change.new.told
+    (declaration_due s face id r home h there key c.args.info c.args.node i.hats hats c.tell_change.new.told told)
 
 pub returns-in-Ok-register : goal.returns-in-Ok-register
 returns-in-Ok-register c =
     let s : State = c.args.self.now in
-    let fits : refusal_of s.core (declaring c.args.face c.args.id c.args.said.now c.args.info c.args.node) ≡ None = first_of ((search rules), (grind (arith, common_steps))) in
+    let i = c.self.inside in
+    let face = c.args.face in
+    let id = c.args.id in
+    let r = c.in-Some.region in
+    let h = c.home-hat.result.now in
+    let key : List ℕ = c.in-Ok.key in
+    let at_key = c.as_str-3.result.now in
+    let home : face_region face.0 s.core ≡ Some r = sym c.in-Some.ensures.region in
+    let hats = ap (λ (x : State). x.core.hats) c.self.view_is in
+    let there : hat_at r s.core.hats ≡ Some h = ap (hat_at r) (sym hats) ∙ c.home-hat.ensures.hat in
+    let valid : is_key key ≡ true = ap is_key c.in-Ok.ensures.0 ∙ c.in-Ok.ensures.1 in
+    let free : clashes_at face.0 id key h ≡ false = ap (λ k. clashes_at face.0 id k h) (sym c.as_str-2.ensures.text) ∙ sym c.clashes.ensures ∙ c.if-clashes.false in
+    let told =
+    c.in_ok-tell_change.ensures
+    ∙ ap (λ (l : List TreeTelling). l ++ own_told_on i.hats (change_hat r (registered face.0 id at_key c.args.node c.args.info) i.hats) at_key) c.new-told.ensures
+    ∙ ap (λ (k : List ℕ). own_told_on i.hats (change_hat r (registered face.0 id k c.args.node c.args.info) i.hats) k) c.as_str-3.ensures.text in
+    let t = declaring face id (said.Full key) c.args.info c.args.node in
+    let fits = declaration_fits s face id r home h there key c.args.info c.args.node valid free in
+    let ts = c.tell_change.new.told in
+    let are : ts ≡ due s.core t = declaration_due s face id r home h there key c.args.info c.args.node i.hats hats ts told in
+    let handed = c.in_ok-handed.ensures.told (accepted s.core t) refl in
+    let w = c.self-2.view_is in
+    let same = ap (λ (x : State). x.core) w ∙ c.in_ok-handed.ensures.core in
+    let left = c.in-Ok-register.ensures.ok ∙ ap (change_hat r (registered face.0 id key c.args.node c.args.info)) (ap (λ (x : Core). x.hats) same) ∙ sym (changed_home face.0 r s.core home (registered face.0 id key c.args.node c.args.info)) in
+    let says = c.in-Full.is ∙ ap said.Full (sym (c.in-Ok.ensures.0 ∙ c.as_str.ensures)) in
     record {
-      step = c.done.ensures ∙ reached_declared s c.requires c.args.face c.args.id c.args.said.now c.args.info c.args.node fits;
-      after = first_of ((search rules), (grind (arith, common_steps))) ∙ sym (reached_held s c.requires c.args.face c.args.id c.args.said.now c.args.info c.args.node fits);
+      step = c.told-in-Ok-register.ensures ∙ told_answered s t fits ts are c.in_ok-handed.handed c.hold_and_tell.new.self.names handed refl ∙ ap (λ sd. answer s (declaring face id sd c.args.info c.args.node)) (sym says);
+      after =
+          (λ j. record {
+            core = record { config = (same j).config; faces = (same j).faces; next_face = (same j).next_face; hats = left j; tables = (same j).tables; queries = (same j).queries };
+            names = (w j).names;
+          })
+          ∙ sym (told_left s t fits ts are c.in_ok-handed.handed c.hold_and_tell.new.self.names handed)
+          ∙ ap (λ sd. settle s (declaring face id sd c.args.info c.args.node)) (sym says);
       err = tt;
+    }
+
+-- whether a queryable is held afresh
+not_some : {X : Type 0} (o : Option X) → not (is_some o) ≡ is_none o
+not_some None = refl
+not_some (Some x) = refl
+
+pub returns : goal.returns
+returns c =
+    let s : State = c.args.self.now in
+    let face = c.args.face.0 in
+    let id = c.args.id in
+    let w = c.self-2.view_is in
+    let same = ap (λ (x : State). x.core) w ∙ c.in_ok-handed.ensures.core in
+    let held : c.holds_queryable-fresh.result ≡ is_some (text_at id (face_queryables face s.names)) = c.holds_queryable-fresh.ensures ∙ ap (λ (x : State). is_some (text_at id (face_queryables face x.names))) c.self.view_is in
+    let fresh = ap not held ∙ not_some (text_at id (face_queryables face s.names)) in
+    let untold_all = c.untell.ensures ∙ (λ j. untold (c.as_slice.ensures j) (w j).names) ∙ c.in_ok-handed.ensures.back in
+    let back : c.take_back.new.names ≡ s.names = c.take_back.ensures ∙ ap (taken_back face id (not c.holds_queryable-fresh.result)) untold_all ∙ put_back face id c.in-Ok.key (not c.holds_queryable-fresh.result) s.names fresh in
+    let left = c.in-Err.ensures.err ∙ ap (λ (x : Core). x.hats) same in
+    record {
+      step = tt;
+      after = tt;
+      err = λ j. record {
+        core = record { config = (same j).config; faces = (same j).faces; next_face = (same j).next_face; hats = left j; tables = (same j).tables; queries = (same j).queries };
+        names = back j;
+      };
     }

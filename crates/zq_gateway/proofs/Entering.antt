@@ -1,0 +1,191 @@
+-- A router has an entry on a key from now on, or has none: what refuses it, what it tells, and what it changes.
+use Rattle.std.proofs.Common.{◌≡◌, ◌∙◌, refl, sym, ap, ℕ, Bool, true, false, cond, not, List, [], ◌∷◌, ◌++◌, Option, Some, None}
+use Rattle.std.specs.Option.{is_none, option_and_then, option_map_or}
+use Rattle.std.proofs.lemmas.Bool.{false≢true}
+use Rattle.zq_message.specs.declared.message.FaceId.{FaceId}
+use Rattle.zq_message.specs.declared.message.QueryableInfoType.{QueryableInfoType}
+use Rattle.zq_message.specs.declared.message.Region.{Region}
+use Rattle.zq_message.specs.declared.message.Zid.{Zid}
+use Rattle.zq_key.specs.Key.{is_key}
+use Rattle.zq_trees.specs.declared.types.Telling.{Telling as TreeTelling}
+use Rattle.zq_trees.specs.Nets.{is_zid}
+use Rattle.zq_hat.specs.declared.types.Strategy.{Strategy}
+use Rattle.zq_hat.specs.declared.types.Strategy.TheVariants as strategy
+use Rattle.zq_hat.specs.Changes.{changed_by}
+use Rattle.zq_hat.specs.Regions.{in_routers, strategy_at}
+use Rattle.zq_hat.specs.Routers.{announced, entry_at, retracted, source_at}
+use Rattle.zq_hat.specs.State.{HatState}
+use Rattle.zq_hat.specs.Trees.{to_children}
+use Rattle.zq_tables.specs.declared.said.Said.{Said}
+use Rattle.zq_tables.specs.declared.said.Said.TheVariants as said
+use Rattle.zq_machine.specs.declared.call.Outcome.TheVariants as outcome
+use Rattle.zq_machine.specs.declared.call.Refusal.{Refusal}
+use Rattle.zq_machine.specs.declared.call.Refusal.TheVariants as refusal
+use Rattle.zq_machine.specs.Deciding.{accepted, announced_by, entry_by, entry_of, granted, lacks_router, refusal_of, renamed, retracted_by}
+use Rattle.zq_machine.specs.Selecting.{full_text, is_unscoped, says_key}
+use Rattle.zq_machine.specs.State.{Core, State, change_hat, face_region, hat_at, hat_of, is_open, is_routing, put_hat}
+use Rattle.zq_machine.specs.TextCalls.{announcing, by_router, retracting}
+use Rattle.zq_machine.specs.Trees.{own_told_on, source_told, touched, tree_told}
+use Rattle.zq_gateway.specs.Routing.{entered, entering, entry_change, key_refusal, other_router}
+use Rattle.zq_gateway.proofs.Due.{changed_home, due, hat_home, key_due}
+
+-- in a region of routers
+in_routing : {X : Type 0} (k : Strategy) (a b : X) → in_routers k true false ≡ true → in_routers k a b ≡ a
+in_routing strategy.Broker a b e = absurd (false≢true e)
+in_routing strategy.Client a b e = absurd (false≢true e)
+in_routing strategy.Peer a b e = absurd (false≢true e)
+in_routing strategy.Router a b e = refl
+
+-- changes that are the same of a region's hat
+same_change : (r : Region) (f g : HatState → HatState) (hats : List (ℕ × HatState)) (h : HatState) → hat_at r hats ≡ Some h → f h ≡ g h → change_hat r f hats ≡ change_hat r g hats
+same_change r f g hats h there same = ap (put_hat r f hats) there ∙ ap (λ x. put_hat r (λ _. x) hats (Some h)) same ∙ ap (put_hat r g hats) (sym there)
+
+changed_is : (router : Zid) (key : List ℕ) (info : Option QueryableInfoType) → changed_by (entry_change router info) key ≡ entered router key info
+changed_is router key None = refl
+changed_is router key (Some i) = refl
+
+-- the router is another one, or none
+lacks_other : (own : Zid) (o : Option Zid) → option_map_or (is_zid own) o true ≡ is_none (other_router own o)
+lacks_other own None = refl
+lacks_other own (Some z) = by (is_zid own z)
+  where
+    by : (b : Bool) → b ≡ is_none (cond b None (Some z))
+    by true = refl
+    by false = refl
+
+source_is : (own : Zid) (o : Option Zid) (router : Zid) → other_router own o ≡ Some router → o ≡ Some router
+source_is own None router e = absurd (let gap : None ≡ Some router = e in cc)
+source_is own (Some z) router e = by (is_zid own z) e
+  where
+    by : (b : Bool) → cond b None (Some z) ≡ Some router → Some z ≡ Some router
+    by true f = absurd (let gap : None ≡ Some router = f in cc)
+    by false f = f
+
+module _ (c : Core) (face : FaceId) (sd : Said) (info : Option QueryableInfoType) (node : ℕ) where
+  -- a router without an entry has none to retract
+  abbrev last_refusal : Option QueryableInfoType → Option Refusal
+  last_refusal None = cond (is_none (entry_of face node (full_text sd) c)) (Some refusal.UnknownId) None
+  last_refusal (Some i) = None
+
+  refusal_is : refusal_of c (entering face sd info node) ≡ cond (not (is_open face.0 c)) (Some refusal.UnknownFace) (cond (is_unscoped sd) (Some refusal.UnknownScope) (cond (not (says_key sd)) (Some refusal.InvalidKeyExpr) (cond (lacks_router face node c) (Some refusal.UnknownRouter) (last_refusal info))))
+  refusal_is = by info
+    where
+      by : (o : Option QueryableInfoType) → refusal_of c (entering face sd o node) ≡ cond (not (is_open face.0 c)) (Some refusal.UnknownFace) (cond (is_unscoped sd) (Some refusal.UnknownScope) (cond (not (says_key sd)) (Some refusal.InvalidKeyExpr) (cond (lacks_router face node c) (Some refusal.UnknownRouter) (last_refusal o))))
+      by None = refl
+      by (Some i) = refl
+
+  abbrev behind_face : Option Refusal
+  behind_face = cond (is_unscoped sd) (Some refusal.UnknownScope) (cond (not (says_key sd)) (Some refusal.InvalidKeyExpr) (cond (lacks_router face node c) (Some refusal.UnknownRouter) (last_refusal info)))
+
+  pub not_open : is_open face.0 c ≡ false → refusal_of c (entering face sd info node) ≡ Some refusal.UnknownFace
+  not_open e = refusal_is ∙ ap (λ b. cond (not b) (Some refusal.UnknownFace) behind_face) e
+
+  module _ (opens : is_open face.0 c ≡ true) where
+    past_face : refusal_of c (entering face sd info node) ≡ behind_face
+    past_face = refusal_is ∙ ap (λ b. cond (not b) (Some refusal.UnknownFace) behind_face) opens
+
+    pub no_key : (r : Refusal) → key_refusal sd ≡ Some r → refusal_of c (entering face sd info node) ≡ Some r
+    no_key r e = past_face ∙ by (is_unscoped sd) (says_key sd) e
+      where
+        by : (a b : Bool) → cond a (Some refusal.UnknownScope) (cond (not b) (Some refusal.InvalidKeyExpr) None) ≡ Some r
+            → cond a (Some refusal.UnknownScope) (cond (not b) (Some refusal.InvalidKeyExpr) (cond (lacks_router face node c) (Some refusal.UnknownRouter) (last_refusal info))) ≡ Some r
+        by true b f = f
+        by false false f = f
+        by false true f = absurd (let gap : None ≡ Some r = f in cc)
+
+    module _ (key : List ℕ) (says : sd ≡ said.Full key) (valid : is_key key ≡ true) where
+      past_key : refusal_of c (entering face sd info node) ≡ cond (lacks_router face node c) (Some refusal.UnknownRouter) (last_refusal info)
+      past_key =
+          past_face
+          ∙ ap (λ (x : Said). cond (is_unscoped x) (Some refusal.UnknownScope) (cond (not (says_key x)) (Some refusal.InvalidKeyExpr) (cond (lacks_router face node c) (Some refusal.UnknownRouter) (last_refusal info)))) says
+          ∙ ap (λ b. cond (not b) (Some refusal.InvalidKeyExpr) (cond (lacks_router face node c) (Some refusal.UnknownRouter) (last_refusal info))) valid
+
+      -- what the face's hat has
+      module _ (r : Region) (home : face_region face.0 c ≡ Some r) (h : HatState) (there : hat_at r c.hats ≡ Some h) where
+        its_hat : hat_of face.0 c ≡ Some h
+        its_hat = hat_home face.0 r c home ∙ there
+
+        lacks_is : lacks_router face node c ≡ is_none (other_router c.config.zid (source_at face.0 node h))
+        lacks_is = ap (λ o. option_map_or (is_zid c.config.zid) (option_and_then (source_at face.0 node) o) true) its_hat ∙ lacks_other c.config.zid (source_at face.0 node h)
+
+        pub no_router : other_router c.config.zid (source_at face.0 node h) ≡ None → refusal_of c (entering face sd info node) ≡ Some refusal.UnknownRouter
+        no_router e = past_key ∙ ap (λ b. cond b (Some refusal.UnknownRouter) (last_refusal info)) (lacks_is ∙ ap is_none e)
+
+        module _ (router : Zid) (is : other_router c.config.zid (source_at face.0 node h) ≡ Some router) where
+          source : source_at face.0 node h ≡ Some router
+          source = source_is c.config.zid (source_at face.0 node h) router is
+
+          entry_is : entry_of face node (full_text sd) c ≡ entry_at router.0 key h
+          entry_is =
+              ap (option_and_then (entry_by face.0 node (full_text sd))) its_hat
+              ∙ ap (λ o. option_and_then (λ (z : Zid). entry_at z.0 (full_text sd) h) o) source
+              ∙ ap (λ (x : Said). entry_at router.0 (full_text x) h) says
+
+          past_router : refusal_of c (entering face sd info node) ≡ last_refusal info
+          past_router = past_key ∙ ap (λ b. cond b (Some refusal.UnknownRouter) (last_refusal info)) (lacks_is ∙ ap is_none is)
+
+          pub no_entry : info ≡ None → entry_at router.0 key h ≡ None → refusal_of c (entering face sd info node) ≡ Some refusal.UnknownId
+          no_entry none e = past_router ∙ ap last_refusal none ∙ ap (λ o. cond (is_none o) (Some refusal.UnknownId) None) (entry_is ∙ e)
+
+          pub entry_fits : (info ≡ None → is_none (entry_at router.0 key h) ≡ false) → refusal_of c (entering face sd info node) ≡ None
+          entry_fits has = past_router ∙ by info has
+            where
+              by : (o : Option QueryableInfoType) → (o ≡ None → is_none (entry_at router.0 key h) ≡ false) → last_refusal o ≡ None
+              by (Some i) f = refl
+              by None f = ap (λ b. cond b (Some refusal.UnknownId) None) (ap is_none entry_is ∙ f refl)
+
+          changes : (accepted c (entering face sd info node)).hats ≡ change_hat r (entered router key info) c.hats
+          changes = by info
+            where
+              at_said : (k : Zid → HatState) → option_map_or k (source_at face.0 node h) h ≡ k router
+              at_said k = ap (λ o. option_map_or k o h) source
+
+              by : (o : Option QueryableInfoType) → (accepted c (entering face sd o node)).hats ≡ change_hat r (entered router key o) c.hats
+              by None =
+                  changed_home face.0 r c home (retracted_by face.0 node (full_text sd))
+                  ∙ same_change r (retracted_by face.0 node (full_text sd)) (entered router key None) c.hats h there (at_said (λ z. retracted z.0 (full_text sd) h) ∙ ap (λ (x : Said). retracted router.0 (full_text x) h) says)
+              by (Some i) =
+                  changed_home face.0 r c home (announced_by face.0 node (full_text sd) i)
+                  ∙ same_change r (announced_by face.0 node (full_text sd) i) (entered router key (Some i)) c.hats h there (at_said (λ z. announced z.0 (full_text sd) i h) ∙ ap (λ (x : Said). announced router.0 (full_text x) i h) says)
+
+          touches : touched c (entering face sd info node) ≡ key ∷ []
+          touches = by info
+            where
+              by : (o : Option QueryableInfoType) → touched c (entering face sd o node) ≡ key ∷ []
+              by None = ap (λ (x : Said). full_text x ∷ []) says
+              by (Some i) = ap (λ (x : Said). full_text x ∷ []) says
+
+          routed : by_router face c ≡ true → in_routers (strategy_at h) true false ≡ true
+          routed e = ap (λ o. option_map_or is_routing o false) (sym its_hat) ∙ e
+
+          -- what the children of the router's tree are told
+          tree_is : by_router face c ≡ true → in_routers (strategy_at h) (to_children (Some face.0) router key info h) [] ≡ tree_told c (accepted c (entering face sd info node)) (entering face sd info node)
+          tree_is e = in_routing (strategy_at h) (to_children (Some face.0) router key info h) [] (routed e) ∙ by info
+            where
+              tells : (o : Option QueryableInfoType) → to_children (Some face.0) router key o h ≡ option_map_or (source_told face node (full_text sd) o) (hat_of face.0 c) []
+              tells o =
+                  sym (ap (λ x. option_map_or (source_told face node (full_text sd) o) x []) its_hat
+                  ∙ ap (λ x. option_map_or (λ (z : Zid). to_children (Some face.0) z (full_text sd) o h) x []) source
+                  ∙ ap (λ (x : Said). to_children (Some face.0) router (full_text x) o h) says)
+
+              by : (o : Option QueryableInfoType) → to_children (Some face.0) router key o h ≡ tree_told c (accepted c (entering face sd o node)) (entering face sd o node)
+              by None = tells None
+              by (Some i) = tells (Some i)
+
+-- a change of an entry is done, hands no message of a request, and changes a hat alone
+module _ (s : State) (face : FaceId) (sd : Said) (node : ℕ) where
+  pub entering_done : (info : Option QueryableInfoType) → (granted s.core (entering face sd info node)).outcome ≡ outcome.Done
+  entering_done None = refl
+  entering_done (Some i) = refl
+
+  pub entering_quiet : (info : Option QueryableInfoType) → (granted s.core (entering face sd info node)).messages ≡ []
+  entering_quiet None = refl
+  entering_quiet (Some i) = refl
+
+  pub entering_names : (info : Option QueryableInfoType) → renamed s (entering face sd info node) ≡ s.names
+  entering_names None = refl
+  entering_names (Some i) = refl
+
+  pub entering_core : (info : Option QueryableInfoType) → accepted s.core (entering face sd info node) ≡ record s.core { hats = (accepted s.core (entering face sd info node)).hats }
+  entering_core None = refl
+  entering_core (Some i) = refl
