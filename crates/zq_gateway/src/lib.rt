@@ -7,7 +7,6 @@
 
 pub mod gateway;
 pub mod runs;
-mod stubs;
 
 pub use gateway::Gateway;
 pub use runs::replay;

@@ -1,32 +1,27 @@
 //! The hats of the regions.
 #![tactic(auto, using(crate::proofs::Seats::seated_region, crate::proofs::Seats::hat_region))]
 
-ghost use Rattle.std.specs.Prelude.{◌≡◌, ◌++◌, [], true, false, Some, None, IfOk, OnOk, OnErr, IsErrOf, ◌↔◌, option_copied, option_map, is_none};
-ghost use Rattle.std.specs.List.{flat_map};
+ghost use Rattle.std.specs.Prelude.{◌≡◌, true, false, Some, None, IfOk, OnOk, OnErr, IsErrOf, ◌↔◌, option_copied, is_none};
 ghost use Rattle.std.specs.Option.{is_some, option_and_then, option_map_or};
 ghost use Rattle.zq_hat.specs.Kept.{declaration_at, has_face, is_full, registered, unregistered, without_face};
 ghost use Rattle.zq_hat.specs.Marks.{finalized};
-ghost use Rattle.zq_hat.specs.Routers.{announced, context_at, entry_at, networked, noded, retracted, source_at};
+ghost use Rattle.zq_hat.specs.Routers.{announced, context_at, networked, noded, retracted, source_at};
 ghost use Rattle.zq_hat.specs.State.{HatState};
 ghost use Rattle.zq_trees.specs.Entries.{staying, without_routers};
 ghost use Rattle.zq_trees.specs.Nets.{is_listed};
-ghost use Rattle.zq_trees.specs.Seating.{number};
-ghost use Rattle.zq_own.specs.Own.{told_of};
 ghost use Rattle.zq_regions.specs.RegionMap.{with_entry};
 ghost use Rattle.zq_machine.specs.Configs.{region_of};
 ghost use Rattle.zq_machine.specs.State.{first_hats, with_hat, change_hat, clashes_in, has_declared_in, hat_at, is_region, joined};
-ghost use Rattle.zq_handing.specs.Seats.{seats, told_in};
+ghost use Rattle.zq_handing.specs.Seats.{seats};
 
 use crate::select::is_region;
 use std::alloc::Global;
 use zq_hat::hat::Hat;
-use zq_hat::types::{Change, FaceRecord, FinalMark, HatRefusal, NodeIds, TellingList};
+use zq_hat::types::{FaceRecord, FinalMark, HatRefusal, NodeIds};
 use zq_key::Key;
 use zq_key::memory::OutOfMemory;
 use zq_key::message::{FaceId, NodeId, QueryableInfoType, Region, Zid};
-use zq_key::text::Text;
 use zq_machine::config::{Config, Entry};
-use zq_own::telling::{tell_change, tell_changes};
 use zq_route::gateways::Gateways;
 use zq_tables::RegionMap;
 use zq_trees::nets::Net;
@@ -39,6 +34,18 @@ pub fn hat_at(hats: &RegionMap<Hat>, region: Region) -> Option<&Hat>
         return None;
     }
     hats.get(&region)
+}
+
+/// The hat of a face's region, which has the face.
+pub fn home(hats: &RegionMap<Hat>, region: Region, face: FaceId) -> &Hat
+    requires { seats region face.0 hats.now ≡ Some true }
+    ensures hat { hat_at region hats.now ≡ Some result.now }
+    ensures face { has_face face.0 result.now ≡ true }
+{
+    match hats.get(&region) {
+        Some(hat) => hat,
+        None => unreachable!(),
+    }
 }
 
 /// The router that a node number of the region's face stands for; outside regions of routers the face
@@ -61,74 +68,6 @@ pub fn place_by(hats: &RegionMap<Hat>, region: Region, face: FaceId, node: NodeI
     match hats.get(&region) {
         Some(hat) => hat.map_routing_context(face, node),
         None => unreachable!(),
-    }
-}
-
-/// A router's entry on a key in the region.
-pub fn entry(
-    hats: &RegionMap<Hat>,
-    region: Region,
-    router: Zid,
-    key: &str,
-) -> Option<QueryableInfoType>
-    ensures { result ≡ option_and_then (entry_at router.0 key.now) (hat_at region hats.now) }
-{
-    match hat_at(hats, region) {
-        Some(hat) => hat.entry(router, key),
-        None => None,
-    }
-}
-
-/// What the children of a root's tree in the region are told of a key, without the face that the call
-/// came from; nothing outside regions of routers.
-pub fn to_children(
-    hats: &RegionMap<Hat>,
-    region: Region,
-    from: Option<FaceId>,
-    root: Zid,
-    key: &str,
-    info: Option<QueryableInfoType>,
-) -> Result<TellingList, OutOfMemory>
-    requires { is_some (hat_at region hats.now) ≡ true }
-    ensures { IfOk result (λ ts. ts ≡ option_map_or (told_in (option_map number from) root key.now info) (hat_at region hats.now) []) }
-{
-    match hat_at(hats, region) {
-        Some(hat) => hat.to_children(from, root, key, info),
-        None => unreachable!(),
-    }
-}
-
-/// What children of the gateway's own trees are told of a key joins the list, where the region
-/// changes: the own entries of the other regions of routers change by it. The hats stand as before
-/// the change. Where no other region is one of routers, nothing is looked up.
-pub fn tell_own(
-    hats: &RegionMap<Hat>,
-    region: Region,
-    change: &Change,
-    key: &str,
-    told: &mut TellingList,
-) -> Result<(), OutOfMemory>
-    ensures { OnOk result (told.new ≡ told.old ++ told_of hats.now region change.now key.now) }
-{
-    match hat_at(hats, region) {
-        Some(hat) => tell_change(hats, region, hat, change, key, told),
-        None => Ok(()),
-    }
-}
-
-/// The same of each of the keys. Where no other region is one of routers, they are not looked at.
-pub fn tell_all_own(
-    hats: &RegionMap<Hat>,
-    region: Region,
-    change: &Change,
-    keys: &[Text],
-    told: &mut TellingList,
-) -> Result<(), OutOfMemory>
-    ensures { OnOk result (told.new ≡ told.old ++ flat_map (told_of hats.now region change.now) keys.now) }
-{
-    match hat_at(hats, region) {
-        Some(hat) => tell_changes(hats, region, hat, change, keys, told),
-        None => Ok(()),
     }
 }
 

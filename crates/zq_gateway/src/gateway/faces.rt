@@ -10,7 +10,6 @@ ghost use Rattle.zq_gateway.specs.Making.{IsReached, Settles};
 ghost use Rattle.zq_handing.specs.Seats.{seats};
 
 use crate::gateway::tables::Tables;
-use crate::stubs::{home, keys_of};
 use std::collections::BTreeMap;
 use zq_handing::hats;
 use zq_handing::tell::{tell, untell};
@@ -117,8 +116,8 @@ impl Tables {
         let last = self.queries.would_close(face)?;
         let finals = written_finals(self.alloc, last.as_slice())?;
         let count = finals.len();
-        let hat = home(&self.hats, region, face);
-        let keys = keys_of(hat, face)?;
+        let hat = hats::home(&self.hats, region, face);
+        let keys = hat.keys_of(face)?;
         let mut told = Items::new(self.alloc);
         let change = Change::Left(face);
         tell_changes(

@@ -14,7 +14,6 @@ ghost use Rattle.zq_gateway.specs.Making.{IsReached, Performs, Settles};
 ghost use Rattle.zq_gateway.specs.Undoing.{taken_back};
 
 use crate::gateway::tables::Tables;
-use crate::stubs::{clashes, home, key_at};
 use zq_handing::hats;
 use zq_handing::read::marks_key;
 use zq_handing::tell::{tell, untell};
@@ -64,8 +63,8 @@ impl Tables {
             Err(KeyError::Invalid) => return Ok(self.refused(Refusal::InvalidKeyExpr)),
             Err(KeyError::OutOfMemory) => return Err(OutOfMemory),
         };
-        let hat = home(&self.hats, region, face);
-        if clashes(hat, face, id, key.as_str()) {
+        let hat = hats::home(&self.hats, region, face);
+        if hat.clashes(face, id, key.as_str()) {
             return Ok(self.refused(Refusal::IdInUse));
         }
         let mut told = Items::new(self.alloc);
@@ -127,8 +126,8 @@ impl Tables {
         let Some(region) = self.region_of(face) else {
             return Ok(self.refused(Refusal::UnknownFace));
         };
-        let hat = home(&self.hats, region, face);
-        let Some(key) = key_at(hat, face, id) else {
+        let hat = hats::home(&self.hats, region, face);
+        let Some(key) = hat.key_at(face, id) else {
             return Ok(self.refused(Refusal::UnknownId));
         };
         let mut told = Items::new(self.alloc);

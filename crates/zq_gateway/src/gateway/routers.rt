@@ -1,15 +1,15 @@
 //! What routers announce and retract.
-ghost use Rattle.std.specs.Prelude.{◌≡◌, ◌&&◌, true, is_none, IfOk, IfErr, Some};
+ghost use Rattle.std.specs.Prelude.{◌≡◌, ◌&&◌, true, is_none, is_some, IfOk, IfErr, OnOk, OnErr, Some};
 ghost use Rattle.zq_key.specs.Key.{is_key};
 ghost use Rattle.zq_hat.specs.Kept.{has_face};
 ghost use Rattle.zq_hat.specs.Routers.{entry_at, source_at};
 ghost use Rattle.zq_tables.specs.declared.said.Said.{Said};
+ghost use Rattle.zq_machine.specs.State.{change_hat, hat_at};
 ghost use Rattle.zq_machine.specs.TextCalls.{by_router};
 ghost use Rattle.zq_gateway.specs.Making.{IsReached, Settles};
-ghost use Rattle.zq_gateway.specs.Routing.{entering, entry_change, key_refusal, other_router};
+ghost use Rattle.zq_gateway.specs.Routing.{entered, entering, entry_change, key_refusal, other_router};
 
 use crate::gateway::tables::Tables;
-use crate::stubs::{home, put_entry};
 use std::alloc::Global;
 use zq_handing::hats;
 use zq_handing::tell::{tell, untell};
@@ -17,10 +17,11 @@ use zq_hat::hat::Hat;
 use zq_hat::types::{Change, Strategy};
 use zq_key::items::Items;
 use zq_key::memory::OutOfMemory;
-use zq_key::message::{FaceId, NodeId, QueryableInfoType, Zid};
+use zq_key::message::{FaceId, NodeId, QueryableInfoType, Region, Zid};
 use zq_key::{Key, KeyError};
 use zq_machine::call::{Refusal, Step};
 use zq_own::telling::tell_change;
+use zq_tables::RegionMap;
 use zq_tables::said::Said;
 
 // The key that an expression says, or what refuses it.
@@ -69,6 +70,30 @@ fn lacks_entry(hat: &Hat, router: Zid, key: &str, info: Option<QueryableInfoType
     info.is_none() && hat.entry(router, key).is_none()
 }
 
+// A router has this entry on a key of the region, or none.
+fn put_entry(
+    hats: &mut RegionMap<Hat>,
+    region: Region,
+    router: Zid,
+    key: &Key,
+    info: Option<QueryableInfoType>,
+) -> Result<(), OutOfMemory>
+    requires { is_some (hat_at region hats.old) ≡ true }
+    ensures ok { OnOk result (hats.new ≡ change_hat region (entered router key.now info) hats.old) }
+    ensures err { OnErr result (hats.new ≡ hats.old) }
+{
+    match info {
+        Some(info) => match hats::announce(hats, region, router, key, info) {
+            Ok(()) => Ok(()),
+            Err(error) => Err(error),
+        },
+        None => {
+            hats::retract(hats, region, router, key.as_str());
+            Ok(())
+        }
+    }
+}
+
 impl Tables {
     // Whether the face's region is one of routers.
     pub(super) fn is_routing(&self, face: FaceId) -> bool
@@ -105,7 +130,7 @@ impl Tables {
             Ok(key) => key,
             Err(refusal) => return Ok(self.refused(refusal)),
         };
-        let hat = home(&self.hats, region, face);
+        let hat = hats::home(&self.hats, region, face);
         let Some(router) = router_of(hat, self.config.zid(), face, node) else {
             return Ok(self.refused(Refusal::UnknownRouter));
         };
