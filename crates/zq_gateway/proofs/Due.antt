@@ -187,12 +187,19 @@ closing_due s face r home hats same keys are ts is =
     ∙ (λ j. all_own_told s.core.hats (sym (changed_home face.0 r s.core home (without_face face.0)) j) (keys_are j))
 
 -- ---- what refuses a withdrawal and a declaration, by the hat of the face's region
-opened_there : (face : ℕ) (r : Region) (c : Core) → face_region face c ≡ Some r → is_open face c ≡ true
+pub opened_there : (face : ℕ) (r : Region) (c : Core) → face_region face c ≡ Some r → is_open face c ≡ true
 opened_there face r c = by (at face c.faces)
   where
     by : (x : Option OpenFace) → option_map region_in x ≡ Some r → is_some x ≡ true
     by None e = absurd (let gap : None ≡ Some r = e in cc)
     by (Some o) e = refl
+
+pub closed_there : (face : ℕ) (c : Core) → None ≡ face_region face c → is_open face c ≡ false
+closed_there face c = by (at face c.faces)
+  where
+    by : (x : Option OpenFace) → None ≡ option_map region_in x → is_some x ≡ false
+    by None e = refl
+    by (Some o) e = absurd (let gap : None ≡ Some o.region = e in cc)
 
 module _ (s : State) (face : FaceId) (id : ℕ) (r : Region) (home : face_region face.0 s.core ≡ Some r) (h : HatState) (there : hat_at r s.core.hats ≡ Some h) where
   hat_there : hat_of face.0 s.core ≡ Some h

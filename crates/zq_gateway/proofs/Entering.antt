@@ -1,5 +1,5 @@
 -- A router has an entry on a key from now on, or has none: what refuses it, what it tells, and what it changes.
-use Rattle.std.proofs.Common.{◌≡◌, ◌∙◌, refl, sym, ap, ℕ, Bool, true, false, cond, not, List, [], ◌∷◌, ◌++◌, Option, Some, None}
+use Rattle.std.proofs.Common.{◌≡◌, ◌∙◌, refl, sym, ap, ℕ, Bool, true, false, cond, not, List, [], ◌∷◌, ◌++◌, map, Option, Some, None}
 use Rattle.std.specs.Option.{is_none, option_and_then, option_map_or}
 use Rattle.std.proofs.lemmas.Bool.{false≢true}
 use Rattle.zq_message.specs.declared.message.FaceId.{FaceId}
@@ -9,6 +9,7 @@ use Rattle.zq_message.specs.declared.message.Zid.{Zid}
 use Rattle.zq_key.specs.Key.{is_key}
 use Rattle.zq_trees.specs.declared.types.Telling.{Telling as TreeTelling}
 use Rattle.zq_trees.specs.Nets.{is_zid}
+use Rattle.zq_trees.specs.Tellings.{in_order}
 use Rattle.zq_hat.specs.declared.types.Strategy.{Strategy}
 use Rattle.zq_hat.specs.declared.types.Strategy.TheVariants as strategy
 use Rattle.zq_hat.specs.Changes.{changed_by}
@@ -19,15 +20,22 @@ use Rattle.zq_hat.specs.Trees.{to_children}
 use Rattle.zq_tables.specs.declared.said.Said.{Said}
 use Rattle.zq_tables.specs.declared.said.Said.TheVariants as said
 use Rattle.zq_machine.specs.declared.call.Outcome.TheVariants as outcome
+use Rattle.zq_machine.specs.declared.call.Step.{Step}
 use Rattle.zq_machine.specs.declared.call.Refusal.{Refusal}
 use Rattle.zq_machine.specs.declared.call.Refusal.TheVariants as refusal
 use Rattle.zq_machine.specs.Deciding.{accepted, announced_by, entry_by, entry_of, granted, lacks_router, refusal_of, renamed, retracted_by}
+use Rattle.zq_machine.specs.Handing.{Handed}
+use Rattle.zq_machine.specs.Machine.{answer, settle}
+use Rattle.zq_machine.specs.Messages.{from_hat}
 use Rattle.zq_machine.specs.Selecting.{full_text, is_unscoped, says_key}
 use Rattle.zq_machine.specs.State.{Core, State, change_hat, face_region, hat_at, hat_of, is_open, is_routing, put_hat}
 use Rattle.zq_machine.specs.TextCalls.{announcing, by_router, retracting}
 use Rattle.zq_machine.specs.Trees.{own_told_on, source_told, touched, tree_told}
+use Rattle.zq_machine.specs.Writing.{tell}
+use Rattle.zq_tables.specs.Naming.{NamingState}
+use Rattle.zq_handing.specs.Telling.{behind}
 use Rattle.zq_gateway.specs.Routing.{entered, entering, entry_change, key_refusal, other_router}
-use Rattle.zq_gateway.proofs.Due.{changed_home, due, hat_home, key_due}
+use Rattle.zq_gateway.proofs.Due.{changed_home, due, hat_home, key_due, told_answered, told_left}
 
 -- in a region of routers
 in_routing : {X : Type 0} (k : Strategy) (a b : X) → in_routers k true false ≡ true → in_routers k a b ≡ a
@@ -189,3 +197,32 @@ module _ (s : State) (face : FaceId) (sd : Said) (node : ℕ) where
   pub entering_core : (info : Option QueryableInfoType) → accepted s.core (entering face sd info node) ≡ record s.core { hats = (accepted s.core (entering face sd info node)).hats }
   entering_core None = refl
   entering_core (Some i) = refl
+
+-- what the body gathers, is answered and leaves
+module _ (s : State) (face : FaceId) (sd : Said) (info : Option QueryableInfoType) (node : ℕ) (opens : is_open face.0 s.core ≡ true) (key : List ℕ) (says : sd ≡ said.Full key) (valid : is_key key ≡ true)
+    (r : Region) (home : face_region face.0 s.core ≡ Some r) (h : HatState) (there : hat_at r s.core.hats ≡ Some h) (router : Zid) (is : other_router s.core.config.zid (source_at face.0 node h) ≡ Some router) where
+  pub entering_due : by_router face s.core ≡ true → (hats : List (ℕ × HatState)) → hats ≡ s.core.hats → (tree ts : List TreeTelling) → tree ≡ in_routers (strategy_at h) (to_children (Some face.0) router key info h) []
+      → ts ≡ tree ++ own_told_on hats (change_hat r (changed_by (entry_change router info) key) hats) key → ts ≡ due s.core (entering face sd info node)
+  entering_due routing hats same tree ts tree_are ts_are =
+      key_due s (entering face sd info node) r (entered router key info) key
+      (touches s.core face sd info node opens key says valid r home h there router is)
+      (changes s.core face sd info node opens key says valid r home h there router is) hats same tree ts
+      (tree_are ∙ tree_is s.core face sd info node opens key says valid r home h there router is routing)
+      (ts_are ∙ ap (λ f. tree ++ own_told_on hats (change_hat r f hats) key) (changed_is router key info))
+
+  pub entering_faces : (accepted s.core (entering face sd info node)).faces ≡ s.core.faces
+  entering_faces = ap (λ (x : Core). x.faces) (entering_core s face sd node info)
+
+  module _ (fits : refusal_of s.core (entering face sd info node) ≡ None) (ts : List TreeTelling) (are : ts ≡ due s.core (entering face sd info node)) (l : List Handed) (new : NamingState)
+      (told : behind [] (tell (accepted s.core (entering face sd info node)) (map from_hat (in_order ts)) s.names) ≡ record { handed = l; names = new }) where
+    its_told : behind [] (tell (accepted s.core (entering face sd info node)) (map from_hat (in_order ts)) (renamed s (entering face sd info node))) ≡ record { handed = l; names = new }
+    its_told = ap (λ n. behind [] (tell (accepted s.core (entering face sd info node)) (map from_hat (in_order ts)) n)) (entering_names s face sd node info) ∙ told
+
+    pub entering_answered : ◌≡◌ {A = Step} (record { outcome = outcome.Done; handed = l }) (answer s (entering face sd info node))
+    entering_answered = ap (λ o. record { outcome = o; handed = l }) (sym (entering_done s face sd node info)) ∙ told_answered s (entering face sd info node) fits ts are l new its_told (entering_quiet s face sd node info)
+
+    pub entering_left : settle s (entering face sd info node) ≡ record { core = record s.core { hats = change_hat r (entered router key info) s.core.hats }; names = new }
+    entering_left =
+        told_left s (entering face sd info node) fits ts are l new its_told
+        ∙ ap (λ (x : Core). record { core = x; names = new }) (entering_core s face sd node info)
+        ∙ ap (λ hats. record { core = record s.core { hats = hats }; names = new }) (changes s.core face sd info node opens key says valid r home h there router is)
