@@ -1,7 +1,7 @@
 use crate::gateway::Gateway;
 use std::alloc::Global;
 use std::test::Fail;
-use zq_hat::types::FinalMark;
+use zq_hat::types::{FinalMark, Network, NodeIds};
 use zq_key::items::Items;
 use zq_key::memory::OutOfMemory;
 use zq_key::message::{
@@ -280,6 +280,27 @@ fn marks(rt: HostRuntime) -> Result<(), Fail> {
         body: DeclareBody::DeclareFinal,
     };
     assert!(rt; seen(gateway.send_declare(FaceId(0), &ended)) == done);
+    Ok(())
+}
+
+// Outside regions of routers a network and a node table change nothing.
+#[test]
+fn networks(rt: HostRuntime) -> Result<(), Fail> {
+    let alloc = rt.alloc();
+    let mut gateway = pair(alloc)?;
+    let done = Some((Outcome::Done, 0));
+    let net = Network::empty(alloc);
+    assert!(rt; seen(gateway.set_network(Region::North, &net)) == done);
+    let south = Region::South {
+        id: 0,
+        mode: Mode::Router,
+    };
+    let unknown = seen(gateway.set_network(south, &net));
+    assert!(rt; unknown == Some((Outcome::Refused(Refusal::UnknownRegion), 0)));
+    let ids = NodeIds::empty(alloc);
+    assert!(rt; seen(gateway.set_node_ids(FaceId(0), &ids)) == done);
+    let unknown = seen(gateway.set_node_ids(FaceId(9), &ids));
+    assert!(rt; unknown == Some((Outcome::Refused(Refusal::UnknownFace), 0)));
     Ok(())
 }
 

@@ -30,8 +30,8 @@ tell-requires c =
     let same = closing_due s face r home i.hats (ap (λ (x : State). x.core.hats) c.self.view_is) c.as_slice-2.result.now (c.as_slice-2.ensures ∙ c.in_ok-keys.ensures ∙ ap (λ o. option_map_or (keys_of_face face.0) o []) (sym c.home-hat.ensures.hat)) c.tell_changes.new.told told in
     due_of_keys s c.requires (closing face) (close_fits s face r home) c.as_slice-3.result.now (c.as_slice-3.ensures ∙ same)
 
-pub returns : goal.returns
-returns c =
+pub returns-in-Ok : goal.returns-in-Ok
+returns-in-Ok c =
     let s : State = c.args.self.now in
     let i = c.self.inside in
     let v = c.self.view_is in
