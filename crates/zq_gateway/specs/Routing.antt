@@ -8,7 +8,10 @@ use Rattle.zq_hat.specs.declared.types.Change.{Change}
 use Rattle.zq_hat.specs.declared.types.Change.TheVariants as change
 use Rattle.zq_hat.specs.Routers.{announced, retracted}
 use Rattle.zq_hat.specs.State.{HatState}
+use Rattle.zq_message.specs.declared.message.WireExpr.{WireExpr}
+use Rattle.zq_tables.specs.Naming.{NamingState, face_naming, said_of}
 use Rattle.zq_tables.specs.declared.said.Said.{Said}
+use Rattle.zq_tables.specs.declared.said.Said.TheVariants as said_word
 use Rattle.zq_trees.specs.Nets.{is_zid}
 use Rattle.zq_machine.specs.declared.call.Refusal.{Refusal}
 use Rattle.zq_machine.specs.declared.call.Refusal.TheVariants as refusal
@@ -38,3 +41,8 @@ key_refusal s = first_of ((is_unscoped s, refusal.UnknownScope) ∷ (not (says_k
 -- a router that is not the gateway itself
 abbrev pub other_router : Zid → Option Zid → Option Zid
 other_router own router = option_and_then (λ (z : Zid). if is_zid own z then None else Some z) router
+
+-- what an expression says that may be missing, by what stands for keys
+abbrev pub said_by : NamingState → FaceId → Option WireExpr → Said
+said_by names face None = said_word.Empty
+said_by names face (Some w) = said_of (face_naming face.0 names) w

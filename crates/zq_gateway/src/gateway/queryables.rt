@@ -11,6 +11,7 @@ ghost use Rattle.zq_handing.specs.Telling.{behind, untold};
 ghost use Rattle.zq_machine.specs.declared.call.Call.TheVariants as call;
 ghost use Rattle.zq_machine.specs.TextCalls.{declaring, finalizing, withdrawing};
 ghost use Rattle.zq_gateway.specs.Making.{IsReached, Performs, Settles};
+ghost use Rattle.zq_gateway.specs.Routing.{said_by};
 ghost use Rattle.zq_gateway.specs.Undoing.{taken_back};
 
 use crate::gateway::tables::Tables;
@@ -34,6 +35,20 @@ fn take_back(names: &mut Naming, face: FaceId, id: u32, fresh: bool)
 {
     if fresh {
         names.release_queryable(face, id);
+    }
+}
+
+// What an expression says that may be missing.
+fn said_or_none(
+    names: &Naming,
+    face: FaceId,
+    wire: &Option<WireExpr>,
+) -> Result<Said, OutOfMemory>
+    ensures { IfOk result (λ s. s ≡ said_by names.now face wire.now) }
+{
+    match wire {
+        Some(wire) => names.said(face, wire),
+        None => Ok(Said::Empty),
     }
 }
 
@@ -184,10 +199,7 @@ impl Tables {
         ensures { Performs self.old self.new (call.UndeclareQueryable face id wire.now node) result }
     {
         if self.is_routing(face) {
-            let said = match wire {
-                Some(wire) => self.names.said(face, wire)?,
-                None => Said::Empty,
-            };
+            let said = said_or_none(&self.names, face, wire)?;
             return self.change_entry(face, &said, None, node);
         }
         self.undeclare_queryable(face, id, node)

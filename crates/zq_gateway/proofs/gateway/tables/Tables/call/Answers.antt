@@ -1,4 +1,3 @@
-use Rattle.zq_gateway.proofs.Reached.{reached_apart}
 use Rattle.zq_gateway.proofs.gateway.tables.Tables.call.Goals as goal
 
 pub returns-in-DeclareKeyExpr : goal.returns-in-DeclareKeyExpr
@@ -11,7 +10,7 @@ pub returns-in-DeclareQueryable : goal.returns-in-DeclareQueryable
 returns-in-DeclareQueryable c = rw c.in-DeclareQueryable.is c.register.ensures
 
 pub returns-in-UndeclareQueryable : goal.returns-in-UndeclareQueryable
-returns-in-UndeclareQueryable c = rw (c.in-UndeclareQueryable.is, reached_apart c.args.self.now c.requires.reached c.in-UndeclareQueryable.face) c.undeclare_queryable.ensures
+returns-in-UndeclareQueryable c = rw c.in-UndeclareQueryable.is c.unregister.ensures
 
 pub returns-in-Request : goal.returns-in-Request
 returns-in-Request c = rw c.in-Request.is c.send_request.ensures

@@ -1,4 +1,3 @@
-use Rattle.zq_gateway.proofs.Reached.{reached_apart}
 use Rattle.zq_gateway.proofs.gateway.tables.Tables.declare.Goals as goal
 
 pub returns-in-DeclareKeyExpr : goal.returns-in-DeclareKeyExpr
@@ -8,4 +7,4 @@ pub returns-in-DeclareQueryable : goal.returns-in-DeclareQueryable
 returns-in-DeclareQueryable c = rw c.in-DeclareQueryable.is c.register.ensures
 
 pub returns-in-UndeclareQueryable : goal.returns-in-UndeclareQueryable
-returns-in-UndeclareQueryable c = rw (c.in-UndeclareQueryable.is, reached_apart c.args.self.now c.requires.reached c.args.face) c.undeclare_queryable.ensures
+returns-in-UndeclareQueryable c = rw c.in-UndeclareQueryable.is c.unregister.ensures
