@@ -52,7 +52,7 @@ returns-in-Ok c =
     let closed = c.in-Ok.ensures.after ∙ ap (after_close face.0) queries in
     record {
       step =
-          c.told-2.ensures
+          c.told-in-Ok.ensures
           ∙ closed_answered s c.requires face r home fits ts are finals c.in_ok-handed.handed c.tell.new.names handed
           (c.in_ok-finals.ensures ∙ ap (map sent_final) (c.as_slice.ensures ∙ c.in_ok-last.ensures ∙ ap (λ (q : QueryState). closing_finals face.0 q) queries));
       after =
