@@ -39,10 +39,10 @@ module _ (c d : Core) (g : NamingState → NamingState) where
   module _ (to : FaceId) (b : IsBeside to.0) (names : NamingState) (text : List ℕ) where
     same_key : told_key d to text (g names) ≡ told_key c to text names
     same_key = λ j. declared_key
-      (b.numbers names j)
-      (option_map_or (λ (o : OpenFace). is_local_region o.region) (b.face j) false)
-      (option_map_or (λ (o : OpenFace). numbers_region o.region) (b.face j) false)
-      text
+        (b.numbers names j)
+        (option_map_or (λ (o : OpenFace). is_local_region o.region) (b.face j) false)
+        (option_map_or (λ (o : OpenFace). numbers_region o.region) (b.face j) false)
+        text
 
     by_number : (m : Declare) (o : Option ℕ) → and_then (tell_number to text o (g names)) (tell_declare to text m) ≡ changed_after (and_then (tell_number to text o names) (tell_declare to text m))
     by_number m None = refl

@@ -120,14 +120,7 @@ impl Tables {
         let keys = hat.keys_of(face)?;
         let mut told = Items::new(self.alloc);
         let change = Change::Left(face);
-        tell_changes(
-            &self.hats,
-            region,
-            hat,
-            &change,
-            keys.as_slice(),
-            &mut told,
-        )?;
+        tell_changes(&self.hats, region, hat, &change, keys.as_slice(), &mut told)?;
         let handed = tell(
             self.alloc,
             &self.faces,

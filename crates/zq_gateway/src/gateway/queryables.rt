@@ -39,11 +39,7 @@ fn take_back(names: &mut Naming, face: FaceId, id: u32, fresh: bool)
 }
 
 // What an expression says that may be missing.
-fn said_or_none(
-    names: &Naming,
-    face: FaceId,
-    wire: &Option<WireExpr>,
-) -> Result<Said, OutOfMemory>
+fn said_or_none(names: &Naming, face: FaceId, wire: &Option<WireExpr>) -> Result<Said, OutOfMemory>
     ensures { IfOk result (λ s. s ≡ said_by names.now face wire.now) }
 {
     match wire {
