@@ -2,8 +2,8 @@
 use Rattle.std.proofs.Common.{◌≡◌, ◌∙◌, refl, sym, ap, subst, ℕ, Bool, true, false, cond, List, [], ◌∷◌, ◌++◌, Option, Some, None, unwrap_or}
 use Rattle.std.specs.BTreeMap.{is_at}
 use Rattle.std.specs.List.{AllByRecursion}
-use Rattle.std.specs.Map.{lookup, remove_entry, set_value}
-use Rattle.std.specs.Option.{is_some, option_map, option_map_or}
+use Rattle.std.specs.Map.{remove_entry, set_value}
+use Rattle.std.specs.Option.{option_map_or}
 use Rattle.std.specs.Ordering.{nat_cmp}
 use Rattle.std.proofs.lemmas.Bool.{true≢false}
 use Rattle.std.proofs.lemmas.Cmp.{nat_cmp_total}
@@ -11,14 +11,12 @@ use Rattle.std.proofs.lemmas.Map.Lookups.{exact_unsigned}
 use Rattle.zq_message.specs.declared.message.Declare.{Declare}
 use Rattle.zq_message.specs.declared.message.DeclareBody.TheVariants as body
 use Rattle.zq_message.specs.declared.message.FaceId.{FaceId}
-use Rattle.zq_names.specs.Texts.{nonwild}
 use Rattle.zq_ids.specs.FaceTexts.{declared_key}
 use Rattle.zq_ids.specs.declared.decl.DeclKey.{DeclKey}
 use Rattle.zq_tables.specs.Naming.{FaceKeys, NamingState, change_naming, face_naming, naming_at, no_keys, put_naming, with_told_number, without_queryable}
-use Rattle.zq_machine.specs.Handing.{Handed}
 use Rattle.zq_machine.specs.Messages.{Telling, TellingBody, all_told, key_ended, key_told}
 use Rattle.zq_machine.specs.State.{Core, at}
-use Rattle.zq_machine.specs.Writing.{Told, and_then, is_local_face, is_local_region, may_number, numbers_region, tell, tell_body, tell_by, tell_declare, tell_number, told_key}
+use Rattle.zq_machine.specs.Writing.{Told, and_then, is_local_region, numbers_region, tell, tell_body, tell_by, tell_declare, tell_number, told_key}
 use Rattle.zq_machine.specs.declared.face.OpenFace.{OpenFace}
 use Rattle.zq_tables.proofs.Emptied.{changed_twice}
 use Rattle.zq_tables.proofs.Entries.{lookup_set}

@@ -29,7 +29,7 @@ use Rattle.zq_machine.specs.Machine.{answer, settle}
 use Rattle.zq_machine.specs.Messages.{from_hat}
 use Rattle.zq_machine.specs.Selecting.{full_text, is_unscoped, says_key}
 use Rattle.zq_machine.specs.State.{Core, State, change_hat, face_region, hat_at, hat_of, is_open, is_routing, put_hat}
-use Rattle.zq_machine.specs.TextCalls.{announcing, by_router, retracting}
+use Rattle.zq_machine.specs.TextCalls.{by_router}
 use Rattle.zq_machine.specs.Trees.{own_told_on, source_told, touched, tree_told}
 use Rattle.zq_machine.specs.Writing.{tell}
 use Rattle.zq_tables.specs.Naming.{NamingState}

@@ -1,43 +1,24 @@
 -- What holds of a gateway that calls made: faces, hats and what stands for keys agree, and the next number is no face's.
-use Rattle.std.proofs.Common.{◌≡◌, ◌∙◌, refl, sym, ap, subst, ℕ, Bool, true, false, cond, map, List, [], ◌∷◌, ◌++◌, Option, Some, None, Result, Ok, Err}
-use Rattle.std.specs.Prelude.{◌==◌}
-use Rattle.std.specs.List.{AllByRecursion}
+use Rattle.std.proofs.Common.{◌≡◌, ◌∙◌, refl, sym, ap, subst, ℕ, true, false, List, [], ◌∷◌, ◌++◌, Option, Some, None, Result, Ok, Err}
 use Rattle.std.specs.Option.{is_some, option_map, option_map_or}
 use Rattle.std.proofs.lemmas.Bool.{true≢false}
 use Rattle.std.proofs.lemmas.Option.{same_Some}
 use Rattle.zq_message.specs.declared.memory.OutOfMemory.{OutOfMemory}
-use Rattle.zq_message.specs.declared.message.DeclareBody.{DeclareBody}
-use Rattle.zq_message.specs.declared.message.DeclareBody.TheVariants as body
-use Rattle.zq_message.specs.declared.message.FaceId.{FaceId}
-use Rattle.zq_message.specs.declared.message.QueryableInfoType.{QueryableInfoType}
 use Rattle.zq_message.specs.declared.message.Region.{Region}
-use Rattle.zq_message.specs.declared.message.WireExpr.{WireExpr}
 use Rattle.zq_regions.specs.Region.{region_index}
 use Rattle.zq_hat.specs.State.{HatState}
 use Rattle.zq_hat.specs.Kept.{has_face}
-use Rattle.zq_hat.specs.declared.types.FinalMark.TheVariants as mark
-use Rattle.zq_tables.specs.Naming.{FaceKeys}
-use Rattle.zq_tables.specs.declared.said.Said.{Said}
-use Rattle.zq_query.specs.Closing.{closing_finals}
-use Rattle.zq_machine.specs.declared.call.Outcome.TheVariants as outcome
 use Rattle.zq_machine.specs.declared.call.Call.{Call}
-use Rattle.zq_machine.specs.declared.call.Call.TheVariants as call
 use Rattle.zq_machine.specs.declared.call.Step.{Step}
 use Rattle.zq_machine.specs.declared.face.OpenFace.{OpenFace}
 use Rattle.zq_machine.specs.Agreeing.{stands_in}
 use Rattle.zq_machine.specs.Configs.{Settings}
-use Rattle.zq_machine.specs.Calls.{declaring_call, ending_call, is_built}
-use Rattle.zq_machine.specs.Deciding.{refusal_of, told_of}
-use Rattle.zq_machine.specs.Handing.{Handed}
-use Rattle.zq_machine.specs.Machine.{accepted_state, after, answer, done, settle, state_after}
-use Rattle.zq_machine.specs.TextCalls.{TextCall, announcing, by_router, closing, declaring, read, retracting, said, said_or_none, withdrawing}
-use Rattle.zq_machine.specs.Writing.{sent_final}
+use Rattle.zq_machine.specs.Machine.{after, state_after}
 use Rattle.zq_machine.specs.State.{State, at, face_region, has_hat, hat_at, opening_state, region_in}
 use Rattle.zq_machine.proofs.Agreed.{InOrder, next_absent, run_in_order}
 use Rattle.zq_machine.proofs.Agreeing.{some_of}
 use Rattle.zq_machine.proofs.Changing.{itself, number_test}
 use Rattle.zq_machine.proofs.Frame.{config_kept}
-use Rattle.zq_machine.proofs.Writing.{answers_granted, close_fits, finals_written, settles_granted}
 use Rattle.zq_gateway.specs.Making.{Answers, IsReached, MayPerform}
 use Rattle.zq_handing.specs.Seats.{seats}
 

@@ -1,6 +1,4 @@
-use Rattle.std.proofs.Common.{sym, subst}
 use Rattle.zq_machine.proofs.Kept.{headline}
-use Rattle.zq_gateway.specs.Making.{IsReached}
 use Rattle.zq_gateway.proofs.Reached.{reached_opening}
 use Rattle.zq_gateway.proofs.gateway.Gateway.new.Goals as goal
 

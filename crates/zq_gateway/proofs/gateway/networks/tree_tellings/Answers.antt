@@ -1,4 +1,4 @@
-use Rattle.std.proofs.Common.{◌≡◌, ◌∙◌}
+use Rattle.std.proofs.Common.{◌∙◌}
 use Rattle.zq_gateway.proofs.Networks.{network_hands}
 use Rattle.zq_gateway.proofs.gateway.networks.tree_tellings.Goals as goal
 

@@ -20,7 +20,7 @@ use Rattle.zq_machine.specs.State.{State, change_hat, face_region, hat_at, is_op
 use Rattle.zq_machine.specs.Trees.{own_told_on}
 use Rattle.zq_machine.specs.Writing.{tell}
 use Rattle.zq_handing.specs.Telling.{behind, untold}
-use Rattle.zq_gateway.specs.Routing.{entered, entering, entry_change, key_refusal, other_router}
+use Rattle.zq_gateway.specs.Routing.{entered, entering, key_refusal, other_router}
 use Rattle.zq_gateway.proofs.Due.{closed_there, due, due_of_keys, opened_there, refused_answered, refused_left}
 use Rattle.zq_gateway.proofs.Entering.{entering_answered, entering_due, entering_faces, entering_left, entry_fits, no_entry, no_key, no_router, not_open}
 use Rattle.zq_gateway.proofs.gateway.tables.Tables.change_entry.Goals as goal

@@ -1,4 +1,4 @@
-use Rattle.std.proofs.Common.{◌≡◌, ◌∙◌, refl, sym, ap, List, ℕ, [], ◌++◌, Option, None, Some, true, false, not}
+use Rattle.std.proofs.Common.{◌≡◌, ◌∙◌, refl, sym, ap, List, ℕ, ◌++◌, Option, None, Some, true, false, not}
 use Rattle.std.specs.Option.{is_none, is_some}
 use Rattle.zq_key.specs.Key.{is_key}
 use Rattle.zq_trees.specs.declared.types.Telling.{Telling as TreeTelling}

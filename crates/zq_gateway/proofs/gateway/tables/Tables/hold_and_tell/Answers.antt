@@ -1,6 +1,6 @@
-use Rattle.std.proofs.Common.{◌≡◌, ◌∙◌, sym, ap, List, [], map, drop, length}
+use Rattle.std.proofs.Common.{◌∙◌, sym, ap, List, map, drop, length}
 use Rattle.zq_trees.specs.Tellings.{in_order}
-use Rattle.zq_tables.specs.Naming.{NamingState, change_naming, with_queryable}
+use Rattle.zq_tables.specs.Naming.{change_naming, with_queryable}
 use Rattle.zq_machine.specs.Handing.{Handed}
 use Rattle.zq_machine.specs.Messages.{from_hat}
 use Rattle.zq_machine.specs.State.{State}

@@ -1,8 +1,7 @@
-use Rattle.std.proofs.Common.{◌≡◌, ◌∙◌, ap, sym, subst, cond, true, false, Bool, Some}
+use Rattle.std.proofs.Common.{◌≡◌, ◌∙◌, ap, sym, subst, cond, true, false}
 use Rattle.zq_tables.specs.Naming.{said_of, face_naming}
-use Rattle.zq_machine.specs.TextCalls.{TextCall, announcing, by_router, declaring, said}
+use Rattle.zq_machine.specs.TextCalls.{announcing, by_router, declaring, said}
 use Rattle.zq_gateway.specs.Making.{Settles}
-use Rattle.zq_gateway.specs.Routing.{entering}
 use Rattle.zq_gateway.proofs.gateway.tables.Tables.register.Goals as goal
 
 pub returns-then-is_routing : goal.returns-then-is_routing
