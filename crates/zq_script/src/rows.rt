@@ -7,7 +7,7 @@ use zq_key::memory::OutOfMemory;
 use zq_key::text::{Bytes, Text};
 
 /// What a script tells of, its lines, its print, and how its run ends.
-const ROWS: [(&str, &str, &str, Status); 22] = [
+const ROWS: [(&str, &str, &str, Status); 26] = [
     (
         "one query",
         "config 1 10000 north:client local\n\
