@@ -282,8 +282,9 @@ class Face:
         """The text of an expression."""
         if written.number == 0:
             return written.suffix
-        refuse('UnknownScope', written.side == 'r' or written.number not in self.texts)
-        return self.texts[written.number] + written.suffix
+        texts = self.texts if written.side == 's' else self.ours
+        refuse('UnknownScope', written.number not in texts)
+        return texts[written.number] + written.suffix
 
     def says_key(self, written):
         """The text of an expression that has to be a key."""
