@@ -5,6 +5,7 @@
 //! - `keys`: numbers that faces declare for keys
 //! - `networks`: networks of regions of routers, and what node numbers stand for
 //! - `queryables`: queryables that faces declare and withdraw, and marks of what they have declared
+//! - `routers`: what routers announce and retract
 //! - `requests`: requests, and whom they are handed to
 //! - `replies`: replies, finals, reports that a reply was sent, and moments that have come
 #![tactic(auto, using(crate::proofs::Reached::reached_given))]
@@ -80,8 +81,8 @@ impl Gateway {
         self.tables.call(call)
     }
 
-    /// A face is opened, in its region. A namespace, deny lists and the regions of routers are not
-    /// built yet (`Opening::is_built`), so that no face is opened without what it was given.
+    /// A face is opened, in its region. A namespace and deny lists are not built yet
+    /// (`Opening::is_built`), so that no face is opened without what it was given.
     pub fn open_face(&mut self, opening: &Opening) -> Result<Step, OutOfMemory>
         requires { is_built self.old.core.config (call.Open opening.now) ≡ true }
         ensures { Performs self.old self.new (call.Open opening.now) result }
