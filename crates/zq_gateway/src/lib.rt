@@ -14,6 +14,3 @@ pub use zq_machine::{
     BadConfig, Call, Config, ConfigRefusal, Counters, Entry, EntryList, Handed, HandedList, Leaves,
     Opening, Outcome, Refusal, Replay, Step, StepList,
 };
-
-#[cfg(test)]
-mod tests;

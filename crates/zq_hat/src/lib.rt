@@ -17,8 +17,6 @@ pub mod hat;
 mod merges;
 mod offers;
 pub mod strategy;
-#[cfg(test)]
-mod tests;
 pub mod types;
 
 pub use zq_index::info;

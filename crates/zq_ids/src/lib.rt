@@ -14,6 +14,3 @@ mod ids;
 
 pub use decl::DeclKey;
 pub use face::FaceNames;
-
-#[cfg(test)]
-mod tests;

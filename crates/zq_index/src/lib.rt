@@ -11,6 +11,4 @@ mod forks;
 pub mod holders;
 pub mod info;
 pub mod search;
-#[cfg(test)]
-mod tests;
 pub mod text_set;

@@ -53,6 +53,3 @@ pub fn includes(a: &str, b: &str) -> bool
 {
     related(Relation::Covers, a.as_bytes(), b.as_bytes())
 }
-
-#[cfg(test)]
-mod tests;

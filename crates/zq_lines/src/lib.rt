@@ -11,5 +11,3 @@ pub mod calls;
 pub mod lines;
 pub mod split;
 pub mod tables;
-#[cfg(test)]
-mod tests;

@@ -27,6 +27,3 @@ pub use names::Names;
 pub use node::{ResourceId, ResourceList};
 pub use order::nonwild;
 pub use refusal::NameRefusal;
-
-#[cfg(test)]
-mod tests;

@@ -8,5 +8,3 @@
 pub mod fit;
 mod same;
 pub mod steps;
-#[cfg(test)]
-mod tests;

@@ -12,6 +12,3 @@ pub mod map;
 pub use index::{index_to_region, region_to_index};
 pub use iter::{RegionIntoIter, RegionIter, Regions, Values};
 pub use map::RegionMap;
-
-#[cfg(test)]
-mod tests;

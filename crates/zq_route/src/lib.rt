@@ -6,5 +6,3 @@ pub mod filter;
 pub mod gateways;
 pub mod selection;
 mod taken;
-#[cfg(test)]
-mod tests;

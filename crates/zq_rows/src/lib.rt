@@ -12,6 +12,3 @@ mod tree;
 mod turn;
 
 pub use tree::{Seat, Tree};
-
-#[cfg(test)]
-mod tests;

@@ -15,12 +15,8 @@ mod head;
 mod load;
 mod printing;
 pub mod refusal;
-#[cfg(test)]
-mod rows;
 pub mod run;
 pub mod script;
-#[cfg(test)]
-mod tests;
 
 pub use zq_lines::calls::print_call;
 pub use zq_prints::steps::{print_message, print_steps};

@@ -8,6 +8,4 @@
 
 pub mod stored;
 pub mod streams;
-#[cfg(test)]
-mod tests;
 pub mod transfer;

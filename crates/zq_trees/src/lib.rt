@@ -16,6 +16,4 @@ pub mod networks;
 mod router_keys;
 pub mod seats;
 pub mod tellings;
-#[cfg(test)]
-mod tests;
 pub mod types;

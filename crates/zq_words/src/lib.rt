@@ -9,7 +9,5 @@
 
 pub mod show;
 pub mod stop;
-#[cfg(test)]
-mod tests;
 pub mod values;
 pub mod words;

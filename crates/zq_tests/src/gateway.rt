@@ -1,4 +1,4 @@
-use crate::gateway::Gateway;
+use zq_gateway::gateway::Gateway;
 use std::alloc::Global;
 use std::test::Fail;
 use zq_hat::types::{FinalMark, Network, NodeIds};

@@ -2,7 +2,7 @@ use Rattle.std.proofs.Common.{ℕ}
 use Rattle.std.specs.List.{Contains}
 use Rattle.zq_names.specs.Names.{ids}
 use Rattle.zq_ids.proofs.FaceLemmas.{AreLiveIds-kept}
-use Rattle.zq_ids.proofs.tests.Known.add.Goals as goal
+use Rattle.zq_tests.proofs.ids.Known.add.Goals as goal
 
 pub invariant_of-self-2 : goal.invariant_of-self-2
 invariant_of-self-2 c =

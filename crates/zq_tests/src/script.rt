@@ -1,7 +1,7 @@
-use crate::refusal::ScriptRefusal;
-use crate::run::{Status, run};
-use crate::script::read_script;
-use crate::{LIMIT, MemorySink, MemorySource};
+use zq_script::refusal::ScriptRefusal;
+use zq_script::run::{Status, run};
+use zq_script::script::read_script;
+use zq_script::{LIMIT, MemorySink, MemorySource};
 use std::alloc::Global;
 use std::test::Fail;
 use zq_key::memory::OutOfMemory;

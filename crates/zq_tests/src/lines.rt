@@ -1,5 +1,5 @@
-use crate::calls::print_call;
-use crate::lines::call_of;
+use zq_lines::calls::print_call;
+use zq_lines::lines::call_of;
 use std::test::Fail;
 use zq_words::stop::Stop;
 

@@ -1,4 +1,4 @@
-use crate::steps::{print_message, print_steps};
+use zq_prints::steps::{print_message, print_steps};
 use std::test::Fail;
 use zq_key::items::Items;
 use zq_key::message::{FaceId, Message, ResponseFinal};

@@ -1,4 +1,4 @@
-use crate::info::merge_qabl_infos;
+use zq_index::info::merge_qabl_infos;
 use zq_key::message::QueryableInfoType;
 
 fn information(complete: bool, distance: u16) -> QueryableInfoType {

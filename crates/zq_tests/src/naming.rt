@@ -1,5 +1,5 @@
-use crate::naming::Naming;
-use crate::said::Said;
+use zq_tables::naming::Naming;
+use zq_tables::said::Said;
 use std::alloc::Global;
 use std::test::Fail;
 use zq_key::memory::OutOfMemory;

@@ -1,6 +1,6 @@
 //! Worked scripts, each with the print that is wanted.
-use crate::run::{Status, run};
-use crate::{MemorySink, MemorySource};
+use zq_script::run::{Status, run};
+use zq_script::{MemorySink, MemorySource};
 use std::alloc::Global;
 use std::test::Fail;
 use zq_key::memory::OutOfMemory;

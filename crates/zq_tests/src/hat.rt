@@ -1,5 +1,5 @@
-use crate::hat::Hat;
-use crate::types::{FaceRecord, FinalMark, HatRefusal, UnregisterEntityResult};
+use zq_hat::hat::Hat;
+use zq_hat::types::{FaceRecord, FinalMark, HatRefusal, UnregisterEntityResult};
 use std::alloc::Global;
 use zq_key::Key;
 use zq_key::message::{Bound, FaceId, Mode, QueryableInfoType, Region, Zid};

@@ -1,6 +1,6 @@
-use crate::stop::Stop;
-use crate::values::flag_of;
-use crate::words::{print_word, read_word, text_of};
+use zq_words::stop::Stop;
+use zq_words::values::flag_of;
+use zq_words::words::{print_word, read_word, text_of};
 use std::test::Fail;
 
 #[test]

@@ -1,8 +1,8 @@
-use crate::children::{fresh_ids, tell_children};
-use crate::nets::Net;
-use crate::seats::Seats;
-use crate::tellings::in_order;
-use crate::types::{Network, Tree};
+use zq_trees::children::{fresh_ids, tell_children};
+use zq_trees::nets::Net;
+use zq_trees::seats::Seats;
+use zq_trees::tellings::in_order;
+use zq_trees::types::{Network, Tree};
 use std::alloc::Global;
 use zq_key::items::Items;
 use zq_key::memory::OutOfMemory;

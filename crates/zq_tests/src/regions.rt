@@ -1,4 +1,4 @@
-use crate::{RegionMap, index_to_region, region_to_index};
+use zq_regions::{RegionMap, index_to_region, region_to_index};
 use std::test::Fail;
 use zq_message::message::{Mode, Region};
 

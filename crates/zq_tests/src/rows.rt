@@ -1,4 +1,4 @@
-use crate::{Seat, Tree};
+use zq_rows::{Seat, Tree};
 use std::test::Fail;
 
 #[test]

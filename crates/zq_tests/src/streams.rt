@@ -1,6 +1,6 @@
-use crate::stored::{MemorySink, MemorySource, SureSink, SureSource};
-use crate::streams::{ReadSource, WriteSink};
-use crate::transfer::{ReadRefusal, read_all, write_all};
+use zq_streams::stored::{MemorySink, MemorySource, SureSink, SureSource};
+use zq_streams::streams::{ReadSource, WriteSink};
+use zq_streams::transfer::{ReadRefusal, read_all, write_all};
 use std::test::Fail;
 use zq_message::text::Bytes;
 

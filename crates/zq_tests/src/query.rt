@@ -1,5 +1,5 @@
-use crate::queries::Queries;
-use crate::records::{AskRefusal, Final, NotInFlight, PollRefusal, QueryNotFound, ReplyRefusal};
+use zq_query::queries::Queries;
+use zq_query::records::{AskRefusal, Final, NotInFlight, PollRefusal, QueryNotFound, ReplyRefusal};
 use std::test::Fail;
 use zq_message::memory::OutOfMemory;
 use zq_message::message::FaceId;

@@ -1,7 +1,7 @@
 ghost use Rattle.std.specs.Prelude.{◌≡◌, true};
 ghost use Rattle.zq_names.specs.Linking.{HasContext};
 
-use crate::{NameRefusal, Names, ResourceId, ResourceList};
+use zq_names::{NameRefusal, Names, ResourceId, ResourceList};
 use std::alloc::Global;
 use std::test::Fail;
 use zq_key::memory::OutOfMemory;

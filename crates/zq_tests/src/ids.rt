@@ -1,4 +1,4 @@
-use crate::FaceNames;
+use zq_ids::FaceNames;
 use std::alloc::Global;
 use std::marker::Model;
 use std::test::Fail;

@@ -1,7 +1,7 @@
-use crate::builder::RouteBuilder;
-use crate::filter::InterRegionFilter;
-use crate::gateways::{GatewayEntry, Gateways};
-use crate::selection::compute_final_route;
+use zq_route::builder::RouteBuilder;
+use zq_route::filter::InterRegionFilter;
+use zq_route::gateways::{GatewayEntry, Gateways};
+use zq_route::selection::compute_final_route;
 use std::alloc::Global;
 use zq_hat::types::{OfferList, QueryTargetQabl};
 use zq_key::items::Items;

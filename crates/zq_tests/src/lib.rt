@@ -1,0 +1,41 @@
+//! The tests of all crates: worked rows as tables, each public call once with ample memory, and what no
+//! clause says. They stand apart from the crates, so that a crate is proved once and not a second time
+//! beside its tests.
+#![tactic(auto)]
+
+#[cfg(test)]
+mod gateway;
+#[cfg(test)]
+mod hat;
+#[cfg(test)]
+mod ids;
+#[cfg(test)]
+mod index;
+#[cfg(test)]
+mod key;
+#[cfg(test)]
+mod lines;
+#[cfg(test)]
+mod names;
+#[cfg(test)]
+mod naming;
+#[cfg(test)]
+mod prints;
+#[cfg(test)]
+mod query;
+#[cfg(test)]
+mod regions;
+#[cfg(test)]
+mod route;
+#[cfg(test)]
+mod rows;
+#[cfg(test)]
+mod script;
+#[cfg(test)]
+mod streams;
+#[cfg(test)]
+mod trees;
+#[cfg(test)]
+mod words;
+#[cfg(test)]
+mod worked;
