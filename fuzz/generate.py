@@ -10,8 +10,10 @@ import re
 import sys
 
 import keys
-import model
-from model import U16, U32, U64, U128
+from faces import Face
+from model import Gateway
+from telling import Network
+from words import LOCAL, U16, U32, U64, U128, BadLine, Tree, read_call, read_config, region
 
 PLAIN = [b'a b', b'a\nb', b'a\tb', *(
     'a b a/b a/b/c ab abc a/a b/a ab/c aab é é/a - a/- % a%zz a:b 😀/a a=b ~ ; , %41'.encode().split())]
@@ -93,10 +95,10 @@ class Writer:
         self.own = rng.choice([1, 2, 3, 11, U128])
         timeout = rng.choice([0, 1, 3, 5, 10000, 10000, U64, U64 - 5])
         self.lines = [f'config {self.own} {timeout} {" ".join(entries)}'.encode()]
-        self.config = model.read_config(self.lines[0].split(b' '))
+        self.config = read_config(self.lines[0].split(b' '))
         if theme == 'counters' or rng.random() < 0.15:
             self.write_start()
-        self.gateway = model.Gateway(self.config)
+        self.gateway = Gateway(self.config)
         self.keys = [some_key(rng) for _ in range(rng.randint(2, 5))]
         self.queryable_ids = [0, 1, 2, 3, U32]
         self.ids = rng.sample(IDS, rng.randint(2, 4)) + [self.own]
@@ -114,12 +116,12 @@ class Writer:
             weights = self.weights()
             kind = self.rng.choices(list(weights), list(weights.values()))[0]
             faces = list(self.gateway.faces.values())
-            stranger = model.Face(self.rng.choice([0, 1, 2, U32]), model.LOCAL, 0, '', 0)
+            stranger = Face(self.rng.choice([0, 1, 2, U32]), LOCAL, 0, '', 0)
             face = self.rng.choice(faces) if faces and self.rng.random() < 0.985 else stranger
             words = kind, *getattr(self, kind)(face)
             line = b' '.join(part if isinstance(part, bytes) else str(part).encode() for part in words)
-            with contextlib.suppress(model.BadLine):
-                self.gateway.call(*model.read_call(line.split(b' '), self.config))
+            with contextlib.suppress(BadLine):
+                self.gateway.call(*read_call(line.split(b' '), self.config))
                 self.lines.append(line)
         return b'\n'.join(self.lines) + self.rng.choice([b'', b'\n', b'\n', b'\n'])
 
@@ -266,7 +268,7 @@ class Writer:
     def network(self, _):
         """A table of few ids, which is often the last one with a tree changed."""
         where = self.rng.choice(self.regions * 9 + ['south:9:router'])
-        nodes, trees, distances = self.gateway.networks.get(model.region(where.encode()), model.Network([], [], []))
+        nodes, trees, distances = self.gateway.networks.get(region(where.encode()), Network([], [], []))
         if not nodes or self.rng.random() < 0.5:
             nodes = self.rng.sample([*self.ids, *self.ids[:2]], k=self.rng.choice([0, 3, 4, 5, 6]))
             distances = self.rng.choices([0, 1, 2, 5, U16], k=max(0, len(nodes) + self.rng.choice([0, 0, -1, 1])))
@@ -281,7 +283,7 @@ class Writer:
         """Children and directions among the nodes, at times beyond them, at times too few."""
         places = [*range(len(nodes))] * 6 + [len(nodes), U16, U16 + 1]
         directions = self.rng.choices(places * 2 + [None], k=max(0, len(nodes) - self.rng.choice([0, 0, 0, 1])))
-        return model.Tree(self.rng.choices(places, k=self.rng.choice([0, 1, 2, 3, 3, 4])), directions)
+        return Tree(self.rng.choices(places, k=self.rng.choice([0, 1, 2, 3, 3, 4])), directions)
 
     def nodes(self, face):
         """The table of a face, mostly of one of a router."""
