@@ -3,8 +3,8 @@
 from collections import namedtuple
 from dataclasses import dataclass, field
 
-from keys import is_key
-from words import NORTH, U16, Region, shown
+from keys import intersects, is_key
+from words import LOCAL, NORTH, U16, Region, shown
 
 
 class Refused(Exception):
@@ -18,13 +18,23 @@ def refuse(cause, holds):
 
 # What is declared on a key. Of two informations the lesser counts: complete ones, then the nearer.
 Info = namedtuple('Info', 'partial distance')
+# What a face was told of a key, and under which id.
+Known = namedtuple('Known', 'id info')
+
+
+class Interest(namedtuple('Interest', 'key numbers')):
+    """The key that a face wants to hear of, or none for all; and whether it wants numbers for keys."""
+
+    def meets(self, key):
+        return self.key is None or intersects(self.key, key)
 
 
 @dataclass
 class Face:
     """An open face: whether it told all, or of which keys; what its numbers and the gateway's stand for; queryables.
 
-    The face of a router has a table, in which the nodes of its messages stand for ids.
+    The face of a router has a table, in which the nodes of its messages stand for ids. Other faces have what they
+    know from the gateway, by key, and the last id of it.
     """
     number: int
     region: Region
@@ -37,6 +47,9 @@ class Face:
     ours: dict = field(default_factory=dict)
     queryables: dict = field(default_factory=dict)
     nodes: list = field(default_factory=list)
+    interests: dict = field(default_factory=dict)
+    known: dict = field(default_factory=dict)
+    last_known: int = 0
 
     def info(self, key):
         """What was declared on the key."""
@@ -77,10 +90,21 @@ class Face:
         number, side = self.number_of(part)
         return f'{number}:{side}:{shown(key[len(part):])}'
 
+    def declares(self, key, part):
+        """The key as it is declared: in full to an application, else by its first part alone."""
+        return self.behind(key, b'' if self.region == LOCAL else part)
+
+    def takes_number(self, part):
+        """Whether the gateway may number a part: always in North, never for an application, else where it is asked."""
+        if self.region in (NORTH, LOCAL):
+            return self.region == NORTH
+        return any(interest.numbers and interest.meets(part) for interest in self.interests.values())
+
     def gives_number(self, part):
-        """A number for a part of a key, the least that is free, for a face in North."""
-        free = [n for n in range(1, U16 + 1) if n not in self.texts and n not in self.ours]
-        if part == b'' or self.number_of(part) or self.region != NORTH or not free:
+        """A number for a part of a key, the least that is free, where the face takes one."""
+        if part == b'' or self.number_of(part) or not self.takes_number(part):
             return None
-        self.ours[free[0]] = part
-        return free[0]
+        free = next((n for n in range(1, U16 + 1) if n not in self.texts and n not in self.ours), None)
+        if free:
+            self.ours[free] = part
+        return free

@@ -12,7 +12,7 @@ from itertools import count
 
 from faces import Face, Refused, refuse
 from keys import includes, intersects, is_key
-from telling import Declared, Network, at
+from telling import Declared, Network, at, kept
 from words import LOCAL, NORTH, U16, U32, U64, BadLine, read_script, region_order, shown
 
 FARTHEST = U16
@@ -50,24 +50,25 @@ def pick(offers, target):
 class Gateway(Declared):
     def __init__(self, config):
         self.config = config
-        self.next_face, self.next_query, self.next_reply, _, self.first_id = config.start
+        self.next_face, self.next_query, self.next_reply, self.first_known, self.first_id = config.start
         self.faces = {}
         self.queries = []
         self.gateways = {}
         self.routed = [where for where in config.regions if config.mode(where) == 'router']
         self.networks = {where: Network([], [], []) for where in self.routed}
         self.entries = {where: {} for where in self.routed}
-        self.handed, self.tellings = [], set()
+        self.handed, self.tellings, self.ends = [], set(), []
 
     def call(self, kind, values):
         """The lines of a call: its answer, then requests or replies, then finals, then declarations."""
-        self.handed, self.tellings = [], set()
-        before = {where: self.own_entries(where) for where in self.routed}
+        self.handed, self.tellings, self.ends = [], set(), []
+        before = {where: self.elsewhere(where) for where in self.routed}
         try:
             answer = getattr(self, f'on_{kind}')(*values) or 'done'
         except Refused as cause:
             return [f'= refused {cause}']
         self.tell_own(before)
+        self.tell_due()
         return [f'= {answer}', *self.handed, *self.finals(), *self.declarations()]
 
     def finals(self):
@@ -84,8 +85,10 @@ class Gateway(Declared):
         refuse('UnknownRegion', where not in self.config.regions)
         refuse('UpstreamInUse', where == NORTH and self.config.north_mode == 'client' and self.faces_of(NORTH))
         refuse('NoFreeId', self.next_face == U32)
-        face = Face(self.next_face, where, face_id, bound, self.first_id)
-        self.faces[face.number] = face
+        face = Face(self.next_face, where, face_id, bound, self.first_id, last_known=self.first_known)
+        with kept(self.faces):
+            self.faces[face.number] = face
+            self.need_ids()
         self.next_face += 1
         return f'opened {face.number}'
 

@@ -4,6 +4,8 @@ import re
 from collections import namedtuple
 from dataclasses import dataclass, field
 
+import reading
+
 U8, U16, U32, U64, U128 = (2**bits - 1 for bits in (8, 16, 32, 64, 128))
 MODES = ('router', 'peer', 'client')
 
@@ -166,6 +168,8 @@ FORMATS = [
     ('unkey', u32, u16),
     ('queryable', u32, u32, expression, choice('c', 'p'), u16, u16),
     ('unqueryable', u32, u32, optional(expression), u16),
+    ('interest', u32, u32, optional(expression), choice('k', 'n')),
+    ('uninterest', u32, u32),
     ('ask', u32, u32, expression, choice('all', 'complete', 'best'), optional(u64), u16, u8, payload, u64),
     ('reply', u32, u32, expression, choice('ok', 'err'), payload),
     ('reply', u32, u32, expression, choice('ok', 'err'), payload, tagged('by', u128)),
@@ -197,7 +201,7 @@ def read_call(words, config):
     kind, values = words[0].decode('latin-1'), words[1:]
     if kind == 'open':
         return kind, read_open(values, config)
-    require((kind, len(values)) in READERS)
+    require((kind, len(values)) in READERS and (reading.TELLS or kind not in ('interest', 'uninterest')))
     return kind, fields(values, *READERS[kind, len(values)])
 
 
