@@ -52,8 +52,8 @@ THEMES = {
     'routers': dict(open=4, close=1, network=4, nodes=4, queryable=24, unqueryable=8, ask=14, reply=2, final=2, sent=1,
                     poll=1, finalize=0.5, gateways=1),
     'wide': dict(ask=27, queryable=45, unqueryable=10, key=13, close=0.5, reply=1, final=3, finalize=1),
-    'told': dict(interest=14, uninterest=6, queryable=24, unqueryable=14, open=3, close=3, key=6, unkey=5, ask=5, reply=1,
-                 final=1, sent=0.5, poll=0.5, finalize=0.5, gateways=0.5, network=2, nodes=1),
+    'told': dict(interest=14, uninterest=6, queryable=24, unqueryable=14, open=3, close=3, key=6, unkey=5, ask=5,
+                 reply=1, final=1, sent=0.5, poll=0.5, finalize=0.5, gateways=0.5, network=2, nodes=1),
 }
 if reading.TELLS:
     WEIGHTS.update(interest=3, uninterest=1)

@@ -145,7 +145,7 @@ class Declared:
         return merged([*self.elsewhere(face.region).items(), *pairs])
 
     def due(self, face):
-        """What a face has to know: all that it hears in North, what an interest meets elsewhere, nothing of routers."""
+        """What a face has to know: in North all that it hears, elsewhere what an interest meets, of routers none."""
         if not reading.TELLS or face.region in self.routed:
             return {}
         asked = face.interests.values()
@@ -240,7 +240,7 @@ class Declared:
 
     def declarations(self):
         """What is told, by face, key and node, and the ends of answers."""
-        tellings = sorted(self.tellings, key=lambda telling: telling[:3])
+        tellings = sorted(self.tellings, key=lambda telling: (telling.face, telling.key, telling.node))
         return [line for telling in tellings for line in self.lines(telling)] + self.ends
 
     def lines(self, telling):
