@@ -10,8 +10,11 @@ import re
 import sys
 
 import keys
-import model
-from model import U16, U32, U64, U128
+import reading
+from faces import Face
+from model import Gateway
+from telling import Network
+from words import LOCAL, U16, U32, U64, U128, BadLine, Tree, read_call, read_config, region
 
 PLAIN = [b'a b', b'a\nb', b'a\tb', *(
     'a b a/b a/b/c ab abc a/a b/a ab/c aab é é/a - a/- % a%zz a:b 😀/a a=b ~ ; , %41'.encode().split())]
@@ -49,7 +52,11 @@ THEMES = {
     'routers': dict(open=4, close=1, network=4, nodes=4, queryable=24, unqueryable=8, ask=14, reply=2, final=2, sent=1,
                     poll=1, finalize=0.5, gateways=1),
     'wide': dict(ask=27, queryable=45, unqueryable=10, key=13, close=0.5, reply=1, final=3, finalize=1),
+    'told': dict(interest=14, uninterest=6, queryable=24, unqueryable=14, open=3, close=3, key=6, unkey=5, ask=5,
+                 reply=1, final=1, sent=0.5, poll=0.5, finalize=0.5, gateways=0.5, network=2, nodes=1),
 }
+if reading.TELLS:
+    WEIGHTS.update(interest=3, uninterest=1)
 
 
 def word(rng, content):
@@ -93,10 +100,10 @@ class Writer:
         self.own = rng.choice([1, 2, 3, 11, U128])
         timeout = rng.choice([0, 1, 3, 5, 10000, 10000, U64, U64 - 5])
         self.lines = [f'config {self.own} {timeout} {" ".join(entries)}'.encode()]
-        self.config = model.read_config(self.lines[0].split(b' '))
+        self.config = read_config(self.lines[0].split(b' '))
         if theme == 'counters' or rng.random() < 0.15:
             self.write_start()
-        self.gateway = model.Gateway(self.config)
+        self.gateway = Gateway(self.config)
         self.keys = [some_key(rng) for _ in range(rng.randint(2, 5))]
         self.queryable_ids = [0, 1, 2, 3, U32]
         self.ids = rng.sample(IDS, rng.randint(2, 4)) + [self.own]
@@ -114,12 +121,12 @@ class Writer:
             weights = self.weights()
             kind = self.rng.choices(list(weights), list(weights.values()))[0]
             faces = list(self.gateway.faces.values())
-            stranger = model.Face(self.rng.choice([0, 1, 2, U32]), model.LOCAL, 0, '', 0)
+            stranger = Face(self.rng.choice([0, 1, 2, U32]), LOCAL, 0, '', 0)
             face = self.rng.choice(faces) if faces and self.rng.random() < 0.985 else stranger
             words = kind, *getattr(self, kind)(face)
             line = b' '.join(part if isinstance(part, bytes) else str(part).encode() for part in words)
-            with contextlib.suppress(model.BadLine):
-                self.gateway.call(*model.read_call(line.split(b' '), self.config))
+            with contextlib.suppress(BadLine):
+                self.gateway.call(*read_call(line.split(b' '), self.config))
                 self.lines.append(line)
         return b'\n'.join(self.lines) + self.rng.choice([b'', b'\n', b'\n', b'\n'])
 
@@ -138,6 +145,8 @@ class Writer:
             weights['unkey'] = 0.15
         if not any(face.queryables for face in faces):
             weights.update(unqueryable=0.15, queryable=25)
+        if 'uninterest' in weights and not any(face.interests for face in faces):
+            weights['uninterest'] = 0.15
         if any(face.region in self.gateway.routed and not face.nodes for face in faces):
             weights['nodes'] = 20
         return weights
@@ -160,6 +169,10 @@ class Writer:
     def expression(self, face, text):
         """A text, often by a number of the face, at times by an unknown one."""
         rng = self.rng
+        given = [n for n, part in face.ours.items() if reading.TELLS and text.startswith(part)]
+        if given and rng.random() < 0.3:
+            number = rng.choice(given)
+            return b'%d:r:%s' % (number, word(rng, text[len(face.ours[number]):]))
         number = rng.choice([0, *[n for n, part in face.texts.items() if text.startswith(part)] * 2])
         text = text[len(face.texts.get(number, b'')):]
         if rng.random() < 0.05:
@@ -211,6 +224,20 @@ class Writer:
         text, node = self.rng.choice([*known * 3, (self.text(), self.node(face))])
         unread = [] if known else [b'-', b'9:s:zz']
         return face.number, number, self.rng.choice([*unread, self.expression(face, text)]), node
+
+    def interest(self, face):
+        """A few ids, a taken one mostly with its own key; at times all keys are meant."""
+        rng = self.rng
+        number, text = rng.choice([0, 1, 2, 7, U32]), rng.choice([*[self.text()] * 4, None])
+        if number in face.interests and rng.random() < 0.8:
+            text = face.interests[number].key
+        return face.number, number, b'-' if text is None else self.expression(face, text), rng.choice('kn')
+
+    def uninterest(self, face):
+        """Mostly of a face that has interests."""
+        asking = [other for other in self.gateway.faces.values() if other.interests]
+        face = self.rng.choice([*asking * 5, face])
+        return face.number, self.rng.choice([*face.interests] * 5 + [0, 1, U32])
 
     def ask(self, face):
         """Often a key that another face declared, or is marked on."""
@@ -266,7 +293,7 @@ class Writer:
     def network(self, _):
         """A table of few ids, which is often the last one with a tree changed."""
         where = self.rng.choice(self.regions * 9 + ['south:9:router'])
-        nodes, trees, distances = self.gateway.networks.get(model.region(where.encode()), model.Network([], [], []))
+        nodes, trees, distances = self.gateway.networks.get(region(where.encode()), Network([], [], []))
         if not nodes or self.rng.random() < 0.5:
             nodes = self.rng.sample([*self.ids, *self.ids[:2]], k=self.rng.choice([0, 3, 4, 5, 6]))
             distances = self.rng.choices([0, 1, 2, 5, U16], k=max(0, len(nodes) + self.rng.choice([0, 0, -1, 1])))
@@ -281,7 +308,7 @@ class Writer:
         """Children and directions among the nodes, at times beyond them, at times too few."""
         places = [*range(len(nodes))] * 6 + [len(nodes), U16, U16 + 1]
         directions = self.rng.choices(places * 2 + [None], k=max(0, len(nodes) - self.rng.choice([0, 0, 0, 1])))
-        return model.Tree(self.rng.choices(places, k=self.rng.choice([0, 1, 2, 3, 3, 4])), directions)
+        return Tree(self.rng.choices(places, k=self.rng.choice([0, 1, 2, 3, 3, 4])), directions)
 
     def nodes(self, face):
         """The table of a face, mostly of one of a router."""
@@ -294,6 +321,10 @@ class Writer:
         """Often with the gateway's own id."""
         chosen = self.rng.choices([*self.ids, self.own, 1], k=self.rng.randint(0, 4))
         return numbers(chosen)
+
+    def use_few_ids(self):
+        """The gateway's own id and three others."""
+        self.ids = [self.own, *self.rng.sample([n for n in (5, 6, 7, 8) if n != self.own], 3)]
 
 
 def numbers(items):
@@ -334,8 +365,23 @@ def routers(rng):
     """Faces of routers and others, networks and tables of few ids, and few keys."""
     entries = ['north:' + rng.choice(['router', 'router', 'client']), 'local', 'south:0:router', 'south:1:client']
     writer = Writer(rng, 'routers', entries[:rng.choice([3, 3, 4])], faces=rng.choice([4, 6]))
-    writer.ids = [writer.own, *rng.sample([n for n in (5, 6, 7, 8) if n != writer.own], 3)]
+    writer.use_few_ids()
     return writer.write(rng.randint(30, 120))
+
+
+def told(rng):
+    """Interests, and declarations that come, change and go; some faces, and all of North and of peers, open late."""
+    south = rng.sample(['south:0:client', 'south:1:client', 'south:2:peer', 'south:3:router'], k=rng.choice([1, 2, 3]))
+    entries = [f'north:{rng.choice(["client", "client", "peer", "router"])}', *rng.choice([['local'], []]), *south]
+    writer, front = Writer(rng, 'told', entries, faces=rng.choice([3, 5, 7])), rng.choice(PLAIN)
+    near = [front, front + b'/a', front + b'/b', front + b'/*', front + b'/**', front + b'/a$*', b'**', some_key(rng)]
+    writer.keys = rng.sample(near, k=rng.choice([3, 4, 6]))
+    writer.use_few_ids()
+    regions = writer.regions
+    writer.regions = [where for where in regions if where != 'north' and not where.endswith('peer')] or regions
+    writer.write(rng.randint(10, 40))
+    writer.regions, writer.faces_wanted = regions, writer.faces_wanted + 2
+    return writer.write(rng.randint(60, 160))
 
 
 def mutated(rng):
@@ -361,8 +407,9 @@ def change(rng, script):
     return b''.join(parts)
 
 
-KINDS = {'mixed': mixed, 'dense': dense, 'long': long, 'wide': wide, 'mutated': mutated,
-         'routers': routers}
+KINDS = {'mixed': mixed, 'dense': dense, 'long': long, 'wide': wide, 'mutated': mutated, 'routers': routers}
+if reading.TELLS:
+    KINDS['told'] = told
 
 
 def generate(kind, seed):
