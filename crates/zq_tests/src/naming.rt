@@ -1,5 +1,3 @@
-use zq_tables::naming::Naming;
-use zq_tables::said::Said;
 use std::alloc::Global;
 use std::test::Fail;
 use zq_key::memory::OutOfMemory;
@@ -7,6 +5,8 @@ use zq_key::message::{FaceId, Mapping, WireExpr};
 use zq_key::text::Text;
 use zq_key::{Key, is_key};
 use zq_names::NameRefusal;
+use zq_tables::naming::Naming;
+use zq_tables::said::Said;
 
 const FACE: FaceId = FaceId(3);
 
