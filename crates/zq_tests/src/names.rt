@@ -40,7 +40,8 @@ fn texts_come_and_go(rt: HostRuntime) -> Result<(), Fail> {
     let copy = names.copy(alloc)?;
     names.clean(emoji);
     assert!(rt; !names.is_live(emoji) && copy.is_live(emoji));
-    assert!(rt; names.get_resource_ref(names.root(), "Ȳ/a").is_some());
+    assert!(rt; names.get_resource_ref(names.root(), "Ȳ/a").is_none());
+    assert!(rt; copy.get_resource_ref(copy.root(), "Ȳ/a").is_some());
     let refused = names.make_resource(names.root(), "a//b");
     assert!(rt; matches!(refused, Err(NameRefusal::InvalidKeyExpr)));
     Ok(())
