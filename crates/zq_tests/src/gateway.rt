@@ -1,90 +1,58 @@
-use zq_gateway::gateway::Gateway;
+use crate::given::{CLIENTS, FIRST, application, config, gateway, information, wire};
 use std::alloc::Global;
 use std::test::Fail;
+use zq_gateway::gateway::Gateway;
+use zq_gateway::runs::replay;
 use zq_hat::types::{FinalMark, Network, NodeIds};
 use zq_key::items::Items;
 use zq_key::memory::OutOfMemory;
 use zq_key::message::{
-    Bound, Declare, DeclareBody, FaceId, Mapping, Message, Mode, QueryTarget, QueryableInfoType,
-    Region, ReplyBody, Request, Response, WireExpr, Zid,
+    Declare, DeclareBody, FaceId, Message, Mode, QueryTarget, Region, ReplyBody, Request, Response,
+    Zid,
 };
-use zq_key::text::{Bytes, Text};
-use zq_machine::call::{Opening, Outcome, Refusal, Step};
-use zq_machine::config::{BadConfig, Config, ConfigRefusal, Counters, Entry};
+use zq_key::text::Bytes;
+use zq_machine::call::{Call, Outcome, Refusal, Step};
+use zq_machine::config::{BadConfig, Config, ConfigRefusal, Entry};
 use zq_machine::handed::Handed;
 use zq_route::gateways::Gateways;
 
-const FIRST: Counters = Counters {
-    faces: 0,
-    requests: 0,
-    replies: 0,
-    told: 0,
-    request_ids: 0,
-};
+fn refusal(alloc: Global, entries: &[Entry]) -> Option<BadConfig> {
+    match Config::new(alloc, Zid(1), entries, 10_000, FIRST) {
+        Err(ConfigRefusal::BadConfig(found)) => Some(found),
+        _ => None,
+    }
+}
 
 // The first bad entry decides, its id before its repetition; a missing North comes last.
 #[test]
-fn configurations(rt: HostRuntime) {
-    let alloc = rt.alloc();
+fn bad_configurations(rt: HostRuntime) {
     let north = Entry::North(Mode::Client);
     let south = Entry::South {
         id: 256,
         mode: Mode::Peer,
     };
     for (entries, bad) in [
-        ([north, north], BadConfig::Twice(Region::North)),
+        ([north, north].as_slice(), BadConfig::Twice(Region::North)),
         (
-            [Entry::Local, Entry::Local],
+            &[Entry::Local, Entry::Local],
             BadConfig::Twice(Region::Local),
         ),
-        ([south, south], BadConfig::IdAbove(256)),
+        (&[south, south], BadConfig::IdAbove(256)),
+        (&[Entry::Local], BadConfig::NoNorth),
     ] {
-        match Config::new(alloc, Zid(1), entries.as_slice(), 10_000, FIRST) {
-            Err(ConfigRefusal::BadConfig(found)) => assert!(rt; found == bad),
-            _ => assert!(rt; false),
-        }
-    }
-    match Config::new(alloc, Zid(1), [Entry::Local].as_slice(), 10_000, FIRST) {
-        Err(ConfigRefusal::BadConfig(found)) => assert!(rt; found == BadConfig::NoNorth),
-        _ => assert!(rt; false),
+        assert!(rt; refusal(rt.alloc(), entries) == Some(bad));
     }
 }
 
 #[test]
-fn gateways(rt: HostRuntime) -> Result<(), Fail> {
-    let alloc = rt.alloc();
-    let entries = [Entry::North(Mode::Peer), Entry::Local];
-    match Config::new(alloc, Zid(7), entries.as_slice(), 10_000, FIRST) {
-        Ok(config) => {
-            assert!(rt; config.zid() == Zid(7) && config.north() == Mode::Peer);
-            assert!(rt; config.has_local() && config.has_region(Region::North));
-            assert!(rt; config.timeout() == 10_000 && *config.counters() == FIRST);
-            let gateway = Gateway::new(alloc, &config)?;
-            assert!(rt; gateway.zid() == Zid(7) && gateway.north() == Mode::Peer);
-        }
-        Err(_) => assert!(rt; false),
-    }
+fn configurations(rt: HostRuntime) -> Result<(), Fail> {
+    let config = config(rt.alloc())?;
+    assert!(rt; config.zid() == Zid(1) && config.north() == Mode::Client);
+    assert!(rt; config.has_local() && config.has_region(Region::North));
+    assert!(rt; config.timeout() == 10_000 && *config.counters() == FIRST);
+    let gateway = Gateway::new(rt.alloc(), &config)?;
+    assert!(rt; gateway.zid() == Zid(1) && gateway.north() == Mode::Client);
     Ok(())
-}
-
-fn plain(alloc: Global, text: &str) -> Result<WireExpr, OutOfMemory> {
-    Ok(WireExpr {
-        scope: 0,
-        mapping: Mapping::Sender,
-        suffix: Text::new(alloc, text)?,
-    })
-}
-
-fn local(alloc: Global, zid: u128) -> Opening {
-    Opening {
-        region: Region::Local,
-        zid: Zid(zid),
-        mode: Mode::Client,
-        remote_bound: Bound::North,
-        namespace: None,
-        entry_deny: Items::new(alloc),
-        exit_deny: Items::new(alloc),
-    }
 }
 
 // The outcome of a step, and how many messages it hands; none where it found no memory.
@@ -107,27 +75,24 @@ fn declares(gateway: &mut Gateway, body: DeclareBody) -> Seen {
 }
 
 fn names_key(gateway: &mut Gateway, alloc: Global) -> Seen {
-    let Ok(wire) = plain(alloc, "k") else {
+    let Ok(wire) = wire(alloc, 0, "k") else {
         return None;
     };
     declares(gateway, DeclareBody::DeclareKeyExpr { id: 1, wire })
 }
 
 fn registers(gateway: &mut Gateway, alloc: Global) -> Seen {
-    let Ok(wire) = plain(alloc, "k") else {
+    let Ok(wire) = wire(alloc, 0, "k") else {
         return None;
     };
-    let info = QueryableInfoType {
-        complete: true,
-        distance: 0,
-    };
+    let info = information(true, 0);
     declares(gateway, DeclareBody::DeclareQueryable { id: 1, wire, info })
 }
 
 fn request(alloc: Global, id: u32, timeout: u64) -> Result<Request, OutOfMemory> {
     Ok(Request {
         id,
-        wire: plain(alloc, "k")?,
+        wire: wire(alloc, 0, "k")?,
         target: QueryTarget::BestMatching,
         timeout: Some(timeout),
         node: 0,
@@ -153,7 +118,7 @@ fn routes(gateway: &mut Gateway, alloc: Global) -> Seen {
 fn response(alloc: Global) -> Result<Response, OutOfMemory> {
     Ok(Response {
         rid: 1,
-        wire: plain(alloc, "k")?,
+        wire: wire(alloc, 0, "k")?,
         qos: 0,
         payload: ReplyBody::Reply(Bytes::new(alloc, b"v".as_slice())?),
         responder: None,
@@ -176,7 +141,7 @@ fn lists(gateway: &mut Gateway, alloc: Global) -> Seen {
 }
 
 fn opens(gateway: &mut Gateway, alloc: Global, zid: u128) -> Seen {
-    let opening = local(alloc, zid);
+    let opening = application(alloc, zid);
     if !opening.is_built(gateway.config()) {
         return None;
     }
@@ -200,17 +165,9 @@ fn hands_final(last: Result<Option<Handed>, Refusal>) -> Option<bool> {
     }
 }
 
-fn empty(alloc: Global) -> Result<Gateway, OutOfMemory> {
-    let entries = [Entry::North(Mode::Client), Entry::Local];
-    match Config::new(alloc, Zid(1), entries.as_slice(), 10_000, FIRST) {
-        Ok(config) => Gateway::new(alloc, &config),
-        Err(_) => Err(OutOfMemory),
-    }
-}
-
 // A gateway with a face that answers and one that asks.
 fn pair(alloc: Global) -> Result<Gateway, OutOfMemory> {
-    let mut gateway = empty(alloc)?;
+    let mut gateway = gateway(alloc)?;
     let _ = opens(&mut gateway, alloc, 10);
     let _ = opens(&mut gateway, alloc, 11);
     let _ = registers(&mut gateway, alloc);
@@ -220,7 +177,7 @@ fn pair(alloc: Global) -> Result<Gateway, OutOfMemory> {
 #[test]
 fn declarations(rt: HostRuntime) -> Result<(), Fail> {
     let alloc = rt.alloc();
-    let mut gateway = empty(alloc)?;
+    let mut gateway = gateway(alloc)?;
     let opened = opens(&mut gateway, alloc, 10);
     assert!(rt; opened == Some((Outcome::Opened(FaceId(0)), 0)));
     let done = Some((Outcome::Done, 0));
@@ -283,38 +240,81 @@ fn marks(rt: HostRuntime) -> Result<(), Fail> {
     Ok(())
 }
 
-// Outside regions of routers a network and a node table change nothing.
+// Outside regions of routers a network changes nothing.
 #[test]
 fn networks(rt: HostRuntime) -> Result<(), Fail> {
     let alloc = rt.alloc();
     let mut gateway = pair(alloc)?;
-    let done = Some((Outcome::Done, 0));
     let net = Network::empty(alloc);
-    assert!(rt; seen(gateway.set_network(Region::North, &net)) == done);
-    let south = Region::South {
-        id: 0,
-        mode: Mode::Router,
-    };
-    let unknown = seen(gateway.set_network(south, &net));
+    let north = seen(gateway.set_network(Region::North, &net));
+    assert!(rt; north == Some((Outcome::Done, 0)));
+    let unknown = seen(gateway.set_network(CLIENTS, &net));
     assert!(rt; unknown == Some((Outcome::Refused(Refusal::UnknownRegion), 0)));
+    Ok(())
+}
+
+// Nor does a table of nodes.
+#[test]
+fn node_tables(rt: HostRuntime) -> Result<(), Fail> {
+    let alloc = rt.alloc();
+    let mut gateway = pair(alloc)?;
     let ids = NodeIds::empty(alloc);
-    assert!(rt; seen(gateway.set_node_ids(FaceId(0), &ids)) == done);
+    assert!(rt; seen(gateway.set_node_ids(FaceId(0), &ids)) == Some((Outcome::Done, 0)));
     let unknown = seen(gateway.set_node_ids(FaceId(9), &ids));
     assert!(rt; unknown == Some((Outcome::Refused(Refusal::UnknownFace), 0)));
     Ok(())
 }
 
-// Each poll lets one entry go, and each report ends one query: what else is open costs nothing.
+// Whether each step, in order, has the outcome.
+fn are(steps: &[Step], outcomes: &[Outcome]) -> bool {
+    steps.len() == outcomes.len()
+        && steps
+            .iter()
+            .zip(outcomes)
+            .all(|(step, outcome)| step.outcome == *outcome)
+}
+
+#[test]
+fn runs(rt: HostRuntime) -> Result<(), Fail> {
+    let alloc = rt.alloc();
+    let calls = vec![in alloc;
+        Call::Poll { now: 1 },
+        Call::Sent { reply: 0 },
+        Call::Close { face: FaceId(3) },
+    ]?;
+    let replayed = replay(alloc, &config(alloc)?, calls.as_slice())?;
+    let outcomes = [
+        Outcome::Done,
+        Outcome::Refused(Refusal::NotInFlight),
+        Outcome::Refused(Refusal::UnknownFace),
+    ];
+    assert!(rt; are(replayed.steps.as_slice(), &outcomes));
+    Ok(())
+}
+
+fn asks_each(gateway: &mut Gateway, alloc: Global, count: u32) {
+    for id in 0..count {
+        let _ = asks(gateway, alloc, id, u64::from(id) + 1);
+    }
+}
+
+// Whether each poll lets one entry go, and each report ends its query.
+fn each_ends(gateway: &mut Gateway, count: u64) -> bool {
+    for reply in 0..count {
+        let polled = seen(gateway.poll(reply + 1));
+        if polled != Some((Outcome::Done, 1)) || hands_final(gateway.sent(reply)) != Some(true) {
+            return false;
+        }
+    }
+    true
+}
+
+// What else is open costs nothing.
 #[test]
 fn many_deadlines(rt: HostRuntime) -> Result<(), Fail> {
     let alloc = rt.alloc();
     let mut gateway = pair(alloc)?;
-    for id in 0..100_000u32 {
-        let _ = asks(&mut gateway, alloc, id, u64::from(id) + 1);
-    }
-    for reply in 0..100_000u64 {
-        assert!(rt; seen(gateway.poll(reply + 1)) == Some((Outcome::Done, 1)));
-        assert!(rt; hands_final(gateway.sent(reply)) == Some(true));
-    }
+    asks_each(&mut gateway, alloc, 100_000);
+    assert!(rt; each_ends(&mut gateway, 100_000));
     Ok(())
 }

@@ -1,13 +1,10 @@
+use crate::given::information;
+use std::alloc::Global;
 use zq_hat::hat::Hat;
 use zq_hat::types::{FaceRecord, FinalMark, HatRefusal, UnregisterEntityResult};
-use std::alloc::Global;
 use zq_key::Key;
-use zq_key::message::{Bound, FaceId, Mode, QueryableInfoType, Region, Zid};
+use zq_key::message::{Bound, FaceId, Mode, Region, Zid};
 use zq_key::text::Text;
-
-fn information(complete: bool, distance: u16) -> QueryableInfoType {
-    QueryableInfoType { complete, distance }
-}
 
 fn open(hat: &mut Hat, number: u32) -> bool {
     let face = FaceId(number);

@@ -1,11 +1,11 @@
-use zq_ids::FaceNames;
+use crate::given::{KEYS, wire};
 use std::alloc::Global;
 use std::marker::Model;
 use std::test::Fail;
+use zq_ids::FaceNames;
 use zq_key::is_key;
 use zq_key::memory::OutOfMemory;
-use zq_key::message::{Mapping, WireExpr};
-use zq_key::text::Text;
+use zq_key::message::Mapping;
 use zq_names::{NameRefusal, Names};
 
 // A face with its names, whose ids are live.
@@ -42,11 +42,7 @@ impl Known {
     }
 
     fn register(&mut self, alloc: Global, id: u16, text: &str) -> Result<(), NameRefusal> {
-        let wire = WireExpr {
-            scope: 0,
-            mapping: Mapping::Sender,
-            suffix: Text::new(alloc, text)?,
-        };
+        let wire = wire(alloc, 0, text)?;
         self.face.register_expr(alloc, &mut self.names, id, &wire)
     }
 
@@ -250,40 +246,28 @@ fn best_keys_of_both_sides(rt: HostRuntime) -> Result<(), Fail> {
     Ok(())
 }
 
-// Each new id is the next one, up to the last.
+// A face that named `a` by each id up to this.
+fn named_often(alloc: Global, last: u16) -> Result<Known, NameRefusal> {
+    let mut known = Known::new(alloc, "n/m")?;
+    for id in 1..=last {
+        known.register(alloc, id, "a")?;
+    }
+    Ok(known)
+}
+
+// The gateway has the last ids, and then one that the face gave up.
 #[test]
 fn ids_until_none_is_free(rt: HostRuntime) -> Result<(), Fail> {
     let alloc = rt.alloc();
-    let mut known = Known::new(alloc, "n")?;
-    let mut ids = 0;
-    for id in 1..=65535u16 {
-        let text = format!(in alloc; "n/{}", id as u32 + 100000)?;
-        known.add(text.as_str())?;
-        if known.declare(alloc, text.as_str())? == Some(id) {
-            ids = id;
-        }
-    }
-    assert_eq!(rt; ids, 65535);
-    assert_eq!(rt; known.declare(alloc, "n")?, None);
+    let mut known = named_often(alloc, 65533)?;
+    assert_eq!(rt; known.declare(alloc, "n")?, Some(65534));
+    assert_eq!(rt; known.declare(alloc, "n/m")?, Some(65535));
+    known.add("o")?;
+    assert_eq!(rt; known.declare(alloc, "o")?, None);
+    known.unregister(7)?;
+    assert_eq!(rt; known.declare(alloc, "o")?, Some(7));
     Ok(())
 }
-
-// Keys, with an `x` in the place of each key that they meet.
-const KEYS: [(&str, &str); 13] = [
-    ("**", "xxxxxxxxxxxxx"),
-    ("a", "xx.x........."),
-    ("a/b", "x.x.xx......."),
-    ("*", "xx.x..xxxxx.."),
-    ("a/*", "x.x.xx......."),
-    ("a/b$*", "x.x.xx......."),
-    ("abc", "x..x..x.x...."),
-    ("xx", "x..x...x....."),
-    ("ab$*", "x..x..x.xxx.."),
-    ("abcd", "x..x....xxx.."),
-    ("ab$*cd", "x..x....xxx.."),
-    ("a/*/c", "x..........xx"),
-    ("a/b/c", "x..........xx"),
-];
 
 // The keys at one face, under ids from 1.
 fn numbered(alloc: Global) -> Result<Known, NameRefusal> {

@@ -1,9 +1,5 @@
+use crate::given::information;
 use zq_index::info::merge_qabl_infos;
-use zq_key::message::QueryableInfoType;
-
-fn information(complete: bool, distance: u16) -> QueryableInfoType {
-    QueryableInfoType { complete, distance }
-}
 
 #[test]
 fn merging(rt: HostRuntime) {

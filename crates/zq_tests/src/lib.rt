@@ -1,10 +1,16 @@
 //! The tests of all crates: worked rows as tables, each public call once with ample memory, and what no
 //! clause says. They stand apart from the crates, so that a crate is proved once and not a second time
 //! beside its tests.
+//!
+//! - `given`: what several tests are given
+//! - `worked`: worked scripts with their prints
+//! - the others: the tests of the crate of that name, `naming` those of `zq_tables`
 #![tactic(auto)]
 
 #[cfg(test)]
 mod gateway;
+#[cfg(test)]
+mod given;
 #[cfg(test)]
 mod hat;
 #[cfg(test)]

@@ -1,6 +1,6 @@
+use std::test::Fail;
 use zq_lines::calls::print_call;
 use zq_lines::lines::call_of;
-use std::test::Fail;
 use zq_words::stop::Stop;
 
 /// One line of each call, in the form in which it is printed.
@@ -38,6 +38,11 @@ fn calls_come_back(rt: HostRuntime) -> Result<(), Fail> {
             Err(_) => assert!(rt; false, "{line}"),
         }
     }
+    Ok(())
+}
+
+#[test]
+fn bad_lines(rt: HostRuntime) {
     for line in [
         "",
         "close",
@@ -52,9 +57,8 @@ fn calls_come_back(rt: HostRuntime) -> Result<(), Fail> {
         "queryable 0 1 0:s:%C8 c 0 0",
     ] {
         assert!(rt;
-            matches!(call_of(alloc, line.as_bytes()), Err(Stop::Bad)),
+            matches!(call_of(rt.alloc(), line.as_bytes()), Err(Stop::Bad)),
             "{line}"
         );
     }
-    Ok(())
 }

@@ -1,12 +1,13 @@
-use zq_tables::naming::Naming;
-use zq_tables::said::Said;
+use crate::given::wire;
 use std::alloc::Global;
 use std::test::Fail;
 use zq_key::memory::OutOfMemory;
-use zq_key::message::{FaceId, Mapping, WireExpr};
+use zq_key::message::FaceId;
 use zq_key::text::Text;
 use zq_key::{Key, is_key};
 use zq_names::NameRefusal;
+use zq_tables::naming::Naming;
+use zq_tables::said::Said;
 
 const FACE: FaceId = FaceId(3);
 
@@ -80,11 +81,7 @@ fn says(
     suffix: &str,
     full: Option<&str>,
 ) -> Result<bool, OutOfMemory> {
-    let wire = WireExpr {
-        scope,
-        mapping: Mapping::Sender,
-        suffix: Text::new(alloc, suffix)?,
-    };
+    let wire = wire(alloc, scope, suffix)?;
     match names.said(face, &wire)? {
         Said::Full(text) => Ok(full == Some(text.as_str())),
         Said::Empty => Ok(false),

@@ -1,8 +1,8 @@
-use zq_query::queries::Queries;
-use zq_query::records::{AskRefusal, Final, NotInFlight, PollRefusal, QueryNotFound, ReplyRefusal};
 use std::test::Fail;
 use zq_message::memory::OutOfMemory;
 use zq_message::message::FaceId;
+use zq_query::queries::Queries;
+use zq_query::records::{AskRefusal, Final, NotInFlight, PollRefusal, QueryNotFound, ReplyRefusal};
 
 const ASKER: FaceId = FaceId(7);
 

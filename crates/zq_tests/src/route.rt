@@ -1,14 +1,16 @@
+use crate::given::{CLIENTS, information, list};
+use std::alloc::Global;
+use std::test::Fail;
+use zq_hat::types::{OfferList, QueryTargetQabl};
+use zq_key::items::Items;
+use zq_key::memory::OutOfMemory;
+use zq_key::message::{FaceId, QueryTarget, Region, Zid};
+use zq_key::text::Text;
+use zq_regions::RegionMap;
 use zq_route::builder::RouteBuilder;
 use zq_route::filter::InterRegionFilter;
 use zq_route::gateways::{GatewayEntry, Gateways};
 use zq_route::selection::compute_final_route;
-use std::alloc::Global;
-use zq_hat::types::{OfferList, QueryTargetQabl};
-use zq_key::items::Items;
-use zq_key::memory::OutOfMemory;
-use zq_key::message::{FaceId, Mode, QueryTarget, QueryableInfoType, Region, Zid};
-use zq_key::text::Text;
-use zq_regions::RegionMap;
 
 #[test]
 fn builds_each_face_once(rt: HostRuntime) {
@@ -22,14 +24,11 @@ fn builds_each_face_once(rt: HostRuntime) {
     assert_eq!(rt; built.as_slice(), ['a', 'c', 'd'].as_slice());
 }
 
-fn offer(alloc: Global, face: u32, info: Option<bool>) -> Result<QueryTargetQabl, OutOfMemory> {
+fn offer(alloc: Global, face: u32, complete: Option<bool>) -> Result<QueryTargetQabl, OutOfMemory> {
     Ok(QueryTargetQabl {
         face: FaceId(face),
-        info: match info {
-            Some(complete) => Some(QueryableInfoType {
-                complete,
-                distance: 0,
-            }),
+        info: match complete {
+            Some(complete) => Some(information(complete, 0)),
             None => None,
         },
         key: Text::new(alloc, "k")?,
@@ -60,52 +59,36 @@ fn picked(alloc: Global, target: QueryTarget) -> Result<Vec<u32>, OutOfMemory> {
 }
 
 #[test]
-fn picks_by_target(rt: HostRuntime) {
+fn picks_by_target(rt: HostRuntime) -> Result<(), Fail> {
     let alloc = rt.alloc();
     for (target, want) in [
         (QueryTarget::All, [2, 3, 4].as_slice()),
         (QueryTarget::AllComplete, [3, 4, 2].as_slice()),
         (QueryTarget::BestMatching, [4].as_slice()),
     ] {
-        let Ok(faces) = picked(alloc, target) else {
-            return assert!(rt; false);
-        };
+        let faces = picked(alloc, target)?;
         assert_eq!(rt; faces.as_slice(), want);
     }
+    Ok(())
 }
 
-/// A table of South clients that gives node 10 the gateways 3 and 4, and node 11 none.
+/// A table of the clients that gives node 10 the gateways 3 and 4, and node 11 none.
 fn table(alloc: Global) -> Result<RegionMap<Gateways>, OutOfMemory> {
-    let mut gateways = Items::new(alloc);
-    gateways.push(Zid(3))?;
-    gateways.push(Zid(4))?;
     let mut of = Items::new(alloc);
-    of.push(GatewayEntry {
-        node: Zid(10),
-        gateways,
-    })?;
-    of.push(GatewayEntry {
-        node: Zid(11),
-        gateways: Items::new(alloc),
-    })?;
+    for (node, gateways) in [(10, [Zid(3), Zid(4)].as_slice()), (11, &[])] {
+        of.push(GatewayEntry {
+            node: Zid(node),
+            gateways: list(alloc, gateways)?,
+        })?;
+    }
     let mut tables = RegionMap::new(alloc);
-    let south = Region::South {
-        id: 0,
-        mode: Mode::Client,
-    };
-    tables.insert(south, Gateways { of, all: None })?;
+    tables.insert(CLIENTS, Gateways { of, all: None })?;
     Ok(tables)
 }
 
 #[test]
-fn carries_by_list(rt: HostRuntime) {
-    let Ok(tables) = table(rt.alloc()) else {
-        return assert!(rt; false);
-    };
-    let south = Region::South {
-        id: 0,
-        mode: Mode::Client,
-    };
+fn carries_by_list(rt: HostRuntime) -> Result<(), Fail> {
+    let tables = table(rt.alloc())?;
     for (src_zid, fwd_zid, own, want) in [
         (Some(9), Some(10), 4, true),
         (Some(9), Some(10), 3, false),
@@ -116,7 +99,7 @@ fn carries_by_list(rt: HostRuntime) {
         (None, Some(10), 3, true),
     ] {
         let filter = InterRegionFilter {
-            src: south,
+            src: CLIENTS,
             dst: Region::North,
             src_zid: src_zid.map(|zid| Zid(zid)),
             fwd_zid: fwd_zid.map(|zid| Zid(zid)),
@@ -124,4 +107,5 @@ fn carries_by_list(rt: HostRuntime) {
         };
         assert_eq!(rt; filter.resolve(&tables, Zid(own)), want);
     }
+    Ok(())
 }

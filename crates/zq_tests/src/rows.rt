@@ -1,5 +1,5 @@
-use zq_rows::{Seat, Tree};
 use std::test::Fail;
+use zq_rows::{Seat, Tree};
 
 #[test]
 fn numbers_come_and_go_by_place(rt: HostRuntime) -> Result<(), Fail> {

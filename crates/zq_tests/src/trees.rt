@@ -1,17 +1,19 @@
+use crate::given::{information, list};
+use std::alloc::Global;
+use std::test::Fail;
+use zq_key::items::Items;
+use zq_key::memory::OutOfMemory;
+use zq_key::message::{FaceId, Zid};
 use zq_trees::children::{fresh_ids, tell_children};
 use zq_trees::nets::Net;
 use zq_trees::seats::Seats;
 use zq_trees::tellings::in_order;
 use zq_trees::types::{Network, Tree};
-use std::alloc::Global;
-use zq_key::items::Items;
-use zq_key::memory::OutOfMemory;
-use zq_key::message::{FaceId, QueryableInfoType, Zid};
 
 fn tree(alloc: Global, children: &[u32], directions: &[Option<u32>]) -> Result<Tree, OutOfMemory> {
     Ok(Tree {
-        children: Items::from_vec(Vec::from_slice(alloc, children)?),
-        directions: Items::from_vec(Vec::from_slice(alloc, directions)?),
+        children: list(alloc, children)?,
+        directions: list(alloc, directions)?,
     })
 }
 
@@ -22,19 +24,16 @@ fn small_net(alloc: Global) -> Result<Net, OutOfMemory> {
     trees.push(tree(alloc, &[1, 2, 9], &[None, Some(1), Some(1), Some(7)])?)?;
     trees.push(tree(alloc, &[2, 2], &[Some(0)])?)?;
     let network = Network {
-        nodes: Items::from_vec(Vec::from_slice(alloc, &[Zid(1), Zid(2), Zid(3), Zid(2)])?),
+        nodes: list(alloc, &[Zid(1), Zid(2), Zid(3), Zid(2)])?,
         trees,
-        distances: Items::from_vec(Vec::from_slice(alloc, &[0, 1, 2])?),
+        distances: list(alloc, &[0, 1, 2])?,
     };
     Net::new(alloc, network)
 }
 
 #[test]
-fn places(rt: HostRuntime) {
-    let made = small_net(rt.alloc());
-    let Ok(net) = made else {
-        return assert!(rt; false);
-    };
+fn places(rt: HostRuntime) -> Result<(), Fail> {
+    let net = small_net(rt.alloc())?;
     for (zid, place) in [(1, Some(0)), (2, Some(1)), (3, Some(2)), (4, None)] {
         assert_eq!(rt; net.place_of(Zid(zid)), place);
     }
@@ -48,6 +47,7 @@ fn places(rt: HostRuntime) {
     ] {
         assert_eq!(rt; net.towards(source, Zid(router)), way);
     }
+    Ok(())
 }
 
 fn seats(alloc: Global) -> Result<Seats, OutOfMemory> {
@@ -62,11 +62,8 @@ fn seats(alloc: Global) -> Result<Seats, OutOfMemory> {
 fn told(alloc: Global, from: Option<FaceId>, root: u128) -> Result<(usize, u32, u16), OutOfMemory> {
     let net = small_net(alloc)?;
     let seats = seats(alloc)?;
-    let info = QueryableInfoType {
-        complete: true,
-        distance: 0,
-    };
-    let tellings = tell_children(alloc, &net, &seats, from, Zid(root), "k", Some(info))?;
+    let info = Some(information(true, 0));
+    let tellings = tell_children(alloc, &net, &seats, from, Zid(root), "k", info)?;
     let tellings = in_order(alloc, tellings.as_slice())?;
     match tellings.get(0) {
         Some(first) => Ok((tellings.len(), first.face.0, first.node)),

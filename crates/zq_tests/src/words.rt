@@ -1,10 +1,10 @@
+use std::test::Fail;
 use zq_words::stop::Stop;
 use zq_words::values::flag_of;
 use zq_words::words::{print_word, read_word, text_of};
-use std::test::Fail;
 
 #[test]
-fn words_of_bytes(rt: HostRuntime) -> Result<(), Fail> {
+fn words_come_back(rt: HostRuntime) -> Result<(), Fail> {
     let alloc = rt.alloc();
     for (bytes, word) in [
         ("", "-"),
@@ -15,24 +15,30 @@ fn words_of_bytes(rt: HostRuntime) -> Result<(), Fail> {
     ] {
         let printed = print_word(alloc, bytes.as_bytes())?;
         assert_eq!(rt; printed.as_slice(), word.as_bytes());
-        assert_eq!(rt;
-            read_word(alloc, word.as_bytes())?.as_slice(),
-            bytes.as_bytes()
-        );
+        let read = read_word(alloc, word.as_bytes())?;
+        assert_eq!(rt; read.as_slice(), bytes.as_bytes());
     }
+    Ok(())
+}
+
+#[test]
+fn other_words_are_read(rt: HostRuntime) -> Result<(), Fail> {
     for (word, bytes) in [
         ("%", "%"),
         ("%4", "%4"),
         ("%zz", "%zz"),
         ("%c8%b2", "\u{232}"),
     ] {
-        assert_eq!(rt;
-            read_word(alloc, word.as_bytes())?.as_slice(),
-            bytes.as_bytes()
-        );
+        let read = read_word(rt.alloc(), word.as_bytes())?;
+        assert_eq!(rt; read.as_slice(), bytes.as_bytes());
     }
+    Ok(())
+}
+
+#[test]
+fn texts_and_flags(rt: HostRuntime) {
+    let alloc = rt.alloc();
     assert!(rt; text_of(alloc, b"%C8%B2").is_ok());
     assert!(rt; matches!(text_of(alloc, b"%C8"), Err(Stop::Bad)));
     assert_eq!(rt; flag_of("c", "p", b"p"), Some(false));
-    Ok(())
 }

@@ -1,10 +1,7 @@
 //! Worked scripts, each with the print that is wanted.
-use zq_script::run::{Status, run};
-use zq_script::{MemorySink, MemorySource};
-use std::alloc::Global;
+use crate::given::run_on;
 use std::test::Fail;
-use zq_key::memory::OutOfMemory;
-use zq_key::text::{Bytes, Text};
+use zq_script::run::Status;
 
 /// What a script tells of, its lines, its print, and how its run ends.
 const ROWS: [(&str, &str, &str, Status); 26] = [
@@ -515,20 +512,10 @@ const ROWS: [(&str, &str, &str, Status); 26] = [
     ),
 ];
 
-fn print_of(alloc: Global, script: &str) -> Result<(Status, MemorySink), OutOfMemory> {
-    let words = vec![in alloc; Text::new(alloc, "replay")?]?;
-    let bytes = Bytes::new(alloc, script.as_bytes())?;
-    let mut source = MemorySource::new(bytes, Vec::new(alloc), 4096);
-    let mut sink = MemorySink::new(alloc, 4096, Vec::new(alloc), 4096)?;
-    let status = run(alloc, words.as_slice(), &mut source, &mut sink);
-    Ok((status, sink))
-}
-
 #[test]
 fn rows(rt: HostRuntime) -> Result<(), Fail> {
-    let alloc = rt.alloc();
     for (name, script, print, status) in ROWS {
-        let (ended, sink) = print_of(alloc, script)?;
+        let (ended, sink) = run_on(rt.alloc(), &["replay"], script.as_bytes(), u64::MAX)?;
         assert_eq!(rt; ended, status, "{name}");
         assert_eq!(rt; sink.taken(), print.as_bytes(), "{name}");
     }
