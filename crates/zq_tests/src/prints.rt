@@ -1,9 +1,10 @@
-use zq_prints::steps::{print_message, print_steps};
+use std::alloc::{AllocError, Global};
 use std::test::Fail;
 use zq_key::items::Items;
 use zq_key::message::{FaceId, Message, ResponseFinal};
 use zq_machine::call::{Outcome, Step};
 use zq_machine::handed::{Handed, Leaves};
+use zq_prints::steps::{print_message, print_steps};
 
 /// A final of which this leaves.
 fn handed(rid: u32, leaves: Leaves) -> Handed {
@@ -12,8 +13,9 @@ fn handed(rid: u32, leaves: Leaves) -> Handed {
 }
 
 /// A final that leaves in the place of another.
-fn other(rid: u32) -> Leaves {
-    Leaves::Other(Message::ResponseFinal(ResponseFinal { rid, qos: 0 }))
+fn other(alloc: Global, rid: u32) -> Result<Leaves, AllocError> {
+    let message = Message::ResponseFinal(ResponseFinal { rid, qos: 0 });
+    Ok(Leaves::Other(Box::new(alloc, message)?))
 }
 
 #[test]
@@ -21,8 +23,8 @@ fn steps_are_printed(rt: HostRuntime) -> Result<(), Fail> {
     let alloc = rt.alloc();
     let mut list = Items::new(alloc);
     list.push(handed(7, Leaves::Same))?;
-    list.push(handed(7, other(7)))?;
-    list.push(handed(7, other(8)))?;
+    list.push(handed(7, other(alloc, 7)?))?;
+    list.push(handed(7, other(alloc, 8)?))?;
     list.push(handed(7, Leaves::Nothing))?;
     let step = Step {
         outcome: Outcome::Replied(None),
