@@ -16,5 +16,5 @@ pub record Handed : Type 0 where
 -- what leaves of a message
 abbrev pub left : Message → Leaves → Option Message
 left m exit.Same = Some m
-left m (exit.Other other) = Some other
+left m (exit.Other other) = Some other.value
 left m exit.Nothing = None

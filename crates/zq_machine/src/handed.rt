@@ -11,8 +11,8 @@ use zq_key::message::{FaceId, Message};
 pub enum Leaves {
     /// The message as it is handed.
     Same,
-    /// Another message in its place.
-    Other(Message),
+    /// Another message in its place, kept aside so that an entry has the size of one message.
+    Other(Box<Message>),
     /// Nothing.
     Nothing,
 }
@@ -97,7 +97,7 @@ impl Handed {
     {
         match &self.leaves {
             Leaves::Same => Some(&self.message),
-            Leaves::Other(message) => Some(message),
+            Leaves::Other(message) => Some(&**message),
             Leaves::Nothing => None,
         }
     }

@@ -191,7 +191,7 @@ fn push_leaving(out: &mut Vec<u8>, message: &Message, leaves: &Leaves) -> Result
 {
     match leaves {
         Leaves::Same => Ok(()),
-        Leaves::Other(other) => push_other(out, message, other),
+        Leaves::Other(other) => push_other(out, message, &**other),
         Leaves::Nothing => push_text(out, "< -\n"),
     }
 }

@@ -57,14 +57,15 @@ impl<V: Copy> Numbers<V> {
         }
     }
 
-    /// Puts a value where there is room. It takes no memory.
-    pub fn put(&mut self, number: u64, value: V)
+    /// Puts a value where there is room, and answers the one before it. It takes no memory.
+    pub fn put(&mut self, number: u64, value: V) -> Option<V>
         requires { 0 < self.old.spare }
+        ensures before { result ≡ at_number number self.old.entries }
         ensures entries { self.new.entries ≡ insert_entry nat_cmp self.old.entries number value }
         ensures spare { self.old.spare ≤ self.new.spare + 1 }
     {
         match self.inner.insert(number, value) {
-            Ok(_) => {}
+            Ok(before) => before,
             Err(_) => unreachable!(),
         }
     }

@@ -6,7 +6,7 @@ ghost use Rattle.std.specs.Option.{is_some, IsSome, option_map};
 ghost use Rattle.std.specs.Ordering.{nat_cmp};
 ghost use Rattle.std.specs.List.{list_any, cons_option};
 ghost use Rattle.std.specs.List.Sorted.{IsStrictlySortedBy};
-ghost use Rattle.zq_query.specs.Tables.{dues_left, flies_for, place_cmp, due_cmp, at_number, at_place, less_owed, less_flying, more_flying, is_spent, final_at};
+ghost use Rattle.zq_query.specs.Tables.{dues_left, flies_for, place_cmp, due_cmp, at_number, at_place, less_owed, less_flying, more_flying, is_spent, final_at, rises};
 ghost use Rattle.zq_query.specs.declared.records.Final.{Final};
 ghost use Rattle.zq_query.specs.Orderly.{IsOrderly};
 ghost use Rattle.zq_query.specs.Closing.{finals_after, finals_landed};
@@ -49,6 +49,7 @@ pub struct Queries {
     dues: BTreeMap<(u64, u64), PlaceList>,
     replies: BTreeMap<u64, u64>,
     last_ids: Numbers<u32>,
+    rising: bool,
     closed: BTreeSet<u32>,
     requests: u64,
     next_reply: u64,
@@ -57,13 +58,13 @@ pub struct Queries {
 
 impl Model for Queries {
     ghost use Rattle.zq_query.specs.Records.{QueryState};
-    ghost use Rattle.zq_query.specs.Tables.{IsTied, IsBelow, records_of};
+    ghost use Rattle.zq_query.specs.Tables.{IsTied, IsBelow, IsRising, records_of};
 
     ghost Value = { QueryState };
 
     ghost view = { λ q. record { records = records_of q.heads.entries q.pending.entries q.replies.entries; last_ids = q.last_ids.entries; closed = q.closed.keys; requests = q.requests; replies = q.next_reply; request_ids = q.request_ids } };
 
-    ghost invariant = { λ q. IsTied q.heads.entries q.pending.entries q.dues.entries q.replies.entries × IsBelow q.heads.entries q.replies.entries q.requests q.next_reply };
+    ghost invariant = { λ q. IsTied q.heads.entries q.pending.entries q.dues.entries q.replies.entries × IsBelow q.heads.entries q.replies.entries q.requests q.next_reply × IsRising q.rising q.pending.entries q.last_ids.entries };
 }
 
 /// The count of the request goes down by one.
@@ -113,6 +114,16 @@ fn fly_more(heads: &mut Numbers<Open>, number: u64)
     };
     more.in_flight += 1;
     heads.set(number, more);
+}
+
+/// Whether ids still rise: they did, and this one is not below the one before it at its face.
+fn still_rising(rising: bool, before: Option<u32>, id: u32) -> bool
+    ensures { result ≡ (rising && rises before id) }
+{
+    match before {
+        Some(before) => rising && before <= id,
+        None => rising,
+    }
 }
 
 /// The first reply of the request.
@@ -169,6 +180,7 @@ impl Queries {
             dues: BTreeMap::new(alloc),
             replies: BTreeMap::new(alloc),
             last_ids: Numbers::new(alloc),
+            rising: true,
             closed: BTreeSet::new(alloc),
             requests,
             next_reply: replies,
@@ -421,11 +433,14 @@ impl Queries {
     }
 
     /// The id that the face is given next: the first one after the last given, round, that is not
-    /// pending there; none where all 2^32 are.
+    /// pending there; none where all 2^32 are. While ids rise it is searched only past 2^32 - 1.
     fn next_id(&self, face: FaceId) -> Option<u32>
         ensures { result ≡ next_id self.now face.0 }
     {
         let last = self.last_at(face).unwrap_or(self.request_ids);
+        if self.rising && last < u32::MAX {
+            return Some(last + 1);
+        }
         self.free_after(face, last)
     }
 
@@ -442,7 +457,8 @@ impl Queries {
         ensures err { OnErr result (self.new ≡ self.old) }
     {
         self.last_ids.reserve(1)?;
-        self.last_ids.put(face.0 as u64, last);
+        let before = self.last_ids.put(face.0 as u64, last);
+        self.rising = still_rising(self.rising, before, last);
         Ok(())
     }
 

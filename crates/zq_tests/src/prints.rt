@@ -1,3 +1,4 @@
+use std::alloc::{AllocError, Global};
 use std::test::Fail;
 use zq_key::items::Items;
 use zq_key::message::{FaceId, Message, ResponseFinal};
@@ -12,8 +13,9 @@ fn handed(rid: u32, leaves: Leaves) -> Handed {
 }
 
 /// A final that leaves in the place of another.
-fn other(rid: u32) -> Leaves {
-    Leaves::Other(Message::ResponseFinal(ResponseFinal { rid, qos: 0 }))
+fn other(alloc: Global, rid: u32) -> Result<Leaves, AllocError> {
+    let message = Message::ResponseFinal(ResponseFinal { rid, qos: 0 });
+    Ok(Leaves::Other(Box::new(alloc, message)?))
 }
 
 #[test]
@@ -21,8 +23,8 @@ fn steps_are_printed(rt: HostRuntime) -> Result<(), Fail> {
     let alloc = rt.alloc();
     let mut list = Items::new(alloc);
     list.push(handed(7, Leaves::Same))?;
-    list.push(handed(7, other(7)))?;
-    list.push(handed(7, other(8)))?;
+    list.push(handed(7, other(alloc, 7)?))?;
+    list.push(handed(7, other(alloc, 8)?))?;
     list.push(handed(7, Leaves::Nothing))?;
     let step = Step {
         outcome: Outcome::Replied(None),
@@ -32,12 +34,9 @@ fn steps_are_printed(rt: HostRuntime) -> Result<(), Fail> {
     let want =
         b"= replied -\n> 1 0 - final 7 0\n> 1 0 - final 7 0\n> 1 0 - final 7 0\n< final 8 0\n> 1 0 - final 7 0\n< -\n";
     assert_eq!(rt; printed.as_slice(), want.as_slice());
-    Ok(())
-}
-
-#[test]
-fn messages_are_printed(rt: HostRuntime) -> Result<(), Fail> {
-    let printed = print_message(rt.alloc(), handed(7, Leaves::Same).message())?;
-    assert_eq!(rt; printed.as_slice(), b"final 7 0".as_slice());
+    assert_eq!(rt;
+        print_message(alloc, handed(7, Leaves::Same).message())?.as_slice(),
+        b"final 7 0".as_slice()
+    );
     Ok(())
 }

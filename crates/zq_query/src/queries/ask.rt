@@ -1,15 +1,15 @@
 //! Asking: a new request owes each of its targets an entry.
-ghost use Rattle.std.specs.Prelude.{◌≡◌, ◌+◌, ◌-◌, ◌<◌, ◌≤◌, ◌^◌, true, false, map, length, IfOk, OnOk, OnErr, IsErrOf, take, ℕ};
+ghost use Rattle.std.specs.Prelude.{◌≡◌, ◌+◌, ◌-◌, ◌<◌, ◌≤◌, ◌^◌, true, false, map, length, IfOk, OnOk, OnErr, IsErrOf, take, ℕ, ◌&&◌};
 ghost use Rattle.std.specs.List.{list_any, AllByRecursion};
 ghost use Rattle.std.specs.List.Sorted.{IsStrictlySortedBy};
 ghost use Rattle.std.specs.Map.{keys_of};
 ghost use Rattle.std.specs.BTreeMap.{insert_entry};
 ghost use Rattle.std.specs.Ordering.{nat_cmp};
-ghost use Rattle.zq_query.specs.Tables.{at_number, filled, AreAbsent};
+ghost use Rattle.zq_query.specs.Tables.{at_number, filled, AreAbsent, all_rise};
 ghost use Rattle.zq_query.specs.Asking.{are_distinct, face_numbers, is_full, lacks_number, given_id, given_place, giving, after_ask, asking_at, IsPlan};
 
 use crate::numbers::Numbers;
-use crate::queries::{Open, Owed, Queries};
+use crate::queries::{Open, Owed, Queries, still_rising};
 use crate::records::{AskRefusal, Asked, PlaceList, U32List};
 use std::alloc::Global;
 use std::collections::BTreeMap;
@@ -50,13 +50,18 @@ fn fill(
 }
 
 /// Each face is given its id, as the last one given there, where there is room for all of them.
-fn give_all(last_ids: &mut Numbers<u32>, places: &[(u32, u32)])
+/// Whether ids still rise, if they did before.
+fn give_all(last_ids: &mut Numbers<u32>, places: &[(u32, u32)], rising: bool) -> bool
     requires { length places.now ≤ last_ids.old.spare }
-    ensures { last_ids.new.entries ≡ giving last_ids.old.entries places.now }
+    ensures given { last_ids.new.entries ≡ giving last_ids.old.entries places.now }
+    ensures rising { result ≡ (rising && all_rise last_ids.old.entries places.now) }
 {
+    let mut still = rising;
     for place in places {
-        last_ids.put(place.0 as u64, place.1);
+        let before = last_ids.put(place.0 as u64, place.1);
+        still = still_rising(still, before, place.1);
     }
+    still
 }
 
 /// The face, and the id there.
@@ -155,7 +160,7 @@ impl Queries {
                 return Err(OutOfMemory);
             }
         }
-        give_all(&mut self.last_ids, places);
+        self.rising = give_all(&mut self.last_ids, places, self.rising);
         self.heads.put(number, opened);
         self.requests += 1;
         Ok(())

@@ -25,6 +25,7 @@ invariant_of-self-2 c =
     rw (c.fly_more.ensures h.0 h.1) (
       tied_put i.heads.entries i.pending.entries i.dues.entries i.replies.entries c.self.invariant.0 i.next_reply c.args.number new h.0 (more_flying h.0) h.1 refl c.insert.new.self.entries c.in-Ok.ensures.entries c.insert.ensures.ordered c.in-Ok.ensures.updates.0,
       below_put i.heads.entries i.replies.entries c.insert.new.self.entries i.requests i.next_reply c.args.number h.0 (more_flying h.0) h.1 c.self.invariant.1 c.in-Ok.ensures.updates.0,
+      c.self.invariant.2,
     )
 
 pub returns-clause-ok : goal.returns-clause-ok

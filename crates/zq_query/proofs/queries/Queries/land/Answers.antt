@@ -55,6 +55,7 @@ invariant_of-self-2 c =
     rw (heads, c.remove.ensures.entries) (
       tied_landed i.heads.entries i.pending.entries i.dues.entries i.replies.entries c.self.invariant.0 c.args.reply n is left less,
       below_landed i.heads.entries i.pending.entries i.dues.entries i.replies.entries c.self.invariant.0 c.args.reply n is left less i.requests i.next_reply c.self.invariant.1,
+      c.self.invariant.2,
     )
 
 pub returns-clause-records : goal.returns-clause-records

@@ -7,6 +7,7 @@ use Rattle.zq_query.specs.Records.{ending_after, QueryState, Record, is_pending,
 use Rattle.zq_query.proofs.Entries.{pending_is}
 use Rattle.zq_query.proofs.Letting.{only_let_go, head, settled, tied_let_go, below_let_go, records_let_go, final_let_go}
 use Rattle.zq_query.proofs.Fusion.{letting_none}
+use Rattle.zq_query.proofs.Rising.{rising_without}
 use Rattle.zq_query.proofs.queries.Queries.let_go.Goals as goal
 
 pub invariant_of-self : goal.invariant_of-self
@@ -55,6 +56,7 @@ invariant_of-self-2 c =
     rw (heads, c.remove.ensures.entries, c.due_less.ensures) (
       tied_let_go i.heads.entries i.pending.entries i.dues.entries i.replies.entries c.self.invariant.0 c.args.face c.args.id v is left less,
       below_let_go i.heads.entries i.pending.entries i.dues.entries i.replies.entries c.self.invariant.0 c.args.face c.args.id v is left less i.requests i.next_reply c.self.invariant.1,
+      rising_without i.rising i.pending.entries i.last_ids.entries (c.args.face, c.args.id) c.self.invariant.0.places c.self.invariant.2,
     )
 
 pub returns-clause-records : goal.returns-clause-records

@@ -12,4 +12,4 @@ invariant_of-self c =
     let from = ap (λ (s : QueryState). s.replies - first) c.self.view_is in
     let none : has_reply_from first (records_of i.heads.entries i.pending.entries i.replies.entries) ≡ false =
     ap (λ (s : QueryState). has_reply_from first s.records) (c.self-2.view_is ∙ c.land_from.ensures) ∙ ap (λ (n : ℕ). has_reply_from first (landing_from first n c.args.self.now.records)) from ∙ c.requires.last in
-    (c.self-2.invariant.0, record { numbers = c.self-2.invariant.1.numbers; flights = λ r n h. replies_below i.heads.entries i.pending.entries i.dues.entries i.replies.entries c.self-2.invariant.0 first r n h none })
+    (c.self-2.invariant.0, record { numbers = c.self-2.invariant.1.numbers; flights = λ r n h. replies_below i.heads.entries i.pending.entries i.dues.entries i.replies.entries c.self-2.invariant.0 first r n h none }, c.self-2.invariant.2)
