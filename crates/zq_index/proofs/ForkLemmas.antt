@@ -1,6 +1,10 @@
 -- How a text and a key go on side by side: what is dead after a byte is dead with it.
 use Rattle.std.proofs.Common.{◌≡◌, ◌≢◌, ℕ, ◌+◌, ◌<◌, ◌≤◌, Bool, true, false, ◌==◌, cond, eqb, ◌-◌, List, [], ◌∷◌, ◌++◌, length, take, drop, get_or, sym, subst, ap, ◌∙◌, refl, arith, ◌⊎◌, inl, inr, Some, None}
-use Rattle.std.specs.Prelude.{nat_le}
+use Rattle.std.specs.Prelude.{nat_le, nat_lt, not, ◌&&◌}
+use Rattle.std.specs.declared.cmp.Ordering.{Ordering}
+use Rattle.std.specs.declared.cmp.Ordering.TheVariants.{Less, Equal, Greater}
+use Rattle.std.specs.Ordering.{nat_cmp, ordering_then}
+use Rattle.std.proofs.lemmas.Cmp.{ranked}
 use Rattle.std.specs.List.{onto_first, position, join_with_byte, starts_with}
 use Rattle.std.proofs.Math.Nat.{eq-or-lt_of_le}
 use Rattle.std.proofs.lemmas.Bool.{true≢false, or_parts, false_from_ne_true}
@@ -14,7 +18,9 @@ use Rattle.zq_key.proofs.Apart.{HasFirst, has_first, misses_meet, misses, Misses
 use Rattle.zq_key.proofs.Chunks.{cut-none, cut-some}
 use Rattle.zq_index.specs.declared.forks.Mode.{Mode}
 use Rattle.zq_index.specs.declared.forks.Mode.TheVariants.{Chunk, Star, Free}
-use Rattle.zq_index.specs.Forks.{later, chunks_from, EndsAbove, IsDead, IsHeld, Parts, GoesOn, PassesOver}
+use Rattle.zq_index.specs.Texts.{text_cmp, mixed_after}
+use Rattle.zq_index.specs.Skipping.{is_run, run_of}
+use Rattle.zq_index.specs.Forks.{later, chunks_from, EndsAbove, IsHeld, Leads, Parts, GoesOn, PassesOver}
 
 -- ---- one byte, over lists
 slash_on : (gs : List (List ℕ)) → GoesOn Chunk ([] ∷ gs) 47 Chunk gs
@@ -76,7 +82,7 @@ parts_over d more tame other = by (d == 47) (has_first more)
     by false (h, hs, is) = rw is (not_stars d h (or_parts (d == 42) (d == 36) tame).0)
 
 -- ---- at a place of the key
-within_from : (q : List ℕ) (j : ℕ) → j ≤ length q → chunks_from q j ≡ chunks (drop j q)
+pub within_from : (q : List ℕ) (j : ℕ) → j ≤ length q → chunks_from q j ≡ chunks (drop j q)
 within_from q j le = let yes : nat_le j (length q) ≡ true = grind (arith, nat_tests) in rw yes refl
 
 past_from : (q : List ℕ) (j : ℕ) → length q < j → chunks_from q j ≡ []
@@ -166,9 +172,6 @@ pub wanted_past : (q : List ℕ) (j : ℕ) → length q < j → Parts Chunk (chu
 wanted_past q j lt d more tame other = subst (Misses (chunks (d ∷ more))) (sym (past_from q j lt)) (parts_over d more tame other)
 
 -- ---- along a text
-abbrev pub Leads : List ℕ → List ℕ → ℕ → Mode → ℕ → Type 0
-Leads text q at mode j = (rest : List ℕ) → IsDead mode (chunks_from q j) rest → intersects (take at text ++ rest) q ≡ false
-
 pub leads_first : (text q : List ℕ) → Leads text q 0 Chunk 0
 unfolding intersects
 leads_first text q rest m = misses_meet (chunks rest) (chunks q) (subst (Misses (chunks rest)) (within_from q 0 (omega arith)) m)
@@ -200,3 +203,57 @@ held_on text q held at j byte mode is leads ends holds p d more from to above = 
         let over : byte < d = omega (arith, is, subst (λ n. get_or text n 0 < d) same above) in
         ap (λ n. intersects (take n text ++ d ∷ more) q) same ∙ leads (d ∷ more) (ends d more over)
     by (inr below) = holds p d more from below above
+
+-- ---- a run of bytes that are neither wild nor end a chunk
+pub run_facts : (y : ℕ) → is_run y ≡ true → ((y == 47) ≡ false) × (is_wild y ≡ false)
+run_facts y h = by (nat_lt y 128) (y == 47) (is_wild y) h
+  where
+    by : (a b c : Bool) → (a && not b && not c) ≡ true → (b ≡ false) × (c ≡ false)
+    by true false false h = (refl, refl)
+    by true false true h = absurd (true≢false (sym h))
+    by true true c h = absurd (true≢false (sym h))
+    by false b c h = absurd (true≢false (sym h))
+
+pub run_more : (b : List ℕ) (c : ℕ) (rest : List ℕ) → is_run c ≡ true → (b ++ c ∷ []) ++ run_of rest ≡ b ++ run_of (c ∷ rest)
+run_more b c rest is = append_assoc b (c ∷ []) (run_of rest) ∙ ap (λ r. b ++ r) (sym (ap (λ x. cond x (c ∷ run_of rest) []) is))
+
+-- a text that ends within the run
+short_misses : (u : List ℕ) → text_cmp [] (run_of u) ≡ Less → Misses (chunks []) (chunks u)
+short_misses [] less = cc
+short_misses (z ∷ u) less = by (is_run z) refl less (has_first u)
+  where
+    by : (b : Bool) → is_run z ≡ b → text_cmp [] (cond b (z ∷ run_of u) []) ≡ Less → HasFirst u → Misses (chunks []) (cond (z == 47) ([] ∷ chunks u) (onto_first z (chunks u)))
+    by false is less first = cc
+    by true is less (g, gs, first) = let facts = run_facts z is in rw (facts.0, first) (inl (rw facts.1 refl))
+
+-- a text that is not mixed and less than a run that goes on to the key's end misses it
+pub run_misses : (u : List ℕ) (d : ℕ) (more : List ℕ) (tame : Bool) → is_wild d ≡ false → mixed_after tame (d ∷ more) ≡ false → text_cmp (d ∷ more) (run_of u) ≡ Less → Misses (chunks (d ∷ more)) (chunks u)
+run_misses [] d more tame w unmixed less = cc
+run_misses (y ∷ u) d more tame w unmixed less = by_run (λ e r. run_misses u e r true) (is_run y) refl less
+  where
+    Deeper : Type 0
+    Deeper = (e : ℕ) (r : List ℕ) → is_wild e ≡ false → mixed_after true (e ∷ r) ≡ false → text_cmp (e ∷ r) (run_of u) ≡ Less → Misses (chunks (e ∷ r)) (chunks u)
+
+    later : mixed_after (not (is_wild d) && not (d == 47)) more ≡ false
+    later = (or_parts (tame && is_wild d) (mixed_after (not (is_wild d) && not (d == 47)) more) unmixed).1
+
+    same : Deeper → (r : List ℕ) → r ≡ more → d ≡ y → (y == 47) ≡ false → is_wild y ≡ false → text_cmp r (run_of u) ≡ Less → Misses (chunks (y ∷ r)) (chunks (y ∷ u))
+    same deeper [] is eq slash tame_y under = same_on y u tame_y [] (short_misses u under)
+    same deeper (e ∷ r) is eq slash tame_y under =
+        let state : (not (is_wild d) && not (d == 47)) ≡ true = rw (w, eq, slash) refl in
+        let after : mixed_after true (e ∷ r) ≡ false = subst (λ b. mixed_after b (e ∷ r) ≡ false) state (ap (mixed_after (not (is_wild d) && not (d == 47))) is ∙ later) in
+        same_on y u tame_y (e ∷ r) (deeper e r (or_parts (is_wild e) (mixed_after (not (is_wild e) && not (e == 47)) r) after).0 after under)
+
+    by_order : Deeper → (o : Ordering) → o ≡ nat_cmp d y → ((y == 47) ≡ false) × (is_wild y ≡ false) → ordering_then o (text_cmp more (run_of u)) ≡ Less → Misses (chunks (d ∷ more)) (chunks (y ∷ u))
+    by_order deeper Less is facts less = parts_at y u facts.1 d more w (λ e. below (ranked d y Less is) e)
+      where
+        below : d < y → d ≡ y → ⊥
+        below lt e = omega (arith, lt, e)
+    by_order deeper Equal is facts less =
+        let eq : d ≡ y = ranked d y Equal is in
+        subst (λ b. Misses (chunks (b ∷ more)) (chunks (y ∷ u))) (sym eq) (same deeper more refl eq facts.0 facts.1 less)
+    by_order deeper Greater is facts less = cc
+
+    by_run : Deeper → (b : Bool) → is_run y ≡ b → text_cmp (d ∷ more) (cond b (y ∷ run_of u) []) ≡ Less → Misses (chunks (d ∷ more)) (chunks (y ∷ u))
+    by_run deeper false is less = cc
+    by_run deeper true is less = by_order deeper (nat_cmp d y) refl (run_facts y is) less

@@ -1,4 +1,4 @@
--- Which texts are listed: each declared key that is not plain.
+-- Which texts are listed: each declared key that is mixed.
 use Rattle.std.proofs.Common.{◌≡◌, ◌≢◌, ◌∙◌, sym, ap, subst, refl, ℕ, Bool, true, false, cond, List, [], ◌∷◌, map, filter, Some, None, Option}
 use Rattle.std.specs.Prelude.{◌&&◌, ◌||◌, String}
 use Rattle.std.specs.declared.alloc.Global.{Global}
@@ -20,11 +20,10 @@ use Rattle.std.proofs.lemmas.Bool.{false≢true, true≢false}
 use Rattle.std.proofs.lemmas.Map.{keys-set_value}
 use Rattle.std.proofs.lemmas.Map.Made.{is_some-lookup}
 use Rattle.std.proofs.lemmas.Map.Keys.{sorted_head, sorted_tail}
-use Rattle.zq_key.specs.Key.{is_plain}
 use Rattle.zq_key.proofs.Runs.{not_below_itself}
 use Rattle.zq_key.proofs.Lookups.{same_key, at_itself, found_after_insertion, each_entry}
 use Rattle.zq_key.proofs.Sorted.{has_put}
-use Rattle.zq_index.specs.Texts.{text_cmp, at_text, has_text, IsListed, NoneAfter, IsFirstAfter}
+use Rattle.zq_index.specs.Texts.{text_cmp, at_text, has_text, is_mixed, IsListed, NoneAfter, IsFirstAfter}
 use Rattle.zq_index.specs.Holders.{IndexBy, HeldBy, with_holding_by, AreListed}
 use Rattle.zq_index.proofs.Orders.{text_total, text_exact}
 
@@ -40,15 +39,15 @@ there_still key t w index =
     ∙ sym (is_some-lookup (is_at (text_cmp t)) index)
 
 pub listed_over : {V : Type 0} (key : List ℕ) (w : V) (index : List (List ℕ × V)) (texts : List (List ℕ)) → AreListed index texts → AreListed (set_value (is_at (text_cmp key)) index w) texts
-listed_over key w index texts listed t some plain = listed t (sym (there_still key t w index) ∙ some) plain
+listed_over key w index texts listed t some mixed = listed t (sym (there_still key t w index) ∙ some) mixed
 
 -- ---- a key comes
 pub listed_in : {V : Type 0} (key : List ℕ) (w : V) (index : List (List ℕ × V)) (texts more : List (List ℕ)) → AreListed index texts → ((t : List ℕ) → has_text t texts ≡ true → has_text t more ≡ true) → IsListed more key → AreListed (insert_entry text_cmp index key w) more
-listed_in key w index texts more listed wider it t some plain = by (is_at (text_cmp key) t) refl (sym (ap is_some (found_after_insertion text_total text_exact key t w index)) ∙ some)
+listed_in key w index texts more listed wider it t some mixed = by (is_at (text_cmp key) t) refl (sym (ap is_some (found_after_insertion text_total text_exact key t w index)) ∙ some)
   where
     by : (b : Bool) → is_at (text_cmp key) t ≡ b → is_some (cond b (Some w) (at_text t index)) ≡ true → has_text t more ≡ true
-    by true is found = let same = same_key text_total text_exact key t is in subst (λ k. has_text k more ≡ true) same (it (ap is_plain same ∙ plain))
-    by false is found = wider t (listed t found plain)
+    by true is found = let same = same_key text_total text_exact key t is in subst (λ k. has_text k more ≡ true) same (it (ap is_mixed same ∙ mixed))
+    by false is found = wider t (listed t found mixed)
 
 pub put_in : (key : List ℕ) (texts : List (List ℕ)) → has_text key (insert_key text_cmp texts key) ≡ true
 put_in key texts = has_put text_total text_exact key key texts ∙ ap (λ b. b || has_text key texts) (at_itself text_total text_exact key)
@@ -84,13 +83,13 @@ module _ (key t : List ℕ) (other : is_at (text_cmp key) t ≡ false) where
 
 pub listed_out : {V : Type 0} (key : List ℕ) (index : List (List ℕ × V)) (texts : List (List ℕ)) → AreListed index texts → at_text key (remove_entry (is_at (text_cmp key)) index) ≡ None
     → AreListed (remove_entry (is_at (text_cmp key)) index) (remove_key (is_at (text_cmp key)) texts)
-listed_out key index texts listed gone t some plain = by (is_at (text_cmp key) t) refl
+listed_out key index texts listed gone t some mixed = by (is_at (text_cmp key) t) refl
   where
     by : (b : Bool) → is_at (text_cmp key) t ≡ b → has_text t (remove_key (is_at (text_cmp key)) texts) ≡ true
     by true is =
         let same : key ≡ t = same_key text_total text_exact key t is in
         absurd (false≢true (sym (ap is_some gone) ∙ ap (λ k. is_some (at_text k (remove_entry (is_at (text_cmp key)) index))) same ∙ some))
-    by false is = still_has key t is texts (listed t (was_there key t is index some) plain)
+    by false is = still_has key t is texts (listed t (was_there key t is index some) mixed)
 
 -- a declaration beside others
 pub listed_beside : {P : Type 0} (R : P → P → Ordering) (key : List ℕ) (p : P) (i : QueryableInfoType) (index : IndexBy P) (texts : List (List ℕ)) → is_some (at_text key index) ≡ true → AreListed index texts → AreListed (with_holding_by R key p i index) texts

@@ -1,33 +1,34 @@
 -- Declared keys that are passed over: none of them meets the request's key.
-use Rattle.std.proofs.Common.{◌≡◌, ◌≢◌, ◌∙◌, sym, ap, subst, refl, arith, ℕ, zero, suc, ◌+◌, ◌-◌, ◌<◌, ◌≤◌, length, Bool, true, false, cond, ◌⊎◌, inl, inr, Option, Some, None, List, [], ◌∷◌, ◌++◌, take, drop, get_or, append_assoc}
-use Rattle.std.specs.Prelude.{◌&&◌, String}
+use Rattle.std.proofs.Common.{◌≡◌, ◌≢◌, ◌∙◌, sym, ap, subst, refl, arith, ℕ, zero, suc, ◌+◌, ◌-◌, ◌<◌, ◌≤◌, length, Bool, true, false, cond, ◌⊎◌, inl, inr, List, [], ◌∷◌, ◌++◌, take, drop, get_or, append_assoc}
+use Rattle.std.specs.Prelude.{◌&&◌, ◌==◌, not, String}
+use Rattle.std.proofs.lemmas.Bool.{or_parts}
+use Rattle.std.proofs.lemmas.Bool.Decides.{nat_tests}
 use Rattle.std.specs.declared.alloc.Global.{Global}
 use Rattle.std.specs.declared.cmp.Ordering.{Ordering}
 use Rattle.std.specs.declared.cmp.Ordering.TheVariants.{Less, Equal, Greater}
 use Rattle.std.specs.declared.ops.Bound.TheVariants.{Included, Unbounded}
 use Rattle.std.specs.Ordering.{nat_cmp, ordering_then, is_le, is_lt, is_eq, ordering_reverse}
 use Rattle.std.specs.Cmp.Lexicographic.{bytes_decides}
-use Rattle.std.specs.Option.{IfSome}
 use Rattle.std.specs.List.{AllByRecursion, flat_map}
 use Rattle.std.specs.List.Sorted.{IsStrictlySortedBy}
 use Rattle.std.specs.Map.{keys_of}
 use Rattle.std.specs.BTreeMap.Range.{entries_between, range_contains}
 use Rattle.std.specs.String.{string_bytes, string_cmp}
-use Rattle.std.proofs.lemmas.Bool.{false≢true, false_from_ne_true}
+use Rattle.std.proofs.lemmas.Bool.{false≢true}
 use Rattle.std.proofs.lemmas.Cmp.{nat_list_cmp_total, ranked}
 use Rattle.std.proofs.lemmas.Map.Keys.{sorted_head, sorted_tail}
 use Rattle.std.proofs.lemmas.Map.Text.{is_eq-slice_cmp}
 use Rattle.std.proofs.lemmas.List.{drop_more, take_more, take-append-drop}
-use Rattle.zq_key.specs.Key.{intersects, is_plain}
-use Rattle.zq_key.proofs.Plain.{intersects-plain}
-use Rattle.std.specs.Str.{bytes_eq}
-use Rattle.std.proofs.lemmas.Slice.Eq.{bytes_eq-Decides}
+use Rattle.zq_key.specs.Key.{chunks, intersects}
 use Rattle.std.proofs.Math.Nat.{eq-or-lt_of_le}
-use Rattle.zq_index.specs.Forks.{IsForkAt, IsHeld, IsLast, IsNext}
+use Rattle.zq_key.specs.Apart.{is_wild, Misses}
+use Rattle.zq_index.specs.declared.forks.Mode.TheVariants.{Chunk}
+use Rattle.zq_index.specs.Forks.{IsForkAt, IsHeld, IsLast, IsNext, Leads}
+use Rattle.zq_index.proofs.ForkLemmas.{run_misses, within_from}
 use Rattle.zq_key.proofs.Runs.{Begins, squeezed_run, run_is_less, not_below_itself}
-use Rattle.zq_index.specs.Texts.{text_cmp, has_text, texts_of, IsListed, IsFirstAfter, NoneAfter}
+use Rattle.zq_index.specs.Texts.{text_cmp, texts_of, is_mixed, mixed_after, IsListed, IsFirstAfter, NoneBetween}
 use Rattle.zq_index.proofs.Orders.{text_exact}
-use Rattle.zq_index.specs.Skipping.{SkipsListed, NoneFrom, Skips, IsBoundAt, IsPlaceAbove}
+use Rattle.zq_index.specs.Skipping.{is_run, run_of, SkipsListed, SkipsUnmixed, NoneFrom, Skips, IsPlaceAbove}
 
 -- ---- texts between two that begin alike
 same_front : (p xs ys : List ℕ) → text_cmp (p ++ xs) (p ++ ys) ≡ text_cmp xs ys
@@ -40,13 +41,13 @@ same_front (d ∷ ds) xs ys = by (nat_cmp d d) refl (same_front ds xs ys)
     by Greater is later = absurd (omega (arith, ranked d d Greater is))
 
 -- what lies between begins so, too
-fronted : (p x r : List ℕ) (b c : ℕ) → text_cmp x (p ++ b ∷ r) ≢ Less → text_cmp x (p ++ c ∷ []) ≡ Less → (m : List ℕ) × (x ≡ p ++ m)
-fronted [] x r b c above below = (x, refl)
-fronted (d ∷ ds) [] r b c above below = absurd (above refl)
-fronted (d ∷ ds) (a ∷ cs) r b c above below = by (nat_cmp a d) refl above below (fronted ds cs r b c)
+fronted : (p x r s : List ℕ) (b : ℕ) → text_cmp x (p ++ b ∷ r) ≢ Less → text_cmp x (p ++ s) ≡ Less → (m : List ℕ) × (x ≡ p ++ m)
+fronted [] x r s b above below = (x, refl)
+fronted (d ∷ ds) [] r s b above below = absurd (above refl)
+fronted (d ∷ ds) (a ∷ cs) r s b above below = by (nat_cmp a d) refl above below (fronted ds cs r s b)
   where
-    by : (o : Ordering) → o ≡ nat_cmp a d → ordering_then o (text_cmp cs (ds ++ b ∷ r)) ≢ Less → ordering_then o (text_cmp cs (ds ++ c ∷ [])) ≡ Less
-        → (text_cmp cs (ds ++ b ∷ r) ≢ Less → text_cmp cs (ds ++ c ∷ []) ≡ Less → (m : List ℕ) × (cs ≡ ds ++ m)) → (m : List ℕ) × (a ∷ cs ≡ d ∷ ds ++ m)
+    by : (o : Ordering) → o ≡ nat_cmp a d → ordering_then o (text_cmp cs (ds ++ b ∷ r)) ≢ Less → ordering_then o (text_cmp cs (ds ++ s)) ≡ Less
+        → (text_cmp cs (ds ++ b ∷ r) ≢ Less → text_cmp cs (ds ++ s) ≡ Less → (m : List ℕ) × (cs ≡ ds ++ m)) → (m : List ℕ) × (a ∷ cs ≡ d ∷ ds ++ m)
     by Less is above below deeper = absurd (above refl)
     by Equal is above below deeper = let m = deeper above below in (m.0, rw (ranked a d Equal is, m.1) refl)
     by Greater is above below deeper = cc
@@ -79,13 +80,16 @@ below_byte d c more below = by (nat_cmp d c) refl below
     by Equal is below = absurd (nothing_less more below)
     by Greater is below = cc
 
-less_byte : (b c : ℕ) (r : List ℕ) → b < c → text_cmp (b ∷ r) (c ∷ []) ≡ Less
-less_byte b c r lt = by (nat_cmp b c) refl
+less_bytes : (b c : ℕ) (r s : List ℕ) → b < c → text_cmp (b ∷ r) (c ∷ s) ≡ Less
+less_bytes b c r s lt = by (nat_cmp b c) refl
   where
-    by : (o : Ordering) → o ≡ nat_cmp b c → ordering_then o (text_cmp r []) ≡ Less
+    by : (o : Ordering) → o ≡ nat_cmp b c → ordering_then o (text_cmp r s) ≡ Less
     by Less is = refl
     by Equal is = absurd (omega (arith, lt, ranked b c Equal is))
     by Greater is = absurd (omega (arith, lt, ranked b c Greater is))
+
+less_byte : (b c : ℕ) (r : List ℕ) → b < c → text_cmp (b ∷ r) (c ∷ []) ≡ Less
+less_byte b c r lt = less_bytes b c r [] lt
 
 -- ---- bounds
 module _ (t : List ℕ) (k : ℕ) (lt : k < length t) where
@@ -111,7 +115,7 @@ module _ (t q : List ℕ) (k want : ℕ) (fork : IsForkAt t q k want) where
   fork_skipped c next = record {
     after = ap (λ y. text_cmp y (take k t ++ c ∷ [])) (whole t k fork.in_range) ∙ same_front (take k t) (here ∷ drop (k + 1) t) (c ∷ []) ∙ less_byte here c (drop (k + 1) t) next.after;
     none = λ x above below.
-        let front = fronted (take k t) x (drop (k + 1) t) here c (λ less. above (ap (text_cmp x) (whole t k fork.in_range) ∙ less)) below in
+        let front = fronted (take k t) x (drop (k + 1) t) (c ∷ []) here (λ less. above (ap (text_cmp x) (whole t k fork.in_range) ∙ less)) below in
         let a = begins_above t k fork.in_range x front.0 above front.1 in
         let under : text_cmp (a.byte ∷ a.more) (c ∷ []) ≡ Less =
         ap (λ m. text_cmp m (c ∷ [])) (sym a.is) ∙ sym (same_front (take k t) front.0 (c ∷ [])) ∙ ap (λ y. text_cmp y (take k t ++ c ∷ [])) (sym front.1) ∙ below in
@@ -174,14 +178,53 @@ module _ (t q : List ℕ) (held k want : ℕ) (fork : IsForkAt t q k want) (last
   climbed (suc n) p is from =
       level_skipped t q p (omega (arith, is, fork.in_range)) (climbed n (p + 1) (omega (arith, is)) (omega (arith, from))) (ends_at (p + 1) from (omega (arith, is)))
 
-  pub is_above : (r : Option (ℕ × ℕ)) → IfSome r (λ p. IsPlaceAbove t held k p.0 p.1) → IfSome r (λ p. IsBoundAt t q p.0 p.1)
-  is_above None p = p
-  is_above (Some (at, byte)) p = record {
-    in_range = omega (arith, p.to, fork.in_range);
-    ascii = p.ascii;
-    after = omega (arith, p.next);
-    skips = subst (λ b. Skips q t (take at t ++ b ∷ [])) (sym p.next) (climbed (k - at) at (omega (arith, p.to)) p.from);
+  -- where that is so from the first byte on, nothing is left
+  pub none_above : held ≡ 0 → NoneFrom q t
+  none_above first x above =
+      let lt : 0 < length t = omega (arith, fork.in_range) in
+      let a = begins_above t 0 lt x x above refl in
+      by lt x above a (eq-or-lt_of_le a.least)
+    where
+      by : 0 < length t → (x : List ℕ) → text_cmp x t ≢ Less → (a : Above x (get_or t 0 0)) → (get_or t 0 0 ≡ a.byte) ⊎ (get_or t 0 0 < a.byte) → intersects x q ≡ false
+      by lt x above a (inl same) =
+          (climbed k 0 (omega arith) (omega (arith, first))).none x above
+          (ap (λ y. text_cmp y ((get_or t 0 0 + 1) ∷ [])) a.is ∙ less_byte a.byte (get_or t 0 0 + 1) a.more (omega (arith, same)))
+      by lt x above a (inr more) = dead_on t 0 lt q x x refl a (ends_at 0 (omega (arith, first)) (omega arith) a.byte a.more more)
+
+  pub is_above : (at byte : ℕ) → IsPlaceAbove t held k at byte → Skips q t (take at t ++ byte ∷ [])
+  is_above at byte p = subst (λ b. Skips q t (take at t ++ b ∷ [])) (sym p.next) (climbed (k - at) at (omega (arith, p.to)) p.from)
+
+-- ---- plain chunks are passed over
+unmixed_end : (p m : List ℕ) (tame : Bool) → mixed_after tame (p ++ m) ≡ false → (left : Bool) × (mixed_after left m ≡ false)
+unmixed_end [] m tame unmixed = (tame, unmixed)
+unmixed_end (c ∷ p) m tame unmixed =
+    unmixed_end p m (not (is_wild c) && not (c == 47)) (or_parts (tame && is_wild c) (mixed_after (not (is_wild c) && not (c == 47)) (p ++ m)) unmixed).1
+
+tame_above : (n : ℕ) → 42 < n → is_wild n ≡ false
+tame_above n lt = let a : (n == 42) ≡ false = grind (arith, nat_tests) in let b : (n == 36) ≡ false = grind (arith, nat_tests) in rw (a, b) refl
+
+module _ (t q : List ℕ) (k j : ℕ) (lt : k < length t) (leads : Leads t q k Chunk j) where
+  abbrev goes : ℕ
+  goes = get_or q j 0
+
+  pub chunk_skipped : 42 < get_or t k 0 → j < length q → get_or t k 0 < goes → is_run goes ≡ true → SkipsUnmixed q t (take k t ++ run_of (drop j q))
+  chunk_skipped over in_q greater run = subst (λ r. SkipsUnmixed q t (take k t ++ r)) (sym begins) record {
+    after = ap (λ y. text_cmp y (take k t ++ goes ∷ later)) (whole t k lt) ∙ same_front (take k t) (get_or t k 0 ∷ drop (k + 1) t) (goes ∷ later) ∙ less_bytes (get_or t k 0) goes (drop (k + 1) t) later greater;
+    none = λ x above below unmixed.
+        let front = fronted (take k t) x (drop (k + 1) t) (goes ∷ later) (get_or t k 0) (λ less. above (ap (text_cmp x) (whole t k lt) ∙ less)) below in
+        let a = begins_above t k lt x front.0 above front.1 in
+        let under : text_cmp (a.byte ∷ a.more) (run_of (drop j q)) ≡ Less =
+        ap (text_cmp (a.byte ∷ a.more)) begins ∙ ap (λ m. text_cmp m (goes ∷ later)) (sym a.is) ∙ sym (same_front (take k t) front.0 (goes ∷ later)) ∙ ap (λ y. text_cmp y (take k t ++ goes ∷ later)) (sym front.1) ∙ below in
+        let end = unmixed_end (take k t) (a.byte ∷ a.more) false (ap is_mixed (ap (λ m. take k t ++ m) (sym a.is) ∙ sym front.1) ∙ unmixed) in
+        let missed = run_misses (drop j q) a.byte a.more end.0 (tame_above a.byte (omega (arith, over, a.least))) end.1 under in
+        dead_on t k lt q x front.0 front.1 a (leads (a.byte ∷ a.more) (subst (Misses (chunks (a.byte ∷ a.more))) (sym (within_from q j (omega (arith, in_q)))) missed));
   }
+    where
+      later : List ℕ
+      later = run_of (drop (j + 1) q)
+
+      begins : run_of (drop j q) ≡ goes ∷ later
+      begins = ap run_of (drop_more q j 0 in_q) ∙ ap (λ b. cond b (goes ∷ later) []) run
 
 -- ---- entries in order, from a bound on
 
@@ -317,7 +360,7 @@ pub all_at_end : {X : Type 0} (P : List ℕ × X → Type 0) (xs ys : List (Stri
 all_at_end P [] ys all = all
 all_at_end P (x ∷ xs) ys all = all_at_end P xs ys all.1
 
--- ---- the step at a plain key
+-- ---- where mixed keys are listed
 pub is_less : (r : Ordering) → is_lt r ≡ true → r ≡ Less
 is_less Less h = refl
 is_less Equal h = absurd (false≢true h)
@@ -328,14 +371,6 @@ not_less Less h e = absurd (false≢true (sym h))
 not_less Equal h e = cc
 not_less Greater h e = cc
 
-above_from : (t k : List ℕ) → text_cmp t k ≢ Less → (t ≡ k → ⊥) → text_cmp k t ≡ Less
-above_from t k not_below differ = by (text_cmp t k) refl not_below
-  where
-    by : (r : Ordering) → text_cmp t k ≡ r → r ≢ Less → text_cmp k t ≡ Less
-    by Less is ne = absurd (ne refl)
-    by Equal is ne = absurd (differ (text_exact t k is))
-    by Greater is ne = nat_list_cmp_total.antisymm k t ∙ ap ordering_reverse is
-
 below_from_not : (t k b : List ℕ) → text_cmp t k ≡ Less → text_cmp b k ≢ Less → text_cmp t b ≡ Less
 below_from_not t k b less not_below = by (text_cmp b k) refl not_below
   where
@@ -344,32 +379,24 @@ below_from_not t k b less not_below = by (text_cmp b k) refl not_below
     by Equal is ne = ap (text_cmp t) (text_exact b k is) ∙ less
     by Greater is ne = nat_list_cmp_total.trans t k b less (nat_list_cmp_total.antisymm k b ∙ ap ordering_reverse is)
 
-module _ (texts : List (List ℕ)) (q key : List ℕ) (q_plain : is_plain q ≡ true) (key_plain : is_plain key ≡ true) where
-  misses_plain : (t : List ℕ) → text_cmp t key ≢ Less → IsListed texts t → (t ≡ q → ⊥) → (has_text t texts ≡ true → text_cmp key t ≡ Less → ⊥) → intersects t q ≡ false
-  misses_plain t above listed other unlisted = by (is_plain t) refl
-    where
-      by : (b : Bool) → is_plain t ≡ b → intersects t q ≡ false
-      by true plain = intersects-plain t q plain q_plain ∙ false_from_ne_true (bytes_eq t q) (λ e. other ((bytes_eq-Decides t q).0 e))
-      by false wild = absurd (unlisted (listed wild) (above_from t key above (λ same. false≢true (sym wild ∙ ap is_plain same ∙ key_plain))))
+pub none_between : (texts : List (List ℕ)) (t u first : List ℕ) → IsFirstAfter texts t first → text_cmp first u ≢ Less → NoneBetween texts t u
+none_between texts t u first is out s has after below = is.none s has after (below_from_not s u first below out)
 
-  pub to_listed : (first : List ℕ) → IsFirstAfter texts key first → (text_cmp q key ≡ Less) ⊎ (text_cmp first q ≡ Less) → SkipsListed texts q key first
-  to_listed first is out = record {
-    after = is.after;
-    none = λ t above below listed. misses_plain t above listed (other t above below out) (λ has after. is.none t has after below);
-  }
-    where
-      other : (t : List ℕ) → text_cmp t key ≢ Less → text_cmp t first ≡ Less → (text_cmp q key ≡ Less) ⊎ (text_cmp first q ≡ Less) → t ≡ q → ⊥
-      other t above below (inl less) same = above (ap (λ x. text_cmp x key) same ∙ less)
-      other t above below (inr less) same = not_below_itself t (nat_list_cmp_total.trans t first t below (ap (text_cmp first) same ∙ less))
+-- what is passed over but for mixed texts, where none of these stands between
+pub clear_of : (texts : List (List ℕ)) (q key bound : List ℕ) (k want : ℕ) → IsForkAt key q k want → SkipsUnmixed q key bound → NoneBetween texts key bound → SkipsListed texts q key bound
+clear_of texts q key bound k want fork skips clear = record {
+  after = skips.after;
+  none = λ t above below listed. by t above below listed (is_mixed t) refl;
+}
+  where
+    itself : intersects key q ≡ false
+    itself = (step_skipped key q k want fork).none key (not_below_itself key) (step_skipped key q k want fork).after
 
-  pub to_request : text_cmp key q ≡ Less → ((t : List ℕ) → has_text t texts ≡ true → text_cmp key t ≡ Less → text_cmp t q ≢ Less) → SkipsListed texts q key q
-  to_request less none = record {
-    after = less;
-    none = λ t above below listed. misses_plain t above listed (λ same. not_below_itself t (ap (text_cmp t) same ∙ below)) (λ has after. none t has after below);
-  }
-
-  pub none_from : text_cmp q key ≡ Less → NoneAfter texts key → NoneFrom texts q key
-  none_from less none t above listed = misses_plain t above listed (λ same. above (ap (λ x. text_cmp x key) same ∙ less)) (λ has after. none t has after)
-
-pub past_request : (texts : List (List ℕ)) (q key first : List ℕ) → IsFirstAfter texts key first → text_cmp first q ≢ Less → (t : List ℕ) → has_text t texts ≡ true → text_cmp key t ≡ Less → text_cmp t q ≢ Less
-past_request texts q key first is out t has after below = is.none t has after (below_from_not t q first below out)
+    by : (t : List ℕ) → text_cmp t key ≢ Less → text_cmp t bound ≡ Less → IsListed texts t → (b : Bool) → is_mixed t ≡ b → intersects t q ≡ false
+    by t above below listed false plain = skips.none t above below plain
+    by t above below listed true mixed = by_order (text_cmp t key) refl
+      where
+        by_order : (r : Ordering) → text_cmp t key ≡ r → intersects t q ≡ false
+        by_order Less is = absurd (above is)
+        by_order Equal is = ap (λ x. intersects x q) (text_exact t key is) ∙ itself
+        by_order Greater is = absurd (clear t (listed mixed) (nat_list_cmp_total.antisymm key t ∙ ap ordering_reverse is) below)

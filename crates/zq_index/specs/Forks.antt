@@ -32,6 +32,10 @@ EndsAbove mode gs byte = (d : ℕ) (more : List ℕ) → byte < d → IsDead mod
 abbrev pub GoesOn : Mode → List (List ℕ) → ℕ → Mode → List (List ℕ) → Type 0
 GoesOn mode gs byte next left = (rest : List ℕ) → IsDead next left rest → IsDead mode gs (byte ∷ rest)
 
+-- what is dead from a place of the key on does not meet the key behind the text's first bytes
+abbrev pub Leads : List ℕ → List ℕ → ℕ → Mode → ℕ → Type 0
+Leads text q at mode j = (rest : List ℕ) → IsDead mode (chunks_from q j) rest → intersects (take at text ++ rest) q ≡ false
+
 -- after its first k bytes what goes on otherwise than by the wanted byte or a wild one does not meet the key
 pub record IsForkAt (text q : List ℕ) (k want : ℕ) : Type 0 where
   pub in_range : k < length text

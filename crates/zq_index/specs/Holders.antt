@@ -80,7 +80,7 @@ if_any (h ∷ hs) = Some (h ∷ hs)
 abbrev pub with_held : {P : Type 0} → Option QueryableInfoType → P × QueryableInfoType → Option QueryableInfoType
 with_held m h = joined m (Some h.1)
 
--- the texts have each key of the index that is not plain
+-- the texts have each mixed key of the index
 abbrev pub AreListed : {V : Type 0} → List (List ℕ × V) → List (List ℕ) → Type 0
 AreListed index texts = (t : List ℕ) → is_some (at_text t index) ≡ true → IsListed texts t
 

@@ -5,7 +5,7 @@ ghost use Rattle.std.specs.Prelude.{◌≡◌, ◌≢◌, ◌==◌, ◌+◌, ◌
 ghost use Rattle.std.specs.List.{position};
 ghost use Rattle.zq_key.specs.Key.{chunks};
 ghost use Rattle.zq_key.specs.Apart.{is_wild};
-ghost use Rattle.zq_index.specs.Forks.{chunks_from, EndsAbove, GoesOn, IsForkAt, IsHeld, IsLast, IsNext, Parts, PassesOver};
+ghost use Rattle.zq_index.specs.Forks.{chunks_from, EndsAbove, GoesOn, IsForkAt, IsHeld, IsLast, IsNext, Leads, Parts, PassesOver};
 
 use zq_key::pruning::may_be_wild;
 
@@ -20,11 +20,13 @@ pub enum Mode {
     Free,
 }
 
-/// Where a text and a key part, the byte with which the key goes on there, and the place from which on
-/// no text that goes on by a greater byte meets the key.
+/// Where a text and a key part: the place in the text, that in the key, the byte with which the key
+/// goes on there, and the place of the text from which on none that goes on by a greater byte meets the
+/// key.
 #[derive(Clone, Copy)]
 pub struct Parting {
     pub at: usize,
+    pub place: usize,
     pub wanted: u8,
     pub held: usize,
 }
@@ -106,7 +108,8 @@ fn go_on(q: &[u8], mode: Mode, j: usize, byte: u8) -> Option<(Mode, usize)>
 /// The byte with which the key goes on, where a text that goes on by the given one and any that goes
 /// on by yet another, not wild, is dead.
 fn wanted(q: &[u8], mode: Mode, j: usize, byte: u8) -> Option<u8>
-    ensures { IfSome result (λ want. (is_wild byte ≡ false) × (byte ≢ want) × Parts mode (chunks_from q.now j) want) }
+    ensures parts { IfSome result (λ want. (is_wild byte ≡ false) × (byte ≢ want) × Parts mode (chunks_from q.now j) want) }
+    ensures chunk { IfSome result (λ want. mode ≡ Mode.Chunk) }
 {
     if mode != Mode::Chunk || may_be_wild(byte) {
         return None;
@@ -135,6 +138,7 @@ fn is_held(q: &[u8], mode: Mode, j: usize, byte: u8) -> bool
 /// Where the text and the key part. None says nothing.
 pub fn fork(text: &[u8], q: &[u8]) -> Option<Parting>
     ensures fork { IfSome result (λ f. IsForkAt text.now q.now f.at f.wanted) }
+    ensures leads { IfSome result (λ f. Leads text.now q.now f.at Mode.Chunk f.place) }
     ensures held { IfSome result (λ f. IsHeld text.now q.now f.held f.at) }
     ensures within { IfSome result (λ f. f.held ≤ f.at) }
 {
@@ -155,7 +159,12 @@ pub fn fork(text: &[u8], q: &[u8]) -> Option<Parting>
             }
             None => {
                 return match wanted(q, mode, j, byte) {
-                    Some(wanted) => Some(Parting { at, wanted, held }),
+                    Some(wanted) => Some(Parting {
+                        at,
+                        place: j,
+                        wanted,
+                        held,
+                    }),
                     None => None,
                 };
             }

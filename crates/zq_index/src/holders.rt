@@ -10,12 +10,11 @@ ghost use Rattle.zq_index.specs.Texts.{text_cmp, at_text, has_text, IsListed, te
 ghost use Rattle.zq_index.specs.Holders.{TellsApart, AreListed, with_holding_by, without_holding_by, with_held, rank_cmp, rank_of, HeldBy};
 
 use crate::info::{merge_qabl_infos, same_info};
-use crate::text_set::{copy_texts, put_text, take_text};
+use crate::text_set::{copy_texts, is_mixed, put_text, take_text};
 use std::alloc::Global;
 use std::cmp::Ordering;
 use std::collections::{BTreeMap, BTreeSet};
 use std::marker::Model;
-use zq_key::is_plain;
 use zq_key::memory::OutOfMemory;
 use zq_key::message::QueryableInfoType;
 
@@ -244,11 +243,12 @@ impl<P: Place> Holders<P> {
     }
 }
 
-/// The declarations on each key, by the key's text; the keys that are not plain stand in a set, too.
+/// The declarations on each key, by the key's text; the mixed keys, of which a chunk goes on to a `$*`
+/// behind other bytes, stand in a set, too.
 #[derive(Drop)]
 pub struct KeyHolders<P: Place> {
     keys: BTreeMap<String, Holders<P>>,
-    wild: BTreeSet<String>,
+    mixed: BTreeSet<String>,
 }
 
 impl<P: Place> Model for KeyHolders<P> {
@@ -261,7 +261,7 @@ impl<P: Place> Model for KeyHolders<P> {
 
     ghost view = { λ k. texts_of k.keys.entries };
 
-    ghost invariant = { λ k. AreListed (texts_of k.keys.entries) (map string_bytes k.wild.keys) };
+    ghost invariant = { λ k. AreListed (texts_of k.keys.entries) (map string_bytes k.mixed.keys) };
 }
 
 /// The declaration is added to those on a key that has some.
@@ -308,37 +308,37 @@ fn put_first<P: Place>(
     }
 }
 
-/// The key is listed if it is not plain.
-fn list_key(wild: &mut BTreeSet<String>, alloc: Global, key: &str) -> Result<(), OutOfMemory>
-    ensures ok { OnOk result (IsListed (map string_bytes wild.new.keys) key.now) }
-    ensures wider { (t : List ℕ) → has_text t (map string_bytes wild.old.keys) ≡ true → has_text t (map string_bytes wild.new.keys) ≡ true }
+/// The key is listed if it is mixed.
+fn list_key(mixed: &mut BTreeSet<String>, alloc: Global, key: &str) -> Result<(), OutOfMemory>
+    ensures ok { OnOk result (IsListed (map string_bytes mixed.new.keys) key.now) }
+    ensures wider { (t : List ℕ) → has_text t (map string_bytes mixed.old.keys) ≡ true → has_text t (map string_bytes mixed.new.keys) ≡ true }
 {
-    if is_plain(key) {
+    if !is_mixed(key.as_bytes()) {
         return Ok(());
     }
-    match put_text(wild, alloc, key) {
+    match put_text(mixed, alloc, key) {
         Ok(()) => Ok(()),
         Err(error) => Err(error),
     }
 }
 
-/// The first declaration on a key, which is listed if it is not plain. After want of memory the list
+/// The first declaration on a key, which is listed if it is mixed. After want of memory the list
 /// may have it without a declaration.
 fn put_new<P: Place>(
     keys: &mut BTreeMap<String, Holders<P>>,
-    wild: &mut BTreeSet<String>,
+    mixed: &mut BTreeSet<String>,
     alloc: Global,
     key: &str,
     place: P,
     info: QueryableInfoType,
 ) -> Result<(), OutOfMemory>
     requires absent { at_text key.now (texts_of keys.old.entries) ≡ None }
-    requires listed { AreListed (texts_of keys.old.entries) (map string_bytes wild.old.keys) }
+    requires listed { AreListed (texts_of keys.old.entries) (map string_bytes mixed.old.keys) }
     ensures ok { OnOk result (texts_of keys.new.entries ≡ with_holding_by P.cmp key.now place info (texts_of keys.old.entries)) }
     ensures err { OnErr result (texts_of keys.new.entries ≡ texts_of keys.old.entries) }
-    ensures listed { AreListed (texts_of keys.new.entries) (map string_bytes wild.new.keys) }
+    ensures listed { AreListed (texts_of keys.new.entries) (map string_bytes mixed.new.keys) }
 {
-    list_key(wild, alloc, key)?;
+    list_key(mixed, alloc, key)?;
     match put_first(keys, alloc, key, place, info) {
         Ok(()) => Ok(()),
         Err(error) => Err(error),
@@ -370,15 +370,15 @@ fn drop_key<P: Place>(keys: &mut BTreeMap<String, Holders<P>>, key: &str)
 /// The key goes from the list, too.
 fn drop_last<P: Place>(
     keys: &mut BTreeMap<String, Holders<P>>,
-    wild: &mut BTreeSet<String>,
+    mixed: &mut BTreeSet<String>,
     key: &str,
 )
-    requires { AreListed (texts_of keys.old.entries) (map string_bytes wild.old.keys) }
+    requires { AreListed (texts_of keys.old.entries) (map string_bytes mixed.old.keys) }
     ensures after { texts_of keys.new.entries ≡ remove_entry (is_at (text_cmp key.now)) (texts_of keys.old.entries) }
-    ensures listed { AreListed (texts_of keys.new.entries) (map string_bytes wild.new.keys) }
+    ensures listed { AreListed (texts_of keys.new.entries) (map string_bytes mixed.new.keys) }
 {
     drop_key(keys, key);
-    take_text(wild, key);
+    take_text(mixed, key);
 }
 
 /// An equal entry is put in its place.
@@ -420,7 +420,7 @@ impl<P: Place> KeyHolders<P> {
     {
         Ok(KeyHolders {
             keys: copy_keys(&self.keys, alloc)?,
-            wild: copy_texts(&self.wild)?,
+            mixed: copy_texts(&self.mixed)?,
         })
     }
 
@@ -430,7 +430,7 @@ impl<P: Place> KeyHolders<P> {
     {
         KeyHolders {
             keys: BTreeMap::new(alloc),
-            wild: BTreeSet::new(alloc),
+            mixed: BTreeSet::new(alloc),
         }
     }
 
@@ -441,11 +441,11 @@ impl<P: Place> KeyHolders<P> {
         &self.keys
     }
 
-    /// The keys that are not plain.
-    pub fn wild(&self) -> &BTreeSet<String>
+    /// The mixed keys.
+    pub fn mixed(&self) -> &BTreeSet<String>
         ensures { AreListed self.now (map string_bytes result.now.keys) }
     {
-        &self.wild
+        &self.mixed
     }
 
     /// The declarations on the key.
@@ -480,7 +480,7 @@ impl<P: Place> KeyHolders<P> {
                 Err(error) => Err(error),
             };
         }
-        put_new(&mut self.keys, &mut self.wild, alloc, key, place, info)
+        put_new(&mut self.keys, &mut self.mixed, alloc, key, place, info)
     }
 
     /// Takes out the declaration of the place on the key.
@@ -491,7 +491,7 @@ impl<P: Place> KeyHolders<P> {
             return;
         }
         if take_from(&mut self.keys, key, place) {
-            drop_last(&mut self.keys, &mut self.wild, key);
+            drop_last(&mut self.keys, &mut self.mixed, key);
         }
     }
 }

@@ -1,15 +1,20 @@
 //! A search among declared keys for those that meet a request's: which are passed over.
-ghost use Rattle.std.specs.Prelude.{◌≡◌, ◌+◌, ◌<◌, ◌≤◌, ◌++◌, ◌∷◌, [], IfOk, IfSome, OnOk, map, length, slice_index, true};
+//!
+//! Where a key and the request's part, and the request's goes on by a greater byte, the search goes on at
+//! the first bytes of the key and the rest of the request's chunk: keys with other plain chunks there are
+//! passed over at once. A mixed key may stand between, as `ab$*` before `abc`; where one does, the search
+//! goes on at the next byte alone. Where the request's goes on by a smaller byte, whatever begins like the
+//! key is passed over, and the search ends if nothing that is wild was passed before.
+ghost use Rattle.std.specs.Prelude.{◌≡◌, ◌+◌, ◌<◌, ◌≤◌, ◌++◌, ◌∷◌, [], List, ℕ, IfOk, IfSome, OnOk, map, length, take, slice_index, true};
 ghost use Rattle.std.specs.String.{string_bytes};
-ghost use Rattle.zq_key.specs.Key.{is_plain};
-ghost use Rattle.zq_index.specs.Skipping.{IsBoundAt, IsPlaceAbove, Skips, StepIs};
+ghost use Rattle.zq_index.specs.Forks.{IsForkAt, IsHeld, IsLast, Leads};
+ghost use Rattle.zq_index.specs.Skipping.{is_run, run_of, IsPlaceAbove, Skips, SkipsListed, SkipsUnmixed, StepIs};
 
-use crate::forks::{fork, next_byte};
-use crate::text_set::{comes_before, compare_texts, first_after};
-use std::cmp::Ordering;
+use crate::forks::{Mode, Parting, fork, next_byte};
+use crate::text_set::is_clear;
 use std::collections::BTreeSet;
-use zq_key::is_plain;
 use zq_key::memory::OutOfMemory;
+use zq_key::pruning::may_be_wild;
 
 /// The byte after that at the place, if it is an ASCII one.
 fn byte_above(key: &[u8], at: usize) -> Option<(usize, u8)>
@@ -40,17 +45,15 @@ fn place_above(key: &[u8], held: usize, at: usize) -> Option<(usize, u8)>
     byte_above(key, at)
 }
 
-/// The first bytes of the key, by their number, and the byte that, put after them, makes a bound of
-/// the keys from this one on that do not meet the request's. None says nothing.
-fn bound_place(key: &[u8], q: &[u8]) -> Option<(usize, u8)>
-    ensures { IfSome result (λ r. IsBoundAt key.now q.now r.0 r.1) }
-{
-    let parting = fork(key, q)?;
-    let at = parting.at;
-    match next_byte(key[at], parting.wanted) {
-        Some(next) => { if next < 128 { Some((at, next)) } else { None } }
-        None => place_above(key, parting.held, at),
-    }
+/// The next step of a search for what meets a request's key.
+#[derive(Clone, Copy)]
+pub enum Step {
+    /// To look at the key.
+    Look,
+    /// To go on at a bound.
+    Jump,
+    /// None is left.
+    End,
 }
 
 /// Writes a text and a byte.
@@ -64,96 +67,146 @@ fn write_bound(bound: &mut String, front: &str, byte: u8) -> Result<(), OutOfMem
     Ok(())
 }
 
-/// Writes the bound before which, from the key on, no key meets the request's. False says nothing.
-fn after_run(bound: &mut String, key: &str, q: &str) -> Result<bool, OutOfMemory>
-    ensures { IfOk result (λ found. found ≡ true → Skips q.now key.now (string_bytes bound.new)) }
+/// The step to the key's first bytes and a greater byte.
+fn to_byte(bound: &mut String, key: &str, at: usize, byte: u8) -> Result<Step, OutOfMemory>
+    requires in_range { at < length key.now }
+    requires after { slice_index key.now at < byte }
+    ensures { (texts : List (List ℕ)) (q : List ℕ) → Skips q key.now (take at key.now ++ byte ∷ []) → IfOk result (StepIs texts q key.now (string_bytes bound.new)) }
 {
-    match bound_place(key.as_bytes(), q.as_bytes()) {
-        Some((at, byte)) => {
-            write_bound(bound, &key[..at], byte)?;
-            Ok(true)
-        }
-        None => Ok(false),
+    if byte >= 128 {
+        return Ok(Step::Look);
+    }
+    write_bound(bound, &key[..at], byte)?;
+    Ok(Step::Jump)
+}
+
+/// The step where the request's key goes on by a smaller byte.
+fn past(bound: &mut String, key: &str, held: usize, at: usize) -> Result<Step, OutOfMemory>
+    requires within { held ≤ at }
+    requires in_range { at < length key.now }
+    ensures { (texts : List (List ℕ)) (q : List ℕ) (want : ℕ) → IsForkAt key.now q at want → IsLast (slice_index key.now at) want → IsHeld key.now q held at → IfOk result (StepIs texts q key.now (string_bytes bound.new)) }
+{
+    if held == 0 {
+        return Ok(Step::End);
+    }
+    match place_above(key.as_bytes(), held, at) {
+        Some((place, byte)) => to_byte(bound, key, place, byte),
+        None => Ok(Step::Look),
     }
 }
 
-/// The next step of a search for what meets a request's key.
-#[derive(Clone, Copy)]
-pub enum Step {
-    /// To look at the key.
-    Look,
-    /// To go on at a bound.
-    Jump,
-    /// None is left.
-    End,
+/// Whether a byte is an ASCII one that ends no chunk and is not wild.
+fn is_run(byte: u8) -> bool
+    ensures { result ≡ is_run byte }
+{
+    byte < 128 && byte != b'/' && !may_be_wild(byte)
 }
 
-/// Writes the bound.
-fn set_bound(bound: &mut String, text: &str) -> Result<(), OutOfMemory>
-    ensures { OnOk result (string_bytes bound.new ≡ text.now) }
+/// Adds the first bytes, as long as they are such.
+fn push_run(bound: &mut String, left: &[u8]) -> Result<(), OutOfMemory>
+    ensures { OnOk result (string_bytes bound.new ≡ string_bytes bound.old ++ run_of left.now) }
 {
-    bound.clear();
-    bound.push_str(text)?;
+    for byte in left {
+        if !is_run(*byte) {
+            return Ok(());
+        }
+        bound.push(*byte as char)?;
+    }
     Ok(())
 }
 
-/// The step at a plain key where the request's is plain: on to this one, or to the next that is not
-/// plain.
-fn plain_step(
+/// Writes a text and the first bytes of another, as long as they are such.
+fn write_run(bound: &mut String, front: &str, left: &[u8]) -> Result<(), OutOfMemory>
+    ensures { OnOk result (string_bytes bound.new ≡ front.now ++ run_of left.now) }
+{
+    bound.clear();
+    bound.push_str(front)?;
+    push_run(bound, left)
+}
+
+/// Whether the request's key goes on by a greater byte of a plain chunk, and no chunk `*` comes between.
+fn goes_beyond(byte: u8, q: &[u8], place: usize) -> bool
+    ensures { result ≡ true → (42 < byte) × (place < length q.now) × (byte < slice_index q.now place) × (is_run (slice_index q.now place) ≡ true) }
+{
+    b'*' < byte && place < q.len() && byte < q[place] && is_run(q[place])
+}
+
+/// Writes the key's first bytes and the rest of the chunk by which the request's goes on. False says nothing.
+fn after_chunk(
     bound: &mut String,
-    wild: &BTreeSet<String>,
+    key: &str,
+    q: &[u8],
+    at: usize,
+    place: usize,
+) -> Result<bool, OutOfMemory>
+    requires in_range { at < length key.now }
+    requires leads { Leads key.now q.now at Mode.Chunk place }
+    ensures { IfOk result (λ found. found ≡ true → SkipsUnmixed q.now key.now (string_bytes bound.new)) }
+{
+    if !goes_beyond(key.as_bytes()[at], q, place) {
+        return Ok(false);
+    }
+    write_run(bound, &key[..at], &q[place..])?;
+    Ok(true)
+}
+
+/// Writes the bound behind a plain chunk, if no mixed key stands before it. False says nothing.
+fn after_keys(
+    bound: &mut String,
+    mixed: &BTreeSet<String>,
     key: &String,
     q: &str,
-) -> Result<Step, OutOfMemory>
-    requires plain { is_plain q.now ≡ true }
-    requires plain_key { is_plain (string_bytes key.now) ≡ true }
-    ensures { IfOk result (StepIs (map string_bytes wild.now.keys) q.now (string_bytes key.now) (string_bytes bound.new)) }
+    parting: Parting,
+) -> Result<bool, OutOfMemory>
+    requires fork { IsForkAt (string_bytes key.now) q.now parting.at parting.wanted }
+    requires leads { Leads (string_bytes key.now) q.now parting.at Mode.Chunk parting.place }
+    ensures { IfOk result (λ found. found ≡ true → SkipsListed (map string_bytes mixed.now.keys) q.now (string_bytes key.now) (string_bytes bound.new)) }
 {
-    let next = first_after(wild, key);
-    match compare_texts(key.as_str(), q) {
-        Ordering::Equal => Ok(Step::Look),
-        Ordering::Less => match next {
-            Some(listed) => {
-                if comes_before(listed.as_str(), q) {
-                    set_bound(bound, listed.as_str())?;
-                    Ok(Step::Jump)
-                } else {
-                    set_bound(bound, q)?;
-                    Ok(Step::Jump)
-                }
-            }
-            None => {
-                set_bound(bound, q)?;
+    if after_chunk(bound, key.as_str(), q.as_bytes(), parting.at, parting.place)? {
+        Ok(is_clear(mixed, key, bound))
+    } else {
+        Ok(false)
+    }
+}
+
+/// The step where a key and the request's part.
+fn step_from(
+    bound: &mut String,
+    mixed: &BTreeSet<String>,
+    key: &String,
+    q: &str,
+    parting: Parting,
+) -> Result<Step, OutOfMemory>
+    requires fork { IsForkAt (string_bytes key.now) q.now parting.at parting.wanted }
+    requires leads { Leads (string_bytes key.now) q.now parting.at Mode.Chunk parting.place }
+    requires held { IsHeld (string_bytes key.now) q.now parting.held parting.at }
+    requires within { parting.held ≤ parting.at }
+    ensures { IfOk result (StepIs (map string_bytes mixed.now.keys) q.now (string_bytes key.now) (string_bytes bound.new)) }
+{
+    let text = key.as_str();
+    match next_byte(text.as_bytes()[parting.at], parting.wanted) {
+        Some(next) => {
+            if after_keys(bound, mixed, key, q, parting)? {
                 Ok(Step::Jump)
+            } else {
+                to_byte(bound, text, parting.at, next)
             }
-        },
-        Ordering::Greater => match next {
-            Some(listed) => {
-                set_bound(bound, listed.as_str())?;
-                Ok(Step::Jump)
-            }
-            None => Ok(Step::End),
-        },
+        }
+        None => past(bound, text, parting.held, parting.at),
     }
 }
 
 /// The step at a key.
 pub fn next_step(
     bound: &mut String,
-    wild: &BTreeSet<String>,
-    plain: bool,
+    mixed: &BTreeSet<String>,
     key: &String,
     q: &str,
 ) -> Result<Step, OutOfMemory>
-    requires { plain ≡ is_plain q.now }
-    ensures { IfOk result (StepIs (map string_bytes wild.now.keys) q.now (string_bytes key.now) (string_bytes bound.new)) }
+    ensures { IfOk result (StepIs (map string_bytes mixed.now.keys) q.now (string_bytes key.now) (string_bytes bound.new)) }
 {
-    if plain && is_plain(key.as_str()) {
-        return plain_step(bound, wild, key, q);
-    }
-    if after_run(bound, key.as_str(), q)? {
-        Ok(Step::Jump)
-    } else {
-        Ok(Step::Look)
+    match fork(key.as_bytes(), q.as_bytes()) {
+        Some(parting) => step_from(bound, mixed, key, q, parting),
+        None => Ok(Step::Look),
     }
 }

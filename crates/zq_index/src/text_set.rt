@@ -1,17 +1,18 @@
 //! Texts that are kept in order.
-ghost use Rattle.std.specs.Prelude.{◌≡◌, ◌≢◌, false, true, map, OnOk, OnErr, IfOk, MatchOption};
+ghost use Rattle.std.specs.Prelude.{◌≡◌, ◌≢◌, ◌∷◌, List, ℕ, Bool, false, true, map, OnOk, OnErr, IfOk, MatchOption};
 ghost use Rattle.std.specs.BTreeMap.{is_at};
 ghost use Rattle.std.specs.BTreeSet.{insert_key};
 ghost use Rattle.std.specs.Set.{remove_key};
 ghost use Rattle.std.specs.Ordering.{is_lt};
 ghost use Rattle.std.specs.String.{string_bytes};
-ghost use Rattle.zq_index.specs.Texts.{text_cmp, IsFirstAfter, NoneAfter};
+ghost use Rattle.zq_index.specs.Texts.{text_cmp, is_mixed, mixed_after, IsFirstAfter, NoneAfter, NoneBetween};
 
 use std::alloc::Global;
 use std::cmp::Ordering;
 use std::collections::BTreeSet;
 use std::ops::Bound;
 use zq_key::memory::OutOfMemory;
+use zq_key::pruning::may_be_wild;
 
 /// The order of two texts.
 pub fn compare_texts(a: &str, b: &str) -> Ordering
@@ -25,6 +26,21 @@ pub fn comes_before(a: &str, b: &str) -> bool
     ensures { result ≡ is_lt (text_cmp a.now b.now) }
 {
     compare_texts(a, b) == Ordering::Less
+}
+
+/// Whether a chunk of the text begins as a plain one and goes on by a `*` or `$`.
+pub fn is_mixed(text: &[u8]) -> bool
+    ensures { result ≡ is_mixed text.now }
+{
+    let mut tame = false;
+    for byte in text {
+        let wild = may_be_wild(*byte);
+        if tame && wild {
+            return true;
+        }
+        tame = !wild && *byte != b'/';
+    }
+    false
 }
 
 /// The text joins the others.
@@ -62,5 +78,15 @@ pub fn first_after<'a>(texts: &'a BTreeSet<String>, text: &String) -> Option<&'a
     match later.next() {
         Some(first) => Some(first),
         None => None,
+    }
+}
+
+/// Whether none of the texts stands between two.
+pub fn is_clear(texts: &BTreeSet<String>, text: &String, end: &String) -> bool
+    ensures { result ≡ true → NoneBetween (map string_bytes texts.now.keys) (string_bytes text.now) (string_bytes end.now) }
+{
+    match first_after(texts, text) {
+        Some(first) => !comes_before(first.as_str(), end.as_str()),
+        None => true,
     }
 }

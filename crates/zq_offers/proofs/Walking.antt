@@ -76,10 +76,10 @@ module _ {V : Type 0} (met : List ℕ × V → List QueryTargetQabl) (q : List �
             }
 
       -- none is left
-      pub all_put : NoneFrom texts q (string_bytes e.0) → offers ≡ fold (place offer_cmp) [] (flat_map f (texts_of es))
+      pub all_put : NoneFrom q (string_bytes e.0) → offers ≡ fold (place offer_cmp) [] (flat_map f (texts_of es))
       all_put none =
           let gone : (t : List ℕ) → text_cmp t (string_bytes e.0) ≢ Less → IsListed texts t → (v : V) → f (t, v) ≡ [] =
-          λ t above is v. ap (λ b. cond b (met (t, v)) []) (none t above is) in
+          λ t above is v. ap (λ b. cond b (met (t, v)) []) (none t above) in
           let in_order : IsStrictlySortedBy string_cmp (keys_of (stands.end.0 ++ e ∷ rest)) = subst (λ l. IsStrictlySortedBy string_cmp (keys_of l)) whole sorted in
           let over : flat_map f (texts_of (e ∷ rest)) ≡ [] =
           λ i. gone (string_bytes e.0) (not_below_itself (string_bytes e.0)) here.0 e.1 i ++ none_left (IsListed texts) f e.0 rest (sorted_end stands.end.0 (e ∷ rest) in_order) here.1 gone i in

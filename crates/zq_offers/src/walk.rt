@@ -15,7 +15,7 @@ use std::ops::RangeFull;
 use zq_index::holders::{Holders, KeyHolders, Place};
 use zq_index::search::{Step, next_step};
 use zq_key::memory::OutOfMemory;
-use zq_key::{intersects, is_plain};
+use zq_key::intersects;
 
 /// What is offered for a request on a declared key that meets the request's.
 pub trait KeyOffers<P: Place> {
@@ -54,27 +54,25 @@ fn add_met<P: Place, K: KeyOffers<P>>(
 }
 
 /// What is offered on the keys, in order. Keys of which the first bytes show that they do not meet
-/// the request's are passed over by one search; a plain request passes over all plain keys but its
-/// own.
+/// the request's are passed over by one search, and it ends where nothing later meets it.
 #[tactic(auto, using(crate::proofs::Folds::fold_joined))]
 fn offers_on_keys<P: Place, K: KeyOffers<P>>(
     alloc: Global,
     source: &K,
     keys: &BTreeMap<String, Holders<P>>,
-    wild: &BTreeSet<String>,
+    mixed: &BTreeSet<String>,
     q: &str,
 ) -> Result<Vec<QueryTargetQabl>, OutOfMemory>
     requires keys { AllByRecursion IsKeyed (texts_of keys.now.entries) }
-    requires listed { AreListed (texts_of keys.now.entries) (map string_bytes wild.now.keys) }
+    requires listed { AreListed (texts_of keys.now.entries) (map string_bytes mixed.now.keys) }
     requires asked { IsTrue (is_key q.now) }
     ensures { IfOk result (λ o. o.items ≡ sorted offer_cmp (flat_map (met_offers (K.met source.now q.now) q.now) (texts_of keys.now.entries))) }
 {
-    let plain = is_plain(q);
     let mut offers = Vec::new(alloc);
     let mut bound = String::new(alloc);
     let mut rest = keys.range::<RangeFull>(..);
     while let Some((key, holders)) = rest.next() {
-        match next_step(&mut bound, wild, plain, key, q)? {
+        match next_step(&mut bound, mixed, key, q)? {
             Step::Look => add_met(&mut offers, source, key.as_str(), holders, q)?,
             Step::Jump => rest = keys.range(&bound..),
             Step::End => return Ok(offers),
@@ -94,5 +92,5 @@ pub fn offers_for<P: Place, K: KeyOffers<P>>(
     requires asked { IsTrue (is_key q.now) }
     ensures { IfOk result (λ o. o.items ≡ sorted offer_cmp (flat_map (met_offers (K.met source.now q.now) q.now) index.now)) }
 {
-    offers_on_keys(alloc, source, index.keys(), index.wild(), q)
+    offers_on_keys(alloc, source, index.keys(), index.mixed(), q)
 }

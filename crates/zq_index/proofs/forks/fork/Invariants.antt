@@ -1,6 +1,5 @@
 use Rattle.std.proofs.Common.{◌≤◌}
-use Rattle.zq_index.specs.Forks.{IsHeld}
-use Rattle.zq_index.proofs.ForkLemmas.{Leads}
+use Rattle.zq_index.specs.Forks.{IsHeld, Leads}
 use Rattle.zq_index.proofs.forks.fork.Given as goal
 
 abbrev pub invariant-loop-at : goal.invariant-loop-at

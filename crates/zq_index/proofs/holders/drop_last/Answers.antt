@@ -14,4 +14,4 @@ returns-clause-listed g c =
     let index = texts_of c.args.keys.now.entries in
     let gone : at_text key (remove_entry (is_at (text_cmp key)) index) ≡ None = ap (at_text key) (sym c.drop_key.ensures.after) ∙ c.drop_key.ensures.gone in
     subst (AreListed (texts_of c.drop_key.new.keys.entries)) (sym c.take_text.ensures)
-    (subst (λ es. AreListed es (remove_key (is_at (text_cmp key)) (map string_bytes c.args.wild.now.keys))) (sym c.drop_key.ensures.after) (listed_out key index (map string_bytes c.args.wild.now.keys) c.requires gone))
+    (subst (λ es. AreListed es (remove_key (is_at (text_cmp key)) (map string_bytes c.args.mixed.now.keys))) (sym c.drop_key.ensures.after) (listed_out key index (map string_bytes c.args.mixed.now.keys) c.requires gone))

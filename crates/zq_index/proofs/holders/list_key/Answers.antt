@@ -5,7 +5,7 @@ use Rattle.zq_index.proofs.Listed.{put_in, put_keeps}
 use Rattle.zq_index.proofs.holders.list_key.Goals as goal
 
 pub returns-in-Ok-clause-ok : goal.returns-in-Ok-clause-ok
-returns-in-Ok-clause-ok c plain = ap (has_text c.args.key.now) c.in-Ok.ensures.ok ∙ put_in c.args.key.now (map string_bytes c.args.wild.now.keys)
+returns-in-Ok-clause-ok c mixed = ap (has_text c.args.key.now) c.in-Ok.ensures.ok ∙ put_in c.args.key.now (map string_bytes c.args.mixed.now.keys)
 
 pub returns-in-Ok-clause-wider : goal.returns-in-Ok-clause-wider
-returns-in-Ok-clause-wider c t has = ap (has_text t) c.in-Ok.ensures.ok ∙ put_keeps c.args.key.now t (map string_bytes c.args.wild.now.keys) has
+returns-in-Ok-clause-wider c t has = ap (has_text t) c.in-Ok.ensures.ok ∙ put_keeps c.args.key.now t (map string_bytes c.args.mixed.now.keys) has

@@ -7,8 +7,8 @@ use Rattle.zq_index.proofs.holders.put_new.Goals as goal
 
 pub returns-in-Ok-clause-listed : goal.returns-in-Ok-clause-listed
 returns-in-Ok-clause-listed g c =
-    let texts = map string_bytes c.args.wild.now.keys in
-    let more = map string_bytes c.list_key.new.wild.keys in
+    let texts = map string_bytes c.args.mixed.now.keys in
+    let more = map string_bytes c.list_key.new.mixed.keys in
     let index = texts_of c.args.keys.now.entries in
     subst (λ es. AreListed es more) (sym c.in-Ok.ensures.ok)
     (listed_first g.P.Ord.cmp c.args.key.now c.args.place c.args.info index texts more c.requires.absent c.requires.listed c.list_key.ensures.wider c.in_ok-list_key.ensures.ok)

@@ -7,5 +7,5 @@ abbrev pub invariant-loop-key : goal.invariant-loop-key
 invariant-loop-key g l = record {
   next : (goal.iterator-loop-key g).can_next l.rest;
   finite : (goal.iterator-loop-key g).is_finite l.rest;
-  stands : Stands (g.K.KeyOffers.met l.source l.q) l.q (map string_bytes l.wild.keys) l.keys.entries l.offers.items l.rest;
+  stands : Stands (g.K.KeyOffers.met l.source l.q) l.q (map string_bytes l.mixed.keys) l.keys.entries l.offers.items l.rest;
 }

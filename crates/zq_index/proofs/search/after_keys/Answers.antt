@@ -1,0 +1,14 @@
+use Rattle.std.proofs.Common.{subst, map}
+use Rattle.std.specs.String.{string_bytes}
+use Rattle.zq_index.specs.Skipping.{SkipsUnmixed}
+use Rattle.zq_index.proofs.Skipping.{clear_of}
+use Rattle.zq_index.proofs.search.after_keys.Goals as goal
+
+pub returns-then-branch : goal.returns-then-branch
+returns-then-branch c clear =
+    let key = string_bytes c.args.key.now in
+    let bound = string_bytes c.after_chunk.new.bound in
+    let skips =
+    subst (λ t. SkipsUnmixed c.args.q.now t bound) c.as_str.ensures.value
+    (subst (λ t. SkipsUnmixed t c.as_str.result.now bound) c.as_bytes.ensures.value (c.in_ok-after_chunk.ensures c.if-branch.true)) in
+    clear_of (map string_bytes c.args.mixed.now.keys) c.args.q.now key bound c.args.parting.at c.args.parting.wanted c.requires.fork skips (c.is_clear.ensures clear)
