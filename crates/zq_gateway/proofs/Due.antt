@@ -20,6 +20,7 @@ use Rattle.zq_trees.specs.Tellings.{in_order as ordered}
 use Rattle.zq_hat.specs.declared.types.Declaration.{Declaration}
 use Rattle.zq_hat.specs.Kept.{clashes_at, declaration_at, keys_of_face, registered, unregistered, without_face}
 use Rattle.zq_hat.specs.State.{HatState}
+use Rattle.zq_tables.specs.declared.said.Said.{Said}
 use Rattle.zq_tables.specs.declared.said.Said.TheVariants as said
 use Rattle.zq_tables.specs.Naming.{NamingState, change_naming, naming_at, without_queryable}
 use Rattle.zq_query.specs.Closing.{closing_finals}
@@ -42,6 +43,8 @@ use Rattle.zq_machine.proofs.DueHeard.{due_can, due_keys}
 use Rattle.zq_machine.proofs.Granted.{answers_told, closed_after, closed_step, settles_told, told_by}
 use Rattle.zq_machine.proofs.Lists.{all_weaker}
 use Rattle.zq_machine.proofs.Writing.{after_decided, answers_fully, fully, settles_fully, told_after, with_told}
+use Rattle.zq_machine.specs.Selecting.{full_text, is_unscoped, says_key}
+use Rattle.zq_handing.specs.Reading.{key_refusal}
 use Rattle.zq_handing.specs.Telling.{behind}
 use Rattle.zq_gateway.specs.Making.{IsReached}
 use Rattle.zq_gateway.proofs.Beside.{IsBeside, changed_after, left_beside, released_beside, told_beside}
@@ -186,6 +189,17 @@ closing_due s face r home hats same keys are ts is =
     ∙ (λ j. all_own_told (same j) (change_hat r (without_face face.0) (same j)) keys)
     ∙ (λ j. all_own_told s.core.hats (sym (changed_home face.0 r s.core home (without_face face.0)) j) (keys_are j))
 
+-- ---- what refuses a call for its key
+-- whatever may refuse it behind that
+pub key_refuses : (sd : Said) (behind_key : Option Refusal) (x : Refusal) → key_refusal sd ≡ Some x
+    → cond (is_unscoped sd) (Some refusal.UnknownScope) (cond (not (says_key sd)) (Some refusal.InvalidKeyExpr) behind_key) ≡ Some x
+key_refuses sd behind_key x e = by (is_unscoped sd) (says_key sd) e
+  where
+    by : (a b : Bool) → cond a (Some refusal.UnknownScope) (cond (not b) (Some refusal.InvalidKeyExpr) None) ≡ Some x → cond a (Some refusal.UnknownScope) (cond (not b) (Some refusal.InvalidKeyExpr) behind_key) ≡ Some x
+    by true b f = f
+    by false false f = f
+    by false true f = absurd (let gap : None ≡ Some x = f in cc)
+
 -- ---- what refuses a withdrawal and a declaration, by the hat of the face's region
 pub opened_there : (face : ℕ) (r : Region) (c : Core) → face_region face c ≡ Some r → is_open face c ≡ true
 opened_there face r c = by (at face c.faces)
@@ -200,6 +214,13 @@ closed_there face c = by (at face c.faces)
     by : (x : Option OpenFace) → None ≡ option_map region_in x → is_some x ≡ false
     by None e = refl
     by (Some o) e = absurd (let gap : None ≡ Some o.region = e in cc)
+
+pub declaration_no_key : (s : State) (face : FaceId) (id : ℕ) (opens : is_open face.0 s.core ≡ true) (sd : Said) (info : QueryableInfoType) (node : ℕ) (x : Refusal) → key_refusal sd ≡ Some x
+    → refusal_of s.core (declaring face id sd info node) ≡ Some x
+declaration_no_key s face id opens sd info node x e =
+    let last : Option Refusal = cond (clashes_in face.0 id (full_text sd) (hat_of face.0 s.core)) (Some refusal.IdInUse) None in
+    ap (λ b. cond (not b) (Some refusal.UnknownFace) (cond (is_unscoped sd) (Some refusal.UnknownScope) (cond (not (says_key sd)) (Some refusal.InvalidKeyExpr) last))) opens
+    ∙ key_refuses sd last x e
 
 module _ (s : State) (face : FaceId) (id : ℕ) (r : Region) (home : face_region face.0 s.core ≡ Some r) (h : HatState) (there : hat_at r s.core.hats ≡ Some h) where
   hat_there : hat_of face.0 s.core ≡ Some h

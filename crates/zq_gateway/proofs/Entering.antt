@@ -12,7 +12,6 @@ use Rattle.zq_trees.specs.Nets.{is_zid}
 use Rattle.zq_trees.specs.Tellings.{in_order}
 use Rattle.zq_hat.specs.declared.types.Strategy.{Strategy}
 use Rattle.zq_hat.specs.declared.types.Strategy.TheVariants as strategy
-use Rattle.zq_hat.specs.Changes.{changed_by}
 use Rattle.zq_hat.specs.Regions.{in_routers, strategy_at}
 use Rattle.zq_hat.specs.Routers.{announced, entry_at, retracted, source_at}
 use Rattle.zq_hat.specs.State.{HatState}
@@ -34,8 +33,10 @@ use Rattle.zq_machine.specs.Trees.{own_told_on, source_told, touched, tree_told}
 use Rattle.zq_machine.specs.Writing.{tell}
 use Rattle.zq_tables.specs.Naming.{NamingState}
 use Rattle.zq_handing.specs.Telling.{behind}
-use Rattle.zq_gateway.specs.Routing.{entered, entering, entry_change, key_refusal, other_router}
-use Rattle.zq_gateway.proofs.Due.{changed_home, due, hat_home, key_due, told_answered, told_left}
+use Rattle.zq_handing.specs.Reading.{key_refusal}
+use Rattle.zq_own.specs.Routers.{entered, other_router}
+use Rattle.zq_gateway.specs.Routing.{entering}
+use Rattle.zq_gateway.proofs.Due.{changed_home, due, hat_home, key_due, key_refuses, told_answered, told_left}
 
 -- in a region of routers
 in_routing : {X : Type 0} (k : Strategy) (a b : X) → in_routers k true false ≡ true → in_routers k a b ≡ a
@@ -47,10 +48,6 @@ in_routing strategy.Router a b e = refl
 -- changes that are the same of a region's hat
 same_change : (r : Region) (f g : HatState → HatState) (hats : List (ℕ × HatState)) (h : HatState) → hat_at r hats ≡ Some h → f h ≡ g h → change_hat r f hats ≡ change_hat r g hats
 same_change r f g hats h there same = ap (put_hat r f hats) there ∙ ap (λ x. put_hat r (λ _. x) hats (Some h)) same ∙ ap (put_hat r g hats) (sym there)
-
-changed_is : (router : Zid) (key : List ℕ) (info : Option QueryableInfoType) → changed_by (entry_change router info) key ≡ entered router key info
-changed_is router key None = refl
-changed_is router key (Some i) = refl
 
 -- the router is another one, or none
 lacks_other : (own : Zid) (o : Option Zid) → option_map_or (is_zid own) o true ≡ is_none (other_router own o)
@@ -93,13 +90,7 @@ module _ (c : Core) (face : FaceId) (sd : Said) (info : Option QueryableInfoType
     past_face = refusal_is ∙ ap (λ b. cond (not b) (Some refusal.UnknownFace) behind_face) opens
 
     pub no_key : (r : Refusal) → key_refusal sd ≡ Some r → refusal_of c (entering face sd info node) ≡ Some r
-    no_key r e = past_face ∙ by (is_unscoped sd) (says_key sd) e
-      where
-        by : (a b : Bool) → cond a (Some refusal.UnknownScope) (cond (not b) (Some refusal.InvalidKeyExpr) None) ≡ Some r
-            → cond a (Some refusal.UnknownScope) (cond (not b) (Some refusal.InvalidKeyExpr) (cond (lacks_router face node c) (Some refusal.UnknownRouter) (last_refusal info))) ≡ Some r
-        by true b f = f
-        by false false f = f
-        by false true f = absurd (let gap : None ≡ Some r = f in cc)
+    no_key r e = past_face ∙ key_refuses sd (cond (lacks_router face node c) (Some refusal.UnknownRouter) (last_refusal info)) r e
 
     module _ (key : List ℕ) (says : sd ≡ said.Full key) (valid : is_key key ≡ true) where
       past_key : refusal_of c (entering face sd info node) ≡ cond (lacks_router face node c) (Some refusal.UnknownRouter) (last_refusal info)
@@ -201,14 +192,14 @@ module _ (s : State) (face : FaceId) (sd : Said) (node : ℕ) where
 -- what the body gathers, is answered and leaves
 module _ (s : State) (face : FaceId) (sd : Said) (info : Option QueryableInfoType) (node : ℕ) (opens : is_open face.0 s.core ≡ true) (key : List ℕ) (says : sd ≡ said.Full key) (valid : is_key key ≡ true)
     (r : Region) (home : face_region face.0 s.core ≡ Some r) (h : HatState) (there : hat_at r s.core.hats ≡ Some h) (router : Zid) (is : other_router s.core.config.zid (source_at face.0 node h) ≡ Some router) where
-  pub entering_due : by_router face s.core ≡ true → (hats : List (ℕ × HatState)) → hats ≡ s.core.hats → (tree ts : List TreeTelling) → tree ≡ in_routers (strategy_at h) (to_children (Some face.0) router key info h) []
-      → ts ≡ tree ++ own_told_on hats (change_hat r (changed_by (entry_change router info) key) hats) key → ts ≡ due s.core (entering face sd info node)
-  entering_due routing hats same tree ts tree_are ts_are =
+  pub entering_due : by_router face s.core ≡ true → (hats : List (ℕ × HatState)) → hats ≡ s.core.hats → (ts : List TreeTelling)
+      → ts ≡ in_routers (strategy_at h) (to_children (Some face.0) router key info h) [] ++ own_told_on hats (change_hat r (entered router key info) hats) key → ts ≡ due s.core (entering face sd info node)
+  entering_due routing hats same ts are =
       key_due s (entering face sd info node) r (entered router key info) key
       (touches s.core face sd info node opens key says valid r home h there router is)
-      (changes s.core face sd info node opens key says valid r home h there router is) hats same tree ts
-      (tree_are ∙ tree_is s.core face sd info node opens key says valid r home h there router is routing)
-      (ts_are ∙ ap (λ f. tree ++ own_told_on hats (change_hat r f hats) key) (changed_is router key info))
+      (changes s.core face sd info node opens key says valid r home h there router is) hats same (in_routers (strategy_at h) (to_children (Some face.0) router key info h) []) ts
+      (tree_is s.core face sd info node opens key says valid r home h there router is routing)
+      are
 
   pub entering_faces : (accepted s.core (entering face sd info node)).faces ≡ s.core.faces
   entering_faces = ap (λ (x : Core). x.faces) (entering_core s face sd node info)

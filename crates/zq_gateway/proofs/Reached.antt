@@ -20,7 +20,7 @@ use Rattle.zq_machine.proofs.Agreeing.{some_of}
 use Rattle.zq_machine.proofs.Changing.{itself, number_test}
 use Rattle.zq_machine.proofs.Frame.{config_kept}
 use Rattle.zq_gateway.specs.Making.{Answers, IsReached, MayPerform}
-use Rattle.zq_handing.specs.Seats.{seats}
+use Rattle.zq_own.specs.Seats.{seats}
 
 -- ---- a call more
 state_last : (cs : List Call) (s : State) (c : Call) → state_after s (cs ++ c ∷ []) ≡ after (state_after s cs) c

@@ -1,4 +1,3 @@
 pub mod Undoing
 pub mod Making
-pub mod Networks
 pub mod Routing

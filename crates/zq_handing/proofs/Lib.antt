@@ -1,4 +1,1 @@
 pub mod Telling
-pub mod Seats
-pub mod Lent
-pub mod Valid

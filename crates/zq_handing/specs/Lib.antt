@@ -1,3 +1,3 @@
 pub mod Askers
 pub mod Telling
-pub mod Seats
+pub mod Reading

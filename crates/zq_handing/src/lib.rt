@@ -1,13 +1,11 @@
 //! Whom a call hands what.
 //!
 //! - `read`: what is asked of an expression that was read
-//! - `hats`: the hats of the regions, read and changed
 //! - `select`: which offers a request is handed to
 //! - `write`: the messages, written for their receivers
 //! - `tell`: declarations to faces, and the numbers of keys that they need
 #![tactic(auto)]
 
-pub mod hats;
 pub mod read;
 pub mod select;
 pub mod tell;

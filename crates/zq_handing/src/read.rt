@@ -1,12 +1,19 @@
 //! What is asked of an expression that was read.
-ghost use Rattle.std.specs.Prelude.{◌≡◌};
+ghost use Rattle.std.specs.Prelude.{◌≡◌, true, IfErr, IfOk, Some};
+ghost use Rattle.zq_key.specs.Key.{is_key as key_of};
+ghost use Rattle.zq_tables.specs.declared.said.Said.{Said};
 ghost use Rattle.zq_machine.specs.Deciding.{marks_key};
 ghost use Rattle.zq_machine.specs.Selecting.{full_text, is_unscoped, says_key, says_key_or_nothing};
+ghost use Rattle.zq_handing.specs.Reading.{key_refusal, said_if_any};
 
 use std::alloc::Global;
 use zq_hat::types::FinalMark;
-use zq_key::is_key;
+use zq_key::memory::OutOfMemory;
+use zq_key::message::{FaceId, WireExpr};
 use zq_key::text::Text;
+use zq_key::{Key, KeyError, is_key};
+use zq_machine::call::Refusal;
+use zq_tables::naming::Naming;
 use zq_tables::said::Said;
 
 /// Whether the number of the expression stands for nothing.
@@ -67,5 +74,37 @@ pub fn says_key(said: &Said) -> bool
         Said::Unscoped => false,
         Said::Empty => false,
         Said::Full(text) => is_key(text.as_str()),
+    }
+}
+
+/// The key that an expression says, or what refuses it.
+pub fn key_said(alloc: Global, said: &Said) -> Result<Result<Key, Refusal>, OutOfMemory>
+    ensures says { IfOk result (λ r. IfOk r (λ k. said.now ≡ Said.Full k)) }
+    ensures key { IfOk result (λ r. IfOk r (λ k. key_of k ≡ true)) }
+    ensures refused { IfOk result (λ r. IfErr r (λ x. key_refusal said.now ≡ Some x)) }
+{
+    let text = match said {
+        Said::Unscoped => return Ok(Err(Refusal::UnknownScope)),
+        Said::Empty => return Ok(Err(Refusal::InvalidKeyExpr)),
+        Said::Full(text) => text,
+    };
+    match Key::new(alloc, text.as_str()) {
+        Ok(key) => Ok(Ok(key)),
+        Err(KeyError::Invalid) => Ok(Err(Refusal::InvalidKeyExpr)),
+        Err(KeyError::OutOfMemory) => Err(OutOfMemory),
+    }
+}
+
+/// What an expression says that may be missing.
+pub fn said_or_none(
+    names: &Naming,
+    face: FaceId,
+    wire: &Option<WireExpr>,
+) -> Result<Said, OutOfMemory>
+    ensures { IfOk result (λ s. s ≡ said_if_any names.now face wire.now) }
+{
+    match wire {
+        Some(wire) => names.said(face, wire),
+        None => Ok(Said::Empty),
     }
 }

@@ -3,7 +3,6 @@ ghost use Rattle.std.specs.Prelude.{◌≡◌, ℕ, [], Bool, IfOk, OnOk, Some, 
 ghost use Rattle.std.specs.Map.{values_of};
 ghost use Rattle.zq_key.specs.Key.{is_key as key_of};
 ghost use Rattle.zq_query.specs.Asking.{are_distinct, face_numbers};
-ghost use Rattle.zq_machine.specs.State.{is_region};
 ghost use Rattle.zq_machine.specs.Selecting.{target_of, carries_between, filter_for, offers_to, passes, with_part, zid_of};
 ghost use Rattle.zq_handing.specs.Askers.{asker_of};
 ghost use Rattle.std.specs.Prelude.{filter, fold, map, true};
@@ -16,24 +15,13 @@ use zq_hat::types::{OfferList, QueryTargetQabl};
 use zq_key::items::Items;
 use zq_key::memory::OutOfMemory;
 use zq_key::message::{DEFAULT_NODE_ID, FaceId, NodeId, QueryTarget, Region, Zid};
-use zq_machine::config::SOUTH_IDS;
 use zq_machine::face::OpenFace;
+use zq_own::hats::is_region;
 use zq_route::builder::RouteBuilder;
 use zq_route::filter::InterRegionFilter;
 use zq_route::gateways::Gateways;
 use zq_route::selection::take_final_route;
 use zq_tables::RegionMap;
-
-/// Whether a region of this id can be.
-pub fn is_region(region: Region) -> bool
-    ensures { result ≡ is_region region }
-{
-    match region {
-        Region::North => true,
-        Region::Local => true,
-        Region::South { id, mode: _ } => id <= SOUTH_IDS,
-    }
-}
 
 /// The id of an open face.
 pub fn zid_of(faces: &BTreeMap<u32, OpenFace>, face: FaceId) -> Option<Zid>

@@ -1,12 +1,12 @@
 -- The keys of a region, and what the children of trees are told.
-use Rattle.std.specs.Prelude.{ℕ, List, [], Option, None, if◌then◌else◌}
+use Rattle.std.specs.Prelude.{ℕ, Bool, false, List, [], Option, None, if◌then◌else◌}
 use Rattle.std.specs.Map.{keys_of}
 use Rattle.zq_message.specs.declared.message.QueryableInfoType.{QueryableInfoType}
 use Rattle.zq_message.specs.declared.message.Zid.{Zid}
 use Rattle.zq_trees.specs.declared.types.Network.{Network}
 use Rattle.zq_trees.specs.declared.types.Telling.{Telling}
 use Rattle.zq_trees.specs.declared.types.Tree.{Tree}
-use Rattle.zq_trees.specs.Networks.{Standing, root_told_by, standing_by, trees_told_by}
+use Rattle.zq_trees.specs.Networks.{Standing, any_gives, root_told_by, standing_by, trees_told_by}
 use Rattle.zq_trees.specs.Seating.{faces_by}
 use Rattle.zq_trees.specs.Tellings.{children_told, same_infos}
 use Rattle.zq_hat.specs.Kept.{declared_keys}
@@ -45,3 +45,7 @@ trees_told own old s zs ts = trees_told_by (λ z. standing_of own z s) (λ zid. 
 -- what a network hands in its region, whose hat has it already
 abbrev pub network_told : Standing → Network → HatState → List Telling
 network_told own old s = trees_told own old s s.network.nodes s.network.trees
+
+-- whether a network gives the gateway's own tree a child that it had not: only then its own entries are handed
+abbrev pub gives_own : Network → HatState → Bool
+gives_own net s = in_routers (strategy_at s) (any_gives (λ zid. face_with zid s.faces) s.network net s.own net.nodes net.trees) false

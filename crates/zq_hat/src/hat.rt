@@ -13,13 +13,13 @@ ghost use Rattle.zq_offers.specs.Offers.{offer_cmp, sorted};
 ghost use Rattle.zq_hat.specs.Offers.{declared_offers, offers_beside, offers_of};
 ghost use Rattle.std.specs.BTreeSet.{insert_key};
 ghost use Rattle.zq_trees.specs.Seating.{number, seat_cmp};
-ghost use Rattle.zq_hat.specs.Routers.{announced, context_at, entry_at, losing, networked, noded, retracted, router_offers, source_at, source_for};
+ghost use Rattle.zq_hat.specs.Routers.{announced, context_at, entry_at, face_with, losing, networked, noded, retracted, router_offers, source_at, source_for};
 ghost use Rattle.zq_hat.specs.Changes.{changed_by};
 ghost use Rattle.zq_trees.specs.Entries.{is_one_of, keys_by, staying, without_routers};
 ghost use Rattle.zq_trees.specs.Nets.{is_listed};
-ghost use Rattle.zq_trees.specs.Networks.{Standing};
+ghost use Rattle.zq_trees.specs.Networks.{any_gives};
 ghost use Rattle.zq_trees.specs.Tellings.{same_infos};
-ghost use Rattle.zq_hat.specs.Trees.{network_told, own_told, region_keys, to_children};
+ghost use Rattle.zq_hat.specs.Trees.{gives_own, network_told, own_told, region_keys, to_children};
 ghost use Rattle.zq_hat.specs.Regions.{in_routers, strategy_at};
 
 use crate::face::HatFace;
@@ -151,7 +151,7 @@ impl Hat {
     pub fn is_full(&self) -> bool
         ensures { result ≡ is_full self.now }
     {
-        self.strategy() == Strategy::Client && !self.faces.is_empty()
+        matches!(self.strategy(), Strategy::Client) && !self.faces.is_empty()
     }
 
     fn face(&self, face: FaceId) -> &HatFace
@@ -629,7 +629,7 @@ impl Hat {
     /// Whether the gateway's own tree gets a child by the network that it had not: only then its own
     /// entries are handed.
     pub fn wants_own(&self, net: &Net) -> Result<bool, OutOfMemory>
-        ensures { IfOk result (λ wants. wants ≡ false → (own : Standing) → in_routers (strategy_at self.now) (network_told own self.now.network (networked net.now self.now)) [] ≡ in_routers (strategy_at self.now) (network_told [] self.now.network (networked net.now self.now)) []) }
+        ensures { IfOk result (λ wants. wants ≡ gives_own net.now self.now) }
     {
         match self.strategy() {
             Strategy::Broker | Strategy::Client | Strategy::Peer => Ok(false),
@@ -640,7 +640,7 @@ impl Hat {
     /// The same where the region is one of routers.
     fn own_gives(&self, net: &Net) -> Result<bool, OutOfMemory>
         requires { strategy_at self.now ≡ Strategy.Router }
-        ensures { IfOk result (λ wants. wants ≡ false → (own : Standing) → network_told own self.now.network (networked net.now self.now) ≡ network_told [] self.now.network (networked net.now self.now)) }
+        ensures { IfOk result (λ gives. gives ≡ any_gives (λ zid. face_with zid self.now.faces) self.now.network net.now self.now.own net.now.nodes net.now.trees) }
     {
         let gives = gives(self.alloc, &self.net, net, &self.seats, self.own)?;
         Ok(gives)

@@ -14,7 +14,7 @@ pub use zq_trees::types::{
 };
 
 /// How a region keeps and offers queryables.
-#[derive(Clone, Copy, Debug, PartialEq, Eq)]
+#[derive(Clone, Copy)]
 pub enum Strategy {
     Broker,
     Client,

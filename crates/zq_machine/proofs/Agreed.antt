@@ -12,7 +12,6 @@ use Rattle.zq_message.specs.declared.message.Region.{Region}
 use Rattle.zq_message.specs.declared.message.Zid.{Zid}
 use Rattle.zq_regions.specs.Region.{region_index}
 use Rattle.zq_hat.specs.State.{FaceState, HatState}
-use Rattle.zq_hat.proofs.Routing.{registered_is}
 use Rattle.zq_hat.specs.Kept.{declaration, face_at, has_face, is_apart, new_hat, registered, unregistered, without_face}
 use Rattle.zq_hat.specs.Marks.{finalized}
 use Rattle.zq_hat.specs.declared.types.Strategy.{Strategy}
@@ -98,9 +97,8 @@ module _ (s : State) (i : IsSound s) (t : IsTied s) where
       let x : (o : OpenFace) × (at face.0 s.core.faces ≡ Some o) = opened_face face.0 passed.0 in
       let hat : hat_of face.0 s.core ≡ hat_at x.0.region s.core.hats = ap (option_and_then (λ (o : OpenFace). hat_at o.region s.core.hats)) x.1 in
       in_its_hat face.0 (registered face.0 id (full_text sd) node info) s.core.faces _ x
-      (subst (λ g. Tied s.core.faces (change_hat x.0.region g s.core.hats) (change_naming face.0 (with_queryable id (full_text sd)) s.names)) (sym (registered_is face.0 id (full_text sd) node info))
       (declared_tied s.core.faces s.core.hats s.names t face.0 x.0 x.1 id (full_text sd) info
-      (λ k f k_at f_at. sym (ap (λ y. option_map_or (is_apart (full_text sd)) (option_and_then (declaration id) y) false) f_at) ∙ sym (ap (clashes_in face.0 id (full_text sd)) (hat ∙ k_at)) ∙ passed.1.1.1.0)))
+      (λ k f k_at f_at. sym (ap (λ y. option_map_or (is_apart (full_text sd)) (option_and_then (declaration id) y) false) f_at) ∙ sym (ap (clashes_in face.0 id (full_text sd)) (hat ∙ k_at)) ∙ passed.1.1.1.0))
   granted_tied (withdrawing face id) h =
       let x : (o : OpenFace) × (at face.0 s.core.faces ≡ Some o) = opened_face face.0 (all_passed (causes s.core (withdrawing face id)) h).0 in
       in_its_hat face.0 (unregistered face.0 id) s.core.faces _ x (withdrawn_tied s.core.faces s.core.hats s.names t face.0 x.0 x.1 id)

@@ -14,7 +14,6 @@ use Rattle.zq_message.specs.declared.message.Zid.{Zid}
 use Rattle.zq_regions.specs.Region.{region_index}
 use Rattle.zq_hat.specs.State.{HatState}
 use Rattle.zq_hat.specs.declared.types.FaceRecord.{FaceRecord}
-use Rattle.zq_hat.proofs.Routing.{registered_at}
 use Rattle.zq_hat.specs.Kept.{has_face, new_hat, registered, unregistered, with_face_opened, without_face}
 use Rattle.zq_hat.specs.Marks.{finalized}
 use Rattle.zq_hat.specs.declared.types.Strategy.{Strategy}
@@ -162,7 +161,7 @@ module _ (told : ℕ) (first : List (ℕ × HatState)) (c : Core) (a : AreHats t
   accepted_hats (closing face) = in_its_hat face.0 (without_face face.0) (λ h. refl)
   accepted_hats (naming face id s x) = a
   accepted_hats (unnaming face id x) = a
-  accepted_hats (declaring face id s i n) = in_its_hat face.0 (registered face.0 id (full_text s) n i) (λ h. ap bare (registered_at face.0 id (full_text s) n i h))
+  accepted_hats (declaring face id s i n) = in_its_hat face.0 (registered face.0 id (full_text s) n i) (λ h. refl)
   accepted_hats (withdrawing face id) = in_its_hat face.0 (unregistered face.0 id) (λ h. refl)
   accepted_hats (asking face s r now) = a
   accepted_hats (replying face s r) = a

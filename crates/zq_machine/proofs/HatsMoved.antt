@@ -14,7 +14,6 @@ use Rattle.zq_hat.specs.declared.types.Declaration.{Declaration}
 use Rattle.zq_hat.specs.declared.types.FaceRecord.{FaceRecord}
 use Rattle.zq_hat.specs.declared.types.FinalMark.{FinalMark}
 use Rattle.zq_hat.specs.declared.types.FinalMark.TheVariants as mark
-use Rattle.zq_hat.proofs.Routing.{registered_at}
 use Rattle.zq_hat.specs.Kept.{face_at, has_any, has_face, is_full, change_face, declare, withdraw, registered, unregistered, declaration, declaration_at, is_apart, new_face, with_face_opened, without_face}
 use Rattle.zq_hat.specs.Marks.{finalized, marked}
 use Rattle.zq_hat.specs.Moved.{Keeps, move_declared, move_face, move_hat, move_mark}
@@ -86,10 +85,7 @@ module _ (φ : List ℕ → List ℕ) where
     finalized_moved n m set s = face_changed n (marked (move_mark φ m) set) (marked m set) (mark_moved m set) s
 
   pub registered_moved : (n id : ℕ) (key : List ℕ) (node : ℕ) (i : QueryableInfoType) (s : HatState) → registered n id (φ key) node i (move_hat φ s) ≡ move_hat φ (registered n id key node i s)
-  registered_moved n id key node i s =
-      registered_at n id (φ key) node i (move_hat φ s)
-      ∙ face_changed n (declare id (φ key) i) (declare id key i) (declare_moved id key i) s
-      ∙ ap (move_hat φ) (sym (registered_at n id key node i s))
+  registered_moved n id key node i s = face_changed n (declare id (φ key) i) (declare id key i) (declare_moved id key i) s
 
   pub unregistered_moved : (n id : ℕ) (s : HatState) → unregistered n id (move_hat φ s) ≡ move_hat φ (unregistered n id s)
   unregistered_moved n id s = face_changed n (withdraw id) (withdraw id) (withdraw_moved id) s

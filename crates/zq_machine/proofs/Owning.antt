@@ -41,7 +41,6 @@ use Rattle.zq_trees.specs.Nets.{is_listed}
 use Rattle.zq_hat.specs.Routers.{announced, losing, networked, noded, retracted, source_at}
 use Rattle.zq_hat.specs.State.{FaceState, HatState}
 use Rattle.zq_hat.specs.declared.types.FaceRecord.{FaceRecord}
-use Rattle.zq_hat.proofs.Routing.{registered_at}
 use Rattle.zq_machine.specs.declared.call.Call.{Call}
 use Rattle.zq_machine.specs.Configs.{Settings}
 use Rattle.zq_machine.specs.Machine.{accepted_state, after, state_after}
@@ -271,7 +270,7 @@ touches_all c used (closing face) h key off k =
 touches_all c used (declaring face id s i node) h key off k =
     let passed = all_passed (causes c (declaring face id s i node)) h in
     same_view_of (on_key key) face.0 (registered face.0 id (full_text s) node i) c
-    (λ x there. ap (on_key key) (registered_at face.0 id (full_text s) node i x) ∙ declared_same key face.0 id (full_text s) i x (one_off key (full_text s) off) (sym (ap (clashes_in face.0 id (full_text s)) there) ∙ passed.1.1.1.0)) k
+    (λ x there. declared_same key face.0 id (full_text s) i x (one_off key (full_text s) off) (sym (ap (clashes_in face.0 id (full_text s)) there) ∙ passed.1.1.1.0)) k
 touches_all c used (withdrawing face id) h key off k =
     same_view_of (on_key key) face.0 (unregistered face.0 id) c
     (λ x there. withdrawn_same key face.0 id x (λ d found. one_off key d.key (sym (ap (λ y. list_any (λ k. bytes_eq k key) (option_to_list (option_map (λ (z : Declaration). z.key) y))) (ap (option_and_then (declaration_at face.0 id)) there ∙ found)) ∙ off))) k

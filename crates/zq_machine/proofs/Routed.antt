@@ -24,7 +24,6 @@ use Rattle.zq_trees.specs.Entries.{staying}
 use Rattle.zq_trees.specs.Nets.{is_listed}
 use Rattle.zq_hat.specs.Routers.{announced, networked, retracted, noded, source_at, zid_at}
 use Rattle.zq_hat.specs.State.{FaceState, HatState}
-use Rattle.zq_hat.proofs.Routing.{registered_at}
 use Rattle.zq_tables.specs.Naming.{face_naming, said_of}
 use Rattle.zq_machine.specs.declared.call.Call.{Call}
 use Rattle.zq_machine.specs.declared.call.Call.TheVariants as call
@@ -149,7 +148,7 @@ module _ (config : Settings) (s : State) (i : InOrder config s) (place : ℕ) wh
 
     declared_makes : (id : ℕ) (w : WireExpr) (info : QueryableInfoType) (node : ℕ) → by_router f s.core ≡ false → Makes (call.DeclareQueryable f id w info node) (declaring f id (said f w s) info node)
     declared_makes id w info node routes =
-        same_view_of routed f.0 (registered f.0 id (full_text (said f w s)) node info) s.core (λ h there. ap routed (registered_at f.0 id (full_text (said f w s)) node info h)) place
+        same_view_of routed f.0 (registered f.0 id (full_text (said f w s)) node info) s.core (λ h there. refl) place
         ∙ same_map was
         ∙ (λ j. option_map (λ (r : Routed). cond (sym (region_says config 0 s i f x false routes) j && (region_index x.0.region == place)) (option_map_or (with_routed (text_said st w) info r) (zid_at node st.kept) r) r) was)
         ∙ sym (by_face (announced_at config place w info node))

@@ -16,7 +16,6 @@ use Rattle.zq_names.specs.Texts.{nonwild}
 use Rattle.zq_regions.specs.Region.{region_index}
 use Rattle.zq_ids.specs.declared.decl.DeclKey.{DeclKey}
 use Rattle.zq_hat.specs.State.{FaceState, HatState}
-use Rattle.zq_hat.proofs.Routing.{registered_is}
 use Rattle.zq_hat.specs.Kept.{change_face, declare, face_at, new_face, withdraw, without_face}
 use Rattle.zq_hat.specs.Marks.{marked}
 use Rattle.zq_hat.specs.declared.types.Strategy.{Strategy}
@@ -435,11 +434,10 @@ module _ (config : Settings) (q : ℕ) (s : State) (i : InOrder config s) where
       by false e k =
           let x = opened_face s i.sound i.tied f.0 (all_passed (causes s.core (declaring f id (said f w s) info node)) k).0 in
           let was = before s.core.faces s.core.hats s.names i.tied f.0 x.0 x.1 in
-          subst (λ change. Makes c (its_hats change (at f.0 s.core.faces)) (change_naming f.0 g s.names) f) (sym (registered_is f.0 id text node info))
-          (kept_stands f x c (declare id text info) (change_naming f.0 g s.names) (g (keys f x))
+          kept_stands f x c (declare id text info) (change_naming f.0 g s.names) (g (keys f x))
           (naming_here s.core.faces s.core.hats s.names i.tied f.0 x.0 x.1 g) (naming_other s.core.faces s.core.hats s.names i.tied f.0 x.0 x.1 g q)
           (ap (λ (m : FaceNaming). record { opened = x.0; numbers = (keys f x).numbers; kept = declare id (full_text (said_of m w)) info (keeps f x) }) (reads f x)
-          ∙ sym (ap (λ b. cond b was (with_kept was (declare id (text_said was w) info was.kept))) (region_says f x false e))))
+          ∙ sym (ap (λ b. cond b was (with_kept was (declare id (text_said was w) info was.kept))) (region_says f x false e)))
   granted_stands (call.UndeclareQueryable f id w node) h = by (by_router f s.core) refl h
     where
       c : Call

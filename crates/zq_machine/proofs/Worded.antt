@@ -35,7 +35,6 @@ use Rattle.zq_trees.specs.Entries.{Entries, Routed, entries_at, is_by, routed_wi
 use Rattle.zq_trees.specs.Nets.{is_listed}
 use Rattle.zq_hat.specs.Routers.{announced, networked, noded, retracted, source_at}
 use Rattle.zq_hat.specs.State.{FaceState, HatState}
-use Rattle.zq_hat.proofs.Routing.{registered_at}
 use Rattle.zq_tables.specs.declared.said.Said.{Said}
 use Rattle.zq_tables.specs.declared.said.Said.TheVariants as said
 use Rattle.zq_machine.specs.declared.config.Entry.{Entry}
@@ -216,7 +215,7 @@ accepted_worded c (closing face) h all = each_keeps_in_its_hat IsWorded face.0 (
 accepted_worded c (declaring face id s i node) h all =
     let some = said_key s (all_passed (causes c (declaring face id s i node)) h).1.1.0 in
     each_keeps_in_its_hat IsWorded face.0 (registered face.0 id (full_text s) node i) c
-    (λ x w. subst IsWorded (sym (registered_at face.0 id (full_text s) node i x)) (face_worded face.0 (declare id (full_text s) i) (λ f v. each_in Any (λ (d : Declaration). IsKey d.key) nat_cmp f.declared id (record { key = full_text s; info = i }) v tt some) x w)) all
+    (λ x w. face_worded face.0 (declare id (full_text s) i) (λ f v. each_in Any (λ (d : Declaration). IsKey d.key) nat_cmp f.declared id (record { key = full_text s; info = i }) v tt some) x w) all
 accepted_worded c (withdrawing face id) h all =
     each_keeps_in_its_hat IsWorded face.0 (unregistered face.0 id) c (face_worded face.0 (withdraw id) (λ f v. each_out Any (λ (d : Declaration). IsKey d.key) (is_at (nat_cmp id)) f.declared v)) all
 accepted_worded c (finalizing face m set) h all = each_keeps_in_its_hat IsWorded face.0 (finalized face.0 m set) c (face_worded face.0 (marked m set) (marked_worded m set)) all

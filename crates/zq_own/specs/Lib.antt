@@ -1,1 +1,4 @@
 pub mod Own
+pub mod Seats
+pub mod Routers
+pub mod Networks

@@ -1,10 +1,16 @@
-//! The gateway's own entries in regions of routers: what the other regions have on a key, merged.
-//! Nothing is kept of them: they are looked up, as they are or as a change of one region would make
-//! them.
+//! The hats of the regions, and the gateway's own entries in regions of routers: what the other
+//! regions have on a key, merged. Nothing is kept of own entries: they are looked up, as they are or
+//! as a change of one region would make them.
 //!
+//! - `hats`: the hats of the regions, read and changed
 //! - `entries`: own entries, looked up
 //! - `telling`: whom a change of them is told
+//! - `routers`: what entries of routers change and tell
+//! - `networks`: what networks tell
 #![tactic(auto)]
 
 pub mod entries;
+pub mod hats;
+pub mod networks;
+pub mod routers;
 pub mod telling;

@@ -1,19 +1,22 @@
 //! Whom a change of the gateway's own entries is told: the children of its own trees.
 #![tactic(auto, using(crate::proofs::Changed::same_places))]
 
-ghost use Rattle.std.specs.Prelude.{◌≡◌, ◌++◌, Some, OnOk};
+ghost use Rattle.std.specs.Prelude.{◌≡◌, ◌++◌, true, Some, OnOk};
 ghost use Rattle.std.specs.List.{flat_map};
 ghost use Rattle.zq_regions.specs.Region.{region_index};
 ghost use Rattle.zq_regions.specs.RegionMap.{GoByIndex};
-ghost use Rattle.zq_machine.specs.State.{hat_at, is_routing};
+ghost use Rattle.zq_hat.specs.Kept.{has_face, keys_of_face, without_face};
+ghost use Rattle.zq_machine.specs.State.{change_hat, hat_at};
+ghost use Rattle.zq_machine.specs.Trees.{all_own_told};
 ghost use Rattle.zq_own.specs.Own.{has_other_routing, told_as, told_of};
 
 use crate::entries::{NewInfo, own_entry, own_entry_as};
+use crate::hats::is_routing;
 use zq_hat::hat::Hat;
 use zq_hat::strategy::same_region;
-use zq_hat::types::{Change, Strategy, TellingList};
+use zq_hat::types::{Change, TellingList};
 use zq_key::memory::OutOfMemory;
-use zq_key::message::Region;
+use zq_key::message::{FaceId, Region};
 use zq_key::text::Text;
 use zq_tables::RegionMap;
 
@@ -27,18 +30,8 @@ fn add_all(told: &mut TellingList, more: TellingList) -> Result<(), OutOfMemory>
     Ok(())
 }
 
-// Whether the hat's region is one of routers.
-fn is_routing(hat: &Hat) -> bool
-    ensures { result ≡ is_routing hat.now }
-{
-    match hat.strategy() {
-        Strategy::Broker | Strategy::Client | Strategy::Peer => false,
-        Strategy::Router => true,
-    }
-}
-
-// Whether a region but this one is one of routers.
-fn has_other_routing(hats: &RegionMap<Hat>, region: Region) -> bool
+/// Whether a region but this one is one of routers.
+pub fn has_other_routing(hats: &RegionMap<Hat>, region: Region) -> bool
     ensures value { result ≡ has_other_routing (region_index region) hats.now }
     ensures ordered { GoByIndex hats.now }
 {
@@ -108,7 +101,7 @@ pub fn tell_change(
     tell_on(hats, new, key, told)
 }
 
-/// The same of each of the keys. Where no other region is one of routers, they are not looked at.
+/// The same of each of the keys.
 pub fn tell_changes(
     hats: &RegionMap<Hat>,
     changed: Region,
@@ -120,11 +113,28 @@ pub fn tell_changes(
     requires { hat_at changed hats.now ≡ Some hat.now }
     ensures { OnOk result (told.new ≡ told.old ++ flat_map (told_of hats.now changed change.now) keys.now) }
 {
-    if !has_other_routing(hats, changed) {
-        return Ok(());
-    }
     for key in keys {
         tell_change(hats, changed, hat, change, key.as_str(), told)?;
     }
     Ok(())
+}
+
+/// The same of each key that a face declared, where the face leaves. Where no other region is one of
+/// routers, its keys are not copied.
+pub fn tell_left(
+    hats: &RegionMap<Hat>,
+    region: Region,
+    hat: &Hat,
+    face: FaceId,
+    told: &mut TellingList,
+) -> Result<(), OutOfMemory>
+    requires there { hat_at region hats.now ≡ Some hat.now }
+    requires face { has_face face.0 hat.now ≡ true }
+    ensures { OnOk result (told.new ≡ told.old ++ all_own_told hats.now (change_hat region (without_face face.0) hats.now) (keys_of_face face.0 hat.now)) }
+{
+    if !has_other_routing(hats, region) {
+        return Ok(());
+    }
+    let keys = hat.keys_of(face)?;
+    tell_changes(hats, region, hat, &Change::Left(face), keys.as_slice(), told)
 }

@@ -7,21 +7,21 @@ ghost use Rattle.zq_machine.specs.State.{at, change_hat, joined};
 ghost use Rattle.zq_machine.specs.TextCalls.{closing, opening};
 ghost use Rattle.zq_tables.specs.Naming.{no_keys};
 ghost use Rattle.zq_gateway.specs.Making.{IsReached, Settles};
-ghost use Rattle.zq_handing.specs.Seats.{seats};
+ghost use Rattle.zq_own.specs.Seats.{seats};
 
 use crate::gateway::tables::Tables;
 use std::collections::BTreeMap;
-use zq_handing::hats;
+use zq_own::hats;
 use zq_handing::tell::{tell, untell};
 use zq_handing::write::written_finals;
 use zq_hat::hat::Hat;
-use zq_hat::types::{Change, FaceRecord};
+use zq_hat::types::FaceRecord;
 use zq_key::items::Items;
 use zq_key::memory::OutOfMemory;
 use zq_key::message::FaceId;
 use zq_machine::call::{Opening, Outcome, Refusal, Step};
 use zq_machine::face::OpenFace;
-use zq_own::telling::tell_changes;
+use zq_own::telling::tell_left;
 use zq_tables::RegionMap;
 use zq_tables::naming::Naming;
 
@@ -117,10 +117,8 @@ impl Tables {
         let finals = written_finals(self.alloc, last.as_slice())?;
         let count = finals.len();
         let hat = hats::home(&self.hats, region, face);
-        let keys = hat.keys_of(face)?;
         let mut told = Items::new(self.alloc);
-        let change = Change::Left(face);
-        tell_changes(&self.hats, region, hat, &change, keys.as_slice(), &mut told)?;
+        tell_left(&self.hats, region, hat, face, &mut told)?;
         let handed = tell(
             self.alloc,
             &self.faces,

@@ -11,18 +11,17 @@ ghost use Rattle.zq_handing.specs.Telling.{behind, untold};
 ghost use Rattle.zq_machine.specs.declared.call.Call.TheVariants as call;
 ghost use Rattle.zq_machine.specs.TextCalls.{declaring, finalizing, withdrawing};
 ghost use Rattle.zq_gateway.specs.Making.{IsReached, Performs, Settles};
-ghost use Rattle.zq_gateway.specs.Routing.{said_by};
 ghost use Rattle.zq_gateway.specs.Undoing.{taken_back};
 
 use crate::gateway::tables::Tables;
-use zq_handing::hats;
-use zq_handing::read::marks_key;
+use zq_own::hats;
+use zq_handing::read::{key_said, marks_key, said_or_none};
 use zq_handing::tell::{tell, untell};
 use zq_hat::types::{Change, FinalMark, TellingList};
 use zq_key::items::Items;
 use zq_key::memory::OutOfMemory;
 use zq_key::message::{FaceId, QueryableInfoType, WireExpr};
-use zq_key::{Key, KeyError};
+use zq_key::Key;
 use zq_machine::call::{Refusal, Step};
 use zq_machine::handed::HandedList;
 use zq_own::telling::tell_change;
@@ -35,16 +34,6 @@ fn take_back(names: &mut Naming, face: FaceId, id: u32, fresh: bool)
 {
     if fresh {
         names.release_queryable(face, id);
-    }
-}
-
-// What an expression says that may be missing.
-fn said_or_none(names: &Naming, face: FaceId, wire: &Option<WireExpr>) -> Result<Said, OutOfMemory>
-    ensures { IfOk result (λ s. s ≡ said_by names.now face wire.now) }
-{
-    match wire {
-        Some(wire) => names.said(face, wire),
-        None => Ok(Said::Empty),
     }
 }
 
@@ -64,15 +53,9 @@ impl Tables {
         let Some(region) = self.region_of(face) else {
             return Ok(self.refused(Refusal::UnknownFace));
         };
-        let text = match said {
-            Said::Unscoped => return Ok(self.refused(Refusal::UnknownScope)),
-            Said::Empty => return Ok(self.refused(Refusal::InvalidKeyExpr)),
-            Said::Full(text) => text,
-        };
-        let key = match Key::new(self.alloc, text.as_str()) {
+        let key = match key_said(self.alloc, said)? {
             Ok(key) => key,
-            Err(KeyError::Invalid) => return Ok(self.refused(Refusal::InvalidKeyExpr)),
-            Err(KeyError::OutOfMemory) => return Err(OutOfMemory),
+            Err(refusal) => return Ok(self.refused(refusal)),
         };
         let hat = hats::home(&self.hats, region, face);
         if hat.clashes(face, id, key.as_str()) {

@@ -6,11 +6,11 @@ ghost use Rattle.zq_machine.specs.Selecting.{select_for, target_of};
 ghost use Rattle.zq_machine.specs.State.{at};
 ghost use Rattle.zq_machine.specs.TextCalls.{asking};
 ghost use Rattle.zq_gateway.specs.Making.{IsReached, Settles};
-ghost use Rattle.zq_handing.specs.Seats.{seats};
+ghost use Rattle.zq_own.specs.Seats.{seats};
 
 use crate::gateway::tables::Tables;
 use std::alloc::{AllocError, Global};
-use zq_handing::hats;
+use zq_own::hats;
 use zq_handing::read::{full_text, into_text, says_key};
 use zq_handing::select::Asker;
 use zq_handing::write::written_requests;

@@ -7,12 +7,12 @@ ghost use Rattle.zq_machine.specs.Machine.{after, done, refused_step, step};
 ghost use Rattle.zq_machine.specs.State.{at, face_region, is_open, opening_state};
 ghost use Rattle.zq_machine.specs.TextCalls.{listing};
 ghost use Rattle.zq_gateway.specs.Making.{IsReached, Performs, MayPerform, Settles};
-ghost use Rattle.zq_handing.specs.Seats.{seats};
+ghost use Rattle.zq_own.specs.Seats.{seats};
 
 use std::alloc::Global;
 use std::collections::BTreeMap;
 use std::marker::Model;
-use zq_handing::hats;
+use zq_own::hats;
 use zq_handing::write::written_final;
 use zq_hat::hat::Hat;
 use zq_hat::types::FinalMark;

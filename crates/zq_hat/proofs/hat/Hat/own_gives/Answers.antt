@@ -1,30 +1,22 @@
-use Rattle.std.proofs.Common.{◌≡◌, ◌∙◌, [], ap, subst, sym, ℕ, Option}
+use Rattle.std.proofs.Common.{◌≡◌, ◌∙◌, ap, subst, ℕ, Option}
 use Rattle.zq_message.specs.declared.message.Zid.{Zid}
-use Rattle.zq_trees.specs.Entries.{staying}
-use Rattle.zq_trees.specs.Nets.{is_listed}
-use Rattle.zq_trees.specs.Networks.{network_told_by, standing_by}
+use Rattle.zq_trees.specs.Networks.{any_gives}
 use Rattle.zq_trees.specs.Seating as seat
-use Rattle.zq_trees.proofs.Handing.{same_told}
 use Rattle.zq_hat.specs.declared.types.Strategy.{Strategy}
-use Rattle.zq_hat.specs.Regions.{in_routers, strategy_at}
+use Rattle.zq_hat.specs.Regions.{strategy_at}
 use Rattle.zq_hat.specs.Routers.{face_with}
 use Rattle.zq_hat.specs.State.{HatState}
 use Rattle.zq_hat.specs.Tied.{IsSeated}
-use Rattle.zq_hat.specs.Trees.{network_told}
 use Rattle.zq_hat.proofs.Seated.{seats_are}
 use Rattle.zq_hat.proofs.hat.Hat.own_gives.Goals as goal
 
 pub returns : goal.returns
-returns c = λ no own.
+returns c =
     let i = c.self.inside in
     let net = c.args.net.now in
-    let now = c.args.self.now in
     let routers = ap strategy_at c.self.view_is ∙ c.requires in
     let seated = subst (λ (k : Strategy). IsSeated k i.faces.entries i.seats) routers c.self.invariant.seated in
     let found : (λ (z : Zid). seat.seated z i.seats) ≡ (λ (z : Zid). face_with z i.faces.entries) = λ j z. seats_are z i.faces.entries i.seats c.self.invariant.tied.numbers seated j in
-    let put : HatState → HatState = λ s. record s { network = net; entries = staying (is_listed net) s.entries } in
-    let stays = staying (is_listed net) i.entries in
-    let quiet = same_told i.own own [] stays (λ (z : Zid). seat.seated z i.seats) i.net net net.nodes net.trees (sym c.in_ok-gives.ensures ∙ no) in
-    let here = subst (λ (face : Zid → Option ℕ). network_told_by (standing_by i.own own stays) face i.net net ≡ network_told_by (standing_by i.own [] stays) face i.net net) found quiet in
-    let seen = subst (λ (s : HatState). network_told own s.network (put s) ≡ network_told [] s.network (put s)) c.self.view_is here in
-    subst (λ (k : Strategy). network_told own now.network (in_routers k (put now) now) ≡ network_told [] now.network (in_routers k (put now) now)) (sym c.requires) seen
+    c.in_ok-gives.ensures
+    ∙ ap (λ (face : Zid → Option ℕ). any_gives face i.net net i.own net.nodes net.trees) found
+    ∙ ap (λ (s : HatState). any_gives (λ (z : Zid). face_with z s.faces) s.network net s.own net.nodes net.trees) c.self.view_is

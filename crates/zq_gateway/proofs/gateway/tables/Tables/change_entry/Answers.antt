@@ -5,7 +5,6 @@ use Rattle.zq_message.specs.declared.message.QueryableInfoType.{QueryableInfoTyp
 use Rattle.zq_message.specs.declared.message.Zid.{Zid}
 use Rattle.zq_key.specs.Key.{is_key}
 use Rattle.zq_trees.specs.Tellings.{in_order}
-use Rattle.zq_hat.specs.Changes.{changed_by}
 use Rattle.zq_hat.specs.Regions.{in_routers, strategy_at}
 use Rattle.zq_hat.specs.Routers.{entry_at, source_at}
 use Rattle.zq_hat.specs.Trees.{to_children}
@@ -20,7 +19,9 @@ use Rattle.zq_machine.specs.State.{State, change_hat, face_region, hat_at, is_op
 use Rattle.zq_machine.specs.Trees.{own_told_on}
 use Rattle.zq_machine.specs.Writing.{tell}
 use Rattle.zq_handing.specs.Telling.{behind, untold}
-use Rattle.zq_gateway.specs.Routing.{entered, entering, key_refusal, other_router}
+use Rattle.zq_handing.specs.Reading.{key_refusal}
+use Rattle.zq_own.specs.Routers.{entered, other_router}
+use Rattle.zq_gateway.specs.Routing.{entering}
 use Rattle.zq_gateway.proofs.Due.{closed_there, due, due_of_keys, opened_there, refused_answered, refused_left}
 use Rattle.zq_gateway.proofs.Entering.{entering_answered, entering_due, entering_faces, entering_left, entry_fits, no_entry, no_key, no_router, not_open}
 use Rattle.zq_gateway.proofs.gateway.tables.Tables.change_entry.Goals as goal
@@ -121,9 +122,8 @@ tell-requires c =
     let lacks : (is_none info && is_none (entry_at router.0 key h)) ≡ false = ap (λ k. is_none info && is_none (entry_at router.0 k h)) (sym c.as_str.ensures.text) ∙ sym c.lacks_entry.ensures ∙ c.if-lacks_entry.false in
     let has : info ≡ None → is_none (entry_at router.0 key h) ≡ false = λ e. ap (λ (o : Option QueryableInfoType). is_none o && is_none (entry_at router.0 key h)) (sym e) ∙ lacks in
     let fits : refusal_of s.core (entering face sd info node) ≡ None = entry_fits s.core face sd info node opens key says valid r home h there router is has in
-    let tree : c.in_ok-told.told ≡ in_routers (strategy_at h) (to_children (Some face.0) router key info h) [] = c.in_ok-told.ensures ∙ ap (λ k. in_routers (strategy_at h) (to_children (Some face.0) router k info h) []) c.as_str-2.ensures.text in
-    let told = c.in_ok-tell_change.ensures ∙ (λ j. c.in_ok-told.told ++ own_told_on i.hats (change_hat r (changed_by (c.entry_change-change.ensures j) (c.as_str-3.ensures.text j)) i.hats) (c.as_str-3.ensures.text j)) in
-    let are : c.as_slice.result.now ≡ due s.core (entering face sd info node) = c.as_slice.ensures ∙ entering_due s face sd info node opens key says valid r home h there router is c.requires.routing i.hats hats c.in_ok-told.told c.tell_change.new.told tree told in
+    let told = c.in_ok-told.ensures ∙ ap (λ k. in_routers (strategy_at h) (to_children (Some face.0) router k info h) [] ++ own_told_on i.hats (change_hat r (entered router k info) i.hats) k) c.as_str-2.ensures.text in
+    let are : c.as_slice.result.now ≡ due s.core (entering face sd info node) = c.as_slice.ensures ∙ entering_due s face sd info node opens key says valid r home h there router is c.requires.routing i.hats hats c.in_ok-told.told told in
     due_of_keys s c.requires.reached (entering face sd info node) fits c.as_slice.result.now are
 
 pub put_entry-requires : goal.put_entry-requires
@@ -152,9 +152,8 @@ returns-in-Ok-put_entry c =
     let lacks : (is_none info && is_none (entry_at router.0 key h)) ≡ false = ap (λ k. is_none info && is_none (entry_at router.0 k h)) (sym c.as_str.ensures.text) ∙ sym c.lacks_entry.ensures ∙ c.if-lacks_entry.false in
     let has : info ≡ None → is_none (entry_at router.0 key h) ≡ false = λ e. ap (λ (o : Option QueryableInfoType). is_none o && is_none (entry_at router.0 key h)) (sym e) ∙ lacks in
     let fits : refusal_of s.core (entering face sd info node) ≡ None = entry_fits s.core face sd info node opens key says valid r home h there router is has in
-    let tree : c.in_ok-told.told ≡ in_routers (strategy_at h) (to_children (Some face.0) router key info h) [] = c.in_ok-told.ensures ∙ ap (λ k. in_routers (strategy_at h) (to_children (Some face.0) router k info h) []) c.as_str-2.ensures.text in
-    let told = c.in_ok-tell_change.ensures ∙ (λ j. c.in_ok-told.told ++ own_told_on i.hats (change_hat r (changed_by (c.entry_change-change.ensures j) (c.as_str-3.ensures.text j)) i.hats) (c.as_str-3.ensures.text j)) in
-    let are : c.as_slice.result.now ≡ due s.core (entering face sd info node) = c.as_slice.ensures ∙ entering_due s face sd info node opens key says valid r home h there router is c.requires.routing i.hats hats c.in_ok-told.told c.tell_change.new.told tree told in
+    let told = c.in_ok-told.ensures ∙ ap (λ k. in_routers (strategy_at h) (to_children (Some face.0) router k info h) [] ++ own_told_on i.hats (change_hat r (entered router k info) i.hats) k) c.as_str-2.ensures.text in
+    let are : c.as_slice.result.now ≡ due s.core (entering face sd info node) = c.as_slice.ensures ∙ entering_due s face sd info node opens key says valid r home h there router is c.requires.routing i.hats hats c.in_ok-told.told told in
     let t = entering face sd info node in
     let ts = c.as_slice.result.now in
     let faces = entering_faces s face sd info node opens key says valid r home h there router is in

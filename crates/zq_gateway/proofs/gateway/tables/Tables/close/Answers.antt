@@ -26,9 +26,10 @@ tell-requires c =
     let face = c.args.face in
     let r = c.in-Some.region in
     let home : face_region face.0 s.core ≡ Some r = sym c.in-Some.ensures.region in
-    let told = c.in_ok-tell_changes.ensures ∙ ap (λ (l : List TreeTelling). l ++ all_own_told i.hats (change_hat r (without_face face.0) i.hats) c.as_slice-2.result.now) c.new-told.ensures in
-    let same = closing_due s face r home i.hats (ap (λ (x : State). x.core.hats) c.self.view_is) c.as_slice-2.result.now (c.as_slice-2.ensures ∙ c.in_ok-keys.ensures ∙ ap (λ o. option_map_or (keys_of_face face.0) o []) (sym c.home-hat.ensures.hat)) c.tell_changes.new.told told in
-    due_of_keys s c.requires (closing face) (close_fits s face r home) c.as_slice-3.result.now (c.as_slice-3.ensures ∙ same)
+    let keys = keys_of_face face.0 c.home-hat.result.now in
+    let told = c.in_ok-tell_left.ensures ∙ ap (λ (l : List TreeTelling). l ++ all_own_told i.hats (change_hat r (without_face face.0) i.hats) keys) c.new-told.ensures in
+    let same = closing_due s face r home i.hats (ap (λ (x : State). x.core.hats) c.self.view_is) keys (ap (λ o. option_map_or (keys_of_face face.0) o []) (sym c.home-hat.ensures.hat)) c.tell_left.new.told told in
+    due_of_keys s c.requires (closing face) (close_fits s face r home) c.as_slice-2.result.now (c.as_slice-2.ensures ∙ same)
 
 pub returns-in-Ok : goal.returns-in-Ok
 returns-in-Ok c =
@@ -41,10 +42,11 @@ returns-in-Ok c =
     let fits = close_fits s face r home in
     let hats = ap (λ (x : State). x.core.hats) v in
     let queries : i.queries ≡ s.core.queries = ap (λ (x : State). x.core.queries) v in
-    let told = c.in_ok-tell_changes.ensures ∙ ap (λ (l : List TreeTelling). l ++ all_own_told i.hats (change_hat r (without_face face.0) i.hats) c.as_slice-2.result.now) c.new-told.ensures in
-    let same = closing_due s face r home i.hats hats c.as_slice-2.result.now (c.as_slice-2.ensures ∙ c.in_ok-keys.ensures ∙ ap (λ o. option_map_or (keys_of_face face.0) o []) (sym c.home-hat.ensures.hat)) c.tell_changes.new.told told in
-    let ts = c.as_slice-3.result.now in
-    let are : ts ≡ due s.core (closing face) = c.as_slice-3.ensures ∙ same in
+    let keys = keys_of_face face.0 c.home-hat.result.now in
+    let told = c.in_ok-tell_left.ensures ∙ ap (λ (l : List TreeTelling). l ++ all_own_told i.hats (change_hat r (without_face face.0) i.hats) keys) c.new-told.ensures in
+    let same = closing_due s face r home i.hats hats keys (ap (λ o. option_map_or (keys_of_face face.0) o []) (sym c.home-hat.ensures.hat)) c.tell_left.new.told told in
+    let ts = c.as_slice-2.result.now in
+    let are : ts ≡ due s.core (closing face) = c.as_slice-2.ensures ∙ same in
     let finals = c.in_ok-finals.finals in
     let handed = ap (λ (n : NamingState). behind finals (tell s.core (map from_hat (in_order ts)) n)) (sym (ap (λ (x : State). x.names) v)) ∙ c.in_ok-handed.ensures.ok s.core (sym (ap (λ (x : State). x.core.faces) v)) in
     let faces = c.remove.ensures.entries ∙ ap (remove_entry (is_at (nat_cmp face.0))) (ap (λ (x : State). x.core.faces) v) in

@@ -18,12 +18,11 @@ tell-requires c =
     let same : c.self.inside.hats ≡ s.core.hats = search rules in
     let there : hat_at c.args.region c.self.inside.hats ≡ Some hat = search rules in
     let is_net : net ≡ c.args.net.now = search rules in
-    let keys : c.in_ok-keys.keys ≡ losing net hat = search rules in
     let tree : c.in_ok-told.told ≡ networked_told c.args.region c.self.inside.hats (change_hat c.args.region (networked net) c.self.inside.hats) = search rules in
-    let ts : List TreeTelling = c.as_slice-3.result.now in
-    let all : ts ≡ c.in_ok-told.told ++ all_own_told c.self.inside.hats (change_hat c.args.region (networked net) c.self.inside.hats) c.in_ok-keys.keys = search rules in
+    let ts : List TreeTelling = c.as_slice-2.result.now in
+    let all : ts ≡ c.in_ok-told.told ++ all_own_told c.self.inside.hats (change_hat c.args.region (networked net) c.self.inside.hats) (losing net hat) = search rules in
     let gathered : ts ≡ due s.core (networking c.args.region c.args.net.now) =
-    network_due s c.args.region net c.self.inside.hats same hat there c.in_ok-keys.keys keys c.in_ok-told.told ts tree all
+    network_due s c.args.region net c.self.inside.hats same hat there c.in_ok-told.told ts tree all
     ∙ ap (λ n. due s.core (networking c.args.region n)) is_net
     in
     due_of_keys s c.requires (networking c.args.region c.args.net.now) (network_fits s c.args.region c.args.net.now hat (ap (hat_at c.args.region) (sym same) ∙ there)) ts gathered

@@ -11,20 +11,30 @@ ghost use Rattle.zq_trees.specs.Entries.{staying, without_routers};
 ghost use Rattle.zq_trees.specs.Nets.{is_listed};
 ghost use Rattle.zq_regions.specs.RegionMap.{with_entry};
 ghost use Rattle.zq_machine.specs.Configs.{region_of};
-ghost use Rattle.zq_machine.specs.State.{first_hats, with_hat, change_hat, clashes_in, has_declared_in, hat_at, is_region, joined};
-ghost use Rattle.zq_handing.specs.Seats.{seats};
+ghost use Rattle.zq_machine.specs.State.{first_hats, with_hat, change_hat, clashes_in, has_declared_in, hat_at, is_region, is_routing, joined};
+ghost use Rattle.zq_own.specs.Seats.{seats};
 
-use crate::select::is_region;
 use std::alloc::Global;
 use zq_hat::hat::Hat;
-use zq_hat::types::{FaceRecord, FinalMark, HatRefusal, NodeIds};
+use zq_hat::types::{FaceRecord, FinalMark, HatRefusal, NodeIds, Strategy};
 use zq_key::Key;
 use zq_key::memory::OutOfMemory;
 use zq_key::message::{FaceId, NodeId, QueryableInfoType, Region, Zid};
-use zq_machine::config::{Config, Entry};
+use zq_machine::config::{Config, Entry, SOUTH_IDS};
 use zq_route::gateways::Gateways;
 use zq_tables::RegionMap;
 use zq_trees::nets::Net;
+
+/// Whether a region of this id can be.
+pub fn is_region(region: Region) -> bool
+    ensures { result ≡ is_region region }
+{
+    match region {
+        Region::North => true,
+        Region::Local => true,
+        Region::South { id, mode: _ } => id <= SOUTH_IDS,
+    }
+}
 
 /// The hat of a region.
 pub fn hat_at(hats: &RegionMap<Hat>, region: Region) -> Option<&Hat>
@@ -34,6 +44,16 @@ pub fn hat_at(hats: &RegionMap<Hat>, region: Region) -> Option<&Hat>
         return None;
     }
     hats.get(&region)
+}
+
+/// Whether the hat's region is one of routers.
+pub fn is_routing(hat: &Hat) -> bool
+    ensures { result ≡ is_routing hat.now }
+{
+    match hat.strategy() {
+        Strategy::Broker | Strategy::Client | Strategy::Peer => false,
+        Strategy::Router => true,
+    }
 }
 
 /// The hat of a face's region, which has the face.

@@ -6,7 +6,7 @@ use Rattle.zq_regions.specs.RegionMap.{value_at}
 use Rattle.zq_hat.specs.State.{HatState}
 use Rattle.zq_hat.specs.Kept.{has_face}
 use Rattle.zq_machine.specs.State.{hat_at, is_region}
-use Rattle.zq_handing.specs.Seats.{seats}
+use Rattle.zq_own.specs.Seats.{seats}
 
 pub hat_region : (r : Region) (hats : List (ℕ × HatState)) → is_some (hat_at r hats) ≡ true → is_region r ≡ true
 hat_region r hats e = by (is_region r) refl e

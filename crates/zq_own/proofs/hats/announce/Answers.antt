@@ -1,8 +1,8 @@
 use Rattle.std.specs.Ordering.{nat_cmp}
 use Rattle.std.specs.BTreeMap.{is_at}
 use Rattle.zq_regions.specs.Region.{region_index}
-use Rattle.zq_handing.proofs.Lent.{kept_back}
-use Rattle.zq_handing.proofs.hats.announce.Goals as goal
+use Rattle.zq_own.proofs.Lent.{kept_back}
+use Rattle.zq_own.proofs.hats.announce.Goals as goal
 
 pub returns-clause-err : goal.returns-clause-err
 returns-clause-err c =

@@ -1,9 +1,0 @@
-use Rattle.std.proofs.Common.{◌∙◌, ◌++◌, ap, append-nil, sym}
-use Rattle.zq_own.proofs.Changed.{quiet_each}
-use Rattle.zq_own.proofs.telling.tell_changes.Goals as goal
-
-pub returns-then-not-has_other_routing : goal.returns-then-not-has_other_routing
-returns-then-not-has_other_routing c =
-    let none = sym c.has_other_routing.ensures.value ∙ c.if-not-has_other_routing.true in
-    sym (append-nil c.args.told.now)
-    ∙ ap (λ l. c.args.told.now ++ l) (sym (quiet_each c.args.changed c.args.change.now c.args.hats.now c.args.keys.now c.has_other_routing.ensures.ordered none))
