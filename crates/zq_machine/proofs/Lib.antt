@@ -54,5 +54,6 @@ pub mod Closings
 pub mod Folding
 pub mod DueKeys
 pub mod DueAlone
+pub mod DueAsked
 pub mod Dues
 pub mod DuesMoved

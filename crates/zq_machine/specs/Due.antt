@@ -1,9 +1,12 @@
 -- What is due to each face outside regions of routers, and the keys on which a call may change it.
 use Rattle.std.specs.Prelude.{ℕ, ◌==◌, Bool, true, false, ◌||◌, List, [], filter, fold, Option, None, if◌then◌else◌}
+use Rattle.std.specs.BTreeMap.{insert_entry, is_at}
 use Rattle.std.specs.BTreeSet.{insert_key}
 use Rattle.std.specs.List.{list_any}
 use Rattle.std.specs.List.Sorted.{IsStrictlySortedBy}
+use Rattle.std.specs.Map.{remove_entry}
 use Rattle.std.specs.Option.{option_and_then, option_map_or}
+use Rattle.std.specs.Ordering.{nat_cmp}
 use Rattle.std.specs.Str.{bytes_eq}
 use Rattle.zq_message.specs.declared.message.QueryableInfoType.{QueryableInfoType}
 use Rattle.zq_regions.specs.Region.{region_index}
@@ -32,6 +35,14 @@ Interests = List (ℕ × List (ℕ × InterestEntry))
 -- the interests of a face
 abbrev pub interests_of : ℕ → Interests → List (ℕ × InterestEntry)
 interests_of face ints = option_map_or (λ es. es) (at face ints) []
+
+-- the face asks this under the id
+abbrev pub with_interest : ℕ → ℕ → InterestEntry → Interests → Interests
+with_interest face id asked ints = insert_entry nat_cmp ints face (insert_entry nat_cmp (interests_of face ints) id asked)
+
+-- the face asks nothing under the id
+abbrev pub without_interest : ℕ → ℕ → Interests → Interests
+without_interest face id ints = insert_entry nat_cmp ints face (remove_entry (is_at (nat_cmp id)) (interests_of face ints))
 
 -- what is asked for has no key, or its key meets the key
 abbrev pub meets : Option (List ℕ) → List ℕ → Bool

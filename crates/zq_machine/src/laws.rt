@@ -1,5 +1,5 @@
 //! Laws of what the gateway decides and keeps, as the contracts of calls.
-ghost use Rattle.std.specs.Prelude.{◌≡◌, ◌≢◌, ℕ, List, [], Option, Some, None, false, true};
+ghost use Rattle.std.specs.Prelude.{◌≡◌, ◌≢◌, ℕ, List, [], Some, None, false, true};
 ghost use Rattle.std.specs.List.{AllByRecursion, list_any};
 ghost use Rattle.std.specs.Option.{is_some};
 ghost use Rattle.std.specs.Str.{bytes_eq};
@@ -7,13 +7,14 @@ ghost use Rattle.zq_hat.specs.Moved.{Keeps};
 ghost use Rattle.zq_hat.specs.Regions.{is_north, strategy_at};
 ghost use Rattle.zq_hat.specs.State.{HatState};
 ghost use Rattle.zq_hat.specs.declared.types.Declaration.{Declaration};
+ghost use Rattle.zq_hat.specs.declared.types.InterestEntry.{InterestEntry};
 ghost use Rattle.zq_hat.specs.declared.types.Strategy.TheVariants as strategy;
 ghost use Rattle.zq_machine.specs.declared.call.Call.{Call};
 ghost use Rattle.zq_machine.specs.declared.call.Call.TheVariants as call;
 ghost use Rattle.zq_machine.specs.declared.call.Opening.{Opening};
 ghost use Rattle.zq_machine.specs.Agreeing.{Agrees};
 ghost use Rattle.zq_machine.specs.Configs.{Settings};
-ghost use Rattle.zq_machine.specs.Due.{Interests, KeysRise, due, due_keys, interests_of, is_due_touched, redeclared};
+ghost use Rattle.zq_machine.specs.Due.{Interests, KeysRise, ask_touched, due, due_keys, interests_of, is_due_touched, redeclared, with_interest, without_interest};
 ghost use Rattle.zq_machine.specs.DueAlike.{DueAlike};
 ghost use Rattle.zq_machine.specs.Headline.{RunPromise};
 ghost use Rattle.zq_machine.specs.Machine.{after, state_after};
@@ -28,7 +29,7 @@ ghost use Rattle.zq_machine.specs.Selecting.{select};
 ghost use Rattle.zq_machine.specs.Standing.{StandAlike};
 ghost use Rattle.zq_machine.specs.Hearing.{CanBeTold, hear};
 ghost use Rattle.zq_machine.specs.Messages.{Telling};
-ghost use Rattle.zq_machine.specs.State.{Core, face_region, hat_of, is_open, opening_state};
+ghost use Rattle.zq_machine.specs.State.{Core, at, face_region, hat_of, is_open, opening_state};
 ghost use Rattle.zq_machine.specs.Writing.{tell};
 
 /// What is decided moves with its texts, by every map that keeps how they relate.
@@ -97,6 +98,17 @@ pub fn keys_ordered()
 #[tactic(auto, using(crate::proofs::DueAlone::interests_alone))]
 pub fn interests_alone()
     ensures { (c : Core) (ints others : Interests) (face : ℕ) (key : List ℕ) → interests_of face ints ≡ interests_of face others → due c ints face key ≡ due c others face key }
+{}
+
+/// What a face comes to ask, in the place of nothing or of what asks for the same, changes what is due on
+/// no key but those that it touches.
+pub fn asks_stay()
+    ensures { (c : Core) (ints : Interests) (asker id : ℕ) (asked : InterestEntry) → ((old : InterestEntry) → at id (interests_of asker ints) ≡ Some old → old.key ≡ asked.key) → (face : ℕ) (key : List ℕ) → list_any (λ k. bytes_eq k key) (ask_touched asker asked.key c face) ≡ false → due c (with_interest asker id asked ints) face key ≡ due c ints face key }
+{}
+
+/// The end of an interest makes nothing due, and no information another.
+pub fn ends_less()
+    ensures { (c : Core) (ints : Interests) (asker id : ℕ) (face : ℕ) (key : List ℕ) → is_some (due c (without_interest asker id ints) face key) ≡ true → due c (without_interest asker id ints) face key ≡ due c ints face key }
 {}
 
 /// A face is not due what it itself declared: whatever that is, the same is due to it.
