@@ -114,7 +114,7 @@ module _ (φ : List ℕ → List ℕ) (keeps : Keeps φ) where
       by false = children_moved None h.own key is h
 
   -- ---- own entries
-  face_info_moved : (key : List ℕ) (f : ℕ × FaceState) → info (φ key) (move_face φ f).1 ≡ info key f.1
+  pub face_info_moved : (key : List ℕ) (f : ℕ × FaceState) → info (φ key) (move_face φ f).1 ≡ info key f.1
   face_info_moved key f = fold-map (move_declared φ) (with_declared (φ key)) (with_declared key) (λ m d. ap (λ b. cond b (joined m (Some d.1.info)) m) (keeps.same d.1.key key)) None f.1.declared
 
   faces_info_moved : (key : List ℕ) (fs : List (ℕ × FaceState)) → faces_info (φ key) (map (move_face φ) fs) ≡ faces_info key fs
@@ -123,7 +123,7 @@ module _ (φ : List ℕ → List ℕ) (keeps : Keeps φ) where
   region_info_moved : (key : List ℕ) (h : HatState) → region_info (φ key) (move_hat φ h) ≡ region_info key h
   region_info_moved key h = λ j. in_routers (strategy_at h) (routers_info_moved φ keeps key h j) (faces_info_moved key h.faces j)
 
-  own_entry_moved : (place : ℕ) (key : List ℕ) (hats : List (ℕ × HatState)) → own_entry place (φ key) (move_hats hats) ≡ own_entry place key hats
+  pub own_entry_moved : (place : ℕ) (key : List ℕ) (hats : List (ℕ × HatState)) → own_entry place (φ key) (move_hats hats) ≡ own_entry place key hats
   own_entry_moved place key hats = fold-map (move_region φ) (with_other place (φ key)) (with_other place key) (λ m h. ap (λ i. cond (h.0 == place) m (joined m i)) (region_info_moved key h.1)) None hats
 
   face_keys_moved : (ks : List (List ℕ)) (f : ℕ × FaceState) → with_keys (map φ ks) (move_face φ f) ≡ map φ (with_keys ks f)
@@ -133,7 +133,7 @@ module _ (φ : List ℕ → List ℕ) (keeps : Keeps φ) where
   entry_keys_moved [] = refl
   entry_keys_moved (e ∷ es) = ap (λ l. φ e.0 ∷ l) (entry_keys_moved es)
 
-  region_keys_moved : (h : HatState) → region_keys (move_hat φ h) ≡ map φ (region_keys h)
+  pub region_keys_moved : (h : HatState) → region_keys (move_hat φ h) ≡ map φ (region_keys h)
   region_keys_moved h = by (strategy_at h)
     where
       by : (k : Strategy) → in_routers k (keys_of (map (move_entry φ) h.entries)) (declared_keys (map (move_face φ) h.faces)) ≡ map φ (in_routers k (keys_of h.entries) (declared_keys h.faces))
@@ -297,7 +297,7 @@ module _ (φ : List ℕ → List ℕ) (keeps : Keeps φ) where
         by None = refl
         by (Some h) = losing_moved net h.entries
 
-    touched_moved : (t : TextCall) → refusal_of c t ≡ None → touched (move_core φ c) (move_text φ t) ≡ map φ (touched c t)
+    pub touched_moved : (t : TextCall) → refusal_of c t ≡ None → touched (move_core φ c) (move_text φ t) ≡ map φ (touched c t)
     touched_moved (closing face) e = closed_keys face
     touched_moved (declaring face id said.Unscoped info node) e = absurd (second_holds (not (is_open face.0 c)) _ _ e)
     touched_moved (declaring face id said.Empty info node) e = absurd (second_holds (not (is_open face.0 c)) _ _ e)

@@ -51,3 +51,9 @@ pub mod LastIds
 pub mod Handing
 pub mod Asking
 pub mod Closings
+pub mod Folding
+pub mod DueKeys
+pub mod DueAlone
+pub mod DueAsked
+pub mod Dues
+pub mod DuesMoved

@@ -64,14 +64,14 @@ module _ (key : List ℕ) where
   abbrev pub AreOff : List (List ℕ) → Type 0
   AreOff ks = list_any (λ k. bytes_eq k key) ks ≡ false
 
-  one_off : (k : List ℕ) → AreOff (k ∷ []) → IsOff k
+  pub one_off : (k : List ℕ) → AreOff (k ∷ []) → IsOff k
   one_off k o = sym (or-false (bytes_eq k key)) ∙ o
 
   -- ---- what a face declared
   step_off : (d : ℕ × Declaration) → IsOff d.1.key → (m : Option QueryableInfoType) → with_declared key m d ≡ m
   step_off d o m = ap (λ b. cond b (joined m (Some d.1.info)) m) o
 
-  nothing_declared : (ds : List (ℕ × Declaration)) → AreOff (map key_of ds) → (m : Option QueryableInfoType) → fold (with_declared key) m ds ≡ m
+  pub nothing_declared : (ds : List (ℕ × Declaration)) → AreOff (map key_of ds) → (m : Option QueryableInfoType) → fold (with_declared key) m ds ≡ m
   nothing_declared [] o m = refl
   nothing_declared (d ∷ ds) o m =
       let p = or_parts (bytes_eq d.1.key key) (list_any (λ k. bytes_eq k key) (map key_of ds)) o in
@@ -223,16 +223,22 @@ module _ (key : List ℕ) where
   left_same : (n : ℕ) (h : HatState) → AreOff key (keys_of_face n h) → on_key key (without_face n h) ≡ on_key key h
   left_same n h o = ap (λ i. record (on_key key h) { faces = i }) (faces_left key n h.faces (λ f there. nothing_declared key f.declared (sym (ap (λ x. list_any (λ k. bytes_eq k key) (option_map_or (λ (y : FaceState). map key_of y.declared) x [])) there) ∙ o) None) None)
 
-  declared_same : (n id : ℕ) (text : List ℕ) (i : QueryableInfoType) (h : HatState) → IsOff key text → clashes_at n id text h ≡ false → on_key key (change_face n (declare id text i) h) ≡ on_key key h
-  declared_same n id text i h o clash = face_same n (declare id text i) h (λ f there. declared_off key id (record { key = text; info = i }) o f.declared (λ x found. old x (sym (ap (λ y. option_map_or (is_apart text) (option_and_then (declaration id) y) false) there ∙ ap (λ y. option_map_or (is_apart text) y false) found) ∙ clash)) None)
+  pub declared_info : (n id : ℕ) (text : List ℕ) (i : QueryableInfoType) (h : HatState) → IsOff key text → clashes_at n id text h ≡ false → (f : FaceState) → face_at n h ≡ Some f → info key (declare id text i f) ≡ info key f
+  declared_info n id text i h o clash f there = declared_off key id (record { key = text; info = i }) o f.declared (λ x found. old x (sym (ap (λ y. option_map_or (is_apart text) (option_and_then (declaration id) y) false) there ∙ ap (λ y. option_map_or (is_apart text) y false) found) ∙ clash)) None
     where
       old : (x : Declaration) → is_apart text x ≡ false → IsOff key x.key
       old x e = ap (λ k. bytes_eq k key) ((bytes_eq-Decides x.key text).0 (not-false (bytes_eq x.key text) e)) ∙ o
 
-  withdrawn_same : (n id : ℕ) (h : HatState) → ((x : Declaration) → declaration_at n id h ≡ Some x → IsOff key x.key) → on_key key (unregistered n id h) ≡ on_key key h
-  withdrawn_same n id h old = face_same n (withdraw id) h (λ f there. withdrawn_off key id f.declared (λ x found. old x (ap (option_and_then (declaration id)) there ∙ found)) None)
+  declared_same : (n id : ℕ) (text : List ℕ) (i : QueryableInfoType) (h : HatState) → IsOff key text → clashes_at n id text h ≡ false → on_key key (change_face n (declare id text i) h) ≡ on_key key h
+  declared_same n id text i h o clash = face_same n (declare id text i) h (declared_info n id text i h o clash)
 
-  marked_info : (m : FinalMark) (set : Bool) (f : FaceState) → info key (marked m set f) ≡ info key f
+  pub withdrawn_info : (n id : ℕ) (h : HatState) → ((x : Declaration) → declaration_at n id h ≡ Some x → IsOff key x.key) → (f : FaceState) → face_at n h ≡ Some f → info key (withdraw id f) ≡ info key f
+  withdrawn_info n id h old f there = withdrawn_off key id f.declared (λ x found. old x (ap (option_and_then (declaration id)) there ∙ found)) None
+
+  withdrawn_same : (n id : ℕ) (h : HatState) → ((x : Declaration) → declaration_at n id h ≡ Some x → IsOff key x.key) → on_key key (unregistered n id h) ≡ on_key key h
+  withdrawn_same n id h old = face_same n (withdraw id) h (withdrawn_info n id h old)
+
+  pub marked_info : (m : FinalMark) (set : Bool) (f : FaceState) → info key (marked m set f) ≡ info key f
   marked_info mark.Initial set f = refl
   marked_info (mark.Key k) true f = refl
   marked_info (mark.Key k) false f = refl

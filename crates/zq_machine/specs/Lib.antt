@@ -18,3 +18,5 @@ pub mod Children
 pub mod Headline
 pub mod Moved
 pub mod Agreeing
+pub mod Due
+pub mod DueAlike

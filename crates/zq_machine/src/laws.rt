@@ -1,10 +1,21 @@
 //! Laws of what the gateway decides and keeps, as the contracts of calls.
-ghost use Rattle.std.specs.Prelude.{◌≡◌, ℕ, List, false};
-ghost use Rattle.std.specs.List.{AllByRecursion};
+ghost use Rattle.std.specs.Prelude.{◌≡◌, ◌≢◌, ℕ, List, [], Some, None, false, true};
+ghost use Rattle.std.specs.List.{AllByRecursion, list_any};
+ghost use Rattle.std.specs.Option.{is_some};
+ghost use Rattle.std.specs.Str.{bytes_eq};
 ghost use Rattle.zq_hat.specs.Moved.{Keeps};
+ghost use Rattle.zq_hat.specs.Regions.{is_north, strategy_at};
+ghost use Rattle.zq_hat.specs.State.{HatState};
+ghost use Rattle.zq_hat.specs.declared.types.Declaration.{Declaration};
+ghost use Rattle.zq_hat.specs.declared.types.InterestEntry.{InterestEntry};
+ghost use Rattle.zq_hat.specs.declared.types.Strategy.TheVariants as strategy;
 ghost use Rattle.zq_machine.specs.declared.call.Call.{Call};
+ghost use Rattle.zq_machine.specs.declared.call.Call.TheVariants as call;
+ghost use Rattle.zq_machine.specs.declared.call.Opening.{Opening};
 ghost use Rattle.zq_machine.specs.Agreeing.{Agrees};
 ghost use Rattle.zq_machine.specs.Configs.{Settings};
+ghost use Rattle.zq_machine.specs.Due.{Interests, KeysRise, ask_touched, due, due_keys, interests_of, is_due_touched, redeclared, with_interest, without_interest};
+ghost use Rattle.zq_machine.specs.DueAlike.{DueAlike};
 ghost use Rattle.zq_machine.specs.Headline.{RunPromise};
 ghost use Rattle.zq_machine.specs.Machine.{after, state_after};
 ghost use Rattle.zq_machine.specs.TextCalls.{read};
@@ -18,7 +29,7 @@ ghost use Rattle.zq_machine.specs.Selecting.{select};
 ghost use Rattle.zq_machine.specs.Standing.{StandAlike};
 ghost use Rattle.zq_machine.specs.Hearing.{CanBeTold, hear};
 ghost use Rattle.zq_machine.specs.Messages.{Telling};
-ghost use Rattle.zq_machine.specs.State.{Core, opening_state};
+ghost use Rattle.zq_machine.specs.State.{Core, at, face_region, hat_of, is_open, opening_state};
 ghost use Rattle.zq_machine.specs.Writing.{tell};
 
 /// What is decided moves with its texts, by every map that keeps how they relate.
@@ -57,4 +68,67 @@ pub fn told_heard()
 #[tactic(auto, using(crate::proofs::Owning::own_stays))]
 pub fn touches_all()
     ensures { (config : Settings) (calls : List Call) (c : Call) (place : ℕ) (key : List ℕ) → is_touched (state_after (opening_state config) calls).core (read (state_after (opening_state config) calls) c) key ≡ false → own_entry place key (after (state_after (opening_state config) calls) c).core.hats ≡ own_entry place key (state_after (opening_state config) calls).core.hats }
+{}
+
+/// A call changes what is due to a face on no key but those that it touches there: what is due to
+/// a face that is open after the call is on each other key what was due before, and that is nothing
+/// where the face was not open.
+pub fn dues_stay()
+    ensures { (config : Settings) (calls : List Call) (c : Call) (ints : Interests) (face : ℕ) (key : List ℕ) → is_open face (after (state_after (opening_state config) calls) c).core ≡ true → is_due_touched (state_after (opening_state config) calls).core (read (state_after (opening_state config) calls) c) face key ≡ false → due (after (state_after (opening_state config) calls) c).core ints face key ≡ due (state_after (opening_state config) calls).core ints face key }
+{}
+
+/// An opening touches each key on which something is due to the new face.
+pub fn none_missed()
+    ensures { (config : Settings) (calls : List Call) (o : Opening) (ints : Interests) (key : List ℕ) → is_some (due (after (state_after (opening_state config) calls) (call.Open o)).core ints (state_after (opening_state config) calls).core.next_face key) ≡ true → is_due_touched (state_after (opening_state config) calls).core (read (state_after (opening_state config) calls) (call.Open o)) (state_after (opening_state config) calls).core.next_face key ≡ true }
+{}
+
+/// What is due to any face is on a key on which some region has information.
+#[tactic(auto, using(crate::proofs::DueKeys::keys_due))]
+pub fn keys_due()
+    ensures { (c : Core) (ints : Interests) (face : ℕ) (key : List ℕ) → is_some (due c ints face key) ≡ true → list_any (λ k. bytes_eq k key) (due_keys c) ≡ true }
+{}
+
+/// All keys that are looked at stand in order, each once.
+#[tactic(auto, using(crate::proofs::DueKeys::keys_rise))]
+pub fn keys_ordered()
+    ensures { (c : Core) → KeysRise c }
+{}
+
+/// What other faces ask to hear changes nothing of what is due to a face.
+#[tactic(auto, using(crate::proofs::DueAlone::interests_alone))]
+pub fn interests_alone()
+    ensures { (c : Core) (ints others : Interests) (face : ℕ) (key : List ℕ) → interests_of face ints ≡ interests_of face others → due c ints face key ≡ due c others face key }
+{}
+
+/// What a face comes to ask, in the place of nothing or of what asks for the same, changes what is due on
+/// no key but those that it touches.
+pub fn asks_stay()
+    ensures { (c : Core) (ints : Interests) (asker id : ℕ) (asked : InterestEntry) → ((old : InterestEntry) → at id (interests_of asker ints) ≡ Some old → old.key ≡ asked.key) → (face : ℕ) (key : List ℕ) → list_any (λ k. bytes_eq k key) (ask_touched asker asked.key c face) ≡ false → due c (with_interest asker id asked ints) face key ≡ due c ints face key }
+{}
+
+/// The end of an interest makes nothing due, and no information another.
+pub fn ends_less()
+    ensures { (c : Core) (ints : Interests) (asker id : ℕ) (face : ℕ) (key : List ℕ) → is_some (due c (without_interest asker id ints) face key) ≡ true → due c (without_interest asker id ints) face key ≡ due c ints face key }
+{}
+
+/// A face is not due what it itself declared: whatever that is, the same is due to it.
+pub fn own_unheard()
+    ensures { (c : Core) (ints : Interests) (face : ℕ) (key : List ℕ) (ds : List (ℕ × Declaration)) → due (redeclared face ds c) ints face key ≡ due c ints face key }
+{}
+
+/// But under a broker, a face is not due what faces of its region declared.
+pub fn region_unheard()
+    ensures { (c : Core) (ints : Interests) (face fellow : ℕ) (key : List ℕ) (ds : List (ℕ × Declaration)) (h : HatState) → hat_of face c ≡ Some h → strategy_at h ≢ strategy.Broker → face_region fellow c ≡ face_region face c → due (redeclared fellow ds c) ints face key ≡ due c ints face key }
+{}
+
+/// To a face outside North that asks for nothing, nothing is due.
+#[tactic(auto, using(crate::proofs::DueAlone::south_unasked))]
+pub fn south_unasked()
+    ensures { (c : Core) (ints : Interests) (face : ℕ) (key : List ℕ) (h : HatState) → hat_of face c ≡ Some h → is_north h.region ≡ false → interests_of face ints ≡ [] → due c ints face key ≡ None }
+{}
+
+/// What is due moves with its texts, by every map that keeps how they relate.
+#[tactic(auto, using(crate::proofs::DuesMoved::due_alike))]
+pub fn due_alike()
+    ensures { (φ : List ℕ → List ℕ) → Keeps φ → DueAlike φ }
 {}

@@ -1,0 +1,5 @@
+use Rattle.zq_machine.proofs.Dues.{none_missed}
+use Rattle.zq_machine.proofs.laws.none_missed.Goals as goal
+
+pub returns : goal.returns
+returns c = none_missed

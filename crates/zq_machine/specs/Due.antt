@@ -1,0 +1,144 @@
+-- What is due to each face outside regions of routers, and the keys on which a call may change it.
+use Rattle.std.specs.Prelude.{ℕ, ◌==◌, Bool, true, false, ◌||◌, List, [], filter, fold, Option, None, if◌then◌else◌}
+use Rattle.std.specs.BTreeMap.{insert_entry, is_at}
+use Rattle.std.specs.BTreeSet.{insert_key}
+use Rattle.std.specs.List.{list_any}
+use Rattle.std.specs.List.Sorted.{IsStrictlySortedBy}
+use Rattle.std.specs.Map.{remove_entry}
+use Rattle.std.specs.Option.{option_and_then, option_map_or}
+use Rattle.std.specs.Ordering.{nat_cmp}
+use Rattle.std.specs.Str.{bytes_eq}
+use Rattle.zq_message.specs.declared.message.QueryableInfoType.{QueryableInfoType}
+use Rattle.zq_regions.specs.Region.{region_index}
+use Rattle.zq_key.specs.Key.{intersects}
+use Rattle.zq_index.specs.Infos.{joined}
+use Rattle.zq_index.specs.Texts.{text_cmp}
+use Rattle.zq_hat.specs.declared.types.Declaration.{Declaration}
+use Rattle.zq_hat.specs.declared.types.InterestEntry.{InterestEntry}
+use Rattle.zq_hat.specs.declared.types.Strategy.{Strategy}
+use Rattle.zq_hat.specs.declared.types.Strategy.TheVariants as strategy
+use Rattle.zq_hat.specs.Kept.{change_face, info}
+use Rattle.zq_hat.specs.Regions.{is_north, strategy_at}
+use Rattle.zq_hat.specs.State.{FaceState, HatState}
+use Rattle.zq_hat.specs.Trees.{region_keys}
+use Rattle.zq_machine.specs.declared.face.OpenFace.{OpenFace}
+use Rattle.zq_machine.specs.State.{Core, at, change_hat_of, hat_at, hat_of}
+use Rattle.zq_machine.specs.TextCalls.{TextCall, opening}
+use Rattle.zq_machine.specs.Trees.{own_entry, touched}
+
+-- ---- what faces ask to hear
+
+-- the interests of faces: by face, and by id
+abbrev pub Interests : Type 0
+Interests = List (ℕ × List (ℕ × InterestEntry))
+
+-- the interests of a face
+abbrev pub interests_of : ℕ → Interests → List (ℕ × InterestEntry)
+interests_of face ints = option_map_or (λ es. es) (at face ints) []
+
+-- the face asks this under the id
+abbrev pub with_interest : ℕ → ℕ → InterestEntry → Interests → Interests
+with_interest face id asked ints = insert_entry nat_cmp ints face (insert_entry nat_cmp (interests_of face ints) id asked)
+
+-- the face asks nothing under the id
+abbrev pub without_interest : ℕ → ℕ → Interests → Interests
+without_interest face id ints = insert_entry nat_cmp ints face (remove_entry (is_at (nat_cmp id)) (interests_of face ints))
+
+-- what is asked for has no key, or its key meets the key
+abbrev pub meets : Option (List ℕ) → List ℕ → Bool
+meets asked key = option_map_or (λ k. intersects k key) asked true
+
+-- the interest asks for the key
+abbrev pub wants : List ℕ → ℕ × InterestEntry → Bool
+wants key i = meets i.1.key key
+
+-- an interest of the face asks for the key
+abbrev pub asks_for : ℕ → List ℕ → Interests → Bool
+asks_for face key ints = list_any (wants key) (interests_of face ints)
+
+-- an upstream and a peer in North are told unasked
+abbrev pub is_unasked : Strategy → Bool → Bool
+is_unasked strategy.Broker north = false
+is_unasked strategy.Client north = true
+is_unasked strategy.Peer north = north
+is_unasked strategy.Router north = false
+
+-- a face of the hat listens on the key: it is told unasked, or asks for the key
+abbrev pub listens_in : Interests → ℕ → List ℕ → HatState → Bool
+listens_in ints face key h = is_unasked (strategy_at h) (is_north h.region) || asks_for face key ints
+
+-- the face is open, and listens on the key
+abbrev pub listens : Core → Interests → ℕ → List ℕ → Bool
+listens c ints face key = option_map_or (listens_in ints face key) (hat_of face c) false
+
+-- ---- what there is to hear
+
+-- what another face declared on the key is merged in
+abbrev pub with_fellow : ℕ → List ℕ → Option QueryableInfoType → ℕ × FaceState → Option QueryableInfoType
+with_fellow face key m f = if f.0 == face then m else joined m (info key f.1)
+
+-- what the other faces of a hat declared on the key, merged
+abbrev pub fellow_info : ℕ → List ℕ → HatState → Option QueryableInfoType
+fellow_info face key h = fold (with_fellow face key) None h.faces
+
+-- what a face hears, of its fellows and of the other regions: under a broker of both, as a client or a peer of the other regions, among routers nothing
+abbrev pub heard_by : Strategy → (fellows others : Option QueryableInfoType) → Option QueryableInfoType
+heard_by strategy.Broker fellows others = joined fellows others
+heard_by strategy.Client fellows others = others
+heard_by strategy.Peer fellows others = others
+heard_by strategy.Router fellows others = None
+
+-- what a face of the hat at the place hears on the key
+abbrev pub heard_in : ℕ → List ℕ → List (ℕ × HatState) → ℕ → HatState → Option QueryableInfoType
+heard_in face key hats place h = heard_by (strategy_at h) (fellow_info face key h) (own_entry place key hats)
+
+-- what an open face hears on the key by its region
+abbrev pub heard_as : ℕ → List ℕ → List (ℕ × HatState) → OpenFace → Option QueryableInfoType
+heard_as face key hats o = option_and_then (heard_in face key hats (region_index o.region)) (hat_at o.region hats)
+
+-- what a face hears on the key, if it is open
+abbrev pub heard : Core → ℕ → List ℕ → Option QueryableInfoType
+heard c face key = option_and_then (heard_as face key c.hats) (at face c.faces)
+
+-- ---- what is due
+
+-- what is due to the face on the key: what it hears there, if it listens
+abbrev pub due : Core → Interests → ℕ → List ℕ → Option QueryableInfoType
+due c ints face key = if listens c ints face key then heard c face key else None
+
+-- a region's keys join others in order, each once
+abbrev pub with_region_keys : List (List ℕ) → ℕ × HatState → List (List ℕ)
+with_region_keys keys h = fold (insert_key text_cmp) keys (region_keys h.1)
+
+-- the keys on which regions have information, each once, in order
+abbrev pub due_keys : Core → List (List ℕ)
+due_keys c = fold with_region_keys [] c.hats
+
+-- those of them that meet what is asked for
+abbrev pub met_keys : Option (List ℕ) → Core → List (List ℕ)
+met_keys asked c = filter (meets asked) (due_keys c)
+
+-- ---- what a call may change of it
+
+-- the keys on which a call may change what is due to the face, each once, in order: all where it opens the face, else those on which it changes what a region has
+abbrev pub due_touched : Core → TextCall → ℕ → List (List ℕ)
+due_touched c (opening o) face = if face == c.next_face then due_keys c else []
+due_touched c t face = fold (insert_key text_cmp) [] (touched c t)
+
+-- the keys on which an interest of a face, with what it asks for, may change what is due to another or itself
+abbrev pub ask_touched : (asker : ℕ) → Option (List ℕ) → Core → ℕ → List (List ℕ)
+ask_touched asker asked c face = if face == asker then met_keys asked c else []
+
+-- the key is one of those
+abbrev pub is_due_touched : Core → TextCall → ℕ → List ℕ → Bool
+is_due_touched c t face key = list_any (λ k. bytes_eq k key) (due_touched c t face)
+
+-- all keys that are looked at stand in order, each once
+pub record KeysRise (c : Core) : Type 0 where
+  pub all : IsStrictlySortedBy text_cmp (due_keys c)
+  pub touched : (t : TextCall) (face : ℕ) → IsStrictlySortedBy text_cmp (due_touched c t face)
+  pub asked : (asker : ℕ) (key : Option (List ℕ)) (face : ℕ) → IsStrictlySortedBy text_cmp (ask_touched asker key c face)
+
+-- the face has declared these, and what it declared is gone
+abbrev pub redeclared : ℕ → List (ℕ × Declaration) → Core → Core
+redeclared face ds c = change_hat_of face (change_face face (λ (f : FaceState). record f { declared = ds })) c
