@@ -14,8 +14,8 @@ use std::collections::{BTreeMap, BTreeSet};
 use std::ops::RangeFull;
 use zq_index::holders::{Holders, KeyHolders, Place};
 use zq_index::search::{Step, next_step};
-use zq_key::memory::OutOfMemory;
 use zq_key::intersects;
+use zq_key::memory::OutOfMemory;
 
 /// What is offered for a request on a declared key that meets the request's.
 pub trait KeyOffers<P: Place> {
