@@ -70,9 +70,10 @@ fn offers_on_keys<P: Place, K: KeyOffers<P>>(
 {
     let mut offers = Vec::new(alloc);
     let mut bound = String::new(alloc);
+    let mut bytes = Vec::new(alloc);
     let mut rest = keys.range::<RangeFull>(..);
     while let Some((key, holders)) = rest.next() {
-        match next_step(&mut bound, mixed, key, q)? {
+        match next_step(&mut bound, &mut bytes, mixed, key, q)? {
             Step::Look => add_met(&mut offers, source, key.as_str(), holders, q)?,
             Step::Jump => rest = keys.range(&bound..),
             Step::End => return Ok(offers),
