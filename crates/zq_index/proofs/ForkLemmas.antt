@@ -1,6 +1,6 @@
 -- How a text and a key go on side by side: what is dead after a byte is dead with it.
 use Rattle.std.proofs.Common.{◌≡◌, ◌≢◌, ℕ, ◌+◌, ◌<◌, ◌≤◌, Bool, true, false, ◌==◌, cond, eqb, ◌-◌, List, [], ◌∷◌, ◌++◌, length, take, drop, get_or, sym, subst, ap, ◌∙◌, refl, arith, ◌⊎◌, inl, inr, Some, None}
-use Rattle.std.specs.Prelude.{nat_le, nat_lt, not, ◌&&◌}
+use Rattle.std.specs.Prelude.{nat_le, not, ◌&&◌}
 use Rattle.std.specs.declared.cmp.Ordering.{Ordering}
 use Rattle.std.specs.declared.cmp.Ordering.TheVariants.{Less, Equal, Greater}
 use Rattle.std.specs.Ordering.{nat_cmp, ordering_then}
@@ -206,13 +206,12 @@ held_on text q held at j byte mode is leads ends holds p d more from to above = 
 
 -- ---- a run of bytes that are neither wild nor end a chunk
 pub run_facts : (y : ℕ) → is_run y ≡ true → ((y == 47) ≡ false) × (is_wild y ≡ false)
-run_facts y h = by (nat_lt y 128) (y == 47) (is_wild y) h
+run_facts y h = by (y == 47) (is_wild y) h
   where
-    by : (a b c : Bool) → (a && not b && not c) ≡ true → (b ≡ false) × (c ≡ false)
-    by true false false h = (refl, refl)
-    by true false true h = absurd (true≢false (sym h))
-    by true true c h = absurd (true≢false (sym h))
-    by false b c h = absurd (true≢false (sym h))
+    by : (b c : Bool) → (not b && not c) ≡ true → (b ≡ false) × (c ≡ false)
+    by false false h = (refl, refl)
+    by false true h = absurd (true≢false (sym h))
+    by true c h = absurd (true≢false (sym h))
 
 pub run_more : (b : List ℕ) (c : ℕ) (rest : List ℕ) → is_run c ≡ true → (b ++ c ∷ []) ++ run_of rest ≡ b ++ run_of (c ∷ rest)
 run_more b c rest is = append_assoc b (c ∷ []) (run_of rest) ∙ ap (λ r. b ++ r) (sym (ap (λ x. cond x (c ∷ run_of rest) []) is))

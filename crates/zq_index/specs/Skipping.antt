@@ -1,5 +1,5 @@
 -- Which declared keys need no test against a request's key.
-use Rattle.std.specs.Prelude.{◌≡◌, ◌≢◌, ℕ, ◌+◌, ◌<◌, ◌≤◌, nat_lt, ◌==◌, Bool, false, not, ◌&&◌, if◌then◌else◌, List, [], ◌∷◌, slice_index}
+use Rattle.std.specs.Prelude.{◌≡◌, ◌≢◌, ℕ, ◌+◌, ◌<◌, ◌≤◌, ◌==◌, Bool, false, not, ◌&&◌, if◌then◌else◌, List, [], ◌∷◌, slice_index}
 use Rattle.std.specs.declared.cmp.Ordering.TheVariants.{Less}
 use Rattle.zq_key.specs.Key.{intersects}
 use Rattle.zq_key.specs.Apart.{is_wild}
@@ -19,9 +19,9 @@ pub record IsPlaceAbove (key : List ℕ) (held k at byte : ℕ) : Type 0 where
   pub from : held ≤ at + 1
   pub to : at ≤ k
 
--- whether a byte is an ASCII one that ends no chunk and is not wild
+-- whether a byte ends no chunk and is not wild
 abbrev pub is_run : ℕ → Bool
-is_run c = nat_lt c 128 && not (c == 47) && not (is_wild c)
+is_run c = not (c == 47) && not (is_wild c)
 
 -- the first bytes of a text, as long as they are such
 abbrev pub run_of : List ℕ → List ℕ

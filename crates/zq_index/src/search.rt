@@ -95,33 +95,47 @@ fn past(bound: &mut String, key: &str, held: usize, at: usize) -> Result<Step, O
     }
 }
 
-/// Whether a byte is an ASCII one that ends no chunk and is not wild.
+/// Whether a byte ends no chunk and is not wild.
 fn is_run(byte: u8) -> bool
     ensures { result ≡ is_run byte }
 {
-    byte < 128 && byte != b'/' && !may_be_wild(byte)
+    byte != b'/' && !may_be_wild(byte)
 }
 
 /// Adds the first bytes, as long as they are such.
-fn push_run(bound: &mut String, left: &[u8]) -> Result<(), OutOfMemory>
-    ensures { OnOk result (string_bytes bound.new ≡ string_bytes bound.old ++ run_of left.now) }
+fn push_run(bytes: &mut Vec<u8>, left: &[u8]) -> Result<(), OutOfMemory>
+    ensures { OnOk result (bytes.new.items ≡ bytes.old.items ++ run_of left.now) }
 {
     for byte in left {
         if !is_run(*byte) {
             return Ok(());
         }
-        bound.push(*byte as char)?;
+        bytes.push(*byte)?;
     }
     Ok(())
 }
 
 /// Writes a text and the first bytes of another, as long as they are such.
-fn write_run(bound: &mut String, front: &str, left: &[u8]) -> Result<(), OutOfMemory>
-    ensures { OnOk result (string_bytes bound.new ≡ front.now ++ run_of left.now) }
+fn write_run(bytes: &mut Vec<u8>, front: &[u8], left: &[u8]) -> Result<(), OutOfMemory>
+    ensures { OnOk result (bytes.new.items ≡ front.now ++ run_of left.now) }
 {
-    bound.clear();
-    bound.push_str(front)?;
-    push_run(bound, left)
+    bytes.clear();
+    bytes.extend_from_slice(front)?;
+    push_run(bytes, left)
+}
+
+/// Writes the text of these bytes, which may have begun within a character. False says nothing.
+fn write_text(bound: &mut String, bytes: &[u8]) -> Result<bool, OutOfMemory>
+    ensures { IfOk result (λ found. found ≡ true → string_bytes bound.new ≡ bytes.now) }
+{
+    match str::from_utf8(bytes) {
+        Ok(text) => {
+            bound.clear();
+            bound.push_str(text)?;
+            Ok(true)
+        }
+        Err(_) => Ok(false),
+    }
 }
 
 /// Whether the request's key goes on by a greater byte of a plain chunk, and no chunk `*` comes between.
@@ -134,7 +148,8 @@ fn goes_beyond(byte: u8, q: &[u8], place: usize) -> bool
 /// Writes the key's first bytes and the rest of the chunk by which the request's goes on. False says nothing.
 fn after_chunk(
     bound: &mut String,
-    key: &str,
+    bytes: &mut Vec<u8>,
+    key: &[u8],
     q: &[u8],
     at: usize,
     place: usize,
@@ -143,16 +158,17 @@ fn after_chunk(
     requires leads { Leads key.now q.now at Mode.Chunk place }
     ensures { IfOk result (λ found. found ≡ true → SkipsUnmixed q.now key.now (string_bytes bound.new)) }
 {
-    if !goes_beyond(key.as_bytes()[at], q, place) {
+    if !goes_beyond(key[at], q, place) {
         return Ok(false);
     }
-    write_run(bound, &key[..at], &q[place..])?;
-    Ok(true)
+    write_run(bytes, &key[..at], &q[place..])?;
+    Ok(write_text(bound, bytes.as_slice())?)
 }
 
 /// Writes the bound behind a plain chunk, if no mixed key stands before it. False says nothing.
 fn after_keys(
     bound: &mut String,
+    bytes: &mut Vec<u8>,
     mixed: &BTreeSet<String>,
     key: &String,
     q: &str,
@@ -162,7 +178,14 @@ fn after_keys(
     requires leads { Leads (string_bytes key.now) q.now parting.at Mode.Chunk parting.place }
     ensures { IfOk result (λ found. found ≡ true → SkipsListed (map string_bytes mixed.now.keys) q.now (string_bytes key.now) (string_bytes bound.new)) }
 {
-    if after_chunk(bound, key.as_str(), q.as_bytes(), parting.at, parting.place)? {
+    if after_chunk(
+        bound,
+        bytes,
+        key.as_bytes(),
+        q.as_bytes(),
+        parting.at,
+        parting.place,
+    )? {
         Ok(is_clear(mixed, key, bound))
     } else {
         Ok(false)
@@ -172,6 +195,7 @@ fn after_keys(
 /// The step where a key and the request's part.
 fn step_from(
     bound: &mut String,
+    bytes: &mut Vec<u8>,
     mixed: &BTreeSet<String>,
     key: &String,
     q: &str,
@@ -186,7 +210,7 @@ fn step_from(
     let text = key.as_str();
     match next_byte(text.as_bytes()[parting.at], parting.wanted) {
         Some(next) => {
-            if after_keys(bound, mixed, key, q, parting)? {
+            if after_keys(bound, bytes, mixed, key, q, parting)? {
                 Ok(Step::Jump)
             } else {
                 to_byte(bound, text, parting.at, next)
@@ -196,9 +220,10 @@ fn step_from(
     }
 }
 
-/// The step at a key.
+/// The step at a key. The bytes are room to write in.
 pub fn next_step(
     bound: &mut String,
+    bytes: &mut Vec<u8>,
     mixed: &BTreeSet<String>,
     key: &String,
     q: &str,
@@ -206,7 +231,7 @@ pub fn next_step(
     ensures { IfOk result (StepIs (map string_bytes mixed.now.keys) q.now (string_bytes key.now) (string_bytes bound.new)) }
 {
     match fork(key.as_bytes(), q.as_bytes()) {
-        Some(parting) => step_from(bound, mixed, key, q, parting),
+        Some(parting) => step_from(bound, bytes, mixed, key, q, parting),
         None => Ok(Step::Look),
     }
 }

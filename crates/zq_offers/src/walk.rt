@@ -14,8 +14,8 @@ use std::collections::{BTreeMap, BTreeSet};
 use std::ops::RangeFull;
 use zq_index::holders::{Holders, KeyHolders, Place};
 use zq_index::search::{Step, next_step};
-use zq_key::memory::OutOfMemory;
 use zq_key::intersects;
+use zq_key::memory::OutOfMemory;
 
 /// What is offered for a request on a declared key that meets the request's.
 pub trait KeyOffers<P: Place> {
@@ -70,9 +70,10 @@ fn offers_on_keys<P: Place, K: KeyOffers<P>>(
 {
     let mut offers = Vec::new(alloc);
     let mut bound = String::new(alloc);
+    let mut bytes = Vec::new(alloc);
     let mut rest = keys.range::<RangeFull>(..);
     while let Some((key, holders)) = rest.next() {
-        match next_step(&mut bound, mixed, key, q)? {
+        match next_step(&mut bound, &mut bytes, mixed, key, q)? {
             Step::Look => add_met(&mut offers, source, key.as_str(), holders, q)?,
             Step::Jump => rest = keys.range(&bound..),
             Step::End => return Ok(offers),

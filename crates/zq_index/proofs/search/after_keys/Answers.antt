@@ -8,7 +8,7 @@ pub returns-then-branch : goal.returns-then-branch
 returns-then-branch c clear =
     let key = string_bytes c.args.key.now in
     let bound = string_bytes c.after_chunk.new.bound in
-    let skips =
-    subst (λ t. SkipsUnmixed c.args.q.now t bound) c.as_str.ensures.value
-    (subst (λ t. SkipsUnmixed t c.as_str.result.now bound) c.as_bytes.ensures.value (c.in_ok-after_chunk.ensures c.if-branch.true)) in
+    let skips : SkipsUnmixed c.args.q.now key bound =
+    subst (λ t. SkipsUnmixed c.args.q.now t bound) c.as_bytes.ensures.value
+    (subst (λ t. SkipsUnmixed t c.as_bytes.result.now bound) c.as_bytes-2.ensures.value (c.in_ok-after_chunk.ensures c.if-branch.true)) in
     clear_of (map string_bytes c.args.mixed.now.keys) c.args.q.now key bound c.args.parting.at c.args.parting.wanted c.requires.fork skips (c.is_clear.ensures clear)
