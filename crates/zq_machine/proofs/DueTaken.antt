@@ -2,11 +2,14 @@
 use Rattle.std.proofs.Common.{◌≡◌, ◌∙◌, refl, sym, ap, ℕ, Bool, true, false, cond, eqb-true, List, [], ◌∷◌, fold, Option, Some, None}
 use Rattle.std.specs.Prelude.{◌==◌, ◌≢◌, ◌||◌}
 use Rattle.std.specs.BTreeMap.{is_at}
-use Rattle.std.specs.List.{list_any}
+use Rattle.std.specs.List.{AllByRecursion, list_any}
 use Rattle.std.specs.Option.{option_and_then, option_map_or}
 use Rattle.std.specs.Ordering.{nat_cmp}
-use Rattle.std.proofs.lemmas.Bool.{false≢true, true≢false}
+use Rattle.std.proofs.lemmas.Bool.{eqb-false, false≢true, true≢false}
+use Rattle.std.proofs.lemmas.Cmp.{nat_cmp_total}
+use Rattle.std.proofs.lemmas.Map.Lookups.{exact_unsigned}
 use Rattle.std.proofs.lemmas.Option.{same_Some}
+use Rattle.zq_key.proofs.Lookups.{each_entry}
 use Rattle.zq_message.specs.declared.message.Mode.{Mode}
 use Rattle.zq_message.specs.declared.message.Mode.TheVariants as mode
 use Rattle.zq_message.specs.declared.message.QueryableInfoType.{QueryableInfoType}
@@ -23,10 +26,14 @@ use Rattle.zq_hat.specs.declared.types.Strategy.TheVariants as strategy
 use Rattle.zq_hat.specs.Kept.{at_id, face_at, info, region_info}
 use Rattle.zq_hat.specs.Regions.{in_routers, is_north, strategy_at, strategy_of}
 use Rattle.zq_hat.specs.State.{FaceState, HatState}
+use Rattle.zq_machine.specs.declared.call.Call.{Call}
 use Rattle.zq_machine.specs.declared.face.OpenFace.{OpenFace}
+use Rattle.zq_machine.specs.Configs.{Settings}
+use Rattle.zq_machine.specs.Machine.{state_after}
 use Rattle.zq_machine.specs.Due.{Interests, asks_for, due, fellow_info, heard, heard_as, heard_by, heard_in, interests_of, is_unasked, listens, listens_in, wants}
-use Rattle.zq_machine.specs.State.{Core, at, hat_at, hat_of, is_routing}
+use Rattle.zq_machine.specs.State.{Core, at, hat_at, hat_of, is_routing, opening_state}
 use Rattle.zq_machine.specs.Trees.{own_entry}
+use Rattle.zq_machine.proofs.Agreed.{InOrder, run_in_order}
 use Rattle.zq_machine.proofs.Changing.{one_number}
 
 -- ---- a merge takes in each of its parts
@@ -54,6 +61,10 @@ in_left i a b h = joined_regroup a b i ∙ ap (joined a) (joined_swap b i) ∙ s
 in_right : (i a b : Info) → IsIn i b → IsIn i (joined a b)
 in_right i a b h = joined_regroup a b i ∙ ap (joined a) h
 
+-- what takes in two takes in their merge
+in_both : (a b m : Info) → IsIn a m → IsIn b m → IsIn (joined a b) m
+in_both a b m h k = sym (joined_regroup m a b) ∙ ap (λ x. joined x b) h ∙ k
+
 -- entries are merged, but for those at a number
 module _ {X : Type 0} (n : ℕ) (val : X → Info) where
   abbrev taking : Info → ℕ × X → Info
@@ -79,6 +90,15 @@ module _ {X : Type 0} (n : ℕ) (val : X → Info) where
           let first = ap (λ y. fold taking y es) (here (one_number k e.0 is) (same_Some _ _ found)) ∙ taken_from (joined m (val x)) es in
           ap (λ y. joined y (val x)) first ∙ in_later m (val x) (fold taking None es) ∙ sym first
       by false is found more = more found
+
+  -- what takes in each takes in their merge
+  taken_all : (m : Info) (es : List (ℕ × X)) → AllByRecursion (λ (e : ℕ × X). e.0 ≢ n → IsIn (val e.1) m) es → (a : Info) → IsIn a m → IsIn (fold taking a es) m
+  taken_all m [] all a h = h
+  taken_all m (e ∷ es) all a h = by (e.0 == n) refl (taken_all m es all.1)
+    where
+      by : (b : Bool) → (e.0 == n) ≡ b → ((x : Info) → IsIn x m → IsIn (fold taking x es) m) → IsIn (fold taking (cond b a (joined a (val e.1))) es) m
+      by true is more = more a h
+      by false is more = more (joined a (val e.1)) (in_both a (val e.1) m h (all.0 (eqb-false e.0 n is)))
 
 not_one : (k n : ℕ) → k ≢ n → (k == n) ≡ false
 not_one k n other = by (k == n) refl
@@ -119,6 +139,37 @@ module _ (c : Core) (ints : Interests) (face : ℕ) (key : List ℕ) (o : OpenFa
       by strategy.Client e = inside
       by strategy.Peer e = inside
       by strategy.Router e = absurd (true≢false e)
+
+-- and nothing else is in it: what takes in each of its parts takes in what is due
+pub none_added : (config : Settings) (calls : List Call) (ints : Interests) (face : ℕ) (key : List ℕ) (o : OpenFace) (h : HatState) (m : Info)
+    → at face (state_after (opening_state config) calls).core.faces ≡ Some o → hat_at o.region (state_after (opening_state config) calls).core.hats ≡ Some h
+    → (strategy_at h ≡ strategy.Broker → (fellow : ℕ) (f : FaceState) → fellow ≢ face → face_at fellow h ≡ Some f → joined m (info key f) ≡ m)
+    → ((elsewhere : ℕ) (g : HatState) → elsewhere ≢ region_index o.region → at elsewhere (state_after (opening_state config) calls).core.hats ≡ Some g → joined m (region_info key g) ≡ m)
+    → joined m (due (state_after (opening_state config) calls).core ints face key) ≡ m
+none_added config calls ints face key o h m seen here near far = by (listens (state_after (opening_state config) calls).core ints face key) refl
+  where
+    i : InOrder config (state_after (opening_state config) calls)
+    i = run_in_order config calls
+
+    others : IsIn (own_entry (region_index o.region) key (state_after (opening_state config) calls).core.hats) m
+    others =
+        taken_all (region_index o.region) (region_info key) m (state_after (opening_state config) calls).core.hats
+        (each_entry nat_cmp_total exact_unsigned (λ (e : ℕ × HatState). e.0 ≢ region_index o.region → IsIn (region_info key e.1) m) (state_after (opening_state config) calls).core.hats i.hats.sorted (λ k g there other. far k g other there)) None (joined_none m)
+
+    fellows : strategy_at h ≡ strategy.Broker → IsIn (fellow_info face key h) m
+    fellows broker =
+        taken_all face (info key) m h.faces
+        (each_entry nat_cmp_total exact_unsigned (λ (e : ℕ × FaceState). e.0 ≢ face → IsIn (info key e.1) m) h.faces (i.tied.hats_sorted o.region h here) (λ k f there other. near broker k f other there)) None (joined_none m)
+
+    kind : (k : Strategy) → strategy_at h ≡ k → IsIn (heard_by k (fellow_info face key h) (own_entry (region_index o.region) key (state_after (opening_state config) calls).core.hats)) m
+    kind strategy.Broker is = in_both (fellow_info face key h) (own_entry (region_index o.region) key (state_after (opening_state config) calls).core.hats) m (fellows is) others
+    kind strategy.Client is = others
+    kind strategy.Peer is = others
+    kind strategy.Router is = joined_none m
+
+    by : (b : Bool) → listens (state_after (opening_state config) calls).core ints face key ≡ b → IsIn (due (state_after (opening_state config) calls).core ints face key) m
+    by true on = ap (joined m) (due_heard (state_after (opening_state config) calls).core ints face key o h seen here on) ∙ kind (strategy_at h) refl
+    by false off = ap (λ b. joined m (cond b (heard (state_after (opening_state config) calls).core face key) None)) off ∙ joined_none m
 
 -- in a region of routers nothing is due
 pub routers_undue : (c : Core) (ints : Interests) (face : ℕ) (key : List ℕ) (h : HatState) → hat_of face c ≡ Some h → is_routing h ≡ true → due c ints face key ≡ None

@@ -1,5 +1,5 @@
 //! Laws of what the gateway decides and keeps, as the contracts of calls.
-ghost use Rattle.std.specs.Prelude.{◌≡◌, ◌≢◌, ℕ, List, [], Some, None, false, true};
+ghost use Rattle.std.specs.Prelude.{◌≡◌, ◌≢◌, ℕ, List, [], Option, Some, None, false, true};
 ghost use Rattle.std.specs.List.{AllByRecursion, list_any};
 ghost use Rattle.std.specs.Option.{is_some, option_map_or};
 ghost use Rattle.std.specs.Str.{bytes_eq};
@@ -28,6 +28,7 @@ ghost use Rattle.zq_machine.specs.Trees.{is_touched, own_entry};
 ghost use Rattle.zq_machine.specs.Moved.{DecidesAlike};
 ghost use Rattle.zq_tables.specs.Naming.{NamingState};
 ghost use Rattle.zq_message.specs.declared.message.FaceId.{FaceId};
+ghost use Rattle.zq_message.specs.declared.message.QueryableInfoType.{QueryableInfoType};
 ghost use Rattle.zq_message.specs.declared.message.Request.{Request};
 ghost use Rattle.zq_tables.specs.declared.said.Said.{Said};
 ghost use Rattle.zq_machine.specs.Selecting.{select};
@@ -105,8 +106,8 @@ pub fn interests_alone()
     ensures { (c : Core) (ints others : Interests) (face : ℕ) (key : List ℕ) → interests_of face ints ≡ interests_of face others → due c ints face key ≡ due c others face key }
 {}
 
-/// What a face comes to ask, in the place of nothing or of what asks for the same, changes what is due on
-/// no key but those that it touches.
+/// What a face comes to ask, in the place of nothing or of what asks for the same, changes what is
+/// due on no key but those that it touches.
 pub fn asks_stay()
     ensures { (c : Core) (ints : Interests) (asker id : ℕ) (asked : InterestEntry) → ((old : InterestEntry) → at id (interests_of asker ints) ≡ Some old → old.key ≡ asked.key) → (face : ℕ) (key : List ℕ) → list_any (λ k. bytes_eq k key) (ask_touched asker asked.key c face) ≡ false → due c (with_interest asker id asked ints) face key ≡ due c ints face key }
 {}
@@ -136,6 +137,12 @@ pub fn fellows_heard()
 /// has.
 pub fn regions_heard()
     ensures { (c : Core) (ints : Interests) (face : ℕ) (key : List ℕ) (o : OpenFace) (h : HatState) → at face c.faces ≡ Some o → hat_at o.region c.hats ≡ Some h → listens c ints face key ≡ true → is_routing h ≡ false → (elsewhere : ℕ) (g : HatState) → elsewhere ≢ region_index o.region → at elsewhere c.hats ≡ Some g → joined (due c ints face key) (region_info key g) ≡ due c ints face key }
+{}
+
+/// And nothing else is in it: at every point of every run, what takes in each of these takes in what
+/// is due.
+pub fn none_added()
+    ensures { (config : Settings) (calls : List Call) (ints : Interests) (face : ℕ) (key : List ℕ) (o : OpenFace) (h : HatState) (m : Option QueryableInfoType) → at face (state_after (opening_state config) calls).core.faces ≡ Some o → hat_at o.region (state_after (opening_state config) calls).core.hats ≡ Some h → (strategy_at h ≡ strategy.Broker → (fellow : ℕ) (f : FaceState) → fellow ≢ face → face_at fellow h ≡ Some f → joined m (info key f) ≡ m) → ((elsewhere : ℕ) (g : HatState) → elsewhere ≢ region_index o.region → at elsewhere (state_after (opening_state config) calls).core.hats ≡ Some g → joined m (region_info key g) ≡ m) → joined m (due (state_after (opening_state config) calls).core ints face key) ≡ m }
 {}
 
 /// In a region of routers nothing is due.
