@@ -54,6 +54,7 @@ pub mod Closings
 pub mod Folding
 pub mod DueKeys
 pub mod DueAlone
+pub mod DueTaken
 pub mod DueAsked
 pub mod Dues
 pub mod DuesMoved

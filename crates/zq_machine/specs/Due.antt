@@ -125,7 +125,7 @@ abbrev pub due_touched : Core → TextCall → ℕ → List (List ℕ)
 due_touched c (opening o) face = if face == c.next_face then due_keys c else []
 due_touched c t face = fold (insert_key text_cmp) [] (touched c t)
 
--- the keys on which an interest of a face, with what it asks for, may change what is due to another or itself
+-- the keys on which an interest of the asker may change what is due to a face, by what it asks for: at its own those that it meets
 abbrev pub ask_touched : (asker : ℕ) → Option (List ℕ) → Core → ℕ → List (List ℕ)
 ask_touched asker asked c face = if face == asker then met_keys asked c else []
 

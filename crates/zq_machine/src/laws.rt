@@ -1,11 +1,16 @@
 //! Laws of what the gateway decides and keeps, as the contracts of calls.
-ghost use Rattle.std.specs.Prelude.{◌≡◌, ◌≢◌, ℕ, List, [], Some, None, false, true};
+ghost use Rattle.std.specs.Prelude.{◌≡◌, ◌≢◌, ℕ, List, [], Option, Some, None, false, true};
 ghost use Rattle.std.specs.List.{AllByRecursion, list_any};
-ghost use Rattle.std.specs.Option.{is_some};
+ghost use Rattle.std.specs.Option.{is_some, option_map_or};
 ghost use Rattle.std.specs.Str.{bytes_eq};
 ghost use Rattle.zq_hat.specs.Moved.{Keeps};
 ghost use Rattle.zq_hat.specs.Regions.{is_north, strategy_at};
-ghost use Rattle.zq_hat.specs.State.{HatState};
+ghost use Rattle.zq_hat.specs.State.{FaceState, HatState};
+ghost use Rattle.zq_hat.specs.Kept.{face_at, info, region_info};
+ghost use Rattle.zq_index.specs.Infos.{joined};
+ghost use Rattle.zq_key.specs.Key.{intersects};
+ghost use Rattle.zq_regions.specs.Region.{region_index};
+ghost use Rattle.zq_machine.specs.declared.face.OpenFace.{OpenFace};
 ghost use Rattle.zq_hat.specs.declared.types.Declaration.{Declaration};
 ghost use Rattle.zq_hat.specs.declared.types.InterestEntry.{InterestEntry};
 ghost use Rattle.zq_hat.specs.declared.types.Strategy.TheVariants as strategy;
@@ -14,7 +19,7 @@ ghost use Rattle.zq_machine.specs.declared.call.Call.TheVariants as call;
 ghost use Rattle.zq_machine.specs.declared.call.Opening.{Opening};
 ghost use Rattle.zq_machine.specs.Agreeing.{Agrees};
 ghost use Rattle.zq_machine.specs.Configs.{Settings};
-ghost use Rattle.zq_machine.specs.Due.{Interests, KeysRise, ask_touched, due, due_keys, interests_of, is_due_touched, redeclared, with_interest, without_interest};
+ghost use Rattle.zq_machine.specs.Due.{Interests, KeysRise, ask_touched, due, due_keys, interests_of, is_due_touched, listens, redeclared, with_interest, without_interest};
 ghost use Rattle.zq_machine.specs.DueAlike.{DueAlike};
 ghost use Rattle.zq_machine.specs.Headline.{RunPromise};
 ghost use Rattle.zq_machine.specs.Machine.{after, state_after};
@@ -23,13 +28,14 @@ ghost use Rattle.zq_machine.specs.Trees.{is_touched, own_entry};
 ghost use Rattle.zq_machine.specs.Moved.{DecidesAlike};
 ghost use Rattle.zq_tables.specs.Naming.{NamingState};
 ghost use Rattle.zq_message.specs.declared.message.FaceId.{FaceId};
+ghost use Rattle.zq_message.specs.declared.message.QueryableInfoType.{QueryableInfoType};
 ghost use Rattle.zq_message.specs.declared.message.Request.{Request};
 ghost use Rattle.zq_tables.specs.declared.said.Said.{Said};
 ghost use Rattle.zq_machine.specs.Selecting.{select};
 ghost use Rattle.zq_machine.specs.Standing.{StandAlike};
 ghost use Rattle.zq_machine.specs.Hearing.{CanBeTold, hear};
 ghost use Rattle.zq_machine.specs.Messages.{Telling};
-ghost use Rattle.zq_machine.specs.State.{Core, at, face_region, hat_of, is_open, opening_state};
+ghost use Rattle.zq_machine.specs.State.{Core, at, face_region, hat_at, hat_of, is_open, is_routing, opening_state};
 ghost use Rattle.zq_machine.specs.Writing.{tell};
 
 /// What is decided moves with its texts, by every map that keeps how they relate.
@@ -100,8 +106,8 @@ pub fn interests_alone()
     ensures { (c : Core) (ints others : Interests) (face : ℕ) (key : List ℕ) → interests_of face ints ≡ interests_of face others → due c ints face key ≡ due c others face key }
 {}
 
-/// What a face comes to ask, in the place of nothing or of what asks for the same, changes what is due on
-/// no key but those that it touches.
+/// What a face comes to ask, in the place of nothing or of what asks for the same, changes what is
+/// due on no key but those that it touches.
 pub fn asks_stay()
     ensures { (c : Core) (ints : Interests) (asker id : ℕ) (asked : InterestEntry) → ((old : InterestEntry) → at id (interests_of asker ints) ≡ Some old → old.key ≡ asked.key) → (face : ℕ) (key : List ℕ) → list_any (λ k. bytes_eq k key) (ask_touched asker asked.key c face) ≡ false → due c (with_interest asker id asked ints) face key ≡ due c ints face key }
 {}
@@ -119,6 +125,39 @@ pub fn own_unheard()
 /// But under a broker, a face is not due what faces of its region declared.
 pub fn region_unheard()
     ensures { (c : Core) (ints : Interests) (face fellow : ℕ) (key : List ℕ) (ds : List (ℕ × Declaration)) (h : HatState) → hat_of face c ≡ Some h → strategy_at h ≢ strategy.Broker → face_region fellow c ≡ face_region face c → due (redeclared fellow ds c) ints face key ≡ due c ints face key }
+{}
+
+/// Under a broker, what is due to a face that listens has in it what each other face of its region
+/// declared.
+pub fn fellows_heard()
+    ensures { (c : Core) (ints : Interests) (face : ℕ) (key : List ℕ) (o : OpenFace) (h : HatState) → at face c.faces ≡ Some o → hat_at o.region c.hats ≡ Some h → listens c ints face key ≡ true → strategy_at h ≡ strategy.Broker → (fellow : ℕ) (f : FaceState) → fellow ≢ face → face_at fellow h ≡ Some f → joined (due c ints face key) (info key f) ≡ due c ints face key }
+{}
+
+/// But in a region of routers, what is due to a face that listens has in it what each other region
+/// has.
+pub fn regions_heard()
+    ensures { (c : Core) (ints : Interests) (face : ℕ) (key : List ℕ) (o : OpenFace) (h : HatState) → at face c.faces ≡ Some o → hat_at o.region c.hats ≡ Some h → listens c ints face key ≡ true → is_routing h ≡ false → (elsewhere : ℕ) (g : HatState) → elsewhere ≢ region_index o.region → at elsewhere c.hats ≡ Some g → joined (due c ints face key) (region_info key g) ≡ due c ints face key }
+{}
+
+/// And nothing else is in it: at every point of every run, what takes in each of these takes in what
+/// is due.
+pub fn none_added()
+    ensures { (config : Settings) (calls : List Call) (ints : Interests) (face : ℕ) (key : List ℕ) (o : OpenFace) (h : HatState) (m : Option QueryableInfoType) → at face (state_after (opening_state config) calls).core.faces ≡ Some o → hat_at o.region (state_after (opening_state config) calls).core.hats ≡ Some h → (strategy_at h ≡ strategy.Broker → (fellow : ℕ) (f : FaceState) → fellow ≢ face → face_at fellow h ≡ Some f → joined m (info key f) ≡ m) → ((elsewhere : ℕ) (g : HatState) → elsewhere ≢ region_index o.region → at elsewhere (state_after (opening_state config) calls).core.hats ≡ Some g → joined m (region_info key g) ≡ m) → joined m (due (state_after (opening_state config) calls).core ints face key) ≡ m }
+{}
+
+/// In a region of routers nothing is due.
+pub fn routers_undue()
+    ensures { (c : Core) (ints : Interests) (face : ℕ) (key : List ℕ) (h : HatState) → hat_of face c ≡ Some h → is_routing h ≡ true → due c ints face key ≡ None }
+{}
+
+/// A face listens on a key that has an interest without a key, or with one that meets it.
+pub fn asking_listens()
+    ensures { (c : Core) (ints : Interests) (face : ℕ) (key : List ℕ) (h : HatState) → hat_of face c ≡ Some h → (id : ℕ) (asked : InterestEntry) → at id (interests_of face ints) ≡ Some asked → option_map_or (λ k. intersects k key) asked.key true ≡ true → listens c ints face key ≡ true }
+{}
+
+/// A face in North that is no router's listens on every key.
+pub fn north_listens()
+    ensures { (c : Core) (ints : Interests) (face : ℕ) (key : List ℕ) (h : HatState) → hat_of face c ≡ Some h → is_north h.region ≡ true → is_routing h ≡ false → listens c ints face key ≡ true }
 {}
 
 /// To a face outside North that asks for nothing, nothing is due.
