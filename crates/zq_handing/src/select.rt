@@ -7,7 +7,7 @@ ghost use Rattle.zq_machine.specs.Selecting.{target_of, carries_between, filter_
 ghost use Rattle.zq_handing.specs.Askers.{asker_of};
 ghost use Rattle.std.specs.Prelude.{filter, fold, map, true};
 
-use std::alloc::Global;
+use std::alloc::{AllocError, Global};
 use std::collections::BTreeMap;
 use zq_hat::hat::Hat;
 use zq_hat::strategy::{is_north, same_region};
@@ -43,6 +43,17 @@ fn carries_between(tables: &RegionMap<Gateways>, own: Zid, filter: InterRegionFi
         return false;
     }
     filter.resolve(tables, own)
+}
+
+/// The faces of offers.
+pub fn targets_of(alloc: Global, offers: &[QueryTargetQabl]) -> Result<Vec<FaceId>, AllocError>
+    ensures { IfOk result (λ v. v.items ≡ map target_of offers.now) }
+{
+    let mut targets = Vec::with_capacity(alloc, offers.len())?;
+    for offer in offers {
+        targets.push(offer.face)?;
+    }
+    Ok(targets)
 }
 
 /// Who asks, and what decides between regions.

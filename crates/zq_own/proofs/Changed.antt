@@ -32,7 +32,7 @@ use Rattle.zq_hat.specs.Trees.{own_told, to_children}
 use Rattle.zq_machine.specs.State.{change_hat, hat_at, put_hat}
 use Rattle.zq_machine.specs.Trees.{own_entry, own_told_in, own_told_on, with_other}
 use Rattle.zq_own.specs.declared.entries.NewInfo.{NewInfo}
-use Rattle.zq_own.specs.Own.{has_other_routing, info_as, is_other_routing, own_entry_as, told_as, told_of, with_other_as}
+use Rattle.zq_own.specs.Own.{has_other_routing, info_as, is_other_routing, own_entry_as, told_as, change_told, with_other_as}
 
 -- ---- regions are the same where their indices are
 either : (x y : Bool) → (x ≡ true → y ≡ true) → (y ≡ true → x ≡ true) → x ≡ y
@@ -214,14 +214,14 @@ no_hat r f hats key none = ap (λ o. own_told_on hats (put_hat r f hats o) key) 
 
 -- the same of each of some keys
 pub quiet_each : (r : Region) (change : Change) (hats : List (ℕ × HatState)) (keys : List (List ℕ)) → IsStrictlySortedBy nat_cmp (keys_of hats) → has_other_routing (region_index r) hats ≡ false
-    → flat_map (told_of hats r change) keys ≡ []
-quiet_each r change hats keys sorted none = flat_none (told_of hats r change) keys (λ key. quiet r (changed_by change key) hats key sorted none)
+    → flat_map (change_told hats r change) keys ≡ []
+quiet_each r change hats keys sorted none = flat_none (change_told hats r change) keys (λ key. quiet r (changed_by change key) hats key sorted none)
 
 -- the same of each of some keys of a region without a hat
-pub no_hat_each : (r : Region) (change : Change) (hats : List (ℕ × HatState)) (keys : List (List ℕ)) → hat_at r hats ≡ None → flat_map (told_of hats r change) keys ≡ []
-no_hat_each r change hats keys none = flat_none (told_of hats r change) keys (λ key. no_hat r (changed_by change key) hats key none)
+pub no_hat_each : (r : Region) (change : Change) (hats : List (ℕ × HatState)) (keys : List (List ℕ)) → hat_at r hats ≡ None → flat_map (change_told hats r change) keys ≡ []
+no_hat_each r change hats keys none = flat_none (change_told hats r change) keys (λ key. no_hat r (changed_by change key) hats key none)
 
 -- where a hat changes, what is told is what the new information hands
 pub told_by_change : (r : Region) (change : Change) (key : List ℕ) (h : HatState) (hats : List (ℕ × HatState)) → IsStrictlySortedBy nat_cmp (keys_of hats) → hat_at r hats ≡ Some h
-    → (i : Option QueryableInfoType) → i ≡ region_info key (changed_by change key h) → flat_map (told_as (record { region = r; info = i }) hats key) hats ≡ told_of hats r change key
+    → (i : Option QueryableInfoType) → i ≡ region_info key (changed_by change key h) → flat_map (told_as (record { region = r; info = i }) hats key) hats ≡ change_told hats r change key
 told_by_change r change key h hats sorted there i is = sym (told_changed (record { region = r; info = i }) key (changed_by change key) h hats sorted there (sym is))

@@ -44,5 +44,5 @@ abbrev pub has_other_routing : ℕ → List (ℕ × HatState) → Bool
 has_other_routing place hats = list_any (is_other_routing place) hats
 
 -- what own entries on a key hand, where a region changes
-abbrev pub told_of : List (ℕ × HatState) → Region → Change → List ℕ → List TreeTelling
-told_of hats changed change key = own_told_on hats (change_hat changed (changed_by change key) hats) key
+abbrev pub change_told : List (ℕ × HatState) → Region → Change → List ℕ → List TreeTelling
+change_told hats changed change key = own_told_on hats (change_hat changed (changed_by change key) hats) key

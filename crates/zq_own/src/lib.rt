@@ -3,6 +3,7 @@
 //! as a change of one region would make them.
 //!
 //! - `hats`: the hats of the regions, read and changed
+//! - `seating`: a face that is opened takes its seat
 //! - `entries`: own entries, looked up
 //! - `telling`: whom a change of them is told
 //! - `routers`: what entries of routers change and tell
@@ -13,4 +14,5 @@ pub mod entries;
 pub mod hats;
 pub mod networks;
 pub mod routers;
+pub mod seating;
 pub mod telling;

@@ -8,7 +8,7 @@ ghost use Rattle.zq_regions.specs.RegionMap.{GoByIndex};
 ghost use Rattle.zq_hat.specs.Kept.{has_face, keys_of_face, without_face};
 ghost use Rattle.zq_machine.specs.State.{change_hat, hat_at};
 ghost use Rattle.zq_machine.specs.Trees.{all_own_told};
-ghost use Rattle.zq_own.specs.Own.{has_other_routing, told_as, told_of};
+ghost use Rattle.zq_own.specs.Own.{has_other_routing, told_as, change_told};
 
 use crate::entries::{NewInfo, own_entry, own_entry_as};
 use crate::hats::is_routing;
@@ -89,7 +89,7 @@ pub fn tell_change(
     told: &mut TellingList,
 ) -> Result<(), OutOfMemory>
     requires { hat_at changed hats.now ≡ Some hat.now }
-    ensures { OnOk result (told.new ≡ told.old ++ told_of hats.now changed change.now key.now) }
+    ensures { OnOk result (told.new ≡ told.old ++ change_told hats.now changed change.now key.now) }
 {
     if !has_other_routing(hats, changed) {
         return Ok(());
@@ -111,7 +111,7 @@ pub fn tell_changes(
     told: &mut TellingList,
 ) -> Result<(), OutOfMemory>
     requires { hat_at changed hats.now ≡ Some hat.now }
-    ensures { OnOk result (told.new ≡ told.old ++ flat_map (told_of hats.now changed change.now) keys.now) }
+    ensures { OnOk result (told.new ≡ told.old ++ flat_map (change_told hats.now changed change.now) keys.now) }
 {
     for key in keys {
         tell_change(hats, changed, hat, change, key.as_str(), told)?;

@@ -9,29 +9,17 @@ ghost use Rattle.zq_gateway.specs.Making.{IsReached, Settles};
 ghost use Rattle.zq_own.specs.Seats.{seats};
 
 use crate::gateway::tables::Tables;
-use std::alloc::{AllocError, Global};
-use zq_own::hats;
 use zq_handing::read::{full_text, into_text, says_key};
-use zq_handing::select::Asker;
+use zq_handing::select::{Asker, targets_of};
 use zq_handing::write::written_requests;
 use zq_hat::types::QueryTargetQabl;
 use zq_key::memory::OutOfMemory;
 use zq_key::message::{FaceId, Request};
 use zq_machine::call::{Outcome, Refusal, Step};
 use zq_machine::face::OpenFace;
+use zq_own::hats;
 use zq_query::records::AskRefusal;
 use zq_tables::said::Said;
-
-// The faces of offers.
-fn targets_of(alloc: Global, offers: &[QueryTargetQabl]) -> Result<Vec<FaceId>, AllocError>
-    ensures { IfOk result (λ v. v.items ≡ map target_of offers.now) }
-{
-    let mut targets = Vec::with_capacity(alloc, offers.len())?;
-    for offer in offers {
-        targets.push(offer.face)?;
-    }
-    Ok(targets)
-}
 
 impl Tables {
     // The offers that a request is handed to, of each face one.

@@ -122,7 +122,7 @@ returns c =
     let fresh = ap not held ∙ not_some (text_at id (face_queryables face s.names)) in
     let untold_all = c.untell.ensures ∙ (λ j. untold (c.as_slice.ensures j) (w j).names) ∙ c.in_ok-handed.ensures.back in
     let back : c.take_back.new.names ≡ s.names = c.take_back.ensures ∙ ap (taken_back face id (not c.holds_queryable-fresh.result)) untold_all ∙ put_back face id c.in-Ok.key (not c.holds_queryable-fresh.result) s.names fresh in
-    let left = c.in-Err.ensures.err ∙ ap (λ (x : Core). x.hats) same in
+    let left = c.in-Err-register.ensures.err ∙ ap (λ (x : Core). x.hats) same in
     record {
       step = tt;
       after = tt;

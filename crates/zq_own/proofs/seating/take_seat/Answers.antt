@@ -7,7 +7,7 @@ use Rattle.std.proofs.lemmas.Map.Lookups.{exact_unsigned}
 use Rattle.zq_tables.specs.Naming.{no_keys}
 use Rattle.zq_query.proofs.Owing.{undone}
 use Rattle.zq_machine.specs.Deciding.{opened}
-use Rattle.zq_gateway.proofs.gateway.faces.take_seat.Goals as goal
+use Rattle.zq_own.proofs.seating.take_seat.Goals as goal
 
 pub returns-in-Err-clause-no_names : goal.returns-in-Err-clause-no_names
 returns-in-Err-clause-no_names c =
