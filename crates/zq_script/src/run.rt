@@ -59,7 +59,7 @@ impl Status {
 }
 
 /// What the words of a run ask for.
-#[derive(Clone, Copy, Debug, PartialEq, Eq)]
+#[derive(Clone, Copy)]
 pub enum Command {
     /// `replay`: the source is a script, and the steps of its calls are printed.
     Replay,
