@@ -1,4 +1,4 @@
--- Which texts are listed: each declared key that is mixed.
+-- Which texts are listed: each declared key that is not plain, and once more each mixed one.
 use Rattle.std.proofs.Common.{◌≡◌, ◌≢◌, ◌∙◌, sym, ap, subst, refl, ℕ, Bool, true, false, cond, List, [], ◌∷◌, map, filter, Some, None, Option}
 use Rattle.std.specs.Prelude.{◌&&◌, ◌||◌, String}
 use Rattle.std.specs.declared.alloc.Global.{Global}
@@ -23,7 +23,7 @@ use Rattle.std.proofs.lemmas.Map.Keys.{sorted_head, sorted_tail}
 use Rattle.zq_key.proofs.Runs.{not_below_itself}
 use Rattle.zq_key.proofs.Lookups.{same_key, at_itself, found_after_insertion, each_entry}
 use Rattle.zq_key.proofs.Sorted.{has_put}
-use Rattle.zq_index.specs.Texts.{text_cmp, at_text, has_text, is_mixed, IsListed, NoneAfter, IsFirstAfter}
+use Rattle.zq_index.specs.Texts.{text_cmp, at_text, has_text, Lists, IsListed, lists_without, NoneAfter, IsFirstAfter}
 use Rattle.zq_index.specs.Holders.{IndexBy, HeldBy, with_holding_by, AreListed}
 use Rattle.zq_index.proofs.Orders.{text_total, text_exact}
 
@@ -38,16 +38,16 @@ there_still key t w index =
     ∙ ap (list_any (is_at (text_cmp t))) (keys-set_value (is_at (text_cmp key)) index w)
     ∙ sym (is_some-lookup (is_at (text_cmp t)) index)
 
-pub listed_over : {V : Type 0} (key : List ℕ) (w : V) (index : List (List ℕ × V)) (texts : List (List ℕ)) → AreListed index texts → AreListed (set_value (is_at (text_cmp key)) index w) texts
-listed_over key w index texts listed t some mixed = listed t (sym (there_still key t w index) ∙ some) mixed
+pub listed_over : {V : Type 0} (key : List ℕ) (w : V) (index : List (List ℕ × V)) (lists : Lists) → AreListed index lists → AreListed (set_value (is_at (text_cmp key)) index w) lists
+listed_over key w index lists listed t some = listed t (sym (there_still key t w index) ∙ some)
 
 -- ---- a key comes
-pub listed_in : {V : Type 0} (key : List ℕ) (w : V) (index : List (List ℕ × V)) (texts more : List (List ℕ)) → AreListed index texts → ((t : List ℕ) → has_text t texts ≡ true → has_text t more ≡ true) → IsListed more key → AreListed (insert_entry text_cmp index key w) more
-listed_in key w index texts more listed wider it t some mixed = by (is_at (text_cmp key) t) refl (sym (ap is_some (found_after_insertion text_total text_exact key t w index)) ∙ some)
+pub listed_in : {V : Type 0} (key : List ℕ) (w : V) (index : List (List ℕ × V)) (lists more : Lists) → AreListed index lists → ((t : List ℕ) → IsListed lists t → IsListed more t) → IsListed more key → AreListed (insert_entry text_cmp index key w) more
+listed_in key w index lists more listed wider it t some = by (is_at (text_cmp key) t) refl (sym (ap is_some (found_after_insertion text_total text_exact key t w index)) ∙ some)
   where
-    by : (b : Bool) → is_at (text_cmp key) t ≡ b → is_some (cond b (Some w) (at_text t index)) ≡ true → has_text t more ≡ true
-    by true is found = let same = same_key text_total text_exact key t is in subst (λ k. has_text k more ≡ true) same (it (ap is_mixed same ∙ mixed))
-    by false is found = wider t (listed t found mixed)
+    by : (b : Bool) → is_at (text_cmp key) t ≡ b → is_some (cond b (Some w) (at_text t index)) ≡ true → IsListed more t
+    by true is found = subst (IsListed more) (same_key text_total text_exact key t is) it
+    by false is found = wider t (listed t found)
 
 pub put_in : (key : List ℕ) (texts : List (List ℕ)) → has_text key (insert_key text_cmp texts key) ≡ true
 put_in key texts = has_put text_total text_exact key key texts ∙ ap (λ b. b || has_text key texts) (at_itself text_total text_exact key)
@@ -81,34 +81,36 @@ module _ (key t : List ℕ) (other : is_at (text_cmp key) t ≡ false) where
   still_has [] has = has
   still_has (x ∷ xs) has = has_by x xs (is_at (text_cmp key) x) (is_at (text_cmp t) x) (still_has xs) refl refl has
 
-pub listed_out : {V : Type 0} (key : List ℕ) (index : List (List ℕ × V)) (texts : List (List ℕ)) → AreListed index texts → at_text key (remove_entry (is_at (text_cmp key)) index) ≡ None
-    → AreListed (remove_entry (is_at (text_cmp key)) index) (remove_key (is_at (text_cmp key)) texts)
-listed_out key index texts listed gone t some mixed = by (is_at (text_cmp key) t) refl
+pub listed_out : {V : Type 0} (key : List ℕ) (index : List (List ℕ × V)) (lists : Lists) → AreListed index lists → at_text key (remove_entry (is_at (text_cmp key)) index) ≡ None
+    → AreListed (remove_entry (is_at (text_cmp key)) index) (lists_without key lists)
+listed_out key index lists listed gone t some = by (is_at (text_cmp key) t) refl
   where
-    by : (b : Bool) → is_at (text_cmp key) t ≡ b → has_text t (remove_key (is_at (text_cmp key)) texts) ≡ true
+    by : (b : Bool) → is_at (text_cmp key) t ≡ b → IsListed (lists_without key lists) t
     by true is =
         let same : key ≡ t = same_key text_total text_exact key t is in
         absurd (false≢true (sym (ap is_some gone) ∙ ap (λ k. is_some (at_text k (remove_entry (is_at (text_cmp key)) index))) same ∙ some))
-    by false is = still_has key t is texts (listed t (was_there key t is index some) mixed)
+    by false is =
+        let before = listed t (was_there key t is index some) in
+        (λ wild. still_has key t is lists.0 (before.0 wild), λ mixed. still_has key t is lists.1 (before.1 mixed))
 
 -- a declaration beside others
-pub listed_beside : {P : Type 0} (R : P → P → Ordering) (key : List ℕ) (p : P) (i : QueryableInfoType) (index : IndexBy P) (texts : List (List ℕ)) → is_some (at_text key index) ≡ true → AreListed index texts → AreListed (with_holding_by R key p i index) texts
-listed_beside {P} R key p i index texts there listed = by (at_text key index) there
+pub listed_beside : {P : Type 0} (R : P → P → Ordering) (key : List ℕ) (p : P) (i : QueryableInfoType) (index : IndexBy P) (lists : Lists) → is_some (at_text key index) ≡ true → AreListed index lists → AreListed (with_holding_by R key p i index) lists
+listed_beside {P} R key p i index lists there listed = by (at_text key index) there
   where
-    by : (o : Option (HeldBy P)) → is_some o ≡ true → AreListed (option_map_or (λ hs. set_value (is_at (text_cmp key)) index (insert_entry R hs p i)) o (insert_entry text_cmp index key ((p, i) ∷ []))) texts
-    by (Some hs) there = listed_over key (insert_entry R hs p i) index texts listed
+    by : (o : Option (HeldBy P)) → is_some o ≡ true → AreListed (option_map_or (λ hs. set_value (is_at (text_cmp key)) index (insert_entry R hs p i)) o (insert_entry text_cmp index key ((p, i) ∷ []))) lists
+    by (Some hs) there = listed_over key (insert_entry R hs p i) index lists listed
     by None there = absurd (false≢true there)
 
 -- the first declaration on a key
-pub listed_first : {P : Type 0} (R : P → P → Ordering) (key : List ℕ) (p : P) (i : QueryableInfoType) (index : IndexBy P) (texts more : List (List ℕ)) → at_text key index ≡ None → AreListed index texts → ((t : List ℕ) → has_text t texts ≡ true → has_text t more ≡ true) → IsListed more key → AreListed (with_holding_by R key p i index) more
-listed_first R key p i index texts more none listed wider it =
+pub listed_first : {P : Type 0} (R : P → P → Ordering) (key : List ℕ) (p : P) (i : QueryableInfoType) (index : IndexBy P) (lists more : Lists) → at_text key index ≡ None → AreListed index lists → ((t : List ℕ) → IsListed lists t → IsListed more t) → IsListed more key → AreListed (with_holding_by R key p i index) more
+listed_first R key p i index lists more none listed wider it =
     let first : with_holding_by R key p i index ≡ insert_entry text_cmp index key ((p, i) ∷ []) =
     ap (λ o. option_map_or (λ hs. set_value (is_at (text_cmp key)) index (insert_entry R hs p i)) o (insert_entry text_cmp index key ((p, i) ∷ []))) none in
-    subst (λ es. AreListed es more) (sym first) (listed_in key ((p, i) ∷ []) index texts more listed wider it)
+    subst (λ es. AreListed es more) (sym first) (listed_in key ((p, i) ∷ []) index lists more listed wider it)
 
 -- each entry of an index in order
-pub each_listed : {V : Type 0} (index : List (List ℕ × V)) (texts : List (List ℕ)) → IsStrictlySortedBy text_cmp (keys_of index) → AreListed index texts → AllByRecursion (λ e. IsListed texts e.0) index
-each_listed index texts sorted listed = each_entry text_total text_exact (λ e. IsListed texts e.0) index sorted (λ k v is. listed k (ap is_some is))
+pub each_listed : {V : Type 0} (index : List (List ℕ × V)) (lists : Lists) → IsStrictlySortedBy text_cmp (keys_of index) → AreListed index lists → AllByRecursion (λ e. IsListed lists e.0) index
+each_listed index lists sorted listed = each_entry text_total text_exact (λ e. IsListed lists e.0) index sorted (λ k v is. listed k (ap is_some is))
 
 -- ---- the first text after another
 abbrev is_after : String Global → String Global → Bool

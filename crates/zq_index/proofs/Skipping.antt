@@ -14,19 +14,22 @@ use Rattle.std.specs.List.Sorted.{IsStrictlySortedBy}
 use Rattle.std.specs.Map.{keys_of}
 use Rattle.std.specs.BTreeMap.Range.{entries_between, range_contains}
 use Rattle.std.specs.String.{string_bytes, string_cmp}
-use Rattle.std.proofs.lemmas.Bool.{false≢true}
+use Rattle.std.proofs.lemmas.Bool.{false≢true, false_from_ne_true}
 use Rattle.std.proofs.lemmas.Cmp.{nat_list_cmp_total, ranked}
 use Rattle.std.proofs.lemmas.Map.Keys.{sorted_head, sorted_tail}
 use Rattle.std.proofs.lemmas.Map.Text.{is_eq-slice_cmp}
 use Rattle.std.proofs.lemmas.List.{drop_more, take_more, take-append-drop}
-use Rattle.zq_key.specs.Key.{chunks, intersects}
+use Rattle.zq_key.specs.Key.{chunks, intersects, is_plain}
+use Rattle.zq_key.proofs.Plain.{intersects-plain}
+use Rattle.std.specs.Str.{bytes_eq}
+use Rattle.std.proofs.lemmas.Slice.Eq.{bytes_eq-Decides}
 use Rattle.std.proofs.Math.Nat.{eq-or-lt_of_le}
 use Rattle.zq_key.specs.Apart.{is_wild, Misses}
 use Rattle.zq_index.specs.declared.forks.Mode.TheVariants.{Chunk}
 use Rattle.zq_index.specs.Forks.{IsForkAt, IsHeld, IsLast, IsNext, Leads}
 use Rattle.zq_index.proofs.ForkLemmas.{run_misses, within_from}
 use Rattle.zq_key.proofs.Runs.{Begins, squeezed_run, run_is_less, not_below_itself}
-use Rattle.zq_index.specs.Texts.{text_cmp, texts_of, is_mixed, mixed_after, IsListed, IsFirstAfter, NoneBetween}
+use Rattle.zq_index.specs.Texts.{text_cmp, has_text, texts_of, is_mixed, mixed_after, Lists, IsListed, IsFirstAfter, NoneAfter, NoneBetween}
 use Rattle.zq_index.proofs.Orders.{text_exact}
 use Rattle.zq_index.specs.Skipping.{is_run, run_of, SkipsListed, SkipsUnmixed, NoneFrom, Skips, IsPlaceAbove}
 
@@ -179,7 +182,7 @@ module _ (t q : List ℕ) (held k want : ℕ) (fork : IsForkAt t q k want) (last
       level_skipped t q p (omega (arith, is, fork.in_range)) (climbed n (p + 1) (omega (arith, is)) (omega (arith, from))) (ends_at (p + 1) from (omega (arith, is)))
 
   -- where that is so from the first byte on, nothing is left
-  pub none_above : held ≡ 0 → NoneFrom q t
+  pub none_above : held ≡ 0 → (x : List ℕ) → text_cmp x t ≢ Less → intersects x q ≡ false
   none_above first x above =
       let lt : 0 < length t = omega (arith, fork.in_range) in
       let a = begins_above t 0 lt x x above refl in
@@ -360,7 +363,7 @@ pub all_at_end : {X : Type 0} (P : List ℕ × X → Type 0) (xs ys : List (Stri
 all_at_end P [] ys all = all
 all_at_end P (x ∷ xs) ys all = all_at_end P xs ys all.1
 
--- ---- where mixed keys are listed
+-- ---- where keys are listed
 pub is_less : (r : Ordering) → is_lt r ≡ true → r ≡ Less
 is_less Less h = refl
 is_less Equal h = absurd (false≢true h)
@@ -383,8 +386,8 @@ pub none_between : (texts : List (List ℕ)) (t u first : List ℕ) → IsFirstA
 none_between texts t u first is out s has after below = is.none s has after (below_from_not s u first below out)
 
 -- what is passed over but for mixed texts, where none of these stands between
-pub clear_of : (texts : List (List ℕ)) (q key bound : List ℕ) (k want : ℕ) → IsForkAt key q k want → SkipsUnmixed q key bound → NoneBetween texts key bound → SkipsListed texts q key bound
-clear_of texts q key bound k want fork skips clear = record {
+pub clear_of : (lists : Lists) (q key bound : List ℕ) (k want : ℕ) → IsForkAt key q k want → SkipsUnmixed q key bound → NoneBetween lists.1 key bound → SkipsListed lists q key bound
+clear_of lists q key bound k want fork skips clear = record {
   after = skips.after;
   none = λ t above below listed. by t above below listed (is_mixed t) refl;
 }
@@ -392,11 +395,47 @@ clear_of texts q key bound k want fork skips clear = record {
     itself : intersects key q ≡ false
     itself = (step_skipped key q k want fork).none key (not_below_itself key) (step_skipped key q k want fork).after
 
-    by : (t : List ℕ) → text_cmp t key ≢ Less → text_cmp t bound ≡ Less → IsListed texts t → (b : Bool) → is_mixed t ≡ b → intersects t q ≡ false
+    by : (t : List ℕ) → text_cmp t key ≢ Less → text_cmp t bound ≡ Less → IsListed lists t → (b : Bool) → is_mixed t ≡ b → intersects t q ≡ false
     by t above below listed false plain = skips.none t above below plain
     by t above below listed true mixed = by_order (text_cmp t key) refl
       where
         by_order : (r : Ordering) → text_cmp t key ≡ r → intersects t q ≡ false
         by_order Less is = absurd (above is)
         by_order Equal is = ap (λ x. intersects x q) (text_exact t key is) ∙ itself
-        by_order Greater is = absurd (clear t (listed mixed) (nat_list_cmp_total.antisymm key t ∙ ap ordering_reverse is) below)
+        by_order Greater is = absurd (clear t (listed.1 mixed) (nat_list_cmp_total.antisymm key t ∙ ap ordering_reverse is) below)
+
+-- ---- the step at a plain key
+above_from : (t k : List ℕ) → text_cmp t k ≢ Less → (t ≡ k → ⊥) → text_cmp k t ≡ Less
+above_from t k not_below differ = by (text_cmp t k) refl not_below
+  where
+    by : (r : Ordering) → text_cmp t k ≡ r → r ≢ Less → text_cmp k t ≡ Less
+    by Less is ne = absurd (ne refl)
+    by Equal is ne = absurd (differ (text_exact t k is))
+    by Greater is ne = nat_list_cmp_total.antisymm k t ∙ ap ordering_reverse is
+
+module _ (lists : Lists) (q key : List ℕ) (q_plain : is_plain q ≡ true) (key_plain : is_plain key ≡ true) where
+  misses_plain : (t : List ℕ) → text_cmp t key ≢ Less → IsListed lists t → (t ≡ q → ⊥) → (has_text t lists.0 ≡ true → text_cmp key t ≡ Less → ⊥) → intersects t q ≡ false
+  misses_plain t above listed other unlisted = by (is_plain t) refl
+    where
+      by : (b : Bool) → is_plain t ≡ b → intersects t q ≡ false
+      by true plain = intersects-plain t q plain q_plain ∙ false_from_ne_true (bytes_eq t q) (λ e. other ((bytes_eq-Decides t q).0 e))
+      by false wild = absurd (unlisted (listed.0 wild) (above_from t key above (λ same. false≢true (sym wild ∙ ap is_plain same ∙ key_plain))))
+
+  pub to_listed : (first : List ℕ) → IsFirstAfter lists.0 key first → (text_cmp q key ≡ Less) ⊎ (text_cmp first q ≡ Less) → SkipsListed lists q key first
+  to_listed first is out = record {
+    after = is.after;
+    none = λ t above below listed. misses_plain t above listed (other t above below out) (λ has after. is.none t has after below);
+  }
+    where
+      other : (t : List ℕ) → text_cmp t key ≢ Less → text_cmp t first ≡ Less → (text_cmp q key ≡ Less) ⊎ (text_cmp first q ≡ Less) → t ≡ q → ⊥
+      other t above below (inl less) same = above (ap (λ x. text_cmp x key) same ∙ less)
+      other t above below (inr less) same = not_below_itself t (nat_list_cmp_total.trans t first t below (ap (text_cmp first) same ∙ less))
+
+  pub to_request : text_cmp key q ≡ Less → NoneBetween lists.0 key q → SkipsListed lists q key q
+  to_request less none = record {
+    after = less;
+    none = λ t above below listed. misses_plain t above listed (λ same. not_below_itself t (ap (text_cmp t) same ∙ below)) (λ has after. none t has after below);
+  }
+
+  pub none_from : text_cmp q key ≡ Less → NoneAfter lists.0 key → NoneFrom lists q key
+  none_from less none t above listed = misses_plain t above listed (λ same. above (ap (λ x. text_cmp x key) same ∙ less)) (λ has after. none t has after)

@@ -10,7 +10,7 @@ use Rattle.std.specs.declared.cmp.Ordering.TheVariants.{Equal}
 use Rattle.std.specs.Ordering.{nat_cmp, bool_cmp, ordering_then}
 use Rattle.zq_message.specs.declared.message.QueryableInfoType.{QueryableInfoType}
 use Rattle.zq_index.specs.Infos.{joined}
-use Rattle.zq_index.specs.Texts.{text_cmp, at_text, IsListed}
+use Rattle.zq_index.specs.Texts.{text_cmp, at_text, Lists, IsListed}
 
 -- no two of what the order compares are equal but one with itself
 abbrev pub TellsApart : {P : Type 0} → (P → P → Ordering) → Type 0
@@ -80,9 +80,9 @@ if_any (h ∷ hs) = Some (h ∷ hs)
 abbrev pub with_held : {P : Type 0} → Option QueryableInfoType → P × QueryableInfoType → Option QueryableInfoType
 with_held m h = joined m (Some h.1)
 
--- the texts have each mixed key of the index
-abbrev pub AreListed : {V : Type 0} → List (List ℕ × V) → List (List ℕ) → Type 0
-AreListed index texts = (t : List ℕ) → is_some (at_text t index) ≡ true → IsListed texts t
+-- each key of the index is in the lists, where it has to be
+abbrev pub AreListed : {V : Type 0} → List (List ℕ × V) → Lists → Type 0
+AreListed index lists = (t : List ℕ) → is_some (at_text t index) ≡ true → IsListed lists t
 
 -- the texts are in order, and so are the places of each; each text has a declaration
 pub record IsOrderedBy {P : Type 0} (cmp : P → P → Ordering) (index : IndexBy P) : Type 0 where

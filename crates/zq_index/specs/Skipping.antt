@@ -3,7 +3,7 @@ use Rattle.std.specs.Prelude.{◌≡◌, ◌≢◌, ℕ, ◌+◌, ◌<◌, ◌�
 use Rattle.std.specs.declared.cmp.Ordering.TheVariants.{Less}
 use Rattle.zq_key.specs.Key.{intersects}
 use Rattle.zq_key.specs.Apart.{is_wild}
-use Rattle.zq_index.specs.Texts.{text_cmp, is_mixed, IsListed}
+use Rattle.zq_index.specs.Texts.{text_cmp, is_mixed, Lists, IsListed}
 use Rattle.zq_index.specs.declared.search.Step.{Step}
 use Rattle.zq_index.specs.declared.search.Step.TheVariants.{Look, Jump, End}
 
@@ -33,17 +33,17 @@ pub record SkipsUnmixed (q key bound : List ℕ) : Type 0 where
   pub after : text_cmp key bound ≡ Less
   pub none : (t : List ℕ) → text_cmp t key ≢ Less → text_cmp t bound ≡ Less → is_mixed t ≡ false → intersects t q ≡ false
 
--- the bound comes after the key, and no text from the key on and before the bound that is listed, if it is mixed, meets q
-pub record SkipsListed (texts : List (List ℕ)) (q key bound : List ℕ) : Type 0 where
+-- the bound comes after the key, and no text from the key on and before the bound that is listed, where it has to be, meets q
+pub record SkipsListed (lists : Lists) (q key bound : List ℕ) : Type 0 where
   pub after : text_cmp key bound ≡ Less
-  pub none : (t : List ℕ) → text_cmp t key ≢ Less → text_cmp t bound ≡ Less → IsListed texts t → intersects t q ≡ false
+  pub none : (t : List ℕ) → text_cmp t key ≢ Less → text_cmp t bound ≡ Less → IsListed lists t → intersects t q ≡ false
 
--- no text from the key on meets q
-abbrev pub NoneFrom : List ℕ → List ℕ → Type 0
-NoneFrom q key = (t : List ℕ) → text_cmp t key ≢ Less → intersects t q ≡ false
+-- no text from the key on that is listed, where it has to be, meets q
+abbrev pub NoneFrom : Lists → List ℕ → List ℕ → Type 0
+NoneFrom lists q key = (t : List ℕ) → text_cmp t key ≢ Less → IsListed lists t → intersects t q ≡ false
 
 -- what the next step of a search is: to look at the key; to go on at the bound, before which none meets q; or to end
-abbrev pub StepIs : List (List ℕ) → List ℕ → List ℕ → List ℕ → Step → Type 0
-StepIs texts q key bound Look = Unit {0}
-StepIs texts q key bound Jump = SkipsListed texts q key bound
-StepIs texts q key bound End = NoneFrom q key
+abbrev pub StepIs : Lists → List ℕ → List ℕ → List ℕ → Step → Type 0
+StepIs lists q key bound Look = Unit {0}
+StepIs lists q key bound Jump = SkipsListed lists q key bound
+StepIs lists q key bound End = NoneFrom lists q key

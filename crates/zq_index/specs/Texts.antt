@@ -8,7 +8,9 @@ use Rattle.std.specs.Ordering.{nat_cmp}
 use Rattle.std.specs.declared.alloc.Global.{Global}
 use Rattle.std.specs.declared.cmp.Ordering.{Ordering}
 use Rattle.std.specs.declared.cmp.Ordering.TheVariants.{Less}
+use Rattle.std.specs.Set.{remove_key}
 use Rattle.zq_key.specs.Apart.{is_wild}
+use Rattle.zq_key.specs.Key.{is_plain}
 
 -- texts in the order of their bytes
 abbrev pub text_cmp : List ℕ → List ℕ → Ordering
@@ -35,9 +37,17 @@ mixed_after tame (c ∷ rest) = (tame && is_wild c) || mixed_after (not (is_wild
 abbrev pub is_mixed : List ℕ → Bool
 is_mixed text = mixed_after false text
 
--- the text is among the texts, if it is mixed
-abbrev pub IsListed : List (List ℕ) → List ℕ → Type 0
-IsListed texts t = is_mixed t ≡ true → has_text t texts ≡ true
+-- two lists of keys: of those that are not plain, and of the mixed ones
+abbrev pub Lists : Type 0
+Lists = List (List ℕ) × List (List ℕ)
+
+-- the text is in the one list, if it is not a plain key, and in the other, if it is mixed
+abbrev pub IsListed : Lists → List ℕ → Type 0
+IsListed lists t = (is_plain t ≡ false → has_text t lists.0 ≡ true) × (is_mixed t ≡ true → has_text t lists.1 ≡ true)
+
+-- the lists without the text
+abbrev pub lists_without : List ℕ → Lists → Lists
+lists_without t lists = (remove_key (is_at (text_cmp t)) lists.0, remove_key (is_at (text_cmp t)) lists.1)
 
 -- none of the texts comes after t
 abbrev pub NoneAfter : List (List ℕ) → List ℕ → Type 0

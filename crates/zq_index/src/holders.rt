@@ -1,16 +1,15 @@
 //! Who declared each key, kept beside the faces' own lists so that a key is found by its text.
-ghost use Rattle.std.specs.Prelude.{◌≡◌, [], OnOk, OnErr, IfOk, Some, None, true, is_some, find, filter, fold, Bool, not, length, map, List, ℕ, ◌==◌};
+ghost use Rattle.std.specs.Prelude.{◌≡◌, [], OnOk, OnErr, IfOk, Some, None, true, is_some, find, filter, fold, Bool, not, length, ◌==◌};
 ghost use Rattle.std.specs.List.Sorted.{IsStrictlySortedBy};
 ghost use Rattle.std.specs.Option.{option_copied};
 ghost use Rattle.std.specs.Map.{keys_of, remove_entry, set_value};
 ghost use Rattle.std.specs.BTreeMap.{insert_entry, is_at};
 ghost use Rattle.std.specs.Ordering.{nat_cmp};
-ghost use Rattle.std.specs.String.{string_bytes};
-ghost use Rattle.zq_index.specs.Texts.{text_cmp, at_text, has_text, IsListed, texts_of};
+ghost use Rattle.zq_index.specs.Texts.{text_cmp, at_text, Lists, texts_of};
 ghost use Rattle.zq_index.specs.Holders.{TellsApart, AreListed, with_holding_by, without_holding_by, with_held, rank_cmp, rank_of, HeldBy};
 
 use crate::info::{merge_qabl_infos, same_info};
-use crate::text_set::{copy_texts, is_mixed, put_text, take_text};
+use crate::text_set::KeyLists;
 use std::alloc::Global;
 use std::cmp::Ordering;
 use std::collections::{BTreeMap, BTreeSet};
@@ -243,17 +242,14 @@ impl<P: Place> Holders<P> {
     }
 }
 
-/// The declarations on each key, by the key's text; the mixed keys, of which a chunk goes on to a `$*`
-/// behind other bytes, stand in a set, too.
+/// The declarations on each key, by the key's text; keys that are not plain are listed, too.
 #[derive(Drop)]
 pub struct KeyHolders<P: Place> {
     keys: BTreeMap<String, Holders<P>>,
-    mixed: BTreeSet<String>,
+    lists: KeyLists,
 }
 
 impl<P: Place> Model for KeyHolders<P> {
-    ghost use Rattle.std.specs.Prelude.{map};
-    ghost use Rattle.std.specs.String.{string_bytes};
     ghost use Rattle.zq_index.specs.Holders.{AreListed, IndexBy};
     ghost use Rattle.zq_index.specs.Texts.{texts_of};
 
@@ -261,7 +257,7 @@ impl<P: Place> Model for KeyHolders<P> {
 
     ghost view = { λ k. texts_of k.keys.entries };
 
-    ghost invariant = { λ k. AreListed (texts_of k.keys.entries) (map string_bytes k.mixed.keys) };
+    ghost invariant = { λ k. AreListed (texts_of k.keys.entries) k.lists };
 }
 
 /// The declaration is added to those on a key that has some.
@@ -275,7 +271,7 @@ fn put_beside<P: Place>(
     requires { is_some (at_text key.now (texts_of keys.old.entries)) ≡ true }
     ensures ok { OnOk result (texts_of keys.new.entries ≡ with_holding_by P.cmp key.now place info (texts_of keys.old.entries)) }
     ensures err { OnErr result (texts_of keys.new.entries ≡ texts_of keys.old.entries) }
-    ensures listed { (texts : List (List ℕ)) → AreListed (texts_of keys.old.entries) texts → AreListed (texts_of keys.new.entries) texts }
+    ensures listed { (lists : Lists) → AreListed (texts_of keys.old.entries) lists → AreListed (texts_of keys.new.entries) lists }
 {
     match keys.get_mut(key) {
         Some(holders) => match holders.put(place, info) {
@@ -308,37 +304,23 @@ fn put_first<P: Place>(
     }
 }
 
-/// The key is listed if it is mixed.
-fn list_key(mixed: &mut BTreeSet<String>, alloc: Global, key: &str) -> Result<(), OutOfMemory>
-    ensures ok { OnOk result (IsListed (map string_bytes mixed.new.keys) key.now) }
-    ensures wider { (t : List ℕ) → has_text t (map string_bytes mixed.old.keys) ≡ true → has_text t (map string_bytes mixed.new.keys) ≡ true }
-{
-    if !is_mixed(key.as_bytes()) {
-        return Ok(());
-    }
-    match put_text(mixed, alloc, key) {
-        Ok(()) => Ok(()),
-        Err(error) => Err(error),
-    }
-}
-
-/// The first declaration on a key, which is listed if it is mixed. After want of memory the list
-/// may have it without a declaration.
+/// The first declaration on a key, which is listed where it has to be. After want of memory a list may
+/// have it without a declaration.
 fn put_new<P: Place>(
     keys: &mut BTreeMap<String, Holders<P>>,
-    mixed: &mut BTreeSet<String>,
+    lists: &mut KeyLists,
     alloc: Global,
     key: &str,
     place: P,
     info: QueryableInfoType,
 ) -> Result<(), OutOfMemory>
     requires absent { at_text key.now (texts_of keys.old.entries) ≡ None }
-    requires listed { AreListed (texts_of keys.old.entries) (map string_bytes mixed.old.keys) }
+    requires listed { AreListed (texts_of keys.old.entries) lists.old }
     ensures ok { OnOk result (texts_of keys.new.entries ≡ with_holding_by P.cmp key.now place info (texts_of keys.old.entries)) }
     ensures err { OnErr result (texts_of keys.new.entries ≡ texts_of keys.old.entries) }
-    ensures listed { AreListed (texts_of keys.new.entries) (map string_bytes mixed.new.keys) }
+    ensures listed { AreListed (texts_of keys.new.entries) lists.new }
 {
-    list_key(mixed, alloc, key)?;
+    lists.put(alloc, key)?;
     match put_first(keys, alloc, key, place, info) {
         Ok(()) => Ok(()),
         Err(error) => Err(error),
@@ -350,7 +332,7 @@ fn put_new<P: Place>(
 fn take_from<P: Place>(keys: &mut BTreeMap<String, Holders<P>>, key: &str, place: P) -> bool
     requires { is_some (at_text key.now (texts_of keys.old.entries)) ≡ true }
     ensures after { (hs : HeldBy P) → at_text key.now (texts_of keys.old.entries) ≡ Some hs → (result ≡ (length (remove_entry (is_at (P.cmp place)) hs) == 0)) × (texts_of keys.new.entries ≡ set_value (is_at (text_cmp key.now)) (texts_of keys.old.entries) (remove_entry (is_at (P.cmp place)) hs)) }
-    ensures listed { (texts : List (List ℕ)) → AreListed (texts_of keys.old.entries) texts → AreListed (texts_of keys.new.entries) texts }
+    ensures listed { (lists : Lists) → AreListed (texts_of keys.old.entries) lists → AreListed (texts_of keys.new.entries) lists }
 {
     match keys.get_mut(key) {
         Some(holders) => holders.take(place),
@@ -367,18 +349,14 @@ fn drop_key<P: Place>(keys: &mut BTreeMap<String, Holders<P>>, key: &str)
     let _ = keys.remove(key);
 }
 
-/// The key goes from the list, too.
-fn drop_last<P: Place>(
-    keys: &mut BTreeMap<String, Holders<P>>,
-    mixed: &mut BTreeSet<String>,
-    key: &str,
-)
-    requires { AreListed (texts_of keys.old.entries) (map string_bytes mixed.old.keys) }
+/// The key goes from the lists, too.
+fn drop_last<P: Place>(keys: &mut BTreeMap<String, Holders<P>>, lists: &mut KeyLists, key: &str)
+    requires { AreListed (texts_of keys.old.entries) lists.old }
     ensures after { texts_of keys.new.entries ≡ remove_entry (is_at (text_cmp key.now)) (texts_of keys.old.entries) }
-    ensures listed { AreListed (texts_of keys.new.entries) (map string_bytes mixed.new.keys) }
+    ensures listed { AreListed (texts_of keys.new.entries) lists.new }
 {
     drop_key(keys, key);
-    take_text(mixed, key);
+    lists.take(key);
 }
 
 /// An equal entry is put in its place.
@@ -420,7 +398,7 @@ impl<P: Place> KeyHolders<P> {
     {
         Ok(KeyHolders {
             keys: copy_keys(&self.keys, alloc)?,
-            mixed: copy_texts(&self.mixed)?,
+            lists: self.lists.copy()?,
         })
     }
 
@@ -430,7 +408,7 @@ impl<P: Place> KeyHolders<P> {
     {
         KeyHolders {
             keys: BTreeMap::new(alloc),
-            mixed: BTreeSet::new(alloc),
+            lists: KeyLists::new(alloc),
         }
     }
 
@@ -441,11 +419,11 @@ impl<P: Place> KeyHolders<P> {
         &self.keys
     }
 
-    /// The mixed keys.
-    pub fn mixed(&self) -> &BTreeSet<String>
-        ensures { AreListed self.now (map string_bytes result.now.keys) }
+    /// The keys that are listed besides.
+    pub fn lists(&self) -> &KeyLists
+        ensures { AreListed self.now result.now }
     {
-        &self.mixed
+        &self.lists
     }
 
     /// The declarations on the key.
@@ -480,7 +458,7 @@ impl<P: Place> KeyHolders<P> {
                 Err(error) => Err(error),
             };
         }
-        put_new(&mut self.keys, &mut self.mixed, alloc, key, place, info)
+        put_new(&mut self.keys, &mut self.lists, alloc, key, place, info)
     }
 
     /// Takes out the declaration of the place on the key.
@@ -491,7 +469,7 @@ impl<P: Place> KeyHolders<P> {
             return;
         }
         if take_from(&mut self.keys, key, place) {
-            drop_last(&mut self.keys, &mut self.mixed, key);
+            drop_last(&mut self.keys, &mut self.lists, key);
         }
     }
 }

@@ -1,7 +1,7 @@
 //! Who declared each key: the keys in order, and a search among them for what meets a request's.
 //!
 //! - `info`: informations on queryables, and their merge
-//! - `text_set`: texts that are kept in order
+//! - `text_set`: texts that are kept in order, and the keys that are listed beside the others
 //! - `holders`: the declarations on each key, by its text
 //! - `forks`: where a text and a key part, chunk by chunk
 //! - `search`: which keys a search for a request's passes over

@@ -1,18 +1,24 @@
 //! A search among declared keys for those that meet a request's: which are passed over.
 //!
+//! Where both are plain, the search goes on at the request's own text, or at the next key that is not
+//! plain, if that comes first. Else:
+//!
 //! Where a key and the request's part, and the request's goes on by a greater byte, the search goes on at
 //! the first bytes of the key and the rest of the request's chunk: keys with other plain chunks there are
 //! passed over at once. A mixed key may stand between, as `ab$*` before `abc`; where one does, the search
 //! goes on at the next byte alone. Where the request's goes on by a smaller byte, whatever begins like the
 //! key is passed over, and the search ends if nothing that is wild was passed before.
-ghost use Rattle.std.specs.Prelude.{◌≡◌, ◌+◌, ◌<◌, ◌≤◌, ◌++◌, ◌∷◌, [], List, ℕ, IfOk, IfSome, OnOk, map, length, take, slice_index, true};
+ghost use Rattle.std.specs.Prelude.{◌≡◌, ◌+◌, ◌<◌, ◌≤◌, ◌++◌, ◌∷◌, [], List, ℕ, IfOk, IfSome, OnOk, length, take, slice_index, true};
 ghost use Rattle.std.specs.String.{string_bytes};
+ghost use Rattle.zq_key.specs.Key.{is_plain};
+ghost use Rattle.zq_index.specs.Texts.{Lists};
 ghost use Rattle.zq_index.specs.Forks.{IsForkAt, IsHeld, IsLast, Leads};
 ghost use Rattle.zq_index.specs.Skipping.{is_run, run_of, IsPlaceAbove, Skips, SkipsListed, SkipsUnmixed, StepIs};
 
 use crate::forks::{Mode, Parting, fork, next_byte};
-use crate::text_set::is_clear;
-use std::collections::BTreeSet;
+use crate::text_set::{KeyLists, comes_before, compare_texts};
+use std::cmp::Ordering;
+use zq_key::is_plain;
 use zq_key::memory::OutOfMemory;
 use zq_key::pruning::may_be_wild;
 
@@ -71,7 +77,7 @@ fn write_bound(bound: &mut String, front: &str, byte: u8) -> Result<(), OutOfMem
 fn to_byte(bound: &mut String, key: &str, at: usize, byte: u8) -> Result<Step, OutOfMemory>
     requires in_range { at < length key.now }
     requires after { slice_index key.now at < byte }
-    ensures { (texts : List (List ℕ)) (q : List ℕ) → Skips q key.now (take at key.now ++ byte ∷ []) → IfOk result (StepIs texts q key.now (string_bytes bound.new)) }
+    ensures { (lists : Lists) (q : List ℕ) → Skips q key.now (take at key.now ++ byte ∷ []) → IfOk result (StepIs lists q key.now (string_bytes bound.new)) }
 {
     if byte >= 128 {
         return Ok(Step::Look);
@@ -84,7 +90,7 @@ fn to_byte(bound: &mut String, key: &str, at: usize, byte: u8) -> Result<Step, O
 fn past(bound: &mut String, key: &str, held: usize, at: usize) -> Result<Step, OutOfMemory>
     requires within { held ≤ at }
     requires in_range { at < length key.now }
-    ensures { (texts : List (List ℕ)) (q : List ℕ) (want : ℕ) → IsForkAt key.now q at want → IsLast (slice_index key.now at) want → IsHeld key.now q held at → IfOk result (StepIs texts q key.now (string_bytes bound.new)) }
+    ensures { (lists : Lists) (q : List ℕ) (want : ℕ) → IsForkAt key.now q at want → IsLast (slice_index key.now at) want → IsHeld key.now q held at → IfOk result (StepIs lists q key.now (string_bytes bound.new)) }
 {
     if held == 0 {
         return Ok(Step::End);
@@ -169,14 +175,14 @@ fn after_chunk(
 fn after_keys(
     bound: &mut String,
     bytes: &mut Vec<u8>,
-    mixed: &BTreeSet<String>,
+    lists: &KeyLists,
     key: &String,
     q: &str,
     parting: Parting,
 ) -> Result<bool, OutOfMemory>
     requires fork { IsForkAt (string_bytes key.now) q.now parting.at parting.wanted }
     requires leads { Leads (string_bytes key.now) q.now parting.at Mode.Chunk parting.place }
-    ensures { IfOk result (λ found. found ≡ true → SkipsListed (map string_bytes mixed.now.keys) q.now (string_bytes key.now) (string_bytes bound.new)) }
+    ensures { IfOk result (λ found. found ≡ true → SkipsListed lists.now q.now (string_bytes key.now) (string_bytes bound.new)) }
 {
     if after_chunk(
         bound,
@@ -186,7 +192,7 @@ fn after_keys(
         parting.at,
         parting.place,
     )? {
-        Ok(is_clear(mixed, key, bound))
+        Ok(lists.has_none_mixed(key, bound))
     } else {
         Ok(false)
     }
@@ -196,7 +202,7 @@ fn after_keys(
 fn step_from(
     bound: &mut String,
     bytes: &mut Vec<u8>,
-    mixed: &BTreeSet<String>,
+    lists: &KeyLists,
     key: &String,
     q: &str,
     parting: Parting,
@@ -205,12 +211,12 @@ fn step_from(
     requires leads { Leads (string_bytes key.now) q.now parting.at Mode.Chunk parting.place }
     requires held { IsHeld (string_bytes key.now) q.now parting.held parting.at }
     requires within { parting.held ≤ parting.at }
-    ensures { IfOk result (StepIs (map string_bytes mixed.now.keys) q.now (string_bytes key.now) (string_bytes bound.new)) }
+    ensures { IfOk result (StepIs lists.now q.now (string_bytes key.now) (string_bytes bound.new)) }
 {
     let text = key.as_str();
     match next_byte(text.as_bytes()[parting.at], parting.wanted) {
         Some(next) => {
-            if after_keys(bound, bytes, mixed, key, q, parting)? {
+            if after_keys(bound, bytes, lists, key, q, parting)? {
                 Ok(Step::Jump)
             } else {
                 to_byte(bound, text, parting.at, next)
@@ -220,18 +226,72 @@ fn step_from(
     }
 }
 
+/// Writes the bound.
+fn set_bound(bound: &mut String, text: &str) -> Result<(), OutOfMemory>
+    ensures { OnOk result (string_bytes bound.new ≡ text.now) }
+{
+    bound.clear();
+    bound.push_str(text)?;
+    Ok(())
+}
+
+/// The step at a plain key where the request's is plain: on to this one, or to the next that is not
+/// plain.
+fn plain_step(
+    bound: &mut String,
+    lists: &KeyLists,
+    key: &String,
+    q: &str,
+) -> Result<Step, OutOfMemory>
+    requires plain { is_plain q.now ≡ true }
+    requires plain_key { is_plain (string_bytes key.now) ≡ true }
+    ensures { IfOk result (StepIs lists.now q.now (string_bytes key.now) (string_bytes bound.new)) }
+{
+    let next = lists.wild_after(key);
+    match compare_texts(key.as_str(), q) {
+        Ordering::Equal => Ok(Step::Look),
+        Ordering::Less => match next {
+            Some(listed) => {
+                if comes_before(listed.as_str(), q) {
+                    set_bound(bound, listed.as_str())?;
+                    Ok(Step::Jump)
+                } else {
+                    set_bound(bound, q)?;
+                    Ok(Step::Jump)
+                }
+            }
+            None => {
+                set_bound(bound, q)?;
+                Ok(Step::Jump)
+            }
+        },
+        Ordering::Greater => match next {
+            Some(listed) => {
+                set_bound(bound, listed.as_str())?;
+                Ok(Step::Jump)
+            }
+            None => Ok(Step::End),
+        },
+    }
+}
+
 /// The step at a key. The bytes are room to write in.
 pub fn next_step(
     bound: &mut String,
     bytes: &mut Vec<u8>,
-    mixed: &BTreeSet<String>,
+    lists: &KeyLists,
+    plain: bool,
     key: &String,
     q: &str,
 ) -> Result<Step, OutOfMemory>
-    ensures { IfOk result (StepIs (map string_bytes mixed.now.keys) q.now (string_bytes key.now) (string_bytes bound.new)) }
+    requires { plain ≡ is_plain q.now }
+    ensures { IfOk result (StepIs lists.now q.now (string_bytes key.now) (string_bytes bound.new)) }
 {
+    if plain && is_plain(key.as_str()) {
+        return plain_step(bound, lists, key, q);
+    }
     match fork(key.as_bytes(), q.as_bytes()) {
-        Some(parting) => step_from(bound, bytes, mixed, key, q, parting),
+        Some(parting) => step_from(bound, bytes, lists, key, q, parting),
         None => Ok(Step::Look),
     }
 }

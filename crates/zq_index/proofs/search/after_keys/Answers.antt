@@ -1,4 +1,4 @@
-use Rattle.std.proofs.Common.{subst, map}
+use Rattle.std.proofs.Common.{subst}
 use Rattle.std.specs.String.{string_bytes}
 use Rattle.zq_index.specs.Skipping.{SkipsUnmixed}
 use Rattle.zq_index.proofs.Skipping.{clear_of}
@@ -11,4 +11,4 @@ returns-then-branch c clear =
     let skips : SkipsUnmixed c.args.q.now key bound =
     subst (λ t. SkipsUnmixed c.args.q.now t bound) c.as_bytes.ensures.value
     (subst (λ t. SkipsUnmixed t c.as_bytes.result.now bound) c.as_bytes-2.ensures.value (c.in_ok-after_chunk.ensures c.if-branch.true)) in
-    clear_of (map string_bytes c.args.mixed.now.keys) c.args.q.now key bound c.args.parting.at c.args.parting.wanted c.requires.fork skips (c.is_clear.ensures clear)
+    clear_of c.args.lists.now c.args.q.now key bound c.args.parting.at c.args.parting.wanted c.requires.fork skips (c.has_none_mixed.ensures clear)

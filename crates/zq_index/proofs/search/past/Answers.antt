@@ -4,7 +4,7 @@ use Rattle.zq_index.proofs.Skipping.{is_above, none_above}
 use Rattle.zq_index.proofs.search.past.Goals as goal
 
 pub returns-then-held-eq0 : goal.returns-then-held-eq0
-returns-then-held-eq0 c texts q want fork last holds = none_above c.args.key.now q c.args.held c.args.at want fork last holds c.if-held-eq0.true
+returns-then-held-eq0 c texts q want fork last holds x above listed = none_above c.args.key.now q c.args.held c.args.at want fork last holds c.if-held-eq0.true x above
 
 pub returns-in-Some : goal.returns-in-Some
 returns-in-Some c texts q want fork last holds =

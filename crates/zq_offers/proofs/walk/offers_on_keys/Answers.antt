@@ -1,4 +1,4 @@
-use Rattle.std.proofs.Common.{◌∙◌, ap, subst, fold, map, ℕ, List}
+use Rattle.std.proofs.Common.{◌∙◌, ap, subst, fold, ℕ, List}
 use Rattle.std.specs.String.{string_bytes}
 use Rattle.zq_index.specs.Skipping.{StepIs}
 use Rattle.zq_index.proofs.Skipping.{unbounded}
@@ -11,51 +11,51 @@ loop-key-init g c = record {
   next = tt;
   finite = tt;
   stands =
-      stands_first (g.K.KeyOffers.met c.args.source.now c.args.q.now) c.args.q.now (map string_bytes c.args.mixed.now.keys) c.args.keys.now.entries c.range-rest.ensures.ordered
+      stands_first (g.K.KeyOffers.met c.args.source.now c.args.q.now) c.args.q.now c.args.lists.now c.args.keys.now.entries c.range-rest.ensures.ordered
       c.new-offers.result.items c.range-rest.result (c.range-rest.ensures.between tt ∙ unbounded c.args.keys.now.entries) c.new-offers.ensures.items c.requires.keys c.requires.listed;
 }
 
 -- ---- keys are passed over
 pub loop-key-smaller : goal.loop-key-smaller
 loop-key-smaller g c =
-    let texts = map string_bytes c.args.mixed.now.keys in
-    fewer (g.K.KeyOffers.met c.args.source.now c.args.q.now) c.args.q.now texts c.args.keys.now.entries c.range-rest.ensures.ordered
+    let lists = c.args.lists.now in
+    fewer (g.K.KeyOffers.met c.args.source.now c.args.q.now) c.args.q.now lists c.args.keys.now.entries c.range-rest.ensures.ordered
     c.loop-key.offers.items c.loop-key.rest c.loop-key.invariant.stands (c.in-Some.key.now, c.in-Some.holders.now) c.next.new.self c.in-Some.ensures.steps
-    c.next_step.new.bound (subst (StepIs texts c.args.q.now (string_bytes c.in-Some.key.now) (string_bytes c.next_step.new.bound)) c.in-Jump.is c.in_ok-next_step.ensures)
+    c.next_step.new.bound (subst (StepIs lists c.args.q.now (string_bytes c.in-Some.key.now) (string_bytes c.next_step.new.bound)) c.in-Jump.is c.in_ok-next_step.ensures)
     c.range-rest-in-Jump.result (c.range-rest-in-Jump.ensures.between tt)
 
 pub loop-key-preserved : goal.loop-key-preserved
 loop-key-preserved g c =
-    let texts = map string_bytes c.args.mixed.now.keys in
+    let lists = c.args.lists.now in
     record {
       next = tt;
       finite = tt;
       stands =
-          stands_after_jump (g.K.KeyOffers.met c.args.source.now c.args.q.now) c.args.q.now texts c.args.keys.now.entries c.range-rest.ensures.ordered
+          stands_after_jump (g.K.KeyOffers.met c.args.source.now c.args.q.now) c.args.q.now lists c.args.keys.now.entries c.range-rest.ensures.ordered
           c.loop-key.offers.items c.loop-key.rest c.loop-key.invariant.stands (c.in-Some.key.now, c.in-Some.holders.now) c.next.new.self c.in-Some.ensures.steps
-          c.next_step.new.bound (subst (StepIs texts c.args.q.now (string_bytes c.in-Some.key.now) (string_bytes c.next_step.new.bound)) c.in-Jump.is c.in_ok-next_step.ensures)
+          c.next_step.new.bound (subst (StepIs lists c.args.q.now (string_bytes c.in-Some.key.now) (string_bytes c.next_step.new.bound)) c.in-Jump.is c.in_ok-next_step.ensures)
           c.range-rest-in-Jump.result (c.range-rest-in-Jump.ensures.between tt);
     }
 
 -- ---- none is left
 pub returns-in-End : goal.returns-in-End
 returns-in-End g c =
-    let texts = map string_bytes c.args.mixed.now.keys in
-    all_put (g.K.KeyOffers.met c.args.source.now c.args.q.now) c.args.q.now texts c.args.keys.now.entries c.range-rest.ensures.ordered
+    let lists = c.args.lists.now in
+    all_put (g.K.KeyOffers.met c.args.source.now c.args.q.now) c.args.q.now lists c.args.keys.now.entries c.range-rest.ensures.ordered
     c.loop-key.offers.items c.loop-key.rest c.loop-key.invariant.stands (c.in-Some.key.now, c.in-Some.holders.now) c.next.new.self c.in-Some.ensures.steps
-    (subst (StepIs texts c.args.q.now (string_bytes c.in-Some.key.now) (string_bytes c.next_step.new.bound)) c.in-End.is c.in_ok-next_step.ensures)
+    (subst (StepIs lists c.args.q.now (string_bytes c.in-Some.key.now) (string_bytes c.next_step.new.bound)) c.in-End.is c.in_ok-next_step.ensures)
 
 -- ---- a key is looked at
 pub loop-key-preserved-in-Continue-branch-3 : goal.loop-key-preserved-in-Continue-branch-3
 loop-key-preserved-in-Continue-branch-3 g c =
     let met = g.K.KeyOffers.met c.args.source.now c.args.q.now in
-    let texts = map string_bytes c.args.mixed.now.keys in
+    let lists = c.args.lists.now in
     let put = c.in_ok-add_met-in-Look.ensures ∙ ap (λ (t : List ℕ). fold (place offer_cmp) c.loop-key.offers.items (met_offers met c.args.q.now (t, c.in-Some.holders.now))) c.as_str.ensures.value in
     record {
       next = tt;
       finite = tt;
       stands =
-          stands_after_look met c.args.q.now texts c.args.keys.now.entries c.range-rest.ensures.ordered
+          stands_after_look met c.args.q.now lists c.args.keys.now.entries c.range-rest.ensures.ordered
           c.loop-key.offers.items c.loop-key.rest c.loop-key.invariant.stands (c.in-Some.key.now, c.in-Some.holders.now) c.next.new.self c.in-Some.ensures.steps
           c.add_met.new.offers.items put;
     }

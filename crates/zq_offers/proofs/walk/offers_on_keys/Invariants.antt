@@ -1,5 +1,3 @@
-use Rattle.std.proofs.Common.{map}
-use Rattle.std.specs.String.{string_bytes}
 use Rattle.zq_offers.proofs.Walking.{Stands}
 use Rattle.zq_offers.proofs.walk.offers_on_keys.Given as goal
 
@@ -7,5 +5,5 @@ abbrev pub invariant-loop-key : goal.invariant-loop-key
 invariant-loop-key g l = record {
   next : (goal.iterator-loop-key g).can_next l.rest;
   finite : (goal.iterator-loop-key g).is_finite l.rest;
-  stands : Stands (g.K.KeyOffers.met l.source l.q) l.q (map string_bytes l.mixed.keys) l.keys.entries l.offers.items l.rest;
+  stands : Stands (g.K.KeyOffers.met l.source l.q) l.q l.lists l.keys.entries l.offers.items l.rest;
 }
