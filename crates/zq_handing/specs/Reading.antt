@@ -1,5 +1,5 @@
 -- What an expression says, and what refuses it where a key is wanted.
-use Rattle.std.specs.Prelude.{not, List, [], ◌∷◌, Option, Some, None}
+use Rattle.std.specs.Prelude.{not, [], ◌∷◌, Option, Some, None}
 use Rattle.zq_message.specs.declared.message.FaceId.{FaceId}
 use Rattle.zq_message.specs.declared.message.WireExpr.{WireExpr}
 use Rattle.zq_tables.specs.Naming.{NamingState, face_naming, said_of}

@@ -136,5 +136,12 @@ pub fn tell_left(
         return Ok(());
     }
     let keys = hat.keys_of(face)?;
-    tell_changes(hats, region, hat, &Change::Left(face), keys.as_slice(), told)
+    tell_changes(
+        hats,
+        region,
+        hat,
+        &Change::Left(face),
+        keys.as_slice(),
+        told,
+    )
 }

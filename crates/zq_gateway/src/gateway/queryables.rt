@@ -14,16 +14,16 @@ ghost use Rattle.zq_gateway.specs.Making.{IsReached, Performs, Settles};
 ghost use Rattle.zq_gateway.specs.Undoing.{taken_back};
 
 use crate::gateway::tables::Tables;
-use zq_own::hats;
 use zq_handing::read::{key_said, marks_key, said_or_none};
 use zq_handing::tell::{tell, untell};
 use zq_hat::types::{Change, FinalMark, TellingList};
+use zq_key::Key;
 use zq_key::items::Items;
 use zq_key::memory::OutOfMemory;
 use zq_key::message::{FaceId, QueryableInfoType, WireExpr};
-use zq_key::Key;
 use zq_machine::call::{Refusal, Step};
 use zq_machine::handed::HandedList;
+use zq_own::hats;
 use zq_own::telling::tell_change;
 use zq_tables::naming::Naming;
 use zq_tables::said::Said;
