@@ -2,7 +2,7 @@
 //!
 //! - `gateway`: each call is one event
 //! - `runs`: whole runs, with what they promise of each request, reply and final
-//! - what an expression says, which offers are picked, and how messages are written is of `zq_handing`, and the gateway's own entries of `zq_own`, both below; calls, steps and configurations are of `zq_machine`
+//! - what an expression says, which offers are picked, and how messages are written is of `zq_handing`, and the hats of the regions and the gateway's own entries of `zq_own`, both below; calls, steps and configurations are of `zq_machine`
 #![tactic(auto)]
 
 pub mod gateway;
