@@ -1,0 +1,3 @@
+pub mod Slotted
+pub mod Shown
+pub mod Reaching

@@ -1,0 +1,3 @@
+pub mod Ears
+pub mod Telling
+pub mod Rooms
