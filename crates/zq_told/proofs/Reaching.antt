@@ -1,5 +1,5 @@
 -- A fold that has reached something never leaves it: where one step needs too great an id, or has a plan with one, so does the whole.
-use Rattle.std.proofs.Common.{◌≡◌, ◌∙◌, refl, sym, ap, ℕ, zero, suc, ◌+◌, ◌<◌, ◌≤◌, ◌^◌, Bool, true, false, List, [], ◌∷◌, ◌++◌, fold, take, length, get_or, Option, Some, None, arith, true≢false, Err}
+use Rattle.std.proofs.Common.{◌≡◌, ◌∙◌, refl, sym, ap, ℕ, zero, suc, ◌<◌, ◌≤◌, ◌^◌, Bool, true, false, List, [], ◌∷◌, ◌++◌, fold, take, length, get_or, Option, Some, None, arith, true≢false, Err}
 use Rattle.std.specs.Prelude.{◌||◌, not, nat_lt}
 use Rattle.std.specs.Result.{IsErrOf}
 use Rattle.zq_told.specs.declared.types.TellRefusal.{TellRefusal}

@@ -1,5 +1,5 @@
 -- Faces shown without their rooms: what looks them up and changes them goes along.
-use Rattle.std.proofs.Common.{◌≡◌, ◌∙◌, refl, sym, ap, ℕ, ◌<◌, Bool, true, false, cond, fold, subst, true≢false, List, [], ◌∷◌, map, length, Option, Some, None, get_or}
+use Rattle.std.proofs.Common.{◌≡◌, ◌∙◌, refl, sym, ap, ℕ, Bool, true, false, cond, fold, List, [], ◌∷◌, map, Option, Some, None, get_or}
 use Rattle.std.specs.List.{All}
 use Rattle.std.specs.Option.{option_map, option_map_or}
 use Rattle.std.specs.Map.{lookup, remove_entry, set_value}
@@ -16,9 +16,8 @@ use Rattle.std.specs.Option.{is_some}
 use Rattle.std.specs.BTreeMap.{is_at}
 use Rattle.std.specs.Ordering.{nat_cmp}
 use Rattle.zq_key.proofs.Lookups.{at_itself, found_after_write, same_key}
-use Rattle.zq_told.specs.declared.types.ToldEntry.{ToldEntry}
 use Rattle.zq_told.specs.declared.types.FacePlan.{FacePlan}
-use Rattle.zq_told.specs.Ears.{Ear, Ears, at_face}
+use Rattle.zq_told.specs.Ears.{Ear, at_face}
 use Rattle.zq_told.specs.Rooms.{Book, Books, HasRooms, IsRoomy, ear_of, ears_of, has_room, room_at}
 use Rattle.zq_told.specs.Telling.{Row, planned_ear, put_face, put_row}
 

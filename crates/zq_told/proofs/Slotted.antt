@@ -1,7 +1,7 @@
 -- What slots show after a change: their entries, and the keys that have room.
-use Rattle.std.proofs.Common.{◌≡◌, ◌∙◌, refl, sym, ap, subst, ℕ, Bool, true, false, cond, List, [], ◌∷◌, Some, None, Option, true≢false}
+use Rattle.std.proofs.Common.{◌≡◌, ◌∙◌, refl, sym, ap, ℕ, Bool, true, false, cond, List, [], ◌∷◌, Some, None, Option, true≢false}
 use Rattle.std.specs.Option.{is_some, option_and_then, option_map}
-use Rattle.std.specs.List.{AllByRecursion, filter_map, cons_option}
+use Rattle.std.specs.List.{AllByRecursion, cons_option}
 use Rattle.std.specs.List.Sorted.{IsStrictlySortedBy}
 use Rattle.std.specs.Map.{keys_of, remove_entry, set_value}
 use Rattle.std.specs.BTreeMap.{insert_entry, is_at}
@@ -14,7 +14,7 @@ use Rattle.zq_key.proofs.Sorted.{sorted_in, sorted_out, sorted_write}
 use Rattle.zq_index.specs.Texts.{at_text, has_text, text_cmp}
 use Rattle.zq_index.proofs.Orders.{text_exact, text_total}
 use Rattle.zq_told.specs.declared.types.ToldEntry.{ToldEntry}
-use Rattle.zq_told.specs.Rooms.{entries_in, slot_entry}
+use Rattle.zq_told.specs.Rooms.{entries_in}
 use Rattle.zq_told.specs.Telling.{put_row}
 
 abbrev pub Slots : Type 0

@@ -5,12 +5,14 @@
 //! - `plan`: what a face is told of the keys that a call looks at
 //! - `books`: the same of all faces, as a map
 //! - `book`: what one face was told
+//! - `laws`: that a receiver keeps what is due, as contracts
 //! - `slots`: what was told of each key, and rooms for more
 #![tactic(auto)]
 
 mod book;
 mod books;
 pub mod ears;
+pub mod laws;
 mod plan;
 mod slots;
 pub mod types;

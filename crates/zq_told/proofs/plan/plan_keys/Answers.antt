@@ -1,4 +1,4 @@
-use Rattle.std.proofs.Common.{◌≡◌, ◌∙◌, ◌≤◌, ◌^◌, subst, take, fold, get_or, ℕ, List, [], None}
+use Rattle.std.proofs.Common.{◌≡◌, ◌≤◌, ◌^◌, subst, fold, get_or, List, []}
 use Rattle.zq_told.specs.declared.plan.Account.{Account}
 use Rattle.zq_told.specs.Telling.{KeyDue, tell_key}
 use Rattle.zq_told.proofs.Reaching.{err_moves, last_rises, reaches}
