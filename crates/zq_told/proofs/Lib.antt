@@ -6,3 +6,4 @@ pub mod Hearing
 pub mod Settling
 pub mod Numbers
 pub mod Differing
+pub mod Ordered

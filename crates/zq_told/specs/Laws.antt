@@ -1,6 +1,6 @@
 -- The laws of telling: a receiver that reads what it is told by ids alone keeps what is due.
 use Rattle.std.specs.Prelude.{◌≡◌, ℕ, ◌+◌, nat_lt, ◌==◌, ◌||◌, ◌&&◌, Bool, true, false, not, List, [], ◌∷◌, fold, filter, length, map, Option, Some, None, is_none, if◌then◌else◌}
-use Rattle.std.specs.List.{flat_map}
+use Rattle.std.specs.List.{AllByRecursion, flat_map}
 use Rattle.std.specs.List.Sorted.{IsStrictlySortedBy}
 use Rattle.std.specs.Option.{is_some, option_map, option_map_or, option_to_list}
 use Rattle.std.specs.Ordering.{nat_cmp}
@@ -9,7 +9,7 @@ use Rattle.std.specs.Map.{keys_of}
 use Rattle.zq_message.specs.declared.message.QueryableInfoType.{QueryableInfoType}
 use Rattle.zq_index.specs.Texts.{at_text, text_cmp}
 use Rattle.zq_trees.specs.declared.types.Telling.{Telling}
-use Rattle.zq_trees.specs.Tellings.{same_infos}
+use Rattle.zq_trees.specs.Tellings.{same_infos, telling_cmp}
 use Rattle.zq_told.specs.declared.types.FaceDues.{FaceDues}
 use Rattle.zq_told.specs.declared.types.ToldEntry.{ToldEntry}
 use Rattle.zq_told.specs.declared.types.Way.{Way}
@@ -129,3 +129,9 @@ abbrev pub LooksUp : Type 0
 LooksUp =
     (way : Way) (ears : Ears) (dues : List FaceDues) → IsStrictlySortedBy nat_cmp (map (λ (d : FaceDues). d.face.0) dues)
     → (n : ℕ) → at_face n (tell_due way ears dues) ≡ option_map_or (λ keys. option_map (λ (e : Ear). ear_after way n e keys) (at_face n ears)) (keys_for n dues) (at_face n ears)
+
+-- where each face has its keys once, in order of their texts, and the faces stand in order, so do the tellings: by face and key
+abbrev pub TellsInOrder : Type 0
+TellsInOrder =
+    (way : Way) (ears : Ears) (dues : List FaceDues) → IsStrictlySortedBy nat_cmp (map (λ (d : FaceDues). d.face.0) dues) → AllByRecursion (λ (d : FaceDues). InOrder d.keys) dues
+    → IsStrictlySortedBy telling_cmp (tell_faces way ears dues).tellings

@@ -1,5 +1,5 @@
 //! The laws of telling, as the contracts of calls.
-ghost use Rattle.zq_told.specs.Laws.{CountsIds, HeardIsDue, IdsAreGiven, KeepsUp, LooksUp, TellsDifference, TellsEach};
+ghost use Rattle.zq_told.specs.Laws.{CountsIds, HeardIsDue, IdsAreGiven, KeepsUp, LooksUp, TellsDifference, TellsEach, TellsInOrder};
 
 /// A receiver that keeps what a face was told, and reads what a call tells it by ids alone, keeps afterwards
 /// what the face was told then.
@@ -41,4 +41,10 @@ pub fn tells_each()
 /// itself, and of any other what was.
 pub fn looks_up()
     ensures { LooksUp }
+{}
+
+/// Where each face has its keys once, in order, and the faces stand in order, the tellings stand in order of
+/// their faces and keys.
+pub fn tells_in_order()
+    ensures { TellsInOrder }
 {}
