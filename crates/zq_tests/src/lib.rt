@@ -34,6 +34,8 @@ mod script;
 #[cfg(test)]
 mod streams;
 #[cfg(test)]
+mod told;
+#[cfg(test)]
 mod trees;
 #[cfg(test)]
 mod words;
