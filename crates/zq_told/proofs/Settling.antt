@@ -11,8 +11,7 @@ use Rattle.std.specs.BTreeMap.{is_at}
 use Rattle.std.proofs.lemmas.List.Sums.{fold-append}
 use Rattle.std.proofs.lemmas.Map.Keys.{sorted_head, sorted_tail}
 use Rattle.std.proofs.lemmas.Map.Text.{is_eq-slice_cmp}
-use Rattle.zq_key.proofs.Lookups.{either_way, found_after_insertion, found_after_removal, none_above, same_key}
-use Rattle.zq_key.proofs.Sorted.{sorted_in, sorted_out}
+use Rattle.zq_key.proofs.Lookups.{either_way, none_above, same_key}
 use Rattle.zq_message.specs.declared.message.QueryableInfoType.{QueryableInfoType}
 use Rattle.zq_index.specs.Infos.{same_bool, same_info}
 use Rattle.zq_index.specs.Texts.{at_text, text_cmp}
@@ -27,6 +26,7 @@ use Rattle.zq_told.specs.Telling.{KeyDue, Row, declared, entry_for, last_for, pu
 use Rattle.zq_told.specs.Receiver.{Heard, Memory, Tied, forgets, heard_after, is_left, is_over, memory_of, receive}
 use Rattle.zq_told.specs.Laws.{HeardIsDue, InOrder, KeepsUp, aim, ear_after, told_in}
 use Rattle.zq_told.proofs.Entries.{same_text}
+use Rattle.zq_told.proofs.Slotted.{row_found, row_sorted}
 use Rattle.zq_told.proofs.Hearing.{heard_is_told, put_told, tied_same, tied_put, tied_take, tied_kept}
 
 -- ---- informations that are the same
@@ -95,15 +95,6 @@ module _ (n : ℕ) (ear : Memory) (heard : Heard) (t : Tied ear heard) (key : Li
   tied_key Unasked (Some u) (Some i) was = tied_news u i (same_info u.info i) refl was
   tied_key Answering (Some u) (Some i) was = tied_again u i was
   tied_key Ending (Some u) (Some i) was = over_itself (Some u) was
-
--- ---- a key becomes its entry
-pub row_sorted : (k : List ℕ) (o : Option ToldEntry) (es : Told) → InOrder es → InOrder (put_row es (k, o))
-row_sorted k None es s = sorted_out text_cmp (is_at (text_cmp k)) es s
-row_sorted k (Some t) es s = sorted_in text_total es k t s
-
-pub row_found : (k : List ℕ) (o : Option ToldEntry) (es : Told) → InOrder es → (q : List ℕ) → at_text q (put_row es (k, o)) ≡ cond (is_at (text_cmp k) q) o (at_text q es)
-row_found k None es s q = found_after_removal text_total text_exact k q es s
-row_found k (Some t) es s q = found_after_insertion text_total text_exact k q t es
 
 -- ---- many keys
 info_of : Option ToldEntry → Option QueryableInfoType

@@ -14,6 +14,7 @@ use Rattle.zq_key.proofs.Sorted.{sorted_in, sorted_out, sorted_write}
 use Rattle.zq_index.specs.Texts.{at_text, has_text, text_cmp}
 use Rattle.zq_index.proofs.Orders.{text_exact, text_total}
 use Rattle.zq_told.specs.declared.types.ToldEntry.{ToldEntry}
+use Rattle.zq_told.specs.Ears.{Told}
 use Rattle.zq_told.specs.Rooms.{entries_in}
 use Rattle.zq_told.specs.Telling.{put_row}
 
@@ -66,6 +67,15 @@ pub found_entry : (q : List ℕ) (es : Slots) → Sorted es → at_text q (entri
 found_entry q [] s = refl
 found_entry q (e ∷ es) s = found_by q e.0 e.1 es (is_at (text_cmp q) e.0) refl (sorted_head text_cmp e.0 (keys_of es) s) (found_entry q es (sorted_tail text_cmp e.0 (keys_of es) s))
 
+-- ---- a key becomes its entry
+pub row_sorted : (k : List ℕ) (o : Option ToldEntry) (es : Told) → Sorted es → Sorted (put_row es (k, o))
+row_sorted k None es s = sorted_out text_cmp (is_at (text_cmp k)) es s
+row_sorted k (Some t) es s = sorted_in text_total es k t s
+
+pub row_found : (k : List ℕ) (o : Option ToldEntry) (es : Told) → Sorted es → (q : List ℕ) → at_text q (put_row es (k, o)) ≡ cond (is_at (text_cmp k) q) o (at_text q es)
+row_found k None es s q = found_after_removal text_total text_exact k q es s
+row_found k (Some t) es s q = found_after_insertion text_total text_exact k q t es
+
 -- entries are told by what is found
 told_same : (es fs : Slots) → Sorted es → Sorted fs → ((q : List ℕ) → inner (at_text q es) ≡ inner (at_text q fs)) → entries_in es ≡ entries_in fs
 told_same es fs s t h = same_entries text_total text_exact (entries_in es) (entries_in fs) (sorted_entries es s) (sorted_entries fs t) (λ q. found_entry q es s ∙ h q ∙ sym (found_entry q fs t))
@@ -103,26 +113,18 @@ module _ (k : List ℕ) (es : Slots) (s : Sorted es) where
   pub set_sorted : (o : Option ToldEntry) → Sorted (set_value (is_at (text_cmp k)) es o)
   set_sorted o = sorted_write text_cmp (is_at (text_cmp k)) o es s
 
-  row_sorted : (o : Option ToldEntry) → Sorted (put_row (entries_in es) (k, o))
-  row_sorted None = sorted_out text_cmp (is_at (text_cmp k)) (entries_in es) (sorted_entries es s)
-  row_sorted (Some t) = sorted_in text_total (entries_in es) k t (sorted_entries es s)
-
-  row_found : (o : Option ToldEntry) (q : List ℕ) → at_text q (put_row (entries_in es) (k, o)) ≡ cond (is_at (text_cmp k) q) o (at_text q (entries_in es))
-  row_found None q = found_after_removal text_total text_exact k q (entries_in es) (sorted_entries es s)
-  row_found (Some t) q = found_after_insertion text_total text_exact k q t (entries_in es)
-
   inner_by : (b : Bool) (o : Option ToldEntry) (x : Option (Option ToldEntry)) → inner (cond b (Some o) x) ≡ cond b o (inner x)
   inner_by true o x = refl
   inner_by false o x = refl
 
   pub set_told : (o : Option ToldEntry) → is_some (at_text k es) ≡ true → entries_in (set_value (is_at (text_cmp k)) es o) ≡ put_row (entries_in es) (k, o)
   set_told o some =
-      same_entries text_total text_exact (entries_in (set_value (is_at (text_cmp k)) es o)) (put_row (entries_in es) (k, o)) (sorted_entries (set_value (is_at (text_cmp k)) es o) (set_sorted o)) (row_sorted o)
+      same_entries text_total text_exact (entries_in (set_value (is_at (text_cmp k)) es o)) (put_row (entries_in es) (k, o)) (sorted_entries (set_value (is_at (text_cmp k)) es o) (set_sorted o)) (row_sorted k o (entries_in es) (sorted_entries es s))
       (λ q. found_entry q (set_value (is_at (text_cmp k)) es o) (set_sorted o)
       ∙ ap inner (found_after_write text_total text_exact k q o es some)
       ∙ inner_by (is_at (text_cmp k) q) o (at_text q es)
       ∙ ap (cond (is_at (text_cmp k) q) o) (sym (found_entry q es s))
-      ∙ sym (row_found o q))
+      ∙ sym (row_found k o (entries_in es) (sorted_entries es s) q))
 
   pub set_rooms : (o : Option ToldEntry) (q : List ℕ) → has_text q (keys_of (set_value (is_at (text_cmp k)) es o)) ≡ has_text q (keys_of es)
   set_rooms o q = ap (has_text q) (keys-set_value (is_at (text_cmp k)) es o)
@@ -134,8 +136,8 @@ module _ (k : List ℕ) (es : Slots) (s : Sorted es) where
 
   pub gone_told : is_some (at_text k es) ≡ false → entries_in es ≡ put_row (entries_in es) (k, None)
   gone_told e =
-      same_entries text_total text_exact (entries_in es) (put_row (entries_in es) (k, None)) (sorted_entries es s) (row_sorted None)
-      (λ q. sym (gone_by q (is_at (text_cmp k) q) refl e) ∙ sym (row_found None q))
+      same_entries text_total text_exact (entries_in es) (put_row (entries_in es) (k, None)) (sorted_entries es s) (row_sorted k None (entries_in es) (sorted_entries es s))
+      (λ q. sym (gone_by q (is_at (text_cmp k) q) refl e) ∙ sym (row_found k None (entries_in es) (sorted_entries es s) q))
 
   -- a key without a slot is written where it needs none
   pub unset_told : (o : Option ToldEntry) → is_some (at_text k es) ≡ false → (is_some o ≡ true → has_text k (keys_of es) ≡ true) → entries_in es ≡ put_row (entries_in es) (k, o)
