@@ -40,6 +40,8 @@ mod script;
 #[cfg(test)]
 mod streams;
 #[cfg(test)]
+mod told;
+#[cfg(test)]
 mod trees;
 #[cfg(test)]
 mod words;

@@ -1,0 +1,140 @@
+-- Faces shown without their rooms: what looks them up and changes them goes along.
+use Rattle.std.proofs.Common.{◌≡◌, ◌∙◌, refl, sym, ap, ℕ, Bool, true, false, cond, fold, List, [], ◌∷◌, map, Option, Some, None, get_or}
+use Rattle.std.specs.List.{All}
+use Rattle.std.specs.Option.{option_map, option_map_or}
+use Rattle.std.specs.Map.{lookup, remove_entry, set_value}
+use Rattle.std.specs.BTreeMap.{insert_entry}
+use Rattle.std.specs.declared.cmp.Ordering.{Ordering}
+use Rattle.std.specs.declared.cmp.Ordering.TheVariants.{Less, Equal, Greater}
+use Rattle.std.specs.Ordering.{match_ordering}
+use Rattle.std.proofs.lemmas.List.Elements.{All-from_get_or, All-get_or}
+use Rattle.std.proofs.lemmas.Cmp.{nat_cmp_total}
+use Rattle.std.proofs.lemmas.Map.Lookups.{exact_unsigned}
+use Rattle.std.proofs.lemmas.Map.Made.{lookup-map_values}
+use Rattle.std.proofs.lemmas.Map.Steps.{set_value_same}
+use Rattle.std.specs.Option.{is_some}
+use Rattle.std.specs.BTreeMap.{is_at}
+use Rattle.std.specs.Ordering.{nat_cmp}
+use Rattle.zq_key.proofs.Lookups.{at_itself, found_after_write, same_key}
+use Rattle.zq_told.specs.declared.types.FacePlan.{FacePlan}
+use Rattle.zq_told.specs.Ears.{Ear, at_face}
+use Rattle.zq_told.specs.Rooms.{Book, Books, HasRooms, IsRoomy, ear_of, ears_of, has_room, room_at}
+use Rattle.zq_told.specs.Telling.{Row, planned_ear, put_face, put_row}
+
+-- what holds of each holds of each in a weaker form
+pub weaker : {X : Type 0} (P Q : X → Type 0) (d : X) (xs : List X) → ((x : X) → P x → Q x) → All P xs → All Q xs
+weaker P Q d xs h all = All-from_get_or Q xs d (λ i lt. h (get_or xs i d) (All-get_or P xs i d lt all))
+
+pub insert-map : {K X Y : Type 0} (f : X → Y) (cmp : K → K → Ordering) (es : List (K × X)) (k : K) (x : X) → insert_entry cmp (map (λ e. (e.0, f e.1)) es) k (f x) ≡ map (λ e. (e.0, f e.1)) (insert_entry cmp es k x)
+insert-map f cmp [] k x = refl
+insert-map f cmp (e ∷ es) k x = by (cmp k e.0) (insert-map f cmp es k x)
+  where
+    by : (r : Ordering) → insert_entry cmp (map (λ e. (e.0, f e.1)) es) k (f x) ≡ map (λ e. (e.0, f e.1)) (insert_entry cmp es k x)
+        → match_ordering r ((k, f x) ∷ (e.0, f e.1) ∷ map (λ e. (e.0, f e.1)) es) ((e.0, f x) ∷ map (λ e. (e.0, f e.1)) es) ((e.0, f e.1) ∷ insert_entry cmp (map (λ e. (e.0, f e.1)) es) k (f x))
+        ≡ map (λ e. (e.0, f e.1)) (match_ordering r ((k, x) ∷ e ∷ es) ((e.0, x) ∷ es) (e ∷ insert_entry cmp es k x))
+    by Less more = refl
+    by Equal more = refl
+    by Greater more = ap (λ l. (e.0, f e.1) ∷ l) more
+
+module _ {K X Y : Type 0} (f : X → Y) (test : K → Bool) where
+  pub remove-map : (es : List (K × X)) → remove_entry test (map (λ e. (e.0, f e.1)) es) ≡ map (λ e. (e.0, f e.1)) (remove_entry test es)
+  remove-map [] = refl
+  remove-map (e ∷ es) = by (test e.0) (remove-map es)
+    where
+      by : (b : Bool) → remove_entry test (map (λ e. (e.0, f e.1)) es) ≡ map (λ e. (e.0, f e.1)) (remove_entry test es)
+          → cond b (map (λ e. (e.0, f e.1)) es) ((e.0, f e.1) ∷ remove_entry test (map (λ e. (e.0, f e.1)) es)) ≡ map (λ e. (e.0, f e.1)) (cond b es (e ∷ remove_entry test es))
+      by true more = refl
+      by false more = ap (λ l. (e.0, f e.1) ∷ l) more
+
+  pub set-map : (es : List (K × X)) (x : X) → set_value test (map (λ e. (e.0, f e.1)) es) (f x) ≡ map (λ e. (e.0, f e.1)) (set_value test es x)
+  set-map [] x = refl
+  set-map (e ∷ es) x = by (test e.0) (set-map es x)
+    where
+      by : (b : Bool) → set_value test (map (λ e. (e.0, f e.1)) es) (f x) ≡ map (λ e. (e.0, f e.1)) (set_value test es x)
+          → cond b ((e.0, f x) ∷ map (λ e. (e.0, f e.1)) es) ((e.0, f e.1) ∷ set_value test (map (λ e. (e.0, f e.1)) es) (f x)) ≡ map (λ e. (e.0, f e.1)) (cond b ((e.0, x) ∷ es) (e ∷ set_value test es x))
+      by true more = refl
+      by false more = ap (λ l. (e.0, f e.1) ∷ l) more
+
+  -- the value that was found is changed, where one was
+  module _ (g : Y → Y) (h : X → X) (same : (x : X) → g (f x) ≡ f (h x)) (es : List (K × X)) where
+    change-by : (o : Option X) → option_map_or (λ y. set_value test (map (λ e. (e.0, f e.1)) es) (g y)) (option_map f o) (map (λ e. (e.0, f e.1)) es) ≡ map (λ e. (e.0, f e.1)) (option_map_or (λ x. set_value test es (h x)) o es)
+    change-by None = refl
+    change-by (Some x) = ap (set_value test (map (λ e. (e.0, f e.1)) es)) (same x) ∙ set-map es (h x)
+
+    pub change-map : option_map_or (λ y. set_value test (map (λ e. (e.0, f e.1)) es) (g y)) (lookup test (map (λ e. (e.0, f e.1)) es)) (map (λ e. (e.0, f e.1)) es) ≡ map (λ e. (e.0, f e.1)) (option_map_or (λ x. set_value test es (h x)) (lookup test es) es)
+    change-map = ap (λ o. option_map_or (λ y. set_value test (map (λ e. (e.0, f e.1)) es) (g y)) o (map (λ e. (e.0, f e.1)) es)) (lookup-map_values f test es) ∙ change-by (lookup test es)
+
+-- ---- a face's book is changed
+pub shown_at : (n : ℕ) (books : Books) → at_face n (ears_of books) ≡ option_map ear_of (at_face n books)
+shown_at n books = lookup-map_values ear_of (is_at (nat_cmp n)) books
+
+no_row : Row
+no_row = ([], None)
+
+-- wider rooms
+pub rooms_wider : (old new : Books) → ((n : ℕ) (q : List ℕ) → room_at old n q ≡ true → room_at new n q ≡ true) → (p : FacePlan) → HasRooms old p → HasRooms new p
+rooms_wider old new others p = weaker (IsRoomy (room_at old p.face.0)) (IsRoomy (room_at new p.face.0)) no_row p.rows (λ r f h. others p.face.0 r.0 (f h))
+
+-- a face that is not there needs no room
+pub none_needed : (books : Books) (p : FacePlan) → at_face p.face.0 books ≡ None → HasRooms books p
+none_needed books p none = All-from_get_or (IsRoomy (room_at books p.face.0)) p.rows no_row (λ i lt h. ap (λ o. option_map_or (λ (b : Book). has_room b.shelf (get_or p.rows i no_row).0) o true) none)
+
+-- a plan of a face that is not there changes nothing
+pub none_put : (books : Books) (p : FacePlan) → at_face p.face.0 books ≡ None → ears_of books ≡ put_face (ears_of books) p
+none_put books p none = sym (ap (λ o. option_map_or (λ (e : Ear). set_value (is_at (nat_cmp p.face.0)) (ears_of books) (planned_ear p e)) o (ears_of books)) (shown_at p.face.0 books ∙ ap (option_map ear_of) none))
+
+module _ (n : ℕ) (books : Books) (b : Book) (there : at_face n books ≡ Some b) where
+  pub room_is : (q : List ℕ) → room_at books n q ≡ has_room b.shelf q
+  room_is q = ap (λ o. option_map_or (λ (x : Book). has_room x.shelf q) o true) there
+
+  module _ (c : Book) where
+    abbrev written : Books
+    written = set_value (is_at (nat_cmp n)) books c
+
+    pub shown_written : ears_of written ≡ set_value (is_at (nat_cmp n)) (ears_of books) (ear_of c)
+    shown_written = sym (set-map ear_of (is_at (nat_cmp n)) books c)
+
+    pub shown_same : c.last ≡ b.last → c.shelf.told ≡ b.shelf.told → ears_of written ≡ ears_of books
+    shown_same l t =
+        shown_written
+        ∙ ap (set_value (is_at (nat_cmp n)) (ears_of books)) (λ i. record { last = l i; told = t i })
+        ∙ set_value_same (is_at (nat_cmp n)) (ears_of books) (ear_of b) (shown_at n books ∙ ap (option_map ear_of) there)
+
+    pub shown_put : (p : FacePlan) → p.face.0 ≡ n → c.last ≡ p.last → c.shelf.told ≡ fold put_row b.shelf.told p.rows → ears_of written ≡ put_face (ears_of books) p
+    shown_put p same l t =
+        shown_written
+        ∙ ap (set_value (is_at (nat_cmp n)) (ears_of books)) (λ i. record { last = l i; told = t i })
+        ∙ sym (ap (λ o. option_map_or (λ (e : Ear). set_value (is_at (nat_cmp n)) (ears_of books) (planned_ear p e)) o (ears_of books)) (shown_at n books ∙ ap (option_map ear_of) there))
+        ∙ ap (λ m. option_map_or (λ (e : Ear). set_value (is_at (nat_cmp m)) (ears_of books) (planned_ear p e)) (at_face m (ears_of books)) (ears_of books)) (sym same)
+
+    some : is_some (at_face n books) ≡ true
+    some = ap is_some there
+
+    cond_by : (m : ℕ) (q : List ℕ) (x : Bool) (o : Option Book) → option_map_or (λ (y : Book). has_room y.shelf q) (cond x (Some c) o) true ≡ cond x (has_room c.shelf q) (option_map_or (λ (y : Book). has_room y.shelf q) o true)
+    cond_by m q true o = refl
+    cond_by m q false o = refl
+
+    pub room_written : (m : ℕ) (q : List ℕ) → room_at written m q ≡ cond (is_at (nat_cmp n) m) (has_room c.shelf q) (room_at books m q)
+    room_written m q =
+        ap (λ o. option_map_or (λ (y : Book). has_room y.shelf q) o true) (found_after_write nat_cmp_total exact_unsigned n m c books some)
+        ∙ cond_by m q (is_at (nat_cmp n) m) (at_face m books)
+
+    wider_by : (m : ℕ) (q : List ℕ) (x : Bool) → is_at (nat_cmp n) m ≡ x → (has_room b.shelf q ≡ true → has_room c.shelf q ≡ true) → room_at books m q ≡ true → cond x (has_room c.shelf q) (room_at books m q) ≡ true
+    wider_by m q true is h r = h (sym (room_is q) ∙ ap (λ j. room_at books j q) (same_key nat_cmp_total exact_unsigned n m is) ∙ r)
+    wider_by m q false is h r = r
+
+    pub room_wider : ((q : List ℕ) → has_room b.shelf q ≡ true → has_room c.shelf q ≡ true) → (m : ℕ) (q : List ℕ) → room_at books m q ≡ true → room_at written m q ≡ true
+    room_wider h m q r = room_written m q ∙ wider_by m q (is_at (nat_cmp n) m) refl (h q) r
+
+    same_by : (m : ℕ) (q : List ℕ) (x : Bool) → is_at (nat_cmp n) m ≡ x → has_room c.shelf q ≡ has_room b.shelf q → cond x (has_room c.shelf q) (room_at books m q) ≡ room_at books m q
+    same_by m q true is h = h ∙ sym (room_is q) ∙ ap (λ j. room_at books j q) (same_key nat_cmp_total exact_unsigned n m is)
+    same_by m q false is h = refl
+
+    pub room_same : ((q : List ℕ) → has_room c.shelf q ≡ has_room b.shelf q) → (m : ℕ) (q : List ℕ) → room_at written m q ≡ room_at books m q
+    room_same h m q = room_written m q ∙ same_by m q (is_at (nat_cmp n) m) refl (h q)
+
+    itself : is_at (nat_cmp n) n ≡ true
+    itself = at_itself nat_cmp_total exact_unsigned n
+
+    pub here : (q : List ℕ) → room_at written n q ≡ has_room c.shelf q
+    here q = room_written n q ∙ ap (λ x. cond x (has_room c.shelf q) (room_at books n q)) itself

@@ -1,0 +1,18 @@
+use Rattle.std.proofs.Common.{◌∙◌, ap, sym, ℕ}
+use Rattle.std.specs.BTreeMap.{insert_entry}
+use Rattle.std.specs.Ordering.{nat_cmp}
+use Rattle.zq_told.specs.Ears.{Ears, Told}
+use Rattle.zq_told.specs.Rooms.{Books, ear_of, ears_of}
+use Rattle.zq_told.proofs.Shown.{insert-map}
+use Rattle.zq_told.proofs.ears.Ears.open.Goals as goal
+
+abbrev opened_with : ℕ → ℕ → Told → Ears → Ears
+opened_with n last told ears = insert_entry nat_cmp ears n (record { last = last; told = told })
+
+pub returns-in-Ok-clause-ok : goal.returns-in-Ok-clause-ok
+returns-in-Ok-clause-ok c =
+    let n = c.args.face.0 in
+    let es : Books = c.self.inside.books.entries in
+    ap ears_of c.in-Ok.ensures.entries
+    ∙ sym (insert-map ear_of nat_cmp es n c.new.result)
+    ∙ (λ i. opened_with n (c.new.ensures.last i) (c.new.ensures.told i) (ears_of (c.self.view_is i)))

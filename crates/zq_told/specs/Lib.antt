@@ -1,0 +1,5 @@
+pub mod Ears
+pub mod Telling
+pub mod Rooms
+pub mod Receiver
+pub mod Laws

@@ -1,0 +1,59 @@
+-- What faces were told, and for which keys there is room.
+use Rattle.std.specs.Prelude.{◌≡◌, ℕ, Bool, true, List, map, Option}
+use Rattle.std.specs.List.{All, filter_map}
+use Rattle.std.specs.Option.{is_some, option_map, option_map_or}
+use Rattle.zq_index.specs.Texts.{has_text}
+use Rattle.zq_told.specs.declared.types.ToldEntry.{ToldEntry}
+use Rattle.zq_told.specs.declared.types.FacePlan.{FacePlan}
+use Rattle.zq_told.specs.Ears.{Ear, Ears, Told, at_face}
+use Rattle.zq_told.specs.Telling.{Row}
+
+-- what was told of each key, and the keys for which there is room
+pub record Shelf : Type 0 where
+  pub told : Told
+  pub rooms : List (List ℕ)
+
+-- whether there is room for what is told of the key
+abbrev pub has_room : Shelf → List ℕ → Bool
+has_room s key = has_text key s.rooms
+
+-- what is kept of a face, and its rooms
+pub record Book : Type 0 where
+  pub last : ℕ
+  pub shelf : Shelf
+
+-- what is kept of each face, with its rooms
+abbrev pub Books : Type 0
+Books = List (ℕ × Book)
+
+-- what is kept of a face
+abbrev pub ear_of : Book → Ear
+ear_of b = record { last = b.last; told = b.shelf.told }
+
+-- what is kept of each face
+abbrev pub ears_of : Books → Ears
+ears_of books = map (λ e. (e.0, ear_of e.1)) books
+
+-- whether there is room at the face for what is told of the key; a face that is not there needs none
+abbrev pub room_at : Books → ℕ → List ℕ → Bool
+room_at books n key = option_map_or (λ (b : Book). has_room b.shelf key) (at_face n books) true
+
+-- a row that tells has room
+abbrev pub IsRoomy : (List ℕ → Bool) → Row → Type 0
+IsRoomy room r = is_some r.1 ≡ true → room r.0 ≡ true
+
+-- each row of the face's plan has room
+abbrev pub HasRooms : Books → FacePlan → Type 0
+HasRooms books p = All (IsRoomy (room_at books p.face.0)) p.rows
+
+-- each row of the plan has room
+abbrev pub IsReady : List FacePlan → Books → Type 0
+IsReady plan books = All (HasRooms books) plan
+
+-- a slot: a key's entry, or room for one
+abbrev pub slot_entry : List ℕ × Option ToldEntry → Option (List ℕ × ToldEntry)
+slot_entry s = option_map (λ t. (s.0, t)) s.1
+
+-- the entries in slots
+abbrev pub entries_in : List (List ℕ × Option ToldEntry) → Told
+entries_in slots = filter_map slot_entry slots

@@ -1,0 +1,59 @@
+//! What a face was told of a key, what is due to it, and why telling is refused.
+use zq_key::items::Items;
+use zq_key::message::{FaceId, QueryableInfoType};
+use zq_key::text::Text;
+use zq_trees::types::TellingList;
+
+/// What a face was told of a key: the id, and the information under it.
+#[derive(Clone, Copy, Debug)]
+pub struct ToldEntry {
+    pub id: u32,
+    pub info: QueryableInfoType,
+}
+
+/// How a call tells a face: it brings news that no one asked for; it answers an interest of the face;
+/// or an interest of the face ended.
+#[derive(Clone, Copy, Debug)]
+pub enum Way {
+    Unasked,
+    Answering,
+    Ending,
+}
+
+/// Keys that a call looks at, with what is due there.
+pub type KeyDues = Items<(Text, Option<QueryableInfoType>)>;
+
+/// The keys that a call looks at for a face.
+#[derive(Debug, Drop)]
+pub struct FaceDues {
+    pub face: FaceId,
+    pub keys: KeyDues,
+}
+
+/// Keys, and what a face was told of each once the plan is put; none where it was told nothing.
+pub type Rows = Items<(Text, Option<ToldEntry>)>;
+
+/// What a call leaves of a face: the id given last, and the keys that it looked at.
+#[derive(Debug, Drop)]
+pub struct FacePlan {
+    pub(crate) face: FaceId,
+    pub(crate) last: u32,
+    pub(crate) rows: Rows,
+}
+
+/// What a call leaves of faces.
+pub type Plan = Items<FacePlan>;
+
+/// What a call leaves of faces, and what they are told.
+#[derive(Debug, Drop)]
+pub struct Planned {
+    pub plan: Plan,
+    pub tellings: TellingList,
+}
+
+/// Why faces are not told: one of them needs an id above the last of 32 bits, or memory is lacking.
+#[derive(Clone, Copy, Debug, PartialEq, Eq)]
+pub enum TellRefusal {
+    NoFreeId,
+    OutOfMemory,
+}
