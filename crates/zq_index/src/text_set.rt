@@ -47,7 +47,7 @@ pub fn is_mixed(text: &[u8]) -> bool
 
 /// The text joins the others.
 #[tactic(auto, using(crate::proofs::Texts::texts_put))]
-fn put_text(texts: &mut BTreeSet<String>, alloc: Global, text: &str) -> Result<(), OutOfMemory>
+pub fn put_text(texts: &mut BTreeSet<String>, alloc: Global, text: &str) -> Result<(), OutOfMemory>
     ensures ok { OnOk result (map string_bytes texts.new.keys ≡ insert_key text_cmp (map string_bytes texts.old.keys) text.now) }
     ensures err { OnErr result (texts.new.keys ≡ texts.old.keys) }
 {
@@ -58,7 +58,7 @@ fn put_text(texts: &mut BTreeSet<String>, alloc: Global, text: &str) -> Result<(
 }
 
 /// The text leaves the others.
-fn take_text(texts: &mut BTreeSet<String>, text: &str)
+pub fn take_text(texts: &mut BTreeSet<String>, text: &str)
     ensures { map string_bytes texts.new.keys ≡ remove_key (is_at (text_cmp text.now)) (map string_bytes texts.old.keys) }
 {
     let _ = texts.remove(text);
@@ -66,7 +66,7 @@ fn take_text(texts: &mut BTreeSet<String>, text: &str)
 
 /// Equal texts.
 #[tactic(auto, using(crate::proofs::Texts::texts_same))]
-fn copy_texts(texts: &BTreeSet<String>) -> Result<BTreeSet<String>, OutOfMemory>
+pub fn copy_texts(texts: &BTreeSet<String>) -> Result<BTreeSet<String>, OutOfMemory>
     ensures { IfOk result (λ t. map string_bytes t.keys ≡ map string_bytes texts.now.keys) }
 {
     Ok(texts.clone()?)
