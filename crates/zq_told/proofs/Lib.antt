@@ -7,3 +7,4 @@ pub mod Settling
 pub mod Numbers
 pub mod Differing
 pub mod Ordered
+pub mod Calls

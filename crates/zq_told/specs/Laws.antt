@@ -135,3 +135,12 @@ abbrev pub TellsInOrder : Type 0
 TellsInOrder =
     (way : Way) (ears : Ears) (dues : List FaceDues) → IsStrictlySortedBy nat_cmp (map (λ (d : FaceDues). d.face.0) dues) → AllByRecursion (λ (d : FaceDues). InOrder d.keys) dues
     → IsStrictlySortedBy telling_cmp (tell_faces way ears dues).tellings
+
+-- over a whole call: a receiver that keeps what its face was told, and reads by ids alone what the call tells that face, keeps afterwards what the face was told then
+abbrev pub CallKeepsUp : Type 0
+CallKeepsUp =
+    (way : Way) (ears : Ears) (dues : List FaceDues) → IsStrictlySortedBy nat_cmp (map (λ (d : FaceDues). d.face.0) dues)
+    → (n : ℕ) (ear : Ear) (keys : List KeyDue) → at_face n ears ≡ Some ear → keys_for n dues ≡ Some keys → InOrder ear.told → InOrder keys
+    → (heard : Heard) → Tied (memory_of ear) heard
+    → Tied (memory_of (ear_after way n ear keys)) (heard_after way keys heard (filter (is_to n) (tell_faces way ears dues).tellings))
+    × (at_face n (tell_due way ears dues) ≡ Some (ear_after way n ear keys))

@@ -1,5 +1,5 @@
 //! The laws of telling, as the contracts of calls.
-ghost use Rattle.zq_told.specs.Laws.{CountsIds, HeardIsDue, IdsAreGiven, KeepsUp, LooksUp, TellsDifference, TellsEach, TellsInOrder};
+ghost use Rattle.zq_told.specs.Laws.{CallKeepsUp, CountsIds, HeardIsDue, IdsAreGiven, KeepsUp, LooksUp, TellsDifference, TellsEach, TellsInOrder};
 
 /// A receiver that keeps what a face was told, and reads what a call tells it by ids alone, keeps afterwards
 /// what the face was told then.
@@ -47,4 +47,10 @@ pub fn looks_up()
 /// their faces and keys.
 pub fn tells_in_order()
     ensures { TellsInOrder }
+{}
+
+/// Over a whole call: a receiver that keeps what its face was told, and reads by ids alone what the call tells
+/// that face, keeps afterwards what the face was told then.
+pub fn call_keeps_up()
+    ensures { CallKeepsUp }
 {}
