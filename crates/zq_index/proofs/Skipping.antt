@@ -29,9 +29,9 @@ use Rattle.zq_index.specs.declared.forks.Mode.TheVariants.{Chunk}
 use Rattle.zq_index.specs.Forks.{IsForkAt, IsHeld, IsLast, IsNext, Leads}
 use Rattle.zq_index.proofs.ForkLemmas.{run_misses, within_from}
 use Rattle.zq_key.proofs.Runs.{Begins, squeezed_run, run_is_less, not_below_itself}
-use Rattle.zq_index.specs.Texts.{text_cmp, has_text, texts_of, is_mixed, mixed_after, Lists, IsListed, IsFirstAfter, NoneAfter, NoneBetween}
+use Rattle.zq_index.specs.Texts.{text_cmp, has_text, texts_of, is_mixed, mixed_after, Lists, IsListed, IsFirstAfter, NoneBetween}
 use Rattle.zq_index.proofs.Orders.{text_exact}
-use Rattle.zq_index.specs.Skipping.{is_run, run_of, SkipsListed, SkipsUnmixed, NoneFrom, Skips, IsPlaceAbove}
+use Rattle.zq_index.specs.Skipping.{is_run, run_of, SkipsListed, SkipsUnmixed, Skips, IsPlaceAbove}
 
 -- ---- texts between two that begin alike
 same_front : (p xs ys : List ℕ) → text_cmp (p ++ xs) (p ++ ys) ≡ text_cmp xs ys
@@ -421,21 +421,8 @@ module _ (lists : Lists) (q key : List ℕ) (q_plain : is_plain q ≡ true) (key
       by true plain = intersects-plain t q plain q_plain ∙ false_from_ne_true (bytes_eq t q) (λ e. other ((bytes_eq-Decides t q).0 e))
       by false wild = absurd (unlisted (listed.0 wild) (above_from t key above (λ same. false≢true (sym wild ∙ ap is_plain same ∙ key_plain))))
 
-  pub to_listed : (first : List ℕ) → IsFirstAfter lists.0 key first → (text_cmp q key ≡ Less) ⊎ (text_cmp first q ≡ Less) → SkipsListed lists q key first
-  to_listed first is out = record {
-    after = is.after;
-    none = λ t above below listed. misses_plain t above listed (other t above below out) (λ has after. is.none t has after below);
-  }
-    where
-      other : (t : List ℕ) → text_cmp t key ≢ Less → text_cmp t first ≡ Less → (text_cmp q key ≡ Less) ⊎ (text_cmp first q ≡ Less) → t ≡ q → ⊥
-      other t above below (inl less) same = above (ap (λ x. text_cmp x key) same ∙ less)
-      other t above below (inr less) same = not_below_itself t (nat_list_cmp_total.trans t first t below (ap (text_cmp first) same ∙ less))
-
   pub to_request : text_cmp key q ≡ Less → NoneBetween lists.0 key q → SkipsListed lists q key q
   to_request less none = record {
     after = less;
     none = λ t above below listed. misses_plain t above listed (λ same. not_below_itself t (ap (text_cmp t) same ∙ below)) (λ has after. none t has after below);
   }
-
-  pub none_from : text_cmp q key ≡ Less → NoneAfter lists.0 key → NoneFrom lists q key
-  none_from less none t above listed = misses_plain t above listed (λ same. above (ap (λ x. text_cmp x key) same ∙ less)) (λ has after. none t has after)

@@ -1,7 +1,7 @@
 //! A search among declared keys for those that meet a request's: which are passed over.
 //!
-//! Where both are plain, the search goes on at the request's own text, or at the next key that is not
-//! plain, if that comes first. Else:
+//! Where both are plain, and each declared key between them, the search goes on at the request's own
+//! text. Else:
 //!
 //! Where a key and the request's part, and the request's goes on by a greater byte, the search goes on at
 //! the first bytes of the key and the rest of the request's chunk: keys with other plain chunks there are
@@ -16,8 +16,7 @@ ghost use Rattle.zq_index.specs.Forks.{IsForkAt, IsHeld, IsLast, Leads};
 ghost use Rattle.zq_index.specs.Skipping.{is_run, run_of, IsPlaceAbove, Skips, SkipsListed, SkipsUnmixed, StepIs};
 
 use crate::forks::{Mode, Parting, fork, next_byte};
-use crate::text_set::{KeyLists, comes_before, compare_texts};
-use std::cmp::Ordering;
+use crate::text_set::{KeyLists, comes_before};
 use zq_key::is_plain;
 use zq_key::memory::OutOfMemory;
 use zq_key::pruning::may_be_wild;
@@ -192,7 +191,7 @@ fn after_keys(
         parting.at,
         parting.place,
     )? {
-        Ok(lists.has_none_mixed(key, bound))
+        Ok(lists.has_none_mixed(key, bound.as_str()))
     } else {
         Ok(false)
     }
@@ -235,8 +234,8 @@ fn set_bound(bound: &mut String, text: &str) -> Result<(), OutOfMemory>
     Ok(())
 }
 
-/// The step at a plain key where the request's is plain: on to this one, or to the next that is not
-/// plain.
+/// The step at a plain key where the request's is plain: on to this one, if it comes later and each key
+/// between them is plain. To look at the key says nothing.
 fn plain_step(
     bound: &mut String,
     lists: &KeyLists,
@@ -247,31 +246,26 @@ fn plain_step(
     requires plain_key { is_plain (string_bytes key.now) ≡ true }
     ensures { IfOk result (StepIs lists.now q.now (string_bytes key.now) (string_bytes bound.new)) }
 {
-    let next = lists.wild_after(key);
-    match compare_texts(key.as_str(), q) {
-        Ordering::Equal => Ok(Step::Look),
-        Ordering::Less => match next {
-            Some(listed) => {
-                if comes_before(listed.as_str(), q) {
-                    set_bound(bound, listed.as_str())?;
-                    Ok(Step::Jump)
-                } else {
-                    set_bound(bound, q)?;
-                    Ok(Step::Jump)
-                }
-            }
-            None => {
-                set_bound(bound, q)?;
-                Ok(Step::Jump)
-            }
-        },
-        Ordering::Greater => match next {
-            Some(listed) => {
-                set_bound(bound, listed.as_str())?;
-                Ok(Step::Jump)
-            }
-            None => Ok(Step::End),
-        },
+    if !comes_before(key.as_str(), q) || !lists.has_none_wild(key, q) {
+        return Ok(Step::Look);
+    }
+    set_bound(bound, q)?;
+    Ok(Step::Jump)
+}
+
+/// The step at a key by where it and the request's part.
+fn fork_step(
+    bound: &mut String,
+    bytes: &mut Vec<u8>,
+    lists: &KeyLists,
+    key: &String,
+    q: &str,
+) -> Result<Step, OutOfMemory>
+    ensures { IfOk result (StepIs lists.now q.now (string_bytes key.now) (string_bytes bound.new)) }
+{
+    match fork(key.as_bytes(), q.as_bytes()) {
+        Some(parting) => step_from(bound, bytes, lists, key, q, parting),
+        None => Ok(Step::Look),
     }
 }
 
@@ -288,10 +282,10 @@ pub fn next_step(
     ensures { IfOk result (StepIs lists.now q.now (string_bytes key.now) (string_bytes bound.new)) }
 {
     if plain && is_plain(key.as_str()) {
-        return plain_step(bound, lists, key, q);
+        match plain_step(bound, lists, key, q)? {
+            Step::Look => {}
+            step => return Ok(step),
+        }
     }
-    match fork(key.as_bytes(), q.as_bytes()) {
-        Some(parting) => step_from(bound, bytes, lists, key, q, parting),
-        None => Ok(Step::Look),
-    }
+    fork_step(bound, bytes, lists, key, q)
 }

@@ -84,11 +84,11 @@ fn first_after<'a>(texts: &'a BTreeSet<String>, text: &String) -> Option<&'a Str
 }
 
 /// Whether none of the texts stands between two.
-fn is_clear(texts: &BTreeSet<String>, text: &String, end: &String) -> bool
-    ensures { result ≡ true → NoneBetween (map string_bytes texts.now.keys) (string_bytes text.now) (string_bytes end.now) }
+fn is_clear(texts: &BTreeSet<String>, text: &String, end: &str) -> bool
+    ensures { result ≡ true → NoneBetween (map string_bytes texts.now.keys) (string_bytes text.now) end.now }
 {
     match first_after(texts, text) {
-        Some(first) => !comes_before(first.as_str(), end.as_str()),
+        Some(first) => !comes_before(first.as_str(), end),
         None => true,
     }
 }
@@ -168,16 +168,16 @@ impl KeyLists {
         take_text(&mut self.mixed, key);
     }
 
-    /// The first key after a text that is not plain.
-    pub fn wild_after(&self, text: &String) -> Option<&String>
-        ensures { MatchOption result (NoneAfter self.now.0 (string_bytes text.now)) (λ t. IsFirstAfter self.now.0 (string_bytes text.now) (string_bytes t.now)) }
+    /// Whether each key between two texts is plain.
+    pub fn has_none_wild(&self, text: &String, end: &str) -> bool
+        ensures { result ≡ true → NoneBetween self.now.0 (string_bytes text.now) end.now }
     {
-        first_after(&self.wild, text)
+        is_clear(&self.wild, text, end)
     }
 
     /// Whether no mixed key stands between two texts.
-    pub fn has_none_mixed(&self, text: &String, end: &String) -> bool
-        ensures { result ≡ true → NoneBetween self.now.1 (string_bytes text.now) (string_bytes end.now) }
+    pub fn has_none_mixed(&self, text: &String, end: &str) -> bool
+        ensures { result ≡ true → NoneBetween self.now.1 (string_bytes text.now) end.now }
     {
         is_clear(&self.mixed, text, end)
     }

@@ -1,6 +1,7 @@
 use Rattle.std.proofs.Common.{subst}
 use Rattle.std.specs.String.{string_bytes}
 use Rattle.zq_index.specs.Skipping.{SkipsUnmixed}
+use Rattle.zq_index.specs.Texts.{NoneBetween}
 use Rattle.zq_index.proofs.Skipping.{clear_of}
 use Rattle.zq_index.proofs.search.after_keys.Goals as goal
 
@@ -11,4 +12,5 @@ returns-then-branch c clear =
     let skips : SkipsUnmixed c.args.q.now key bound =
     subst (λ t. SkipsUnmixed c.args.q.now t bound) c.as_bytes.ensures.value
     (subst (λ t. SkipsUnmixed t c.as_bytes.result.now bound) c.as_bytes-2.ensures.value (c.in_ok-after_chunk.ensures c.if-branch.true)) in
-    clear_of c.args.lists.now c.args.q.now key bound c.args.parting.at c.args.parting.wanted c.requires.fork skips (c.has_none_mixed.ensures clear)
+    clear_of c.args.lists.now c.args.q.now key bound c.args.parting.at c.args.parting.wanted c.requires.fork skips
+    (subst (NoneBetween c.args.lists.now.1 key) c.as_str.ensures.value (c.has_none_mixed.ensures clear))

@@ -9,10 +9,10 @@ use Rattle.zq_index.proofs.text_set.is_clear.Goals as goal
 
 pub returns-in-Some : goal.returns-in-Some
 returns-in-Some c clear =
-    let end = string_bytes c.args.end.now in
+    let end = c.args.end.now in
     let first = string_bytes c.in-Some.first.now in
     let same : is_lt (text_cmp first end) ≡ c.comes_before.result =
-    (λ i. is_lt (text_cmp (sym c.as_str.ensures.value i) (sym c.as_str-in-Some.ensures.value i))) ∙ sym c.comes_before.ensures in
+    (λ i. is_lt (text_cmp (sym c.as_str.ensures.value i) end)) ∙ sym c.comes_before.ensures in
     none_between (map string_bytes c.args.texts.now.keys) (string_bytes c.args.text.now) end first c.in-Some.ensures (not_less (text_cmp first end) (same ∙ is_false c.comes_before.result clear))
   where
     is_false : (b : Bool) → not b ≡ true → b ≡ false
