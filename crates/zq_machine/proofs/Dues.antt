@@ -31,7 +31,6 @@ use Rattle.zq_hat.specs.Marks.{finalized, marked}
 use Rattle.zq_hat.specs.Regions.{in_routers, is_north, strategy_at}
 use Rattle.zq_hat.specs.Routers.{announced, networked, noded, retracted, source_at}
 use Rattle.zq_hat.specs.State.{FaceState, HatState}
-use Rattle.zq_hat.proofs.Routing.{registered_at}
 use Rattle.zq_machine.specs.declared.call.Call.{Call}
 use Rattle.zq_machine.specs.declared.call.Call.TheVariants as call
 use Rattle.zq_machine.specs.declared.call.Opening.{Opening}
@@ -163,8 +162,7 @@ module _ (face : ℕ) (key : List ℕ) where
   regions_stay c (declaring g id s i node) h off k =
       let passed = all_passed (causes c (declaring g id s i node)) h in
       same_view_of seen g.0 (registered g.0 id (full_text s) node i) c
-      (λ x there. ap seen (registered_at g.0 id (full_text s) node i x)
-      ∙ face_seen g.0 (declare id (full_text s) i) x (declared_info key g.0 id (full_text s) i x (one_off key (full_text s) off) (sym (ap (clashes_in g.0 id (full_text s)) there) ∙ passed.1.1.1.0))) k
+      (λ x there. face_seen g.0 (declare id (full_text s) i) x (declared_info key g.0 id (full_text s) i x (one_off key (full_text s) off) (sym (ap (clashes_in g.0 id (full_text s)) there) ∙ passed.1.1.1.0))) k
   regions_stay c (withdrawing g id) h off k =
       same_view_of seen g.0 (unregistered g.0 id) c
       (λ x there. face_seen g.0 (withdraw id) x (withdrawn_info key g.0 id x
