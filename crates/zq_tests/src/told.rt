@@ -40,12 +40,12 @@ fn told(
     };
     ears.make_room(alloc, planned.plan.as_slice())?;
     ears.put(planned.plan.as_slice());
-    let mut ids = 0;
-    let mut distances = 0;
+    let mut ids: u64 = 0;
+    let mut distances: u64 = 0;
     for telling in planned.tellings.as_slice() {
-        ids += telling.id as u64;
+        ids = ids.wrapping_add(telling.id as u64);
         if let Some(info) = telling.info {
-            distances += info.distance as u64;
+            distances = distances.wrapping_add(info.distance as u64);
         }
     }
     Ok((planned.tellings.len(), ids, distances))
