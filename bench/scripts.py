@@ -169,8 +169,9 @@ def routed(count):
 
 
 def routed_and_withdrawn(count):
+    """Half as many calls as elsewhere: a script has a greatest length."""
     yield from routed(count)
-    for n in range(count, count + CALLS):
+    for n in range(count, count + CALLS // 2):
         yield f'queryable 0 0 0:s:{key(n)} c 0 0'
         yield f'unqueryable 0 0 0:s:{key(n)} 0'
 
