@@ -8,7 +8,8 @@ pub fn keeps_up()
     ensures { KeepsUp }
 {}
 
-/// On each key that a call looks at a receiver keeps exactly what is due, and on any other what it kept.
+/// On each key that a call looks at a receiver keeps exactly what is due (where an interest ended, what it
+/// kept of what is still due), and on any other what it kept.
 #[tactic(auto, using(crate::proofs::Settling::heard_is_due))]
 pub fn heard_is_due()
     ensures { HeardIsDue }
