@@ -10,3 +10,4 @@ pub mod Ordered
 pub mod Skipping
 pub mod ForkLemmas
 pub mod Listed
+pub mod Mapped

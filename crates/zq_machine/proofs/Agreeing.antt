@@ -29,7 +29,7 @@ use Rattle.zq_machine.specs.declared.face.OpenFace.{OpenFace}
 use Rattle.zq_machine.specs.Agreeing.{IsCopy, id_and_key, is_open_in}
 use Rattle.zq_machine.specs.State.{at, hat_at, change_hat, put_hat}
 use Rattle.zq_machine.proofs.Changing.{each_hat, face_here, face_other, face_stays, faces_sorted, found_here, found_other, hat_either, hat_stays, itself, naming_changed, one_number, sorted_changed, there}
-use Rattle.zq_machine.proofs.EntriesMoved.{insert-map, remove-map}
+use Rattle.zq_index.proofs.Mapped.{insert-map, remove-map}
 use Rattle.zq_key.proofs.Sorted.{sorted_in, sorted_out}
 
 -- the hat's copy is how the face was opened; the queryables that hold nodes are the declared ones, which stand in order

@@ -1,5 +1,5 @@
 -- What a gateway asks of a hat and changes in it moves with the hat's texts.
-use Rattle.std.proofs.Common.{◌≡◌, ◌∙◌, refl, sym, ap, ℕ, Bool, true, false, cond, not, List, [], ◌∷◌, map, Option, Some, None}
+use Rattle.std.proofs.Common.{◌≡◌, ◌∙◌, refl, ap, ℕ, Bool, true, false, cond, not, List, [], ◌∷◌, map, Option, Some, None}
 use Rattle.std.specs.Prelude.{◌&&◌}
 use Rattle.std.specs.Option.{option_map, option_map_or, option_and_then, is_some}
 use Rattle.std.specs.Ordering.{nat_cmp}
@@ -23,7 +23,8 @@ use Rattle.zq_hat.specs.State.{FaceState, HatState}
 use Rattle.zq_machine.specs.declared.face.OpenFace.{OpenFace}
 use Rattle.zq_machine.specs.State.{Core, at, is_region, hat_at, has_hat, hat_of, is_full_region, put_hat, change_hat, change_hat_of, joined, has_declared_in, clashes_in}
 use Rattle.zq_machine.specs.Moved.{move_region, move_core}
-use Rattle.zq_machine.proofs.EntriesMoved.{is_some-map, insert-map, remove-map, set-map, change-map}
+use Rattle.zq_index.proofs.Mapped.{insert-map, remove-map, set-map, change-map}
+use Rattle.zq_machine.proofs.EntriesMoved.{is_some-map}
 
 module _ (φ : List ℕ → List ℕ) where
   -- a declaration and a face without their numbers

@@ -23,7 +23,7 @@ use Rattle.zq_told.specs.Ears.{Ear, Ears, Told, at_face, last_at, told_at}
 use Rattle.zq_told.specs.Telling.{KeyDue, Row, declared, entry_for, is_above, noted, planned_ear, put_face, put_plan, put_row, tell_face, tell_faces, tell_key, tell_keys, tellings_for, with_account}
 use Rattle.zq_told.specs.Leaving.{fresh_ear}
 use Rattle.zq_told.specs.Moved.{KeepsTexts, TellsAlike, move_dues, move_ear, move_ears, move_plan, move_planned, move_telling, move_text}
-use Rattle.zq_told.proofs.Shown.{change-map, insert-map, remove-map}
+use Rattle.zq_index.proofs.Mapped.{change-map, insert-map, remove-map}
 
 module _ (φ : List ℕ → List ℕ) (keeps : KeepsTexts φ) where
   abbrev moved : {X : Type 0} → List (List ℕ × X) → List (List ℕ × X)

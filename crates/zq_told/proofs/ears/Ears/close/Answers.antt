@@ -3,7 +3,7 @@ use Rattle.std.specs.BTreeMap.{is_at}
 use Rattle.std.specs.Ordering.{nat_cmp}
 use Rattle.zq_told.specs.Ears.{closed}
 use Rattle.zq_told.specs.Rooms.{Books, ear_of, ears_of}
-use Rattle.zq_told.proofs.Shown.{remove-map}
+use Rattle.zq_index.proofs.Mapped.{remove-map}
 use Rattle.zq_told.proofs.ears.Ears.close.Goals as goal
 
 pub returns : goal.returns

@@ -3,7 +3,7 @@ use Rattle.std.specs.BTreeMap.{insert_entry}
 use Rattle.std.specs.Ordering.{nat_cmp}
 use Rattle.zq_told.specs.Ears.{Ears, Told}
 use Rattle.zq_told.specs.Rooms.{Books, ear_of, ears_of}
-use Rattle.zq_told.proofs.Shown.{insert-map}
+use Rattle.zq_index.proofs.Mapped.{insert-map}
 use Rattle.zq_told.proofs.ears.Ears.open.Goals as goal
 
 abbrev opened_with : ℕ → ℕ → Told → Ears → Ears
