@@ -89,12 +89,16 @@ face_text names i f some =
     let theirs = values_of (id_texts names f.numbers.theirs) in
     let ours = values_of (id_texts names f.numbers.ours) in
     let queryables = values_of (id_texts names f.queryables) in
-    elim (positive_or (side_holds i f.numbers.theirs + side_holds i f.numbers.ours) (side_holds i f.queryables) some) [
-      | inl numbered ↦ Contains-append_left (theirs ++ ours) queryables t (elim (positive_or (side_holds i f.numbers.theirs) (side_holds i f.numbers.ours) numbered) [
-        | inl here ↦ Contains-append_left theirs ours t (side_text names i f.numbers.theirs here)
-        | inr given ↦ Contains-append_right theirs ours t (side_text names i f.numbers.ours given)
+    let interests = values_of (id_texts names f.interests) in
+    elim (positive_or (side_holds i f.numbers.theirs + side_holds i f.numbers.ours + side_holds i f.queryables) (side_holds i f.interests) some) [
+      | inl kept ↦ Contains-append_left (theirs ++ ours ++ queryables) interests t (elim (positive_or (side_holds i f.numbers.theirs + side_holds i f.numbers.ours) (side_holds i f.queryables) kept) [
+        | inl numbered ↦ Contains-append_left (theirs ++ ours) queryables t (elim (positive_or (side_holds i f.numbers.theirs) (side_holds i f.numbers.ours) numbered) [
+          | inl here ↦ Contains-append_left theirs ours t (side_text names i f.numbers.theirs here)
+          | inr given ↦ Contains-append_right theirs ours t (side_text names i f.numbers.ours given)
+        ])
+        | inr queried ↦ Contains-append_right (theirs ++ ours) queryables t (side_text names i f.queryables queried)
       ])
-      | inr queried ↦ Contains-append_right (theirs ++ ours) queryables t (side_text names i f.queryables queried)
+      | inr asked ↦ Contains-append_right (theirs ++ ours ++ queryables) interests t (side_text names i f.interests asked)
     ]
 
 held_text : (names : List NameEntry) (i : ℕ) (faces : Faces) → 0 < holds_by i faces → Contains (all_texts (texts_by names faces)) (entry_at names i).text
@@ -124,12 +128,16 @@ face_stands names f u live has =
     let theirs = values_of (id_texts names f.numbers.theirs) in
     let ours = values_of (id_texts names f.numbers.ours) in
     let queryables = values_of (id_texts names f.queryables) in
-    elim (Contains-append_cases (theirs ++ ours) queryables u has) [
-      | inl numbered ↦ elim (Contains-append_cases theirs ours u numbered) [
-        | inl here ↦ side_stands names f.numbers.theirs u (λ i some. live i (omega (arith, some))) here
-        | inr given ↦ side_stands names f.numbers.ours u (λ i some. live i (omega (arith, some))) given
+    let interests = values_of (id_texts names f.interests) in
+    elim (Contains-append_cases (theirs ++ ours ++ queryables) interests u has) [
+      | inl kept ↦ elim (Contains-append_cases (theirs ++ ours) queryables u kept) [
+        | inl numbered ↦ elim (Contains-append_cases theirs ours u numbered) [
+          | inl here ↦ side_stands names f.numbers.theirs u (λ i some. live i (omega (arith, some))) here
+          | inr given ↦ side_stands names f.numbers.ours u (λ i some. live i (omega (arith, some))) given
+        ]
+        | inr queried ↦ side_stands names f.queryables u (λ i some. live i (omega (arith, some))) queried
       ]
-      | inr queried ↦ side_stands names f.queryables u (λ i some. live i (omega (arith, some))) queried
+      | inr asked ↦ side_stands names f.interests u (λ i some. live i (omega (arith, some))) asked
     ]
 
 all_stand : (names : List NameEntry) (faces : Faces) (u : List ℕ) → ((i : ℕ) → 0 < holds_by i faces → Contains (ids names) i) → Contains (all_texts (texts_by names faces)) u → Contains (texts names) u

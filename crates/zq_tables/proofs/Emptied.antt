@@ -21,7 +21,7 @@ use Rattle.zq_ids.specs.FaceTexts.{id_texts}
 use Rattle.zq_tables.specs.Naming.{FaceKeys, NamingState, Names, no_keys, naming_at, face_keys, put_naming, change_naming}
 use Rattle.zq_tables.specs.Holding.{FaceHolds, Faces, IsFace, IsHeld, Rises, face_holds, held_ids, held_keys, holds_by, ids_at, ids_in, least, limit, node_at, keys_of_face, texts_by, with_keys, without_key}
 use Rattle.zq_tables.specs.declared.holder.Holder.{Holder}
-use Rattle.zq_tables.specs.declared.holder.Holder.TheVariants.{Number, Queryable}
+use Rattle.zq_tables.specs.declared.holder.Holder.TheVariants.{Number, Queryable, Interest}
 use Rattle.zq_ids.proofs.IdLemmas.{removed_absent}
 use Rattle.zq_tables.proofs.Entries.{weigh-with_id, weigh-removed, removed_set, set_twice, lookup_set, insert_there, shown-with_id, shown-removed}
 use Rattle.zq_tables.proofs.Lean.{root_lean}
@@ -65,15 +65,16 @@ record IsBare (f : FaceHolds) : Type 0 where
   theirs : f.numbers.theirs ≡ []
   ours : f.numbers.ours ≡ []
   queryables : f.queryables ≡ []
+  interests : f.interests ≡ []
 
 none_held : (i : ℕ) (f : FaceHolds) → IsBare f → face_holds i f ≡ 0
-none_held i f bare = rw (bare.theirs, bare.ours, bare.queryables) refl
+none_held i f bare = rw (bare.theirs, bare.ours, bare.queryables, bare.interests) refl
 
 -- ---- a face comes
 
-module _ (names : List NameEntry) (faces faces' : Faces) (face : ℕ) (f : FaceHolds) (theirs : f.numbers.theirs ≡ []) (ours : f.numbers.ours ≡ []) (queryables : f.queryables ≡ []) (put : faces' ≡ insert_entry nat_cmp faces face f) where
+module _ (names : List NameEntry) (faces faces' : Faces) (face : ℕ) (f : FaceHolds) (theirs : f.numbers.theirs ≡ []) (ours : f.numbers.ours ≡ []) (queryables : f.queryables ≡ []) (interests : f.interests ≡ []) (put : faces' ≡ insert_entry nat_cmp faces face f) where
   bare : IsBare f
-  bare = record { theirs = theirs; ours = ours; queryables = queryables }
+  bare = record { theirs = theirs; ours = ours; queryables = queryables; interests = interests }
 
   is_face : IsFace f
   is_face = record { rises = by }
@@ -82,6 +83,7 @@ module _ (names : List NameEntry) (faces faces' : Faces) (face : ℕ) (f : FaceH
       by (Number Sender) = let R : List (ℕ × ℕ) → Type 0 = Rises 65536 1 in subst R (sym theirs) (omega arith)
       by (Number Receiver) = let R : List (ℕ × ℕ) → Type 0 = Rises 65536 1 in subst R (sym ours) (omega arith)
       by Queryable = let R : List (ℕ × ℕ) → Type 0 = Rises 4294967296 0 in subst R (sym queryables) (omega arith)
+      by Interest = let R : List (ℕ × ℕ) → Type 0 = Rises 4294967296 0 in subst R (sym interests) (omega arith)
 
   pub opened : IsHeld names faces → ids_at face faces ≡ None → IsHeld names faces'
   opened held absent = same_held names faces faces' held
@@ -90,10 +92,10 @@ module _ (names : List NameEntry) (faces faces' : Faces) (face : ℕ) (f : FaceH
 
   pub opened_texts : texts_by names faces' ≡ insert_entry nat_cmp (texts_by names faces) face no_keys
   opened_texts =
-      let none : keys_of_face names f ≡ no_keys = rw (theirs, ours, queryables) refl in
+      let none : keys_of_face names f ≡ no_keys = rw (theirs, ours, queryables, interests) refl in
       ap (texts_by names) put ∙ shown-with_id (keys_of_face names) faces face f ∙ ap (insert_entry nat_cmp (texts_by names faces) face) none
 
--- ---- a face is left without numbers, or without queryables
+-- ---- a face is left without ids of a holder
 
 map_none : (names : List NameEntry) (es : List (ℕ × ℕ)) → id_texts names es ≡ [] → es ≡ []
 map_none names [] is = refl
@@ -188,6 +190,7 @@ closed names faces faces' face held none put =
           theirs = map_none names f.numbers.theirs (ap (λ (n : FaceKeys). n.numbers.theirs) is);
           ours = map_none names f.numbers.ours (ap (λ (n : FaceKeys). n.numbers.ours) is);
           queryables = map_none names f.queryables (ap (λ (n : FaceKeys). n.queryables) is);
+          interests = map_none names f.interests (ap (λ (n : FaceKeys). n.interests) is);
         } in
         omega (arith, weigh-removed (face_holds i) (is_at (nat_cmp face)) faces f at, none_held i f bare)
 

@@ -12,7 +12,7 @@ use Rattle.zq_ids.specs.FaceIds.{AreLiveIds, AreLive}
 use Rattle.zq_ids.specs.FaceTexts.{id_texts}
 use Rattle.zq_message.specs.declared.message.Mapping.TheVariants.{Sender, Receiver}
 use Rattle.zq_tables.specs.Naming.{FaceKeys}
-use Rattle.zq_tables.specs.declared.holder.Holder.TheVariants.{Number, Queryable}
+use Rattle.zq_tables.specs.declared.holder.Holder.TheVariants.{Number, Queryable, Interest}
 use Rattle.zq_tables.specs.Holding.{FaceHolds, Faces, IsFace, IsHeld, hold_of, side_holds, face_holds, holds_by, ids_at, keys_of_face, texts_by}
 use Rattle.zq_tables.proofs.Entries.{Rises-length, weigh-removed}
 
@@ -35,14 +35,15 @@ few_on_side : (i : ℕ) (es : List (ℕ × ℕ)) → side_holds i es ≤ length 
 few_on_side i [] = omega arith
 few_on_side i (e ∷ es) = omega (arith, at_most_one i e.1, few_on_side i es)
 
-few_at_face : (i : ℕ) (f : FaceHolds) → IsFace f → face_holds i f ≤ 8589934592
+few_at_face : (i : ℕ) (f : FaceHolds) → IsFace f → face_holds i f ≤ 17179869184
 few_at_face i f is =
     let given : length f.numbers.ours + 1 ≤ 65536 = Rises-length 65536 1 f.numbers.ours (is.rises (Number Receiver)) in
     let numbers : length f.numbers.theirs + 1 ≤ 65536 = Rises-length 65536 1 f.numbers.theirs (is.rises (Number Sender)) in
     let queryables : length f.queryables + 0 ≤ 4294967296 = Rises-length 4294967296 0 f.queryables (is.rises Queryable) in
-    omega (arith, few_on_side i f.numbers.theirs, few_on_side i f.numbers.ours, few_on_side i f.queryables, numbers, given, queryables)
+    let interests : length f.interests + 0 ≤ 4294967296 = Rises-length 4294967296 0 f.interests (is.rises Interest) in
+    omega (arith, few_on_side i f.numbers.theirs, few_on_side i f.numbers.ours, few_on_side i f.queryables, few_on_side i f.interests, numbers, given, queryables, interests)
 
-pub few_holds : (i : ℕ) (faces : Faces) → All IsFace (values_of faces) → holds_by i faces ≤ length faces * 8589934592
+pub few_holds : (i : ℕ) (faces : Faces) → All IsFace (values_of faces) → holds_by i faces ≤ length faces * 17179869184
 few_holds i [] all = omega arith
 few_holds i (p ∷ ps) all =
     let here = few_at_face i p.1 (All-head IsFace p.1 (values_of ps) all) in
@@ -88,6 +89,7 @@ same_face names names' f same =
       same_side names names' f.numbers.theirs (λ i some. same i (omega (arith, some))),
       same_side names names' f.numbers.ours (λ i some. same i (omega (arith, some))),
       same_side names names' f.queryables (λ i some. same i (omega (arith, some))),
+      same_side names names' f.interests (λ i some. same i (omega (arith, some))),
     ) refl
 
 pub same_texts : (names names' : List NameEntry) (faces : Faces) → ((i : ℕ) → 0 < holds_by i faces → (entry_at names' i).text ≡ (entry_at names i).text) → texts_by names' faces ≡ texts_by names faces

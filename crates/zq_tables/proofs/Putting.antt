@@ -1,4 +1,4 @@
--- An id comes to stand for a node, which it holds; a queryable that is there stays as it is.
+-- An id comes to stand for a node, which it holds; one that stands for a node stays as it is.
 use Rattle.std.proofs.Common.{◌≡◌, ℕ, ◌<◌, ◌≤◌, true, false, List, Option, Some, None, refl, sym, ap, subst, ◌∙◌, arith}
 use Rattle.std.specs.Option.{is_some}
 use Rattle.std.specs.Map.{set_value}
@@ -8,16 +8,16 @@ use Rattle.std.proofs.lemmas.Bool.{false≢true}
 use Rattle.zq_names.specs.Names.{NameEntry, entry_at}
 use Rattle.zq_ids.specs.FaceIds.{of_id, next_id, with_id}
 use Rattle.zq_ids.specs.FaceTexts.{id_texts}
-use Rattle.zq_tables.specs.Naming.{FaceKeys, FaceNaming, Names, face_naming, first_stays, text_at, with_queryable, change_naming}
-use Rattle.zq_tables.specs.Holding.{FaceHolds, Faces, InHand, IsHeld, hold_of, held_ids, held_keys, ids_at, is_settled, settled_at, least, limit, put_ids, change_ids, keys_of_face, texts_by, with_key, with_keys, with_node}
+use Rattle.zq_tables.specs.Naming.{FaceKeys, FaceNaming, Names, face_naming, first_stays, text_at, change_naming}
+use Rattle.zq_tables.specs.Holding.{FaceHolds, Faces, InHand, IsHeld, hold_of, held_ids, held_keys, ids_at, is_settled, settled_at, least, limit, put_ids, change_ids, keys_of_face, texts_by, with_first_key, with_key, with_keys, with_node}
 use Rattle.zq_tables.specs.declared.holder.Holder.{Holder}
-use Rattle.zq_tables.specs.declared.holder.Holder.TheVariants.{Number, Queryable}
+use Rattle.zq_tables.specs.declared.holder.Holder.TheVariants.{Number}
 use Rattle.zq_message.specs.declared.message.Mapping.TheVariants.{Receiver}
 use Rattle.zq_ids.proofs.FaceLemmas.{next-texts}
 use Rattle.zq_ids.proofs.IdLemmas.{next_unused}
 use Rattle.zq_tables.proofs.Entries.{Rises-with_id, weigh-with_id, shown-with_id}
 use Rattle.zq_tables.proofs.Faces.{change_idle, face_there, set_texts, shown_text}
-use Rattle.zq_tables.proofs.Holders.{holds_with, rises_with, same_ids, shown_with}
+use Rattle.zq_tables.proofs.Holders.{holds_with, rises_with, same_ids, shown_with, with_own}
 use Rattle.zq_tables.proofs.Holds.{face_at}
 use Rattle.zq_tables.proofs.Letting.{placed}
 use Rattle.zq_key.proofs.Truth.{none_from, some_from}
@@ -47,6 +47,12 @@ module _ (h : Holder) (names : List NameEntry) (faces faces' : Faces) (face id r
 
 -- ---- a new id at a face that is open
 
+first_new : (id : ℕ) (t : List ℕ) (names : Names) → is_some (text_at id names) ≡ false → first_stays id t names ≡ with_id names id t
+first_new id t names none = rw none refl
+
+first_kept : (id : ℕ) (t : List ℕ) (names : Names) → is_some (text_at id names) ≡ true → first_stays id t names ≡ names
+first_kept id t names some = rw some refl
+
 module _ (h : Holder) (names : List NameEntry) (faces faces' : Faces) (face id r : ℕ) (new : settled_at h face id faces ≡ false) (put : faces' ≡ change_ids face (with_node h id r) faces) where
   pub new_held : InHand names faces r → least h ≤ id → id < limit h → IsHeld names faces'
   new_held hand above below =
@@ -58,26 +64,23 @@ module _ (h : Holder) (names : List NameEntry) (faces faces' : Faces) (face id r
       let there = open_face h id (ids_at face faces) new in
       id_held_texts h names faces faces' face id r there.0 there.1 (put ∙ ap (put_ids face (with_node h id r) faces) there.1) t (with_key h id t) text refl
 
--- a queryable
-module _ (names : List NameEntry) (faces faces' : Faces) (face id r : ℕ) (new : settled_at Queryable face id faces ≡ false) (put : faces' ≡ change_ids face (with_node Queryable id r) faces) where
-  pub queryable_held_texts : (t : List ℕ) → (entry_at names r).text ≡ t → texts_by names faces' ≡ change_naming face (with_queryable id t) (texts_by names faces)
-  queryable_held_texts t text =
-      let there = open_face Queryable id (ids_at face faces) new in
-      let was = id_texts names there.0.queryables in
-      let none : is_some (text_at id was) ≡ false = ap is_some (shown_text names there.0.queryables id None there.2) in
-      let first : first_stays id t was ≡ with_id was id t = rw none refl in
-      id_held_texts Queryable names faces faces' face id r there.0 there.1 (put ∙ ap (put_ids face (with_node Queryable id r) faces) there.1) t (with_queryable id t) text
-      (ap (λ (l : Names). record (keys_of_face names there.0) { queryables = l }) first)
+  pub first_held_texts : (t : List ℕ) → (entry_at names r).text ≡ t → texts_by names faces' ≡ change_naming face (with_first_key h id t) (texts_by names faces)
+  first_held_texts t text =
+      let there = open_face h id (ids_at face faces) new in
+      let n = keys_of_face names there.0 in
+      let none : text_at id (held_keys h n) ≡ None = ap (text_at id) (sym (same_ids h names there.0)) ∙ shown_text names (held_ids h there.0) id None there.2 in
+      id_held_texts h names faces faces' face id r there.0 there.1 (put ∙ ap (put_ids face (with_node h id r) faces) there.1) t (with_first_key h id t) text
+      (ap (with_keys h n) (first_new id t (held_keys h n) (ap is_some none)))
 
 -- ---- nothing is to be held
 
-pub settled_queryable : (names : List NameEntry) (faces : Faces) (face id : ℕ) (t : List ℕ) → settled_at Queryable face id faces ≡ true → texts_by names faces ≡ change_naming face (with_queryable id t) (texts_by names faces)
-settled_queryable names faces face id t settled =
-    change_idle names faces face (with_queryable id t) (λ f at.
-    let node = some_from (of_id f.queryables id) (ap (λ (o : Option FaceHolds). is_settled Queryable id o) (sym at) ∙ settled) in
-    let some : is_some (text_at id (id_texts names f.queryables)) ≡ true = ap is_some (shown_text names f.queryables id (Some node.0) node.1) in
-    let kept : first_stays id t (id_texts names f.queryables) ≡ id_texts names f.queryables = rw some refl in
-    ap (λ (l : Names). record (keys_of_face names f) { queryables = l }) kept)
+pub settled_first : (h : Holder) (names : List NameEntry) (faces : Faces) (face id : ℕ) (t : List ℕ) → settled_at h face id faces ≡ true → texts_by names faces ≡ change_naming face (with_first_key h id t) (texts_by names faces)
+settled_first h names faces face id t settled =
+    change_idle names faces face (with_first_key h id t) (λ f at.
+    let n = keys_of_face names f in
+    let node = some_from (of_id (held_ids h f) id) (ap (λ (o : Option FaceHolds). is_settled h id o) (sym at) ∙ settled) in
+    let text : text_at id (held_keys h n) ≡ Some (entry_at names node.0).text = ap (text_at id) (sym (same_ids h names f)) ∙ shown_text names (held_ids h f) id (Some node.0) node.1 in
+    ap (with_keys h n) (first_kept id t (held_keys h n) (ap is_some text)) ∙ with_own h n)
 
 -- a number that is free is settled only where the face is closed
 pub next_open : (names : List NameEntry) (faces : Faces) (face id : ℕ) (f : FaceHolds) → next_id (face_naming face (texts_by names faces)).theirs (face_naming face (texts_by names faces)).ours ≡ Some id → ids_at face faces ≡ Some f → next_id f.numbers.theirs f.numbers.ours ≡ Some id

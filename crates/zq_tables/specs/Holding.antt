@@ -1,5 +1,5 @@
--- How the numbers and the queryables of the faces stand for nodes of the names, and hold them.
-use Rattle.std.specs.Prelude.{◌≡◌, ℕ, suc, ◌+◌, ◌<◌, ◌≤◌, ◌==◌, Bool, true, List, [], ◌∷◌, map, Option, Some, None, if◌then◌else◌, ◌⊎◌}
+-- How the numbers, the queryables and the interests of the faces stand for nodes of the names, and hold them.
+use Rattle.std.specs.Prelude.{◌≡◌, ℕ, suc, ◌+◌, ◌<◌, ◌≤◌, ◌==◌, Bool, true, false, List, [], ◌∷◌, map, Option, Some, None, if◌then◌else◌, ◌⊎◌}
 use Rattle.std.specs.Option.{is_some}
 use Rattle.std.specs.List.{All, Contains}
 use Rattle.std.specs.Ordering.{nat_cmp}
@@ -10,14 +10,15 @@ use Rattle.zq_names.specs.Keeping.{AllStay}
 use Rattle.zq_names.specs.Idle.{IdleAt, NoneIdle}
 use Rattle.zq_ids.specs.FaceIds.{FaceIds, of_id, next_id, side, with_side, with_id, without_id}
 use Rattle.zq_ids.specs.FaceTexts.{id_texts, texts_of}
-use Rattle.zq_tables.specs.Naming.{FaceKeys, Names, NamingState, sent_side, with_sent}
+use Rattle.zq_tables.specs.Naming.{FaceKeys, Names, NamingState, first_stays, sent_side, with_sent}
 use Rattle.zq_tables.specs.declared.holder.Holder.{Holder}
-use Rattle.zq_tables.specs.declared.holder.Holder.TheVariants.{Number, Queryable}
+use Rattle.zq_tables.specs.declared.holder.Holder.TheVariants.{Number, Queryable, Interest}
 
--- the numbers of a face and the ids of its queryables, with the nodes that they stand for
+-- the numbers of a face, and the ids of its queryables and of its interests with a key, with the nodes that they stand for
 pub record FaceHolds : Type 0 where
   pub numbers : FaceIds
   pub queryables : List (ℕ × ℕ)
+  pub interests : List (ℕ × ℕ)
 
 -- the open faces, each with what holds nodes there
 abbrev pub Faces : Type 0
@@ -25,7 +26,7 @@ Faces = List (ℕ × FaceHolds)
 
 -- what stands for keys at a face, by the texts of its nodes
 abbrev pub keys_of_face : List NameEntry → FaceHolds → FaceKeys
-keys_of_face names f = record { numbers = texts_of names f.numbers; queryables = id_texts names f.queryables }
+keys_of_face names f = record { numbers = texts_of names f.numbers; queryables = id_texts names f.queryables; interests = id_texts names f.interests }
 
 -- each face with the texts of its nodes
 abbrev pub texts_by : List NameEntry → Faces → NamingState
@@ -39,6 +40,13 @@ ids_at face faces = lookup (is_at (nat_cmp face)) faces
 abbrev pub held_ids : Holder → FaceHolds → List (ℕ × ℕ)
 held_ids (Number m) f = side f.numbers m
 held_ids Queryable f = f.queryables
+held_ids Interest f = f.interests
+
+-- the numbers of a side, and neither queryables nor interests
+abbrev pub are_numbers : Holder → Bool
+are_numbers (Number m) = true
+are_numbers Queryable = false
+are_numbers Interest = false
 
 -- none where the face isn't open
 abbrev pub ids_in : Holder → Option FaceHolds → List (ℕ × ℕ)
@@ -62,6 +70,7 @@ settled_at h face id faces = is_settled h id (ids_at face faces)
 abbrev pub with_ids : Holder → FaceHolds → List (ℕ × ℕ) → FaceHolds
 with_ids (Number m) f ids = record f { numbers = with_side f.numbers m ids }
 with_ids Queryable f ids = record f { queryables = ids }
+with_ids Interest f ids = record f { interests = ids }
 
 -- an id stands for a node
 abbrev pub with_node : Holder → ℕ → ℕ → FaceHolds → FaceHolds
@@ -90,15 +99,21 @@ IsNext face id faces = (f : FaceHolds) → ids_at face faces ≡ Some f → next
 abbrev pub held_keys : Holder → FaceKeys → Names
 held_keys (Number m) n = sent_side n.numbers m
 held_keys Queryable n = n.queryables
+held_keys Interest n = n.interests
 
 -- with other ids of a holder
 abbrev pub with_keys : Holder → FaceKeys → Names → FaceKeys
 with_keys (Number m) n names = with_sent m n names
 with_keys Queryable n names = record n { queryables = names }
+with_keys Interest n names = record n { interests = names }
 
 -- an id stands for a text
 abbrev pub with_key : Holder → ℕ → List ℕ → FaceKeys → FaceKeys
 with_key h id text n = with_keys h n (with_id (held_keys h n) id text)
+
+-- an id that stood for no text stands for this one
+abbrev pub with_first_key : Holder → ℕ → List ℕ → FaceKeys → FaceKeys
+with_first_key h id text n = with_keys h n (first_stays id text (held_keys h n))
 
 -- an id is let go
 abbrev pub without_key : Holder → ℕ → FaceKeys → FaceKeys
@@ -123,11 +138,11 @@ hold_of i n = if n == i then 1 else 0
 abbrev pub side_holds : ℕ → List (ℕ × ℕ) → ℕ
 side_holds i es = weigh (hold_of i) es
 
--- how many numbers and queryables of a face stand for the node i
+-- how many numbers, queryables and interests of a face stand for the node i
 abbrev pub face_holds : ℕ → FaceHolds → ℕ
-face_holds i f = side_holds i f.numbers.theirs + side_holds i f.numbers.ours + side_holds i f.queryables
+face_holds i f = side_holds i f.numbers.theirs + side_holds i f.numbers.ours + side_holds i f.queryables + side_holds i f.interests
 
--- how many numbers and queryables of all faces stand for the node i
+-- how many numbers, queryables and interests of all faces stand for the node i
 abbrev pub holds_by : ℕ → Faces → ℕ
 holds_by i faces = weigh (face_holds i) faces
 
@@ -140,17 +155,19 @@ Rises limit first (e ∷ es) = (first ≤ e.0) × Rises limit (suc e.0) es
 abbrev pub least : Holder → ℕ
 least (Number m) = 1
 least Queryable = 0
+least Interest = 0
 
 -- its ids are below this
 abbrev pub limit : Holder → ℕ
 limit (Number m) = 65536
 limit Queryable = 4294967296
+limit Interest = 4294967296
 
 -- the ids of each holder are in order
 pub record IsFace (f : FaceHolds) : Type 0 where
   pub rises : (h : Holder) → Rises (limit h) (least h) (held_ids h f)
 
--- each node that is stood for is live, each node is held once for each number and queryable that stands for it, and none is there for nothing
+-- each node that is stood for is live, each node is held once for each number, queryable and interest that stands for it, and none is there for nothing
 pub record IsHeld (names : List NameEntry) (faces : Faces) : Type 0 where
   pub live : (i : ℕ) → 0 < holds_by i faces → Contains (ids names) i
   pub counted : (i : ℕ) → Contains (ids names) i → (entry_at names i).holds ≡ holds_by i faces

@@ -1,4 +1,4 @@
--- What stands for keys at each open face, by number or by a queryable's id, and what expressions say by it.
+-- What stands for keys at each open face, by number or by the id of a queryable or an interest, and what expressions say by it.
 use Rattle.std.specs.Prelude.{ℕ, ◌==◌, Bool, false, not, ◌||◌, is_some, List, [], ◌∷◌, ◌++◌, Option, Some, None, if◌then◌else◌, unwrap_or}
 use Rattle.std.specs.List.{flat_map, list_any}
 use Rattle.std.specs.Str.{bytes_eq}
@@ -25,10 +25,11 @@ Names = List (ℕ × List ℕ)
 abbrev pub FaceNaming : Type 0
 FaceNaming = FaceTexts
 
--- what stands for keys at a face: its numbers, and the ids of its queryables
+-- what stands for keys at a face: its numbers, and the ids of its queryables and of its interests with a key
 pub record FaceKeys : Type 0 where
   pub numbers : FaceNaming
   pub queryables : Names
+  pub interests : Names
 
 -- the open faces, each with what stands for keys there, by face number
 abbrev pub NamingState : Type 0
@@ -40,7 +41,7 @@ no_names = record { theirs = []; ours = [] }
 
 -- nothing stands for a key
 abbrev pub no_keys : FaceKeys
-no_keys = record { numbers = no_names; queryables = [] }
+no_keys = record { numbers = no_names; queryables = []; interests = [] }
 
 -- what stands for keys at a face, if it is open
 abbrev pub naming_at : ℕ → NamingState → Option FaceKeys
@@ -57,6 +58,10 @@ face_naming face s = (face_keys face s).numbers
 -- the ids of a face's queryables, with their keys
 abbrev pub face_queryables : ℕ → NamingState → Names
 face_queryables face s = (face_keys face s).queryables
+
+-- the ids of a face's interests, with their keys
+abbrev pub face_interests : ℕ → NamingState → Names
+face_interests face s = (face_keys face s).interests
 
 -- the text of a number
 abbrev pub text_at : ℕ → Names → Option (List ℕ)
@@ -127,6 +132,14 @@ with_queryable id text n = record n { queryables = first_stays id text n.queryab
 abbrev pub without_queryable : ℕ → FaceKeys → FaceKeys
 without_queryable id n = record n { queryables = remove_entry (is_at (nat_cmp id)) n.queryables }
 
+-- the face declares an interest with a key; one of that id keeps its key
+abbrev pub with_interest : ℕ → List ℕ → FaceKeys → FaceKeys
+with_interest id text n = record n { interests = first_stays id text n.interests }
+
+-- the face withdraws an interest
+abbrev pub without_interest : ℕ → FaceKeys → FaceKeys
+without_interest id n = record n { interests = remove_entry (is_at (nat_cmp id)) n.interests }
+
 -- the number that was declared to the face, if one was, stands for the part of the text without a `*`
 abbrev pub with_told_number : List ℕ → Option ℕ → FaceKeys → FaceKeys
 with_told_number text id n = record n { numbers = with_declared n.numbers text id }
@@ -161,15 +174,15 @@ plain text = whole text
 abbrev pub best : FaceNaming → List ℕ → WireExpr
 best n text = best_key n text
 
--- the texts that the numbers and the queryables of a face stand for
+-- the texts that the numbers, the queryables and the interests of a face stand for
 abbrev pub face_texts : FaceKeys → List (List ℕ)
-face_texts n = values_of n.numbers.theirs ++ values_of n.numbers.ours ++ values_of n.queryables
+face_texts n = values_of n.numbers.theirs ++ values_of n.numbers.ours ++ values_of n.queryables ++ values_of n.interests
 
--- the texts that the numbers and the queryables of all open faces stand for
+-- the texts that the numbers, the queryables and the interests of all open faces stand for
 abbrev pub all_texts : NamingState → List (List ℕ)
 all_texts s = flat_map face_texts (values_of s)
 
--- a number or a queryable stands for the text, or for one of which it is a part that ends before a `/`; the empty text is the root's, and no such part
+-- a number, a queryable or an interest stands for the text, or for one of which it is a part that ends before a `/`; the empty text is the root's, and no such part
 abbrev pub has_context : List ℕ → NamingState → Bool
 has_context [] s = false
 has_context (b ∷ t) s = list_any (bytes_eq (b ∷ t)) (flat_map heads (all_texts s))

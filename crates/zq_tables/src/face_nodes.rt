@@ -1,10 +1,10 @@
 //! What holds nodes of the names at one face.
-ghost use Rattle.std.specs.Prelude.{◌≡◌, ◌≢◌, [], None, Some, IfOk, IfNone, OnOk, OnErr, option_copied, option_map, slice_get};
+ghost use Rattle.std.specs.Prelude.{◌≡◌, ◌≢◌, [], None, Some, false, IfOk, IfNone, OnOk, OnErr, option_copied, option_map, slice_get};
 ghost use Rattle.std.specs.List.Sorted.{IsStrictlySortedBy};
 ghost use Rattle.std.specs.Map.{keys_of};
 ghost use Rattle.std.specs.Ordering.{nat_cmp};
-ghost use Rattle.zq_ids.specs.FaceIds.{AreLive, next_id, of_id, without_id};
-ghost use Rattle.zq_tables.specs.Holding.{Numbers, held_ids, with_node, without_node};
+ghost use Rattle.zq_ids.specs.FaceIds.{AreLive, next_id, of_id, with_id, without_id};
+ghost use Rattle.zq_tables.specs.Holding.{Numbers, are_numbers, held_ids, with_node, without_node};
 
 use crate::holder::Holder;
 use std::alloc::Global;
@@ -15,11 +15,12 @@ use zq_key::memory::OutOfMemory;
 use zq_key::message::{Mapping, WireExpr};
 use zq_names::{Names, ResourceId};
 
-// The numbers of a face, and the nodes that its queryables hold, by their ids.
+// The numbers of a face, and the nodes that its queryables and its interests hold, by their ids.
 #[derive(Drop)]
 pub(crate) struct FaceNodes {
     numbers: FaceNames,
     queryables: BTreeMap<u32, u64>,
+    interests: BTreeMap<u32, u64>,
 }
 
 impl Model for FaceNodes {
@@ -27,7 +28,7 @@ impl Model for FaceNodes {
 
     ghost Value = { FaceHolds };
 
-    ghost view = { λ f. record { numbers = f.numbers; queryables = f.queryables.entries } };
+    ghost view = { λ f. record { numbers = f.numbers; queryables = f.queryables.entries; interests = f.interests.entries } };
 }
 
 impl FaceNodes {
@@ -36,10 +37,12 @@ impl FaceNodes {
         ensures theirs { result.numbers.theirs ≡ [] }
         ensures ours { result.numbers.ours ≡ [] }
         ensures queryables { result.queryables ≡ [] }
+        ensures interests { result.interests ≡ [] }
     {
         FaceNodes {
             numbers: FaceNames::new(alloc),
             queryables: BTreeMap::new(alloc),
+            interests: BTreeMap::new(alloc),
         }
     }
 
@@ -57,6 +60,7 @@ impl FaceNodes {
         match holder {
             Holder::Number(side) => self.numbers.node_of(side, id),
             Holder::Queryable => node_of(self.queryables.get(&id)),
+            Holder::Interest => node_of(self.interests.get(&id)),
         }
     }
 
@@ -68,6 +72,7 @@ impl FaceNodes {
             Holder::Number(Mapping::Sender) => wide(self.numbers.first_id()),
             Holder::Number(Mapping::Receiver) => wide(self.numbers.first_given()),
             Holder::Queryable => self.queryables.keys().next().copied(),
+            Holder::Interest => self.interests.keys().next().copied(),
         }
     }
 
@@ -80,6 +85,7 @@ impl FaceNodes {
         match holder {
             Holder::Number(side) => self.numbers.take(side, id),
             Holder::Queryable => take_node(&mut self.queryables, id),
+            Holder::Interest => take_node(&mut self.interests, id),
         }
     }
 
@@ -96,6 +102,7 @@ impl FaceNodes {
         requires whole { wire.now.scope ≡ 0 }
         ensures ok { IfOk result (λ r. Numbers names.old names.new self.old.numbers self.new.numbers id wire.now.suffix r.0) }
         ensures queryables { self.new.queryables ≡ self.old.queryables }
+        ensures interests { self.new.interests ≡ self.old.interests }
         ensures names { OnErr result (names.new ≡ names.old) }
         ensures err { OnErr result (self.new.numbers ≡ self.old.numbers) }
     {
@@ -117,14 +124,21 @@ impl FaceNodes {
         self.numbers.declare(id, node)
     }
 
-    // A queryable holds a node.
-    pub(crate) fn put_queryable(&mut self, id: u32, node: ResourceId) -> Result<(), OutOfMemory>
-        ensures ok { OnOk result (self.new ≡ with_node Holder.Queryable id node.0 self.old) }
+    // An id of a holder that is no number holds a node.
+    pub(crate) fn put(
+        &mut self,
+        holder: Holder,
+        id: u32,
+        node: ResourceId,
+    ) -> Result<(), OutOfMemory>
+        requires unnumbered { are_numbers holder ≡ false }
+        ensures ok { OnOk result (self.new ≡ with_node holder id node.0 self.old) }
         ensures err { OnErr result (self.new ≡ self.old) }
     {
-        match self.queryables.insert(id, node.0) {
-            Ok(_) => Ok(()),
-            Err(_) => Err(OutOfMemory),
+        match holder {
+            Holder::Number(_) => unreachable!(),
+            Holder::Queryable => put_node(&mut self.queryables, id, node),
+            Holder::Interest => put_node(&mut self.interests, id, node),
         }
     }
 }
@@ -144,6 +158,16 @@ fn node_of(node: Option<&u64>) -> Option<ResourceId>
     match node {
         Some(node) => Some(ResourceId(*node)),
         None => None,
+    }
+}
+
+fn put_node(nodes: &mut BTreeMap<u32, u64>, id: u32, node: ResourceId) -> Result<(), OutOfMemory>
+    ensures ok { OnOk result (nodes.new.entries ≡ with_id nodes.old.entries id node.0) }
+    ensures err { OnErr result (nodes.new.entries ≡ nodes.old.entries) }
+{
+    match nodes.insert(id, node.0) {
+        Ok(_) => Ok(()),
+        Err(_) => Err(OutOfMemory),
     }
 }
 

@@ -1,7 +1,7 @@
 //! What holds nodes of the names at each face.
 ghost use Rattle.std.specs.Prelude.{◌≡◌, IfOk, IfNone, OnOk, OnErr, option_map, false, slice_get};
 ghost use Rattle.std.specs.Map.{keys_of};
-ghost use Rattle.zq_tables.specs.Holding.{Declares, IsHeld, IsNext, change_ids, ids_at, ids_in, node_at as node_of, settled_at, with_node, without_node};
+ghost use Rattle.zq_tables.specs.Holding.{Declares, IsHeld, IsNext, are_numbers, change_ids, ids_at, ids_in, node_at as node_of, settled_at, with_node, without_node};
 
 use crate::face_nodes::FaceNodes;
 use crate::holder::Holder;
@@ -56,18 +56,20 @@ pub(crate) fn take_at(faces: &mut Faces, face: u32, holder: Holder, id: u32) -> 
     }
 }
 
-// A new queryable of the face holds a node.
-pub(crate) fn put_queryable(
+// A new id of a holder of the face, which is no number, holds a node.
+pub(crate) fn put_at(
     faces: &mut Faces,
     face: u32,
+    holder: Holder,
     id: u32,
     node: ResourceId,
 ) -> Result<(), OutOfMemory>
-    ensures ok { OnOk result (faces.new.entries ≡ change_ids face (with_node Holder.Queryable id node.0) faces.old.entries) }
+    requires unnumbered { are_numbers holder ≡ false }
+    ensures ok { OnOk result (faces.new.entries ≡ change_ids face (with_node holder id node.0) faces.old.entries) }
     ensures err { OnErr result (faces.new.entries ≡ faces.old.entries) }
 {
     match faces.get_mut(&face) {
-        Some(nodes) => nodes.put_queryable(id, node),
+        Some(nodes) => nodes.put(holder, id, node),
         None => Ok(()),
     }
 }

@@ -1,18 +1,16 @@
-//! The numbers and the queryables of every open face.
-ghost use Rattle.std.specs.Prelude.{◌≡◌, ◌<◌, [], None, Some, IfErr, IfOk, IfNone, IfSome, OnOk, OnErr, true, is_none, is_some, option_copied, length, slice_get};
+//! The numbers, the queryables and the interests of every open face.
+ghost use Rattle.std.specs.Prelude.{◌≡◌, ◌<◌, [], false, None, Some, IfErr, IfOk, IfNone, IfSome, OnOk, OnErr, true, is_none, is_some, option_copied, length, slice_get};
 ghost use Rattle.std.specs.Ordering.{nat_cmp};
 ghost use Rattle.std.specs.Map.{keys_of, remove_entry};
 ghost use Rattle.std.specs.BTreeMap.{is_at, insert_entry};
 ghost use Rattle.zq_key.specs.Key.{is_key as key_of};
 ghost use Rattle.zq_ids.specs.FaceIds.{next_id};
 ghost use Rattle.zq_ids.specs.FaceTexts.{IsReason, declared_key};
-ghost use Rattle.zq_tables.specs.Holding.{held_keys, with_key, without_key, without_keys};
-ghost use Rattle.zq_tables.specs.Naming.{best, change_naming, declare_refusal, face_keys, face_naming, face_queryables, has_context as has_context_of, no_keys, read_by, said_of, text_at, with_name, with_queryable, with_told_number, without_name, without_queryable, without_sent};
+ghost use Rattle.zq_tables.specs.Holding.{are_numbers, held_keys, with_first_key, with_key, without_key, without_keys};
+ghost use Rattle.zq_tables.specs.Naming.{best, change_naming, declare_refusal, face_interests, face_keys, face_naming, face_queryables, has_context as has_context_of, no_keys, read_by, said_of, text_at, with_interest, with_name, with_queryable, with_told_number, without_interest, without_name, without_queryable, without_sent};
 
 use crate::face_nodes::FaceNodes;
-use crate::held::{
-    Faces, declare_at, first_at, is_settled, node_at, put_given, put_queryable, take_at,
-};
+use crate::held::{Faces, declare_at, first_at, is_settled, node_at, put_at, put_given, take_at};
 use crate::hold::{let_go, take_hold};
 use crate::holder::Holder;
 use crate::number::{remaps, said_plainly, said_under};
@@ -28,8 +26,8 @@ use zq_key::text::Text;
 use zq_key::{Key, is_key};
 use zq_names::{NameRefusal, Names, nonwild};
 
-/// The numbers and the queryables of every open face, which hold the nodes that they stand for. A
-/// node goes with its last hold.
+/// The numbers, the queryables and the interests of every open face, which hold the nodes that they
+/// stand for. An interest without a key holds none. A node goes with its last hold.
 #[derive(Drop)]
 pub struct Naming {
     names: Names,
@@ -60,7 +58,7 @@ impl Naming {
         })
     }
 
-    /// A face is opened, with no numbers and no queryables.
+    /// A face is opened, with no numbers, no queryables and no interests.
     pub fn open(&mut self, face: FaceId) -> Result<(), OutOfMemory>
         ensures ok { OnOk result (self.new ≡ insert_entry nat_cmp self.old face.0 no_keys) }
         ensures err { OnErr result (self.new ≡ self.old) }
@@ -77,7 +75,8 @@ impl Naming {
         }
     }
 
-    /// A face is closed, and gives up its numbers and its queryables. It takes no memory.
+    /// A face is closed, and gives up its numbers, its queryables and its interests. It takes no
+    /// memory.
     pub fn close(&mut self, face: FaceId)
         ensures { self.new ≡ remove_entry (is_at (nat_cmp face.0)) self.old }
     {
@@ -119,6 +118,7 @@ impl Naming {
         self.release_all(face, Holder::Number(Mapping::Sender));
         self.release_all(face, Holder::Number(Mapping::Receiver));
         self.release_all(face, Holder::Queryable);
+        self.release_all(face, Holder::Interest);
     }
 
     /// What an expression says that the face sends.
@@ -160,8 +160,9 @@ impl Naming {
         self.best_of(face, text)
     }
 
-    /// Whether the text, or one of which it is a part that ends before a `/`, is what a number or a
-    /// queryable of an open face stands for: whether the names have its node. The root has none.
+    /// Whether the text, or one of which it is a part that ends before a `/`, is what a number, a
+    /// queryable or an interest of an open face stands for: whether the names have its node. The
+    /// root has none.
     pub fn has_context(&self, text: &str) -> bool
         ensures { result ≡ has_context_of text.now self.now }
     {
@@ -327,11 +328,48 @@ impl Naming {
         self.release(face, Holder::Number(Mapping::Receiver), id as u32);
     }
 
+    // Whether an id of a holder of the face holds a node.
+    fn holds(&self, face: FaceId, holder: Holder, id: u32) -> bool
+        ensures { result ≡ is_some (text_at id (held_keys holder (face_keys face.0 self.now))) }
+    {
+        node_at(&self.faces, face.0, holder, id).is_some()
+    }
+
+    // An id of a holder of the face, which is no number, holds the node of a key from then on; one
+    // that holds a node keeps it. Answers whether it held none before.
+    fn hold(
+        &mut self,
+        face: FaceId,
+        holder: Holder,
+        id: u32,
+        key: &Key,
+    ) -> Result<bool, OutOfMemory>
+        requires unnumbered { are_numbers holder ≡ false }
+        ensures fresh { IfOk result (λ b. b ≡ is_none (text_at id (held_keys holder (face_keys face.0 self.old)))) }
+        ensures ok { OnOk result (self.new ≡ change_naming face.0 (with_first_key holder id key.now) self.old) }
+        ensures err { OnErr result (self.new ≡ self.old) }
+    {
+        // so many faces at most bound how often a node is held
+        let _open = self.faces.len();
+        let fresh = !self.holds(face, holder, id);
+        if is_settled(&self.faces, face.0, holder, id) {
+            return Ok(fresh);
+        }
+        let node = take_hold(&mut self.names, key.as_str())?;
+        match put_at(&mut self.faces, face.0, holder, id, node) {
+            Ok(()) => Ok(fresh),
+            Err(refusal) => {
+                let_go(&mut self.names, node);
+                Err(refusal)
+            }
+        }
+    }
+
     /// Whether a queryable of the face holds the node of its key.
     pub fn holds_queryable(&self, face: FaceId, id: u32) -> bool
         ensures { result ≡ is_some (text_at id (face_queryables face.0 self.now)) }
     {
-        node_at(&self.faces, face.0, Holder::Queryable, id).is_some()
+        self.holds(face, Holder::Queryable, id)
     }
 
     /// The face declares a queryable, which holds the node of its key from then on; one of that id
@@ -342,20 +380,7 @@ impl Naming {
         ensures ok { OnOk result (self.new ≡ change_naming face.0 (with_queryable id key.now) self.old) }
         ensures err { OnErr result (self.new ≡ self.old) }
     {
-        // so many faces at most bound how often a node is held
-        let _open = self.faces.len();
-        let fresh = !self.holds_queryable(face, id);
-        if is_settled(&self.faces, face.0, Holder::Queryable, id) {
-            return Ok(fresh);
-        }
-        let node = take_hold(&mut self.names, key.as_str())?;
-        match put_queryable(&mut self.faces, face.0, id, node) {
-            Ok(()) => Ok(fresh),
-            Err(refusal) => {
-                let_go(&mut self.names, node);
-                Err(refusal)
-            }
-        }
+        self.hold(face, Holder::Queryable, id, key)
     }
 
     /// The face withdraws a queryable, and its node goes with its last hold. It takes no memory. A
@@ -364,5 +389,31 @@ impl Naming {
         ensures { self.new ≡ change_naming face.0 (without_queryable id) self.old }
     {
         self.release(face, Holder::Queryable, id);
+    }
+
+    /// Whether an interest of the face holds the node of its key.
+    pub fn holds_interest(&self, face: FaceId, id: u32) -> bool
+        ensures { result ≡ is_some (text_at id (face_interests face.0 self.now)) }
+    {
+        self.holds(face, Holder::Interest, id)
+    }
+
+    /// The face declares an interest with a key, which holds the node of its key from then on; one
+    /// of that id keeps the key that it has. Answers whether none of that id held a node before. A
+    /// face that is not open declares none.
+    pub fn hold_interest(&mut self, face: FaceId, id: u32, key: &Key) -> Result<bool, OutOfMemory>
+        ensures fresh { IfOk result (λ b. b ≡ is_none (text_at id (face_interests face.0 self.old))) }
+        ensures ok { OnOk result (self.new ≡ change_naming face.0 (with_interest id key.now) self.old) }
+        ensures err { OnErr result (self.new ≡ self.old) }
+    {
+        self.hold(face, Holder::Interest, id, key)
+    }
+
+    /// The face withdraws an interest, and its node goes with its last hold. It takes no memory. A
+    /// face that is not open has none, and an interest without a key holds none.
+    pub fn release_interest(&mut self, face: FaceId, id: u32)
+        ensures { self.new ≡ change_naming face.0 (without_interest id) self.old }
+    {
+        self.release(face, Holder::Interest, id);
     }
 }

@@ -17,5 +17,6 @@ returns-clause-faces c =
     let written : (c.get_mut.follows.lender nodes).entries ≡ set_value (is_at (nat_cmp c.args.face)) c.args.faces.now.entries nodes = (c.get_mut.follows.holds nodes).0 in
     let back = written ∙ set_value_same (is_at (nat_cmp c.args.face)) c.args.faces.now.entries nodes (sym c.in-Some.ensures.value) in
     let whole = λ (n : FaceIds). record nodes { numbers = n } in
-    let same = λ (e : c.declare.new.self.numbers ≡ nodes.numbers). ap (λ (q : List (ℕ × ℕ)). record c.declare.new.self { queryables = q }) c.declare.ensures.queryables ∙ ap whole e in
+    let asked = ap (λ (i : List (ℕ × ℕ)). record c.declare.new.self { interests = i }) c.declare.ensures.interests in
+    let same = λ (e : c.declare.new.self.numbers ≡ nodes.numbers). asked ∙ ap (λ (q : List (ℕ × ℕ)). record c.declare.new.self { queryables = q; interests = nodes.interests }) c.declare.ensures.queryables ∙ ap whole e in
     on_err_weaker c.declare.result (λ e. ap (λ n. (c.get_mut.follows.lender n).entries) (same e) ∙ back) c.declare.ensures.err

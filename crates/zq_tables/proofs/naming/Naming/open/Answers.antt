@@ -22,10 +22,10 @@ returns-then-contains_key-clause-ok c =
 
 pub invariant_of-self : goal.invariant_of-self
 invariant_of-self c =
-    opened c.self.inside.names c.self.inside.faces.entries c.insert.new.self.entries c.args.face.0 c.new.result c.new.ensures.theirs c.new.ensures.ours c.new.ensures.queryables c.in-Ok.ensures.entries c.self.invariant
+    opened c.self.inside.names c.self.inside.faces.entries c.insert.new.self.entries c.args.face.0 c.new.result c.new.ensures.theirs c.new.ensures.ours c.new.ensures.queryables c.new.ensures.interests c.in-Ok.ensures.entries c.self.invariant
     (none_from _ (sym c.contains_key.ensures ∙ c.if-contains_key.false))
 
 pub returns-in-Ok-clause-ok : goal.returns-in-Ok-clause-ok
 returns-in-Ok-clause-ok c =
-    opened_texts c.self.inside.names c.self.inside.faces.entries c.insert.new.self.entries c.args.face.0 c.new.result c.new.ensures.theirs c.new.ensures.ours c.new.ensures.queryables c.in-Ok.ensures.entries
+    opened_texts c.self.inside.names c.self.inside.faces.entries c.insert.new.self.entries c.args.face.0 c.new.result c.new.ensures.theirs c.new.ensures.ours c.new.ensures.queryables c.new.ensures.interests c.in-Ok.ensures.entries
     ∙ ap (λ (s : NamingState). insert_entry nat_cmp s c.args.face.0 no_keys) c.self.view_is

@@ -1,17 +1,29 @@
-use Rattle.std.proofs.Common.{◌≡◌, ◌∙◌, ◌<◌, ◌^◌, length, ap, sym, subst, false, arith}
-use Rattle.zq_tables.specs.declared.holder.Holder.TheVariants.{Queryable}
-use Rattle.zq_tables.specs.Naming.{NamingState, change_naming, with_queryable}
-use Rattle.zq_tables.specs.Holding.{Faces, IsHeld, settled_at, texts_by}
+use Rattle.std.proofs.Common.{◌≡◌, ◌∙◌, ℕ, ◌<◌, ◌≤◌, ◌^◌, length, ap, sym, subst, false, arith}
+use Rattle.std.proofs.lemmas.Bool.{false≢true}
+use Rattle.zq_tables.specs.declared.holder.Holder.{Holder}
+use Rattle.zq_tables.specs.declared.holder.Holder.TheVariants.{Number, Queryable, Interest}
+use Rattle.zq_tables.specs.Naming.{NamingState, change_naming}
+use Rattle.zq_tables.specs.Holding.{Faces, IsHeld, are_numbers, least, limit, settled_at, texts_by, with_first_key}
 use Rattle.zq_tables.proofs.Letting.{in_hand_held, in_hand_live, left, left_texts, room_held, taken, taken_texts}
-use Rattle.zq_tables.proofs.Putting.{new_held, queryable_held_texts, settled_queryable}
-use Rattle.zq_tables.proofs.naming.Naming.hold_queryable.Goals as goal
+use Rattle.zq_tables.proofs.Putting.{first_held_texts, new_held, settled_first}
+use Rattle.zq_tables.proofs.naming.Naming.hold.Goals as goal
+
+from_least : (h : Holder) (id : ℕ) → are_numbers h ≡ false → least h ≤ id
+from_least (Number m) id none = absurd (false≢true (sym none))
+from_least Queryable id none = omega arith
+from_least Interest id none = omega arith
+
+below_limit : (h : Holder) (id : ℕ) → are_numbers h ≡ false → id < 4294967296 → id < limit h
+below_limit (Number m) id none small = absurd (false≢true (sym none))
+below_limit Queryable id none small = small
+below_limit Interest id none small = small
 
 pub returns-then-is_settled-clause-ok : goal.returns-then-is_settled-clause-ok
 returns-then-is_settled-clause-ok c =
     let face = c.args.face.0 in
     let key = c.args.key.now in
-    let S : NamingState → Type 0 = λ (s : NamingState). s ≡ change_naming face (with_queryable c.args.id key) s in
-    subst S c.self.view_is (settled_queryable c.self.inside.names c.self.inside.faces.entries face c.args.id key (sym c.is_settled.ensures ∙ c.if-is_settled.true))
+    let S : NamingState → Type 0 = λ (s : NamingState). s ≡ change_naming face (with_first_key c.args.holder c.args.id key) s in
+    subst S c.self.view_is (settled_first c.args.holder c.self.inside.names c.self.inside.faces.entries face c.args.id key (sym c.is_settled.ensures ∙ c.if-is_settled.true))
 
 pub take_hold-requires-clause-room : goal.take_hold-requires-clause-room
 take_hold-requires-clause-room c =
@@ -20,17 +32,17 @@ take_hold-requires-clause-room c =
 
 pub invariant_of-self-in-Ok : goal.invariant_of-self-in-Ok
 invariant_of-self-in-Ok c =
-    let new : settled_at Queryable c.args.face.0 c.args.id c.self.inside.faces.entries ≡ false = sym c.is_settled.ensures ∙ c.if-is_settled.false in
+    let new : settled_at c.args.holder c.args.face.0 c.args.id c.self.inside.faces.entries ≡ false = sym c.is_settled.ensures ∙ c.if-is_settled.false in
     let takes = c.in_ok-node.ensures.ok in
     let hand = taken c.self.inside.names c.take_hold.new.names c.self.inside.faces.entries c.as_str.result.now c.in_ok-node.node.0 c.self.invariant takes in
-    new_held Queryable c.take_hold.new.names c.self.inside.faces.entries c.put_queryable.new.faces.entries c.args.face.0 c.args.id c.in_ok-node.node.0 new c.in-Ok.ensures.ok hand (omega arith) (omega arith)
+    new_held c.args.holder c.take_hold.new.names c.self.inside.faces.entries c.put_at.new.faces.entries c.args.face.0 c.args.id c.in_ok-node.node.0 new c.in-Ok.ensures.ok hand (from_least c.args.holder c.args.id c.requires.unnumbered) (below_limit c.args.holder c.args.id c.requires.unnumbered (omega arith))
 
 pub returns-in-Ok-clause-ok : goal.returns-in-Ok-clause-ok
 returns-in-Ok-clause-ok c =
-    let new : settled_at Queryable c.args.face.0 c.args.id c.self.inside.faces.entries ≡ false = sym c.is_settled.ensures ∙ c.if-is_settled.false in
+    let new : settled_at c.args.holder c.args.face.0 c.args.id c.self.inside.faces.entries ≡ false = sym c.is_settled.ensures ∙ c.if-is_settled.false in
     let takes = c.in_ok-node.ensures.ok in
-    queryable_held_texts c.take_hold.new.names c.self.inside.faces.entries c.put_queryable.new.faces.entries c.args.face.0 c.args.id c.in_ok-node.node.0 new c.in-Ok.ensures.ok c.args.key.now (takes.text ∙ c.as_str.ensures.text)
-    ∙ ap (change_naming c.args.face.0 (with_queryable c.args.id c.args.key.now))
+    first_held_texts c.args.holder c.take_hold.new.names c.self.inside.faces.entries c.put_at.new.faces.entries c.args.face.0 c.args.id c.in_ok-node.node.0 new c.in-Ok.ensures.ok c.args.key.now (takes.text ∙ c.as_str.ensures.text)
+    ∙ ap (change_naming c.args.face.0 (with_first_key c.args.holder c.args.id c.args.key.now))
     (taken_texts c.self.inside.names c.take_hold.new.names c.self.inside.faces.entries c.as_str.result.now c.in_ok-node.node.0 c.self.invariant takes ∙ c.self.view_is)
 
 pub let_go-requires-clause-live : goal.let_go-requires-clause-live
