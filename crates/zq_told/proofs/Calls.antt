@@ -21,7 +21,7 @@ use Rattle.zq_told.proofs.Settling.{keeps_up}
 use Rattle.zq_told.proofs.Differing.{looks_up, tells_each}
 
 -- another number
-not_same : (n m : ℕ) → (n ≡ m → ⊥) → (n == m) ≡ false
+pub not_same : (n m : ℕ) → (n ≡ m → ⊥) → (n == m) ≡ false
 not_same n m ne = by (n == m) refl
   where
     by : (b : Bool) → (n == m) ≡ b → b ≡ false

@@ -96,7 +96,7 @@ length_by : (b : Bool) (k : KeyDue) (ks : List KeyDue) → cond b 1 0 + length k
 length_by true k ks = omega arith
 length_by false k ks = omega arith
 
-counted : (way : Way) (n : ℕ) (told : Told) (ks : List KeyDue) (a : Account) → (fold (tell_key way n told) a ks).last ≡ a.last + length (filter (takes_id way told) ks)
+pub counted : (way : Way) (n : ℕ) (told : Told) (ks : List KeyDue) (a : Account) → (fold (tell_key way n told) a ks).last ≡ a.last + length (filter (takes_id way told) ks)
 counted way n told [] a = let e : a.last ≡ a.last + 0 = omega arith in e
 counted way n told (k ∷ ks) a =
     let l : List KeyDue = filter (takes_id way told) ks in

@@ -8,3 +8,6 @@ pub mod Numbers
 pub mod Differing
 pub mod Ordered
 pub mod Calls
+pub mod Leaving
+pub mod Faces
+pub mod Meant

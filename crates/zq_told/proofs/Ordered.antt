@@ -35,7 +35,7 @@ same_number : (m : ℕ) → nat_cmp m m ≡ Equal
 same_number m = equal_of (nat_cmp m m) (itself m)
 
 -- ---- lists
-all_append : (P : Telling → Type 0) (ts us : List Telling) → AllByRecursion P ts → AllByRecursion P us → AllByRecursion P (ts ++ us)
+pub all_append : (P : Telling → Type 0) (ts us : List Telling) → AllByRecursion P ts → AllByRecursion P us → AllByRecursion P (ts ++ us)
 all_append P [] us a b = b
 all_append P (t ∷ ts) us a b = (a.0, all_append P ts us a.1 b)
 
@@ -84,7 +84,7 @@ module _ (way : Way) (m : ℕ) (k : List ℕ) (old new : Option ToldEntry) (Q : 
   change_by e false = tells e
 
   -- a key has one telling or none
-  one_for : Q (tellings_for way m k old new)
+  pub one_for : Q (tellings_for way m k old new)
   one_for = by way old new
     where
       by : (w : Way) (o x : Option ToldEntry) → Q (tellings_for w m k o x)

@@ -282,7 +282,7 @@ module _ (way : Way) (n : ℕ) (told : Told) where
       ∙ ap (λ x. aim way k.1 (info_at x told)) same
   step_by q k ks last es false is above = refl
 
-  told_is : (q : List ℕ) (ks : List KeyDue) (a : Account) → InOrder ks → InOrder (put a.rows) → info_at q (put (fold (tell_key way n told) a ks).rows) ≡ option_map_or (λ d. aim way d (info_at q told)) (at_text q ks) (info_at q (put a.rows))
+  pub told_is : (q : List ℕ) (ks : List KeyDue) (a : Account) → InOrder ks → InOrder (put a.rows) → info_at q (put (fold (tell_key way n told) a ks).rows) ≡ option_map_or (λ d. aim way d (info_at q told)) (at_text q ks) (info_at q (put a.rows))
   told_is q [] a sorted s = refl
   told_is q (k ∷ ks) a sorted s =
       let e : Option ToldEntry = entry_for way a.last (at_text k.0 told) k.1 in

@@ -3,3 +3,4 @@ pub mod Telling
 pub mod Rooms
 pub mod Receiver
 pub mod Laws
+pub mod Leaving

@@ -1,5 +1,6 @@
 //! The laws of telling, as the contracts of calls.
 ghost use Rattle.zq_told.specs.Laws.{CallKeepsUp, CountsIds, HeardIsDue, IdsAreGiven, KeepsUp, LooksUp, TellsDifference, TellsEach, TellsInOrder};
+ghost use Rattle.zq_told.specs.Leaving.{AnswersAll, Closes, EndsQuietly, KeepsFaces, LacksExactly, LessDue, Opens, StaySound, StaysInOrder, TellsMeant, ToldAimed};
 
 /// A receiver that keeps what a face was told, and reads what a call tells it by ids alone, keeps afterwards
 /// what the face was told then.
@@ -54,4 +55,63 @@ pub fn tells_in_order()
 /// that face, keeps afterwards what the face was told then.
 pub fn call_keeps_up()
     ensures { CallKeepsUp }
+{}
+
+/// After a call a face was told on each key what the call aims at; of what was told of other keys nothing
+/// changes.
+pub fn told_aimed()
+    ensures { ToldAimed }
+{}
+
+/// What a face was told stays in order of its keys.
+pub fn stays_in_order()
+    ensures { StaysInOrder }
+{}
+
+/// Where an interest ended, nothing is told.
+pub fn ends_quietly()
+    ensures { EndsQuietly }
+{}
+
+/// An interest is answered with all that is due, and with nothing else.
+pub fn answers_all()
+    ensures { AnswersAll }
+{}
+
+/// Ids lack exactly where some face that is there would be given one above those of 32 bits for the keys that
+/// are newly due to it.
+pub fn lacks_exactly()
+    ensures { LacksExactly }
+{}
+
+/// Where no key is newly due to a face, no ids lack, and each face keeps the id that it was given last.
+pub fn less_due()
+    ensures { LessDue }
+{}
+
+/// Each telling is to a face that is there, of a key that the call looks at for it, and of no node.
+pub fn tells_meant()
+    ensures { TellsMeant }
+{}
+
+/// Faces stand in order, each once, and so does what each was told, and the last ids are of 32 bits: from the
+/// first on, where a face comes or goes, and after each call that lacks no ids.
+pub fn stay_sound()
+    ensures { StaySound }
+{}
+
+/// A call leaves the same faces there.
+pub fn keeps_faces()
+    ensures { KeepsFaces }
+{}
+
+/// A face comes and was told nothing, so that a receiver that keeps nothing keeps what it was told; all others
+/// stay.
+pub fn opens()
+    ensures { Opens }
+{}
+
+/// A face goes, and all others stay; where it was not there before it came, all is as it was.
+pub fn closes()
+    ensures { Closes }
 {}

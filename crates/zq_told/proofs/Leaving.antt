@@ -1,0 +1,129 @@
+-- What a call leaves of one face and tells it, and when it lacks ids.
+use Rattle.std.proofs.Common.{◌≡◌, ◌∙◌, refl, sym, ap, ℕ, ◌+◌, Bool, true, false, cond, List, [], ◌∷◌, ◌++◌, fold, length, map, Option, Some, None, true≢false, arith, append_assoc}
+use Rattle.std.specs.Prelude.{◌||◌, filter}
+use Rattle.std.specs.List.{list_any}
+use Rattle.std.specs.Option.{is_some, option_map_or}
+use Rattle.std.proofs.lemmas.List.{append-nil, map-append}
+use Rattle.std.proofs.lemmas.List.Folds.{list_any-append}
+use Rattle.zq_message.specs.declared.message.QueryableInfoType.{QueryableInfoType}
+use Rattle.zq_index.specs.Texts.{at_text}
+use Rattle.zq_trees.specs.declared.types.Telling.{Telling}
+use Rattle.zq_told.specs.declared.types.ToldEntry.{ToldEntry}
+use Rattle.zq_told.specs.declared.types.Way.{Way}
+use Rattle.zq_told.specs.declared.types.Way.TheVariants.{Answering, Ending}
+use Rattle.zq_told.specs.declared.types.FaceDues.{FaceDues}
+use Rattle.zq_told.specs.declared.types.FacePlan.{FacePlan}
+use Rattle.zq_told.specs.declared.types.Planned.{Planned}
+use Rattle.zq_told.specs.declared.plan.Account.{Account}
+use Rattle.zq_told.specs.Ears.{Ear, Ears, Told, at_face}
+use Rattle.zq_told.specs.Telling.{KeyDue, Row, entry_for, is_above, put_row, tell_face, tell_key, tell_keys, tellings_for, with_account}
+use Rattle.zq_told.specs.Laws.{InOrder, takes_id}
+use Rattle.zq_told.specs.Leaving.{AnswersAll, EndsQuietly, HaveIds, LacksExactly, StaysInOrder, ToldAimed, is_too_great, lacks_there, news_of, takes_ids}
+use Rattle.zq_told.proofs.Slotted.{row_sorted}
+use Rattle.zq_told.proofs.Settling.{told_is}
+use Rattle.zq_told.proofs.Differing.{counted}
+use Rattle.zq_told.proofs.Reaching.{below_by}
+
+pub told_aimed : ToldAimed
+told_aimed way n ear keys sorted ordered key = told_is way n ear.told key keys (record { last = ear.last; rows = []; tellings = [] }) ordered sorted
+
+-- ---- keys stay in order
+pub rows_sorted : (rows : List Row) (told : Told) → InOrder told → InOrder (fold put_row told rows)
+rows_sorted [] told s = s
+rows_sorted (r ∷ rows) told s = rows_sorted rows (put_row told r) (row_sorted r.0 r.1 told s)
+
+pub stays_in_order : StaysInOrder
+stays_in_order way n ear keys s = rows_sorted (tell_keys way n ear keys []).rows ear.told s
+
+-- ---- an interest that ended
+quiet_all : (n : ℕ) (told : Told) (ks : List KeyDue) (a : Account) → (fold (tell_key Ending n told) a ks).tellings ≡ a.tellings
+quiet_all n told [] a = refl
+quiet_all n told (k ∷ ks) a = quiet_all n told ks (tell_key Ending n told a k) ∙ append-nil a.tellings
+
+pub ends_quietly : EndsQuietly
+ends_quietly n ear keys = quiet_all n ear.told keys (record { last = ear.last; rows = []; tellings = [] })
+
+-- ---- an interest that is answered
+abbrev is_due : KeyDue → Bool
+is_due k = is_some k.1
+
+answer_by : (n : ℕ) (key : List ℕ) (last : ℕ) (old : Option ToldEntry) (due : Option QueryableInfoType) → map news_of (tellings_for Answering n key old (entry_for Answering last old due)) ≡ cond (is_some due) ((key, due) ∷ []) []
+answer_by n key last old None = refl
+answer_by n key last old (Some i) = refl
+
+first_by : (b : Bool) (k : KeyDue) (ks : List KeyDue) → cond b (k ∷ []) [] ++ ks ≡ cond b (k ∷ ks) ks
+first_by true k ks = refl
+first_by false k ks = refl
+
+answer_all : (n : ℕ) (told : Told) (ks : List KeyDue) (a : Account) → map news_of (fold (tell_key Answering n told) a ks).tellings ≡ map news_of a.tellings ++ filter is_due ks
+answer_all n told [] a = sym (append-nil (map news_of a.tellings))
+answer_all n told (k ∷ ks) a =
+    let new : Option ToldEntry = entry_for Answering a.last (at_text k.0 told) k.1 in
+    let ts : List Telling = tellings_for Answering n k.0 (at_text k.0 told) new in
+    let was : List KeyDue = map news_of a.tellings in
+    answer_all n told ks (tell_key Answering n told a k)
+    ∙ ap (λ l. l ++ filter is_due ks) (map-append news_of a.tellings ts ∙ ap (λ l. was ++ l) (answer_by n k.0 a.last (at_text k.0 told) k.1))
+    ∙ append_assoc was (cond (is_due k) (k ∷ []) []) (filter is_due ks)
+    ∙ ap (λ l. was ++ l) (first_by (is_due k) k (filter is_due ks))
+
+pub answers_all : AnswersAll
+answers_all n ear keys = answer_all n ear.told keys (record { last = ear.last; rows = []; tellings = [] })
+
+-- ---- ids that lack
+or_false : (b : Bool) → b ≡ (b || false)
+or_false true = refl
+or_false false = refl
+
+or_assoc : (a b c : Bool) → ((a || b) || c) ≡ (a || (b || c))
+or_assoc true b c = refl
+or_assoc false b c = refl
+
+module _ (way : Way) (ears : Ears) where
+  lacks_by : (p : Planned) (d : FaceDues) (o : Option Ear) → list_any is_above (option_map_or (λ (e : Ear). with_account d.face.0 (tell_keys way d.face.0 e d.keys p.tellings) p) o p).plan
+      ≡ (list_any is_above p.plan || option_map_or (λ (e : Ear). is_too_great (e.last + length (filter (takes_id way e.told) d.keys))) o false)
+  lacks_by p d None = or_false (list_any is_above p.plan)
+  lacks_by p d (Some e) =
+      let start : Account = record { last = e.last; rows = []; tellings = p.tellings } in
+      let a : Account = tell_keys way d.face.0 e d.keys p.tellings in
+      let left : FacePlan = record { face = record { 0 = d.face.0 }; last = a.last; rows = a.rows } in
+      list_any-append is_above p.plan (left ∷ [])
+      ∙ ap (λ b. list_any is_above p.plan || b) (sym (or_false (is_above left)) ∙ ap is_too_great (counted way d.face.0 e.told d.keys start))
+
+  lacks_all : (ds : List FaceDues) (p : Planned) → list_any is_above (fold (tell_face way ears) p ds).plan ≡ (list_any is_above p.plan || list_any (lacks_there way ears) ds)
+  lacks_all [] p = or_false (list_any is_above p.plan)
+  lacks_all (d ∷ ds) p =
+      lacks_all ds (tell_face way ears p d)
+      ∙ ap (λ b. b || list_any (lacks_there way ears) ds) (lacks_by p d (at_face d.face.0 ears))
+      ∙ or_assoc (list_any is_above p.plan) (lacks_there way ears d) (list_any (lacks_there way ears) ds)
+
+pub lacks_exactly : LacksExactly
+lacks_exactly way ears dues = lacks_all way ears dues (record { plan = []; tellings = [] })
+
+-- ---- where no key is newly due
+pub neither : (a b : Bool) → (a || b) ≡ false → (a ≡ false) × (b ≡ false)
+neither true b e = absurd (true≢false e)
+neither false b e = (refl, e)
+
+none_of_by : {X : Type 0} (p : X → Bool) (x : X) (xs : List X) (b : Bool) → b ≡ false → filter p xs ≡ [] → cond b (x ∷ filter p xs) (filter p xs) ≡ []
+none_of_by p x xs true e ih = absurd (true≢false e)
+none_of_by p x xs false e ih = ih
+
+none_of : {X : Type 0} (p : X → Bool) (xs : List X) → list_any p xs ≡ false → filter p xs ≡ []
+none_of p [] e = refl
+none_of p (x ∷ xs) e = let both = neither (p x) (list_any p xs) e in none_of_by p x xs (p x) both.0 (none_of p xs both.1)
+
+module _ (way : Way) (ears : Ears) where
+  -- a face to which no key is newly due keeps its last id
+  pub last_kept : (e : Ear) (keys : List KeyDue) → list_any (takes_id way e.told) keys ≡ false → e.last + length (filter (takes_id way e.told) keys) ≡ e.last
+  last_kept e keys none = ap (λ ks. e.last + length ks) (none_of (takes_id way e.told) keys none) ∙ (let z : e.last + 0 ≡ e.last = omega arith in z)
+
+  enough_by : (d : FaceDues) (o : Option Ear) → at_face d.face.0 ears ≡ o → HaveIds ears → option_map_or (λ (e : Ear). list_any (takes_id way e.told) d.keys) o false ≡ false
+      → option_map_or (λ (e : Ear). is_too_great (e.last + length (filter (takes_id way e.told) d.keys))) o false ≡ false
+  enough_by d None there ids none = refl
+  enough_by d (Some e) there ids none = ap is_too_great (last_kept e d.keys none) ∙ below_by e.last (ids d.face.0 e there)
+
+  pub enough : (ds : List FaceDues) → HaveIds ears → list_any (takes_ids way ears) ds ≡ false → list_any (lacks_there way ears) ds ≡ false
+  enough [] ids none = refl
+  enough (d ∷ ds) ids none =
+      let both = neither (takes_ids way ears d) (list_any (takes_ids way ears) ds) none in
+      (λ i. enough_by d (at_face d.face.0 ears) refl ids both.0 i || enough ds ids both.1 i)
