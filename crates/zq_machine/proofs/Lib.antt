@@ -58,3 +58,5 @@ pub mod DueTaken
 pub mod DueAsked
 pub mod Dues
 pub mod DuesMoved
+pub mod NeighbourDues
+pub mod NeighbourTold

@@ -20,3 +20,4 @@ pub mod Moved
 pub mod Agreeing
 pub mod Due
 pub mod DueAlike
+pub mod Neighbours

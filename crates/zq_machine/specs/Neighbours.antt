@@ -1,0 +1,130 @@
+-- What a call tells faces outside regions of routers, and what is kept of it: each face is told the difference between what it was told and what is due to it.
+use Rattle.std.specs.Prelude.{◌≡◌, ℕ, ◌+◌, ◌^◌, nat_lt, Bool, false, not, ◌&&◌, List, [], ◌∷◌, filter, fold, length, map, Some, is_none}
+use Rattle.std.specs.List.{flat_map}
+use Rattle.std.specs.Map.{keys_of}
+use Rattle.std.specs.Option.{is_some, option_map_or}
+use Rattle.zq_index.specs.Texts.{at_text}
+use Rattle.zq_trees.specs.declared.types.Telling.{Telling as TreeTelling}
+use Rattle.zq_hat.specs.declared.types.InterestEntry.{InterestEntry}
+use Rattle.zq_told.specs.declared.types.FaceDues.{FaceDues}
+use Rattle.zq_told.specs.declared.types.Way.TheVariants.{Unasked, Answering, Ending}
+use Rattle.zq_told.specs.Ears.{Ear, Ears, at_face, closed, opened}
+use Rattle.zq_told.specs.Telling.{KeyDue, lacks_ids, tell_due, tell_faces}
+use Rattle.zq_told.specs.Receiver.{Heard, Tied, heard_after, memory_of, receive}
+use Rattle.zq_told.specs.Laws.{InOrder, is_to, told_info}
+use Rattle.zq_machine.specs.Due.{Interests, due, due_keys, due_touched, listens, meets, met_keys}
+use Rattle.zq_machine.specs.State.{Core}
+use Rattle.zq_machine.specs.TextCalls.{TextCall, closing, opening}
+
+-- ---- what is looked at
+
+-- a key with what is due to the face
+abbrev pub due_on : Core → Interests → ℕ → List ℕ → KeyDue
+due_on c ints face key = (key, due c ints face key)
+
+-- those of the keys on which the face listens, with what is due
+abbrev pub dues_on : Core → Interests → List (List ℕ) → ℕ → List KeyDue
+dues_on c ints keys face = map (due_on c ints face) (filter (λ key. listens c ints face key) keys)
+
+-- a face with its keys, if it has any
+abbrev pub with_dues : ℕ → List KeyDue → List FaceDues
+with_dues face [] = []
+with_dues face (k ∷ ks) = record { face = record { 0 = face }; keys = k ∷ ks } ∷ []
+
+-- what a call that is no interest looks at: at each face that is open after it, of the keys that it touches there those on which the face listens
+abbrev pub looked_at : (before after : Core) → Interests → TextCall → List FaceDues
+looked_at before after ints t = flat_map (λ o. with_dues o.0 (dues_on after ints (due_touched before t o.0) o.0)) after.faces
+
+-- the keys that meet what an interest asks for, with what is due to the asker
+abbrev pub asked_dues : Core → Interests → (asker : ℕ) → InterestEntry → List KeyDue
+asked_dues c ints asker asked = map (due_on c ints asker) (met_keys asked.key c)
+
+-- what an interest looks at: those, at the asker
+abbrev pub asked_at : Core → Interests → (asker : ℕ) → InterestEntry → List FaceDues
+asked_at c ints asker asked = with_dues asker (asked_dues c ints asker asked)
+
+-- the keys that a face was told
+abbrev pub told_keys : ℕ → Ears → List (List ℕ)
+told_keys face ears = option_map_or (λ (e : Ear). keys_of e.told) (at_face face ears) []
+
+-- the keys that the asker was told and that meet what was asked for, with what is due to it
+abbrev pub ended_dues : Core → Interests → Ears → (asker : ℕ) → InterestEntry → List KeyDue
+ended_dues c ints ears asker asked = map (due_on c ints asker) (filter (meets asked.key) (told_keys asker ears))
+
+-- what the end of an interest looks at: those, at the asker
+abbrev pub ended_at : Core → Interests → Ears → (asker : ℕ) → InterestEntry → List FaceDues
+ended_at c ints ears asker asked = with_dues asker (ended_dues c ints ears asker asked)
+
+-- ---- what is told, and what is kept of it
+
+-- a face that a call opens was told nothing
+abbrev pub with_new : Core → TextCall → Ears → Ears
+with_new before (opening o) ears = opened before.next_face before.config.start.told ears
+with_new before t ears = ears
+
+-- of a face that a call closes nothing is kept
+abbrev pub without_closed : TextCall → Ears → Ears
+without_closed (closing face) ears = closed face.0 ears
+without_closed t ears = ears
+
+-- what a call that is no interest tells them: the difference
+abbrev pub neighbours_told : (before after : Core) → Interests → TextCall → Ears → List TreeTelling
+neighbours_told before after ints t ears = (tell_faces Unasked (with_new before t ears) (looked_at before after ints t)).tellings
+
+-- a face needs an id above those of 32 bits for it
+abbrev pub neighbours_lack : (before after : Core) → Interests → TextCall → Ears → Bool
+neighbours_lack before after ints t ears = lacks_ids Unasked (with_new before t ears) (looked_at before after ints t)
+
+-- what was told after it
+abbrev pub ears_after : (before after : Core) → Interests → TextCall → Ears → Ears
+ears_after before after ints t ears = without_closed t (tell_due Unasked (with_new before t ears) (looked_at before after ints t))
+
+-- what an interest tells its face: all that is due on what it asks for
+abbrev pub answer_told : Core → Interests → Ears → (asker : ℕ) → InterestEntry → List TreeTelling
+answer_told c ints ears asker asked = (tell_faces Answering ears (asked_at c ints asker asked)).tellings
+
+-- the face needs an id above those of 32 bits for it
+abbrev pub answer_lacks : Core → Interests → Ears → (asker : ℕ) → InterestEntry → Bool
+answer_lacks c ints ears asker asked = lacks_ids Answering ears (asked_at c ints asker asked)
+
+-- what was told after it
+abbrev pub ears_asked : Core → Interests → Ears → (asker : ℕ) → InterestEntry → Ears
+ears_asked c ints ears asker asked = tell_due Answering ears (asked_at c ints asker asked)
+
+-- what was told after the end of an interest: what is not due any more is forgotten
+abbrev pub ears_ended : Core → Interests → Ears → (asker : ℕ) → InterestEntry → Ears
+ears_ended c ints ears asker asked = tell_due Ending ears (ended_at c ints ears asker asked)
+
+-- ---- told is due
+
+-- what is kept of the face is in order; a receiver that reads what it was told by ids alone keeps exactly that; and on each key it is what is due to the face
+pub record Hears (c : Core) (ints : Interests) (ears : Ears) (face : ℕ) (heard : Heard) : Type 0 where
+  pub ear : Ear
+  pub there : at_face face ears ≡ Some ear
+  pub sorted : InOrder ear.told
+  pub tied : Tied (memory_of ear) heard
+  pub told : (key : List ℕ) → told_info ear key ≡ due c ints face key
+
+-- ---- what receivers keep
+
+-- what a receiver keeps at the face after a call that is no interest
+abbrev pub heard_over : (before after : Core) → Interests → TextCall → Ears → ℕ → Heard → Heard
+heard_over before after ints t ears face heard = fold receive heard (filter (is_to face) (neighbours_told before after ints t ears))
+
+-- what the asker's receiver keeps after an interest: of the keys that meet it nothing that is not due
+abbrev pub heard_asked : Core → Interests → Ears → (asker : ℕ) → InterestEntry → Heard → Heard
+heard_asked c ints ears asker asked heard = heard_after Answering (asked_dues c ints asker asked) heard (filter (is_to asker) (answer_told c ints ears asker asked))
+
+-- what the asker's receiver keeps after the end of an interest, at which nothing is told: of the keys that met it nothing that is not due any more
+abbrev pub heard_ended : Core → Interests → Ears → (asker : ℕ) → InterestEntry → Heard → Heard
+heard_ended c ints ears asker asked heard = heard_after Ending (ended_dues c ints ears asker asked) heard []
+
+-- ---- ids that lack
+
+-- the key is due to the face, which was told nothing of it
+abbrev pub is_news : Core → Interests → ℕ → Ear → List ℕ → Bool
+is_news c ints face ear key = is_none (at_text key ear.told) && is_some (due c ints face key)
+
+-- the face has told as many ids, and as many keys are newly due to it, as lead above the ids of 32 bits
+abbrev pub lacks_at : Core → Interests → Ears → ℕ → Bool
+lacks_at c ints ears face = option_map_or (λ (e : Ear). not (nat_lt (e.last + length (filter (is_news c ints face e) (due_keys c))) (2 ^ 32))) (at_face face ears) false
