@@ -56,7 +56,9 @@ pub mod DueKeys
 pub mod DueAlone
 pub mod DueTaken
 pub mod DueAsked
+pub mod DueEnds
 pub mod Dues
+pub mod DueLess
 pub mod DuesMoved
 pub mod NeighbourDues
 pub mod NeighbourTold

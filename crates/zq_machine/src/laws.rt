@@ -1,5 +1,5 @@
 //! Laws of what the gateway decides and keeps, as the contracts of calls.
-ghost use Rattle.std.specs.Prelude.{◌≡◌, ◌≢◌, ℕ, List, [], Option, Some, None, false, true};
+ghost use Rattle.std.specs.Prelude.{◌≡◌, ◌≢◌, ◌==◌, ◌&&◌, ℕ, List, [], Option, Some, None, false, true};
 ghost use Rattle.std.specs.List.{AllByRecursion, list_any};
 ghost use Rattle.std.specs.Option.{is_some, option_map_or};
 ghost use Rattle.std.specs.Str.{bytes_eq};
@@ -18,6 +18,7 @@ ghost use Rattle.zq_machine.specs.declared.call.Call.{Call};
 ghost use Rattle.zq_machine.specs.declared.call.Call.TheVariants as call;
 ghost use Rattle.zq_machine.specs.declared.call.Opening.{Opening};
 ghost use Rattle.zq_machine.specs.Agreeing.{Agrees};
+ghost use Rattle.zq_machine.specs.Calls.{declares};
 ghost use Rattle.zq_machine.specs.Configs.{Settings};
 ghost use Rattle.zq_machine.specs.Due.{Interests, KeysRise, ask_touched, due, due_keys, interests_of, is_due_touched, listens, redeclared, with_interest, without_interest};
 ghost use Rattle.zq_machine.specs.DueAlike.{DueAlike};
@@ -76,9 +77,15 @@ pub fn touches_all()
     ensures { (config : Settings) (calls : List Call) (c : Call) (place : ℕ) (key : List ℕ) → is_touched (state_after (opening_state config) calls).core (read (state_after (opening_state config) calls) c) key ≡ false → own_entry place key (after (state_after (opening_state config) calls) c).core.hats ≡ own_entry place key (state_after (opening_state config) calls).core.hats }
 {}
 
+/// To a face that is not open nothing is due.
+#[tactic(auto, using(crate::proofs::DueEnds::closed_undue))]
+pub fn closed_undue()
+    ensures { (c : Core) (ints : Interests) (face : ℕ) (key : List ℕ) → is_open face c ≡ false → due c ints face key ≡ None }
+{}
+
 /// A call changes what is due to a face on no key but those that it touches there: what is due to
-/// a face that is open after the call is on each other key what was due before, and that is nothing
-/// where the face was not open.
+/// a face that is open after the call is on each other key what was due before, which is nothing
+/// (by `closed_undue`) if the call opened the face.
 pub fn dues_stay()
     ensures { (config : Settings) (calls : List Call) (c : Call) (ints : Interests) (face : ℕ) (key : List ℕ) → is_open face (after (state_after (opening_state config) calls) c).core ≡ true → is_due_touched (state_after (opening_state config) calls).core (read (state_after (opening_state config) calls) c) face key ≡ false → due (after (state_after (opening_state config) calls) c).core ints face key ≡ due (state_after (opening_state config) calls).core ints face key }
 {}
@@ -86,6 +93,17 @@ pub fn dues_stay()
 /// An opening touches each key on which something is due to the new face.
 pub fn none_missed()
     ensures { (config : Settings) (calls : List Call) (o : Opening) (ints : Interests) (key : List ℕ) → is_some (due (after (state_after (opening_state config) calls) (call.Open o)).core ints (state_after (opening_state config) calls).core.next_face key) ≡ true → is_due_touched (state_after (opening_state config) calls).core (read (state_after (opening_state config) calls) (call.Open o)) (state_after (opening_state config) calls).core.next_face key ≡ true }
+{}
+
+/// But by a declaration, nothing becomes due to a face that is open.
+pub fn less_due()
+    ensures { (config : Settings) (calls : List Call) (c : Call) (ints : Interests) (face : ℕ) (key : List ℕ) → declares c ≡ false → is_open face (state_after (opening_state config) calls).core ≡ true → is_some (due (after (state_after (opening_state config) calls) c).core ints face key) ≡ true → is_some (due (state_after (opening_state config) calls).core ints face key) ≡ true }
+{}
+
+/// A call changes nothing of who listens: a face that is open before and after it listens on the
+/// same keys.
+pub fn listens_stay()
+    ensures { (config : Settings) (calls : List Call) (c : Call) (ints : Interests) (face : ℕ) (key : List ℕ) → is_open face (state_after (opening_state config) calls).core ≡ true → is_open face (after (state_after (opening_state config) calls) c).core ≡ true → listens (after (state_after (opening_state config) calls) c).core ints face key ≡ listens (state_after (opening_state config) calls).core ints face key }
 {}
 
 /// What is due to any face is on a key on which some region has information.
@@ -110,6 +128,23 @@ pub fn interests_alone()
 /// due on no key but those that it touches.
 pub fn asks_stay()
     ensures { (c : Core) (ints : Interests) (asker id : ℕ) (asked : InterestEntry) → ((old : InterestEntry) → at id (interests_of asker ints) ≡ Some old → old.key ≡ asked.key) → (face : ℕ) (key : List ℕ) → list_any (λ k. bytes_eq k key) (ask_touched asker asked.key c face) ≡ false → due c (with_interest asker id asked ints) face key ≡ due c ints face key }
+{}
+
+/// And it takes nothing away, and makes no information another.
+pub fn asks_more()
+    ensures { (c : Core) (ints : Interests) (asker id : ℕ) (asked : InterestEntry) → ((old : InterestEntry) → at id (interests_of asker ints) ≡ Some old → old.key ≡ asked.key) → (face : ℕ) (key : List ℕ) → is_some (due c ints face key) ≡ true → due c (with_interest asker id asked ints) face key ≡ due c ints face key }
+{}
+
+/// The keys that an interest touches are, at its own face, those on which regions have information
+/// and which it meets.
+pub fn asked_exactly()
+    ensures { (c : Core) (asker : ℕ) (asked : Option (List ℕ)) (face : ℕ) (key : List ℕ) → list_any (λ k. bytes_eq k key) (ask_touched asker asked c face) ≡ ((face == asker) && (option_map_or (λ k. intersects k key) asked true && list_any (λ k. bytes_eq k key) (due_keys c))) }
+{}
+
+/// The end of an interest changes what is due on no key but those that the interest touches, and
+/// that of none changes nothing.
+pub fn ends_stay()
+    ensures { (c : Core) (ints : Interests) (asker id : ℕ) (face : ℕ) (key : List ℕ) → ((old : InterestEntry) → at id (interests_of asker ints) ≡ Some old → list_any (λ k. bytes_eq k key) (ask_touched asker old.key c face) ≡ false) → due c (without_interest asker id ints) face key ≡ due c ints face key }
 {}
 
 /// The end of an interest makes nothing due, and no information another.
