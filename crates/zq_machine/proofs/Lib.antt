@@ -62,3 +62,7 @@ pub mod DueLess
 pub mod DuesMoved
 pub mod NeighbourDues
 pub mod NeighbourTold
+pub mod NeighbourAsked
+pub mod NeighbourTells
+pub mod NeighbourIds
+pub mod NeighbourLaws

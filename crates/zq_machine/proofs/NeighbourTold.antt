@@ -182,7 +182,7 @@ module _ (config : Settings) (s : State) (i : Kept config s) (t : TextCall) (int
 
     -- ---- the face was open before
     module _ (was : is_open face s.core ≡ true) where
-      new_beside : (ears : Ears) (x : TextCall) → at_face face (with_new s.core x ears) ≡ at_face face ears
+      pub new_beside : (ears : Ears) (x : TextCall) → at_face face (with_new s.core x ears) ≡ at_face face ears
       new_beside ears (opening o) = found_after_insertion nat_cmp_total exact_unsigned s.core.next_face face (record { last = s.core.config.start.told; told = [] }) ears ∙ by (is_at (nat_cmp s.core.next_face) face) refl
         where
           by : (b : Bool) → is_at (nat_cmp s.core.next_face) face ≡ b → cond b (Some (record { last = s.core.config.start.told; told = [] })) (at_face face ears) ≡ at_face face ears
@@ -221,17 +221,20 @@ module _ (config : Settings) (s : State) (i : Kept config s) (o : Opening) (ints
   abbrev new : Ear
   new = record { last = s.core.config.start.told; told = [] }
 
-  open_after : is_accepted (answer s (opening o)).outcome ≡ true → is_open n (settle s (opening o)).core ≡ true
+  pub open_after : is_accepted (answer s (opening o)).outcome ≡ true → is_open n (settle s (opening o)).core ≡ true
   open_after =
       by_granted (λ z x. is_accepted z.outcome ≡ true → is_open n x.core ≡ true) s (opening o)
       (λ h given. ap is_some (found_after_insertion nat_cmp_total exact_unsigned n n (as_opened o) s.core.faces ∙ ap (λ b. cond b (Some (as_opened o)) (at n s.core.faces)) (itself n)))
       (λ r given. absurd (false≢true given))
 
+  pub first_there : (ears : Ears) → at_face n (opened n new.last ears) ≡ Some new
+  first_there ears = found_after_insertion nat_cmp_total exact_unsigned n n new ears ∙ ap (λ b. cond b (Some new) (at_face n ears)) (itself n)
+
   -- before the call nothing is due to it
   first_hears : (ears : Ears) → Hears s.core ints (opened n new.last ears) n []
   first_hears ears = record {
     ear = new;
-    there = found_after_insertion nat_cmp_total exact_unsigned n n new ears ∙ ap (λ b. cond b (Some new) (at_face n ears)) (itself n);
+    there = first_there ears;
     sorted = none_sorted ToldEntry;
     tied = opens.tied new.last;
     told = λ key. sym (undue s.core ints n key (next_absent s i.sound));

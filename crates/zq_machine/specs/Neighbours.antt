@@ -1,9 +1,11 @@
 -- What a call tells faces outside regions of routers, and what is kept of it: each face is told the difference between what it was told and what is due to it.
-use Rattle.std.specs.Prelude.{◌≡◌, ℕ, ◌+◌, ◌^◌, nat_lt, Bool, false, not, ◌&&◌, List, [], ◌∷◌, filter, fold, length, map, Some, is_none}
-use Rattle.std.specs.List.{flat_map}
+use Rattle.std.specs.Prelude.{◌≡◌, ◌≢◌, ℕ, ◌+◌, Bool, true, false, ◌&&◌, List, [], ◌∷◌, filter, fold, length, map, Some, is_none}
+use Rattle.std.specs.List.{flat_map, list_any}
+use Rattle.std.specs.List.Sorted.{IsStrictlySortedBy}
 use Rattle.std.specs.Map.{keys_of}
 use Rattle.std.specs.Option.{is_some, option_map_or}
-use Rattle.zq_index.specs.Texts.{at_text}
+use Rattle.std.specs.Str.{bytes_eq}
+use Rattle.zq_index.specs.Texts.{at_text, text_cmp}
 use Rattle.zq_trees.specs.declared.types.Telling.{Telling as TreeTelling}
 use Rattle.zq_hat.specs.declared.types.InterestEntry.{InterestEntry}
 use Rattle.zq_told.specs.declared.types.FaceDues.{FaceDues}
@@ -11,9 +13,12 @@ use Rattle.zq_told.specs.declared.types.Way.TheVariants.{Unasked, Answering, End
 use Rattle.zq_told.specs.Ears.{Ear, Ears, at_face, closed, opened}
 use Rattle.zq_told.specs.Telling.{KeyDue, lacks_ids, tell_due, tell_faces}
 use Rattle.zq_told.specs.Receiver.{Heard, Tied, heard_after, memory_of, receive}
-use Rattle.zq_told.specs.Laws.{InOrder, is_to, told_info}
+use Rattle.zq_told.specs.Laws.{InOrder, differs, is_to, told_info}
+use Rattle.zq_told.specs.Leaving.{is_too_great}
+use Rattle.zq_machine.specs.declared.call.Call.{Call}
+use Rattle.zq_machine.specs.declared.call.Call.TheVariants as call
 use Rattle.zq_machine.specs.Due.{Interests, due, due_keys, due_touched, listens, meets, met_keys}
-use Rattle.zq_machine.specs.State.{Core}
+use Rattle.zq_machine.specs.State.{Core, is_open}
 use Rattle.zq_machine.specs.TextCalls.{TextCall, closing, opening}
 
 -- ---- what is looked at
@@ -119,12 +124,39 @@ heard_asked c ints ears asker asked heard = heard_after Answering (asked_dues c 
 abbrev pub heard_ended : Core → Interests → Ears → (asker : ℕ) → InterestEntry → Heard → Heard
 heard_ended c ints ears asker asked heard = heard_after Ending (ended_dues c ints ears asker asked) heard []
 
--- ---- ids that lack
+-- an interest tells its asker alone: receivers that keep what was due keep what is due with the interests that there are afterwards, and other faces' receivers keep what they kept
+pub record AskingTold (c : Core) (ints more : Interests) (ears : Ears) (asker : ℕ) (asked : InterestEntry) : Type 0 where
+  pub own : (heard : Heard) → Hears c ints ears asker heard → Hears c more (ears_asked c more ears asker asked) asker (heard_asked c more ears asker asked heard)
+  pub others : (face : ℕ) → face ≢ asker → (heard : Heard) → Hears c ints ears face heard → Hears c more (ears_asked c more ears asker asked) face heard
+  pub silent : (face : ℕ) → face ≢ asker → filter (is_to face) (answer_told c more ears asker asked) ≡ []
+
+-- the end of an interest tells nothing, and receivers that keep what was due keep what is still due
+pub record EndingTold (c : Core) (ints less : Interests) (ears : Ears) (asker : ℕ) (asked : InterestEntry) : Type 0 where
+  pub own : (heard : Heard) → Hears c ints ears asker heard → Hears c less (ears_ended c less ears asker asked) asker (heard_ended c less ears asker asked heard)
+  pub others : (face : ℕ) → face ≢ asker → (heard : Heard) → Hears c ints ears face heard → Hears c less (ears_ended c less ears asker asked) face heard
+  pub silent : (tell_faces Ending ears (ended_at c less ears asker asked)).tellings ≡ []
+
+-- ---- what is told at all, and ids that lack
+
+-- the keys stand in order, and all are there on which the face was told another than is due
+pub record HaveChanges (c : Core) (ints : Interests) (face : ℕ) (ear : Ear) (keys : List (List ℕ)) : Type 0 where
+  pub rise : IsStrictlySortedBy text_cmp keys
+  pub all : (key : List ℕ) → differs ear.told (due_on c ints face key) ≡ true → list_any (λ k. bytes_eq k key) keys ≡ true
 
 -- the key is due to the face, which was told nothing of it
 abbrev pub is_news : Core → Interests → ℕ → Ear → List ℕ → Bool
 is_news c ints face ear key = is_none (at_text key ear.told) && is_some (due c ints face key)
 
--- the face has told as many ids, and as many keys are newly due to it, as lead above the ids of 32 bits
+-- ids lack to the face: the last one given, and the number of all keys newly due to it, lead above those of 32 bits
 abbrev pub lacks_at : Core → Interests → Ears → ℕ → Bool
-lacks_at c ints ears face = option_map_or (λ (e : Ear). not (nat_lt (e.last + length (filter (is_news c ints face e) (due_keys c))) (2 ^ 32))) (at_face face ears) false
+lacks_at c ints ears face = option_map_or (λ (e : Ear). is_too_great (e.last + length (filter (is_news c ints face e) (due_keys c)))) (at_face face ears) false
+
+-- each open face has a receiver that keeps what is due to it
+abbrev pub AllHear : Core → Interests → Ears → Type 0
+AllHear c ints ears = (face : ℕ) → is_open face c ≡ true → (heard : Heard) × Hears c ints ears face heard
+
+-- a call that may make something newly due: one that opens a face, or declares
+abbrev pub makes_due : Call → Bool
+makes_due (call.Open o) = true
+makes_due (call.DeclareQueryable face id wire info node) = true
+makes_due c = false
