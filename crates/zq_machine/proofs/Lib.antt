@@ -65,4 +65,5 @@ pub mod NeighbourTold
 pub mod NeighbourAsked
 pub mod NeighbourTells
 pub mod NeighbourIds
+pub mod NeighbourAll
 pub mod NeighbourLaws

@@ -1,6 +1,6 @@
 -- A receiver that keeps what is due to a face keeps it over an interest and over its end; other faces are told nothing then.
-use Rattle.std.proofs.Common.{◌≡◌, ◌∙◌, refl, sym, ap, subst, ℕ, Bool, true, false, cond, eq-eqb, List, [], ◌∷◌, ◌++◌, filter, map, Option, Some, None, true≢false}
-use Rattle.std.specs.Prelude.{◌≢◌, ◌&&◌, ◌==◌}
+use Rattle.std.proofs.Common.{◌≡◌, ◌∙◌, refl, sym, ap, subst, ℕ, Bool, true, false, cond, eq-eqb, List, [], ◌∷◌, ◌++◌, filter, length, ◌+◌, Option, Some, None, true≢false, arith}
+use Rattle.std.specs.Prelude.{◌≢◌, ◌&&◌, ◌||◌, is_none}
 use Rattle.std.specs.BTreeMap.{is_at}
 use Rattle.std.specs.List.{flat_map, list_any}
 use Rattle.std.specs.List.Sorted.{IsStrictlySortedBy}
@@ -8,8 +8,9 @@ use Rattle.std.specs.Map.{keys_of}
 use Rattle.std.specs.Option.{is_some, option_map, option_map_or}
 use Rattle.std.specs.Ordering.{nat_cmp}
 use Rattle.std.specs.Str.{bytes_eq}
-use Rattle.std.proofs.lemmas.Bool.{false≢true}
+use Rattle.std.proofs.Math.Bool.{or-false}
 use Rattle.std.proofs.lemmas.Cmp.{nat_cmp_total}
+use Rattle.std.proofs.lemmas.List.{length-map}
 use Rattle.std.proofs.lemmas.List.Kept.{IsStrictlySortedBy-filter}
 use Rattle.std.proofs.lemmas.Map.Lookups.{exact_unsigned}
 use Rattle.std.proofs.lemmas.Map.Made.{is_some-lookup}
@@ -18,26 +19,27 @@ use Rattle.zq_message.specs.declared.message.QueryableInfoType.{QueryableInfoTyp
 use Rattle.zq_key.proofs.Lookups.{apart}
 use Rattle.zq_index.specs.Texts.{at_text, text_cmp}
 use Rattle.zq_hat.specs.declared.types.InterestEntry.{InterestEntry}
-use Rattle.zq_trees.specs.declared.types.Telling.{Telling}
-use Rattle.zq_told.specs.declared.types.FaceDues.{FaceDues}
 use Rattle.zq_told.specs.declared.types.ToldEntry.{ToldEntry}
 use Rattle.zq_told.specs.declared.types.Way.{Way}
 use Rattle.zq_told.specs.declared.types.Way.TheVariants.{Answering, Ending}
-use Rattle.zq_told.specs.Ears.{Ear, Ears, at_face}
-use Rattle.zq_told.specs.Telling.{KeyDue, tell_due, tell_faces, tell_keys, with_account}
+use Rattle.zq_told.specs.Ears.{Ear, Ears, Told, at_face}
+use Rattle.zq_told.specs.Telling.{KeyDue, lacks_ids, tell_due, tell_faces, tell_keys, with_account}
 use Rattle.zq_told.specs.Receiver.{Heard, heard_after}
-use Rattle.zq_told.specs.Laws.{InOrder, aim, aim_on, ear_after, is_to, told_alone, told_in}
+use Rattle.zq_told.specs.Laws.{InOrder, aim, aim_on, ear_after, is_to, takes_id, told_alone, told_in}
+use Rattle.zq_told.specs.Leaving.{HaveIds, is_too_great, lacks_there, takes_ids}
 use Rattle.zq_told.proofs.Differing.{looks_up, tells_each}
-use Rattle.zq_told.proofs.Leaving.{ends_quietly}
+use Rattle.zq_told.proofs.Faces.{less_due}
+use Rattle.zq_told.proofs.Leaving.{ends_quietly, lacks_exactly}
+use Rattle.zq_told.proofs.Reaching.{below_by}
 use Rattle.zq_machine.specs.Due.{Interests, ask_touched, due, due_keys, interests_of, meets, met_keys, with_interest, without_interest}
-use Rattle.zq_machine.specs.Neighbours.{Hears, answer_told, asked_at, asked_dues, due_on, ears_asked, ears_ended, ended_at, ended_dues, heard_asked, heard_ended, told_keys, with_dues}
+use Rattle.zq_machine.specs.Neighbours.{Hears, answer_lacks, answer_told, asked_dues, due_on, ears_asked, ears_ended, ended_at, ended_dues, heard_asked, heard_ended, is_news, lacks_at, told_keys, with_dues}
 use Rattle.zq_machine.specs.State.{Core, at}
 use Rattle.zq_machine.proofs.Changing.{number_test}
 use Rattle.zq_machine.proofs.DueAsked.{asks_stay, ends_less}
 use Rattle.zq_machine.proofs.DueEnds.{ends_stay}
-use Rattle.zq_machine.proofs.DueKeys.{among, is_among, keys_rise}
-use Rattle.zq_machine.proofs.NeighbourDues.{Sorted, aims_at, alone_rises, among_filter, keys_alone, keys_at, keys_beside, row, rows_rise}
-use Rattle.zq_machine.proofs.NeighbourTold.{keeps_due, still_hears, told_here}
+use Rattle.zq_machine.proofs.DueKeys.{among, is_among, keys_due, keys_rise}
+use Rattle.zq_machine.proofs.NeighbourDues.{aims_at, alone_rises, among_filter, filter_rows, keys_alone, keys_beside, rows_rise, same_passing}
+use Rattle.zq_machine.proofs.NeighbourTold.{keeps_due}
 
 -- ---- only the asker is told
 module _ (way : Way) (ears : Ears) (asker face : ℕ) (keys : List KeyDue) (other : is_at (nat_cmp face) asker ≡ false) where
@@ -97,6 +99,41 @@ module _ (c : Core) (ints : Interests) (ears : Ears) (asker id : ℕ) (asked : I
     pub others_untold : filter (is_to face) (answer_told c more ears asker asked) ≡ []
     others_untold = told_beside Answering ears asker face asks other
 
+  -- ---- ids that lack to it
+  module _ (heard : Heard) (h : Hears c ints ears asker heard) (ids : HaveIds ears) where
+    news_by : (key : List ℕ) (b : Bool) → is_among key (met_keys asked.key c) ≡ b → is_news c more asker h.ear key ≡ true → b ≡ true
+    news_by key true e news = refl
+    news_by key false e news = absurd (true≢false (sym news ∙ by (at_text key h.ear.told) (due c more asker key) (h.told key ∙ sym (asks_stay c ints asker id asked same asker key (own_untouched c asker asked.key key e)))))
+      where
+        by : (o : Option ToldEntry) (d : Option QueryableInfoType) → option_map (λ (x : ToldEntry). x.info) o ≡ d → (is_none o && is_some d) ≡ false
+        by None d f = ap is_some (sym f)
+        by (Some x) d f = refl
+
+    news_met : filter (is_news c more asker h.ear) (met_keys asked.key c) ≡ filter (is_news c more asker h.ear) (due_keys c)
+    news_met =
+        same_passing (is_news c more asker h.ear) (met_keys asked.key c) (due_keys c) met_rise (keys_rise c).all (λ q e. news_by q (is_among q (met_keys asked.key c)) refl e)
+        (λ q e. sym (among q (due_keys c)) ∙ keys_due c more asker q (both (is_none (at_text q h.ear.told)) (is_some (due c more asker q)) e))
+      where
+        both : (a b : Bool) → (a && b) ≡ true → b ≡ true
+        both true b e = e
+        both false b e = absurd (true≢false (sym e))
+
+    lacks_by : (ks : List KeyDue) → lacks_ids Answering ears (with_dues asker ks) ≡ is_too_great (h.ear.last + length (filter (takes_id Answering h.ear.told) ks))
+    lacks_by [] = sym (ap is_too_great (let z : h.ear.last + 0 ≡ h.ear.last = omega arith in z) ∙ below_by h.ear.last (ids asker h.ear h.there))
+    lacks_by (k ∷ ks) =
+        lacks_exactly Answering ears (with_dues asker (k ∷ ks))
+        ∙ or-false (lacks_there Answering ears (record { face = record { 0 = asker }; keys = k ∷ ks }))
+        ∙ ap (λ o. option_map_or (λ (e : Ear). is_too_great (e.last + length (filter (takes_id Answering e.told) (k ∷ ks)))) o false) h.there
+
+    pub lacks_asked : answer_lacks c more ears asker asked ≡ lacks_at c more ears asker
+    lacks_asked =
+        lacks_by asks
+        ∙ ap (λ n. is_too_great (h.ear.last + n))
+        (ap length (filter_rows (due c more asker) (takes_id Answering h.ear.told) (met_keys asked.key c))
+        ∙ length-map (filter (is_news c more asker h.ear) (met_keys asked.key c)) (due_on c more asker)
+        ∙ ap length news_met)
+        ∙ sym (ap (λ o. option_map_or (λ (e : Ear). is_too_great (e.last + length (filter (is_news c more asker e) (due_keys c)))) o false) h.there)
+
 -- ---- its end
 ended_by : (now old : Option QueryableInfoType) → (is_some now ≡ true → now ≡ old) → aim Ending now old ≡ now
 ended_by None old h = refl
@@ -127,6 +164,22 @@ module _ (c : Core) (ints : Interests) (ears : Ears) (asker id : ℕ) (asked : I
 
   pub untold : (tell_faces Ending ears (ended_at c less ears asker asked)).tellings ≡ []
   untold = quiet_by ends
+
+  -- and no ids lack
+  none_taken : (told : Told) (ks : List KeyDue) → list_any (takes_id Ending told) ks ≡ false
+  none_taken told [] = refl
+  none_taken told (k ∷ ks) = none_taken told ks
+
+  taken_by : (ks : List KeyDue) → list_any (takes_ids Ending ears) (with_dues asker ks) ≡ false
+  taken_by [] = refl
+  taken_by (k ∷ ks) = ap (λ b. b || false) (by (at_face asker ears))
+    where
+      by : (o : Option Ear) → option_map_or (λ (e : Ear). list_any (takes_id Ending e.told) (k ∷ ks)) o false ≡ false
+      by None = refl
+      by (Some e) = none_taken e.told (k ∷ ks)
+
+  pub none_lack : HaveIds ears → lacks_ids Ending ears (ended_at c less ears asker asked) ≡ false
+  none_lack ids = (less_due Ending ears (with_dues asker ends) (taken_by ends)).0 ids
 
   module _ (heard : Heard) (h : Hears c ints ears asker heard) where
     told_are : told_keys asker ears ≡ keys_of h.ear.told

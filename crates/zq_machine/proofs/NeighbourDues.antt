@@ -2,7 +2,7 @@
 use Rattle.std.proofs.Common.{◌≡◌, ◌∙◌, refl, sym, ap, subst, ℕ, Bool, true, false, cond, List, [], ◌∷◌, ◌++◌, filter, map, Option, Some, None}
 use Rattle.std.specs.Prelude.{◌&&◌, ◌||◌}
 use Rattle.std.specs.BTreeMap.{is_at}
-use Rattle.std.specs.List.{AllByRecursion, flat_map, list_any}
+use Rattle.std.specs.List.{AllByRecursion, flat_map}
 use Rattle.std.specs.List.Sorted.{IsStrictlySortedBy}
 use Rattle.std.specs.Map.{keys_of}
 use Rattle.std.specs.Option.{is_some, option_map_or}
@@ -141,6 +141,15 @@ module _ (f : ℕ → List KeyDue) where
     keys_of_face n (e ∷ es) =
         keys_by n e.0 (dues_of es) (f e.0) (is_at (nat_cmp n) e.0) refl (λ is. ap f (one_number n e.0 is)) (is_some (at n es)) (keys_of_face n es)
         ∙ ap (λ b. cond b (f n) []) (some_by (is_at (nat_cmp n) e.0) e.1 (at n es))
+
+    -- what holds of the keys of each face
+    pub all_keys : (P : FaceDues → Type 0) → ((m : ℕ) (ks : List KeyDue) → f m ≡ ks → P (record { face = record { 0 = m }; keys = ks })) → (es : List (ℕ × X)) → AllByRecursion P (dues_of es)
+    all_keys P h [] = tt
+    all_keys P h (e ∷ es) = by (f e.0) refl (all_keys P h es)
+      where
+        by : (ks : List KeyDue) → f e.0 ≡ ks → AllByRecursion P (dues_of es) → AllByRecursion P (with_dues e.0 ks ++ dues_of es)
+        by [] is rest = rest
+        by (k ∷ ks) is rest = (h e.0 (k ∷ ks) is, rest)
 
     all_of : (P : ℕ → Type 0) (es : List (ℕ × X)) → AllByRecursion P (keys_of es) → AllByRecursion P (numbers (dues_of es))
     all_of P [] all = tt

@@ -1,9 +1,8 @@
 -- Ids lack exactly where the last one of an open face and the number of keys newly due to it lead above those of 32 bits, and never by a call that opens no face and declares nothing.
-use Rattle.std.proofs.Common.{◌≡◌, ◌∙◌, refl, sym, ap, ℕ, ◌+◌, Bool, true, false, cond, List, [], ◌∷◌, ◌++◌, filter, length, map, Option, Some, None, true≢false, arith}
+use Rattle.std.proofs.Common.{◌≡◌, ◌∙◌, refl, sym, ap, ℕ, ◌+◌, Bool, true, false, cond, List, [], ◌∷◌, filter, length, Option, Some, None, true≢false, arith}
 use Rattle.std.specs.Prelude.{◌&&◌, ◌||◌, is_none}
-use Rattle.std.specs.BTreeMap.{insert_entry, is_at}
+use Rattle.std.specs.BTreeMap.{is_at}
 use Rattle.std.specs.List.{AllByRecursion, flat_map, list_any}
-use Rattle.std.specs.Map.{keys_of, remove_entry}
 use Rattle.std.specs.Option.{is_some, option_map, option_map_or}
 use Rattle.std.specs.Ordering.{nat_cmp}
 use Rattle.std.proofs.Math.Bool.{or-false}
@@ -14,7 +13,6 @@ use Rattle.std.proofs.lemmas.Map.Lookups.{exact_unsigned}
 use Rattle.zq_message.specs.declared.message.QueryableInfoType.{QueryableInfoType}
 use Rattle.zq_key.proofs.Lookups.{each_entry, found_after_insertion, found_after_removal}
 use Rattle.zq_index.specs.Texts.{at_text}
-use Rattle.zq_told.specs.declared.types.FaceDues.{FaceDues}
 use Rattle.zq_told.specs.declared.types.ToldEntry.{ToldEntry}
 use Rattle.zq_told.specs.declared.types.Way.TheVariants.{Unasked}
 use Rattle.zq_told.specs.Ears.{Ear, Ears, at_face}
@@ -37,7 +35,7 @@ use Rattle.zq_machine.proofs.Granted.{by_granted}
 use Rattle.zq_machine.proofs.NeighbourTells.{news_counted}
 use Rattle.zq_machine.proofs.NeighbourTold.{faces_rise, new_beside, undue}
 
-none_of : {X : Type 0} (o : Option X) → is_some o ≡ false → o ≡ None
+pub none_of : {X : Type 0} (o : Option X) → is_some o ≡ false → o ≡ None
 none_of None e = refl
 none_of (Some x) e = absurd (true≢false e)
 
@@ -47,11 +45,11 @@ opens (opening o) = true
 opens t = false
 
 module _ (config : Settings) (s : State) (i : Kept config s) (ints : Interests) (ears : Ears) where
-  abbrev fresh : Ear
+  abbrev pub fresh : Ear
   fresh = fresh_ear s.core.config.start.told
 
   -- a face that is open after a call and was not before it is one that the call opened, and was told nothing
-  abbrev IsNew : TextCall → ℕ → Type 0
+  abbrev pub IsNew : TextCall → ℕ → Type 0
   IsNew t face = (opens t ≡ true) × (at_face face (with_new s.core t ears) ≡ Some fresh)
 
   opened_by : (o : Opening) (face : ℕ) (b : Bool) → is_at (nat_cmp s.core.next_face) face ≡ b → is_some (cond b (Some (opened o)) (at face s.core.faces)) ≡ true → is_open face s.core ≡ false → IsNew (opening o) face
@@ -69,7 +67,7 @@ module _ (config : Settings) (s : State) (i : Kept config s) (ints : Interests) 
       absurd (closed_by g.0 face (is_at (nat_cmp g.0) face) (sym (ap is_some (found_after_removal nat_cmp_total exact_unsigned g.0 face s.core.faces i.sound.sorted)) ∙ seen) was)
   is_new t face seen was = absurd (true≢false (sym seen ∙ was))
 
-  new_face : (t : TextCall) (face : ℕ) → is_open face (settle s t).core ≡ true → is_open face s.core ≡ false → IsNew t face
+  pub new_face : (t : TextCall) (face : ℕ) → is_open face (settle s t).core ≡ true → is_open face s.core ≡ false → IsNew t face
   new_face t face =
       by_granted (λ z x. is_open face x.core ≡ true → is_open face s.core ≡ false → IsNew t face) s t
       (λ h. is_new t face) (λ r seen was. absurd (true≢false (sym seen ∙ was)))

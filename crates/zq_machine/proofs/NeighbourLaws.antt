@@ -1,16 +1,13 @@
 -- The laws of what faces are told, at every point of every run.
 use Rattle.std.proofs.Common.{◌≡◌, ◌∙◌, refl, sym, ap, ℕ, Bool, true, false, cond, true≢false, List, [], map, filter, Some, None}
 use Rattle.std.specs.List.{list_any}
-use Rattle.std.specs.List.Sorted.{IsStrictlySortedBy}
-use Rattle.std.specs.Option.{is_some}
-use Rattle.std.specs.Str.{bytes_eq}
-use Rattle.zq_index.specs.Texts.{text_cmp}
 use Rattle.zq_hat.specs.declared.types.InterestEntry.{InterestEntry}
-use Rattle.zq_told.specs.declared.types.Way.TheVariants.{Unasked}
+use Rattle.zq_told.specs.declared.types.Way.TheVariants.{Answering, Ending}
 use Rattle.zq_told.specs.Ears.{Ears}
 use Rattle.zq_told.specs.Receiver.{Heard}
 use Rattle.zq_told.specs.Leaving.{HaveIds, fresh_ear}
-use Rattle.zq_told.specs.Laws.{differs, is_to, told_in}
+use Rattle.zq_told.specs.Laws.{is_to, told_in}
+use Rattle.zq_told.proofs.Faces.{stay_sound}
 use Rattle.zq_machine.specs.declared.call.Call.{Call}
 use Rattle.zq_machine.specs.declared.call.Call.TheVariants as call
 use Rattle.zq_machine.specs.declared.call.Opening.{Opening}
@@ -19,12 +16,13 @@ use Rattle.zq_machine.specs.Configs.{Settings}
 use Rattle.zq_machine.specs.Deciding.{is_accepted}
 use Rattle.zq_machine.specs.Due.{Interests, due, heard as heard_there, interests_of, with_interest, without_interest}
 use Rattle.zq_machine.specs.Machine.{after, state_after, step}
-use Rattle.zq_machine.specs.Neighbours.{AllHear, AskingTold, EndingTold, HaveChanges, Hears, due_on, ears_after, heard_over, lacks_at, makes_due, neighbours_lack, neighbours_told, with_new}
+use Rattle.zq_machine.specs.Neighbours.{AllHear, AllTold, AskingTold, EndingTold, FaceTold, Hears, asked_at, ended_at, makes_due, neighbours_lack, with_new}
 use Rattle.zq_machine.specs.State.{Core, State, at, is_open, opening_state}
 use Rattle.zq_machine.specs.TextCalls.{by_router, opening, read, retracting, said_or_none, withdrawing}
-use Rattle.zq_machine.proofs.Agreed.{next_absent, run_in_order}
+use Rattle.zq_machine.proofs.Agreed.{InOrder as Kept, next_absent, run_in_order}
 use Rattle.zq_machine.proofs.DueLess.{less_due, listens_stay}
-use Rattle.zq_machine.proofs.NeighbourAsked.{asker_ended, asker_told, others_asked, others_ended, others_untold, untold}
+use Rattle.zq_machine.proofs.NeighbourAll.{all_hear, closed_untold, ears_sound, told_ordered}
+use Rattle.zq_machine.proofs.NeighbourAsked.{asker_ended, asker_told, lacks_asked, none_lack, others_asked, others_ended, others_untold, untold}
 use Rattle.zq_machine.proofs.NeighbourIds.{enough, lacks_are, opens}
 use Rattle.zq_machine.proofs.NeighbourTells.{tells_exactly}
 use Rattle.zq_machine.proofs.NeighbourTold.{call_told, first_there, new_beside, open_after, opening_told, undue}
@@ -33,36 +31,37 @@ module _ (config : Settings) (calls : List Call) where
   abbrev s : State
   s = state_after (opening_state config) calls
 
-  pub call_keeps : (c : Call) (ints : Interests) (ears : Ears) (face : ℕ) (heard : Heard) → is_open face s.core ≡ true → is_open face (after s c).core ≡ true
-      → Hears s.core ints ears face heard → Hears (after s c).core ints (ears_after s.core (after s c).core ints (read s c) ears) face (heard_over s.core (after s c).core ints (read s c) ears face heard)
-  call_keeps c ints ears face heard was seen h =
-      call_told config s (run_in_order config calls) (read s c) ints face seen was ears heard (λ key. listens_stay config calls c ints face key was seen) h
+  i : Kept config s
+  i = run_in_order config calls
 
-  pub opening_keeps : (o : Opening) (ints : Interests) (ears : Ears) → is_accepted (step s (call.Open o)).outcome ≡ true
-      → Hears (after s (call.Open o)).core ints (ears_after s.core (after s (call.Open o)).core ints (read s (call.Open o)) ears) s.core.next_face (heard_over s.core (after s (call.Open o)).core ints (read s (call.Open o)) ears s.core.next_face [])
-  opening_keeps o ints ears given = opening_told config s (run_in_order config calls) o ints ears given
+  -- ---- one face
+  pub face_told : (c : Call) (ints : Interests) (ears : Ears) (face : ℕ) (heard : Heard) → is_open face s.core ≡ true → is_open face (after s c).core ≡ true
+      → (h : Hears s.core ints ears face heard) → FaceTold s.core (after s c).core ints (read s c) ears face h.ear heard
+  face_told c ints ears face heard was seen h = record {
+    keeps = call_told config s i (read s c) ints face seen was ears heard (λ key. listens_stay config calls c ints face key was seen) h;
+    exactly = tells_exactly config s i (read s c) ints face seen h.ear h.told
+        (λ key off. ap (λ b. cond b (heard_there s.core face key) None) (sym (listens_stay config calls c ints face key was seen) ∙ off)) ears
+        (new_beside config s i (read s c) ints face seen was ears (read s c) ∙ h.there);
+  }
 
-  -- ---- what is told is the difference
-  pub difference_told : (c : Call) (ints : Interests) (ears : Ears) (face : ℕ) (heard : Heard) → is_open face s.core ≡ true → is_open face (after s c).core ≡ true → (h : Hears s.core ints ears face heard)
-      → (keys : List (List ℕ)) → HaveChanges (after s c).core ints face h.ear keys → told_in Unasked face h.ear (map (due_on (after s c).core ints face) keys) ≡ filter (is_to face) (neighbours_told s.core (after s c).core ints (read s c) ears)
-  difference_told c ints ears face heard was seen h =
-      tells_exactly config s (run_in_order config calls) (read s c) ints face seen h.ear h.told
-      (λ key off. ap (λ b. cond b (heard_there s.core face key) None) (sym (listens_stay config calls c ints face key was seen) ∙ off)) ears
-      (new_beside config s (run_in_order config calls) (read s c) ints face seen was ears (read s c) ∙ h.there)
-
-  pub opening_tells : (o : Opening) (ints : Interests) (ears : Ears) → is_accepted (step s (call.Open o)).outcome ≡ true
-      → (keys : List (List ℕ)) → HaveChanges (after s (call.Open o)).core ints s.core.next_face (fresh_ear s.core.config.start.told) keys
-      → told_in Unasked s.core.next_face (fresh_ear s.core.config.start.told) (map (due_on (after s (call.Open o)).core ints s.core.next_face) keys)
-      ≡ filter (is_to s.core.next_face) (neighbours_told s.core (after s (call.Open o)).core ints (read s (call.Open o)) ears)
-  opening_tells o ints ears given =
-      let i = run_in_order config calls in
+  pub new_told : (o : Opening) (ints : Interests) (ears : Ears) → is_accepted (step s (call.Open o)).outcome ≡ true
+      → FaceTold s.core (after s (call.Open o)).core ints (read s (call.Open o)) ears s.core.next_face (fresh_ear s.core.config.start.told) []
+  new_told o ints ears given =
       let none : (key : List ℕ) → due s.core ints s.core.next_face key ≡ None = λ key. undue s.core ints s.core.next_face key (next_absent s i.sound) in
-      tells_exactly config s i (opening o) ints s.core.next_face (open_after config s i o ints given) (fresh_ear s.core.config.start.told) (λ key. sym (none key)) (λ key off. none key) ears (first_there config s i o ints ears)
+      record {
+        keeps = opening_told config s i o ints ears given;
+        exactly = tells_exactly config s i (opening o) ints s.core.next_face (open_after config s i o ints given) (fresh_ear s.core.config.start.told) (λ key. sym (none key)) (λ key off. none key) ears (first_there config s i o ints ears);
+      }
 
-  -- ---- ids that lack
-  pub lacks_told : (c : Call) (ints : Interests) (ears : Ears) → AllHear s.core ints ears → HaveIds (with_new s.core (read s c) ears)
-      → neighbours_lack s.core (after s c).core ints (read s c) ears ≡ list_any (λ o. lacks_at (after s c).core ints (with_new s.core (read s c) ears) o.0) (after s c).core.faces
-  lacks_told c ints ears all ids = lacks_are config s (run_in_order config calls) ints ears (read s c) all (λ face was seen key. listens_stay config calls c ints face key was seen) ids
+  -- ---- all faces
+  pub all_told : (c : Call) (ints : Interests) (ears : Ears) → AllTold s.core (after s c).core ints (read s c) ears
+  all_told c ints ears = record {
+    ordered = told_ordered config s i (read s c) ints ears;
+    silent = λ face shut. closed_untold config s i (read s c) ints ears face shut;
+    sound = λ low a enough. ears_sound config s i (read s c) ints ears low a enough;
+    hear = λ all. all_hear config s i (read s c) ints ears (λ face was seen key. listens_stay config calls c ints face key was seen) all;
+    lacks = λ all ids. lacks_are config s i ints ears (read s c) all (λ face was seen key. listens_stay config calls c ints face key was seen) ids;
+  }
 
   no_opening : (c : Call) → makes_due c ≡ false → opens (read s c) ≡ false
   no_opening (call.Open o) e = absurd (true≢false e)
@@ -80,7 +79,7 @@ module _ (config : Settings) (calls : List Call) where
 
   pub lacks_none : (c : Call) (ints : Interests) (ears : Ears) → makes_due c ≡ false → AllHear s.core ints ears → HaveIds (with_new s.core (read s c) ears) → neighbours_lack s.core (after s c).core ints (read s c) ears ≡ false
   lacks_none c ints ears none all ids =
-      enough config s (run_in_order config calls) ints ears (read s c) all (λ face was seen key. listens_stay config calls c ints face key was seen) ids (no_opening c none)
+      enough config s i ints ears (read s c) all (λ face was seen key. listens_stay config calls c ints face key was seen) ids (no_opening c none)
       (λ face key was. less_due config calls c ints face key (no_declaration c none) was)
 
 -- ---- an interest, and its end
@@ -90,6 +89,8 @@ module _ (c : Core) (ints : Interests) (ears : Ears) (asker id : ℕ) (asked : I
     own = λ heard h. asker_told c ints ears asker id asked same heard h;
     others = λ face ne heard h. others_asked c ints ears asker id asked same face ne heard h;
     silent = λ face ne. others_untold c ints ears asker id asked same face ne;
+    sound = λ a enough. stay_sound.tells Answering ears (asked_at c (with_interest asker id asked ints) asker asked) enough a;
+    lacks = λ heard h ids. lacks_asked c ints ears asker id asked same heard h ids;
   }
 
   pub ending_keeps : at id (interests_of asker ints) ≡ Some asked → EndingTold c ints (without_interest asker id ints) ears asker asked
@@ -97,4 +98,6 @@ module _ (c : Core) (ints : Interests) (ears : Ears) (asker id : ℕ) (asked : I
     own = λ heard h. asker_ended c ints ears asker id asked was heard h;
     others = λ face ne heard h. others_ended c ints ears asker id asked was face ne heard h;
     silent = untold c ints ears asker id asked was;
+    sound = λ a. stay_sound.tells Ending ears (ended_at c (without_interest asker id ints) ears asker asked) (none_lack c ints ears asker id asked was a.ids) a;
+    enough = none_lack c ints ears asker id asked was;
   }

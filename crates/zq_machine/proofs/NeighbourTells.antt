@@ -1,20 +1,16 @@
 -- What a call tells a face is the difference over all keys, and ids lack to it exactly where the keys newly due to it are too many.
-use Rattle.std.proofs.Common.{◌≡◌, ◌∙◌, refl, sym, ap, ℕ, ◌+◌, Bool, true, false, cond, eq-eqb, List, [], ◌∷◌, ◌++◌, filter, length, map, not, Option, Some, None, true≢false}
+use Rattle.std.proofs.Common.{◌≡◌, ◌∙◌, refl, sym, ap, ℕ, Bool, true, false, eq-eqb, List, filter, length, map, not, Option, Some, None, true≢false}
 use Rattle.std.specs.Prelude.{◌&&◌, ◌==◌, is_none}
-use Rattle.std.specs.List.{list_any}
-use Rattle.std.specs.List.Sorted.{IsStrictlySortedBy}
 use Rattle.std.specs.Option.{is_some, option_map}
-use Rattle.std.specs.Str.{bytes_eq}
 use Rattle.std.proofs.lemmas.Bool.{false≢true}
 use Rattle.std.proofs.lemmas.List.{length-map}
 use Rattle.zq_message.specs.declared.message.QueryableInfoType.{QueryableInfoType}
 use Rattle.zq_index.specs.Infos.{same_bool}
-use Rattle.zq_index.specs.Texts.{at_text, text_cmp}
+use Rattle.zq_index.specs.Texts.{at_text}
 use Rattle.zq_trees.specs.Tellings.{same_infos}
 use Rattle.zq_told.specs.declared.types.ToldEntry.{ToldEntry}
 use Rattle.zq_told.specs.declared.types.Way.TheVariants.{Unasked}
 use Rattle.zq_told.specs.Ears.{Ear, Ears, at_face}
-use Rattle.zq_told.specs.Telling.{KeyDue}
 use Rattle.zq_told.specs.Laws.{differs, is_to, takes_id, told_in, told_info}
 use Rattle.zq_told.proofs.Differing.{tells_difference}
 use Rattle.zq_machine.specs.Configs.{Settings}
@@ -25,7 +21,7 @@ use Rattle.zq_machine.specs.State.{Core, State, is_open}
 use Rattle.zq_machine.specs.TextCalls.{TextCall}
 use Rattle.zq_machine.proofs.Agreed.{InOrder as Kept}
 use Rattle.zq_machine.proofs.DueKeys.{among, due_rise, is_among, keys_due}
-use Rattle.zq_machine.proofs.NeighbourDues.{filter_rows, row, same_passing}
+use Rattle.zq_machine.proofs.NeighbourDues.{filter_rows, same_passing}
 use Rattle.zq_machine.proofs.NeighbourTold.{all_rise, keys_are, looked, looked_rise, told_here, unlooked}
 
 -- ---- an information is the same as itself

@@ -1,13 +1,12 @@
 -- A receiver that keeps what is due to a face keeps it over a call that is no interest, and a new face's from the call on that opens it.
-use Rattle.std.proofs.Common.{◌≡◌, ◌∙◌, refl, sym, ap, subst, ℕ, Bool, true, false, cond, List, [], ◌∷◌, ◌++◌, filter, fold, map, Option, Some, None, eqb}
-use Rattle.std.specs.Prelude.{◌&&◌, ◌==◌}
-use Rattle.std.specs.BTreeMap.{insert_entry, is_at}
-use Rattle.std.specs.List.{AllByRecursion, flat_map, list_any}
+use Rattle.std.proofs.Common.{◌≡◌, ◌∙◌, refl, sym, ap, subst, ℕ, Bool, true, false, cond, List, [], ◌∷◌, ◌++◌, filter, fold, map, Option, Some, None}
+use Rattle.std.specs.Prelude.{◌&&◌}
+use Rattle.std.specs.BTreeMap.{is_at}
+use Rattle.std.specs.List.{AllByRecursion, flat_map}
 use Rattle.std.specs.List.Sorted.{IsStrictlySortedBy}
 use Rattle.std.specs.Map.{keys_of, remove_entry}
 use Rattle.std.specs.Option.{is_some, option_and_then, option_map, option_map_or, option_to_list}
 use Rattle.std.specs.Ordering.{is_eq, nat_cmp}
-use Rattle.std.specs.Str.{bytes_eq}
 use Rattle.std.specs.declared.cmp.Ordering.TheVariants.{Less}
 use Rattle.std.proofs.lemmas.Bool.{false≢true}
 use Rattle.std.proofs.lemmas.Cmp.{nat_cmp_total}
@@ -24,10 +23,10 @@ use Rattle.zq_told.specs.declared.types.FaceDues.{FaceDues}
 use Rattle.zq_told.specs.declared.types.ToldEntry.{ToldEntry}
 use Rattle.zq_told.specs.declared.types.Way.{Way}
 use Rattle.zq_told.specs.declared.types.Way.TheVariants.{Unasked}
-use Rattle.zq_told.specs.Ears.{Ear, Ears, at_face, closed, opened}
+use Rattle.zq_told.specs.Ears.{Ear, Ears, at_face, opened}
 use Rattle.zq_told.specs.Telling.{KeyDue, tell_due, tell_faces}
 use Rattle.zq_told.specs.Receiver.{Heard, Tied, heard_after, heard_on, memory_of, receive}
-use Rattle.zq_told.specs.Laws.{InOrder, aim, aim_on, ear_after, is_to, keys_for, told_alone, told_in, told_info}
+use Rattle.zq_told.specs.Laws.{InOrder, aim, aim_on, ear_after, is_to, keys_for, told_alone, told_in}
 use Rattle.zq_told.proofs.Differing.{looks_up, tells_each}
 use Rattle.zq_told.proofs.Faces.{opens}
 use Rattle.zq_told.proofs.Hearing.{heard_is_told}
@@ -37,10 +36,10 @@ use Rattle.zq_told.proofs.Slotted.{none_sorted}
 use Rattle.zq_machine.specs.declared.call.Opening.{Opening}
 use Rattle.zq_machine.specs.declared.face.OpenFace.{OpenFace}
 use Rattle.zq_machine.specs.Configs.{Settings}
-use Rattle.zq_machine.specs.Deciding.{accepted, is_accepted, opened as as_opened, refusal_of}
+use Rattle.zq_machine.specs.Deciding.{is_accepted, opened as as_opened}
 use Rattle.zq_machine.specs.Due.{Interests, due, due_touched, heard as heard_there, heard_as, is_due_touched, listens, listens_in}
 use Rattle.zq_machine.specs.Machine.{answer, settle}
-use Rattle.zq_machine.specs.Neighbours.{Hears, due_on, dues_on, ears_after, heard_over, looked_at, neighbours_told, with_new, without_closed}
+use Rattle.zq_machine.specs.Neighbours.{Hears, due_on, dues_on, ears_after, heard_over, looked_at, with_new, without_closed}
 use Rattle.zq_machine.specs.State.{Core, State, at, hat_at, is_open, region_in}
 use Rattle.zq_machine.specs.TextCalls.{TextCall, opening, closing}
 use Rattle.zq_machine.proofs.Agreed.{InOrder as Kept, accepted_in_order, next_absent}
@@ -49,7 +48,7 @@ use Rattle.zq_machine.proofs.Changing.{is_other, itself, number_test, one_number
 use Rattle.zq_machine.proofs.DueKeys.{among, is_among, keys_rise}
 use Rattle.zq_machine.proofs.Dues.{due_kept}
 use Rattle.zq_machine.proofs.Granted.{by_granted, closed_after}
-use Rattle.zq_machine.proofs.NeighbourDues.{Sorted, aims_at, among_filter, dues_of, dues_rise, keys_at, keys_of_face, numbers, row, rows_rise}
+use Rattle.zq_machine.proofs.NeighbourDues.{Sorted, aims_at, among_filter, dues_rise, keys_at, keys_of_face, numbers, rows_rise}
 
 -- ---- a receiver keeps what is due
 pub told_due : (c : Core) (ints : Interests) (ears : Ears) (face : ℕ) (heard : Heard) → Hears c ints ears face heard → (key : List ℕ) → heard_on key heard ≡ option_to_list (due c ints face key)

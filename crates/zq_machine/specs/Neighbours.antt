@@ -1,5 +1,5 @@
 -- What a call tells faces outside regions of routers, and what is kept of it: each face is told the difference between what it was told and what is due to it.
-use Rattle.std.specs.Prelude.{◌≡◌, ◌≢◌, ℕ, ◌+◌, Bool, true, false, ◌&&◌, List, [], ◌∷◌, filter, fold, length, map, Some, is_none}
+use Rattle.std.specs.Prelude.{◌≡◌, ◌≢◌, ℕ, ◌+◌, ◌^◌, ◌<◌, Bool, true, false, ◌&&◌, List, [], ◌∷◌, filter, fold, length, map, Some, is_none}
 use Rattle.std.specs.List.{flat_map, list_any}
 use Rattle.std.specs.List.Sorted.{IsStrictlySortedBy}
 use Rattle.std.specs.Map.{keys_of}
@@ -7,14 +7,15 @@ use Rattle.std.specs.Option.{is_some, option_map_or}
 use Rattle.std.specs.Str.{bytes_eq}
 use Rattle.zq_index.specs.Texts.{at_text, text_cmp}
 use Rattle.zq_trees.specs.declared.types.Telling.{Telling as TreeTelling}
+use Rattle.zq_trees.specs.Tellings.{telling_cmp}
 use Rattle.zq_hat.specs.declared.types.InterestEntry.{InterestEntry}
 use Rattle.zq_told.specs.declared.types.FaceDues.{FaceDues}
 use Rattle.zq_told.specs.declared.types.Way.TheVariants.{Unasked, Answering, Ending}
 use Rattle.zq_told.specs.Ears.{Ear, Ears, at_face, closed, opened}
 use Rattle.zq_told.specs.Telling.{KeyDue, lacks_ids, tell_due, tell_faces}
 use Rattle.zq_told.specs.Receiver.{Heard, Tied, heard_after, memory_of, receive}
-use Rattle.zq_told.specs.Laws.{InOrder, differs, is_to, told_info}
-use Rattle.zq_told.specs.Leaving.{is_too_great}
+use Rattle.zq_told.specs.Laws.{InOrder, differs, is_to, told_in, told_info}
+use Rattle.zq_told.specs.Leaving.{AreSound, HaveIds, is_too_great}
 use Rattle.zq_machine.specs.declared.call.Call.{Call}
 use Rattle.zq_machine.specs.declared.call.Call.TheVariants as call
 use Rattle.zq_machine.specs.Due.{Interests, due, due_keys, due_touched, listens, meets, met_keys}
@@ -124,17 +125,9 @@ heard_asked c ints ears asker asked heard = heard_after Answering (asked_dues c 
 abbrev pub heard_ended : Core → Interests → Ears → (asker : ℕ) → InterestEntry → Heard → Heard
 heard_ended c ints ears asker asked heard = heard_after Ending (ended_dues c ints ears asker asked) heard []
 
--- an interest tells its asker alone: receivers that keep what was due keep what is due with the interests that there are afterwards, and other faces' receivers keep what they kept
-pub record AskingTold (c : Core) (ints more : Interests) (ears : Ears) (asker : ℕ) (asked : InterestEntry) : Type 0 where
-  pub own : (heard : Heard) → Hears c ints ears asker heard → Hears c more (ears_asked c more ears asker asked) asker (heard_asked c more ears asker asked heard)
-  pub others : (face : ℕ) → face ≢ asker → (heard : Heard) → Hears c ints ears face heard → Hears c more (ears_asked c more ears asker asked) face heard
-  pub silent : (face : ℕ) → face ≢ asker → filter (is_to face) (answer_told c more ears asker asked) ≡ []
-
--- the end of an interest tells nothing, and receivers that keep what was due keep what is still due
-pub record EndingTold (c : Core) (ints less : Interests) (ears : Ears) (asker : ℕ) (asked : InterestEntry) : Type 0 where
-  pub own : (heard : Heard) → Hears c ints ears asker heard → Hears c less (ears_ended c less ears asker asked) asker (heard_ended c less ears asker asked heard)
-  pub others : (face : ℕ) → face ≢ asker → (heard : Heard) → Hears c ints ears face heard → Hears c less (ears_ended c less ears asker asked) face heard
-  pub silent : (tell_faces Ending ears (ended_at c less ears asker asked)).tellings ≡ []
+-- each open face has a receiver that keeps what is due to it
+abbrev pub AllHear : Core → Interests → Ears → Type 0
+AllHear c ints ears = (face : ℕ) → is_open face c ≡ true → (heard : Heard) × Hears c ints ears face heard
 
 -- ---- what is told at all, and ids that lack
 
@@ -151,12 +144,39 @@ is_news c ints face ear key = is_none (at_text key ear.told) && is_some (due c i
 abbrev pub lacks_at : Core → Interests → Ears → ℕ → Bool
 lacks_at c ints ears face = option_map_or (λ (e : Ear). is_too_great (e.last + length (filter (is_news c ints face e) (due_keys c)))) (at_face face ears) false
 
--- each open face has a receiver that keeps what is due to it
-abbrev pub AllHear : Core → Interests → Ears → Type 0
-AllHear c ints ears = (face : ℕ) → is_open face c ≡ true → (heard : Heard) × Hears c ints ears face heard
-
 -- a call that may make something newly due: one that opens a face, or declares
 abbrev pub makes_due : Call → Bool
 makes_due (call.Open o) = true
 makes_due (call.DeclareQueryable face id wire info node) = true
 makes_due c = false
+
+-- ---- the laws
+
+-- a call that is no interest, and one face: its receiver keeps afterwards what is due then; and it is told the difference between what it was told and what is due, over any keys in order that have all on which there is one
+pub record FaceTold (before after : Core) (ints : Interests) (t : TextCall) (ears : Ears) (face : ℕ) (ear : Ear) (heard : Heard) : Type 0 where
+  pub keeps : Hears after ints (ears_after before after ints t ears) face (heard_over before after ints t ears face heard)
+  pub exactly : (keys : List (List ℕ)) → HaveChanges after ints face ear keys → told_in Unasked face ear (map (due_on after ints face) keys) ≡ filter (is_to face) (neighbours_told before after ints t ears)
+
+-- such a call, and all faces: what is told stands in order of faces and keys, and is told to open faces alone; what is kept of faces stays sound, and what receivers keep stays due; ids lack exactly where they lack to some open face
+pub record AllTold (before after : Core) (ints : Interests) (t : TextCall) (ears : Ears) : Type 0 where
+  pub ordered : IsStrictlySortedBy telling_cmp (neighbours_told before after ints t ears)
+  pub silent : (face : ℕ) → is_open face after ≡ false → filter (is_to face) (neighbours_told before after ints t ears) ≡ []
+  pub sound : before.config.start.told < 2 ^ 32 → AreSound ears → neighbours_lack before after ints t ears ≡ false → AreSound (ears_after before after ints t ears)
+  pub hear : AllHear before ints ears → AllHear after ints (ears_after before after ints t ears)
+  pub lacks : AllHear before ints ears → HaveIds (with_new before t ears) → neighbours_lack before after ints t ears ≡ list_any (λ o. lacks_at after ints (with_new before t ears) o.0) after.faces
+
+-- an interest, by the interests before and after it: it tells its asker alone, whose receiver keeps what is due then; other faces' receivers keep what they kept; what is kept of faces stays sound, and ids lack exactly where they lack to the asker
+pub record AskingTold (c : Core) (ints more : Interests) (ears : Ears) (asker : ℕ) (asked : InterestEntry) : Type 0 where
+  pub own : (heard : Heard) → Hears c ints ears asker heard → Hears c more (ears_asked c more ears asker asked) asker (heard_asked c more ears asker asked heard)
+  pub others : (face : ℕ) → face ≢ asker → (heard : Heard) → Hears c ints ears face heard → Hears c more (ears_asked c more ears asker asked) face heard
+  pub silent : (face : ℕ) → face ≢ asker → filter (is_to face) (answer_told c more ears asker asked) ≡ []
+  pub sound : AreSound ears → answer_lacks c more ears asker asked ≡ false → AreSound (ears_asked c more ears asker asked)
+  pub lacks : (heard : Heard) → Hears c ints ears asker heard → HaveIds ears → answer_lacks c more ears asker asked ≡ lacks_at c more ears asker
+
+-- the end of an interest, by the interests before and after it: nothing is told, and receivers keep what is still due; what is kept of faces stays sound, as no ids lack
+pub record EndingTold (c : Core) (ints less : Interests) (ears : Ears) (asker : ℕ) (asked : InterestEntry) : Type 0 where
+  pub own : (heard : Heard) → Hears c ints ears asker heard → Hears c less (ears_ended c less ears asker asked) asker (heard_ended c less ears asker asked heard)
+  pub others : (face : ℕ) → face ≢ asker → (heard : Heard) → Hears c ints ears face heard → Hears c less (ears_ended c less ears asker asked) face heard
+  pub silent : (tell_faces Ending ears (ended_at c less ears asker asked)).tellings ≡ []
+  pub sound : AreSound ears → AreSound (ears_ended c less ears asker asked)
+  pub enough : HaveIds ears → lacks_ids Ending ears (ended_at c less ears asker asked) ≡ false

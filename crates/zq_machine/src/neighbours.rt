@@ -1,11 +1,8 @@
 //! Laws of what faces outside regions of routers are told: after every call it is what is due to them.
-ghost use Rattle.std.specs.Prelude.{◌≡◌, ℕ, List, [], filter, map, Some, true, false};
-ghost use Rattle.std.specs.List.{list_any};
+ghost use Rattle.std.specs.Prelude.{◌≡◌, ℕ, List, [], Some, true, false};
 ghost use Rattle.std.specs.Option.{option_to_list};
 ghost use Rattle.zq_hat.specs.declared.types.InterestEntry.{InterestEntry};
-ghost use Rattle.zq_told.specs.declared.types.Way.TheVariants.{Unasked};
 ghost use Rattle.zq_told.specs.Ears.{Ears};
-ghost use Rattle.zq_told.specs.Laws.{is_to, told_in};
 ghost use Rattle.zq_told.specs.Leaving.{HaveIds, fresh_ear};
 ghost use Rattle.zq_told.specs.Receiver.{Heard, heard_on};
 ghost use Rattle.zq_machine.specs.declared.call.Call.{Call};
@@ -15,7 +12,7 @@ ghost use Rattle.zq_machine.specs.Configs.{Settings};
 ghost use Rattle.zq_machine.specs.Deciding.{is_accepted};
 ghost use Rattle.zq_machine.specs.Due.{Interests, due, interests_of, with_interest, without_interest};
 ghost use Rattle.zq_machine.specs.Machine.{after, state_after, step};
-ghost use Rattle.zq_machine.specs.Neighbours.{AllHear, AskingTold, EndingTold, HaveChanges, Hears, due_on, ears_after, heard_over, lacks_at, makes_due, neighbours_lack, neighbours_told, with_new};
+ghost use Rattle.zq_machine.specs.Neighbours.{AllHear, AllTold, AskingTold, EndingTold, FaceTold, Hears, makes_due, neighbours_lack, with_new};
 ghost use Rattle.zq_machine.specs.State.{Core, State, at, is_open, opening_state};
 ghost use Rattle.zq_machine.specs.TextCalls.{read};
 
@@ -24,16 +21,31 @@ pub fn told_due()
     ensures { (c : Core) (ints : Interests) (ears : Ears) (face : ℕ) (heard : Heard) → Hears c ints ears face heard → (key : List ℕ) → heard_on key heard ≡ option_to_list (due c ints face key) }
 {}
 
-/// At every point of every run, a receiver that keeps what is due to a face keeps it over each call
-/// that leaves the face open, as it reads what the call tells that face.
+/// At every point of every run and for each call: of a face that is open before and after it, a
+/// receiver that kept what was due keeps what is due, once it has read what the call tells that face;
+/// and what that is, is the difference between what the face was told and what is due, over any keys
+/// in order that have all on which there is one.
 pub fn call_told()
-    ensures { (config : Settings) (calls : List Call) → let s : State = state_after (opening_state config) calls in (c : Call) (ints : Interests) (ears : Ears) (face : ℕ) (heard : Heard) → is_open face s.core ≡ true → is_open face (after s c).core ≡ true → Hears s.core ints ears face heard → Hears (after s c).core ints (ears_after s.core (after s c).core ints (read s c) ears) face (heard_over s.core (after s c).core ints (read s c) ears face heard) }
+    ensures { (config : Settings) (calls : List Call) → let s : State = state_after (opening_state config) calls in (c : Call) (ints : Interests) (ears : Ears) (face : ℕ) (heard : Heard) → is_open face s.core ≡ true → is_open face (after s c).core ≡ true → (h : Hears s.core ints ears face heard) → FaceTold s.core (after s c).core ints (read s c) ears face h.ear heard }
 {}
 
-/// A new face's receiver, which kept nothing, keeps what is due to it, once it has read what the
-/// opening tells that face.
+/// The same of a new face, which was told nothing, and whose receiver kept nothing: it is told all that
+/// is due to it.
 pub fn opening_told()
-    ensures { (config : Settings) (calls : List Call) → let s : State = state_after (opening_state config) calls in (o : Opening) (ints : Interests) (ears : Ears) → is_accepted (step s (call.Open o)).outcome ≡ true → Hears (after s (call.Open o)).core ints (ears_after s.core (after s (call.Open o)).core ints (read s (call.Open o)) ears) s.core.next_face (heard_over s.core (after s (call.Open o)).core ints (read s (call.Open o)) ears s.core.next_face []) }
+    ensures { (config : Settings) (calls : List Call) → let s : State = state_after (opening_state config) calls in (o : Opening) (ints : Interests) (ears : Ears) → is_accepted (step s (call.Open o)).outcome ≡ true → FaceTold s.core (after s (call.Open o)).core ints (read s (call.Open o)) ears s.core.next_face (fresh_ear s.core.config.start.told) [] }
+{}
+
+/// What a call tells all faces stands in order, and is told to open faces alone; what is kept of faces
+/// stays sound; each open face has a receiver that keeps what is due to it, if each had before; and
+/// ids lack exactly where they lack to some open face: where its last id and the number of all keys
+/// newly due to it lead above those of 32 bits.
+pub fn all_told()
+    ensures { (config : Settings) (calls : List Call) → let s : State = state_after (opening_state config) calls in (c : Call) (ints : Interests) (ears : Ears) → AllTold s.core (after s c).core ints (read s c) ears }
+{}
+
+/// To a call that opens no face and declares nothing no ids lack.
+pub fn lacks_none()
+    ensures { (config : Settings) (calls : List Call) → let s : State = state_after (opening_state config) calls in (c : Call) (ints : Interests) (ears : Ears) → makes_due c ≡ false → AllHear s.core ints ears → HaveIds (with_new s.core (read s c) ears) → neighbours_lack s.core (after s c).core ints (read s c) ears ≡ false }
 {}
 
 /// An interest, in the place of none or of one that asks for the same, tells its face alone: a
@@ -47,27 +59,4 @@ pub fn asking_told()
 /// those that are not due any more, and keeps what is due then; others keep what they kept.
 pub fn ending_told()
     ensures { (c : Core) (ints : Interests) (ears : Ears) (asker id : ℕ) (asked : InterestEntry) → at id (interests_of asker ints) ≡ Some asked → EndingTold c ints (without_interest asker id ints) ears asker asked }
-{}
-
-/// What a call tells a face is the difference between what it was told and what is due then, over
-/// any keys in order that have all on which there is one; so it tells of no other key, and of each
-/// of those.
-pub fn tells_exactly()
-    ensures { (config : Settings) (calls : List Call) → let s : State = state_after (opening_state config) calls in (c : Call) (ints : Interests) (ears : Ears) (face : ℕ) (heard : Heard) → is_open face s.core ≡ true → is_open face (after s c).core ≡ true → (h : Hears s.core ints ears face heard) → (keys : List (List ℕ)) → HaveChanges (after s c).core ints face h.ear keys → told_in Unasked face h.ear (map (due_on (after s c).core ints face) keys) ≡ filter (is_to face) (neighbours_told s.core (after s c).core ints (read s c) ears) }
-{}
-
-/// What an opening tells the new face is all that is due to it.
-pub fn opening_tells()
-    ensures { (config : Settings) (calls : List Call) → let s : State = state_after (opening_state config) calls in (o : Opening) (ints : Interests) (ears : Ears) → is_accepted (step s (call.Open o)).outcome ≡ true → (keys : List (List ℕ)) → HaveChanges (after s (call.Open o)).core ints s.core.next_face (fresh_ear s.core.config.start.told) keys → told_in Unasked s.core.next_face (fresh_ear s.core.config.start.told) (map (due_on (after s (call.Open o)).core ints s.core.next_face) keys) ≡ filter (is_to s.core.next_face) (neighbours_told s.core (after s (call.Open o)).core ints (read s (call.Open o)) ears) }
-{}
-
-/// Ids lack to a call exactly where they lack to some face that is open after it: where the last id
-/// of the face and the number of all keys newly due to it lead above those of 32 bits.
-pub fn lacks_exactly()
-    ensures { (config : Settings) (calls : List Call) → let s : State = state_after (opening_state config) calls in (c : Call) (ints : Interests) (ears : Ears) → AllHear s.core ints ears → HaveIds (with_new s.core (read s c) ears) → neighbours_lack s.core (after s c).core ints (read s c) ears ≡ list_any (λ o. lacks_at (after s c).core ints (with_new s.core (read s c) ears) o.0) (after s c).core.faces }
-{}
-
-/// To a call that opens no face and declares nothing no ids lack.
-pub fn lacks_none()
-    ensures { (config : Settings) (calls : List Call) → let s : State = state_after (opening_state config) calls in (c : Call) (ints : Interests) (ears : Ears) → makes_due c ≡ false → AllHear s.core ints ears → HaveIds (with_new s.core (read s c) ears) → neighbours_lack s.core (after s c).core ints (read s c) ears ≡ false }
 {}

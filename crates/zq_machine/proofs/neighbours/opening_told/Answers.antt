@@ -1,5 +1,5 @@
-use Rattle.zq_machine.proofs.NeighbourLaws.{opening_keeps}
+use Rattle.zq_machine.proofs.NeighbourLaws.{new_told}
 use Rattle.zq_machine.proofs.neighbours.opening_told.Goals as goal
 
 pub returns : goal.returns
-returns c = opening_keeps
+returns c = new_told
