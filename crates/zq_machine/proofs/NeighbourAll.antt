@@ -7,7 +7,6 @@ use Rattle.std.specs.Option.{is_some, option_map_or}
 use Rattle.std.specs.Ordering.{nat_cmp}
 use Rattle.std.proofs.lemmas.Bool.{false≢true}
 use Rattle.zq_trees.specs.Tellings.{telling_cmp}
-use Rattle.zq_trees.specs.declared.types.Telling.{Telling}
 use Rattle.zq_told.specs.declared.types.FaceDues.{FaceDues}
 use Rattle.zq_told.specs.declared.types.ToldEntry.{ToldEntry}
 use Rattle.zq_told.specs.declared.types.Way.TheVariants.{Unasked}
@@ -21,7 +20,7 @@ use Rattle.zq_told.proofs.Faces.{opens as opens_sound, stay_sound}
 use Rattle.zq_told.proofs.Ordered.{tells_in_order}
 use Rattle.zq_told.proofs.Slotted.{none_sorted}
 use Rattle.zq_machine.specs.Configs.{Settings}
-use Rattle.zq_machine.specs.Due.{Interests, due, due_touched, heard as heard_there, listens}
+use Rattle.zq_machine.specs.Due.{Interests, due, due_touched, listens}
 use Rattle.zq_machine.specs.Machine.{settle}
 use Rattle.zq_machine.specs.Neighbours.{AllHear, Hears, dues_on, ears_after, looked_at, neighbours_lack, neighbours_told, with_dues, with_new, without_closed}
 use Rattle.zq_machine.specs.State.{Core, State, at, is_open}
@@ -29,7 +28,7 @@ use Rattle.zq_machine.specs.TextCalls.{TextCall, opening, closing}
 use Rattle.zq_machine.proofs.Agreed.{InOrder as Kept}
 use Rattle.zq_machine.proofs.Changing.{number_test}
 use Rattle.zq_machine.proofs.NeighbourDues.{all_keys, dues_of, rows_rise}
-use Rattle.zq_machine.proofs.NeighbourIds.{IsNew, fresh, new_face, none_of, opens}
+use Rattle.zq_machine.proofs.NeighbourIds.{fresh, new_face, none_of, opens}
 use Rattle.zq_machine.proofs.NeighbourTold.{all_rise, call_hears, call_told, looked, looked_rise, still_hears, undue}
 
 module _ (config : Settings) (s : State) (i : Kept config s) (t : TextCall) (ints : Interests) (ears : Ears) where

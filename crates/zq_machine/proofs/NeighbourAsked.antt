@@ -55,7 +55,7 @@ module _ (way : Way) (ears : Ears) (asker face : ℕ) (keys : List KeyDue) (othe
       looks_up way ears (with_dues asker keys) (alone_rises asker keys) face
       ∙ ap (λ o. option_map_or (λ ks. option_map (λ (e : Ear). ear_after way face e ks) (at_face face ears)) o (at_face face ears)) (keys_beside face asker keys other)
 
--- to another face the same is due, and its receiver keeps what it kept
+  -- to another face the same is due, and its receiver keeps what it kept
   pub other_hears : (c : Core) (ints more : Interests) (heard : Heard) → ((key : List ℕ) → due c more face key ≡ due c ints face key) → Hears c ints ears face heard → Hears c more (tell_due way ears (with_dues asker keys)) face heard
   other_hears c ints more heard same h = record { ear = h.ear; there = left_beside ∙ h.there; sorted = h.sorted; tied = h.tied; told = λ key. h.told key ∙ sym (same key) }
 

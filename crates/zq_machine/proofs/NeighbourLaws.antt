@@ -1,12 +1,10 @@
 -- The laws of what faces are told, at every point of every run.
-use Rattle.std.proofs.Common.{◌≡◌, ◌∙◌, refl, sym, ap, ℕ, Bool, true, false, cond, true≢false, List, [], map, filter, Some, None}
-use Rattle.std.specs.List.{list_any}
+use Rattle.std.proofs.Common.{◌≡◌, ◌∙◌, refl, sym, ap, ℕ, Bool, true, false, cond, true≢false, List, [], Some, None}
 use Rattle.zq_hat.specs.declared.types.InterestEntry.{InterestEntry}
 use Rattle.zq_told.specs.declared.types.Way.TheVariants.{Answering, Ending}
 use Rattle.zq_told.specs.Ears.{Ears}
 use Rattle.zq_told.specs.Receiver.{Heard}
 use Rattle.zq_told.specs.Leaving.{HaveIds, fresh_ear}
-use Rattle.zq_told.specs.Laws.{is_to, told_in}
 use Rattle.zq_told.proofs.Faces.{stay_sound}
 use Rattle.zq_machine.specs.declared.call.Call.{Call}
 use Rattle.zq_machine.specs.declared.call.Call.TheVariants as call
