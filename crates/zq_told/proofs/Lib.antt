@@ -11,3 +11,4 @@ pub mod Calls
 pub mod Leaving
 pub mod Faces
 pub mod Meant
+pub mod Moved

@@ -13,7 +13,7 @@ use Rattle.zq_told.specs.declared.types.Way.TheVariants.{Answering, Ending}
 use Rattle.zq_told.specs.Ears.{Ear, Ears, at_face, closed, last_at, opened}
 use Rattle.zq_told.specs.Telling.{KeyDue, lacks_ids, tell_due, tell_faces}
 use Rattle.zq_told.specs.Receiver.{Tied, memory_of}
-use Rattle.zq_told.specs.Laws.{InOrder, aim_on, ear_after, takes_id, told_in, told_info}
+use Rattle.zq_told.specs.Laws.{InOrder, aim_on, ear_after, is_to, keys_for, takes_id, told_in, told_info}
 
 -- after a call a face was told on each key what the call aims at; of what was told of other keys nothing changes
 abbrev pub ToldAimed : Type 0
@@ -76,6 +76,11 @@ pub record IsMeant (ears : Ears) (dues : List FaceDues) (t : Telling) : Type 0 w
 -- each telling is such a one
 abbrev pub TellsMeant : Type 0
 TellsMeant = (way : Way) (ears : Ears) (dues : List FaceDues) → AllByRecursion (IsMeant ears dues) (tell_faces way ears dues).tellings
+
+-- a face that is not there is told nothing, nor is one for which the call looks at no key
+pub record TellsNoOther : Type 0 where
+  pub absent : (way : Way) (ears : Ears) (dues : List FaceDues) (n : ℕ) → at_face n ears ≡ None → filter (is_to n) (tell_faces way ears dues).tellings ≡ []
+  pub unasked : (way : Way) (ears : Ears) (dues : List FaceDues) (n : ℕ) → keys_for n dues ≡ None → filter (is_to n) (tell_faces way ears dues).tellings ≡ []
 
 -- faces stand in order, each once, and so does what each was told; the last ids are of 32 bits
 pub record AreSound (ears : Ears) : Type 0 where

@@ -4,3 +4,4 @@ pub mod Rooms
 pub mod Receiver
 pub mod Laws
 pub mod Leaving
+pub mod Moved

@@ -43,13 +43,17 @@ abbrev pub last_for : ℕ → Option ToldEntry → Option ToldEntry → ℕ
 last_for last None (Some e) = e.id
 last_for last old new = last
 
+-- a face is told of the key under the id: its information, or that the id stands no more
+abbrev pub told_under : ℕ → List ℕ → ℕ → Option QueryableInfoType → Telling
+told_under n key id info = record { face = record { 0 = n }; id = id; key = key; info = info; node = 0 }
+
 -- a face is told the entry
 abbrev pub declared : ℕ → List ℕ → ToldEntry → Telling
-declared n key e = record { face = record { 0 = n }; id = e.id; key = key; info = Some e.info; node = 0 }
+declared n key e = told_under n key e.id (Some e.info)
 
 -- a face is told that the entry's id stands no more
 abbrev pub withdrawn : ℕ → List ℕ → ToldEntry → Telling
-withdrawn n key e = record { face = record { 0 = n }; id = e.id; key = key; info = None; node = 0 }
+withdrawn n key e = told_under n key e.id None
 
 -- the difference between two entries
 abbrev pub difference : ℕ → List ℕ → Option ToldEntry → Option ToldEntry → List Telling

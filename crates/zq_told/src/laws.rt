@@ -1,6 +1,8 @@
 //! The laws of telling, as the contracts of calls.
 ghost use Rattle.zq_told.specs.Laws.{CallKeepsUp, CountsIds, HeardIsDue, IdsAreGiven, KeepsUp, LooksUp, TellsDifference, TellsEach, TellsInOrder};
-ghost use Rattle.zq_told.specs.Leaving.{AnswersAll, Closes, EndsQuietly, KeepsFaces, LacksExactly, LessDue, Opens, StaySound, StaysInOrder, TellsMeant, ToldAimed};
+ghost use Rattle.zq_told.specs.Leaving.{AnswersAll, Closes, EndsQuietly, KeepsFaces, LacksExactly, LessDue, Opens, StaySound, StaysInOrder, TellsMeant, TellsNoOther, ToldAimed};
+ghost use Rattle.std.specs.Prelude.{ℕ, List};
+ghost use Rattle.zq_told.specs.Moved.{KeepsTexts, TellsAlike};
 
 /// A receiver that keeps what a face was told, and reads what a call tells it by ids alone, keeps afterwards
 /// what the face was told then.
@@ -94,6 +96,11 @@ pub fn tells_meant()
     ensures { TellsMeant }
 {}
 
+/// A face that is not there is told nothing, nor is one for which the call looks at no key.
+pub fn tells_no_other()
+    ensures { TellsNoOther }
+{}
+
 /// Faces stand in order, each once, and so does what each was told, and the last ids are of 32 bits: from the
 /// first on, where a face comes or goes, and after each call that lacks no ids.
 pub fn stay_sound()
@@ -114,4 +121,10 @@ pub fn opens()
 /// A face goes, and all others stay; where it was not there before it came, all is as it was.
 pub fn closes()
     ensures { Closes }
+{}
+
+/// What is told, and what a call leaves, moves with its texts: with all texts moved by a map that keeps
+/// their order the same is told of the moved keys, and ids lack there where they lacked.
+pub fn tells_alike()
+    ensures { (φ : List ℕ → List ℕ) → KeepsTexts φ → TellsAlike φ }
 {}

@@ -1,6 +1,6 @@
 //! What a face is told of the keys that a call looks at.
 ghost use Rattle.std.specs.Prelude.{◌≡◌, ◌++◌, ◌∷◌, [], ◌≤◌, ◌^◌, Some, IfOk, IfSome, IfNone, OnOk, IsErrOf, None};
-ghost use Rattle.zq_told.specs.Telling.{answer, declared as declared_of, difference, entry_for as entry_of, id_for, last_for as last_of, noted, tell_key, tell_keys, tellings_for, withdrawn as withdrawn_of};
+ghost use Rattle.zq_told.specs.Telling.{answer, difference, entry_for as entry_of, id_for, last_for as last_of, noted, tell_key, tell_keys, tellings_for, told_under};
 ghost use Rattle.zq_told.specs.Rooms.{ear_of};
 
 use crate::book::Book;
@@ -22,68 +22,24 @@ pub(crate) struct Account {
     pub(crate) tellings: TellingList,
 }
 
-/// What a face is told once its key becomes the entry.
-fn declared(
-    alloc: Global,
-    face: FaceId,
-    key: &Text,
-    entry: ToldEntry,
-) -> Result<Telling, OutOfMemory>
-    ensures { IfOk result (λ t. t ≡ declared_of face.0 key.now entry) }
-{
-    Ok(Telling {
-        face,
-        id: entry.id,
-        key: key.copy(alloc)?,
-        info: Some(entry.info),
-        node: DEFAULT_NODE_ID,
-    })
-}
-
-/// What a face is told once its entry stands no more.
-fn withdrawn(
-    alloc: Global,
-    face: FaceId,
-    key: &Text,
-    entry: ToldEntry,
-) -> Result<Telling, OutOfMemory>
-    ensures { IfOk result (λ t. t ≡ withdrawn_of face.0 key.now entry) }
-{
-    Ok(Telling {
-        face,
-        id: entry.id,
-        key: key.copy(alloc)?,
-        info: None,
-        node: DEFAULT_NODE_ID,
-    })
-}
-
-/// The face is told the entry.
-fn tell_entry(
+/// The face is told of the key under the id: its information, or that the id stands no more.
+fn tell_under(
     tellings: &mut TellingList,
     alloc: Global,
     face: FaceId,
     key: &Text,
-    entry: ToldEntry,
+    id: u32,
+    info: Option<QueryableInfoType>,
 ) -> Result<(), OutOfMemory>
-    ensures { OnOk result (tellings.new ≡ tellings.old ++ declared_of face.0 key.now entry ∷ []) }
+    ensures { OnOk result (tellings.new ≡ tellings.old ++ told_under face.0 key.now id info ∷ []) }
 {
-    let telling = declared(alloc, face, key, entry)?;
-    tellings.push(telling)?;
-    Ok(())
-}
-
-/// The face is told that the entry stands no more.
-fn tell_end(
-    tellings: &mut TellingList,
-    alloc: Global,
-    face: FaceId,
-    key: &Text,
-    entry: ToldEntry,
-) -> Result<(), OutOfMemory>
-    ensures { OnOk result (tellings.new ≡ tellings.old ++ withdrawn_of face.0 key.now entry ∷ []) }
-{
-    let telling = withdrawn(alloc, face, key, entry)?;
+    let telling = Telling {
+        face,
+        id,
+        key: key.copy(alloc)?,
+        info,
+        node: DEFAULT_NODE_ID,
+    };
     tellings.push(telling)?;
     Ok(())
 }
@@ -101,13 +57,13 @@ fn tell_difference(
 {
     match (old, new) {
         (None, None) => Ok(()),
-        (Some(told), None) => tell_end(tellings, alloc, face, key, told),
-        (None, Some(entry)) => tell_entry(tellings, alloc, face, key, entry),
+        (Some(told), None) => tell_under(tellings, alloc, face, key, told.id, None),
+        (None, Some(entry)) => tell_under(tellings, alloc, face, key, entry.id, Some(entry.info)),
         (Some(told), Some(entry)) => {
             if same_info(told.info, entry.info) {
                 return Ok(());
             }
-            tell_entry(tellings, alloc, face, key, entry)
+            tell_under(tellings, alloc, face, key, entry.id, Some(entry.info))
         }
     }
 }
@@ -124,7 +80,7 @@ fn tell_answer(
 {
     match new {
         None => Ok(()),
-        Some(entry) => tell_entry(tellings, alloc, face, key, entry),
+        Some(entry) => tell_under(tellings, alloc, face, key, entry.id, Some(entry.info)),
     }
 }
 
