@@ -14,6 +14,7 @@ use Rattle.std.proofs.lemmas.Map.{keys-set_value}
 use Rattle.std.proofs.lemmas.Map.Lookups.{exact_unsigned}
 use Rattle.zq_key.proofs.Lookups.{found_after_write}
 use Rattle.zq_key.proofs.Sorted.{sorted_in, sorted_out}
+use Rattle.zq_message.specs.declared.message.QueryableInfoType.{QueryableInfoType}
 use Rattle.zq_told.specs.declared.types.ToldEntry.{ToldEntry}
 use Rattle.zq_told.specs.declared.types.Way.{Way}
 use Rattle.zq_told.specs.declared.types.FaceDues.{FaceDues}
@@ -21,14 +22,14 @@ use Rattle.zq_told.specs.declared.types.FacePlan.{FacePlan}
 use Rattle.zq_told.specs.declared.types.Planned.{Planned}
 use Rattle.zq_told.specs.declared.plan.Account.{Account}
 use Rattle.zq_told.specs.Ears.{Ear, Ears, at_face, closed, last_at}
-use Rattle.zq_told.specs.Telling.{is_above, planned_ear, put_face, put_plan, tell_face, tell_faces, tell_keys, with_account}
-use Rattle.zq_told.specs.Laws.{InOrder, takes_id}
-use Rattle.zq_told.specs.Leaving.{Closes, KeepsFaces, LessDue, Opens, StaySound, fresh_ear, takes_ids}
+use Rattle.zq_told.specs.Telling.{KeyDue, is_above, planned_ear, put_face, put_plan, tell_face, tell_faces, tell_keys, with_account}
+use Rattle.zq_told.specs.Laws.{InOrder, aim_on, ear_after, keys_for, takes_id, told_info}
+use Rattle.zq_told.specs.Leaving.{Closes, KeepsFaces, LessDue, Opens, StaySound, TellsAimed, fresh_ear, takes_ids}
 use Rattle.zq_told.proofs.Entries.{found_put, found_taken, is_other, itself, one_number}
 use Rattle.zq_told.proofs.Slotted.{none_sorted}
-use Rattle.zq_told.proofs.Differing.{counted}
+use Rattle.zq_told.proofs.Differing.{counted, looks_up}
 use Rattle.zq_told.proofs.Calls.{not_same}
-use Rattle.zq_told.proofs.Leaving.{enough, lacks_exactly, last_kept, neither, rows_sorted}
+use Rattle.zq_told.proofs.Leaving.{enough, lacks_exactly, last_kept, neither, rows_sorted, told_aimed}
 
 no_numbers : IsStrictlySortedBy nat_cmp []
 unfolding IsStrictlySortedBy
@@ -193,3 +194,28 @@ less_due way ears dues none = (
   λ ids. lacks_exactly way ears dues ∙ enough way ears dues ids none,
   lasts_all way ears (tell_faces way ears dues).plan ears (still_all way ears dues (record { plan = []; tellings = [] }) none tt) (λ n. refl),
 )
+
+-- ---- what each face was told after a call
+ordered_by : (n : ℕ) (d : FaceDues) (ds : List FaceDues) (keys : List KeyDue) (b : Bool) → InOrder d.keys → (keys_for n ds ≡ Some keys → InOrder keys) → cond b (Some d.keys) (keys_for n ds) ≡ Some keys → InOrder keys
+ordered_by n d ds keys true o more h = subst InOrder (let both : Some d.keys ≡ Some keys = h in let one : d.keys ≡ keys = cc in one) o
+ordered_by n d ds keys false o more h = more h
+
+ordered_for : (n : ℕ) (ds : List FaceDues) (keys : List KeyDue) → AllByRecursion (λ (d : FaceDues). InOrder d.keys) ds → keys_for n ds ≡ Some keys → InOrder keys
+ordered_for n [] keys all h = absurd (let gap : None ≡ Some keys = h in cc)
+ordered_for n (d ∷ ds) keys all h = ordered_by n d ds keys (is_at (nat_cmp n) d.face.0) all.0 (λ g. ordered_for n ds keys all.1 g) h
+
+module _ (way : Way) (n : ℕ) (ear : Ear) (sorted : InOrder ear.told) (key : List ℕ) where
+  abbrev info_in : Option Ear → Option (Option QueryableInfoType)
+  info_in o = option_map (λ (e : Ear). told_info e key) o
+
+  aimed_by : (ds : List FaceDues) (o : Option (List KeyDue)) → keys_for n ds ≡ o → AllByRecursion (λ (d : FaceDues). InOrder d.keys) ds
+      → info_in (option_map_or (λ keys. option_map (λ (e : Ear). ear_after way n e keys) (Some ear)) o (Some ear)) ≡ Some (option_map_or (λ keys. aim_on way keys (told_info ear key) key) o (told_info ear key))
+  aimed_by ds None is all = refl
+  aimed_by ds (Some keys) is all = ap (λ i. Some i) (told_aimed way n ear keys sorted (ordered_for n ds keys all is) key)
+
+  aimed_in : (ears : Ears) (ds : List FaceDues) → at_face n ears ≡ Some ear → AllByRecursion (λ (d : FaceDues). InOrder d.keys) ds
+      → info_in (option_map_or (λ keys. option_map (λ (e : Ear). ear_after way n e keys) (at_face n ears)) (keys_for n ds) (at_face n ears)) ≡ Some (option_map_or (λ keys. aim_on way keys (told_info ear key) key) (keys_for n ds) (told_info ear key))
+  aimed_in ears ds there all = ap (λ o. info_in (option_map_or (λ keys. option_map (λ (e : Ear). ear_after way n e keys) o) (keys_for n ds) o)) there ∙ aimed_by ds (keys_for n ds) refl all
+
+pub tells_aimed : TellsAimed
+tells_aimed way ears dues faces keys n ear there sorted key = ap (option_map (λ (e : Ear). told_info e key)) (looks_up way ears dues faces n) ∙ aimed_in way n ear sorted key ears dues there keys

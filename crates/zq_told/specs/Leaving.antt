@@ -2,7 +2,7 @@
 use Rattle.std.specs.Prelude.{◌≡◌, ℕ, ◌+◌, ◌^◌, ◌<◌, nat_lt, ◌==◌, ◌&&◌, Bool, true, false, not, List, [], filter, length, map, Some, None, if◌then◌else◌}
 use Rattle.std.specs.List.{AllByRecursion, list_any}
 use Rattle.std.specs.List.Sorted.{IsStrictlySortedBy}
-use Rattle.std.specs.Option.{is_some, option_map_or}
+use Rattle.std.specs.Option.{is_some, option_map, option_map_or}
 use Rattle.std.specs.Ordering.{nat_cmp}
 use Rattle.std.specs.Str.{bytes_eq}
 use Rattle.std.specs.Map.{keys_of}
@@ -20,6 +20,13 @@ abbrev pub ToldAimed : Type 0
 ToldAimed =
     (way : Way) (n : ℕ) (ear : Ear) (keys : List KeyDue) → InOrder ear.told → InOrder keys
     → (key : List ℕ) → told_info (ear_after way n ear keys) key ≡ aim_on way keys (told_info ear key) key
+
+-- over a whole call: each face that is there was told on each key what the call aims at, if it looks at the key for the face, and else what it was told before
+abbrev pub TellsAimed : Type 0
+TellsAimed =
+    (way : Way) (ears : Ears) (dues : List FaceDues) → IsStrictlySortedBy nat_cmp (map (λ (d : FaceDues). d.face.0) dues) → AllByRecursion (λ (d : FaceDues). InOrder d.keys) dues
+    → (n : ℕ) (ear : Ear) → at_face n ears ≡ Some ear → InOrder ear.told
+    → (key : List ℕ) → option_map (λ (e : Ear). told_info e key) (at_face n (tell_due way ears dues)) ≡ Some (option_map_or (λ keys. aim_on way keys (told_info ear key) key) (keys_for n dues) (told_info ear key))
 
 -- what a face was told stays in order of its keys
 abbrev pub StaysInOrder : Type 0

@@ -31,7 +31,7 @@ abbrev pub id_for : ℕ → Option ToldEntry → ℕ
 id_for last None = last + 1
 id_for last (Some t) = t.id
 
--- what a face was told of a key after the call: what is due, or nothing; where an interest ended, what it was told
+-- what a face was told of a key after the call: nothing where nothing is due; else what is due, or, where an interest ended, what it was told before
 abbrev pub entry_for : Way → ℕ → Option ToldEntry → Option QueryableInfoType → Option ToldEntry
 entry_for way last old None = None
 entry_for Unasked last old (Some i) = Some (record { id = id_for last old; info = i })

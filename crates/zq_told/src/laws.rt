@@ -1,6 +1,6 @@
 //! The laws of telling, as the contracts of calls.
 ghost use Rattle.zq_told.specs.Laws.{CallKeepsUp, CountsIds, HeardIsDue, IdsAreGiven, KeepsUp, LooksUp, TellsDifference, TellsEach, TellsInOrder};
-ghost use Rattle.zq_told.specs.Leaving.{AnswersAll, Closes, EndsQuietly, KeepsFaces, LacksExactly, LessDue, Opens, StaySound, StaysInOrder, TellsMeant, TellsNoOther, ToldAimed};
+ghost use Rattle.zq_told.specs.Leaving.{AnswersAll, Closes, EndsQuietly, KeepsFaces, LacksExactly, LessDue, Opens, StaySound, StaysInOrder, TellsAimed, TellsMeant, TellsNoOther, ToldAimed};
 ghost use Rattle.std.specs.Prelude.{ℕ, List};
 ghost use Rattle.zq_told.specs.Moved.{KeepsTexts, TellsAlike};
 
@@ -11,8 +11,8 @@ pub fn keeps_up()
     ensures { KeepsUp }
 {}
 
-/// On each key that a call looks at a receiver keeps exactly what is due (where an interest ended, what it
-/// kept of what is still due), and on any other what it kept.
+/// On each key that a call looks at a receiver keeps exactly what is due, or, where an interest ended, what
+/// it kept of what is still due; on any other key it keeps what it kept.
 #[tactic(auto, using(crate::proofs::Settling::heard_is_due))]
 pub fn heard_is_due()
     ensures { HeardIsDue }
@@ -63,6 +63,12 @@ pub fn call_keeps_up()
 /// changes.
 pub fn told_aimed()
     ensures { ToldAimed }
+{}
+
+/// Over a whole call: each face that is there was told on each key what the call aims at, if it looks at the
+/// key for the face, and else what it was told before.
+pub fn tells_aimed()
+    ensures { TellsAimed }
 {}
 
 /// What a face was told stays in order of its keys.
