@@ -1,5 +1,5 @@
 -- Faces shown without their rooms: what looks them up and changes them goes along.
-use Rattle.std.proofs.Common.{◌≡◌, ◌∙◌, refl, sym, ap, ℕ, Bool, true, false, cond, fold, List, [], ◌∷◌, map, Option, Some, None, get_or}
+use Rattle.std.proofs.Common.{◌≡◌, ◌∙◌, refl, sym, ap, subst, ℕ, Bool, true, false, cond, fold, List, [], ◌∷◌, map, Option, Some, None, get_or}
 use Rattle.std.specs.List.{All}
 use Rattle.std.specs.Option.{option_map, option_map_or}
 use Rattle.std.specs.Map.{lookup, remove_entry, set_value}
@@ -17,8 +17,9 @@ use Rattle.std.specs.BTreeMap.{is_at}
 use Rattle.std.specs.Ordering.{nat_cmp}
 use Rattle.zq_key.proofs.Lookups.{at_itself, found_after_write, same_key}
 use Rattle.zq_told.specs.declared.types.FacePlan.{FacePlan}
-use Rattle.zq_told.specs.Ears.{Ear, at_face}
-use Rattle.zq_told.specs.Rooms.{Book, Books, HasRooms, IsRoomy, ear_of, ears_of, has_room, room_at}
+use Rattle.zq_index.specs.Texts.{at_text}
+use Rattle.zq_told.specs.Ears.{Ear, Told, at_face}
+use Rattle.zq_told.specs.Rooms.{Book, Books, HasRooms, IsBare, IsBareAt, IsRoomy, Shelf, ear_of, ears_of, has_room, room_at}
 use Rattle.zq_told.specs.Telling.{Row, planned_ear, put_face, put_row}
 
 -- what holds of each holds of each in a weaker form
@@ -70,6 +71,14 @@ shown_at n books = lookup-map_values ear_of (is_at (nat_cmp n)) books
 
 no_row : Row
 no_row = ([], None)
+
+-- with fewer rooms, and the same told, what was bare stays so
+pub bare_stays : (was now : Shelf) → now.told ≡ was.told → ((q : List ℕ) → has_room now q ≡ true → has_room was q ≡ true) → (r : Row) → IsBare was r → IsBare now r
+bare_stays was now told fewer r bare h = ap (λ (t : Told). is_some (at_text r.0 t)) told ∙ bare (fewer r.0 h)
+
+-- a face that is not there has no rooms
+pub none_bare : (books : Books) (p : FacePlan) → at_face p.face.0 books ≡ None → IsBareAt books p
+none_bare books p none b there = absurd (let gap : None ≡ Some b = sym none ∙ there in cc)
 
 -- wider rooms
 pub rooms_wider : (old new : Books) → ((n : ℕ) (q : List ℕ) → room_at old n q ≡ true → room_at new n q ≡ true) → (p : FacePlan) → HasRooms old p → HasRooms new p
@@ -135,6 +144,25 @@ module _ (n : ℕ) (books : Books) (b : Book) (there : at_face n books ≡ Some 
 
     itself : is_at (nat_cmp n) n ≡ true
     itself = at_itself nat_cmp_total exact_unsigned n
+
+    -- what is bare at faces stays so where one has fewer rooms
+    bare_by : (p : FacePlan) (x : Book) (t : Bool) → is_at (nat_cmp n) p.face.0 ≡ t → c.shelf.told ≡ b.shelf.told → ((q : List ℕ) → has_room c.shelf q ≡ true → has_room b.shelf q ≡ true) → IsBareAt books p
+        → cond t (Some c) (at_face p.face.0 books) ≡ Some x → All (IsBare x.shelf) p.rows
+    bare_by p x true is told fewer bare at =
+        let one : c ≡ x = let both : Some c ≡ Some x = at in cc in
+        let was = bare b (ap (λ m. at_face m books) (sym (same_key nat_cmp_total exact_unsigned n p.face.0 is)) ∙ there) in
+        subst (λ (y : Book). All (IsBare y.shelf) p.rows) one (weaker (IsBare b.shelf) (IsBare c.shelf) no_row p.rows (bare_stays b.shelf c.shelf told fewer) was)
+    bare_by p x false is told fewer bare at = bare x at
+
+    pub bare_written : c.shelf.told ≡ b.shelf.told → ((q : List ℕ) → has_room c.shelf q ≡ true → has_room b.shelf q ≡ true) → (p : FacePlan) → IsBareAt books p → IsBareAt written p
+    bare_written told fewer p bare x at = bare_by p x (is_at (nat_cmp n) p.face.0) refl told fewer bare (sym (found_after_write nat_cmp_total exact_unsigned n p.face.0 c books some) ∙ at)
+
+    -- the face itself
+    pub bare_here : (p : FacePlan) → p.face.0 ≡ n → All (IsBare c.shelf) p.rows → IsBareAt written p
+    bare_here p same bare x at =
+        let found : at_face p.face.0 written ≡ Some c = ap (λ m. at_face m written) same ∙ found_after_write nat_cmp_total exact_unsigned n n c books some ∙ ap (λ t. cond t (Some c) (at_face n books)) itself in
+        let one : c ≡ x = let both : Some c ≡ Some x = sym found ∙ at in cc in
+        subst (λ (y : Book). All (IsBare y.shelf) p.rows) one bare
 
     pub here : (q : List ℕ) → room_at written n q ≡ has_room c.shelf q
     here q = room_written n q ∙ ap (λ x. cond x (has_room c.shelf q) (room_at books n q)) itself

@@ -15,7 +15,7 @@ use Rattle.zq_index.specs.Texts.{at_text, has_text, text_cmp}
 use Rattle.zq_index.proofs.Orders.{text_exact, text_total}
 use Rattle.zq_told.specs.declared.types.ToldEntry.{ToldEntry}
 use Rattle.zq_told.specs.Ears.{Told}
-use Rattle.zq_told.specs.Rooms.{entries_in}
+use Rattle.zq_told.specs.Rooms.{entries_in, is_free}
 use Rattle.zq_told.specs.Telling.{put_row}
 
 abbrev pub Slots : Type 0
@@ -106,8 +106,40 @@ module _ (k : List ℕ) (es : Slots) (s : Sorted es) where
   pub back_sorted : Sorted (remove_entry (is_at (text_cmp k)) es)
   back_sorted = sorted_out text_cmp (is_at (text_cmp k)) es s
 
-  pub back_told : at_text k es ≡ Some None → entries_in (remove_entry (is_at (text_cmp k)) es) ≡ entries_in es
+  back_told : at_text k es ≡ Some None → entries_in (remove_entry (is_at (text_cmp k)) es) ≡ entries_in es
   back_told e = told_same (remove_entry (is_at (text_cmp k)) es) es back_sorted s (λ q. ap inner (found_after_removal text_total text_exact k q es s) ∙ same_at q None (is_at (text_cmp k) q) refl (sym (ap inner e)))
+
+  free_is : (x : Option (Option ToldEntry)) → is_free x ≡ true → x ≡ Some None
+  free_is None e = absurd (true≢false (sym e))
+  free_is (Some None) e = refl
+  free_is (Some (Some t)) e = absurd (true≢false (sym e))
+
+  pub free_told : is_free (at_text k es) ≡ true → entries_in (remove_entry (is_at (text_cmp k)) es) ≡ entries_in es
+  free_told e = back_told (free_is (at_text k es) e)
+
+  back_room : (q : List ℕ) → has_text q (keys_of (remove_entry (is_at (text_cmp k)) es)) ≡ is_some (cond (is_at (text_cmp k) q) None (at_text q es))
+  back_room q = sym (is_some-lookup (is_at (text_cmp q)) (remove_entry (is_at (text_cmp k)) es)) ∙ ap is_some (found_after_removal text_total text_exact k q es s)
+
+  -- no room is left at the key
+  pub back_none : has_text k (keys_of (remove_entry (is_at (text_cmp k)) es)) ≡ false
+  back_none = back_room k ∙ ap (λ b. is_some (cond b None (at_text k es))) (itself k)
+
+  fewer_by : (b : Bool) (x : Option (Option ToldEntry)) → is_some (cond b None x) ≡ true → is_some x ≡ true
+  fewer_by true x e = absurd (true≢false (sym e))
+  fewer_by false x e = e
+
+  -- no room comes elsewhere
+  pub back_fewer : (q : List ℕ) → has_text q (keys_of (remove_entry (is_at (text_cmp k)) es)) ≡ true → has_text q (keys_of es) ≡ true
+  back_fewer q e = sym (room_is q es) ∙ fewer_by (is_at (text_cmp k) q) (at_text q es) (sym (back_room q) ∙ e)
+
+  held_by : (x : Option (Option ToldEntry)) → is_free x ≡ false → is_some x ≡ true → is_some (inner x) ≡ true
+  held_by None f e = absurd (true≢false (sym e))
+  held_by (Some None) f e = absurd (true≢false f)
+  held_by (Some (Some t)) f e = refl
+
+  -- a slot that is not free has an entry
+  pub held : is_free (at_text k es) ≡ false → has_text k (keys_of es) ≡ true → is_some (at_text k (entries_in es)) ≡ true
+  held f e = ap is_some (found_entry k es s) ∙ held_by (at_text k es) f (room_is k es ∙ e)
 
   -- ---- a slot is written
   pub set_sorted : (o : Option ToldEntry) → Sorted (set_value (is_at (text_cmp k)) es o)

@@ -1,8 +1,8 @@
 -- What faces were told, and for which keys there is room.
-use Rattle.std.specs.Prelude.{◌≡◌, ℕ, Bool, true, List, map, Option}
+use Rattle.std.specs.Prelude.{◌≡◌, ℕ, Bool, true, false, List, map, Option, Some, None}
 use Rattle.std.specs.List.{All, filter_map}
 use Rattle.std.specs.Option.{is_some, option_map, option_map_or}
-use Rattle.zq_index.specs.Texts.{has_text}
+use Rattle.zq_index.specs.Texts.{at_text, has_text}
 use Rattle.zq_told.specs.declared.types.ToldEntry.{ToldEntry}
 use Rattle.zq_told.specs.declared.types.FacePlan.{FacePlan}
 use Rattle.zq_told.specs.Ears.{Ear, Ears, Told, at_face}
@@ -49,6 +49,24 @@ HasRooms books p = All (IsRoomy (room_at books p.face.0)) p.rows
 -- each row of the plan has room
 abbrev pub IsReady : List FacePlan → Books → Type 0
 IsReady plan books = All (HasRooms books) plan
+
+-- there is room for the row's key only where something was told of it
+abbrev pub IsBare : Shelf → Row → Type 0
+IsBare s r = has_room s r.0 ≡ true → is_some (at_text r.0 s.told) ≡ true
+
+-- so it is for each row of the face's plan, if the face is there
+abbrev pub IsBareAt : Books → FacePlan → Type 0
+IsBareAt books p = (b : Book) → at_face p.face.0 books ≡ Some b → All (IsBare b.shelf) p.rows
+
+-- so it is for each face of the plan
+abbrev pub AreBare : List FacePlan → Books → Type 0
+AreBare plan books = All (IsBareAt books) plan
+
+-- a slot that is room, and has no entry
+abbrev pub is_free : Option (Option ToldEntry) → Bool
+is_free None = false
+is_free (Some None) = true
+is_free (Some (Some t)) = false
 
 -- a slot: a key's entry, or room for one
 abbrev pub slot_entry : List ℕ × Option ToldEntry → Option (List ℕ × ToldEntry)

@@ -2,7 +2,7 @@
 ghost use Rattle.std.specs.Prelude.{◌≡◌, [], ℕ, List, true, OnOk, fold};
 ghost use Rattle.std.specs.List.{All};
 ghost use Rattle.zq_index.specs.Texts.{at_text};
-ghost use Rattle.zq_told.specs.Rooms.{IsRoomy, has_room};
+ghost use Rattle.zq_told.specs.Rooms.{IsBare, IsRoomy, has_room};
 ghost use Rattle.zq_told.specs.Telling.{put_row};
 
 use crate::slots::Slots;
@@ -63,7 +63,9 @@ fn add_rooms(
 
 /// The rooms of rows are given back.
 fn give_back(slots: &mut Slots, rows: &[(Text, Option<ToldEntry>)])
-    ensures { slots.new.told ≡ slots.old.told }
+    ensures told { slots.new.told ≡ slots.old.told }
+    ensures bare { All (IsBare slots.new) rows.now }
+    ensures fewer { (q : List ℕ) → has_room slots.new q ≡ true → has_room slots.old q ≡ true }
 {
     for (key, _) in rows {
         slots.give_back(key.as_str());
@@ -135,6 +137,8 @@ impl Book {
     pub(crate) fn give_back(&mut self, rows: &[(Text, Option<ToldEntry>)])
         ensures last { self.new.last ≡ self.old.last }
         ensures told { self.new.shelf.told ≡ self.old.shelf.told }
+        ensures bare { All (IsBare self.new.shelf) rows.now }
+        ensures fewer { (q : List ℕ) → has_room self.new.shelf q ≡ true → has_room self.old.shelf q ≡ true }
     {
         give_back(&mut self.slots, rows);
     }

@@ -1,7 +1,7 @@
 //! What all faces were told, as a map of books: one face is planned, given room, and put.
-ghost use Rattle.std.specs.Prelude.{◌≡◌, ℕ, List, true, false, IfOk, OnOk, IsErrOf};
+ghost use Rattle.std.specs.Prelude.{◌≡◌, ℕ, List, true, false, IfOk, OnOk, OnErr, IsErrOf};
 ghost use Rattle.std.specs.List.{list_any};
-ghost use Rattle.zq_told.specs.Rooms.{HasRooms, IsReady, ear_of, ears_of, room_at};
+ghost use Rattle.zq_told.specs.Rooms.{AreBare, HasRooms, IsBareAt, IsReady, ear_of, ears_of, room_at};
 ghost use Rattle.zq_told.specs.Telling.{is_above, lacks_ids, put_face as face_put, put_plan, tell_face, tell_faces, tell_keys, with_account};
 
 use crate::book::Book;
@@ -87,7 +87,9 @@ fn add_face(books: &mut BookMap, alloc: Global, plan: &FacePlan) -> Result<(), O
 
 /// The rooms of a face's plan are given back.
 fn give_back_face(books: &mut BookMap, plan: &FacePlan)
-    ensures { ears_of books.new.entries ≡ ears_of books.old.entries }
+    ensures ears { ears_of books.new.entries ≡ ears_of books.old.entries }
+    ensures bare { IsBareAt books.new.entries plan.now }
+    ensures others { (p : FacePlan) → IsBareAt books.old.entries p → IsBareAt books.new.entries p }
 {
     match books.get_mut(&plan.face.0) {
         Some(book) => book.give_back(plan.rows.as_slice()),
@@ -144,7 +146,8 @@ fn add_faces(books: &mut BookMap, alloc: Global, plan: &[FacePlan]) -> Result<()
 
 /// The rooms of a plan are given back.
 pub(crate) fn give_back_faces(books: &mut BookMap, plan: &[FacePlan])
-    ensures { ears_of books.new.entries ≡ ears_of books.old.entries }
+    ensures ears { ears_of books.new.entries ≡ ears_of books.old.entries }
+    ensures bare { AreBare plan.now books.new.entries }
 {
     for face in plan {
         give_back_face(books, face);
@@ -159,6 +162,7 @@ pub(crate) fn make_room(
 ) -> Result<(), OutOfMemory>
     ensures ears { ears_of books.new.entries ≡ ears_of books.old.entries }
     ensures ready { OnOk result (IsReady plan.now books.new.entries) }
+    ensures bare { OnErr result (AreBare plan.now books.new.entries) }
 {
     match add_faces(books, alloc, plan) {
         Ok(()) => Ok(()),

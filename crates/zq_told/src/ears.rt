@@ -2,7 +2,7 @@
 //! only the last step changes what was told, and it cannot fail.
 ghost use Rattle.std.specs.Prelude.{◌≡◌, [], true, false, IfOk, OnOk, OnErr, IsErrOf};
 ghost use Rattle.zq_told.specs.Ears.{closed, last_at, opened, told_at};
-ghost use Rattle.zq_told.specs.Rooms.{IsReady, ears_of};
+ghost use Rattle.zq_told.specs.Rooms.{AreBare, IsReady, ears_of};
 ghost use Rattle.zq_told.specs.Telling.{lacks_ids, put_plan, tell_faces};
 
 use crate::book::Book;
@@ -89,15 +89,18 @@ impl Ears {
 
     /// The rooms of a plan that is not put are given back.
     pub fn give_back(&mut self, plan: &[FacePlan])
-        ensures { ears_of self.new ≡ ears_of self.old }
+        ensures ears { ears_of self.new ≡ ears_of self.old }
+        ensures bare { AreBare plan.now self.new }
     {
         give_back_faces(&mut self.books, plan);
     }
 
-    /// Room for what a plan tells, so that it can be put. Nothing else changes.
+    /// Room for what a plan tells, so that it can be put. Nothing else changes; where memory is lacking,
+    /// the room that was made is given back.
     pub fn make_room(&mut self, alloc: Global, plan: &[FacePlan]) -> Result<(), OutOfMemory>
         ensures ears { ears_of self.new ≡ ears_of self.old }
         ensures ready { OnOk result (IsReady plan.now self.new) }
+        ensures bare { OnErr result (AreBare plan.now self.new) }
     {
         make_room(&mut self.books, alloc, plan)?;
         Ok(())
@@ -107,7 +110,8 @@ impl Ears {
     /// There is room for it, and it takes no memory.
     pub fn put(&mut self, plan: &[FacePlan])
         requires { IsReady plan.now self.old }
-        ensures { ears_of self.new ≡ put_plan plan.now (ears_of self.old) }
+        ensures ears { ears_of self.new ≡ put_plan plan.now (ears_of self.old) }
+        ensures bare { AreBare plan.now self.new }
     {
         put_faces(&mut self.books, plan);
         give_back_faces(&mut self.books, plan);

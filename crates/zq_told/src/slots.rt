@@ -4,7 +4,7 @@ ghost use Rattle.std.specs.Prelude.{◌≡◌, [], ℕ, List, true, None, Some, 
 ghost use Rattle.std.specs.Map.{remove_entry, set_value};
 ghost use Rattle.std.specs.BTreeMap.{insert_entry, is_at};
 ghost use Rattle.zq_index.specs.Texts.{at_text, text_cmp, texts_of};
-ghost use Rattle.zq_told.specs.Rooms.{IsRoomy, has_room};
+ghost use Rattle.zq_told.specs.Rooms.{IsRoomy, has_room, is_free};
 ghost use Rattle.zq_told.specs.Telling.{put_row};
 
 use crate::types::ToldEntry;
@@ -45,7 +45,7 @@ fn slot_at(slots: &SlotMap, key: &str) -> Option<Option<ToldEntry>>
 
 /// Whether there is room at the key, and no entry.
 fn is_room(slots: &SlotMap, key: &str) -> bool
-    ensures { result ≡ true → at_text key.now (texts_of slots.now.entries) ≡ Some None }
+    ensures { result ≡ is_free (at_text key.now (texts_of slots.now.entries)) }
 {
     match slot_at(slots, key) {
         Some(None) => true,
@@ -122,7 +122,9 @@ impl Slots {
 
     /// The key's room is given back, if it is one.
     pub(crate) fn give_back(&mut self, key: &str)
-        ensures { self.new.told ≡ self.old.told }
+        ensures told { self.new.told ≡ self.old.told }
+        ensures bare { has_room self.new key.now ≡ true → is_some (at_text key.now self.new.told) ≡ true }
+        ensures fewer { (q : List ℕ) → has_room self.new q ≡ true → has_room self.old q ≡ true }
     {
         if is_room(&self.slots, key) {
             remove_slot(&mut self.slots, key);
