@@ -51,11 +51,11 @@ use Rattle.zq_machine.proofs.Hats.{accepted_hats, bare}
 use Rattle.zq_machine.proofs.Worded.{Any, Each, IsKey, IsUsed, IsWorded, each_found}
 
 -- ---- information that may go, and comes from nowhere
-abbrev Info : Type 0
+abbrev pub Info : Type 0
 Info = Option QueryableInfoType
 
 -- where there is the one there is the other
-abbrev IsLess : Info → Info → Type 0
+abbrev pub IsLess : Info → Info → Type 0
 IsLess i j = is_some i ≡ true → is_some j ≡ true
 
 some_joined : (a b : Info) → is_some (joined a b) ≡ (is_some a || is_some b)
@@ -352,7 +352,7 @@ module _ (face : ℕ) (key : List ℕ) where
 
 -- ---- an accepted call at a point of a run, and a face that is open before it
 -- the call declares or announces
-abbrev brings : TextCall → Bool
+abbrev pub brings : TextCall → Bool
 brings (declaring face id sd i node) = true
 brings (announcing face sd i node) = true
 brings t = false
@@ -364,7 +364,8 @@ module _ (config : Settings) (s : State) (i : InOrder config s) (ints : Interest
   not_next : face ≡ s.core.next_face → ⊥
   not_next same = false≢true (sym (ap is_some (ap (λ n. at n s.core.faces) same ∙ next_absent s i.sound)) ∙ opens)
 
-  faces_kept : (t : TextCall) → is_open face (accepted s.core t) ≡ true → at face (accepted s.core t).faces ≡ at face s.core.faces
+  -- a face that stays open is open as it was
+  pub faces_kept : (t : TextCall) → is_open face (accepted s.core t) ≡ true → at face (accepted s.core t).faces ≡ at face s.core.faces
   faces_kept (opening o) still = by (is_at (nat_cmp s.core.next_face) face) refl
     where
       found : at face (insert_entry nat_cmp s.core.faces s.core.next_face (opened o)) ≡ cond (is_at (nat_cmp s.core.next_face) face) (Some (opened o)) (at face s.core.faces)
@@ -383,7 +384,8 @@ module _ (config : Settings) (s : State) (i : InOrder config s) (ints : Interest
       by false is = found ∙ ap (λ b. cond b None (at face s.core.faces)) is
   faces_kept t still = refl
 
-  listens_kept : (t : TextCall) → is_open face (accepted s.core t) ≡ true → listens (accepted s.core t) ints face key ≡ listens s.core ints face key
+  -- and listens on the same keys
+  pub listens_kept : (t : TextCall) → is_open face (accepted s.core t) ≡ true → listens (accepted s.core t) ints face key ≡ listens s.core ints face key
   listens_kept t still =
       same_listens face key ints s.core (accepted s.core t) (faces_kept t still)
       (λ k. (accepted_hats config.start.told (first_hats config) s.core i.hats t).shape k ∙ sym (i.hats.shape k))
@@ -402,7 +404,8 @@ module _ (config : Settings) (s : State) (i : InOrder config s) (ints : Interest
   opening_off true e = absurd (not_next (eqb-true face s.core.next_face e))
   opening_off false e = refl
 
-  accepted_less : (t : TextCall) → refusal_of s.core t ≡ None → brings t ≡ false → IsLess (due (accepted s.core t) ints face key) (due s.core ints face key)
+  -- but by what declares or announces, nothing becomes due to it
+  pub accepted_less : (t : TextCall) → refusal_of s.core t ≡ None → brings t ≡ false → IsLess (due (accepted s.core t) ints face key) (due s.core ints face key)
   accepted_less (declaring g id sd info node) h b = absurd (true≢false b)
   accepted_less (announcing g sd info node) h b = absurd (true≢false b)
   accepted_less (opening o) h b = kept_less (opening o) h (opening_off (face == s.core.next_face) refl)
@@ -415,7 +418,7 @@ module _ (config : Settings) (s : State) (i : InOrder config s) (ints : Interest
   accepted_less t h b = kept_less t h refl
 
 -- a call that declares nothing brings nothing
-read_brings : (s : State) (c : Call) → declares c ≡ false → brings (read s c) ≡ false
+pub read_brings : (s : State) (c : Call) → declares c ≡ false → brings (read s c) ≡ false
 read_brings s (call.DeclareQueryable g id wire info node) e = absurd (true≢false e)
 read_brings s (call.UndeclareQueryable g id wire node) e = by (by_router g s.core)
   where
