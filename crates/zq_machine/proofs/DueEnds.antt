@@ -1,27 +1,37 @@
--- To a face that is not open nothing is due; on which keys an interest is looked at; and the end of one changes what is due on those alone, as one that comes takes nothing away.
-use Rattle.std.proofs.Common.{◌≡◌, ◌∙◌, refl, sym, ap, ℕ, Bool, true, false, cond, eq-eqb, List, [], ◌∷◌, Option, Some, None}
-use Rattle.std.specs.Prelude.{◌==◌, ◌&&◌, ◌||◌}
+-- To a face that is not open nothing is due; on which keys a call and an interest are looked at; what stands of interests where one comes or ends; and the end of one changes what is due on those alone, as one that comes takes nothing away.
+use Rattle.std.proofs.Common.{◌≡◌, ◌∙◌, refl, sym, ap, ℕ, Bool, true, false, cond, eq-eqb, eqb-true, List, [], ◌∷◌, fold, Option, Some, None}
+use Rattle.std.specs.Prelude.{◌==◌, ◌≢◌, ◌&&◌, ◌||◌}
 use Rattle.std.specs.BTreeMap.{insert_entry, is_at}
+use Rattle.std.specs.BTreeSet.{insert_key}
 use Rattle.std.specs.List.{list_any}
-use Rattle.std.specs.Map.{remove_entry}
+use Rattle.std.specs.List.Sorted.{IsStrictlySortedBy}
+use Rattle.std.specs.Map.{keys_of, remove_entry}
 use Rattle.std.specs.Option.{is_some, option_and_then, option_map_or}
 use Rattle.std.specs.Ordering.{is_eq, match_ordering, nat_cmp}
 use Rattle.std.specs.Str.{bytes_eq}
 use Rattle.std.specs.declared.cmp.Ordering.{Ordering}
 use Rattle.std.specs.declared.cmp.Ordering.TheVariants.{Less, Equal, Greater}
+use Rattle.std.proofs.Math.Bool.{or-false}
 use Rattle.std.proofs.lemmas.Bool.{false≢true, true≢false}
+use Rattle.std.proofs.lemmas.Cmp.{nat_cmp_total}
+use Rattle.std.proofs.lemmas.Map.Lookups.{exact_unsigned}
 use Rattle.std.proofs.lemmas.Map.Views.{any-filter_same}
 use Rattle.std.proofs.lemmas.Option.{same_Some}
 use Rattle.std.proofs.lemmas.Slice.Eq.{bytes_eq-Decides}
 use Rattle.zq_key.specs.Key.{intersects}
+use Rattle.zq_key.proofs.Lookups.{found_after_insertion, found_after_removal}
+use Rattle.zq_index.specs.Texts.{text_cmp}
 use Rattle.zq_hat.specs.declared.types.InterestEntry.{InterestEntry}
+use Rattle.zq_machine.specs.declared.call.Opening.{Opening}
 use Rattle.zq_machine.specs.declared.face.OpenFace.{OpenFace}
-use Rattle.zq_machine.specs.Due.{Interests, ask_touched, asks_for, due, due_keys, heard_as, interests_of, listens_in, meets, met_keys, wants, with_interest, without_interest}
+use Rattle.zq_machine.specs.Due.{Interests, ask_touched, asks_for, due, due_keys, heard_as, interests_of, is_due_touched, listens_in, meets, met_keys, wants, with_interest, without_interest}
 use Rattle.zq_machine.specs.State.{Core, at, hat_at, is_open}
-use Rattle.zq_machine.proofs.Changing.{one_number}
+use Rattle.zq_machine.specs.TextCalls.{TextCall, opening}
+use Rattle.zq_machine.specs.Trees.{is_touched, touched}
+use Rattle.zq_machine.proofs.Changing.{number_test, one_number}
 use Rattle.zq_machine.proofs.DueAlone.{interests_alone}
 use Rattle.zq_machine.proofs.DueAsked.{asked_less, due_asking, listed, listed_at, with_one, without_one}
-use Rattle.zq_machine.proofs.DueKeys.{Absent, among, nothing_due}
+use Rattle.zq_machine.proofs.DueKeys.{Absent, all_put, among, is_among, nothing_due}
 
 -- ---- a face that is not open
 pub closed_undue : (c : Core) (ints : Interests) (face : ℕ) (key : List ℕ) → is_open face c ≡ false → due c ints face key ≡ None
@@ -30,6 +40,27 @@ closed_undue c ints face key shut = by (at face c.faces) shut
     by : (o : Option OpenFace) → is_some o ≡ false → cond (option_map_or (listens_in ints face key) (option_and_then (λ (p : OpenFace). hat_at p.region c.hats) o) false) (option_and_then (heard_as face key c.hats) o) None ≡ None
     by None gone = refl
     by (Some o) gone = absurd (true≢false gone)
+
+-- ---- the keys on which a call is looked at: of an opening all at the new face, of another call those that it touches
+touched_in : (c : Core) (t : TextCall) (key : List ℕ) → list_any (λ k. bytes_eq k key) (fold (insert_key text_cmp) [] (touched c t)) ≡ is_touched c t key
+touched_in c t key =
+    among key (fold (insert_key text_cmp) [] (touched c t))
+    ∙ all_put key [] (touched c t)
+    ∙ or-false (is_among key (touched c t))
+    ∙ sym (among key (touched c t))
+
+pub touched_exactly : (c : Core) (t : TextCall) (face : ℕ) (key : List ℕ)
+    → ((o : Opening) → is_due_touched c (opening o) face key ≡ ((face == c.next_face) && list_any (λ k. bytes_eq k key) (due_keys c)))
+    × (((o : Opening) → t ≢ opening o) → is_due_touched c t face key ≡ is_touched c t key)
+touched_exactly c t face key = (λ o. at_new (face == c.next_face), others t)
+  where
+    at_new : (b : Bool) → list_any (λ k. bytes_eq k key) (cond b (due_keys c) []) ≡ (b && list_any (λ k. bytes_eq k key) (due_keys c))
+    at_new true = refl
+    at_new false = refl
+
+    others : (t : TextCall) → ((o : Opening) → t ≢ opening o) → is_due_touched c t face key ≡ is_touched c t key
+    others (opening o) other = absurd (other o refl)
+    others t other = touched_in c t key
 
 -- ---- the keys on which an interest is looked at: at its face those of regions that it meets
 pub asked_exactly : (c : Core) (asker : ℕ) (asked : Option (List ℕ)) (face : ℕ) (key : List ℕ)
@@ -47,6 +78,34 @@ off_all c asker asked face key here on off =
     ∙ (λ j. sym (eq-eqb face asker (sym here)) j && (sym on j && list_any (λ k. bytes_eq k key) (due_keys c)))
     ∙ sym (asked_exactly c asker asked face key)
     ∙ off
+
+-- ---- what stands of interests where one comes or ends
+module _ (ints : Interests) (asker id face other : ℕ) where
+  found_with : (asked : InterestEntry) → at other (interests_of face (with_interest asker id asked ints)) ≡ cond ((asker == face) && (id == other)) (Some asked) (at other (interests_of face ints))
+  found_with asked =
+      ap (at other) (listed_at ints asker (with_one asker id asked ints) face ∙ ap (listed ints asker (with_one asker id asked ints) face) (number_test asker face))
+      ∙ by (asker == face) refl
+    where
+      by : (b : Bool) → (asker == face) ≡ b → at other (listed ints asker (with_one asker id asked ints) face b) ≡ cond (b && (id == other)) (Some asked) (at other (interests_of face ints))
+      by true is =
+          found_after_insertion nat_cmp_total exact_unsigned id other asked (interests_of asker ints)
+          ∙ (λ j. cond (number_test id other j) (Some asked) (at other (interests_of (eqb-true asker face is j) ints)))
+      by false is = refl
+
+  found_without : IsStrictlySortedBy nat_cmp (keys_of (interests_of asker ints)) → at other (interests_of face (without_interest asker id ints)) ≡ cond ((asker == face) && (id == other)) None (at other (interests_of face ints))
+  found_without sorted =
+      ap (at other) (listed_at ints asker (without_one asker id ints) face ∙ ap (listed ints asker (without_one asker id ints) face) (number_test asker face))
+      ∙ by (asker == face) refl
+    where
+      by : (b : Bool) → (asker == face) ≡ b → at other (listed ints asker (without_one asker id ints) face b) ≡ cond (b && (id == other)) None (at other (interests_of face ints))
+      by true is =
+          found_after_removal nat_cmp_total exact_unsigned id other (interests_of asker ints) sorted
+          ∙ (λ j. cond (number_test id other j) None (at other (interests_of (eqb-true asker face is j) ints)))
+      by false is = refl
+
+  pub interests_change : ((asked : InterestEntry) → at other (interests_of face (with_interest asker id asked ints)) ≡ cond ((asker == face) && (id == other)) (Some asked) (at other (interests_of face ints)))
+      × (IsStrictlySortedBy nat_cmp (keys_of (interests_of asker ints)) → at other (interests_of face (without_interest asker id ints)) ≡ cond ((asker == face) && (id == other)) None (at other (interests_of face ints)))
+  interests_change = (found_with, found_without)
 
 -- ---- whether some interest asks for a key
 or_right : (a b : Bool) → b ≡ true → (a || b) ≡ true

@@ -1,7 +1,10 @@
 //! Laws of what the gateway decides and keeps, as the contracts of calls.
-ghost use Rattle.std.specs.Prelude.{◌≡◌, ◌≢◌, ◌==◌, ◌&&◌, ℕ, List, [], Option, Some, None, false, true};
+ghost use Rattle.std.specs.Prelude.{◌≡◌, ◌≢◌, ◌==◌, ◌&&◌, ℕ, List, [], Option, Some, None, false, true, if◌then◌else◌};
 ghost use Rattle.std.specs.List.{AllByRecursion, list_any};
+ghost use Rattle.std.specs.List.Sorted.{IsStrictlySortedBy};
+ghost use Rattle.std.specs.Map.{keys_of};
 ghost use Rattle.std.specs.Option.{is_some, option_map_or};
+ghost use Rattle.std.specs.Ordering.{nat_cmp};
 ghost use Rattle.std.specs.Str.{bytes_eq};
 ghost use Rattle.zq_hat.specs.Moved.{Keeps};
 ghost use Rattle.zq_hat.specs.Regions.{is_north, strategy_at};
@@ -24,7 +27,7 @@ ghost use Rattle.zq_machine.specs.Due.{Interests, KeysRise, ask_touched, due, du
 ghost use Rattle.zq_machine.specs.DueAlike.{DueAlike};
 ghost use Rattle.zq_machine.specs.Headline.{RunPromise};
 ghost use Rattle.zq_machine.specs.Machine.{after, state_after};
-ghost use Rattle.zq_machine.specs.TextCalls.{read};
+ghost use Rattle.zq_machine.specs.TextCalls.{TextCall, opening, read};
 ghost use Rattle.zq_machine.specs.Trees.{is_touched, own_entry};
 ghost use Rattle.zq_machine.specs.Moved.{DecidesAlike};
 ghost use Rattle.zq_tables.specs.Naming.{NamingState};
@@ -95,6 +98,13 @@ pub fn none_missed()
     ensures { (config : Settings) (calls : List Call) (o : Opening) (ints : Interests) (key : List ℕ) → is_some (due (after (state_after (opening_state config) calls) (call.Open o)).core ints (state_after (opening_state config) calls).core.next_face key) ≡ true → is_due_touched (state_after (opening_state config) calls).core (read (state_after (opening_state config) calls) (call.Open o)) (state_after (opening_state config) calls).core.next_face key ≡ true }
 {}
 
+/// The keys that a call touches at a face are: of an opening, at the new face all on which regions
+/// have information, at others none; of any other call those on which it may change what a region
+/// has.
+pub fn touched_exactly()
+    ensures { (c : Core) (t : TextCall) (face : ℕ) (key : List ℕ) → ((o : Opening) → is_due_touched c (opening o) face key ≡ ((face == c.next_face) && list_any (λ k. bytes_eq k key) (due_keys c))) × (((o : Opening) → t ≢ opening o) → is_due_touched c t face key ≡ is_touched c t key) }
+{}
+
 /// But by a declaration, nothing becomes due to a face that is open.
 pub fn less_due()
     ensures { (config : Settings) (calls : List Call) (c : Call) (ints : Interests) (face : ℕ) (key : List ℕ) → declares c ≡ false → is_open face (state_after (opening_state config) calls).core ≡ true → is_some (due (after (state_after (opening_state config) calls) c).core ints face key) ≡ true → is_some (due (state_after (opening_state config) calls).core ints face key) ≡ true }
@@ -122,6 +132,12 @@ pub fn keys_ordered()
 #[tactic(auto, using(crate::proofs::DueAlone::interests_alone))]
 pub fn interests_alone()
     ensures { (c : Core) (ints others : Interests) (face : ℕ) (key : List ℕ) → interests_of face ints ≡ interests_of face others → due c ints face key ≡ due c others face key }
+{}
+
+/// An interest that comes stands under its id at its face, one that ends stands there no more, and
+/// each other stands as it did.
+pub fn interests_change()
+    ensures { (ints : Interests) (asker id face other : ℕ) → ((asked : InterestEntry) → at other (interests_of face (with_interest asker id asked ints)) ≡ (if (asker == face) && (id == other) then Some asked else at other (interests_of face ints))) × (IsStrictlySortedBy nat_cmp (keys_of (interests_of asker ints)) → at other (interests_of face (without_interest asker id ints)) ≡ (if (asker == face) && (id == other) then None else at other (interests_of face ints))) }
 {}
 
 /// What a face comes to ask, in the place of nothing or of what asks for the same, changes what is
