@@ -1,24 +1,25 @@
 -- The laws of what faces are told, at every point of every run.
-use Rattle.std.proofs.Common.{◌≡◌, ◌∙◌, refl, sym, ap, ℕ, Bool, true, false, cond, true≢false, List, [], Some, None}
+use Rattle.std.proofs.Common.{◌≡◌, ◌∙◌, refl, sym, ap, ℕ, true, false, cond, true≢false, List, [], Some, None}
+use Rattle.std.specs.Option.{is_some}
 use Rattle.zq_hat.specs.declared.types.InterestEntry.{InterestEntry}
 use Rattle.zq_told.specs.declared.types.Way.TheVariants.{Answering, Ending}
 use Rattle.zq_told.specs.Ears.{Ears}
 use Rattle.zq_told.specs.Receiver.{Heard}
-use Rattle.zq_told.specs.Leaving.{HaveIds, fresh_ear}
+use Rattle.zq_told.specs.Leaving.{fresh_ear}
 use Rattle.zq_told.proofs.Faces.{stay_sound}
 use Rattle.zq_machine.specs.declared.call.Call.{Call}
 use Rattle.zq_machine.specs.declared.call.Call.TheVariants as call
 use Rattle.zq_machine.specs.declared.call.Opening.{Opening}
-use Rattle.zq_machine.specs.Calls.{declares}
 use Rattle.zq_machine.specs.Configs.{Settings}
 use Rattle.zq_machine.specs.Deciding.{is_accepted}
 use Rattle.zq_machine.specs.Due.{Interests, due, heard as heard_there, interests_of, with_interest, without_interest}
-use Rattle.zq_machine.specs.Machine.{after, state_after, step}
-use Rattle.zq_machine.specs.Neighbours.{AllHear, AllTold, AskingTold, EndingTold, FaceTold, Hears, asked_at, ended_at, makes_due, neighbours_lack, with_new}
+use Rattle.zq_machine.specs.Machine.{after, settle, state_after, step}
+use Rattle.zq_machine.specs.Neighbours.{AllTold, AskingTold, EndingTold, FaceTold, Hears, asked_at, ended_at, makes_due}
 use Rattle.zq_machine.specs.State.{Core, State, at, is_open, opening_state}
-use Rattle.zq_machine.specs.TextCalls.{by_router, opening, read, retracting, said_or_none, withdrawing}
+use Rattle.zq_machine.specs.TextCalls.{TextCall, announcing, declaring, opening, read}
 use Rattle.zq_machine.proofs.Agreed.{InOrder as Kept, next_absent, run_in_order}
-use Rattle.zq_machine.proofs.DueLess.{less_due, listens_stay}
+use Rattle.zq_machine.proofs.DueLess.{accepted_less, brings, listens_stay}
+use Rattle.zq_machine.proofs.Granted.{by_granted}
 use Rattle.zq_machine.proofs.NeighbourAll.{all_hear, closed_untold, ears_sound, told_ordered}
 use Rattle.zq_machine.proofs.NeighbourAsked.{asker_ended, asker_told, lacks_asked, none_lack, others_asked, others_ended, others_untold, untold}
 use Rattle.zq_machine.proofs.NeighbourIds.{enough, lacks_are, opens}
@@ -52,6 +53,20 @@ module _ (config : Settings) (calls : List Call) where
       }
 
   -- ---- all faces
+  no_opening : (t : TextCall) → makes_due t ≡ false → opens t ≡ false
+  no_opening (opening o) e = absurd (true≢false e)
+  no_opening t e = refl
+
+  no_bringing : (t : TextCall) → makes_due t ≡ false → brings t ≡ false
+  no_bringing (declaring face id sd info node) e = absurd (true≢false e)
+  no_bringing (announcing face sd info node) e = absurd (true≢false e)
+  no_bringing t e = refl
+
+  settled_less : (t : TextCall) (ints : Interests) (face : ℕ) (key : List ℕ) → makes_due t ≡ false → is_open face s.core ≡ true → is_some (due (settle s t).core ints face key) ≡ true → is_some (due s.core ints face key) ≡ true
+  settled_less t ints face key none was =
+      by_granted (λ z x. is_some (due x.core ints face key) ≡ true → is_some (due s.core ints face key) ≡ true) s t
+      (λ h. accepted_less config s i ints face key was t h (no_bringing t none)) (λ r some. some)
+
   pub all_told : (c : Call) (ints : Interests) (ears : Ears) → AllTold s.core (after s c).core ints (read s c) ears
   all_told c ints ears = record {
     ordered = told_ordered config s i (read s c) ints ears;
@@ -59,26 +74,10 @@ module _ (config : Settings) (calls : List Call) where
     sound = λ low a enough. ears_sound config s i (read s c) ints ears low a enough;
     hear = λ all. all_hear config s i (read s c) ints ears (λ face was seen key. listens_stay config calls c ints face key was seen) all;
     lacks = λ all ids. lacks_are config s i ints ears (read s c) all (λ face was seen key. listens_stay config calls c ints face key was seen) ids;
+    enough = λ none all ids.
+        enough config s i ints ears (read s c) all (λ face was seen key. listens_stay config calls c ints face key was seen) ids (no_opening (read s c) none)
+        (λ face key was. settled_less (read s c) ints face key none was);
   }
-
-  no_opening : (c : Call) → makes_due c ≡ false → opens (read s c) ≡ false
-  no_opening (call.Open o) e = absurd (true≢false e)
-  no_opening (call.DeclareQueryable face id wire info node) e = absurd (true≢false e)
-  no_opening (call.UndeclareQueryable face id wire node) e = by (by_router face s.core)
-    where
-      by : (b : Bool) → opens (cond b (retracting face (said_or_none face wire s) node) (withdrawing face id)) ≡ false
-      by true = refl
-      by false = refl
-  no_opening c e = refl
-
-  no_declaration : (c : Call) → makes_due c ≡ false → declares c ≡ false
-  no_declaration (call.DeclareQueryable face id wire info node) e = absurd (true≢false e)
-  no_declaration c e = refl
-
-  pub lacks_none : (c : Call) (ints : Interests) (ears : Ears) → makes_due c ≡ false → AllHear s.core ints ears → HaveIds (with_new s.core (read s c) ears) → neighbours_lack s.core (after s c).core ints (read s c) ears ≡ false
-  lacks_none c ints ears none all ids =
-      enough config s i ints ears (read s c) all (λ face was seen key. listens_stay config calls c ints face key was seen) ids (no_opening c none)
-      (λ face key was. less_due config calls c ints face key (no_declaration c none) was)
 
 -- ---- an interest, and its end
 module _ (c : Core) (ints : Interests) (ears : Ears) (asker id : ℕ) (asked : InterestEntry) where

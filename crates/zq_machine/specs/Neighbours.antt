@@ -16,11 +16,9 @@ use Rattle.zq_told.specs.Telling.{KeyDue, lacks_ids, tell_due, tell_faces}
 use Rattle.zq_told.specs.Receiver.{Heard, Tied, heard_after, memory_of, receive}
 use Rattle.zq_told.specs.Laws.{InOrder, differs, is_to, told_in, told_info}
 use Rattle.zq_told.specs.Leaving.{AreSound, HaveIds, is_too_great}
-use Rattle.zq_machine.specs.declared.call.Call.{Call}
-use Rattle.zq_machine.specs.declared.call.Call.TheVariants as call
 use Rattle.zq_machine.specs.Due.{Interests, due, due_keys, due_touched, listens, meets, met_keys}
 use Rattle.zq_machine.specs.State.{Core, is_open}
-use Rattle.zq_machine.specs.TextCalls.{TextCall, closing, opening}
+use Rattle.zq_machine.specs.TextCalls.{TextCall, announcing, closing, declaring, opening}
 
 -- ---- what is looked at
 
@@ -145,10 +143,11 @@ abbrev pub lacks_at : Core → Interests → Ears → ℕ → Bool
 lacks_at c ints ears face = option_map_or (λ (e : Ear). is_too_great (e.last + length (filter (is_news c ints face e) (due_keys c)))) (at_face face ears) false
 
 -- a call that may make something newly due: one that opens a face, or declares
-abbrev pub makes_due : Call → Bool
-makes_due (call.Open o) = true
-makes_due (call.DeclareQueryable face id wire info node) = true
-makes_due c = false
+abbrev pub makes_due : TextCall → Bool
+makes_due (opening o) = true
+makes_due (declaring face id s info node) = true
+makes_due (announcing face s info node) = true
+makes_due t = false
 
 -- ---- the laws
 
@@ -157,13 +156,14 @@ pub record FaceTold (before after : Core) (ints : Interests) (t : TextCall) (ear
   pub keeps : Hears after ints (ears_after before after ints t ears) face (heard_over before after ints t ears face heard)
   pub exactly : (keys : List (List ℕ)) → HaveChanges after ints face ear keys → told_in Unasked face ear (map (due_on after ints face) keys) ≡ filter (is_to face) (neighbours_told before after ints t ears)
 
--- such a call, and all faces: what is told stands in order of faces and keys, and is told to open faces alone; what is kept of faces stays sound, and what receivers keep stays due; ids lack exactly where they lack to some open face
+-- such a call, and all faces: what is told stands in order of faces and keys, and is told to open faces alone; what is kept of faces stays sound, and what receivers keep stays due; ids lack exactly where they lack to some open face, and never to a call that opens no face and declares nothing
 pub record AllTold (before after : Core) (ints : Interests) (t : TextCall) (ears : Ears) : Type 0 where
   pub ordered : IsStrictlySortedBy telling_cmp (neighbours_told before after ints t ears)
   pub silent : (face : ℕ) → is_open face after ≡ false → filter (is_to face) (neighbours_told before after ints t ears) ≡ []
   pub sound : before.config.start.told < 2 ^ 32 → AreSound ears → neighbours_lack before after ints t ears ≡ false → AreSound (ears_after before after ints t ears)
   pub hear : AllHear before ints ears → AllHear after ints (ears_after before after ints t ears)
   pub lacks : AllHear before ints ears → HaveIds (with_new before t ears) → neighbours_lack before after ints t ears ≡ list_any (λ o. lacks_at after ints (with_new before t ears) o.0) after.faces
+  pub enough : makes_due t ≡ false → AllHear before ints ears → HaveIds (with_new before t ears) → neighbours_lack before after ints t ears ≡ false
 
 -- an interest, by the interests before and after it: it tells its asker alone, whose receiver keeps what is due then; other faces' receivers keep what they kept; what is kept of faces stays sound, and ids lack exactly where they lack to the asker
 pub record AskingTold (c : Core) (ints more : Interests) (ears : Ears) (asker : ℕ) (asked : InterestEntry) : Type 0 where

@@ -1,9 +1,9 @@
 //! Laws of what faces outside regions of routers are told: after every call it is what is due to them.
-ghost use Rattle.std.specs.Prelude.{◌≡◌, ℕ, List, [], Some, true, false};
+ghost use Rattle.std.specs.Prelude.{◌≡◌, ℕ, List, [], Some, true};
 ghost use Rattle.std.specs.Option.{option_to_list};
 ghost use Rattle.zq_hat.specs.declared.types.InterestEntry.{InterestEntry};
 ghost use Rattle.zq_told.specs.Ears.{Ears};
-ghost use Rattle.zq_told.specs.Leaving.{HaveIds, fresh_ear};
+ghost use Rattle.zq_told.specs.Leaving.{fresh_ear};
 ghost use Rattle.zq_told.specs.Receiver.{Heard, heard_on};
 ghost use Rattle.zq_machine.specs.declared.call.Call.{Call};
 ghost use Rattle.zq_machine.specs.declared.call.Call.TheVariants as call;
@@ -12,7 +12,7 @@ ghost use Rattle.zq_machine.specs.Configs.{Settings};
 ghost use Rattle.zq_machine.specs.Deciding.{is_accepted};
 ghost use Rattle.zq_machine.specs.Due.{Interests, due, interests_of, with_interest, without_interest};
 ghost use Rattle.zq_machine.specs.Machine.{after, state_after, step};
-ghost use Rattle.zq_machine.specs.Neighbours.{AllHear, AllTold, AskingTold, EndingTold, FaceTold, Hears, makes_due, neighbours_lack, with_new};
+ghost use Rattle.zq_machine.specs.Neighbours.{AllTold, AskingTold, EndingTold, FaceTold, Hears};
 ghost use Rattle.zq_machine.specs.State.{Core, State, at, is_open, opening_state};
 ghost use Rattle.zq_machine.specs.TextCalls.{read};
 
@@ -38,14 +38,10 @@ pub fn opening_told()
 /// What a call tells all faces stands in order, and is told to open faces alone; what is kept of faces
 /// stays sound; each open face has a receiver that keeps what is due to it, if each had before; and
 /// ids lack exactly where they lack to some open face: where its last id and the number of all keys
-/// newly due to it lead above those of 32 bits.
+/// newly due to it lead above those of 32 bits, and so never to a call that opens no face and declares
+/// nothing.
 pub fn all_told()
     ensures { (config : Settings) (calls : List Call) → let s : State = state_after (opening_state config) calls in (c : Call) (ints : Interests) (ears : Ears) → AllTold s.core (after s c).core ints (read s c) ears }
-{}
-
-/// To a call that opens no face and declares nothing no ids lack.
-pub fn lacks_none()
-    ensures { (config : Settings) (calls : List Call) → let s : State = state_after (opening_state config) calls in (c : Call) (ints : Interests) (ears : Ears) → makes_due c ≡ false → AllHear s.core ints ears → HaveIds (with_new s.core (read s c) ears) → neighbours_lack s.core (after s c).core ints (read s c) ears ≡ false }
 {}
 
 /// An interest, in the place of none or of one that asks for the same, tells its face alone: a
