@@ -67,3 +67,4 @@ pub mod NeighbourTells
 pub mod NeighbourIds
 pub mod NeighbourAll
 pub mod NeighbourLaws
+pub mod NeighbourMoved

@@ -19,5 +19,5 @@ pub mod Headline
 pub mod Moved
 pub mod Agreeing
 pub mod Due
-pub mod DueAlike
 pub mod Neighbours
+pub mod DueAlike

@@ -217,8 +217,8 @@ pub fn south_unasked()
     ensures { (c : Core) (ints : Interests) (face : ℕ) (key : List ℕ) (h : HatState) → hat_of face c ≡ Some h → is_north h.region ≡ false → interests_of face ints ≡ [] → due c ints face key ≡ None }
 {}
 
-/// What is due moves with its texts, by every map that keeps how they relate.
-#[tactic(auto, using(crate::proofs::DuesMoved::due_alike))]
+/// What is due moves with its texts, by every map that keeps how they relate; and what faces are told
+/// of it moves along.
 pub fn due_alike()
     ensures { (φ : List ℕ → List ℕ) → Keeps φ → DueAlike φ }
 {}
