@@ -63,6 +63,7 @@ pub mod DuesMoved
 pub mod NeighbourDues
 pub mod NeighbourTold
 pub mod NeighbourAsked
+pub mod NeighbourAnswers
 pub mod NeighbourTells
 pub mod NeighbourIds
 pub mod NeighbourAll

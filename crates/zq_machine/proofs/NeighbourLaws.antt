@@ -21,6 +21,7 @@ use Rattle.zq_machine.proofs.Agreed.{InOrder as Kept, next_absent, run_in_order}
 use Rattle.zq_machine.proofs.DueLess.{accepted_less, brings, listens_stay}
 use Rattle.zq_machine.proofs.Granted.{by_granted}
 use Rattle.zq_machine.proofs.NeighbourAll.{all_hear, closed_untold, ears_sound, told_ordered}
+use Rattle.zq_machine.proofs.NeighbourAnswers.{drops_none}
 use Rattle.zq_machine.proofs.NeighbourAsked.{asker_ended, asker_told, lacks_asked, none_lack, others_asked, others_ended, others_untold, untold}
 use Rattle.zq_machine.proofs.NeighbourIds.{enough, lacks_are, opens}
 use Rattle.zq_machine.proofs.NeighbourTells.{tells_exactly}
@@ -84,6 +85,7 @@ module _ (c : Core) (ints : Interests) (ears : Ears) (asker id : ℕ) (asked : I
   pub asking_keeps : ((old : InterestEntry) → at id (interests_of asker ints) ≡ Some old → old.key ≡ asked.key) → AskingTold c ints (with_interest asker id asked ints) ears asker asked
   asking_keeps same = record {
     own = λ heard h. asker_told c ints ears asker id asked same heard h;
+    drops = λ heard h. drops_none c ints ears asker id asked same heard h;
     others = λ face ne heard h. others_asked c ints ears asker id asked same face ne heard h;
     silent = λ face ne. others_untold c ints ears asker id asked same face ne;
     sound = λ a enough. stay_sound.tells Answering ears (asked_at c (with_interest asker id asked ints) asker asked) enough a;

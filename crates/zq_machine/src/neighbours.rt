@@ -45,14 +45,15 @@ pub fn all_told()
 {}
 
 /// An interest, in the place of none or of one that asks for the same, tells its face alone: a
-/// receiver there keeps what is due then, and those of other faces keep what they kept, and that is
-/// still due.
+/// receiver there keeps what is due then, and drops nothing; those of other faces keep what they kept,
+/// which is still due; and ids lack exactly where they lack to that face.
 pub fn asking_told()
     ensures { (c : Core) (ints : Interests) (ears : Ears) (asker id : ℕ) (asked : InterestEntry) → ((old : InterestEntry) → at id (interests_of asker ints) ≡ Some old → old.key ≡ asked.key) → AskingTold c ints (with_interest asker id asked ints) ears asker asked }
 {}
 
 /// The end of an interest tells nothing: a receiver at its face forgets, of the keys that met it,
-/// those that are not due any more, and keeps what is due then; others keep what they kept.
+/// those that are not due any more, and keeps what is due then; those of other faces keep what they
+/// kept; and no ids lack.
 pub fn ending_told()
     ensures { (c : Core) (ints : Interests) (ears : Ears) (asker id : ℕ) (asked : InterestEntry) → at id (interests_of asker ints) ≡ Some asked → EndingTold c ints (without_interest asker id ints) ears asker asked }
 {}
