@@ -72,22 +72,22 @@ off_filter key p on (k ∷ ks) off = by (bytes_eq k key) refl (p k) refl off (of
 
 -- ---- what is due
 -- what is due to a face, by whether it asks for the key
-abbrev due_asking : Core → ℕ → List ℕ → Bool → Option QueryableInfoType
+abbrev pub due_asking : Core → ℕ → List ℕ → Bool → Option QueryableInfoType
 due_asking c face key asked = cond (option_map_or (λ (h : HatState). is_unasked (strategy_at h) (is_north h.region) || asked) (hat_of face c) false) (heard c face key) None
 
 -- a face's interests are others
 module _ (ints : Interests) (asker : ℕ) (more : List (ℕ × InterestEntry)) (face : ℕ) where
-  abbrev listed : Bool → List (ℕ × InterestEntry)
+  abbrev pub listed : Bool → List (ℕ × InterestEntry)
   listed b = option_map_or (λ es. es) (cond b (Some more) (at face ints)) []
 
-  listed_at : interests_of face (insert_entry nat_cmp ints asker more) ≡ listed (is_at (nat_cmp asker) face)
+  pub listed_at : interests_of face (insert_entry nat_cmp ints asker more) ≡ listed (is_at (nat_cmp asker) face)
   listed_at = ap (λ (o : Option (List (ℕ × InterestEntry))). option_map_or (λ es. es) o []) (found_after_insertion nat_cmp_total exact_unsigned asker face more ints)
 
 -- a face's interests with one more, and without one
-abbrev with_one : ℕ → ℕ → InterestEntry → Interests → List (ℕ × InterestEntry)
+abbrev pub with_one : ℕ → ℕ → InterestEntry → Interests → List (ℕ × InterestEntry)
 with_one asker id asked ints = insert_entry nat_cmp (interests_of asker ints) id asked
 
-abbrev without_one : ℕ → ℕ → Interests → List (ℕ × InterestEntry)
+abbrev pub without_one : ℕ → ℕ → Interests → List (ℕ × InterestEntry)
 without_one asker id ints = remove_entry (is_at (nat_cmp id)) (interests_of asker ints)
 
 -- what asks comes, in the place of none or of one that asks for the same
@@ -125,7 +125,7 @@ asked_more (Some h) i some = by (is_unasked (strategy_at h) (is_north h.region))
     by true s = refl
     by false s = absurd (false≢true s)
 
-asked_less : (c : Core) (face : ℕ) (key : List ℕ) (now was : Bool) → (now ≡ true → was ≡ true) → is_some (due_asking c face key now) ≡ true → due_asking c face key now ≡ due_asking c face key was
+pub asked_less : (c : Core) (face : ℕ) (key : List ℕ) (now was : Bool) → (now ≡ true → was ≡ true) → is_some (due_asking c face key now) ≡ true → due_asking c face key now ≡ due_asking c face key was
 asked_less c face key true was less some = ap (due_asking c face key) (sym (less refl))
 asked_less c face key false true less some = asked_more (hat_of face c) (heard c face key) some
 asked_less c face key false false less some = refl

@@ -19,8 +19,8 @@ use Rattle.zq_hat.specs.Trees.{region_keys}
 use Rattle.zq_hat.proofs.OffersMoved.{key_moved}
 use Rattle.zq_machine.specs.declared.face.OpenFace.{OpenFace}
 use Rattle.zq_machine.specs.Deciding.{refusal_of}
-use Rattle.zq_machine.specs.Due.{Interests, asks_for, due_keys, due_touched, fellow_info, heard, heard_as, heard_by, heard_in, interests_of, is_unasked, listens, listens_in, meets, met_keys, wants, with_fellow, with_region_keys}
-use Rattle.zq_machine.specs.DueAlike.{DueAlike, move_interests}
+use Rattle.zq_machine.specs.Due.{Interests, asks_for, due, due_keys, due_touched, fellow_info, heard, heard_as, heard_by, heard_in, interests_of, is_unasked, listens, listens_in, meets, met_keys, wants, with_fellow, with_region_keys}
+use Rattle.zq_machine.specs.DueAlike.{move_interests}
 use Rattle.zq_machine.specs.Moved.{move_core, move_region, move_text}
 use Rattle.zq_machine.specs.State.{Core, at, hat_at, hat_of}
 use Rattle.zq_machine.specs.TextCalls.{TextCall, opening}
@@ -30,7 +30,7 @@ use Rattle.zq_machine.proofs.HatsMoved.{hat_found, own_found}
 
 module _ (φ : List ℕ → List ℕ) (keeps : Keeps φ) where
   -- ---- what faces ask to hear
-  meets_moved : (asked : Option (List ℕ)) (key : List ℕ) → meets (option_map φ asked) (φ key) ≡ meets asked key
+  pub meets_moved : (asked : Option (List ℕ)) (key : List ℕ) → meets (option_map φ asked) (φ key) ≡ meets asked key
   meets_moved None key = refl
   meets_moved (Some k) key = keeps.meet k key
 
@@ -47,7 +47,7 @@ module _ (φ : List ℕ → List ℕ) (keeps : Keeps φ) where
       ap (list_any (wants (φ key))) (interests_moved face ints)
       ∙ any-map (move_interest φ) (wants (φ key)) (wants key) (λ i. meets_moved i.1.key key) (interests_of face ints)
 
-  listens_moved : (c : Core) (ints : Interests) (face : ℕ) (key : List ℕ) → listens (move_core φ c) (move_interests φ ints) face (φ key) ≡ listens c ints face key
+  pub listens_moved : (c : Core) (ints : Interests) (face : ℕ) (key : List ℕ) → listens (move_core φ c) (move_interests φ ints) face (φ key) ≡ listens c ints face key
   listens_moved c ints face key = ap (λ (o : Option HatState). option_map_or (listens_in (move_interests φ ints) face (φ key)) o false) (own_found φ c face) ∙ by (hat_of face c)
     where
       by : (o : Option HatState) → option_map_or (listens_in (move_interests φ ints) face (φ key)) (option_map (move_hat φ) o) false ≡ option_map_or (listens_in ints face key) o false
@@ -73,18 +73,18 @@ module _ (φ : List ℕ → List ℕ) (keeps : Keeps φ) where
   put_moved : (ks xs : List (List ℕ)) → fold (insert_key text_cmp) (map φ ks) (map φ xs) ≡ map φ (fold (insert_key text_cmp) ks xs)
   put_moved ks xs = fold-moved φ (map φ) (insert_key text_cmp) (insert_key text_cmp) (key_moved φ keeps) ks xs
 
-  keys_moved : (c : Core) → due_keys (move_core φ c) ≡ map φ (due_keys c)
+  pub keys_moved : (c : Core) → due_keys (move_core φ c) ≡ map φ (due_keys c)
   keys_moved c =
       fold-moved (move_region φ) (map φ) with_region_keys with_region_keys
       (λ ks h. ap (fold (insert_key text_cmp) (map φ ks)) (region_keys_moved φ keeps h.1) ∙ put_moved ks (region_keys h.1)) [] c.hats
 
-  met_moved : (c : Core) (asked : Option (List ℕ)) → met_keys (option_map φ asked) (move_core φ c) ≡ map φ (met_keys asked c)
+  pub met_moved : (c : Core) (asked : Option (List ℕ)) → met_keys (option_map φ asked) (move_core φ c) ≡ map φ (met_keys asked c)
   met_moved c asked = ap (filter (meets (option_map φ asked))) (keys_moved c) ∙ filter-map φ (meets (option_map φ asked)) (meets asked) (meets_moved asked) (due_keys c)
 
   keys_touched : (c : Core) (t : TextCall) → refusal_of c t ≡ None → fold (insert_key text_cmp) [] (touched (move_core φ c) (move_text φ t)) ≡ map φ (fold (insert_key text_cmp) [] (touched c t))
   keys_touched c t e = ap (fold (insert_key text_cmp) []) (touched_moved φ keeps c t e) ∙ put_moved [] (touched c t)
 
-  looked_moved : (c : Core) (t : TextCall) (face : ℕ) → refusal_of c t ≡ None → due_touched (move_core φ c) (move_text φ t) face ≡ map φ (due_touched c t face)
+  pub looked_moved : (c : Core) (t : TextCall) (face : ℕ) → refusal_of c t ≡ None → due_touched (move_core φ c) (move_text φ t) face ≡ map φ (due_touched c t face)
   looked_moved c (opening o) face e = by (face == c.next_face)
     where
       by : (b : Bool) → cond b (due_keys (move_core φ c)) [] ≡ map φ (cond b (due_keys c) [])
@@ -92,10 +92,6 @@ module _ (φ : List ℕ → List ℕ) (keeps : Keeps φ) where
       by false = refl
   looked_moved c t face e = keys_touched c t e
 
-  pub due_alike : DueAlike φ
-  due_alike = record {
-    dues = λ c ints face key. λ j. cond (listens_moved c ints face key j) (heard_moved c face key j) None;
-    keys = keys_moved;
-    met = met_moved;
-    touches = looked_moved;
-  }
+  -- ---- what is due
+  pub dues_moved : (c : Core) (ints : Interests) (face : ℕ) (key : List ℕ) → due (move_core φ c) (move_interests φ ints) face (φ key) ≡ due c ints face key
+  dues_moved c ints face key = λ j. cond (listens_moved c ints face key j) (heard_moved c face key j) None

@@ -56,5 +56,16 @@ pub mod DueKeys
 pub mod DueAlone
 pub mod DueTaken
 pub mod DueAsked
+pub mod DueEnds
 pub mod Dues
+pub mod DueLess
 pub mod DuesMoved
+pub mod NeighbourDues
+pub mod NeighbourTold
+pub mod NeighbourAsked
+pub mod NeighbourAnswers
+pub mod NeighbourTells
+pub mod NeighbourIds
+pub mod NeighbourAll
+pub mod NeighbourLaws
+pub mod NeighbourMoved

@@ -15,6 +15,11 @@ abbrev pub is_sent : Call → Bool
 is_sent (call.Sent n) = true
 is_sent c = false
 
+-- the call declares a queryable
+abbrev pub declares : Call → Bool
+declares (call.DeclareQueryable face id wire info node) = true
+declares c = false
+
 -- no namespace is given
 abbrev pub is_absent : Option (List ℕ) → Bool
 is_absent None = true

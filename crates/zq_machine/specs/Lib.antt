@@ -19,4 +19,5 @@ pub mod Headline
 pub mod Moved
 pub mod Agreeing
 pub mod Due
+pub mod Neighbours
 pub mod DueAlike

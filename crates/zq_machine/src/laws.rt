@@ -1,7 +1,10 @@
 //! Laws of what the gateway decides and keeps, as the contracts of calls.
-ghost use Rattle.std.specs.Prelude.{◌≡◌, ◌≢◌, ℕ, List, [], Option, Some, None, false, true};
+ghost use Rattle.std.specs.Prelude.{◌≡◌, ◌≢◌, ◌==◌, ◌&&◌, ℕ, List, [], Option, Some, None, false, true, if◌then◌else◌};
 ghost use Rattle.std.specs.List.{AllByRecursion, list_any};
+ghost use Rattle.std.specs.List.Sorted.{IsStrictlySortedBy};
+ghost use Rattle.std.specs.Map.{keys_of};
 ghost use Rattle.std.specs.Option.{is_some, option_map_or};
+ghost use Rattle.std.specs.Ordering.{nat_cmp};
 ghost use Rattle.std.specs.Str.{bytes_eq};
 ghost use Rattle.zq_hat.specs.Moved.{Keeps};
 ghost use Rattle.zq_hat.specs.Regions.{is_north, strategy_at};
@@ -18,12 +21,13 @@ ghost use Rattle.zq_machine.specs.declared.call.Call.{Call};
 ghost use Rattle.zq_machine.specs.declared.call.Call.TheVariants as call;
 ghost use Rattle.zq_machine.specs.declared.call.Opening.{Opening};
 ghost use Rattle.zq_machine.specs.Agreeing.{Agrees};
+ghost use Rattle.zq_machine.specs.Calls.{declares};
 ghost use Rattle.zq_machine.specs.Configs.{Settings};
 ghost use Rattle.zq_machine.specs.Due.{Interests, KeysRise, ask_touched, due, due_keys, interests_of, is_due_touched, listens, redeclared, with_interest, without_interest};
 ghost use Rattle.zq_machine.specs.DueAlike.{DueAlike};
 ghost use Rattle.zq_machine.specs.Headline.{RunPromise};
 ghost use Rattle.zq_machine.specs.Machine.{after, state_after};
-ghost use Rattle.zq_machine.specs.TextCalls.{read};
+ghost use Rattle.zq_machine.specs.TextCalls.{TextCall, opening, read};
 ghost use Rattle.zq_machine.specs.Trees.{is_touched, own_entry};
 ghost use Rattle.zq_machine.specs.Moved.{DecidesAlike};
 ghost use Rattle.zq_tables.specs.Naming.{NamingState};
@@ -76,9 +80,15 @@ pub fn touches_all()
     ensures { (config : Settings) (calls : List Call) (c : Call) (place : ℕ) (key : List ℕ) → is_touched (state_after (opening_state config) calls).core (read (state_after (opening_state config) calls) c) key ≡ false → own_entry place key (after (state_after (opening_state config) calls) c).core.hats ≡ own_entry place key (state_after (opening_state config) calls).core.hats }
 {}
 
+/// To a face that is not open nothing is due.
+#[tactic(auto, using(crate::proofs::DueEnds::closed_undue))]
+pub fn closed_undue()
+    ensures { (c : Core) (ints : Interests) (face : ℕ) (key : List ℕ) → is_open face c ≡ false → due c ints face key ≡ None }
+{}
+
 /// A call changes what is due to a face on no key but those that it touches there: what is due to
-/// a face that is open after the call is on each other key what was due before, and that is nothing
-/// where the face was not open.
+/// a face that is open after the call is on each other key what was due before, which is nothing
+/// (by `closed_undue`) if the call opened the face.
 pub fn dues_stay()
     ensures { (config : Settings) (calls : List Call) (c : Call) (ints : Interests) (face : ℕ) (key : List ℕ) → is_open face (after (state_after (opening_state config) calls) c).core ≡ true → is_due_touched (state_after (opening_state config) calls).core (read (state_after (opening_state config) calls) c) face key ≡ false → due (after (state_after (opening_state config) calls) c).core ints face key ≡ due (state_after (opening_state config) calls).core ints face key }
 {}
@@ -86,6 +96,24 @@ pub fn dues_stay()
 /// An opening touches each key on which something is due to the new face.
 pub fn none_missed()
     ensures { (config : Settings) (calls : List Call) (o : Opening) (ints : Interests) (key : List ℕ) → is_some (due (after (state_after (opening_state config) calls) (call.Open o)).core ints (state_after (opening_state config) calls).core.next_face key) ≡ true → is_due_touched (state_after (opening_state config) calls).core (read (state_after (opening_state config) calls) (call.Open o)) (state_after (opening_state config) calls).core.next_face key ≡ true }
+{}
+
+/// The keys that a call touches at a face are: of an opening, at the new face all on which regions
+/// have information, at others none; of any other call those on which it may change what a region
+/// has.
+pub fn touched_exactly()
+    ensures { (c : Core) (t : TextCall) (face : ℕ) (key : List ℕ) → ((o : Opening) → is_due_touched c (opening o) face key ≡ ((face == c.next_face) && list_any (λ k. bytes_eq k key) (due_keys c))) × (((o : Opening) → t ≢ opening o) → is_due_touched c t face key ≡ is_touched c t key) }
+{}
+
+/// But by a declaration, nothing becomes due to a face that is open.
+pub fn less_due()
+    ensures { (config : Settings) (calls : List Call) (c : Call) (ints : Interests) (face : ℕ) (key : List ℕ) → declares c ≡ false → is_open face (state_after (opening_state config) calls).core ≡ true → is_some (due (after (state_after (opening_state config) calls) c).core ints face key) ≡ true → is_some (due (state_after (opening_state config) calls).core ints face key) ≡ true }
+{}
+
+/// A call changes nothing of who listens: a face that is open before and after it listens on the
+/// same keys.
+pub fn listens_stay()
+    ensures { (config : Settings) (calls : List Call) (c : Call) (ints : Interests) (face : ℕ) (key : List ℕ) → is_open face (state_after (opening_state config) calls).core ≡ true → is_open face (after (state_after (opening_state config) calls) c).core ≡ true → listens (after (state_after (opening_state config) calls) c).core ints face key ≡ listens (state_after (opening_state config) calls).core ints face key }
 {}
 
 /// What is due to any face is on a key on which some region has information.
@@ -106,10 +134,33 @@ pub fn interests_alone()
     ensures { (c : Core) (ints others : Interests) (face : ℕ) (key : List ℕ) → interests_of face ints ≡ interests_of face others → due c ints face key ≡ due c others face key }
 {}
 
+/// An interest that comes stands under its id at its face, one that ends stands there no more, and
+/// each other stands as it did.
+pub fn interests_change()
+    ensures { (ints : Interests) (asker id face other : ℕ) → ((asked : InterestEntry) → at other (interests_of face (with_interest asker id asked ints)) ≡ (if (asker == face) && (id == other) then Some asked else at other (interests_of face ints))) × (IsStrictlySortedBy nat_cmp (keys_of (interests_of asker ints)) → at other (interests_of face (without_interest asker id ints)) ≡ (if (asker == face) && (id == other) then None else at other (interests_of face ints))) }
+{}
+
 /// What a face comes to ask, in the place of nothing or of what asks for the same, changes what is
 /// due on no key but those that it touches.
 pub fn asks_stay()
     ensures { (c : Core) (ints : Interests) (asker id : ℕ) (asked : InterestEntry) → ((old : InterestEntry) → at id (interests_of asker ints) ≡ Some old → old.key ≡ asked.key) → (face : ℕ) (key : List ℕ) → list_any (λ k. bytes_eq k key) (ask_touched asker asked.key c face) ≡ false → due c (with_interest asker id asked ints) face key ≡ due c ints face key }
+{}
+
+/// And it takes nothing away, and makes no information another.
+pub fn asks_more()
+    ensures { (c : Core) (ints : Interests) (asker id : ℕ) (asked : InterestEntry) → ((old : InterestEntry) → at id (interests_of asker ints) ≡ Some old → old.key ≡ asked.key) → (face : ℕ) (key : List ℕ) → is_some (due c ints face key) ≡ true → due c (with_interest asker id asked ints) face key ≡ due c ints face key }
+{}
+
+/// The keys that an interest touches are, at its own face, those on which regions have information
+/// and which it meets.
+pub fn asked_exactly()
+    ensures { (c : Core) (asker : ℕ) (asked : Option (List ℕ)) (face : ℕ) (key : List ℕ) → list_any (λ k. bytes_eq k key) (ask_touched asker asked c face) ≡ ((face == asker) && (option_map_or (λ k. intersects k key) asked true && list_any (λ k. bytes_eq k key) (due_keys c))) }
+{}
+
+/// The end of an interest changes what is due on no key but those that the interest touches, and
+/// that of none changes nothing.
+pub fn ends_stay()
+    ensures { (c : Core) (ints : Interests) (asker id : ℕ) (face : ℕ) (key : List ℕ) → ((old : InterestEntry) → at id (interests_of asker ints) ≡ Some old → list_any (λ k. bytes_eq k key) (ask_touched asker old.key c face) ≡ false) → due c (without_interest asker id ints) face key ≡ due c ints face key }
 {}
 
 /// The end of an interest makes nothing due, and no information another.
@@ -166,8 +217,8 @@ pub fn south_unasked()
     ensures { (c : Core) (ints : Interests) (face : ℕ) (key : List ℕ) (h : HatState) → hat_of face c ≡ Some h → is_north h.region ≡ false → interests_of face ints ≡ [] → due c ints face key ≡ None }
 {}
 
-/// What is due moves with its texts, by every map that keeps how they relate.
-#[tactic(auto, using(crate::proofs::DuesMoved::due_alike))]
+/// What is due moves with its texts, by every map that keeps how they relate; and what faces are told
+/// of it moves along.
 pub fn due_alike()
     ensures { (φ : List ℕ → List ℕ) → Keeps φ → DueAlike φ }
 {}

@@ -6,6 +6,7 @@
 //! - `face`: an open face
 //! - `handed`: a message that a call hands
 //! - `laws`: what every run promises, and how what is decided moves with its texts
+//! - `neighbours`: that faces outside regions of routers are told what is due to them
 #![tactic(auto)]
 
 pub mod call;
@@ -13,6 +14,7 @@ pub mod config;
 pub mod face;
 pub mod handed;
 pub mod laws;
+pub mod neighbours;
 
 pub use call::{Call, Opening, Outcome, Refusal, Replay, Step, StepList};
 pub use config::{BadConfig, Config, ConfigRefusal, Counters, Entry, EntryList};

@@ -1,0 +1,109 @@
+-- What a call that is no interest tells all faces: in order, to open faces alone; what is kept of them stays sound, and what receivers keep stays due.
+use Rattle.std.proofs.Common.{◌≡◌, ◌∙◌, refl, sym, ap, subst, ℕ, ◌<◌, ◌^◌, Bool, true, false, cond, List, [], ◌∷◌, ◌++◌, filter, Option, Some, None, true≢false}
+use Rattle.std.specs.BTreeMap.{is_at}
+use Rattle.std.specs.List.{AllByRecursion, flat_map}
+use Rattle.std.specs.List.Sorted.{IsStrictlySortedBy}
+use Rattle.std.specs.Option.{is_some, option_map_or}
+use Rattle.std.specs.Ordering.{nat_cmp}
+use Rattle.std.proofs.lemmas.Bool.{false≢true}
+use Rattle.zq_trees.specs.Tellings.{telling_cmp}
+use Rattle.zq_told.specs.declared.types.FaceDues.{FaceDues}
+use Rattle.zq_told.specs.declared.types.ToldEntry.{ToldEntry}
+use Rattle.zq_told.specs.declared.types.Way.TheVariants.{Unasked}
+use Rattle.zq_told.specs.Ears.{Ear, Ears, at_face}
+use Rattle.zq_told.specs.Receiver.{Heard}
+use Rattle.zq_told.specs.Telling.{KeyDue, tell_due}
+use Rattle.zq_told.specs.Laws.{InOrder, is_to, told_alone, told_in}
+use Rattle.zq_told.specs.Leaving.{AreSound}
+use Rattle.zq_told.proofs.Differing.{tells_each}
+use Rattle.zq_told.proofs.Faces.{opens as opens_sound, stay_sound}
+use Rattle.zq_told.proofs.Ordered.{tells_in_order}
+use Rattle.zq_told.proofs.Slotted.{none_sorted}
+use Rattle.zq_machine.specs.Configs.{Settings}
+use Rattle.zq_machine.specs.Due.{Interests, due, due_touched, listens}
+use Rattle.zq_machine.specs.Machine.{settle}
+use Rattle.zq_machine.specs.Neighbours.{AllHear, Hears, dues_on, ears_after, looked_at, neighbours_lack, neighbours_told, with_dues, with_new, without_closed}
+use Rattle.zq_machine.specs.State.{Core, State, at, is_open}
+use Rattle.zq_machine.specs.TextCalls.{TextCall, opening, closing}
+use Rattle.zq_machine.proofs.Agreed.{InOrder as Kept}
+use Rattle.zq_machine.proofs.Changing.{number_test}
+use Rattle.zq_machine.proofs.NeighbourDues.{all_keys, dues_of, rows_rise}
+use Rattle.zq_machine.proofs.NeighbourIds.{fresh, new_face, none_of, opens}
+use Rattle.zq_machine.proofs.NeighbourTold.{all_rise, call_hears, call_told, looked, looked_rise, still_hears, undue}
+
+module _ (config : Settings) (s : State) (i : Kept config s) (t : TextCall) (ints : Interests) (ears : Ears) where
+  abbrev w : Core
+  w = (settle s t).core
+
+  abbrev keys_of_face : ℕ → List KeyDue
+  keys_of_face n = dues_on w ints (due_touched s.core t n) n
+
+  -- ---- in order, to open faces
+  keys_ordered : AllByRecursion (λ (d : FaceDues). InOrder d.keys) (looked_at s.core w ints t)
+  keys_ordered = all_keys keys_of_face (λ (d : FaceDues). InOrder d.keys) (λ m ks is. subst InOrder is (rows_rise (due w ints m) (looked config s i t ints m) (looked_rise config s i t ints m))) w.faces
+
+  pub told_ordered : IsStrictlySortedBy telling_cmp (neighbours_told s.core w ints t ears)
+  told_ordered = tells_in_order Unasked (with_new s.core t ears) (looked_at s.core w ints t) (all_rise config s i t ints) keys_ordered
+
+  module _ (face : ℕ) where
+    others_by : (m : ℕ) (ks : List KeyDue) (rest : List FaceDues) → is_at (nat_cmp face) m ≡ false
+        → flat_map (told_alone Unasked (with_new s.core t ears) face) rest ≡ [] → flat_map (told_alone Unasked (with_new s.core t ears) face) (with_dues m ks ++ rest) ≡ []
+    others_by m [] rest other more = more
+    others_by m (k ∷ ks) rest other more =
+        λ j. cond ((sym (number_test face m) ∙ other) j) (option_map_or (λ (e : Ear). told_in Unasked face e (k ∷ ks)) (at_face face (with_new s.core t ears)) []) [] ++ more j
+
+    none_by : {X : Type 0} (b : Bool) (x : X) (o : Option X) → is_some (cond b (Some x) o) ≡ false → (b ≡ false) × (is_some o ≡ false)
+    none_by true x o e = absurd (true≢false e)
+    none_by false x o e = (refl, e)
+
+    others_told : {X : Type 0} (es : List (ℕ × X)) → is_some (at face es) ≡ false → flat_map (told_alone Unasked (with_new s.core t ears) face) (dues_of keys_of_face es) ≡ []
+    others_told [] none = refl
+    others_told (e ∷ es) none =
+        let p = none_by (is_at (nat_cmp face) e.0) e.1 (at face es) none in
+        others_by e.0 (keys_of_face e.0) (dues_of keys_of_face es) p.0 (others_told es p.1)
+
+    pub closed_untold : is_open face w ≡ false → filter (is_to face) (neighbours_told s.core w ints t ears) ≡ []
+    closed_untold shut = tells_each Unasked (with_new s.core t ears) (looked_at s.core w ints t) face ∙ others_told w.faces shut
+
+  -- ---- what is kept of faces
+  new_sound : (x : TextCall) → s.core.config.start.told < 2 ^ 32 → AreSound ears → AreSound (with_new s.core x ears)
+  new_sound (opening o) low a = stay_sound.opens s.core.next_face s.core.config.start.told ears low a
+  new_sound x low a = a
+
+  closed_sound : (x : TextCall) (others : Ears) → AreSound others → AreSound (without_closed x others)
+  closed_sound (closing g) others a = stay_sound.closes g.0 others a
+  closed_sound x others a = a
+
+  pub ears_sound : s.core.config.start.told < 2 ^ 32 → AreSound ears → neighbours_lack s.core w ints t ears ≡ false → AreSound (ears_after s.core w ints t ears)
+  ears_sound low a enough =
+      closed_sound t (tell_due Unasked (with_new s.core t ears) (looked_at s.core w ints t)) (stay_sound.tells Unasked (with_new s.core t ears) (looked_at s.core w ints t) enough (new_sound t low a))
+
+  -- ---- each open face's receiver
+  still_there : (x : TextCall) (others : Ears) → opens x ≡ true → without_closed x others ≡ others
+  still_there (closing g) others e = absurd (false≢true e)
+  still_there x others e = refl
+
+  pub all_hear : ((face : ℕ) → is_open face s.core ≡ true → is_open face w ≡ true → (key : List ℕ) → listens w ints face key ≡ listens s.core ints face key)
+      → AllHear s.core ints ears → AllHear w ints (ears_after s.core w ints t ears)
+  all_hear same all face seen = by (is_open face s.core) refl
+    where
+      none : is_open face s.core ≡ false → (key : List ℕ) → due s.core ints face key ≡ None
+      none was key = undue s.core ints face key (none_of (at face s.core.faces) was)
+
+      first : (was : is_open face s.core ≡ false) → Hears s.core ints (with_new s.core t ears) face []
+      first was = record {
+        ear = fresh config s i ints ears;
+        there = (new_face config s i ints ears t face seen was).1;
+        sorted = none_sorted ToldEntry;
+        tied = opens_sound.tied s.core.config.start.told;
+        told = λ key. sym (none was key);
+      }
+
+      by : (b : Bool) → is_open face s.core ≡ b → (heard : Heard) × Hears w ints (ears_after s.core w ints t ears) face heard
+      by true was = let h = all face was in (_, call_told config s i t ints face seen was ears h.0 (same face was seen) h.1)
+      by false was = (
+        _,
+        still_hears w ints (tell_due Unasked (with_new s.core t ears) (looked_at s.core w ints t)) (ears_after s.core w ints t ears) face _
+            (ap (at_face face) (still_there t (tell_due Unasked (with_new s.core t ears) (looked_at s.core w ints t)) (new_face config s i ints ears t face seen was).0))
+            (call_hears config s i t ints face seen (with_new s.core t ears) [] (λ key off. none was key) (first was)),
+      )

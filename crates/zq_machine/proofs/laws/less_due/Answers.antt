@@ -1,0 +1,5 @@
+use Rattle.zq_machine.proofs.DueLess.{less_due}
+use Rattle.zq_machine.proofs.laws.less_due.Goals as goal
+
+pub returns : goal.returns
+returns c = less_due
