@@ -1,0 +1,101 @@
+//! What faces ask to hear.
+ghost use Rattle.std.specs.Prelude.{◌≡◌, [], OnOk, OnErr, IfOk, IsTrue};
+ghost use Rattle.std.specs.Option.{option_copied};
+ghost use Rattle.zq_key.specs.Key.{is_key};
+ghost use Rattle.zq_interests.specs.Interests.{asks_for, askers, closed_face, has_keyed, interest_at, with_interest, without_interest};
+
+use crate::faces::{
+    AskedMap, all_askers, close_face, end_interest, face_asks, face_keyed, get_interest,
+    put_interest,
+};
+use crate::types::{FaceList, InterestEntry};
+use std::alloc::Global;
+use std::collections::BTreeMap;
+use std::marker::Model;
+use zq_key::memory::OutOfMemory;
+use zq_key::message::FaceId;
+
+/// What each face asks, under which ids.
+#[derive(Drop)]
+pub struct Interests {
+    faces: AskedMap,
+}
+
+impl Model for Interests {
+    ghost use Rattle.zq_interests.specs.Interests.{Interests};
+
+    ghost Value = { Interests };
+
+    ghost view = { λ s. s.faces.entries };
+}
+
+impl Interests {
+    /// No interests.
+    pub fn new(alloc: Global) -> Interests
+        ensures { result ≡ [] }
+    {
+        Interests {
+            faces: BTreeMap::new(alloc),
+        }
+    }
+
+    /// What the face asks under the id.
+    pub fn get(&self, face: FaceId, id: u32) -> Option<&InterestEntry>
+        ensures { option_copied result ≡ interest_at face.0 id self.now }
+    {
+        get_interest(&self.faces, face.0, id)
+    }
+
+    /// The face asks this under the id, from now on; another interest under the id is replaced.
+    pub fn put(
+        &mut self,
+        alloc: Global,
+        face: FaceId,
+        id: u32,
+        entry: InterestEntry,
+    ) -> Result<(), OutOfMemory>
+        ensures ok { OnOk result (self.new ≡ with_interest face.0 id entry self.old) }
+        ensures err { OnErr result (self.new ≡ self.old) }
+    {
+        put_interest(&mut self.faces, alloc, face.0, id, entry)?;
+        Ok(())
+    }
+
+    /// The face asks nothing under the id, from now on.
+    pub fn end(&mut self, face: FaceId, id: u32)
+        ensures { self.new ≡ without_interest face.0 id self.old }
+    {
+        end_interest(&mut self.faces, face.0, id);
+    }
+
+    /// The face goes, with all that it asked.
+    pub fn close(&mut self, face: FaceId)
+        ensures { self.new ≡ closed_face face.0 self.old }
+    {
+        close_face(&mut self.faces, face.0);
+    }
+
+    /// Whether an interest of the face asks for the key.
+    pub fn asks_for(&self, face: FaceId, key: &str) -> bool
+        requires { IsTrue (is_key key.now) }
+        ensures { result ≡ asks_for face.0 key.now self.now }
+    {
+        face_asks(&self.faces, face.0, key)
+    }
+
+    /// Whether an interest of the face asks for the key, and lets numbers be declared for keys.
+    pub fn has_keyed(&self, face: FaceId, key: &str) -> bool
+        requires { IsTrue (is_key key.now) }
+        ensures { result ≡ has_keyed face.0 key.now self.now }
+    {
+        face_keyed(&self.faces, face.0, key)
+    }
+
+    /// The faces that ask for the key, in order of their numbers.
+    pub fn askers(&self, alloc: Global, key: &str) -> Result<FaceList, OutOfMemory>
+        requires { IsTrue (is_key key.now) }
+        ensures { IfOk result (λ l. l ≡ askers key.now self.now) }
+    {
+        all_askers(&self.faces, alloc, key)
+    }
+}
