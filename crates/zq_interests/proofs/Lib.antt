@@ -1,1 +1,3 @@
+pub mod Under
+pub mod Walking
 pub mod Writing

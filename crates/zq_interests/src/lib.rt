@@ -3,10 +3,16 @@
 //! - `types`: an interest of a face
 //! - `asked`: the interests of one face
 //! - `faces`: the interests of all faces, as a map
+//! - `shelf`, `places`, `keyed`: where interests are kept, by the texts of their keys
+//! - `walk`: the faces of interests whose keys meet a key
 //! - `interests`: `Interests`, the same with the faces that ask for a key
 #![tactic(auto)]
 
 mod asked;
 mod faces;
 pub mod interests;
+mod keyed;
+mod places;
+mod shelf;
 pub mod types;
+mod walk;
