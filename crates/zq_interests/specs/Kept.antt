@@ -7,6 +7,7 @@ use Rattle.std.specs.List.Sorted.{IsStrictlySortedBy}
 use Rattle.std.specs.Map.{keys_of}
 use Rattle.std.specs.Option.{is_some, option_map_or}
 use Rattle.std.specs.Ordering.{nat_cmp}
+use Rattle.zq_message.specs.declared.message.FaceId.{FaceId}
 use Rattle.zq_key.specs.Key.{intersects, is_key}
 use Rattle.zq_index.specs.Holders.{AreListed, Place, place_cmp}
 use Rattle.zq_index.specs.Texts.{Lists, at_text, text_cmp}
@@ -96,3 +97,7 @@ met_places key s = s.all ++ flat_map (met_at key) s.keyed
 -- their faces, in order, each once
 abbrev pub met_faces : List ℕ → Shelf → List ℕ
 met_faces key s = fold with_face [] (met_places key s)
+
+-- the face of the number
+abbrev pub numbered : ℕ → FaceId
+numbered n = record { 0 = n }

@@ -1,13 +1,16 @@
 //! The interests of one face, by id.
-ghost use Rattle.std.specs.Prelude.{◌≡◌, [], OnOk, OnErr, IsTrue};
+ghost use Rattle.std.specs.Prelude.{◌≡◌, ◌&&◌, [], not, ℕ, List, Option, None, OnOk, OnErr, IfOk, IsTrue};
 ghost use Rattle.std.specs.List.{list_any};
 ghost use Rattle.std.specs.Map.{remove_entry};
 ghost use Rattle.std.specs.Option.{option_copied};
 ghost use Rattle.std.specs.BTreeMap.{insert_entry, is_at};
 ghost use Rattle.std.specs.Ordering.{nat_cmp};
 ghost use Rattle.zq_key.specs.Key.{is_key};
+ghost use Rattle.zq_index.specs.Holders.{Place};
+ghost use Rattle.zq_interests.specs.Kept.{is_kept, is_of};
 ghost use Rattle.zq_interests.specs.Interests.{at, meets, wants, wants_keyed};
 
+use crate::shelf::Shelf;
 use crate::types::InterestEntry;
 use std::alloc::Global;
 use std::collections::BTreeMap;
@@ -66,6 +69,15 @@ fn any_keyed(entries: &BTreeMap<u32, InterestEntry>, key: &str) -> bool
     false
 }
 
+/// None of the face's interests is kept any more.
+fn leave_all(entries: &BTreeMap<u32, InterestEntry>, shelf: &mut Shelf, face: u32)
+    ensures { (other : Option (List ℕ)) (q : Place) → is_kept other q shelf.new ≡ (not (is_of face entries.now.entries other q) && is_kept other q shelf.old) }
+{
+    for (id, entry) in entries {
+        shelf.take(&entry.key, (face, *id));
+    }
+}
+
 impl Asked {
     /// Nothing is asked.
     pub(crate) fn new(alloc: Global) -> Asked
@@ -83,22 +95,36 @@ impl Asked {
         self.entries.get(&id)
     }
 
-    /// This is asked under the id.
-    pub(crate) fn put(&mut self, id: u32, entry: InterestEntry) -> Result<(), OutOfMemory>
+    /// This is asked under the id; answers what was before. Only a new id can lack memory.
+    pub(crate) fn put(
+        &mut self,
+        id: u32,
+        entry: InterestEntry,
+    ) -> Result<Option<InterestEntry>, OutOfMemory>
         ensures ok { OnOk result (self.new ≡ insert_entry nat_cmp self.old id entry) }
+        ensures before { IfOk result (λ b. b ≡ at id self.old) }
         ensures err { OnErr result (self.new ≡ self.old) }
+        ensures absent { OnErr result (at id self.old ≡ None) }
     {
         match self.entries.insert(id, entry) {
-            Ok(_) => Ok(()),
+            Ok(before) => Ok(before),
             Err(_) => Err(OutOfMemory),
         }
     }
 
-    /// Nothing is asked under the id.
-    pub(crate) fn end(&mut self, id: u32)
-        ensures { self.new ≡ remove_entry (is_at (nat_cmp id)) self.old }
+    /// Nothing is asked under the id; answers what was before.
+    pub(crate) fn end(&mut self, id: u32) -> Option<InterestEntry>
+        ensures after { self.new ≡ remove_entry (is_at (nat_cmp id)) self.old }
+        ensures before { result ≡ at id self.old }
     {
-        let _ = self.entries.remove(&id);
+        self.entries.remove(&id)
+    }
+
+    /// None of the face's interests is kept any more.
+    pub(crate) fn leave(&self, shelf: &mut Shelf, face: u32)
+        ensures { (other : Option (List ℕ)) (q : Place) → is_kept other q shelf.new ≡ (not (is_of face self.now other q) && is_kept other q shelf.old) }
+    {
+        leave_all(&self.entries, shelf, face);
     }
 
     /// Whether an interest asks for the key.

@@ -2,15 +2,13 @@
 ghost use Rattle.std.specs.Prelude.{◌≡◌, None, OnOk, OnErr, IfOk, IsTrue, is_some, true};
 ghost use Rattle.std.specs.Option.{option_copied};
 ghost use Rattle.zq_key.specs.Key.{is_key};
-ghost use Rattle.zq_interests.specs.Interests.{asks_for, askers, at, closed_face, has_keyed, interest_at, with_interest, without_interest};
+ghost use Rattle.zq_interests.specs.Interests.{asks_for, at, closed_face, has_keyed, interest_at, with_interest, without_interest};
 
 use crate::asked::Asked;
-use crate::types::{FaceList, InterestEntry};
+use crate::types::InterestEntry;
 use std::alloc::Global;
 use std::collections::BTreeMap;
-use zq_key::items::Items;
 use zq_key::memory::OutOfMemory;
-use zq_key::message::FaceId;
 
 /// What each face asks, by number.
 pub(crate) type AskedMap = BTreeMap<u32, Asked>;
@@ -25,20 +23,22 @@ pub(crate) fn get_interest(faces: &AskedMap, face: u32, id: u32) -> Option<&Inte
     }
 }
 
-/// A face that is there asks this under the id.
+/// A face that is there asks this under the id; answers what was before.
 fn put_beside(
     faces: &mut AskedMap,
     face: u32,
     id: u32,
     entry: InterestEntry,
-) -> Result<(), OutOfMemory>
+) -> Result<Option<InterestEntry>, OutOfMemory>
     requires { is_some (at face faces.old.entries) ≡ true }
     ensures ok { OnOk result (faces.new.entries ≡ with_interest face id entry faces.old.entries) }
+    ensures before { IfOk result (λ b. b ≡ interest_at face id faces.old.entries) }
     ensures err { OnErr result (faces.new.entries ≡ faces.old.entries) }
+    ensures absent { OnErr result (interest_at face id faces.old.entries ≡ None) }
 {
     match faces.get_mut(&face) {
         Some(asked) => match asked.put(id, entry) {
-            Ok(()) => Ok(()),
+            Ok(before) => Ok(before),
             Err(error) => Err(error),
         },
         None => unreachable!(),
@@ -58,47 +58,55 @@ fn put_first(
     ensures err { OnErr result (faces.new.entries ≡ faces.old.entries) }
 {
     let mut asked = Asked::new(alloc);
-    asked.put(id, entry)?;
+    let _ = asked.put(id, entry)?;
     match faces.insert(face, asked) {
         Ok(_) => Ok(()),
         Err(_) => Err(OutOfMemory),
     }
 }
 
-/// The face asks this under the id.
+/// The face asks this under the id; answers what was before. Only what is new can lack memory.
 pub(crate) fn put_interest(
     faces: &mut AskedMap,
     alloc: Global,
     face: u32,
     id: u32,
     entry: InterestEntry,
-) -> Result<(), OutOfMemory>
+) -> Result<Option<InterestEntry>, OutOfMemory>
     ensures ok { OnOk result (faces.new.entries ≡ with_interest face id entry faces.old.entries) }
+    ensures before { IfOk result (λ b. b ≡ interest_at face id faces.old.entries) }
     ensures err { OnErr result (faces.new.entries ≡ faces.old.entries) }
+    ensures absent { OnErr result (interest_at face id faces.old.entries ≡ None) }
 {
     if faces.contains_key(&face) {
-        put_beside(faces, face, id, entry)?;
-    } else {
-        put_first(faces, alloc, face, id, entry)?;
+        return match put_beside(faces, face, id, entry) {
+            Ok(before) => Ok(before),
+            Err(error) => Err(error),
+        };
     }
-    Ok(())
+    match put_first(faces, alloc, face, id, entry) {
+        Ok(()) => Ok(None),
+        Err(error) => Err(error),
+    }
 }
 
-/// The face asks nothing under the id.
-pub(crate) fn end_interest(faces: &mut AskedMap, face: u32, id: u32)
-    ensures { faces.new.entries ≡ without_interest face id faces.old.entries }
+/// The face asks nothing under the id; answers what was before.
+pub(crate) fn end_interest(faces: &mut AskedMap, face: u32, id: u32) -> Option<InterestEntry>
+    ensures after { faces.new.entries ≡ without_interest face id faces.old.entries }
+    ensures before { result ≡ interest_at face id faces.old.entries }
 {
     match faces.get_mut(&face) {
         Some(asked) => asked.end(id),
-        None => {}
+        None => None,
     }
 }
 
-/// The face asks nothing at all.
-pub(crate) fn close_face(faces: &mut AskedMap, face: u32)
-    ensures { faces.new.entries ≡ closed_face face faces.old.entries }
+/// The face asks nothing at all; answers what it asked.
+pub(crate) fn close_face(faces: &mut AskedMap, face: u32) -> Option<Asked>
+    ensures after { faces.new.entries ≡ closed_face face faces.old.entries }
+    ensures before { result ≡ at face faces.old.entries }
 {
-    let _ = faces.remove(&face);
+    faces.remove(&face)
 }
 
 /// Whether the face asks for the key.
@@ -121,22 +129,4 @@ pub(crate) fn face_keyed(faces: &AskedMap, face: u32, key: &str) -> bool
         Some(asked) => asked.wants_keyed(key),
         None => false,
     }
-}
-
-/// The faces that ask for the key, of all faces.
-pub(crate) fn all_askers(
-    faces: &AskedMap,
-    alloc: Global,
-    key: &str,
-) -> Result<FaceList, OutOfMemory>
-    requires { IsTrue (is_key key.now) }
-    ensures { IfOk result (λ l. l ≡ askers key.now faces.now.entries) }
-{
-    let mut found = Items::new(alloc);
-    for (face, asked) in faces {
-        if asked.wants(key) {
-            found.push(FaceId(*face))?;
-        }
-    }
-    Ok(found)
 }

@@ -4,10 +4,9 @@ ghost use Rattle.std.specs.Option.{option_copied};
 ghost use Rattle.zq_key.specs.Key.{is_key};
 ghost use Rattle.zq_interests.specs.Interests.{asks_for, askers, closed_face, has_keyed, interest_at, with_interest, without_interest};
 
-use crate::faces::{
-    AskedMap, all_askers, close_face, end_interest, face_asks, face_keyed, get_interest,
-    put_interest,
-};
+use crate::faces::{AskedMap, face_asks, face_keyed, get_interest};
+use crate::kept::{close_kept, end_kept, kept_askers, put_kept};
+use crate::shelf::Shelf;
 use crate::types::{FaceList, InterestEntry};
 use std::alloc::Global;
 use std::collections::BTreeMap;
@@ -15,18 +14,23 @@ use std::marker::Model;
 use zq_key::memory::OutOfMemory;
 use zq_key::message::FaceId;
 
-/// What each face asks, under which ids.
+/// What each face asks, under which ids; and once more by the texts of keys, so that those who ask for
+/// a key are found without a look at the others.
 #[derive(Drop)]
 pub struct Interests {
     faces: AskedMap,
+    shelf: Shelf,
 }
 
 impl Model for Interests {
     ghost use Rattle.zq_interests.specs.Interests.{Interests};
+    ghost use Rattle.zq_interests.specs.Kept.{AreKept};
 
     ghost Value = { Interests };
 
     ghost view = { λ s. s.faces.entries };
+
+    ghost invariant = { λ s. AreKept s.faces.entries s.shelf };
 }
 
 impl Interests {
@@ -36,6 +40,7 @@ impl Interests {
     {
         Interests {
             faces: BTreeMap::new(alloc),
+            shelf: Shelf::new(alloc),
         }
     }
 
@@ -57,22 +62,24 @@ impl Interests {
         ensures ok { OnOk result (self.new ≡ with_interest face.0 id entry self.old) }
         ensures err { OnErr result (self.new ≡ self.old) }
     {
-        put_interest(&mut self.faces, alloc, face.0, id, entry)?;
-        Ok(())
+        match put_kept(&mut self.faces, &mut self.shelf, alloc, face.0, id, entry) {
+            Ok(()) => Ok(()),
+            Err(error) => Err(error),
+        }
     }
 
     /// The face asks nothing under the id, from now on.
     pub fn end(&mut self, face: FaceId, id: u32)
         ensures { self.new ≡ without_interest face.0 id self.old }
     {
-        end_interest(&mut self.faces, face.0, id);
+        end_kept(&mut self.faces, &mut self.shelf, face.0, id);
     }
 
     /// The face goes, with all that it asked.
     pub fn close(&mut self, face: FaceId)
         ensures { self.new ≡ closed_face face.0 self.old }
     {
-        close_face(&mut self.faces, face.0);
+        close_kept(&mut self.faces, &mut self.shelf, face.0);
     }
 
     /// Whether an interest of the face asks for the key.
@@ -96,6 +103,6 @@ impl Interests {
         requires { IsTrue (is_key key.now) }
         ensures { IfOk result (λ l. l ≡ askers key.now self.now) }
     {
-        all_askers(&self.faces, alloc, key)
+        kept_askers(&self.faces, &self.shelf, alloc, key)
     }
 }

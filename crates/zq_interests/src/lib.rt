@@ -5,12 +5,14 @@
 //! - `faces`: the interests of all faces, as a map
 //! - `shelf`, `places`, `keyed`: where interests are kept, by the texts of their keys
 //! - `walk`: the faces of interests whose keys meet a key
-//! - `interests`: `Interests`, the same with the faces that ask for a key
+//! - `kept`: the interests of all faces, and where they are kept
+//! - `interests`: `Interests`, the same as one value
 #![tactic(auto)]
 
 mod asked;
 mod faces;
 pub mod interests;
+mod kept;
 mod keyed;
 mod places;
 mod shelf;

@@ -6,8 +6,8 @@ use Rattle.zq_interests.specs.Interests.{Interests, interests_of}
 use Rattle.zq_interests.proofs.Writing.{not_written}
 use Rattle.zq_interests.proofs.faces.end_interest.Goals as goal
 
-pub returns-in-None : goal.returns-in-None
-returns-in-None c =
+pub returns-in-None-clause-after : goal.returns-in-None-clause-after
+returns-in-None-clause-after c =
     let n = c.args.face in
     let es : Interests = c.args.faces.now.entries in
     let same : c.get_mut.follows.lender-at-none.entries ≡ es = search rules in
