@@ -1,6 +1,6 @@
 -- The faces whose interests are kept under keys that meet a key are those that ask for it.
-use Rattle.std.proofs.Common.{◌≡◌, ◌∙◌, sym, ap, refl, subst, ℕ, Bool, true, false, cond, List, [], ◌∷◌, ◌++◌, Some, None, Option, true≢false, map, fold}
-use Rattle.std.specs.Prelude.{◌&&◌, ◌||◌, filter}
+use Rattle.std.proofs.Common.{◌≡◌, ◌∙◌, sym, ap, refl, ℕ, Bool, true, false, cond, List, [], ◌∷◌, ◌++◌, Some, None, Option, map, fold}
+use Rattle.std.specs.Prelude.{◌||◌, filter}
 use Rattle.std.specs.BTreeMap.{is_at}
 use Rattle.std.specs.Cmp.{nat_cmp_total}
 use Rattle.std.specs.List.{AllByRecursion, flat_map, list_any}
@@ -20,10 +20,9 @@ use Rattle.zq_key.proofs.Truth.{or_swap}
 use Rattle.zq_index.specs.Holders.{Place, place_cmp}
 use Rattle.zq_index.specs.Texts.{at_text, text_cmp}
 use Rattle.zq_index.proofs.Orders.{place_exact, place_total, text_exact, text_total}
-use Rattle.zq_message.specs.declared.message.FaceId.{FaceId}
 use Rattle.zq_interests.specs.declared.types.InterestEntry.{InterestEntry}
-use Rattle.zq_interests.specs.Interests.{Asked, Interests, askers, at, interest_at, interests_of, is_asker, meets, wants}
-use Rattle.zq_interests.specs.Kept.{AreKept, Keyed, Shelf, asks_just, has_place, is_kept, is_under, met_at, met_faces, met_places, numbered, places_at, same_asked, with_face}
+use Rattle.zq_interests.specs.Interests.{Asked, Interests, askers, at, interest_at, is_asker, meets, wants}
+use Rattle.zq_interests.specs.Kept.{AreKept, Keyed, Shelf, asks_just, has_place, is_kept, is_under, met_at, met_faces, met_places, numbered, with_face}
 use Rattle.zq_interests.proofs.Keeping.{Text, same_is, same_itself}
 
 or_right : (a b : Bool) → b ≡ true → (a || b) ≡ true

@@ -88,6 +88,13 @@ impl Asked {
         }
     }
 
+    /// What is asked, by id.
+    pub(crate) fn entries(&self) -> &BTreeMap<u32, InterestEntry>
+        ensures { result.now.entries ≡ self.now }
+    {
+        &self.entries
+    }
+
     /// What is asked under the id.
     pub(crate) fn get(&self, id: u32) -> Option<&InterestEntry>
         ensures { option_copied result ≡ at id self.now }

@@ -1,8 +1,8 @@
 //! What faces ask to hear.
 ghost use Rattle.std.specs.Prelude.{◌≡◌, [], OnOk, OnErr, IfOk, IsTrue};
-ghost use Rattle.std.specs.Option.{option_copied};
+ghost use Rattle.std.specs.Option.{option_copied, option_map};
 ghost use Rattle.zq_key.specs.Key.{is_key};
-ghost use Rattle.zq_interests.specs.Interests.{asks_for, askers, closed_face, has_keyed, interest_at, with_interest, without_interest};
+ghost use Rattle.zq_interests.specs.Interests.{asks_for, askers, at, closed_face, has_keyed, interest_at, with_interest, without_interest};
 
 use crate::faces::{AskedMap, face_asks, face_keyed, get_interest};
 use crate::kept::{close_kept, end_kept, kept_askers, put_kept};
@@ -51,7 +51,18 @@ impl Interests {
         get_interest(&self.faces, face.0, id)
     }
 
-    /// The face asks this under the id, from now on; another interest under the id is replaced.
+    /// What the face asks, by id; none where it never asked, or went.
+    pub fn asked_by(&self, face: FaceId) -> Option<&BTreeMap<u32, InterestEntry>>
+        ensures { option_map (λ m. m.now.entries) result ≡ at face.0 self.now }
+    {
+        match self.faces.get(&face.0) {
+            Some(asked) => Some(asked.entries()),
+            None => None,
+        }
+    }
+
+    /// The face asks this under the id, from now on; another interest under the id is replaced. All is as it
+    /// was where memory is lacking.
     pub fn put(
         &mut self,
         alloc: Global,
@@ -68,7 +79,7 @@ impl Interests {
         }
     }
 
-    /// The face asks nothing under the id, from now on.
+    /// The face asks nothing under the id, from now on. It takes no memory.
     pub fn end(&mut self, face: FaceId, id: u32)
         ensures { self.new ≡ without_interest face.0 id self.old }
     {
@@ -82,7 +93,7 @@ impl Interests {
         close_kept(&mut self.faces, &mut self.shelf, face.0);
     }
 
-    /// Whether an interest of the face asks for the key.
+    /// Whether an interest of the face asks for the key. It looks at this face's interests alone.
     pub fn asks_for(&self, face: FaceId, key: &str) -> bool
         requires { IsTrue (is_key key.now) }
         ensures { result ≡ asks_for face.0 key.now self.now }
@@ -90,7 +101,8 @@ impl Interests {
         face_asks(&self.faces, face.0, key)
     }
 
-    /// Whether an interest of the face asks for the key, and lets numbers be declared for keys.
+    /// Whether an interest of the face asks for the key, and numbers may be declared for keys. It looks at
+    /// this face's interests alone.
     pub fn has_keyed(&self, face: FaceId, key: &str) -> bool
         requires { IsTrue (is_key key.now) }
         ensures { result ≡ has_keyed face.0 key.now self.now }
@@ -98,7 +110,8 @@ impl Interests {
         face_keyed(&self.faces, face.0, key)
     }
 
-    /// The faces that ask for the key, in order of their numbers.
+    /// The faces that ask for the key, in order of their numbers, each once. They are found by the texts of
+    /// keys: interests in keys whose first bytes show that they do not meet this one are passed over.
     pub fn askers(&self, alloc: Global, key: &str) -> Result<FaceList, OutOfMemory>
         requires { IsTrue (is_key key.now) }
         ensures { IfOk result (λ l. l ≡ askers key.now self.now) }

@@ -1,4 +1,4 @@
-use Rattle.std.proofs.Common.{◌≡◌, ◌∙◌, ap, sym, subst, List, ℕ, Option}
+use Rattle.std.proofs.Common.{◌∙◌, ap, sym, subst, List, ℕ, Option}
 use Rattle.std.specs.Prelude.{not, ◌&&◌, ◌||◌, Bool}
 use Rattle.zq_index.specs.Holders.{Place}
 use Rattle.zq_interests.specs.Interests.{Interests}

@@ -1,4 +1,4 @@
-use Rattle.std.proofs.Common.{◌≡◌, ◌∙◌, sym, ap, List, [], ℕ, Bool}
+use Rattle.std.proofs.Common.{◌∙◌, sym, ap, List, [], ℕ}
 use Rattle.std.specs.BTreeMap.{insert_entry, is_at}
 use Rattle.std.specs.Option.{is_some}
 use Rattle.std.specs.Prelude.{◌||◌}
