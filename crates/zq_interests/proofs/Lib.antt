@@ -1,0 +1,5 @@
+pub mod Asking
+pub mod Keeping
+pub mod Under
+pub mod Walking
+pub mod Writing

@@ -1,0 +1,70 @@
+-- What faces ask to hear.
+use Rattle.std.specs.Prelude.{ℕ, Bool, true, ◌&&◌, List, [], map, filter, Option}
+use Rattle.std.specs.BTreeMap.{insert_entry, is_at}
+use Rattle.std.specs.List.{list_any}
+use Rattle.std.specs.Map.{lookup, remove_entry, set_value}
+use Rattle.std.specs.Option.{option_map_or}
+use Rattle.std.specs.Ordering.{nat_cmp}
+use Rattle.zq_message.specs.declared.message.FaceId.{FaceId}
+use Rattle.zq_key.specs.Key.{intersects}
+use Rattle.zq_interests.specs.declared.types.InterestEntry.{InterestEntry}
+
+-- the interests of one face, by id
+abbrev pub Asked : Type 0
+Asked = List (ℕ × InterestEntry)
+
+-- the interests of faces: by face, and by id
+abbrev pub Interests : Type 0
+Interests = List (ℕ × List (ℕ × InterestEntry))
+
+-- what stands at a number
+abbrev pub at : {X : Type 0} → ℕ → List (ℕ × X) → Option X
+at n entries = lookup (is_at (nat_cmp n)) entries
+
+-- the interests of a face
+abbrev pub interests_of : ℕ → Interests → List (ℕ × InterestEntry)
+interests_of face ints = option_map_or (λ es. es) (at face ints) []
+
+-- what the face asks under the id
+abbrev pub interest_at : ℕ → ℕ → Interests → Option InterestEntry
+interest_at face id ints = at id (interests_of face ints)
+
+-- the face asks this under the id
+abbrev pub with_interest : ℕ → ℕ → InterestEntry → Interests → Interests
+with_interest face id asked ints = insert_entry nat_cmp ints face (insert_entry nat_cmp (interests_of face ints) id asked)
+
+-- the face asks nothing under the id; one that never asked is not there afterwards either
+abbrev pub without_interest : ℕ → ℕ → Interests → Interests
+without_interest face id ints = set_value (is_at (nat_cmp face)) ints (remove_entry (is_at (nat_cmp id)) (interests_of face ints))
+
+-- the face asks nothing at all
+abbrev pub closed_face : ℕ → Interests → Interests
+closed_face face ints = remove_entry (is_at (nat_cmp face)) ints
+
+-- what is asked for has no key, or its key meets the key
+abbrev pub meets : Option (List ℕ) → List ℕ → Bool
+meets asked key = option_map_or (λ k. intersects k key) asked true
+
+-- the interest asks for the key
+abbrev pub wants : List ℕ → ℕ × InterestEntry → Bool
+wants key i = meets i.1.key key
+
+-- an interest of the face asks for the key
+abbrev pub asks_for : ℕ → List ℕ → Interests → Bool
+asks_for face key ints = list_any (wants key) (interests_of face ints)
+
+-- the interest asks for the key, and numbers may be declared for keys
+abbrev pub wants_keyed : List ℕ → ℕ × InterestEntry → Bool
+wants_keyed key i = i.1.keys && wants key i
+
+-- an interest of the face does so
+abbrev pub has_keyed : ℕ → List ℕ → Interests → Bool
+has_keyed face key ints = list_any (wants_keyed key) (interests_of face ints)
+
+-- the face asks for the key
+abbrev pub is_asker : List ℕ → ℕ × List (ℕ × InterestEntry) → Bool
+is_asker key f = list_any (wants key) f.1
+
+-- the faces that ask for the key, in order, each once
+abbrev pub askers : List ℕ → Interests → List FaceId
+askers key ints = map (λ f. record { 0 = f.0 }) (filter (is_asker key) ints)

@@ -1,0 +1,152 @@
+//! The interests of one face, by id.
+ghost use Rattle.std.specs.Prelude.{◌≡◌, ◌&&◌, [], not, ℕ, List, Option, None, OnOk, OnErr, IfOk, IsTrue};
+ghost use Rattle.std.specs.List.{list_any};
+ghost use Rattle.std.specs.Map.{remove_entry};
+ghost use Rattle.std.specs.Option.{option_copied};
+ghost use Rattle.std.specs.BTreeMap.{insert_entry, is_at};
+ghost use Rattle.std.specs.Ordering.{nat_cmp};
+ghost use Rattle.zq_key.specs.Key.{is_key};
+ghost use Rattle.zq_index.specs.Holders.{Place};
+ghost use Rattle.zq_interests.specs.Kept.{is_kept, is_of};
+ghost use Rattle.zq_interests.specs.Interests.{at, meets, wants, wants_keyed};
+
+use crate::shelf::Shelf;
+use crate::types::InterestEntry;
+use std::alloc::Global;
+use std::collections::BTreeMap;
+use std::marker::Model;
+use zq_key::memory::OutOfMemory;
+use zq_key::{Key, intersects};
+
+/// What one face asks, by id.
+#[derive(Drop)]
+pub(crate) struct Asked {
+    entries: BTreeMap<u32, InterestEntry>,
+}
+
+impl Model for Asked {
+    ghost use Rattle.zq_interests.specs.Interests.{Asked};
+
+    ghost Value = { Asked };
+
+    ghost view = { λ a. a.entries.entries };
+}
+
+/// Whether what is asked for has no key, or its key meets the key.
+pub(crate) fn meets(asked: &Option<Key>, key: &str) -> bool
+    requires { IsTrue (is_key key.now) }
+    ensures { result ≡ meets asked.now key.now }
+{
+    match asked {
+        Some(asked) => intersects(asked.as_str(), key),
+        None => true,
+    }
+}
+
+/// Whether one of the interests asks for the key.
+fn any_wants(entries: &BTreeMap<u32, InterestEntry>, key: &str) -> bool
+    requires { IsTrue (is_key key.now) }
+    ensures { result ≡ list_any (wants key.now) entries.now.entries }
+{
+    for (_, entry) in entries {
+        if meets(&entry.key, key) {
+            return true;
+        }
+    }
+    false
+}
+
+/// Whether one of the interests asks for the key, and numbers may be declared for keys.
+fn any_keyed(entries: &BTreeMap<u32, InterestEntry>, key: &str) -> bool
+    requires { IsTrue (is_key key.now) }
+    ensures { result ≡ list_any (wants_keyed key.now) entries.now.entries }
+{
+    for (_, entry) in entries {
+        if entry.keys && meets(&entry.key, key) {
+            return true;
+        }
+    }
+    false
+}
+
+/// None of the face's interests is kept any more.
+fn leave_all(entries: &BTreeMap<u32, InterestEntry>, shelf: &mut Shelf, face: u32)
+    ensures { (other : Option (List ℕ)) (q : Place) → is_kept other q shelf.new ≡ (not (is_of face entries.now.entries other q) && is_kept other q shelf.old) }
+{
+    for (id, entry) in entries {
+        shelf.take(&entry.key, (face, *id));
+    }
+}
+
+impl Asked {
+    /// Nothing is asked.
+    pub(crate) fn new(alloc: Global) -> Asked
+        ensures { result ≡ [] }
+    {
+        Asked {
+            entries: BTreeMap::new(alloc),
+        }
+    }
+
+    /// What is asked, by id.
+    pub(crate) fn entries(&self) -> &BTreeMap<u32, InterestEntry>
+        ensures { result.now.entries ≡ self.now }
+    {
+        &self.entries
+    }
+
+    /// What is asked under the id.
+    pub(crate) fn get(&self, id: u32) -> Option<&InterestEntry>
+        ensures { option_copied result ≡ at id self.now }
+    {
+        self.entries.get(&id)
+    }
+
+    /// This is asked under the id; answers what was before. Only a new id can lack memory.
+    pub(crate) fn put(
+        &mut self,
+        id: u32,
+        entry: InterestEntry,
+    ) -> Result<Option<InterestEntry>, OutOfMemory>
+        ensures ok { OnOk result (self.new ≡ insert_entry nat_cmp self.old id entry) }
+        ensures before { IfOk result (λ b. b ≡ at id self.old) }
+        ensures err { OnErr result (self.new ≡ self.old) }
+        ensures absent { OnErr result (at id self.old ≡ None) }
+    {
+        match self.entries.insert(id, entry) {
+            Ok(before) => Ok(before),
+            Err(_) => Err(OutOfMemory),
+        }
+    }
+
+    /// Nothing is asked under the id; answers what was before.
+    pub(crate) fn end(&mut self, id: u32) -> Option<InterestEntry>
+        ensures after { self.new ≡ remove_entry (is_at (nat_cmp id)) self.old }
+        ensures before { result ≡ at id self.old }
+    {
+        self.entries.remove(&id)
+    }
+
+    /// None of the face's interests is kept any more.
+    pub(crate) fn leave(&self, shelf: &mut Shelf, face: u32)
+        ensures { (other : Option (List ℕ)) (q : Place) → is_kept other q shelf.new ≡ (not (is_of face self.now other q) && is_kept other q shelf.old) }
+    {
+        leave_all(&self.entries, shelf, face);
+    }
+
+    /// Whether an interest asks for the key.
+    pub(crate) fn wants(&self, key: &str) -> bool
+        requires { IsTrue (is_key key.now) }
+        ensures { result ≡ list_any (wants key.now) self.now }
+    {
+        any_wants(&self.entries, key)
+    }
+
+    /// Whether an interest asks for the key, and numbers may be declared for keys.
+    pub(crate) fn wants_keyed(&self, key: &str) -> bool
+        requires { IsTrue (is_key key.now) }
+        ensures { result ≡ list_any (wants_keyed key.now) self.now }
+    {
+        any_keyed(&self.entries, key)
+    }
+}

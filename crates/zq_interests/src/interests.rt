@@ -1,0 +1,121 @@
+//! What faces ask to hear.
+ghost use Rattle.std.specs.Prelude.{◌≡◌, [], OnOk, OnErr, IfOk, IsTrue};
+ghost use Rattle.std.specs.Option.{option_copied, option_map};
+ghost use Rattle.zq_key.specs.Key.{is_key};
+ghost use Rattle.zq_interests.specs.Interests.{asks_for, askers, at, closed_face, has_keyed, interest_at, with_interest, without_interest};
+
+use crate::faces::{AskedMap, face_asks, face_keyed, get_interest};
+use crate::kept::{close_kept, end_kept, kept_askers, put_kept};
+use crate::shelf::Shelf;
+use crate::types::{FaceList, InterestEntry};
+use std::alloc::Global;
+use std::collections::BTreeMap;
+use std::marker::Model;
+use zq_key::memory::OutOfMemory;
+use zq_key::message::FaceId;
+
+/// What each face asks, under which ids; and once more by the texts of keys, so that those who ask for
+/// a key are found without a look at the others.
+#[derive(Drop)]
+pub struct Interests {
+    faces: AskedMap,
+    shelf: Shelf,
+}
+
+impl Model for Interests {
+    ghost use Rattle.zq_interests.specs.Interests.{Interests};
+    ghost use Rattle.zq_interests.specs.Kept.{AreKept};
+
+    ghost Value = { Interests };
+
+    ghost view = { λ s. s.faces.entries };
+
+    ghost invariant = { λ s. AreKept s.faces.entries s.shelf };
+}
+
+impl Interests {
+    /// No interests.
+    pub fn new(alloc: Global) -> Interests
+        ensures { result ≡ [] }
+    {
+        Interests {
+            faces: BTreeMap::new(alloc),
+            shelf: Shelf::new(alloc),
+        }
+    }
+
+    /// What the face asks under the id.
+    pub fn get(&self, face: FaceId, id: u32) -> Option<&InterestEntry>
+        ensures { option_copied result ≡ interest_at face.0 id self.now }
+    {
+        get_interest(&self.faces, face.0, id)
+    }
+
+    /// What the face asks, by id; none where it never asked, or went.
+    pub fn asked_by(&self, face: FaceId) -> Option<&BTreeMap<u32, InterestEntry>>
+        ensures { option_map (λ m. m.now.entries) result ≡ at face.0 self.now }
+    {
+        match self.faces.get(&face.0) {
+            Some(asked) => Some(asked.entries()),
+            None => None,
+        }
+    }
+
+    /// The face asks this under the id, from now on; another interest under the id is replaced. All is as it
+    /// was where memory is lacking.
+    pub fn put(
+        &mut self,
+        alloc: Global,
+        face: FaceId,
+        id: u32,
+        entry: InterestEntry,
+    ) -> Result<(), OutOfMemory>
+        ensures ok { OnOk result (self.new ≡ with_interest face.0 id entry self.old) }
+        ensures err { OnErr result (self.new ≡ self.old) }
+    {
+        match put_kept(&mut self.faces, &mut self.shelf, alloc, face.0, id, entry) {
+            Ok(()) => Ok(()),
+            Err(error) => Err(error),
+        }
+    }
+
+    /// The face asks nothing under the id, from now on. It takes no memory.
+    pub fn end(&mut self, face: FaceId, id: u32)
+        ensures { self.new ≡ without_interest face.0 id self.old }
+    {
+        end_kept(&mut self.faces, &mut self.shelf, face.0, id);
+    }
+
+    /// The face goes, with all that it asked.
+    pub fn close(&mut self, face: FaceId)
+        ensures { self.new ≡ closed_face face.0 self.old }
+    {
+        close_kept(&mut self.faces, &mut self.shelf, face.0);
+    }
+
+    /// Whether an interest of the face asks for the key. It looks at this face's interests alone.
+    pub fn asks_for(&self, face: FaceId, key: &str) -> bool
+        requires { IsTrue (is_key key.now) }
+        ensures { result ≡ asks_for face.0 key.now self.now }
+    {
+        face_asks(&self.faces, face.0, key)
+    }
+
+    /// Whether an interest of the face asks for the key, and numbers may be declared for keys. It looks at
+    /// this face's interests alone.
+    pub fn has_keyed(&self, face: FaceId, key: &str) -> bool
+        requires { IsTrue (is_key key.now) }
+        ensures { result ≡ has_keyed face.0 key.now self.now }
+    {
+        face_keyed(&self.faces, face.0, key)
+    }
+
+    /// The faces that ask for the key, in order of their numbers, each once. They are found by the texts of
+    /// keys: interests in keys whose first bytes show that they do not meet this one are passed over.
+    pub fn askers(&self, alloc: Global, key: &str) -> Result<FaceList, OutOfMemory>
+        requires { IsTrue (is_key key.now) }
+        ensures { IfOk result (λ l. l ≡ askers key.now self.now) }
+    {
+        kept_askers(&self.faces, &self.shelf, alloc, key)
+    }
+}

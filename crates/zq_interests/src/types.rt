@@ -1,0 +1,14 @@
+//! An interest of a face.
+use zq_key::Key;
+use zq_key::items::Items;
+use zq_key::message::FaceId;
+
+/// An interest of a face in the queryables of others: all, or those that meet a key.
+#[derive(Drop)]
+pub struct InterestEntry {
+    pub key: Option<Key>,
+    pub keys: bool,
+}
+
+/// Faces, in order of their numbers.
+pub type FaceList = Items<FaceId>;
