@@ -1,7 +1,7 @@
 -- What a change of one region's hat does to what faces hear: their own hat's fellows, the other regions' merge, and on what they listen.
 use Rattle.std.proofs.Common.{◌≡◌, ◌∙◌, refl, sym, ap, ℕ, Bool, true, false, cond, List, [], ◌∷◌, ◌++◌, map, Option, Some, None, eq-eqb, eqb-true, true≢false}
 use Rattle.std.specs.Prelude.{◌==◌, ◌&&◌, ◌||◌, filter}
-use Rattle.std.specs.List.{flat_map}
+use Rattle.std.specs.List.{AllByRecursion, flat_map}
 use Rattle.std.specs.Map.{keys_of}
 use Rattle.std.specs.BTreeMap.{is_at}
 use Rattle.std.specs.List.Sorted.{IsStrictlySortedBy}
@@ -30,14 +30,14 @@ use Rattle.zq_hat.specs.Kept.{region_info}
 use Rattle.zq_hat.specs.Regions.{in_routers, is_north, same_mode, same_region, strategy_at, strategy_of}
 use Rattle.zq_hat.specs.State.{HatState}
 use Rattle.zq_machine.specs.declared.face.OpenFace.{OpenFace}
-use Rattle.zq_machine.specs.Due.{heard_as, heard_by, heard_in, is_unasked}
-use Rattle.zq_machine.specs.State.{change_hat, hat_at, is_region, put_hat}
+use Rattle.zq_machine.specs.Due.{Interests, asks_for, due, heard, heard_as, heard_by, heard_in, is_unasked, listens, listens_in}
+use Rattle.zq_machine.specs.State.{Core, at, change_hat, hat_at, is_region, put_hat}
 use Rattle.zq_machine.specs.Trees.{own_entry}
 use Rattle.zq_machine.proofs.Changing.{hat_here, region_there}
 use Rattle.zq_own.specs.Own.{own_entry_as}
 use Rattle.zq_own.proofs.Changed.{own_changed, same_places}
 use Rattle.zq_dues.specs.declared.types.HatChange.{HatChange}
-use Rattle.zq_dues.specs.Dues.{dues_as, hats_after, hats_next, hears_as, listed_due, listens_as, new_info, will_be_due, will_listen}
+use Rattle.zq_dues.specs.Dues.{IsAfter, due_as, due_on, dues_as, dues_on, hats_after, hats_next, hears_as, listed_due, listens_as, new_info, will_be_due, will_listen}
 
 -- ---- a change keeps a hat's region and strategy
 networked_region : (k : Strategy) (net : Network) (s : HatState) → (in_routers k (record s { network = net; entries = staying (is_listed net) s.entries }) s).region ≡ s.region
@@ -201,3 +201,32 @@ module _ (asks : List ℕ → Bool) (next : Option HatChange) (face : ℕ) (o : 
   pub listed_is : (keys : List (List ℕ)) → flat_map (λ k. listed_due (asks k) next face o hats k) keys ≡ dues_as asks next face o hats keys
   listed_is [] = refl
   listed_is (key ∷ keys) = listed_by key keys (will_listen asks next o hats key) refl (listed_is keys)
+
+-- ---- the same of what decides after a call
+module _ (c : Core) (ints : Interests) (face : ℕ) (o : OpenFace) (opened : at face c.faces ≡ Some o) (key : List ℕ) (asks : Bool) (asked : asks ≡ asks_for face key ints) (hats : List (ℕ × HatState)) (same : hats ≡ c.hats) where
+  listens_is : listens_as asks hats o ≡ listens c ints face key
+  listens_is =
+      (λ j. listens_as (asked j) (same j) o)
+      ∙ ap (λ (p : Option OpenFace). option_map_or (listens_in ints face key) (option_and_then (λ (q : OpenFace). hat_at q.region c.hats) p) false) (sym opened)
+
+  heard_is : heard_as face key hats o ≡ heard c face key
+  heard_is = ap (λ l. heard_as face key l o) same ∙ ap (option_and_then (heard_as face key c.hats)) (sym opened)
+
+  pub due_is : due_as asks face key hats o ≡ due c ints face key
+  due_is = λ j. cond (listens_is j) (heard_is j) None
+
+module _ (c : Core) (ints : Interests) (asks : List ℕ → Bool) (next : Option HatChange) (face : ℕ) (o : OpenFace) (hats : List (ℕ × HatState)) (opened : at face c.faces ≡ Some o) (asked : (key : List ℕ) → asks key ≡ asks_for face key ints) where
+  all_by : (key : List ℕ) (keys : List (List ℕ)) (b : Bool) → will_be_due asks next face o hats key ≡ due_on c ints face key → dues_as asks next face o hats keys ≡ dues_on c ints keys face
+      → map (will_be_due asks next face o hats) (cond b (key ∷ filter (will_listen asks next o hats) keys) (filter (will_listen asks next o hats) keys))
+      ≡ map (due_on c ints face) (cond b (key ∷ filter (λ k. listens c ints face k) keys) (filter (λ k. listens c ints face k) keys))
+  all_by key keys true one ih = λ j. one j ∷ ih j
+  all_by key keys false one ih = ih
+
+  all_dues : (keys : List (List ℕ)) → AllByRecursion (λ key. hats_after next key hats ≡ c.hats) keys → dues_as asks next face o hats keys ≡ dues_on c ints keys face
+  all_dues [] all = refl
+  all_dues (key ∷ keys) all =
+      all_by key keys (will_listen asks next o hats key) (ap (λ i. (key, i)) (due_is c ints face o opened key (asks key) (asked key) (hats_after next key hats) all.0)) (all_dues keys all.1)
+      ∙ ap (λ b. map (due_on c ints face) (cond b (key ∷ filter (λ k. listens c ints face k) keys) (filter (λ k. listens c ints face k) keys))) (listens_is c ints face o opened key (asks key) (asked key) (hats_after next key hats) all.0)
+
+pub dues_are : (c : Core) (ints : Interests) (asks : List ℕ → Bool) (next : Option HatChange) (face : ℕ) (o : OpenFace) (hats : List (ℕ × HatState)) (keys : List (List ℕ)) → IsAfter c ints asks next face o hats keys → dues_as asks next face o hats keys ≡ dues_on c ints keys face
+dues_are c ints asks next face o hats keys is = all_dues c ints asks next face o hats is.opened is.asked keys is.after

@@ -1,10 +1,11 @@
 //! Whether a face listens on a key, and what will be due to it there once a hat has changed.
-ghost use Rattle.std.specs.Prelude.{◌≡◌, option_copied};
+ghost use Rattle.std.specs.Prelude.{◌≡◌, Some, option_copied};
 ghost use Rattle.zq_regions.specs.Region.{region_index};
 ghost use Rattle.zq_hat.specs.Changes.{changed_if};
 ghost use Rattle.zq_hat.specs.Fellows.{fellow_info};
 ghost use Rattle.zq_hat.specs.Regions.{is_north, strategy_at};
-ghost use Rattle.zq_machine.specs.Due.{heard_as, heard_by, is_unasked};
+ghost use Rattle.zq_machine.specs.Due.{Interests, asks_for, due, heard_as, heard_by, is_unasked};
+ghost use Rattle.zq_machine.specs.State.{Core, at};
 ghost use Rattle.zq_machine.specs.Trees.{own_entry};
 ghost use Rattle.zq_dues.specs.Dues.{due_as, hats_after, hats_next, listens_as, new_info};
 
@@ -154,7 +155,8 @@ pub fn due_as(
     asks: bool,
     key: &str,
 ) -> Option<QueryableInfoType>
-    ensures { result ≡ due_as asks face.0 key.now (hats_after (option_copied next.entry) key.now hats.now) opened }
+    ensures due { result ≡ due_as asks face.0 key.now (hats_after (option_copied next.entry) key.now hats.now) opened }
+    ensures same { (c : Core) (ints : Interests) → at face.0 c.faces ≡ Some opened → asks ≡ asks_for face.0 key.now ints → hats_after (option_copied next.entry) key.now hats.now ≡ c.hats → result ≡ due c ints face.0 key.now }
 {
     if listens(hats, opened, asks) {
         heard_after(hats, next, face, opened, key)

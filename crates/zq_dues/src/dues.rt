@@ -1,6 +1,8 @@
 //! What will be due to a face on some keys, once a hat has changed.
 ghost use Rattle.std.specs.Prelude.{◌≡◌, ◌++◌, ℕ, Bool, List, IfOk, OnOk, option_copied};
-ghost use Rattle.zq_dues.specs.Dues.{dues_as, listed_due};
+ghost use Rattle.zq_dues.specs.Dues.{IsAfter, dues_as, dues_on, listed_due};
+ghost use Rattle.zq_machine.specs.Due.{Interests};
+ghost use Rattle.zq_machine.specs.State.{Core};
 
 use crate::due::{heard_after, listens};
 use crate::types::HatChange;
@@ -56,7 +58,8 @@ pub fn dues_of_face<A: Asking>(
     opened: OpenFace,
     keys: &[Text],
 ) -> Result<KeyDues, OutOfMemory>
-    ensures { IfOk result (λ ds. ds ≡ dues_as (A.asks asking.now face.0) (option_copied next.entry) face.0 opened hats.now keys.now) }
+    ensures dues { IfOk result (λ ds. ds ≡ dues_as (A.asks asking.now face.0) (option_copied next.entry) face.0 opened hats.now keys.now) }
+    ensures same { (c : Core) (ints : Interests) → IsAfter c ints (A.asks asking.now face.0) (option_copied next.entry) face.0 opened hats.now keys.now → IfOk result (λ ds. ds ≡ dues_on c ints keys.now face.0) }
 {
     let mut dues = Items::new(alloc);
     for key in keys {
