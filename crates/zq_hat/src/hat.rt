@@ -1,6 +1,7 @@
 //! The hat of one region.
 ghost use Rattle.std.specs.Prelude.{◌≡◌, ◌↔◌, [], Some, None, true, false, is_some, OnOk, OnErr, IfOk, IsErrOf, option_copied, option_map, IsTrue, fold, map, string_bytes};
 ghost use Rattle.zq_index.specs.Texts.{text_cmp};
+ghost use Rattle.std.specs.List.{AllByRecursion};
 ghost use Rattle.std.specs.Map.{set_value};
 ghost use Rattle.std.specs.BTreeMap.{is_at};
 ghost use Rattle.std.specs.Ordering.{nat_cmp};
@@ -698,14 +699,16 @@ impl Hat {
 
     /// The keys that the faces declared join the texts.
     fn add_declared(&self, keys: &mut BTreeSet<String>) -> Result<(), OutOfMemory>
-        ensures { OnOk result (map string_bytes keys.new.keys ≡ fold (insert_key text_cmp) (map string_bytes keys.old.keys) (declared_keys self.now.faces)) }
+        ensures joined { OnOk result (map string_bytes keys.new.keys ≡ fold (insert_key text_cmp) (map string_bytes keys.old.keys) (declared_keys self.now.faces)) }
+        ensures valid { AllByRecursion (λ k. is_key k ≡ true) (declared_keys self.now.faces) }
     {
         add_texts(keys, self.alloc, &self.index)
     }
 
     /// The keys on which the region has information join the texts.
     pub fn add_keys(&self, keys: &mut BTreeSet<String>) -> Result<(), OutOfMemory>
-        ensures { OnOk result (map string_bytes keys.new.keys ≡ fold (insert_key text_cmp) (map string_bytes keys.old.keys) (region_keys self.now)) }
+        ensures joined { OnOk result (map string_bytes keys.new.keys ≡ fold (insert_key text_cmp) (map string_bytes keys.old.keys) (region_keys self.now)) }
+        ensures valid { AllByRecursion (λ k. is_key k ≡ true) (region_keys self.now) }
     {
         match strategy_of(self.region, self.north_mode) {
             Strategy::Broker | Strategy::Client | Strategy::Peer => self.add_declared(keys),
