@@ -9,7 +9,7 @@ use Rattle.std.specs.BTreeMap.{is_at}
 use Rattle.std.proofs.lemmas.Map.Text.{is_eq-slice_cmp}
 use Rattle.std.proofs.Math.Bool.{or-false, or_assoc}
 use Rattle.std.proofs.lemmas.Map.Made.{is_some-lookup}
-use Rattle.zq_key.specs.Key.{intersects}
+use Rattle.zq_key.specs.Key.{intersects, is_key}
 use Rattle.zq_message.specs.declared.message.Region.{Region}
 use Rattle.zq_hat.specs.declared.types.Declaration.{Declaration}
 use Rattle.zq_index.specs.Texts.{text_cmp, at_text}
@@ -109,3 +109,8 @@ module _ (faces : List (ℕ × FaceState)) (index : Index) (t : IsTied faces ind
   -- each text of the index is a key
   pub all_keyed : AllByRecursion IsKeyed index
   all_keyed = each_entry text_total text_exact IsKeyed index t.texts t.keys
+
+-- texts of entries that are keys are keys
+pub keyed_texts : {V : Type 0} (es : List (List ℕ × V)) → AllByRecursion IsKeyed es → AllByRecursion (λ k. is_key k ≡ true) (keys_of es)
+keyed_texts [] all = tt
+keyed_texts (e ∷ es) all = (all.0, keyed_texts es all.1)

@@ -1,5 +1,6 @@
 -- What a call may change of what a region has on a key.
-use Rattle.std.specs.Prelude.{ℕ, List}
+use Rattle.std.specs.Prelude.{ℕ, List, Option}
+use Rattle.std.specs.Option.{option_map_or}
 use Rattle.zq_hat.specs.declared.types.Change.{Change}
 use Rattle.zq_hat.specs.declared.types.Change.TheVariants as change
 use Rattle.zq_hat.specs.Kept.{change_face, declare, unregistered, without_face}
@@ -14,3 +15,7 @@ changed_by (change.Left face) key s = without_face face.0 s
 changed_by (change.Announced router i) key s = announced router.0 key i s
 changed_by (change.Retracted router) key s = retracted router.0 key s
 changed_by (change.Networked net) key s = networked net s
+
+-- the same, if there is a change
+abbrev pub changed_if : Option Change → List ℕ → HatState → HatState
+changed_if change key s = option_map_or (λ c. changed_by c key s) change s

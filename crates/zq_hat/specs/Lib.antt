@@ -8,4 +8,5 @@ pub mod Tied
 pub mod Routers
 pub mod Trees
 pub mod Changes
+pub mod Fellows
 pub mod Moved

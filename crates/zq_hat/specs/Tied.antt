@@ -1,10 +1,9 @@
 -- What the index of a hat has of its faces' declarations, and what is offered by it.
-use Rattle.std.specs.Prelude.{ℕ, ◌≡◌, Bool, true, false, List, [], Option, Some, None, map, filter, not, if◌then◌else◌}
+use Rattle.std.specs.Prelude.{ℕ, ◌≡◌, Bool, true, false, List, [], Option, Some, None, map, filter, if◌then◌else◌}
 use Rattle.std.specs.List.{flat_map}
 use Rattle.std.specs.List.Sorted.{IsStrictlySortedBy}
 use Rattle.std.specs.Option.{option_and_then, option_map_or}
 use Rattle.std.specs.Map.{keys_of}
-use Rattle.std.specs.BTreeMap.{is_at}
 use Rattle.std.specs.Ordering.{nat_cmp}
 use Rattle.std.specs.Str.{bytes_eq}
 use Rattle.zq_key.specs.Key.{is_key}
@@ -56,10 +55,6 @@ without_declared number index d = without_holding d.1.key (number, d.0) index
 -- the face of the number has the id
 abbrev pub sits : List (ℕ × FaceState) → Seat → Bool
 sits faces seat = option_map_or (λ (f : FaceState). is_zid (record { 0 = seat.0 }) f.zid) (at_id seat.1 faces) false
-
--- the place is of another face
-abbrev pub is_elsewhere : ℕ → Place → Bool
-is_elsewhere number p = not (is_at (nat_cmp number) p.0)
 
 -- in a region of routers the seats are those of its faces, in any other there are none
 pub record IsSeated (strategy : Strategy) (faces : List (ℕ × FaceState)) (seats : List Seat) : Type 0 where

@@ -1,6 +1,7 @@
 //! The hat of one region.
 ghost use Rattle.std.specs.Prelude.{◌≡◌, ◌↔◌, [], Some, None, true, false, is_some, OnOk, OnErr, IfOk, IsErrOf, option_copied, option_map, IsTrue, fold, map, string_bytes};
 ghost use Rattle.zq_index.specs.Texts.{text_cmp};
+ghost use Rattle.std.specs.List.{AllByRecursion};
 ghost use Rattle.std.specs.Map.{set_value};
 ghost use Rattle.std.specs.BTreeMap.{is_at};
 ghost use Rattle.std.specs.Ordering.{nat_cmp};
@@ -14,7 +15,8 @@ ghost use Rattle.zq_hat.specs.Offers.{declared_offers, offers_beside, offers_of}
 ghost use Rattle.std.specs.BTreeSet.{insert_key};
 ghost use Rattle.zq_trees.specs.Seating.{number, seat_cmp};
 ghost use Rattle.zq_hat.specs.Routers.{announced, context_at, entry_at, face_with, losing, networked, noded, retracted, router_offers, source_at, source_for};
-ghost use Rattle.zq_hat.specs.Changes.{changed_by};
+ghost use Rattle.zq_hat.specs.Changes.{changed_by, changed_if};
+ghost use Rattle.zq_hat.specs.Fellows.{fellow_info, info_but};
 ghost use Rattle.zq_trees.specs.Entries.{is_one_of, keys_by, staying, without_routers};
 ghost use Rattle.zq_trees.specs.Nets.{is_listed};
 ghost use Rattle.zq_trees.specs.Networks.{any_gives};
@@ -26,17 +28,18 @@ use crate::face::HatFace;
 use crate::faces::{
     changed, copy_faces, declare, forget, set_mark, set_nodes, take_seat, withdraw,
 };
-use crate::merges::{add_texts, merged_elsewhere, merged_with, merged_without};
+use crate::merges::{add_texts, is_other, merged_but};
 use crate::offers;
 use crate::strategy::{same_region, strategy_of};
 use crate::types::{
-    Change, FaceRecord, FinalMark, HatRefusal, NodeIds, OfferList, QueryTargetQabl, Strategy,
-    TellingList, UnregisterEntityResult, ZidList,
+    Change, FaceRecord, FinalMark, HatRefusal, Leaving, NodeIds, OfferList, QueryTargetQabl,
+    Strategy, TellingList, UnregisterEntityResult, ZidList,
 };
 use std::alloc::Global;
 use std::collections::{BTreeMap, BTreeSet};
 use std::marker::Model;
 use zq_index::holders::{FacePlace, KeyHolders};
+use zq_index::info::joined;
 use zq_key::Key;
 use zq_key::items::Items;
 use zq_key::memory::OutOfMemory;
@@ -480,48 +483,64 @@ impl Hat {
         }
     }
 
-    /// What the faces would have declared on the key, merged, with this declaration.
+    /// What the faces but one would have declared on the key, merged, with this declaration.
     fn declared_with(
         &self,
+        but: Option<FaceId>,
         face: FaceId,
         id: u32,
         info: QueryableInfoType,
         key: &str,
     ) -> Option<QueryableInfoType>
-        ensures { result ≡ faces_info key.now (change_face face.0 (declare id key.now info) self.now).faces }
+        ensures { result ≡ info_but but key.now (change_face face.0 (declare id key.now info) self.now) }
     {
-        if self.faces.contains_key(&face.0) {
-            Some(merged_with(&self.index, (face.0, id), info, key))
+        let leaving = Leaving { face, id: Some(id) };
+        let others = merged_but(&self.index, but, Some(leaving), key);
+        if is_other(but, face) && self.faces.contains_key(&face.0) {
+            joined(others, Some(info))
         } else {
-            self.declared_info(key)
+            others
         }
     }
 
-    /// The same without the declaration of the id.
-    fn declared_without(&self, face: FaceId, id: u32, key: &str) -> Option<QueryableInfoType>
-        ensures { result ≡ faces_info key.now (unregistered face.0 id self.now).faces }
-    {
-        merged_without(&self.index, (face.0, id), key)
-    }
-
-    /// The same without what the face declared.
-    fn declared_elsewhere(&self, face: FaceId, key: &str) -> Option<QueryableInfoType>
-        ensures { result ≡ faces_info key.now (without_face face.0 self.now).faces }
-    {
-        merged_elsewhere(&self.index, face, key)
-    }
-
-    /// What the faces would have declared on the key after the change, merged.
-    fn declared_after(&self, change: &Change, key: &str) -> Option<QueryableInfoType>
-        ensures { result ≡ faces_info key.now (changed_by change.now key.now self.now).faces }
+    /// What the faces but one would have declared on the key after the change, merged.
+    fn declared_after(
+        &self,
+        but: Option<FaceId>,
+        change: &Change,
+        key: &str,
+    ) -> Option<QueryableInfoType>
+        ensures { result ≡ info_but but key.now (changed_by change.now key.now self.now) }
     {
         match change {
-            Change::Declared { face, id, info } => self.declared_with(*face, *id, *info, key),
-            Change::Withdrawn { face, id } => self.declared_without(*face, *id, key),
-            Change::Left(face) => self.declared_elsewhere(*face, key),
-            Change::Announced { .. } | Change::Retracted(_) | Change::Networked(_) => {
-                self.declared_info(key)
+            Change::Declared { face, id, info } => self.declared_with(but, *face, *id, *info, key),
+            Change::Withdrawn { face, id } => {
+                let id = Some(*id);
+                merged_but(&self.index, but, Some(Leaving { face: *face, id }), key)
             }
+            Change::Left(face) => {
+                let id = None;
+                merged_but(&self.index, but, Some(Leaving { face: *face, id }), key)
+            }
+            Change::Announced { .. } | Change::Retracted(_) | Change::Networked(_) => {
+                merged_but(&self.index, but, None, key)
+            }
+        }
+    }
+
+    /// What the other faces will have declared on the key once the hat has changed, merged; where
+    /// nothing changes, what they have.
+    pub fn fellows_after(
+        &self,
+        change: Option<&Change>,
+        face: FaceId,
+        key: &str,
+    ) -> Option<QueryableInfoType>
+        ensures { result ≡ fellow_info face.0 key.now (changed_if (option_copied change.entry) key.now self.now) }
+    {
+        match change {
+            Some(change) => self.declared_after(Some(face), change, key),
+            None => merged_but(&self.index, Some(face), None, key),
         }
     }
 
@@ -548,7 +567,7 @@ impl Hat {
     {
         match self.strategy() {
             Strategy::Broker | Strategy::Client | Strategy::Peer => {
-                self.declared_after(change, key)
+                self.declared_after(None, change, key)
             }
             Strategy::Router => self.routed_after(change, key),
         }
@@ -680,14 +699,16 @@ impl Hat {
 
     /// The keys that the faces declared join the texts.
     fn add_declared(&self, keys: &mut BTreeSet<String>) -> Result<(), OutOfMemory>
-        ensures { OnOk result (map string_bytes keys.new.keys ≡ fold (insert_key text_cmp) (map string_bytes keys.old.keys) (declared_keys self.now.faces)) }
+        ensures joined { OnOk result (map string_bytes keys.new.keys ≡ fold (insert_key text_cmp) (map string_bytes keys.old.keys) (declared_keys self.now.faces)) }
+        ensures valid { AllByRecursion (λ k. is_key k ≡ true) (declared_keys self.now.faces) }
     {
         add_texts(keys, self.alloc, &self.index)
     }
 
     /// The keys on which the region has information join the texts.
     pub fn add_keys(&self, keys: &mut BTreeSet<String>) -> Result<(), OutOfMemory>
-        ensures { OnOk result (map string_bytes keys.new.keys ≡ fold (insert_key text_cmp) (map string_bytes keys.old.keys) (region_keys self.now)) }
+        ensures joined { OnOk result (map string_bytes keys.new.keys ≡ fold (insert_key text_cmp) (map string_bytes keys.old.keys) (region_keys self.now)) }
+        ensures valid { AllByRecursion (λ k. is_key k ≡ true) (region_keys self.now) }
     {
         match strategy_of(self.region, self.north_mode) {
             Strategy::Broker | Strategy::Client | Strategy::Peer => self.add_declared(keys),

@@ -1,12 +1,13 @@
 //! The keys of declarations, and what these would say on a key, merged, after a change.
-ghost use Rattle.std.specs.Prelude.{◌≡◌, None, OnOk, Some, filter, fold, map, string_bytes};
-ghost use Rattle.std.specs.BTreeMap.{insert_entry, is_at};
+ghost use Rattle.std.specs.Prelude.{◌≡◌, None, OnOk, false, filter, fold, map, string_bytes};
 ghost use Rattle.std.specs.BTreeSet.{insert_key};
-ghost use Rattle.std.specs.Map.{keys_of, remove_entry};
+ghost use Rattle.std.specs.Map.{keys_of};
+ghost use Rattle.std.specs.Option.{option_map_or};
 ghost use Rattle.zq_index.specs.Texts.{text_cmp};
-ghost use Rattle.zq_index.specs.Holders.{held_at, place_cmp, with_held};
-ghost use Rattle.zq_hat.specs.Tied.{is_elsewhere};
+ghost use Rattle.zq_index.specs.Holders.{held_at, with_held};
+ghost use Rattle.zq_hat.specs.Fellows.{is_leaving, is_left_in, is_other};
 
+use crate::types::Leaving;
 use std::alloc::Global;
 use std::collections::BTreeSet;
 use zq_index::holders::{FacePlace, KeyHolders, Place, PlaceTest};
@@ -14,17 +15,44 @@ use zq_index::text_set::put_text;
 use zq_key::memory::OutOfMemory;
 use zq_key::message::{FaceId, QueryableInfoType};
 
-/// The places of other faces.
+/// The places that a merge leaves in.
 #[derive(Drop)]
-struct OtherFaces {
-    number: u32,
+struct LeftIn {
+    but: Option<FaceId>,
+    leaving: Option<Leaving>,
 }
 
-impl PlaceTest<FacePlace> for OtherFaces {
-    ghost passes = { λ f place. is_elsewhere f.number place };
+impl PlaceTest<FacePlace> for LeftIn {
+    ghost passes = { λ t place. is_left_in t.but t.leaving place };
 
     fn is_passed(&self, place: FacePlace) -> bool {
-        self.number != place.0
+        is_other(self.but, FaceId(place.0)) && !is_leaving(self.leaving, place)
+    }
+}
+
+/// Whether it is not the face that is left out.
+pub fn is_other(but: Option<FaceId>, face: FaceId) -> bool
+    ensures { result ≡ is_other but face.0 }
+{
+    match but {
+        Some(left) => left.0 != face.0,
+        None => true,
+    }
+}
+
+/// Whether the place is of what goes.
+fn is_leaving(leaving: Option<Leaving>, place: FacePlace) -> bool
+    ensures { result ≡ option_map_or (λ l. is_leaving l place) leaving false }
+{
+    let Some(leaving) = leaving else {
+        return false;
+    };
+    if leaving.face.0 != place.0 {
+        return false;
+    }
+    match leaving.id {
+        Some(id) => id == place.1,
+        None => true,
     }
 }
 
@@ -43,45 +71,17 @@ pub fn add_texts<P: Place>(
     Ok(())
 }
 
-/// What the declarations on the key would say, merged, with this one of the place.
-pub fn merged_with(
+/// What the declarations on the key would say, merged, but for those of a face and for what goes.
+pub fn merged_but(
     index: &KeyHolders<FacePlace>,
-    place: FacePlace,
-    info: QueryableInfoType,
-    key: &str,
-) -> QueryableInfoType
-    ensures { Some result ≡ fold with_held None (insert_entry place_cmp (held_at key.now index.now) place info) }
-{
-    match index.get(key) {
-        Some(holders) => holders.merged_with(place, info),
-        None => info,
-    }
-}
-
-/// The same without that of the place.
-pub fn merged_without(
-    index: &KeyHolders<FacePlace>,
-    place: FacePlace,
+    but: Option<FaceId>,
+    leaving: Option<Leaving>,
     key: &str,
 ) -> Option<QueryableInfoType>
-    ensures { result ≡ fold with_held None (remove_entry (is_at (place_cmp place)) (held_at key.now index.now)) }
+    ensures { result ≡ fold with_held None (filter (λ h. is_left_in but leaving h.0) (held_at key.now index.now)) }
 {
     match index.get(key) {
-        Some(holders) => holders.merged_without(place),
-        None => None,
-    }
-}
-
-/// The same without those of the face.
-pub fn merged_elsewhere(
-    index: &KeyHolders<FacePlace>,
-    face: FaceId,
-    key: &str,
-) -> Option<QueryableInfoType>
-    ensures { result ≡ fold with_held None (filter (λ h. is_elsewhere face.0 h.0) (held_at key.now index.now)) }
-{
-    match index.get(key) {
-        Some(holders) => holders.merged_of(&OtherFaces { number: face.0 }),
+        Some(holders) => holders.merged_of(&LeftIn { but, leaving }),
         None => None,
     }
 }

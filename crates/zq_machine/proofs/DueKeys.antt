@@ -26,6 +26,7 @@ use Rattle.zq_hat.specs.declared.types.Declaration.{Declaration}
 use Rattle.zq_hat.specs.declared.types.FaceRecord.{FaceRecord}
 use Rattle.zq_hat.specs.declared.types.Strategy.{Strategy}
 use Rattle.zq_hat.specs.declared.types.Strategy.TheVariants as strategy
+use Rattle.zq_hat.specs.Fellows.{fellow_info, with_fellow}
 use Rattle.zq_hat.specs.Kept.{declared_keys, face_at, faces_info, has_face, info, key_of, new_face, region_info, routers_info, with_declared, with_face, with_face_opened, with_key, with_keys}
 use Rattle.zq_hat.specs.Regions.{in_routers, strategy_at}
 use Rattle.zq_hat.specs.State.{FaceState, HatState}
@@ -33,7 +34,7 @@ use Rattle.zq_hat.specs.Trees.{region_keys}
 use Rattle.zq_machine.specs.declared.call.Opening.{Opening}
 use Rattle.zq_machine.specs.declared.face.OpenFace.{OpenFace}
 use Rattle.zq_machine.specs.Deciding.{accepted, seat}
-use Rattle.zq_machine.specs.Due.{Interests, KeysRise, due, due_keys, due_touched, fellow_info, heard, heard_as, heard_by, heard_in, listens, meets, met_keys, with_fellow, with_region_keys}
+use Rattle.zq_machine.specs.Due.{Interests, KeysRise, due, due_keys, due_touched, heard, heard_as, heard_by, heard_in, listens, meets, met_keys, with_region_keys}
 use Rattle.zq_machine.specs.State.{Core, at, hat_at, joined as join, put_hat}
 use Rattle.zq_machine.specs.TextCalls.{TextCall, opening}
 use Rattle.zq_machine.specs.Trees.{own_entry, touched, with_other}

@@ -23,6 +23,7 @@ use Rattle.zq_index.proofs.Merges.{joined_none, joined_regroup, joined_swap}
 use Rattle.zq_hat.specs.declared.types.InterestEntry.{InterestEntry}
 use Rattle.zq_hat.specs.declared.types.Strategy.{Strategy}
 use Rattle.zq_hat.specs.declared.types.Strategy.TheVariants as strategy
+use Rattle.zq_hat.specs.Fellows.{fellow_info}
 use Rattle.zq_hat.specs.Kept.{at_id, face_at, info, region_info}
 use Rattle.zq_hat.specs.Regions.{in_routers, is_north, strategy_at, strategy_of}
 use Rattle.zq_hat.specs.State.{FaceState, HatState}
@@ -30,7 +31,7 @@ use Rattle.zq_machine.specs.declared.call.Call.{Call}
 use Rattle.zq_machine.specs.declared.face.OpenFace.{OpenFace}
 use Rattle.zq_machine.specs.Configs.{Settings}
 use Rattle.zq_machine.specs.Machine.{state_after}
-use Rattle.zq_machine.specs.Due.{Interests, asks_for, due, fellow_info, heard, heard_as, heard_by, heard_in, interests_of, is_unasked, listens, listens_in, wants}
+use Rattle.zq_machine.specs.Due.{Interests, asks_for, due, heard, heard_as, heard_by, heard_in, interests_of, is_unasked, listens, listens_in, wants}
 use Rattle.zq_machine.specs.State.{Core, at, hat_at, hat_of, is_routing, opening_state}
 use Rattle.zq_machine.specs.Trees.{own_entry}
 use Rattle.zq_machine.proofs.Agreed.{InOrder, run_in_order}

@@ -26,6 +26,7 @@ use Rattle.zq_hat.specs.declared.types.Declaration.{Declaration}
 use Rattle.zq_hat.specs.declared.types.FaceRecord.{FaceRecord}
 use Rattle.zq_hat.specs.declared.types.Strategy.{Strategy}
 use Rattle.zq_hat.specs.declared.types.Strategy.TheVariants as strategy
+use Rattle.zq_hat.specs.Fellows.{fellow_info, with_fellow}
 use Rattle.zq_hat.specs.Kept.{change_face, declaration_at, declare, face_at, has_face, info, key_of, keys_of_face, new_face, registered, unregistered, with_face_opened, withdraw, without_face}
 use Rattle.zq_hat.specs.Marks.{finalized, marked}
 use Rattle.zq_hat.specs.Regions.{in_routers, is_north, strategy_at}
@@ -37,7 +38,7 @@ use Rattle.zq_machine.specs.declared.call.Opening.{Opening}
 use Rattle.zq_machine.specs.declared.face.OpenFace.{OpenFace}
 use Rattle.zq_machine.specs.Configs.{Settings}
 use Rattle.zq_machine.specs.Deciding.{accepted, announced_by, causes, opened, refusal_of, retracted_by, seat}
-use Rattle.zq_machine.specs.Due.{Interests, asks_for, due, due_keys, fellow_info, heard_as, heard_by, heard_in, is_due_touched, is_unasked, listens_in, with_fellow}
+use Rattle.zq_machine.specs.Due.{Interests, asks_for, due, due_keys, heard_as, heard_by, heard_in, is_due_touched, is_unasked, listens_in}
 use Rattle.zq_machine.specs.Machine.{after, state_after}
 use Rattle.zq_machine.specs.Selecting.{full_text}
 use Rattle.zq_machine.specs.State.{Core, State, at, clashes_in, hat_at, is_open, is_region, joined as join, opening_state}

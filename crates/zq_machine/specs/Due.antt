@@ -17,7 +17,8 @@ use Rattle.zq_hat.specs.declared.types.Declaration.{Declaration}
 use Rattle.zq_hat.specs.declared.types.InterestEntry.{InterestEntry}
 use Rattle.zq_hat.specs.declared.types.Strategy.{Strategy}
 use Rattle.zq_hat.specs.declared.types.Strategy.TheVariants as strategy
-use Rattle.zq_hat.specs.Kept.{change_face, info}
+use Rattle.zq_hat.specs.Fellows.{fellow_info}
+use Rattle.zq_hat.specs.Kept.{change_face}
 use Rattle.zq_hat.specs.Regions.{is_north, strategy_at}
 use Rattle.zq_hat.specs.State.{FaceState, HatState}
 use Rattle.zq_hat.specs.Trees.{region_keys}
@@ -72,14 +73,6 @@ abbrev pub listens : Core → Interests → ℕ → List ℕ → Bool
 listens c ints face key = option_map_or (listens_in ints face key) (hat_of face c) false
 
 -- ---- what there is to hear
-
--- what another face declared on the key is merged in
-abbrev pub with_fellow : ℕ → List ℕ → Option QueryableInfoType → ℕ × FaceState → Option QueryableInfoType
-with_fellow face key m f = if f.0 == face then m else joined m (info key f.1)
-
--- what the other faces of a hat declared on the key, merged
-abbrev pub fellow_info : ℕ → List ℕ → HatState → Option QueryableInfoType
-fellow_info face key h = fold (with_fellow face key) None h.faces
 
 -- what a face hears, of its fellows and of the other regions: under a broker of both, as a client or a peer of the other regions, among routers nothing
 abbrev pub heard_by : Strategy → (fellows others : Option QueryableInfoType) → Option QueryableInfoType

@@ -225,3 +225,12 @@ no_hat_each r change hats keys none = flat_none (change_told hats r change) keys
 pub told_by_change : (r : Region) (change : Change) (key : List ℕ) (h : HatState) (hats : List (ℕ × HatState)) → IsStrictlySortedBy nat_cmp (keys_of hats) → hat_at r hats ≡ Some h
     → (i : Option QueryableInfoType) → i ≡ region_info key (changed_by change key h) → flat_map (told_as (record { region = r; info = i }) hats key) hats ≡ change_told hats r change key
 told_by_change r change key h hats sorted there i is = sym (told_changed (record { region = r; info = i }) key (changed_by change key) h hats sorted there (sym is))
+
+-- where a hat changes, an own entry is that by the new information
+pub own_changed : (new : NewInfo) (key : List ℕ) (f : HatState → HatState) (h : HatState) (place : ℕ) (hats : List (ℕ × HatState))
+    → IsStrictlySortedBy nat_cmp (keys_of hats) → hat_at new.region hats ≡ Some h → region_info key (f h) ≡ new.info
+    → own_entry place key (change_hat new.region f hats) ≡ own_entry_as (Some new) place key hats
+own_changed new key f h place hats sorted there info =
+    ap (λ o. own_entry place key (put_hat new.region f hats o)) there
+    ∙ ap (λ l. own_entry place key l) (each_changed (region_index new.region) (f h) hats sorted)
+    ∙ own_by new key (f h) info place hats

@@ -1,0 +1,71 @@
+-- What is due to an open face, by the hats of the regions as they are or as a change of one of them will make them.
+use Rattle.std.specs.Prelude.{◌≡◌, ℕ, Bool, false, ◌||◌, List, [], ◌∷◌, filter, map, Option, Some, None, if◌then◌else◌}
+use Rattle.std.specs.Option.{option_map, option_map_or}
+use Rattle.std.specs.List.{AllByRecursion}
+use Rattle.zq_message.specs.declared.message.QueryableInfoType.{QueryableInfoType}
+use Rattle.zq_hat.specs.Changes.{changed_by}
+use Rattle.zq_hat.specs.Kept.{region_info}
+use Rattle.zq_hat.specs.Regions.{is_north, strategy_at}
+use Rattle.zq_hat.specs.State.{HatState}
+use Rattle.zq_told.specs.Telling.{KeyDue}
+use Rattle.zq_machine.specs.declared.face.OpenFace.{OpenFace}
+use Rattle.zq_machine.specs.Due.{Interests, asks_for, due, heard_as, is_unasked, listens}
+use Rattle.zq_machine.specs.State.{Core, at, change_hat, hat_at}
+use Rattle.zq_own.specs.declared.entries.NewInfo.{NewInfo}
+use Rattle.zq_dues.specs.declared.types.HatChange.{HatChange}
+
+-- the hats after the change, on a key
+abbrev pub hats_next : HatChange → List ℕ → List (ℕ × HatState) → List (ℕ × HatState)
+hats_next c key hats = change_hat c.region (changed_by c.change key) hats
+
+-- the same, if there is a change
+abbrev pub hats_after : Option HatChange → List ℕ → List (ℕ × HatState) → List (ℕ × HatState)
+hats_after next key hats = option_map_or (λ (c : HatChange). hats_next c key hats) next hats
+
+-- what the changed region will have on the key, if it has a hat
+abbrev pub new_info : HatChange → List ℕ → List (ℕ × HatState) → Option NewInfo
+new_info c key hats = option_map (λ (h : HatState). record { region = c.region; info = region_info key (changed_by c.change key h) }) (hat_at c.region hats)
+
+-- a face of the hat that asks for a key, or not, listens on it
+abbrev pub hears_as : Bool → HatState → Bool
+hears_as asks h = is_unasked (strategy_at h) (is_north h.region) || asks
+
+-- an open face does
+abbrev pub listens_as : Bool → List (ℕ × HatState) → OpenFace → Bool
+listens_as asks hats o = option_map_or (hears_as asks) (hat_at o.region hats) false
+
+-- what is due to an open face on the key, which it asks for or not
+abbrev pub due_as : Bool → ℕ → List ℕ → List (ℕ × HatState) → OpenFace → Option QueryableInfoType
+due_as asks face key hats o = if listens_as asks hats o then heard_as face key hats o else None
+
+-- an open face with whom it asks: it listens on a key once a hat has changed
+abbrev pub will_listen : (List ℕ → Bool) → Option HatChange → OpenFace → List (ℕ × HatState) → List ℕ → Bool
+will_listen asks next o hats key = listens_as (asks key) (hats_after next key hats) o
+
+-- a key with what will be due there
+abbrev pub will_be_due : (List ℕ → Bool) → Option HatChange → ℕ → OpenFace → List (ℕ × HatState) → List ℕ → KeyDue
+will_be_due asks next face o hats key = (key, due_as (asks key) face key (hats_after next key hats) o)
+
+-- those of the keys on which it will listen, with what will be due
+abbrev pub dues_as : (List ℕ → Bool) → Option HatChange → ℕ → OpenFace → List (ℕ × HatState) → List (List ℕ) → List KeyDue
+dues_as asks next face o hats keys = map (will_be_due asks next face o hats) (filter (will_listen asks next o hats) keys)
+
+-- a key with what will be due there, if it will listen
+abbrev pub listed_due : Bool → Option HatChange → ℕ → OpenFace → List (ℕ × HatState) → List ℕ → List KeyDue
+listed_due asks next face o hats key = if listens_as asks (hats_after next key hats) o then (key, heard_as face key (hats_after next key hats) o) ∷ [] else []
+
+-- ---- the same of what decides after a call
+
+-- a key with what is due to the face
+abbrev pub due_on : Core → Interests → ℕ → List ℕ → KeyDue
+due_on c ints face key = (key, due c ints face key)
+
+-- those of the keys on which the face listens, with what is due
+abbrev pub dues_on : Core → Interests → List (List ℕ) → ℕ → List KeyDue
+dues_on c ints keys face = map (due_on c ints face) (filter (λ key. listens c ints face key) keys)
+
+-- the face is open so, it asks for just these keys, and on each of the keys the hats are those after the change
+pub record IsAfter (c : Core) (ints : Interests) (asks : List ℕ → Bool) (next : Option HatChange) (face : ℕ) (o : OpenFace) (hats : List (ℕ × HatState)) (keys : List (List ℕ)) : Type 0 where
+  pub opened : at face c.faces ≡ Some o
+  pub asked : (key : List ℕ) → asks key ≡ asks_for face key ints
+  pub after : AllByRecursion (λ key. hats_after next key hats ≡ c.hats) keys

@@ -1,0 +1,166 @@
+//! Whether a face listens on a key, and what will be due to it there once a hat has changed.
+ghost use Rattle.std.specs.Prelude.{◌≡◌, Some, option_copied};
+ghost use Rattle.zq_regions.specs.Region.{region_index};
+ghost use Rattle.zq_hat.specs.Changes.{changed_if};
+ghost use Rattle.zq_hat.specs.Fellows.{fellow_info};
+ghost use Rattle.zq_hat.specs.Regions.{is_north, strategy_at};
+ghost use Rattle.zq_machine.specs.Due.{Interests, asks_for, due, heard_as, heard_by, is_unasked};
+ghost use Rattle.zq_machine.specs.State.{Core, at};
+ghost use Rattle.zq_machine.specs.Trees.{own_entry};
+ghost use Rattle.zq_dues.specs.Dues.{due_as, hats_after, hats_next, listens_as, new_info};
+
+use crate::types::HatChange;
+use zq_hat::hat::Hat;
+use zq_hat::strategy::{is_north, same_region};
+use zq_hat::types::{Change, Strategy};
+use zq_index::info::joined;
+use zq_key::message::{FaceId, QueryableInfoType, Region};
+use zq_machine::face::OpenFace;
+use zq_own::entries::{NewInfo, own_entry, own_entry_as};
+use zq_own::hats::hat_at;
+use zq_tables::RegionMap;
+
+/// Whether the faces of a hat are told unasked: as an upstream, or as a peer in North.
+fn is_unasked(hat: &Hat) -> bool
+    ensures { result ≡ is_unasked (strategy_at hat.now) (is_north hat.now.region) }
+{
+    match hat.strategy() {
+        Strategy::Broker => false,
+        Strategy::Client => true,
+        Strategy::Peer => is_north(hat.region()),
+        Strategy::Router => false,
+    }
+}
+
+/// Whether an open face listens on a key: it is told unasked, or it asks for it. No change of a hat
+/// changes that.
+pub fn listens(hats: &RegionMap<Hat>, opened: OpenFace, asks: bool) -> bool
+    ensures { result ≡ listens_as asks hats.now opened }
+{
+    match hat_at(hats, opened.region) {
+        Some(hat) => is_unasked(hat) || asks,
+        None => false,
+    }
+}
+
+// What a face of the hat hears on the key, which changes or not, where the other regions have this.
+fn heard_in(
+    hat: &Hat,
+    change: Option<&Change>,
+    face: FaceId,
+    key: &str,
+    others: Option<QueryableInfoType>,
+) -> Option<QueryableInfoType>
+    ensures { result ≡ heard_by (strategy_at hat.now) (fellow_info face.0 key.now (changed_if (option_copied change.entry) key.now hat.now)) others }
+{
+    match hat.strategy() {
+        Strategy::Broker => joined(hat.fellows_after(change, face, key), others),
+        Strategy::Client => others,
+        Strategy::Peer => others,
+        Strategy::Router => None,
+    }
+}
+
+/// What an open face hears on the key by its region.
+pub fn heard_now(
+    hats: &RegionMap<Hat>,
+    face: FaceId,
+    opened: OpenFace,
+    key: &str,
+) -> Option<QueryableInfoType>
+    ensures { result ≡ heard_as face.0 key.now hats.now opened }
+{
+    match hat_at(hats, opened.region) {
+        Some(hat) => {
+            let others = own_entry(hats, opened.region, key);
+            heard_in(hat, None, face, key, others)
+        }
+        None => None,
+    }
+}
+
+// What the changed region will have on the key.
+fn new_info(hats: &RegionMap<Hat>, next: &HatChange, key: &str) -> Option<NewInfo>
+    ensures { result ≡ new_info next.now key.now hats.now }
+{
+    match hat_at(hats, next.region) {
+        Some(hat) => Some(NewInfo {
+            region: next.region,
+            info: hat.info_after(&next.change, key),
+        }),
+        None => None,
+    }
+}
+
+// What the regions but one will have on the key, merged, once a hat has changed.
+fn others_next(
+    hats: &RegionMap<Hat>,
+    next: &HatChange,
+    region: Region,
+    key: &str,
+) -> Option<QueryableInfoType>
+    ensures { result ≡ own_entry (region_index region) key.now (hats_next next.now key.now hats.now) }
+{
+    let _in_order = hats.iter();
+    let new = new_info(hats, next, key);
+    own_entry_as(hats, region, key, new)
+}
+
+// What an open face will hear on the key by its region, once a hat has changed.
+fn heard_next(
+    hats: &RegionMap<Hat>,
+    next: &HatChange,
+    face: FaceId,
+    opened: OpenFace,
+    key: &str,
+) -> Option<QueryableInfoType>
+    ensures { result ≡ heard_as face.0 key.now (hats_next next.now key.now hats.now) opened }
+{
+    let Some(hat) = hat_at(hats, opened.region) else {
+        return None;
+    };
+    let others = others_next(hats, next, opened.region, key);
+    if same_region(opened.region, next.region) {
+        heard_in(hat, Some(&next.change), face, key, others)
+    } else {
+        heard_in(hat, None, face, key, others)
+    }
+}
+
+/// What an open face will hear on the key by its region, once a hat has changed; where none changes,
+/// what it hears.
+pub fn heard_after(
+    hats: &RegionMap<Hat>,
+    next: Option<&HatChange>,
+    face: FaceId,
+    opened: OpenFace,
+    key: &str,
+) -> Option<QueryableInfoType>
+    ensures { result ≡ heard_as face.0 key.now (hats_after (option_copied next.entry) key.now hats.now) opened }
+{
+    match next {
+        Some(next) => heard_next(hats, next, face, opened, key),
+        None => heard_now(hats, face, opened, key),
+    }
+}
+
+/// What will be due to an open face on a key once a hat has changed: what it will hear there, if it
+/// listens; where none changes, what is due.
+#[tactic(auto, using(crate::proofs::Nexts::listens_after))]
+pub fn due_as(
+    hats: &RegionMap<Hat>,
+    next: Option<&HatChange>,
+    face: FaceId,
+    opened: OpenFace,
+    asks: bool,
+    key: &str,
+) -> Option<QueryableInfoType>
+    ensures due { result ≡ due_as asks face.0 key.now (hats_after (option_copied next.entry) key.now hats.now) opened }
+    ensures same { (c : Core) (ints : Interests) → at face.0 c.faces ≡ Some opened → asks ≡ asks_for face.0 key.now ints → hats_after (option_copied next.entry) key.now hats.now ≡ c.hats → result ≡ due c ints face.0 key.now }
+{
+    if listens(hats, opened, asks) {
+        heard_after(hats, next, face, opened, key)
+    } else {
+        None
+    }
+}

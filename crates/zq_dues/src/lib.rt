@@ -1,0 +1,11 @@
+//! What is due to each face outside regions of routers, as it is, or as a change of one region's hat
+//! will make it. Nothing is kept of it: it is looked up in the hats of the regions.
+//!
+//! - `types`: the change of a hat
+//! - `due`: whether a face listens on a key, and what will be due to it there
+//! - `dues`: the same of some keys
+#![tactic(auto)]
+
+pub mod due;
+pub mod dues;
+pub mod types;
