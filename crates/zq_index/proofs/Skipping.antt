@@ -18,7 +18,7 @@ use Rattle.std.proofs.lemmas.Bool.{false≢true, false_from_ne_true}
 use Rattle.std.proofs.lemmas.Cmp.{nat_list_cmp_total, ranked}
 use Rattle.std.proofs.lemmas.Map.Keys.{sorted_head, sorted_tail}
 use Rattle.std.proofs.lemmas.Map.Text.{is_eq-slice_cmp}
-use Rattle.std.proofs.lemmas.List.{drop_more, take_more, take-append-drop}
+use Rattle.std.proofs.lemmas.List.{drop_more, take_more, take-append-drop, length-take, length-drop}
 use Rattle.zq_key.specs.Key.{chunks, intersects, is_plain}
 use Rattle.zq_key.proofs.Plain.{intersects-plain}
 use Rattle.std.specs.Str.{bytes_eq}
@@ -206,28 +206,51 @@ unmixed_end (c ∷ p) m tame unmixed =
 tame_above : (n : ℕ) → 42 < n → is_wild n ≡ false
 tame_above n lt = let a : (n == 42) ≡ false = grind (arith, nat_tests) in let b : (n == 36) ≡ false = grind (arith, nat_tests) in rw (a, b) refl
 
-module _ (t q : List ℕ) (k j : ℕ) (lt : k < length t) (leads : Leads t q k Chunk j) where
-  abbrev goes : ℕ
-  goes = get_or q j 0
+-- what is less than the first bytes of a run is less than the run
+cut_less : (n : ℕ) (u x : List ℕ) → text_cmp x (run_of (take n u)) ≡ Less → text_cmp x (run_of u) ≡ Less
+cut_less zero u x less = absurd (nothing_less x less)
+cut_less (suc n) [] x less = less
+cut_less (suc n) (c ∷ u) x less = by_run x (is_run c) less (λ y. cut_less n u y)
+  where
+    by_run : (x : List ℕ) (b : Bool) → text_cmp x (cond b (c ∷ run_of (take n u)) []) ≡ Less → ((y : List ℕ) → text_cmp y (run_of (take n u)) ≡ Less → text_cmp y (run_of u) ≡ Less)
+        → text_cmp x (cond b (c ∷ run_of u) []) ≡ Less
+    by_run x false less deeper = less
+    by_run [] true less deeper = refl
+    by_run (d ∷ x) true less deeper = by (nat_cmp d c) less
+      where
+        by : (o : Ordering) → ordering_then o (text_cmp x (run_of (take n u))) ≡ Less → ordering_then o (text_cmp x (run_of u)) ≡ Less
+        by Less less = refl
+        by Equal less = deeper x less
+        by Greater less = less
 
-  pub chunk_skipped : 42 < get_or t k 0 → j < length q → get_or t k 0 < goes → is_run goes ≡ true → SkipsUnmixed q t (take k t ++ run_of (drop j q))
-  chunk_skipped over in_q greater run = subst (λ r. SkipsUnmixed q t (take k t ++ r)) (sym begins) record {
+module _ (t q : List ℕ) (k j n : ℕ) (lt : k < length t) (leads : Leads t q k Chunk j) where
+  abbrev part : List ℕ
+  part = take n (drop j q)
+
+  abbrev goes : ℕ
+  goes = get_or part 0 0
+
+  pub chunk_skipped : 42 < get_or t k 0 → 0 < length part → get_or t k 0 < goes → is_run goes ≡ true → SkipsUnmixed q t (take k t ++ run_of part)
+  chunk_skipped over some greater run = subst (λ r. SkipsUnmixed q t (take k t ++ r)) (sym begins) record {
     after = ap (λ y. text_cmp y (take k t ++ goes ∷ later)) (whole t k lt) ∙ same_front (take k t) (get_or t k 0 ∷ drop (k + 1) t) (goes ∷ later) ∙ less_bytes (get_or t k 0) goes (drop (k + 1) t) later greater;
     none = λ x above below unmixed.
         let front = fronted (take k t) x (drop (k + 1) t) (goes ∷ later) (get_or t k 0) (λ less. above (ap (text_cmp x) (whole t k lt) ∙ less)) below in
         let a = begins_above t k lt x front.0 above front.1 in
-        let under : text_cmp (a.byte ∷ a.more) (run_of (drop j q)) ≡ Less =
+        let under : text_cmp (a.byte ∷ a.more) (run_of part) ≡ Less =
         ap (text_cmp (a.byte ∷ a.more)) begins ∙ ap (λ m. text_cmp m (goes ∷ later)) (sym a.is) ∙ sym (same_front (take k t) front.0 (goes ∷ later)) ∙ ap (λ y. text_cmp y (take k t ++ goes ∷ later)) (sym front.1) ∙ below in
         let end = unmixed_end (take k t) (a.byte ∷ a.more) false (ap is_mixed (ap (λ m. take k t ++ m) (sym a.is) ∙ sym front.1) ∙ unmixed) in
-        let missed = run_misses (drop j q) a.byte a.more end.0 (tame_above a.byte (omega (arith, over, a.least))) end.1 under in
-        dead_on t k lt q x front.0 front.1 a (leads (a.byte ∷ a.more) (subst (Misses (chunks (a.byte ∷ a.more))) (sym (within_from q j (omega (arith, in_q)))) missed));
+        let missed = run_misses (drop j q) a.byte a.more end.0 (tame_above a.byte (omega (arith, over, a.least))) end.1 (cut_less n (drop j q) (a.byte ∷ a.more) under) in
+        dead_on t k lt q x front.0 front.1 a (leads (a.byte ∷ a.more) (subst (Misses (chunks (a.byte ∷ a.more))) (sym (within_from q j in_q)) missed));
   }
     where
       later : List ℕ
-      later = run_of (drop (j + 1) q)
+      later = run_of (drop 1 part)
 
-      begins : run_of (drop j q) ≡ goes ∷ later
-      begins = ap run_of (drop_more q j 0 in_q) ∙ ap (λ b. cond b (goes ∷ later) []) run
+      begins : run_of part ≡ goes ∷ later
+      begins = ap run_of (drop_more part 0 0 some) ∙ ap (λ b. cond b (goes ∷ later) []) run
+
+      in_q : j ≤ length q
+      in_q = omega (arith, some, length-take n (drop j q), length-drop j q)
 
 -- ---- entries in order, from a bound on
 

@@ -8,7 +8,7 @@
 //! passed over at once. A mixed key may stand between, as `ab$*` before `abc`; where one does, the search
 //! goes on at the next byte alone. Where the request's goes on by a smaller byte, whatever begins like the
 //! key is passed over, and the search ends if nothing that is wild was passed before.
-ghost use Rattle.std.specs.Prelude.{◌≡◌, ◌+◌, ◌<◌, ◌≤◌, ◌++◌, ◌∷◌, [], List, ℕ, IfOk, IfSome, OnOk, length, take, slice_index, true};
+ghost use Rattle.std.specs.Prelude.{◌≡◌, ◌+◌, ◌<◌, ◌≤◌, ◌++◌, ◌∷◌, [], List, ℕ, IfOk, IfSome, OnOk, length, take, drop, slice_index, true};
 ghost use Rattle.std.specs.String.{string_bytes};
 ghost use Rattle.zq_key.specs.Key.{is_plain};
 ghost use Rattle.zq_index.specs.Texts.{Lists};
@@ -143,19 +143,33 @@ fn write_text(bound: &mut String, bytes: &[u8]) -> Result<bool, OutOfMemory>
     }
 }
 
-/// Whether the request's key goes on by a greater byte of a plain chunk, and no chunk `*` comes between.
-fn goes_beyond(byte: u8, q: &[u8], place: usize) -> bool
-    ensures { result ≡ true → (42 < byte) × (place < length q.now) × (byte < slice_index q.now place) × (is_run (slice_index q.now place) ≡ true) }
+/// What is left of the request's chunk and what follows, from a place on: some 32 bytes at most, in
+/// whole characters, so that no step takes as long as the chunk.
+fn part_from(q: &str, place: usize) -> &[u8]
+    ensures { (n : ℕ) × (result.now ≡ take n (drop place q.now)) }
 {
-    b'*' < byte && place < q.len() && byte < q[place] && is_run(q[place])
+    let end = q.floor_char_boundary(place.saturating_add(32));
+    if place < end {
+        &q.as_bytes()[place..end]
+    } else {
+        &[]
+    }
 }
 
-/// Writes the key's first bytes and the rest of the chunk by which the request's goes on. False says nothing.
+/// Whether the request's key goes on by a greater byte of a plain chunk, and no chunk `*` comes between.
+fn goes_beyond(byte: u8, left: &[u8]) -> bool
+    ensures { result ≡ true → (42 < byte) × (0 < length left.now) × (byte < slice_index left.now 0) × (is_run (slice_index left.now 0) ≡ true) }
+{
+    b'*' < byte && !left.is_empty() && byte < left[0] && is_run(left[0])
+}
+
+/// Writes the key's first bytes and the rest of the chunk by which the request's goes on, or the rest's
+/// first characters. False says nothing.
 fn after_chunk(
     bound: &mut String,
     bytes: &mut Vec<u8>,
     key: &[u8],
-    q: &[u8],
+    q: &str,
     at: usize,
     place: usize,
 ) -> Result<bool, OutOfMemory>
@@ -163,10 +177,11 @@ fn after_chunk(
     requires leads { Leads key.now q.now at Mode.Chunk place }
     ensures { IfOk result (λ found. found ≡ true → SkipsUnmixed q.now key.now (string_bytes bound.new)) }
 {
-    if !goes_beyond(key[at], q, place) {
+    let left = part_from(q, place);
+    if !goes_beyond(key[at], left) {
         return Ok(false);
     }
-    write_run(bytes, &key[..at], &q[place..])?;
+    write_run(bytes, &key[..at], left)?;
     Ok(write_text(bound, bytes.as_slice())?)
 }
 
@@ -183,14 +198,7 @@ fn after_keys(
     requires leads { Leads (string_bytes key.now) q.now parting.at Mode.Chunk parting.place }
     ensures { IfOk result (λ found. found ≡ true → SkipsListed lists.now q.now (string_bytes key.now) (string_bytes bound.new)) }
 {
-    if after_chunk(
-        bound,
-        bytes,
-        key.as_bytes(),
-        q.as_bytes(),
-        parting.at,
-        parting.place,
-    )? {
+    if after_chunk(bound, bytes, key.as_bytes(), q, parting.at, parting.place)? {
         Ok(lists.has_none_mixed(key, bound.as_str()))
     } else {
         Ok(false)
