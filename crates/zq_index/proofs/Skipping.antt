@@ -29,9 +29,9 @@ use Rattle.zq_index.specs.declared.forks.Mode.TheVariants.{Chunk}
 use Rattle.zq_index.specs.Forks.{IsForkAt, IsHeld, IsLast, IsNext, Leads}
 use Rattle.zq_index.proofs.ForkLemmas.{run_misses, within_from}
 use Rattle.zq_key.proofs.Runs.{Begins, squeezed_run, run_is_less, not_below_itself}
-use Rattle.zq_index.specs.Texts.{text_cmp, has_text, texts_of, is_mixed, mixed_after, Lists, IsListed, IsFirstAfter, NoneBetween}
+use Rattle.zq_index.specs.Texts.{text_cmp, has_text, texts_of, is_mixed, mixed_after, Lists, IsListed, IsFirstAfter, NoneAfter, NoneBetween}
 use Rattle.zq_index.proofs.Orders.{text_exact}
-use Rattle.zq_index.specs.Skipping.{is_run, run_of, SkipsListed, SkipsUnmixed, Skips, IsPlaceAbove}
+use Rattle.zq_index.specs.Skipping.{is_run, run_of, SkipsListed, SkipsUnmixed, NoneFrom, Skips, IsPlaceAbove}
 
 -- ---- texts between two that begin alike
 same_front : (p xs ys : List ℕ) → text_cmp (p ++ xs) (p ++ ys) ≡ text_cmp xs ys
@@ -132,6 +132,17 @@ module _ (t q : List ℕ) (k want : ℕ) (fork : IsForkAt t q k want) where
     after = omega arith;
     none = λ d least less. let same : d ≡ here = omega arith in (rw same fork.tame, rw same fork.other);
   }
+
+-- the same up to a lesser byte
+pub skips_nearer : (q t : List ℕ) (k b c : ℕ) → k < length t → get_or t k 0 < c → c ≤ b → Skips q t (take k t ++ b ∷ []) → Skips q t (take k t ++ c ∷ [])
+skips_nearer q t k b c lt after le skips = record {
+  after = ap (λ y. text_cmp y (take k t ++ c ∷ [])) (whole t k lt) ∙ same_front (take k t) (get_or t k 0 ∷ drop (k + 1) t) (c ∷ []) ∙ less_byte (get_or t k 0) c (drop (k + 1) t) after;
+  none = λ x above below. skips.none x above (by x (eq-or-lt_of_le le) below);
+}
+  where
+    by : (x : List ℕ) → (c ≡ b) ⊎ (c < b) → text_cmp x (take k t ++ c ∷ []) ≡ Less → text_cmp x (take k t ++ b ∷ []) ≡ Less
+    by x (inl same) below = subst (λ d. text_cmp x (take k t ++ d ∷ []) ≡ Less) same below
+    by x (inr less) below = nat_list_cmp_total.trans x (take k t ++ c ∷ []) (take k t ++ b ∷ []) below (same_front (take k t) (c ∷ []) (b ∷ []) ∙ less_byte c b [] less)
 
 -- those that begin like t before a place and go on there by a greater byte do not meet q
 abbrev EndsAt : List ℕ → List ℕ → ℕ → Type 0
@@ -427,6 +438,16 @@ clear_of lists q key bound k want fork skips clear = record {
         by_order Equal is = ap (λ x. intersects x q) (text_exact t key is) ∙ itself
         by_order Greater is = absurd (clear t (listed.1 mixed) (nat_list_cmp_total.antisymm key t ∙ ap ordering_reverse is) below)
 
+-- the same up to the first mixed text after the key
+pub clear_to : (lists : Lists) (q key bound first : List ℕ) (k want : ℕ) → IsForkAt key q k want → SkipsUnmixed q key bound → IsFirstAfter lists.1 key first → text_cmp first bound ≡ Less → SkipsListed lists q key first
+clear_to lists q key bound first k want fork skips is before = clear_of lists q key first k want fork nearer is.none
+  where
+    nearer : SkipsUnmixed q key first
+    nearer = record {
+      after = is.after;
+      none = λ t above below. skips.none t above (nat_list_cmp_total.trans t first bound below before);
+    }
+
 -- ---- the step at a plain key
 above_from : (t k : List ℕ) → text_cmp t k ≢ Less → (t ≡ k → ⊥) → text_cmp k t ≡ Less
 above_from t k not_below differ = by (text_cmp t k) refl not_below
@@ -449,3 +470,16 @@ module _ (lists : Lists) (q key : List ℕ) (q_plain : is_plain q ≡ true) (key
     after = less;
     none = λ t above below listed. misses_plain t above listed (λ same. not_below_itself t (ap (text_cmp t) same ∙ below)) (λ has after. none t has after below);
   }
+
+  pub to_listed : (first : List ℕ) → IsFirstAfter lists.0 key first → (text_cmp q key ≡ Less) ⊎ (text_cmp first q ≡ Less) → SkipsListed lists q key first
+  to_listed first is out = record {
+    after = is.after;
+    none = λ t above below listed. misses_plain t above listed (other t above below out) (λ has after. is.none t has after below);
+  }
+    where
+      other : (t : List ℕ) → text_cmp t key ≢ Less → text_cmp t first ≡ Less → (text_cmp q key ≡ Less) ⊎ (text_cmp first q ≡ Less) → t ≡ q → ⊥
+      other t above below (inl less) same = above (ap (λ x. text_cmp x key) same ∙ less)
+      other t above below (inr less) same = not_below_itself t (nat_list_cmp_total.trans t first t below (ap (text_cmp first) same ∙ less))
+
+  pub none_from : text_cmp q key ≡ Less → NoneAfter lists.0 key → NoneFrom lists q key
+  none_from less none t above listed = misses_plain t above listed (λ same. above (ap (λ x. text_cmp x key) same ∙ less)) (λ has after. none t has after)
