@@ -146,12 +146,12 @@ fn write_text(bound: &mut String, bytes: &[u8]) -> Result<bool, OutOfMemory>
     }
 }
 
-/// What is left of the request's chunk and what follows, from a place on: some 32 bytes at most, in
-/// whole characters, so that no step takes as long as the chunk.
-fn part_from(q: &str, place: usize) -> &[u8]
+/// What is left of the request's chunk and what follows, from a place on: so many bytes at most, in
+/// whole characters.
+fn part_from(q: &str, place: usize, most: usize) -> &[u8]
     ensures { (n : ℕ) × (result.now ≡ take n (drop place q.now)) }
 {
-    let end = q.floor_char_boundary(place.saturating_add(32));
+    let end = q.floor_char_boundary(place.saturating_add(most));
     if place < end {
         &q.as_bytes()[place..end]
     } else {
@@ -166,8 +166,9 @@ fn goes_beyond(byte: u8, left: &[u8]) -> bool
     b'*' < byte && !left.is_empty() && byte < left[0] && is_run(left[0])
 }
 
-/// Writes the key's first bytes and the rest of the chunk by which the request's goes on, or the rest's
-/// first characters. False says nothing.
+/// Writes the key's first bytes and the rest of the chunk by which the request's goes on, or of a longer
+/// one the first characters: 32 bytes, and as many as the key's first, so that no step takes longer than
+/// to find where they part, and few climb a long chunk. False says nothing.
 fn after_chunk(
     bound: &mut String,
     bytes: &mut Vec<u8>,
@@ -180,7 +181,7 @@ fn after_chunk(
     requires leads { Leads key.now q.now at Mode.Chunk place }
     ensures { IfOk result (λ found. found ≡ true → SkipsUnmixed q.now key.now (string_bytes bound.new)) }
 {
-    let left = part_from(q, place);
+    let left = part_from(q, place, at.saturating_add(32));
     if !goes_beyond(key[at], left) {
         return Ok(false);
     }
