@@ -144,6 +144,12 @@ skips_nearer q t k b c lt after le skips = record {
     by x (inl same) below = subst (λ d. text_cmp x (take k t ++ d ∷ []) ≡ Less) same below
     by x (inr less) below = nat_list_cmp_total.trans x (take k t ++ c ∷ []) (take k t ++ b ∷ []) below (same_front (take k t) (c ∷ []) (b ∷ []) ∙ less_byte c b [] less)
 
+pub skips_before : (q t : List ℕ) (k b c : ℕ) (more : List ℕ) → c < b → Skips q t (take k t ++ b ∷ []) → text_cmp t (take k t ++ c ∷ more) ≡ Less → Skips q t (take k t ++ c ∷ more)
+skips_before q t k b c more less skips after = record {
+  after = after;
+  none = λ x above below. skips.none x above (nat_list_cmp_total.trans x (take k t ++ c ∷ more) (take k t ++ b ∷ []) below (same_front (take k t) (c ∷ more) (b ∷ []) ∙ less_byte c b more less));
+}
+
 -- those that begin like t before a place and go on there by a greater byte do not meet q
 abbrev EndsAt : List ℕ → List ℕ → ℕ → Type 0
 EndsAt t q p = (d : ℕ) (more : List ℕ) → get_or t p 0 < d → intersects (take p t ++ d ∷ more) q ≡ false

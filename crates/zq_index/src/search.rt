@@ -6,7 +6,7 @@
 //! Where a key and the request's part, and the request's goes on by a greater byte, the search goes on at
 //! the first bytes of the key and the rest of the request's chunk, or its first characters: keys with other
 //! plain chunks there are passed over at once. A mixed key may stand between, as `ab$*` before `abc`; where
-//! one does, the search goes on at that, or at the next byte alone, if that comes later. Where the
+//! one does, the search goes on at that, or at the next byte or character, if that comes later. Where the
 //! request's goes on by a smaller byte, whatever begins like the key is passed over, and the search ends if
 //! nothing that is wild was passed before.
 ghost use Rattle.std.specs.Prelude.{◌≡◌, ◌+◌, ◌<◌, ◌≤◌, ◌++◌, ◌∷◌, [], List, ℕ, IfOk, IfSome, OnOk, length, take, drop, slice_index, true};
@@ -146,6 +146,61 @@ fn write_text(bound: &mut String, bytes: &[u8]) -> Result<bool, OutOfMemory>
     }
 }
 
+/// Writes some bytes and one more.
+fn write_byte(bytes: &mut Vec<u8>, front: &[u8], byte: u8) -> Result<(), OutOfMemory>
+    ensures { OnOk result (bytes.new.items ≡ front.now ++ byte ∷ []) }
+{
+    bytes.clear();
+    bytes.extend_from_slice(front)?;
+    bytes.push(byte)?;
+    Ok(())
+}
+
+/// Writes the text of these bytes and as many of the greatest that follow in a character as end one.
+/// False says nothing.
+fn write_greatest(bound: &mut String, bytes: &mut Vec<u8>) -> Result<bool, OutOfMemory>
+    ensures { IfOk result (λ found. found ≡ true → (more : List ℕ) × (string_bytes bound.new ≡ bytes.old.items ++ more)) }
+{
+    for _ in 0..3 {
+        bytes.push(0xBF)?;
+        if write_text(bound, bytes.as_slice())? {
+            return Ok(true);
+        }
+    }
+    Ok(false)
+}
+
+/// The step to the key's first bytes and a greater byte; where that ends no character, to the last
+/// character that begins by a lesser one.
+fn to_character(
+    bound: &mut String,
+    bytes: &mut Vec<u8>,
+    key: &str,
+    at: usize,
+    byte: u8,
+) -> Result<Step, OutOfMemory>
+    requires in_range { at < length key.now }
+    requires after { slice_index key.now at < byte }
+    ensures { (lists : Lists) (q : List ℕ) → Skips q key.now (take at key.now ++ byte ∷ []) → IfOk result (StepIs lists q key.now (string_bytes bound.new)) }
+{
+    if byte < 128 {
+        return to_byte(bound, key, at, byte);
+    }
+    write_byte(bytes, &key.as_bytes()[..at], byte)?;
+    if write_text(bound, bytes.as_slice())? {
+        return Ok(Step::Jump);
+    }
+    write_byte(bytes, &key.as_bytes()[..at], byte - 1)?;
+    if !write_greatest(bound, bytes)? {
+        return to_byte(bound, key, at, byte);
+    }
+    if comes_before(key, bound.as_str()) {
+        Ok(Step::Jump)
+    } else {
+        Ok(Step::Look)
+    }
+}
+
 /// What is left of the request's chunk and what follows, from a place on: so many bytes at most, in
 /// whole characters.
 fn part_from(q: &str, place: usize, most: usize) -> &[u8]
@@ -212,8 +267,9 @@ fn farther(bound: &mut String, step: Step, text: &str) -> Result<Step, OutOfMemo
     }
 }
 
-/// The step where the request's key goes on by a greater byte: to the bound behind a plain chunk, or to
-/// the first mixed key, if that comes before; to the greater byte alone, where none is found.
+/// The step where the request's key goes on by a greater byte: to the bound behind a plain chunk; where a
+/// mixed key comes before, to that or to the byte, whichever is further; to the byte, where the chunk is
+/// not plain.
 fn beyond(
     bound: &mut String,
     bytes: &mut Vec<u8>,
@@ -234,7 +290,7 @@ fn beyond(
     }
     match lists.mixed_between(key, bound.as_str()) {
         Some(first) => {
-            let step = to_byte(bound, text, parting.at, next)?;
+            let step = to_character(bound, bytes, text, parting.at, next)?;
             farther(bound, step, first.as_str())
         }
         None => Ok(Step::Jump),

@@ -28,8 +28,8 @@ returns-in_ok-step-in-Some c =
     let bound = string_bytes c.after_chunk.new.bound in
     let first = string_bytes c.in-Some.first.now in
     let byte : Skips q key (take p.at key ++ c.args.next ∷ []) = fork_skipped key q p.at p.wanted c.requires.fork c.args.next c.requires.next in
-    let step : StepIs lists q key (string_bytes c.to_byte-in-Some.new.bound) c.in_ok-step-in-Some.step =
-    subst (λ t. StepIs lists q t (string_bytes c.to_byte-in-Some.new.bound) c.in_ok-step-in-Some.step) text
+    let step : StepIs lists q key (string_bytes c.to_character.new.bound) c.in_ok-step-in-Some.step =
+    subst (λ t. StepIs lists q t (string_bytes c.to_character.new.bound) c.in_ok-step-in-Some.step) text
     (c.in_ok-step-in-Some.ensures lists q (subst (λ t. Skips q t (take p.at t ++ c.args.next ∷ [])) (sym text) byte)) in
     let skips : SkipsUnmixed q key bound = subst (λ t. SkipsUnmixed q t bound) (c.as_bytes.ensures.value ∙ text) (c.in_ok-after_chunk.ensures c.if-not-branch.false) in
     let before : text_cmp first bound ≡ Less = ap (text_cmp first) (sym c.as_str.ensures.value) ∙ c.in-Some.ensures.1 in
