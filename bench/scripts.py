@@ -239,6 +239,35 @@ def wild_fronts():
         yield f'ask 1 {i} 0:s:a/x{i * 7919 % 10_000}/b all - 0 0 - 0'
 
 
+def greater_characters(declared=10_000, asked=1_000):
+    """Keys `k/aN` and one `k/z$*`, and requests on `k/é`."""
+    yield from faces(2)
+    for n in range(declared):
+        yield f'queryable 0 {n} 0:s:k/a{n} c 0 0'
+    yield f'queryable 0 {declared} 0:s:k/z$* c 0 0'
+    for i in range(asked):
+        yield f'ask 1 {i} 0:s:k/%C3%A9 all - 0 0 - 0'
+
+
+def shorter_keys(declared=500, asked=1_000):
+    """Keys of ever more `z`, one that goes on to a `*`, and requests of one `z` more."""
+    yield from faces(2)
+    for n in range(1, declared + 1):
+        yield f'queryable 0 {n} 0:s:{"z" * n} c 0 0'
+    yield f'queryable 0 {declared + 1} 0:s:{"z" * declared}/* c 0 0'
+    for i in range(asked):
+        yield f'ask 1 {i} 0:s:{"z" * (declared + 1)} all - 0 0 - 0'
+
+
+def long_chunks(declared=2_000, asked=100, size=10_000):
+    """Keys `a$*N/A`, and requests that go on by a long chunk."""
+    yield from faces(2)
+    for n in range(declared):
+        yield f'queryable 0 {n} 0:s:a$*{n}/A c 0 0'
+    for i in range(asked):
+        yield f'ask 1 {i} 0:s:a/{"B" * size} all - 0 0 - 0'
+
+
 def wild_chunks():
     """10,000 keys `**/a$*b$*cN` and 5,000 requests."""
     yield from faces(2)

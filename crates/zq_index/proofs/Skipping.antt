@@ -18,7 +18,7 @@ use Rattle.std.proofs.lemmas.Bool.{false≢true, false_from_ne_true}
 use Rattle.std.proofs.lemmas.Cmp.{nat_list_cmp_total, ranked}
 use Rattle.std.proofs.lemmas.Map.Keys.{sorted_head, sorted_tail}
 use Rattle.std.proofs.lemmas.Map.Text.{is_eq-slice_cmp}
-use Rattle.std.proofs.lemmas.List.{drop_more, take_more, take-append-drop}
+use Rattle.std.proofs.lemmas.List.{drop_more, take_more, take-append-drop, length-take, length-drop}
 use Rattle.zq_key.specs.Key.{chunks, intersects, is_plain}
 use Rattle.zq_key.proofs.Plain.{intersects-plain}
 use Rattle.std.specs.Str.{bytes_eq}
@@ -29,9 +29,9 @@ use Rattle.zq_index.specs.declared.forks.Mode.TheVariants.{Chunk}
 use Rattle.zq_index.specs.Forks.{IsForkAt, IsHeld, IsLast, IsNext, Leads}
 use Rattle.zq_index.proofs.ForkLemmas.{run_misses, within_from}
 use Rattle.zq_key.proofs.Runs.{Begins, squeezed_run, run_is_less, not_below_itself}
-use Rattle.zq_index.specs.Texts.{text_cmp, has_text, texts_of, is_mixed, mixed_after, Lists, IsListed, IsFirstAfter, NoneBetween}
+use Rattle.zq_index.specs.Texts.{text_cmp, has_text, texts_of, is_mixed, mixed_after, Lists, IsListed, IsFirstAfter, NoneAfter, NoneBetween}
 use Rattle.zq_index.proofs.Orders.{text_exact}
-use Rattle.zq_index.specs.Skipping.{is_run, run_of, SkipsListed, SkipsUnmixed, Skips, IsPlaceAbove}
+use Rattle.zq_index.specs.Skipping.{is_run, run_of, SkipsListed, SkipsUnmixed, NoneFrom, Skips, IsPlaceAbove}
 
 -- ---- texts between two that begin alike
 same_front : (p xs ys : List ℕ) → text_cmp (p ++ xs) (p ++ ys) ≡ text_cmp xs ys
@@ -133,6 +133,23 @@ module _ (t q : List ℕ) (k want : ℕ) (fork : IsForkAt t q k want) where
     none = λ d least less. let same : d ≡ here = omega arith in (rw same fork.tame, rw same fork.other);
   }
 
+-- the same up to a lesser byte
+pub skips_nearer : (q t : List ℕ) (k b c : ℕ) → k < length t → get_or t k 0 < c → c ≤ b → Skips q t (take k t ++ b ∷ []) → Skips q t (take k t ++ c ∷ [])
+skips_nearer q t k b c lt after le skips = record {
+  after = ap (λ y. text_cmp y (take k t ++ c ∷ [])) (whole t k lt) ∙ same_front (take k t) (get_or t k 0 ∷ drop (k + 1) t) (c ∷ []) ∙ less_byte (get_or t k 0) c (drop (k + 1) t) after;
+  none = λ x above below. skips.none x above (by x (eq-or-lt_of_le le) below);
+}
+  where
+    by : (x : List ℕ) → (c ≡ b) ⊎ (c < b) → text_cmp x (take k t ++ c ∷ []) ≡ Less → text_cmp x (take k t ++ b ∷ []) ≡ Less
+    by x (inl same) below = subst (λ d. text_cmp x (take k t ++ d ∷ []) ≡ Less) same below
+    by x (inr less) below = nat_list_cmp_total.trans x (take k t ++ c ∷ []) (take k t ++ b ∷ []) below (same_front (take k t) (c ∷ []) (b ∷ []) ∙ less_byte c b [] less)
+
+pub skips_before : (q t : List ℕ) (k b c : ℕ) (more : List ℕ) → c < b → Skips q t (take k t ++ b ∷ []) → text_cmp t (take k t ++ c ∷ more) ≡ Less → Skips q t (take k t ++ c ∷ more)
+skips_before q t k b c more less skips after = record {
+  after = after;
+  none = λ x above below. skips.none x above (nat_list_cmp_total.trans x (take k t ++ c ∷ more) (take k t ++ b ∷ []) below (same_front (take k t) (c ∷ more) (b ∷ []) ∙ less_byte c b more less));
+}
+
 -- those that begin like t before a place and go on there by a greater byte do not meet q
 abbrev EndsAt : List ℕ → List ℕ → ℕ → Type 0
 EndsAt t q p = (d : ℕ) (more : List ℕ) → get_or t p 0 < d → intersects (take p t ++ d ∷ more) q ≡ false
@@ -206,28 +223,51 @@ unmixed_end (c ∷ p) m tame unmixed =
 tame_above : (n : ℕ) → 42 < n → is_wild n ≡ false
 tame_above n lt = let a : (n == 42) ≡ false = grind (arith, nat_tests) in let b : (n == 36) ≡ false = grind (arith, nat_tests) in rw (a, b) refl
 
-module _ (t q : List ℕ) (k j : ℕ) (lt : k < length t) (leads : Leads t q k Chunk j) where
-  abbrev goes : ℕ
-  goes = get_or q j 0
+-- what is less than the first bytes of a run is less than the run
+cut_less : (n : ℕ) (u x : List ℕ) → text_cmp x (run_of (take n u)) ≡ Less → text_cmp x (run_of u) ≡ Less
+cut_less zero u x less = absurd (nothing_less x less)
+cut_less (suc n) [] x less = less
+cut_less (suc n) (c ∷ u) x less = by_run x (is_run c) less (λ y. cut_less n u y)
+  where
+    by_run : (x : List ℕ) (b : Bool) → text_cmp x (cond b (c ∷ run_of (take n u)) []) ≡ Less → ((y : List ℕ) → text_cmp y (run_of (take n u)) ≡ Less → text_cmp y (run_of u) ≡ Less)
+        → text_cmp x (cond b (c ∷ run_of u) []) ≡ Less
+    by_run x false less deeper = less
+    by_run [] true less deeper = refl
+    by_run (d ∷ x) true less deeper = by (nat_cmp d c) less
+      where
+        by : (o : Ordering) → ordering_then o (text_cmp x (run_of (take n u))) ≡ Less → ordering_then o (text_cmp x (run_of u)) ≡ Less
+        by Less less = refl
+        by Equal less = deeper x less
+        by Greater less = less
 
-  pub chunk_skipped : 42 < get_or t k 0 → j < length q → get_or t k 0 < goes → is_run goes ≡ true → SkipsUnmixed q t (take k t ++ run_of (drop j q))
-  chunk_skipped over in_q greater run = subst (λ r. SkipsUnmixed q t (take k t ++ r)) (sym begins) record {
+module _ (t q : List ℕ) (k j n : ℕ) (lt : k < length t) (leads : Leads t q k Chunk j) where
+  abbrev part : List ℕ
+  part = take n (drop j q)
+
+  abbrev goes : ℕ
+  goes = get_or part 0 0
+
+  pub chunk_skipped : 42 < get_or t k 0 → 0 < length part → get_or t k 0 < goes → is_run goes ≡ true → SkipsUnmixed q t (take k t ++ run_of part)
+  chunk_skipped over some greater run = subst (λ r. SkipsUnmixed q t (take k t ++ r)) (sym begins) record {
     after = ap (λ y. text_cmp y (take k t ++ goes ∷ later)) (whole t k lt) ∙ same_front (take k t) (get_or t k 0 ∷ drop (k + 1) t) (goes ∷ later) ∙ less_bytes (get_or t k 0) goes (drop (k + 1) t) later greater;
     none = λ x above below unmixed.
         let front = fronted (take k t) x (drop (k + 1) t) (goes ∷ later) (get_or t k 0) (λ less. above (ap (text_cmp x) (whole t k lt) ∙ less)) below in
         let a = begins_above t k lt x front.0 above front.1 in
-        let under : text_cmp (a.byte ∷ a.more) (run_of (drop j q)) ≡ Less =
+        let under : text_cmp (a.byte ∷ a.more) (run_of part) ≡ Less =
         ap (text_cmp (a.byte ∷ a.more)) begins ∙ ap (λ m. text_cmp m (goes ∷ later)) (sym a.is) ∙ sym (same_front (take k t) front.0 (goes ∷ later)) ∙ ap (λ y. text_cmp y (take k t ++ goes ∷ later)) (sym front.1) ∙ below in
         let end = unmixed_end (take k t) (a.byte ∷ a.more) false (ap is_mixed (ap (λ m. take k t ++ m) (sym a.is) ∙ sym front.1) ∙ unmixed) in
-        let missed = run_misses (drop j q) a.byte a.more end.0 (tame_above a.byte (omega (arith, over, a.least))) end.1 under in
-        dead_on t k lt q x front.0 front.1 a (leads (a.byte ∷ a.more) (subst (Misses (chunks (a.byte ∷ a.more))) (sym (within_from q j (omega (arith, in_q)))) missed));
+        let missed = run_misses (drop j q) a.byte a.more end.0 (tame_above a.byte (omega (arith, over, a.least))) end.1 (cut_less n (drop j q) (a.byte ∷ a.more) under) in
+        dead_on t k lt q x front.0 front.1 a (leads (a.byte ∷ a.more) (subst (Misses (chunks (a.byte ∷ a.more))) (sym (within_from q j in_q)) missed));
   }
     where
       later : List ℕ
-      later = run_of (drop (j + 1) q)
+      later = run_of (drop 1 part)
 
-      begins : run_of (drop j q) ≡ goes ∷ later
-      begins = ap run_of (drop_more q j 0 in_q) ∙ ap (λ b. cond b (goes ∷ later) []) run
+      begins : run_of part ≡ goes ∷ later
+      begins = ap run_of (drop_more part 0 0 some) ∙ ap (λ b. cond b (goes ∷ later) []) run
+
+      in_q : j ≤ length q
+      in_q = omega (arith, some, length-take n (drop j q), length-drop j q)
 
 -- ---- entries in order, from a bound on
 
@@ -404,6 +444,16 @@ clear_of lists q key bound k want fork skips clear = record {
         by_order Equal is = ap (λ x. intersects x q) (text_exact t key is) ∙ itself
         by_order Greater is = absurd (clear t (listed.1 mixed) (nat_list_cmp_total.antisymm key t ∙ ap ordering_reverse is) below)
 
+-- the same up to the first mixed text after the key
+pub clear_to : (lists : Lists) (q key bound first : List ℕ) (k want : ℕ) → IsForkAt key q k want → SkipsUnmixed q key bound → IsFirstAfter lists.1 key first → text_cmp first bound ≡ Less → SkipsListed lists q key first
+clear_to lists q key bound first k want fork skips is before = clear_of lists q key first k want fork nearer is.none
+  where
+    nearer : SkipsUnmixed q key first
+    nearer = record {
+      after = is.after;
+      none = λ t above below. skips.none t above (nat_list_cmp_total.trans t first bound below before);
+    }
+
 -- ---- the step at a plain key
 above_from : (t k : List ℕ) → text_cmp t k ≢ Less → (t ≡ k → ⊥) → text_cmp k t ≡ Less
 above_from t k not_below differ = by (text_cmp t k) refl not_below
@@ -426,3 +476,16 @@ module _ (lists : Lists) (q key : List ℕ) (q_plain : is_plain q ≡ true) (key
     after = less;
     none = λ t above below listed. misses_plain t above listed (λ same. not_below_itself t (ap (text_cmp t) same ∙ below)) (λ has after. none t has after below);
   }
+
+  pub to_listed : (first : List ℕ) → IsFirstAfter lists.0 key first → (text_cmp q key ≡ Less) ⊎ (text_cmp first q ≡ Less) → SkipsListed lists q key first
+  to_listed first is out = record {
+    after = is.after;
+    none = λ t above below listed. misses_plain t above listed (other t above below out) (λ has after. is.none t has after below);
+  }
+    where
+      other : (t : List ℕ) → text_cmp t key ≢ Less → text_cmp t first ≡ Less → (text_cmp q key ≡ Less) ⊎ (text_cmp first q ≡ Less) → t ≡ q → ⊥
+      other t above below (inl less) same = above (ap (λ x. text_cmp x key) same ∙ less)
+      other t above below (inr less) same = not_below_itself t (nat_list_cmp_total.trans t first t below (ap (text_cmp first) same ∙ less))
+
+  pub none_from : text_cmp q key ≡ Less → NoneAfter lists.0 key → NoneFrom lists q key
+  none_from less none t above listed = misses_plain t above listed (λ same. above (ap (λ x. text_cmp x key) same ∙ less)) (λ has after. none t has after)

@@ -4,6 +4,7 @@ ghost use Rattle.std.specs.BTreeMap.{is_at};
 ghost use Rattle.std.specs.BTreeSet.{insert_key};
 ghost use Rattle.std.specs.Set.{remove_key};
 ghost use Rattle.std.specs.Ordering.{is_lt};
+ghost use Rattle.std.specs.declared.cmp.Ordering.TheVariants.{Less};
 ghost use Rattle.std.specs.String.{string_bytes};
 ghost use Rattle.zq_index.specs.Texts.{text_cmp, has_text, is_mixed, mixed_after, IsFirstAfter, IsListed, NoneAfter, NoneBetween, lists_without};
 
@@ -83,13 +84,15 @@ fn first_after<'a>(texts: &'a BTreeSet<String>, text: &String) -> Option<&'a Str
     }
 }
 
-/// Whether none of the texts stands between two.
-fn is_clear(texts: &BTreeSet<String>, text: &String, end: &str) -> bool
-    ensures { result ≡ true → NoneBetween (map string_bytes texts.now.keys) (string_bytes text.now) end.now }
+/// The first of the texts between two.
+fn first_between<'a>(texts: &'a BTreeSet<String>, text: &String, end: &str) -> Option<&'a String>
+    ensures { MatchOption result (NoneBetween (map string_bytes texts.now.keys) (string_bytes text.now) end.now) (λ t. IsFirstAfter (map string_bytes texts.now.keys) (string_bytes text.now) (string_bytes t.now) × (text_cmp (string_bytes t.now) end.now ≡ Less)) }
 {
-    match first_after(texts, text) {
-        Some(first) => !comes_before(first.as_str(), end),
-        None => true,
+    let first = first_after(texts, text)?;
+    if comes_before(first.as_str(), end) {
+        Some(first)
+    } else {
+        None
     }
 }
 
@@ -168,17 +171,24 @@ impl KeyLists {
         take_text(&mut self.mixed, key);
     }
 
-    /// Whether each key between two texts is plain.
-    pub fn has_none_wild(&self, text: &String, end: &str) -> bool
-        ensures { result ≡ true → NoneBetween self.now.0 (string_bytes text.now) end.now }
+    /// The first key after a text that is not plain.
+    pub fn wild_after(&self, text: &String) -> Option<&String>
+        ensures { MatchOption result (NoneAfter self.now.0 (string_bytes text.now)) (λ t. IsFirstAfter self.now.0 (string_bytes text.now) (string_bytes t.now)) }
     {
-        is_clear(&self.wild, text, end)
+        first_after(&self.wild, text)
     }
 
-    /// Whether no mixed key stands between two texts.
-    pub fn has_none_mixed(&self, text: &String, end: &str) -> bool
-        ensures { result ≡ true → NoneBetween self.now.1 (string_bytes text.now) end.now }
+    /// The first key between two texts that is not plain.
+    pub fn wild_between(&self, text: &String, end: &str) -> Option<&String>
+        ensures { MatchOption result (NoneBetween self.now.0 (string_bytes text.now) end.now) (λ t. IsFirstAfter self.now.0 (string_bytes text.now) (string_bytes t.now) × (text_cmp (string_bytes t.now) end.now ≡ Less)) }
     {
-        is_clear(&self.mixed, text, end)
+        first_between(&self.wild, text, end)
+    }
+
+    /// The first mixed key between two texts.
+    pub fn mixed_between(&self, text: &String, end: &str) -> Option<&String>
+        ensures { MatchOption result (NoneBetween self.now.1 (string_bytes text.now) end.now) (λ t. IsFirstAfter self.now.1 (string_bytes text.now) (string_bytes t.now) × (text_cmp (string_bytes t.now) end.now ≡ Less)) }
+    {
+        first_between(&self.mixed, text, end)
     }
 }
