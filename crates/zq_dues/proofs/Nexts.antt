@@ -30,7 +30,8 @@ use Rattle.zq_hat.specs.Kept.{region_info}
 use Rattle.zq_hat.specs.Regions.{in_routers, is_north, same_mode, same_region, strategy_at, strategy_of}
 use Rattle.zq_hat.specs.State.{HatState}
 use Rattle.zq_machine.specs.declared.face.OpenFace.{OpenFace}
-use Rattle.zq_machine.specs.Due.{Interests, asks_for, due, heard, heard_as, heard_by, heard_in, is_unasked, listens, listens_in}
+use Rattle.zq_machine.specs.Due.{due, heard, heard_as, heard_by, heard_in, is_unasked, listens, listens_in}
+use Rattle.zq_interests.specs.Interests.{Interests, asks_for}
 use Rattle.zq_machine.specs.State.{Core, at, change_hat, hat_at, is_region, put_hat}
 use Rattle.zq_machine.specs.Trees.{own_entry}
 use Rattle.zq_machine.proofs.Changing.{hat_here, region_there}

@@ -9,7 +9,8 @@ use Rattle.zq_hat.specs.Regions.{is_north, strategy_at}
 use Rattle.zq_hat.specs.State.{HatState}
 use Rattle.zq_told.specs.Telling.{KeyDue}
 use Rattle.zq_machine.specs.declared.face.OpenFace.{OpenFace}
-use Rattle.zq_machine.specs.Due.{Interests, asks_for, due, heard_as, is_unasked, listens}
+use Rattle.zq_machine.specs.Due.{due, heard_as, is_unasked, listens}
+use Rattle.zq_interests.specs.Interests.{Interests, asks_for}
 use Rattle.zq_machine.specs.State.{Core, at, change_hat, hat_at}
 use Rattle.zq_own.specs.declared.entries.NewInfo.{NewInfo}
 use Rattle.zq_dues.specs.declared.types.HatChange.{HatChange}

@@ -15,7 +15,7 @@ use Rattle.zq_message.specs.declared.message.Region.TheVariants as region
 use Rattle.zq_regions.specs.Region.{region_index}
 use Rattle.zq_index.specs.Infos.{joined}
 use Rattle.zq_hat.specs.declared.types.Declaration.{Declaration}
-use Rattle.zq_hat.specs.declared.types.InterestEntry.{InterestEntry}
+use Rattle.zq_interests.specs.declared.types.InterestEntry.{InterestEntry}
 use Rattle.zq_hat.specs.declared.types.Strategy.{Strategy}
 use Rattle.zq_hat.specs.declared.types.Strategy.TheVariants as strategy
 use Rattle.zq_hat.specs.Fellows.{fellow_info, with_fellow}
@@ -23,7 +23,8 @@ use Rattle.zq_hat.specs.Kept.{change_face, face_at, info, region_info}
 use Rattle.zq_hat.specs.Regions.{is_north, strategy_at, strategy_of}
 use Rattle.zq_hat.specs.State.{FaceState, HatState}
 use Rattle.zq_machine.specs.declared.face.OpenFace.{OpenFace}
-use Rattle.zq_machine.specs.Due.{Interests, due, heard, heard_as, heard_by, interests_of, is_unasked, listens_in, redeclared, wants}
+use Rattle.zq_machine.specs.Due.{due, heard, heard_as, heard_by, is_unasked, listens_in, redeclared}
+use Rattle.zq_interests.specs.Interests.{Interests, interests_of, wants}
 use Rattle.zq_machine.specs.State.{Core, at, change_hat, change_hat_of, face_region, hat_at, hat_of, put_hat}
 use Rattle.zq_machine.specs.Trees.{own_entry, with_other}
 use Rattle.zq_machine.proofs.Changing.{hat_here, region_there}

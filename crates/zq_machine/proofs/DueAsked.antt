@@ -3,7 +3,7 @@ use Rattle.std.proofs.Common.{◌≡◌, ◌∙◌, refl, sym, ap, ℕ, Bool, tr
 use Rattle.std.specs.Prelude.{◌||◌}
 use Rattle.std.specs.BTreeMap.{insert_entry, is_at}
 use Rattle.std.specs.List.{list_any}
-use Rattle.std.specs.Map.{remove_entry}
+use Rattle.std.specs.Map.{remove_entry, set_value}
 use Rattle.std.specs.Option.{is_some, option_map_or}
 use Rattle.std.specs.Ordering.{is_eq, match_ordering, nat_cmp}
 use Rattle.std.specs.Str.{bytes_eq}
@@ -14,11 +14,12 @@ use Rattle.std.proofs.lemmas.Cmp.{nat_cmp_total}
 use Rattle.std.proofs.lemmas.Map.Lookups.{exact_unsigned}
 use Rattle.std.proofs.lemmas.Slice.Eq.{bytes_eq-Decides}
 use Rattle.zq_message.specs.declared.message.QueryableInfoType.{QueryableInfoType}
-use Rattle.zq_key.proofs.Lookups.{found_after_insertion}
-use Rattle.zq_hat.specs.declared.types.InterestEntry.{InterestEntry}
+use Rattle.zq_key.proofs.Lookups.{found_after_insertion, found_after_write}
+use Rattle.zq_interests.specs.declared.types.InterestEntry.{InterestEntry}
 use Rattle.zq_hat.specs.Regions.{is_north, strategy_at}
 use Rattle.zq_hat.specs.State.{HatState}
-use Rattle.zq_machine.specs.Due.{Interests, ask_touched, asks_for, due, due_keys, heard, interests_of, is_unasked, meets, met_keys, wants, with_interest, without_interest}
+use Rattle.zq_machine.specs.Due.{ask_touched, due, due_keys, heard, is_unasked, met_keys}
+use Rattle.zq_interests.specs.Interests.{Interests, asks_for, interests_of, meets, wants, with_interest, without_interest}
 use Rattle.zq_machine.specs.State.{Core, at, hat_of}
 use Rattle.zq_machine.proofs.Changing.{one_number}
 use Rattle.zq_machine.proofs.DueAlone.{interests_alone}
@@ -83,12 +84,36 @@ module _ (ints : Interests) (asker : ℕ) (more : List (ℕ × InterestEntry)) (
   pub listed_at : interests_of face (insert_entry nat_cmp ints asker more) ≡ listed (is_at (nat_cmp asker) face)
   listed_at = ap (λ (o : Option (List (ℕ × InterestEntry))). option_map_or (λ es. es) o []) (found_after_insertion nat_cmp_total exact_unsigned asker face more ints)
 
+  -- those of a face that is there; of one that is not, none are written
+  unset : (es : Interests) → at asker es ≡ None → set_value (is_at (nat_cmp asker)) es more ≡ es
+  unset [] e = refl
+  unset (x ∷ es) e = by (is_at (nat_cmp asker) x.0) e (unset es)
+    where
+      by : (b : Bool) → cond b (Some x.1) (at asker es) ≡ None → (at asker es ≡ None → set_value (is_at (nat_cmp asker)) es more ≡ es) → cond b ((x.0, more) ∷ es) (x ∷ set_value (is_at (nat_cmp asker)) es more) ≡ x ∷ es
+      by true f rest = absurd (let gap : Some x.1 ≡ None = f in cc)
+      by false f rest = ap (λ l. x ∷ l) (rest f)
+
+  pub written_at : (at asker ints ≡ None → more ≡ []) → interests_of face (set_value (is_at (nat_cmp asker)) ints more) ≡ listed (is_at (nat_cmp asker) face)
+  written_at none = by (at asker ints) refl
+    where
+      same : at asker ints ≡ None → (b : Bool) → is_at (nat_cmp asker) face ≡ b → interests_of face ints ≡ listed b
+      same e true h = ap (λ n. interests_of n ints) (sym (one_number asker face h)) ∙ ap (λ (o : Option (List (ℕ × InterestEntry))). option_map_or (λ es. es) o []) e ∙ sym (none e)
+      same e false h = refl
+
+      by : (o : Option (List (ℕ × InterestEntry))) → at asker ints ≡ o → interests_of face (set_value (is_at (nat_cmp asker)) ints more) ≡ listed (is_at (nat_cmp asker) face)
+      by None e = ap (interests_of face) (unset ints e) ∙ same e (is_at (nat_cmp asker) face) refl
+      by (Some x) e = ap (λ (o : Option (List (ℕ × InterestEntry))). option_map_or (λ es. es) o []) (found_after_write nat_cmp_total exact_unsigned asker face more ints (ap is_some e))
+
 -- a face's interests with one more, and without one
 abbrev pub with_one : ℕ → ℕ → InterestEntry → Interests → List (ℕ × InterestEntry)
 with_one asker id asked ints = insert_entry nat_cmp (interests_of asker ints) id asked
 
 abbrev pub without_one : ℕ → ℕ → Interests → List (ℕ × InterestEntry)
 without_one asker id ints = remove_entry (is_at (nat_cmp id)) (interests_of asker ints)
+
+-- one that is not there has none
+pub none_without : (asker id : ℕ) (ints : Interests) → at asker ints ≡ None → without_one asker id ints ≡ []
+none_without asker id ints e = ap (λ (o : Option (List (ℕ × InterestEntry))). remove_entry (is_at (nat_cmp id)) (option_map_or (λ es. es) o [])) e
 
 -- what asks comes, in the place of none or of one that asks for the same
 pub asks_stay : (c : Core) (ints : Interests) (asker id : ℕ) (asked : InterestEntry) → ((old : InterestEntry) → at id (interests_of asker ints) ≡ Some old → old.key ≡ asked.key) → (face : ℕ) (key : List ℕ)
@@ -135,7 +160,7 @@ pub ends_less : (c : Core) (ints : Interests) (asker id face : ℕ) (key : List 
 ends_less c ints asker id face key some = by (is_at (nat_cmp asker) face) refl
   where
     found : interests_of face (without_interest asker id ints) ≡ listed ints asker (without_one asker id ints) face (is_at (nat_cmp asker) face)
-    found = listed_at ints asker (without_one asker id ints) face
+    found = written_at ints asker (without_one asker id ints) face (none_without asker id ints)
 
     own : asker ≡ face → interests_of face (without_interest asker id ints) ≡ without_one asker id ints → due c (without_interest asker id ints) face key ≡ due c ints face key
     own here is =

@@ -21,16 +21,17 @@ use Rattle.std.proofs.lemmas.Slice.Eq.{bytes_eq-Decides}
 use Rattle.zq_key.specs.Key.{intersects}
 use Rattle.zq_key.proofs.Lookups.{found_after_insertion, found_after_removal}
 use Rattle.zq_index.specs.Texts.{text_cmp}
-use Rattle.zq_hat.specs.declared.types.InterestEntry.{InterestEntry}
+use Rattle.zq_interests.specs.declared.types.InterestEntry.{InterestEntry}
 use Rattle.zq_machine.specs.declared.call.Opening.{Opening}
 use Rattle.zq_machine.specs.declared.face.OpenFace.{OpenFace}
-use Rattle.zq_machine.specs.Due.{Interests, ask_touched, asks_for, due, due_keys, heard_as, interests_of, is_due_touched, listens_in, meets, met_keys, wants, with_interest, without_interest}
+use Rattle.zq_machine.specs.Due.{ask_touched, due, due_keys, heard_as, is_due_touched, listens_in, met_keys}
+use Rattle.zq_interests.specs.Interests.{Interests, asks_for, interests_of, meets, wants, with_interest, without_interest}
 use Rattle.zq_machine.specs.State.{Core, at, hat_at, is_open}
 use Rattle.zq_machine.specs.TextCalls.{TextCall, opening}
 use Rattle.zq_machine.specs.Trees.{is_touched, touched}
 use Rattle.zq_machine.proofs.Changing.{number_test, one_number}
 use Rattle.zq_machine.proofs.DueAlone.{interests_alone}
-use Rattle.zq_machine.proofs.DueAsked.{asked_less, due_asking, listed, listed_at, with_one, without_one}
+use Rattle.zq_machine.proofs.DueAsked.{asked_less, due_asking, listed, listed_at, none_without, with_one, without_one, written_at}
 use Rattle.zq_machine.proofs.DueKeys.{Absent, all_put, among, is_among, nothing_due}
 
 -- ---- a face that is not open
@@ -94,7 +95,7 @@ module _ (ints : Interests) (asker id face other : ℕ) where
 
   found_without : IsStrictlySortedBy nat_cmp (keys_of (interests_of asker ints)) → at other (interests_of face (without_interest asker id ints)) ≡ cond ((asker == face) && (id == other)) None (at other (interests_of face ints))
   found_without sorted =
-      ap (at other) (listed_at ints asker (without_one asker id ints) face ∙ ap (listed ints asker (without_one asker id ints) face) (number_test asker face))
+      ap (at other) (written_at ints asker (without_one asker id ints) face (none_without asker id ints) ∙ ap (listed ints asker (without_one asker id ints) face) (number_test asker face))
       ∙ by (asker == face) refl
     where
       by : (b : Bool) → (asker == face) ≡ b → at other (listed ints asker (without_one asker id ints) face b) ≡ cond (b && (id == other)) None (at other (interests_of face ints))
@@ -147,7 +148,7 @@ pub ends_stay : (c : Core) (ints : Interests) (asker id face : ℕ) (key : List 
 ends_stay c ints asker id face key off = by (is_at (nat_cmp asker) face) refl
   where
     found : interests_of face (without_interest asker id ints) ≡ listed ints asker (without_one asker id ints) face (is_at (nat_cmp asker) face)
-    found = listed_at ints asker (without_one asker id ints) face
+    found = written_at ints asker (without_one asker id ints) face (none_without asker id ints)
 
     kept : asker ≡ face → interests_of face (without_interest asker id ints) ≡ without_one asker id ints → ((old : InterestEntry) → at id (interests_of asker ints) ≡ Some old → meets old.key key ≡ false)
         → due c (without_interest asker id ints) face key ≡ due c ints face key

@@ -34,7 +34,8 @@ use Rattle.zq_hat.specs.Trees.{region_keys}
 use Rattle.zq_machine.specs.declared.call.Opening.{Opening}
 use Rattle.zq_machine.specs.declared.face.OpenFace.{OpenFace}
 use Rattle.zq_machine.specs.Deciding.{accepted, seat}
-use Rattle.zq_machine.specs.Due.{Interests, KeysRise, due, due_keys, due_touched, heard, heard_as, heard_by, heard_in, listens, meets, met_keys, with_region_keys}
+use Rattle.zq_machine.specs.Due.{KeysRise, due, due_keys, due_touched, heard, heard_as, heard_by, heard_in, listens, met_keys, with_region_keys}
+use Rattle.zq_interests.specs.Interests.{Interests, meets}
 use Rattle.zq_machine.specs.State.{Core, at, hat_at, joined as join, put_hat}
 use Rattle.zq_machine.specs.TextCalls.{TextCall, opening}
 use Rattle.zq_machine.specs.Trees.{own_entry, touched, with_other}

@@ -36,7 +36,9 @@ use Rattle.zq_machine.specs.declared.face.OpenFace.{OpenFace}
 use Rattle.zq_machine.specs.Calls.{declares}
 use Rattle.zq_machine.specs.Configs.{Settings}
 use Rattle.zq_machine.specs.Deciding.{accepted, opened, refusal_of, retracted_by}
-use Rattle.zq_machine.specs.Due.{Interests, due, due_keys, fellow_info, heard_as, heard_by, is_due_touched, listens, listens_in, with_fellow}
+use Rattle.zq_hat.specs.Fellows.{fellow_info, with_fellow}
+use Rattle.zq_machine.specs.Due.{due, due_keys, heard_as, heard_by, is_due_touched, listens, listens_in}
+use Rattle.zq_interests.specs.Interests.{Interests}
 use Rattle.zq_machine.specs.Machine.{after, state_after}
 use Rattle.zq_machine.specs.Selecting.{full_text}
 use Rattle.zq_machine.specs.State.{Core, State, at, change_hat, first_hats, hat_at, hat_of, is_open, is_region, opening_state, put_hat}

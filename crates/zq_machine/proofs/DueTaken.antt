@@ -20,7 +20,7 @@ use Rattle.zq_key.specs.Key.{intersects}
 use Rattle.zq_index.specs.Infos.{joined}
 use Rattle.zq_index.proofs.Laws.{merge_self}
 use Rattle.zq_index.proofs.Merges.{joined_none, joined_regroup, joined_swap}
-use Rattle.zq_hat.specs.declared.types.InterestEntry.{InterestEntry}
+use Rattle.zq_interests.specs.declared.types.InterestEntry.{InterestEntry}
 use Rattle.zq_hat.specs.declared.types.Strategy.{Strategy}
 use Rattle.zq_hat.specs.declared.types.Strategy.TheVariants as strategy
 use Rattle.zq_hat.specs.Fellows.{fellow_info}
@@ -31,7 +31,8 @@ use Rattle.zq_machine.specs.declared.call.Call.{Call}
 use Rattle.zq_machine.specs.declared.face.OpenFace.{OpenFace}
 use Rattle.zq_machine.specs.Configs.{Settings}
 use Rattle.zq_machine.specs.Machine.{state_after}
-use Rattle.zq_machine.specs.Due.{Interests, asks_for, due, heard, heard_as, heard_by, heard_in, interests_of, is_unasked, listens, listens_in, wants}
+use Rattle.zq_machine.specs.Due.{due, heard, heard_as, heard_by, heard_in, is_unasked, listens, listens_in}
+use Rattle.zq_interests.specs.Interests.{Interests, asks_for, interests_of, wants}
 use Rattle.zq_machine.specs.State.{Core, at, hat_at, hat_of, is_routing, opening_state}
 use Rattle.zq_machine.specs.Trees.{own_entry}
 use Rattle.zq_machine.proofs.Agreed.{InOrder, run_in_order}

@@ -38,7 +38,8 @@ use Rattle.zq_machine.specs.declared.call.Opening.{Opening}
 use Rattle.zq_machine.specs.declared.face.OpenFace.{OpenFace}
 use Rattle.zq_machine.specs.Configs.{Settings}
 use Rattle.zq_machine.specs.Deciding.{accepted, announced_by, causes, opened, refusal_of, retracted_by, seat}
-use Rattle.zq_machine.specs.Due.{Interests, asks_for, due, due_keys, heard_as, heard_by, heard_in, is_due_touched, is_unasked, listens_in}
+use Rattle.zq_machine.specs.Due.{due, due_keys, heard_as, heard_by, heard_in, is_due_touched, is_unasked, listens_in}
+use Rattle.zq_interests.specs.Interests.{Interests, asks_for}
 use Rattle.zq_machine.specs.Machine.{after, state_after}
 use Rattle.zq_machine.specs.Selecting.{full_text}
 use Rattle.zq_machine.specs.State.{Core, State, at, clashes_in, hat_at, is_open, is_region, joined as join, opening_state}

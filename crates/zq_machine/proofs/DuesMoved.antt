@@ -12,15 +12,17 @@ use Rattle.zq_key.proofs.Naturals.{any-map, filter-map, fold-map, fold-moved}
 use Rattle.zq_index.specs.Infos.{joined}
 use Rattle.zq_index.specs.Texts.{text_cmp}
 use Rattle.zq_hat.specs.Fellows.{fellow_info, with_fellow}
-use Rattle.zq_hat.specs.declared.types.InterestEntry.{InterestEntry}
-use Rattle.zq_hat.specs.Moved.{Keeps, move_face, move_hat, move_interest}
+use Rattle.zq_interests.specs.declared.types.InterestEntry.{InterestEntry}
+use Rattle.zq_hat.specs.Moved.{Keeps, move_face, move_hat}
+use Rattle.zq_machine.specs.DueAlike.{move_interest}
 use Rattle.zq_hat.specs.Regions.{is_north, strategy_at}
 use Rattle.zq_hat.specs.State.{HatState}
 use Rattle.zq_hat.specs.Trees.{region_keys}
 use Rattle.zq_hat.proofs.OffersMoved.{key_moved}
 use Rattle.zq_machine.specs.declared.face.OpenFace.{OpenFace}
 use Rattle.zq_machine.specs.Deciding.{refusal_of}
-use Rattle.zq_machine.specs.Due.{Interests, asks_for, due, due_keys, due_touched, heard, heard_as, heard_by, heard_in, interests_of, is_unasked, listens, listens_in, meets, met_keys, wants, with_region_keys}
+use Rattle.zq_machine.specs.Due.{due, due_keys, due_touched, heard, heard_as, heard_by, heard_in, is_unasked, listens, listens_in, met_keys, with_region_keys}
+use Rattle.zq_interests.specs.Interests.{Interests, asks_for, interests_of, meets, wants}
 use Rattle.zq_machine.specs.DueAlike.{move_interests}
 use Rattle.zq_machine.specs.Moved.{move_core, move_region, move_text}
 use Rattle.zq_machine.specs.State.{Core, at, hat_at, hat_of}

@@ -20,7 +20,8 @@ use Rattle.zq_told.proofs.Faces.{opens as opens_sound, stay_sound}
 use Rattle.zq_told.proofs.Ordered.{tells_in_order}
 use Rattle.zq_told.proofs.Slotted.{none_sorted}
 use Rattle.zq_machine.specs.Configs.{Settings}
-use Rattle.zq_machine.specs.Due.{Interests, due, due_touched, listens}
+use Rattle.zq_machine.specs.Due.{due, due_touched, listens}
+use Rattle.zq_interests.specs.Interests.{Interests}
 use Rattle.zq_machine.specs.Machine.{settle}
 use Rattle.zq_machine.specs.Neighbours.{AllHear, Hears, dues_on, ears_after, looked_at, neighbours_lack, neighbours_told, with_dues, with_new, without_closed}
 use Rattle.zq_machine.specs.State.{Core, State, at, is_open}

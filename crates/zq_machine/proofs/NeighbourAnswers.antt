@@ -15,7 +15,7 @@ use Rattle.std.proofs.lemmas.Slice.Eq.{bytes_eq-Decides}
 use Rattle.zq_message.specs.declared.message.QueryableInfoType.{QueryableInfoType}
 use Rattle.zq_key.proofs.Lookups.{each_entry}
 use Rattle.zq_trees.specs.declared.types.Telling.{Telling}
-use Rattle.zq_hat.specs.declared.types.InterestEntry.{InterestEntry}
+use Rattle.zq_interests.specs.declared.types.InterestEntry.{InterestEntry}
 use Rattle.zq_told.specs.declared.types.ToldEntry.{ToldEntry}
 use Rattle.zq_told.specs.declared.types.Way.TheVariants.{Answering}
 use Rattle.zq_told.specs.Ears.{Ears}
@@ -24,7 +24,8 @@ use Rattle.zq_told.specs.Receiver.{Heard, heard_entry, is_left, is_over, receive
 use Rattle.zq_told.specs.Laws.{is_to, told_in}
 use Rattle.zq_told.specs.Leaving.{news_of}
 use Rattle.zq_told.proofs.Leaving.{answers_all}
-use Rattle.zq_machine.specs.Due.{Interests, due, interests_of, met_keys, with_interest}
+use Rattle.zq_machine.specs.Due.{due, met_keys}
+use Rattle.zq_interests.specs.Interests.{Interests, interests_of, with_interest}
 use Rattle.zq_machine.specs.Neighbours.{Hears, answer_told, asked_dues, heard_asked, with_dues}
 use Rattle.zq_machine.specs.State.{Core, at}
 use Rattle.zq_machine.proofs.DueEnds.{asks_more}

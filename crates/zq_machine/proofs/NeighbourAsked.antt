@@ -18,7 +18,7 @@ use Rattle.std.proofs.lemmas.Option.{same_Some}
 use Rattle.zq_message.specs.declared.message.QueryableInfoType.{QueryableInfoType}
 use Rattle.zq_key.proofs.Lookups.{apart}
 use Rattle.zq_index.specs.Texts.{at_text, text_cmp}
-use Rattle.zq_hat.specs.declared.types.InterestEntry.{InterestEntry}
+use Rattle.zq_interests.specs.declared.types.InterestEntry.{InterestEntry}
 use Rattle.zq_told.specs.declared.types.ToldEntry.{ToldEntry}
 use Rattle.zq_told.specs.declared.types.Way.{Way}
 use Rattle.zq_told.specs.declared.types.Way.TheVariants.{Answering, Ending}
@@ -31,7 +31,8 @@ use Rattle.zq_told.proofs.Differing.{looks_up, tells_each}
 use Rattle.zq_told.proofs.Faces.{less_due}
 use Rattle.zq_told.proofs.Leaving.{ends_quietly, lacks_exactly}
 use Rattle.zq_told.proofs.Reaching.{below_by}
-use Rattle.zq_machine.specs.Due.{Interests, ask_touched, due, due_keys, interests_of, meets, met_keys, with_interest, without_interest}
+use Rattle.zq_machine.specs.Due.{ask_touched, due, due_keys, met_keys}
+use Rattle.zq_interests.specs.Interests.{Interests, interests_of, meets, with_interest, without_interest}
 use Rattle.zq_machine.specs.Neighbours.{Hears, answer_lacks, answer_told, asked_dues, due_on, ears_asked, ears_ended, ended_at, ended_dues, heard_asked, heard_ended, is_news, lacks_at, told_keys, with_dues}
 use Rattle.zq_machine.specs.State.{Core, at}
 use Rattle.zq_machine.proofs.Changing.{number_test}

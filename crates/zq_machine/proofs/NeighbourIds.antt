@@ -25,7 +25,8 @@ use Rattle.zq_machine.specs.declared.call.Opening.{Opening}
 use Rattle.zq_machine.specs.declared.face.OpenFace.{OpenFace}
 use Rattle.zq_machine.specs.Configs.{Settings}
 use Rattle.zq_machine.specs.Deciding.{accepted, opened}
-use Rattle.zq_machine.specs.Due.{Interests, due, due_keys, due_touched, heard as heard_there, listens}
+use Rattle.zq_machine.specs.Due.{due, due_keys, due_touched, heard as heard_there, listens}
+use Rattle.zq_interests.specs.Interests.{Interests}
 use Rattle.zq_machine.specs.Machine.{settle}
 use Rattle.zq_machine.specs.Neighbours.{AllHear, dues_on, is_news, lacks_at, neighbours_lack, with_dues, with_new}
 use Rattle.zq_machine.specs.State.{Core, State, at, is_open}

@@ -1,7 +1,7 @@
 -- The laws of what faces are told, at every point of every run.
 use Rattle.std.proofs.Common.{◌≡◌, ◌∙◌, refl, sym, ap, ℕ, true, false, cond, true≢false, List, [], Some, None}
 use Rattle.std.specs.Option.{is_some}
-use Rattle.zq_hat.specs.declared.types.InterestEntry.{InterestEntry}
+use Rattle.zq_interests.specs.declared.types.InterestEntry.{InterestEntry}
 use Rattle.zq_told.specs.declared.types.Way.TheVariants.{Answering, Ending}
 use Rattle.zq_told.specs.Ears.{Ears}
 use Rattle.zq_told.specs.Receiver.{Heard}
@@ -12,7 +12,8 @@ use Rattle.zq_machine.specs.declared.call.Call.TheVariants as call
 use Rattle.zq_machine.specs.declared.call.Opening.{Opening}
 use Rattle.zq_machine.specs.Configs.{Settings}
 use Rattle.zq_machine.specs.Deciding.{is_accepted}
-use Rattle.zq_machine.specs.Due.{Interests, due, heard as heard_there, interests_of, with_interest, without_interest}
+use Rattle.zq_machine.specs.Due.{due, heard as heard_there}
+use Rattle.zq_interests.specs.Interests.{Interests, interests_of, with_interest, without_interest}
 use Rattle.zq_machine.specs.Machine.{after, settle, state_after, step}
 use Rattle.zq_machine.specs.Neighbours.{AllTold, AskingTold, EndingTold, FaceTold, Hears, asked_at, ended_at, makes_due}
 use Rattle.zq_machine.specs.State.{Core, State, at, is_open, opening_state}

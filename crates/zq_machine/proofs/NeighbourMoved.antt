@@ -8,7 +8,7 @@ use Rattle.std.specs.Ordering.{nat_cmp}
 use Rattle.std.proofs.lemmas.List.{map-append}
 use Rattle.std.proofs.lemmas.Map.Made.{lookup-map_values}
 use Rattle.zq_key.proofs.Naturals.{filter-map, map-map}
-use Rattle.zq_hat.specs.declared.types.InterestEntry.{InterestEntry}
+use Rattle.zq_interests.specs.declared.types.InterestEntry.{InterestEntry}
 use Rattle.zq_hat.specs.Moved.{Keeps}
 use Rattle.zq_told.specs.declared.types.FaceDues.{FaceDues}
 use Rattle.zq_told.specs.declared.types.Planned.{Planned}
@@ -20,7 +20,8 @@ use Rattle.zq_told.specs.Telling.{KeyDue, lacks_ids, tell_due, tell_faces}
 use Rattle.zq_told.proofs.Moved.{tells_alike}
 use Rattle.zq_machine.specs.declared.face.OpenFace.{OpenFace}
 use Rattle.zq_machine.specs.Deciding.{refusal_of}
-use Rattle.zq_machine.specs.Due.{Interests, due_touched, listens, meets, met_keys}
+use Rattle.zq_machine.specs.Due.{due_touched, listens, met_keys}
+use Rattle.zq_interests.specs.Interests.{Interests, meets}
 use Rattle.zq_machine.specs.DueAlike.{DueAlike, ToldAlike, move_asked, move_interests}
 use Rattle.zq_machine.specs.Moved.{move_core, move_text}
 use Rattle.zq_machine.specs.Neighbours.{asked_at, asked_dues, due_on, dues_on, ended_at, ended_dues, looked_at, told_keys, with_dues, with_new, without_closed}

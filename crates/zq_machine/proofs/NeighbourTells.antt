@@ -14,7 +14,8 @@ use Rattle.zq_told.specs.Ears.{Ear, Ears, at_face}
 use Rattle.zq_told.specs.Laws.{differs, is_to, takes_id, told_in, told_info}
 use Rattle.zq_told.proofs.Differing.{tells_difference}
 use Rattle.zq_machine.specs.Configs.{Settings}
-use Rattle.zq_machine.specs.Due.{Interests, due, due_keys, listens}
+use Rattle.zq_machine.specs.Due.{due, due_keys, listens}
+use Rattle.zq_interests.specs.Interests.{Interests}
 use Rattle.zq_machine.specs.Machine.{settle}
 use Rattle.zq_machine.specs.Neighbours.{HaveChanges, due_on, is_news, neighbours_told, with_new}
 use Rattle.zq_machine.specs.State.{Core, State, is_open}

@@ -37,7 +37,8 @@ use Rattle.zq_machine.specs.declared.call.Opening.{Opening}
 use Rattle.zq_machine.specs.declared.face.OpenFace.{OpenFace}
 use Rattle.zq_machine.specs.Configs.{Settings}
 use Rattle.zq_machine.specs.Deciding.{is_accepted, opened as as_opened}
-use Rattle.zq_machine.specs.Due.{Interests, due, due_touched, heard as heard_there, heard_as, is_due_touched, listens, listens_in}
+use Rattle.zq_machine.specs.Due.{due, due_touched, heard as heard_there, heard_as, is_due_touched, listens, listens_in}
+use Rattle.zq_interests.specs.Interests.{Interests}
 use Rattle.zq_machine.specs.Machine.{answer, settle}
 use Rattle.zq_machine.specs.Neighbours.{Hears, due_on, dues_on, ears_after, heard_over, looked_at, with_new, without_closed}
 use Rattle.zq_machine.specs.State.{Core, State, at, hat_at, is_open, region_in}

@@ -14,7 +14,7 @@ use Rattle.zq_key.specs.Key.{intersects}
 use Rattle.zq_index.specs.Infos.{joined}
 use Rattle.zq_index.specs.Texts.{text_cmp}
 use Rattle.zq_hat.specs.declared.types.Declaration.{Declaration}
-use Rattle.zq_hat.specs.declared.types.InterestEntry.{InterestEntry}
+use Rattle.zq_interests.specs.declared.types.InterestEntry.{InterestEntry}
 use Rattle.zq_hat.specs.declared.types.Strategy.{Strategy}
 use Rattle.zq_hat.specs.declared.types.Strategy.TheVariants as strategy
 use Rattle.zq_hat.specs.Fellows.{fellow_info}
@@ -22,40 +22,13 @@ use Rattle.zq_hat.specs.Kept.{change_face}
 use Rattle.zq_hat.specs.Regions.{is_north, strategy_at}
 use Rattle.zq_hat.specs.State.{FaceState, HatState}
 use Rattle.zq_hat.specs.Trees.{region_keys}
+use Rattle.zq_interests.specs.Interests.{Interests, asks_for, meets}
 use Rattle.zq_machine.specs.declared.face.OpenFace.{OpenFace}
 use Rattle.zq_machine.specs.State.{Core, at, change_hat_of, hat_at, hat_of}
 use Rattle.zq_machine.specs.TextCalls.{TextCall, opening}
 use Rattle.zq_machine.specs.Trees.{own_entry, touched}
 
--- ---- what faces ask to hear
-
--- the interests of faces: by face, and by id
-abbrev pub Interests : Type 0
-Interests = List (ℕ × List (ℕ × InterestEntry))
-
--- the interests of a face
-abbrev pub interests_of : ℕ → Interests → List (ℕ × InterestEntry)
-interests_of face ints = option_map_or (λ es. es) (at face ints) []
-
--- the face asks this under the id
-abbrev pub with_interest : ℕ → ℕ → InterestEntry → Interests → Interests
-with_interest face id asked ints = insert_entry nat_cmp ints face (insert_entry nat_cmp (interests_of face ints) id asked)
-
--- the face asks nothing under the id
-abbrev pub without_interest : ℕ → ℕ → Interests → Interests
-without_interest face id ints = insert_entry nat_cmp ints face (remove_entry (is_at (nat_cmp id)) (interests_of face ints))
-
--- what is asked for has no key, or its key meets the key
-abbrev pub meets : Option (List ℕ) → List ℕ → Bool
-meets asked key = option_map_or (λ k. intersects k key) asked true
-
--- the interest asks for the key
-abbrev pub wants : List ℕ → ℕ × InterestEntry → Bool
-wants key i = meets i.1.key key
-
--- an interest of the face asks for the key
-abbrev pub asks_for : ℕ → List ℕ → Interests → Bool
-asks_for face key ints = list_any (wants key) (interests_of face ints)
+-- ---- who listens
 
 -- an upstream and a peer in North are told unasked
 abbrev pub is_unasked : Strategy → Bool → Bool

@@ -8,7 +8,7 @@ use Rattle.std.specs.Str.{bytes_eq}
 use Rattle.zq_index.specs.Texts.{at_text, text_cmp}
 use Rattle.zq_trees.specs.declared.types.Telling.{Telling as TreeTelling}
 use Rattle.zq_trees.specs.Tellings.{telling_cmp}
-use Rattle.zq_hat.specs.declared.types.InterestEntry.{InterestEntry}
+use Rattle.zq_interests.specs.declared.types.InterestEntry.{InterestEntry}
 use Rattle.zq_told.specs.declared.types.FaceDues.{FaceDues}
 use Rattle.zq_told.specs.declared.types.Way.TheVariants.{Unasked, Answering, Ending}
 use Rattle.zq_told.specs.Ears.{Ear, Ears, at_face, closed, opened}
@@ -16,7 +16,8 @@ use Rattle.zq_told.specs.Telling.{KeyDue, lacks_ids, tell_due, tell_faces}
 use Rattle.zq_told.specs.Receiver.{Heard, Tied, heard_after, memory_of, receive}
 use Rattle.zq_told.specs.Laws.{InOrder, differs, is_to, told_in, told_info}
 use Rattle.zq_told.specs.Leaving.{AreSound, HaveIds, is_too_great}
-use Rattle.zq_machine.specs.Due.{Interests, due, due_keys, due_touched, listens, meets, met_keys}
+use Rattle.zq_machine.specs.Due.{due, due_keys, due_touched, listens, met_keys}
+use Rattle.zq_interests.specs.Interests.{Interests, meets}
 use Rattle.zq_machine.specs.State.{Core, is_open}
 use Rattle.zq_machine.specs.TextCalls.{TextCall, announcing, closing, declaring, opening}
 

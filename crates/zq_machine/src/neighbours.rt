@@ -1,7 +1,7 @@
 //! Laws of what faces outside regions of routers are told: after every call it is what is due to them.
 ghost use Rattle.std.specs.Prelude.{◌≡◌, ℕ, List, [], Some, true};
 ghost use Rattle.std.specs.Option.{option_to_list};
-ghost use Rattle.zq_hat.specs.declared.types.InterestEntry.{InterestEntry};
+ghost use Rattle.zq_interests.specs.declared.types.InterestEntry.{InterestEntry};
 ghost use Rattle.zq_told.specs.Ears.{Ears};
 ghost use Rattle.zq_told.specs.Leaving.{fresh_ear};
 ghost use Rattle.zq_told.specs.Receiver.{Heard, heard_on};
@@ -10,7 +10,8 @@ ghost use Rattle.zq_machine.specs.declared.call.Call.TheVariants as call;
 ghost use Rattle.zq_machine.specs.declared.call.Opening.{Opening};
 ghost use Rattle.zq_machine.specs.Configs.{Settings};
 ghost use Rattle.zq_machine.specs.Deciding.{is_accepted};
-ghost use Rattle.zq_machine.specs.Due.{Interests, due, interests_of, with_interest, without_interest};
+ghost use Rattle.zq_machine.specs.Due.{due};
+ghost use Rattle.zq_interests.specs.Interests.{Interests, interests_of, with_interest, without_interest};
 ghost use Rattle.zq_machine.specs.Machine.{after, state_after, step};
 ghost use Rattle.zq_machine.specs.Neighbours.{AllTold, AskingTold, EndingTold, FaceTold, Hears};
 ghost use Rattle.zq_machine.specs.State.{Core, State, at, is_open, opening_state};
