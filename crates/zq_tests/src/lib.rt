@@ -18,6 +18,8 @@ mod ids;
 #[cfg(test)]
 mod index;
 #[cfg(test)]
+mod interests;
+#[cfg(test)]
 mod key;
 #[cfg(test)]
 mod lines;
