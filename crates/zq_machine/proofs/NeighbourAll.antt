@@ -28,9 +28,10 @@ use Rattle.zq_machine.specs.State.{Core, State, at, is_open}
 use Rattle.zq_machine.specs.TextCalls.{TextCall, opening, closing}
 use Rattle.zq_machine.proofs.Agreed.{InOrder as Kept}
 use Rattle.zq_machine.proofs.Changing.{number_test}
+use Rattle.zq_machine.proofs.DueEnds.{closed_undue}
 use Rattle.zq_machine.proofs.NeighbourDues.{all_keys, dues_of, rows_rise}
-use Rattle.zq_machine.proofs.NeighbourIds.{fresh, new_face, none_of, opens}
-use Rattle.zq_machine.proofs.NeighbourTold.{all_rise, call_hears, call_told, looked, looked_rise, still_hears, undue}
+use Rattle.zq_machine.proofs.NeighbourIds.{fresh, new_face, opens}
+use Rattle.zq_machine.proofs.NeighbourTold.{all_rise, call_hears, call_told, looked, looked_rise, still_hears}
 
 module _ (config : Settings) (s : State) (i : Kept config s) (t : TextCall) (ints : Interests) (ears : Ears) where
   abbrev w : Core
@@ -89,7 +90,7 @@ module _ (config : Settings) (s : State) (i : Kept config s) (t : TextCall) (int
   all_hear same all face seen = by (is_open face s.core) refl
     where
       none : is_open face s.core ≡ false → (key : List ℕ) → due s.core ints face key ≡ None
-      none was key = undue s.core ints face key (none_of (at face s.core.faces) was)
+      none was key = closed_undue s.core ints face key was
 
       first : (was : is_open face s.core ≡ false) → Hears s.core ints (with_new s.core t ears) face []
       first was = record {

@@ -110,8 +110,8 @@ module _ (c : Core) (ints : Interests) (ears : Ears) (asker id : ℕ) (asked : I
   told_is : told ≡ told_in Answering asker h.ear asks
   told_is = told_here Answering ears asker h.ear h.there (with_dues asker asks) (alone_rises asker asks) ∙ ap (told_in Answering asker h.ear) (keys_alone asker asks)
 
-  told_due : map news_of told ≡ filter (λ (k : KeyDue). is_some k.1) asks
-  told_due = ap (map news_of) told_is ∙ answers_all asker h.ear asks
+  pub asked_told : map news_of told ≡ filter (λ (k : KeyDue). is_some k.1) asks
+  asked_told = ap (map news_of) told_is ∙ answers_all asker h.ear asks
 
   kept_off : (n : ℕ) (v : List ℕ × QueryableInfoType) → at n heard ≡ Some v → is_over asks v.0 ≡ false
   kept_off n v there =
@@ -122,5 +122,5 @@ module _ (c : Core) (ints : Interests) (ears : Ears) (asker id : ℕ) (asked : I
   drops_none =
       all_left (is_over asks) (fold receive heard told)
       (all_received (is_over asks) told heard
-      (subst (AllByRecursion (λ (k : KeyDue). is_over asks k.0 ≡ false)) (sym told_due) (due_off (due c more asker) (met_keys asked.key c) (met_keys asked.key c)))
+      (subst (AllByRecursion (λ (k : KeyDue). is_over asks k.0 ≡ false)) (sym asked_told) (due_off (due c more asker) (met_keys asked.key c) (met_keys asked.key c)))
       (each_entry nat_cmp_total exact_unsigned (IsOff (is_over asks)) heard h.tied.sorted kept_off))

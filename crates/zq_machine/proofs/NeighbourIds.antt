@@ -32,13 +32,10 @@ use Rattle.zq_machine.specs.Neighbours.{AllHear, dues_on, is_news, lacks_at, nei
 use Rattle.zq_machine.specs.State.{Core, State, at, is_open}
 use Rattle.zq_machine.specs.TextCalls.{TextCall, opening, closing}
 use Rattle.zq_machine.proofs.Agreed.{InOrder as Kept}
+use Rattle.zq_machine.proofs.DueEnds.{closed_undue}
 use Rattle.zq_machine.proofs.Granted.{by_granted}
 use Rattle.zq_machine.proofs.NeighbourTells.{news_counted}
-use Rattle.zq_machine.proofs.NeighbourTold.{faces_rise, new_beside, undue}
-
-pub none_of : {X : Type 0} (o : Option X) → is_some o ≡ false → o ≡ None
-none_of None e = refl
-none_of (Some x) e = absurd (true≢false e)
+use Rattle.zq_machine.proofs.NeighbourTold.{faces_rise, new_beside}
 
 -- the call opens a face
 abbrev pub opens : TextCall → Bool
@@ -102,7 +99,7 @@ module _ (config : Settings) (s : State) (i : Kept config s) (ints : Interests) 
               quiet = λ key off. ap (λ b. cond b (heard_there s.core face key) None) (sym (same face was seen key) ∙ off);
             }
         by false was =
-            let none : (key : List ℕ) → due s.core ints face key ≡ None = λ key. undue s.core ints face key (none_of (at face s.core.faces) was) in
+            let none : (key : List ℕ) → due s.core ints face key ≡ None = λ key. closed_undue s.core ints face key was in
             record { ear = fresh; there = (new_face t face seen was).1; told = λ key. sym (none key); quiet = λ key off. none key }
 
     -- ---- one face

@@ -18,15 +18,15 @@ use Rattle.zq_machine.specs.Machine.{after, settle, state_after, step}
 use Rattle.zq_machine.specs.Neighbours.{AllTold, AskingTold, EndingTold, FaceTold, Hears, asked_at, ended_at, makes_due}
 use Rattle.zq_machine.specs.State.{Core, State, at, is_open, opening_state}
 use Rattle.zq_machine.specs.TextCalls.{TextCall, announcing, declaring, opening, read}
-use Rattle.zq_machine.proofs.Agreed.{InOrder as Kept, next_absent, run_in_order}
+use Rattle.zq_machine.proofs.Agreed.{InOrder as Kept, run_in_order}
 use Rattle.zq_machine.proofs.DueLess.{accepted_less, brings, listens_stay}
 use Rattle.zq_machine.proofs.Granted.{by_granted}
 use Rattle.zq_machine.proofs.NeighbourAll.{all_hear, closed_untold, ears_sound, told_ordered}
-use Rattle.zq_machine.proofs.NeighbourAnswers.{drops_none}
+use Rattle.zq_machine.proofs.NeighbourAnswers.{asked_told, drops_none}
 use Rattle.zq_machine.proofs.NeighbourAsked.{asker_ended, asker_told, lacks_asked, none_lack, others_asked, others_ended, others_untold, untold}
 use Rattle.zq_machine.proofs.NeighbourIds.{enough, lacks_are, opens}
 use Rattle.zq_machine.proofs.NeighbourTells.{tells_exactly}
-use Rattle.zq_machine.proofs.NeighbourTold.{call_told, first_there, new_beside, open_after, opening_told, undue}
+use Rattle.zq_machine.proofs.NeighbourTold.{call_told, first_there, new_beside, open_after, nothing_before, opening_told}
 
 module _ (config : Settings) (calls : List Call) where
   abbrev s : State
@@ -48,7 +48,7 @@ module _ (config : Settings) (calls : List Call) where
   pub new_told : (o : Opening) (ints : Interests) (ears : Ears) → is_accepted (step s (call.Open o)).outcome ≡ true
       → FaceTold s.core (after s (call.Open o)).core ints (read s (call.Open o)) ears s.core.next_face (fresh_ear s.core.config.start.told) []
   new_told o ints ears given =
-      let none : (key : List ℕ) → due s.core ints s.core.next_face key ≡ None = λ key. undue s.core ints s.core.next_face key (next_absent s i.sound) in
+      let none : (key : List ℕ) → due s.core ints s.core.next_face key ≡ None = nothing_before config s i o ints in
       record {
         keeps = opening_told config s i o ints ears given;
         exactly = tells_exactly config s i (opening o) ints s.core.next_face (open_after config s i o ints given) (fresh_ear s.core.config.start.told) (λ key. sym (none key)) (λ key off. none key) ears (first_there config s i o ints ears);
@@ -86,6 +86,7 @@ module _ (c : Core) (ints : Interests) (ears : Ears) (asker id : ℕ) (asked : I
   pub asking_keeps : ((old : InterestEntry) → at id (interests_of asker ints) ≡ Some old → old.key ≡ asked.key) → AskingTold c ints (with_interest asker id asked ints) ears asker asked
   asking_keeps same = record {
     own = λ heard h. asker_told c ints ears asker id asked same heard h;
+    answers = λ heard h. asked_told c ints ears asker id asked same heard h;
     drops = λ heard h. drops_none c ints ears asker id asked same heard h;
     others = λ face ne heard h. others_asked c ints ears asker id asked same face ne heard h;
     silent = λ face ne. others_untold c ints ears asker id asked same face ne;

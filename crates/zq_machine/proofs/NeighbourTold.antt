@@ -5,7 +5,7 @@ use Rattle.std.specs.BTreeMap.{is_at}
 use Rattle.std.specs.List.{AllByRecursion, flat_map}
 use Rattle.std.specs.List.Sorted.{IsStrictlySortedBy}
 use Rattle.std.specs.Map.{keys_of, remove_entry}
-use Rattle.std.specs.Option.{is_some, option_and_then, option_map, option_map_or, option_to_list}
+use Rattle.std.specs.Option.{is_some, option_map, option_map_or, option_to_list}
 use Rattle.std.specs.Ordering.{is_eq, nat_cmp}
 use Rattle.std.specs.declared.cmp.Ordering.TheVariants.{Less}
 use Rattle.std.proofs.lemmas.Bool.{false≢true}
@@ -37,15 +37,16 @@ use Rattle.zq_machine.specs.declared.call.Opening.{Opening}
 use Rattle.zq_machine.specs.declared.face.OpenFace.{OpenFace}
 use Rattle.zq_machine.specs.Configs.{Settings}
 use Rattle.zq_machine.specs.Deciding.{is_accepted, opened as as_opened}
-use Rattle.zq_machine.specs.Due.{due, due_touched, heard as heard_there, heard_as, is_due_touched, listens, listens_in}
+use Rattle.zq_machine.specs.Due.{due, due_touched, heard as heard_there, is_due_touched, listens}
 use Rattle.zq_interests.specs.Interests.{Interests}
 use Rattle.zq_machine.specs.Machine.{answer, settle}
 use Rattle.zq_machine.specs.Neighbours.{Hears, due_on, dues_on, ears_after, heard_over, looked_at, with_new, without_closed}
-use Rattle.zq_machine.specs.State.{Core, State, at, hat_at, is_open, region_in}
+use Rattle.zq_machine.specs.State.{Core, State, at, is_open, region_in}
 use Rattle.zq_machine.specs.TextCalls.{TextCall, opening, closing}
 use Rattle.zq_machine.proofs.Agreed.{InOrder as Kept, accepted_in_order, next_absent}
 use Rattle.zq_machine.proofs.Agreeing.{some_of}
 use Rattle.zq_machine.proofs.Changing.{is_other, itself, number_test, one_number}
+use Rattle.zq_machine.proofs.DueEnds.{closed_undue}
 use Rattle.zq_machine.proofs.DueKeys.{among, is_among, keys_rise}
 use Rattle.zq_machine.proofs.Dues.{due_kept}
 use Rattle.zq_machine.proofs.Granted.{by_granted, closed_after}
@@ -125,10 +126,6 @@ found_beside g q [] other = refl
 found_beside g q (e ∷ es) other = beside_by g q e es (is_at (nat_cmp g) e.0) refl other (found_beside g q es other)
 
 -- ---- what is due on keys that are not looked at
-pub undue : (c : Core) (ints : Interests) (face : ℕ) (key : List ℕ) → at face c.faces ≡ None → due c ints face key ≡ None
-undue c ints face key gone =
-    ap (λ (o : Option OpenFace). cond (option_map_or (listens_in ints face key) (option_and_then (λ (p : OpenFace). hat_at p.region c.hats) o) false) (option_and_then (heard_as face key c.hats) o) None) gone
-
 aimed : (now old : Option QueryableInfoType) → aim Unasked now old ≡ now
 aimed None old = refl
 aimed (Some i) old = refl
@@ -231,16 +228,19 @@ module _ (config : Settings) (s : State) (i : Kept config s) (o : Opening) (ints
   first_there ears = found_after_insertion nat_cmp_total exact_unsigned n n new ears ∙ ap (λ b. cond b (Some new) (at_face n ears)) (itself n)
 
   -- before the call nothing is due to it
+  pub nothing_before : (key : List ℕ) → due s.core ints n key ≡ None
+  nothing_before key = closed_undue s.core ints n key (ap is_some (next_absent s i.sound))
+
   first_hears : (ears : Ears) → Hears s.core ints (opened n new.last ears) n []
   first_hears ears = record {
     ear = new;
     there = first_there ears;
     sorted = none_sorted ToldEntry;
     tied = opens.tied new.last;
-    told = λ key. sym (undue s.core ints n key (next_absent s i.sound));
+    told = λ key. sym (nothing_before key);
   }
 
   pub opening_told : (ears : Ears) → is_accepted (answer s (opening o)).outcome ≡ true
       → Hears (settle s (opening o)).core ints (ears_after s.core (settle s (opening o)).core ints (opening o) ears) n (heard_over s.core (settle s (opening o)).core ints (opening o) ears n [])
   opening_told ears given =
-      call_hears config s i (opening o) ints n (open_after given) (opened n new.last ears) [] (λ key off. undue s.core ints n key (next_absent s i.sound)) (first_hears ears)
+      call_hears config s i (opening o) ints n (open_after given) (opened n new.last ears) [] (λ key off. nothing_before key) (first_hears ears)

@@ -15,7 +15,7 @@ use Rattle.zq_told.specs.Ears.{Ear, Ears, at_face, closed, opened}
 use Rattle.zq_told.specs.Telling.{KeyDue, lacks_ids, tell_due, tell_faces}
 use Rattle.zq_told.specs.Receiver.{Heard, Tied, heard_after, memory_of, receive}
 use Rattle.zq_told.specs.Laws.{InOrder, differs, is_to, told_in, told_info}
-use Rattle.zq_told.specs.Leaving.{AreSound, HaveIds, is_too_great}
+use Rattle.zq_told.specs.Leaving.{AreSound, HaveIds, is_too_great, news_of}
 use Rattle.zq_machine.specs.Due.{due, due_keys, due_touched, listens, met_keys}
 use Rattle.zq_interests.specs.Interests.{Interests, meets}
 use Rattle.zq_machine.specs.State.{Core, is_open}
@@ -166,9 +166,10 @@ pub record AllTold (before after : Core) (ints : Interests) (t : TextCall) (ears
   pub lacks : AllHear before ints ears → HaveIds (with_new before t ears) → neighbours_lack before after ints t ears ≡ list_any (λ o. lacks_at after ints (with_new before t ears) o.0) after.faces
   pub enough : makes_due t ≡ false → AllHear before ints ears → HaveIds (with_new before t ears) → neighbours_lack before after ints t ears ≡ false
 
--- an interest, by the interests before and after it: it tells its asker alone, whose receiver keeps what is due then, and drops nothing of what it kept; other faces' receivers keep what they kept; what is kept of faces stays sound, and ids lack exactly where they lack to the asker
+-- an interest, by the interests before and after it: it tells its asker alone, and that all that is due on the keys that meet it; the receiver there keeps what is due then, and drops nothing of what it kept; other faces' receivers keep what they kept; what is kept of faces stays sound, and ids lack exactly where they lack to the asker
 pub record AskingTold (c : Core) (ints more : Interests) (ears : Ears) (asker : ℕ) (asked : InterestEntry) : Type 0 where
   pub own : (heard : Heard) → Hears c ints ears asker heard → Hears c more (ears_asked c more ears asker asked) asker (heard_asked c more ears asker asked heard)
+  pub answers : (heard : Heard) → Hears c ints ears asker heard → map news_of (filter (is_to asker) (answer_told c more ears asker asked)) ≡ filter (λ (k : KeyDue). is_some k.1) (asked_dues c more asker asked)
   pub drops : (heard : Heard) → Hears c ints ears asker heard → heard_asked c more ears asker asked heard ≡ fold receive heard (filter (is_to asker) (answer_told c more ears asker asked))
   pub others : (face : ℕ) → face ≢ asker → (heard : Heard) → Hears c ints ears face heard → Hears c more (ears_asked c more ears asker asked) face heard
   pub silent : (face : ℕ) → face ≢ asker → filter (is_to face) (answer_told c more ears asker asked) ≡ []
