@@ -1,5 +1,5 @@
 -- What is due to an open face, by the hats of the regions as they are or as a change of one of them will make them.
-use Rattle.std.specs.Prelude.{◌≡◌, ℕ, Bool, false, ◌||◌, List, [], ◌∷◌, filter, map, Option, Some, None, if◌then◌else◌}
+use Rattle.std.specs.Prelude.{◌≡◌, ℕ, Bool, false, ◌||◌, List, [], ◌∷◌, filter, fold, map, Option, Some, None, if◌then◌else◌}
 use Rattle.std.specs.Option.{option_map, option_map_or}
 use Rattle.std.specs.List.{AllByRecursion}
 use Rattle.zq_message.specs.declared.message.QueryableInfoType.{QueryableInfoType}
@@ -9,7 +9,7 @@ use Rattle.zq_hat.specs.Regions.{is_north, strategy_at}
 use Rattle.zq_hat.specs.State.{HatState}
 use Rattle.zq_told.specs.Telling.{KeyDue}
 use Rattle.zq_machine.specs.declared.face.OpenFace.{OpenFace}
-use Rattle.zq_machine.specs.Due.{due, heard_as, is_unasked, listens}
+use Rattle.zq_machine.specs.Due.{heard_as, is_unasked, with_region_keys}
 use Rattle.zq_interests.specs.Interests.{Interests, asks_for}
 use Rattle.zq_machine.specs.State.{Core, at, change_hat, hat_at}
 use Rattle.zq_own.specs.declared.entries.NewInfo.{NewInfo}
@@ -55,15 +55,11 @@ dues_as asks next face o hats keys = map (will_be_due asks next face o hats) (fi
 abbrev pub listed_due : Bool → Option HatChange → ℕ → OpenFace → List (ℕ × HatState) → List ℕ → List KeyDue
 listed_due asks next face o hats key = if listens_as asks (hats_after next key hats) o then (key, heard_as face key (hats_after next key hats) o) ∷ [] else []
 
+-- the keys on which regions have information, each once, in order
+abbrev pub all_keys : List (ℕ × HatState) → List (List ℕ)
+all_keys hats = fold with_region_keys [] hats
+
 -- ---- the same of what decides after a call
-
--- a key with what is due to the face
-abbrev pub due_on : Core → Interests → ℕ → List ℕ → KeyDue
-due_on c ints face key = (key, due c ints face key)
-
--- those of the keys on which the face listens, with what is due
-abbrev pub dues_on : Core → Interests → List (List ℕ) → ℕ → List KeyDue
-dues_on c ints keys face = map (due_on c ints face) (filter (λ key. listens c ints face key) keys)
 
 -- the face is open so, it asks for just these keys, and on each of the keys the hats are those after the change
 pub record IsAfter (c : Core) (ints : Interests) (asks : List ℕ → Bool) (next : Option HatChange) (face : ℕ) (o : OpenFace) (hats : List (ℕ × HatState)) (keys : List (List ℕ)) : Type 0 where

@@ -1,6 +1,7 @@
 //! What will be due to a face on some keys, once a hat has changed.
 ghost use Rattle.std.specs.Prelude.{◌≡◌, ◌++◌, ℕ, Bool, List, IfOk, OnOk, option_copied};
-ghost use Rattle.zq_dues.specs.Dues.{IsAfter, dues_as, dues_on, listed_due};
+ghost use Rattle.zq_dues.specs.Dues.{IsAfter, dues_as, listed_due};
+ghost use Rattle.zq_machine.specs.Neighbours.{dues_on};
 ghost use Rattle.zq_interests.specs.Interests.{Interests};
 ghost use Rattle.zq_machine.specs.State.{Core};
 

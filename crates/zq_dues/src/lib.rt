@@ -4,8 +4,10 @@
 //! - `types`: the change of a hat
 //! - `due`: whether a face listens on a key, and what will be due to it there
 //! - `dues`: the same of some keys
+//! - `keys`: the keys on which regions have information
 #![tactic(auto)]
 
 pub mod due;
 pub mod dues;
+pub mod keys;
 pub mod types;
