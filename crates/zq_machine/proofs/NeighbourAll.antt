@@ -1,11 +1,16 @@
 -- What a call that is no interest tells all faces: in order, to open faces alone; what is kept of them stays sound, and what receivers keep stays due.
 use Rattle.std.proofs.Common.{◌≡◌, ◌∙◌, refl, sym, ap, subst, ℕ, ◌<◌, ◌^◌, Bool, true, false, cond, List, [], ◌∷◌, ◌++◌, filter, Option, Some, None, true≢false}
 use Rattle.std.specs.BTreeMap.{is_at}
-use Rattle.std.specs.List.{AllByRecursion, flat_map}
+use Rattle.std.specs.List.{AllByRecursion, flat_map, list_any}
 use Rattle.std.specs.List.Sorted.{IsStrictlySortedBy}
+use Rattle.std.specs.Map.{keys_of}
 use Rattle.std.specs.Option.{is_some, option_map_or}
 use Rattle.std.specs.Ordering.{nat_cmp}
 use Rattle.std.proofs.lemmas.Bool.{false≢true}
+use Rattle.std.proofs.lemmas.Cmp.{nat_cmp_total}
+use Rattle.std.proofs.lemmas.Map.Lookups.{exact_unsigned}
+use Rattle.std.proofs.lemmas.Map.Made.{is_some-lookup}
+use Rattle.zq_key.proofs.Lookups.{found_after_insertion, found_after_removal}
 use Rattle.zq_trees.specs.Tellings.{telling_cmp}
 use Rattle.zq_told.specs.declared.types.FaceDues.{FaceDues}
 use Rattle.zq_told.specs.declared.types.ToldEntry.{ToldEntry}
@@ -14,21 +19,23 @@ use Rattle.zq_told.specs.Ears.{Ear, Ears, at_face}
 use Rattle.zq_told.specs.Receiver.{Heard}
 use Rattle.zq_told.specs.Telling.{KeyDue, tell_due}
 use Rattle.zq_told.specs.Laws.{InOrder, is_to, told_alone, told_in}
-use Rattle.zq_told.specs.Leaving.{AreSound}
+use Rattle.zq_told.specs.Leaving.{AreSound, fresh_ear}
 use Rattle.zq_told.proofs.Differing.{tells_each}
-use Rattle.zq_told.proofs.Faces.{opens as opens_sound, stay_sound}
+use Rattle.zq_told.proofs.Faces.{keeps_faces, opens as opens_sound, stay_sound}
 use Rattle.zq_told.proofs.Ordered.{tells_in_order}
 use Rattle.zq_told.proofs.Slotted.{none_sorted}
 use Rattle.zq_machine.specs.Configs.{Settings}
+use Rattle.zq_machine.specs.Deciding.{accepted, opened as as_opened, refusal_of}
 use Rattle.zq_machine.specs.Due.{due, due_touched, listens}
 use Rattle.zq_interests.specs.Interests.{Interests}
 use Rattle.zq_machine.specs.Machine.{settle}
-use Rattle.zq_machine.specs.Neighbours.{AllHear, Hears, dues_on, ears_after, looked_at, neighbours_lack, neighbours_told, with_dues, with_new, without_closed}
+use Rattle.zq_machine.specs.Neighbours.{AllHear, AreOfOpen, Hears, dues_on, ears_after, looked_at, neighbours_lack, neighbours_told, with_dues, with_new, without_closed}
 use Rattle.zq_machine.specs.State.{Core, State, at, is_open}
 use Rattle.zq_machine.specs.TextCalls.{TextCall, opening, closing}
 use Rattle.zq_machine.proofs.Agreed.{InOrder as Kept}
 use Rattle.zq_machine.proofs.Changing.{number_test}
 use Rattle.zq_machine.proofs.DueEnds.{closed_undue}
+use Rattle.zq_machine.proofs.Granted.{settles_told}
 use Rattle.zq_machine.proofs.NeighbourDues.{all_keys, dues_of, rows_rise}
 use Rattle.zq_machine.proofs.NeighbourIds.{fresh, new_face, opens}
 use Rattle.zq_machine.proofs.NeighbourTold.{all_rise, call_hears, call_told, looked, looked_rise, still_hears}
@@ -79,6 +86,39 @@ module _ (config : Settings) (s : State) (i : Kept config s) (t : TextCall) (int
   pub ears_sound : s.core.config.start.told < 2 ^ 32 → AreSound ears → neighbours_lack s.core w ints t ears ≡ false → AreSound (ears_after s.core w ints t ears)
   ears_sound low a enough =
       closed_sound t (tell_due Unasked (with_new s.core t ears) (looked_at s.core w ints t)) (stay_sound.tells Unasked (with_new s.core t ears) (looked_at s.core w ints t) enough (new_sound t low a))
+
+  -- something is kept of the faces that are open then
+  abbrev kept_of : Core → TextCall → Ears
+  kept_of c x = tell_due Unasked (with_new s.core x ears) (looked_at s.core c ints x)
+
+  same_faces : (c : Core) (x : TextCall) → keys_of (kept_of c x) ≡ keys_of (with_new s.core x ears)
+  same_faces c x = keeps_faces Unasked (with_new s.core x ears) (looked_at s.core c ints x)
+
+  there_still : (c : Core) (x : TextCall) (n : ℕ) → is_some (at_face n (kept_of c x)) ≡ is_some (at_face n (with_new s.core x ears))
+  there_still c x n = is_some-lookup (is_at (nat_cmp n)) (kept_of c x) ∙ ap (list_any (is_at (nat_cmp n))) (same_faces c x) ∙ sym (is_some-lookup (is_at (nat_cmp n)) (with_new s.core x ears))
+
+  put_there : {X Y : Type 0} (b : Bool) (x : X) (y : Y) (o : Option X) (p : Option Y) → is_some o ≡ is_some p → is_some (cond b (Some x) o) ≡ is_some (cond b (Some y) p)
+  put_there true x y o p same = refl
+  put_there false x y o p same = same
+
+  taken_there : {X Y : Type 0} (b : Bool) (o : Option X) (p : Option Y) → is_some o ≡ is_some p → is_some (cond b None o) ≡ is_some (cond b None p)
+  taken_there true o p same = refl
+  taken_there false o p same = same
+
+  granted_faces : (x : TextCall) → AreSound ears → AreOfOpen s.core ears → AreOfOpen (accepted s.core x) (ears_after s.core (accepted s.core x) ints x ears)
+  granted_faces (opening o) a of n =
+      there_still (accepted s.core (opening o)) (opening o) n
+      ∙ ap is_some (found_after_insertion nat_cmp_total exact_unsigned s.core.next_face n (fresh_ear s.core.config.start.told) ears)
+      ∙ put_there (is_at (nat_cmp s.core.next_face) n) (fresh_ear s.core.config.start.told) (as_opened o) (at_face n ears) (at n s.core.faces) (of n)
+      ∙ sym (ap is_some (found_after_insertion nat_cmp_total exact_unsigned s.core.next_face n (as_opened o) s.core.faces))
+  granted_faces (closing g) a of n =
+      ap is_some (found_after_removal nat_cmp_total exact_unsigned g.0 n (kept_of (accepted s.core (closing g)) (closing g)) (subst (IsStrictlySortedBy nat_cmp) (sym (same_faces (accepted s.core (closing g)) (closing g))) a.faces))
+      ∙ taken_there (is_at (nat_cmp g.0) n) (at_face n (kept_of (accepted s.core (closing g)) (closing g))) (at n s.core.faces) (there_still (accepted s.core (closing g)) (closing g) n ∙ of n)
+      ∙ sym (ap is_some (found_after_removal nat_cmp_total exact_unsigned g.0 n s.core.faces i.sound.sorted))
+  granted_faces x a of n = there_still (accepted s.core x) x n ∙ of n
+
+  pub faces_kept : refusal_of s.core t ≡ None → AreSound ears → AreOfOpen s.core ears → AreOfOpen w (ears_after s.core w ints t ears)
+  faces_kept fits a of = subst (λ (x : State). AreOfOpen x.core (ears_after s.core x.core ints t ears)) (sym (settles_told s t fits)) (granted_faces t a of)
 
   -- ---- each open face's receiver
   still_there : (x : TextCall) (others : Ears) → opens x ≡ true → without_closed x others ≡ others

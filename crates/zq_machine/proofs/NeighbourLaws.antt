@@ -21,7 +21,7 @@ use Rattle.zq_machine.specs.TextCalls.{TextCall, announcing, declaring, opening,
 use Rattle.zq_machine.proofs.Agreed.{InOrder as Kept, run_in_order}
 use Rattle.zq_machine.proofs.DueLess.{accepted_less, brings, listens_stay}
 use Rattle.zq_machine.proofs.Granted.{by_granted}
-use Rattle.zq_machine.proofs.NeighbourAll.{all_hear, closed_untold, ears_sound, told_ordered}
+use Rattle.zq_machine.proofs.NeighbourAll.{all_hear, closed_untold, ears_sound, faces_kept, told_ordered}
 use Rattle.zq_machine.proofs.NeighbourAnswers.{asked_told, drops_none}
 use Rattle.zq_machine.proofs.NeighbourAsked.{asker_ended, asker_told, lacks_asked, none_lack, others_asked, others_ended, others_untold, untold}
 use Rattle.zq_machine.proofs.NeighbourIds.{enough, lacks_are, opens}
@@ -74,6 +74,7 @@ module _ (config : Settings) (calls : List Call) where
     ordered = told_ordered config s i (read s c) ints ears;
     silent = λ face shut. closed_untold config s i (read s c) ints ears face shut;
     sound = λ low a enough. ears_sound config s i (read s c) ints ears low a enough;
+    faces = λ fits a of. faces_kept config s i (read s c) ints ears fits a of;
     hear = λ all. all_hear config s i (read s c) ints ears (λ face was seen key. listens_stay config calls c ints face key was seen) all;
     lacks = λ all ids. lacks_are config s i ints ears (read s c) all (λ face was seen key. listens_stay config calls c ints face key was seen) ids;
     enough = λ none all ids.

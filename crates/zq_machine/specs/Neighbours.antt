@@ -1,5 +1,5 @@
 -- What a call tells faces outside regions of routers, and what is kept of it: each face is told the difference between what it was told and what is due to it.
-use Rattle.std.specs.Prelude.{◌≡◌, ◌≢◌, ℕ, ◌+◌, ◌^◌, ◌<◌, Bool, true, false, ◌&&◌, List, [], ◌∷◌, filter, fold, length, map, Some, is_none}
+use Rattle.std.specs.Prelude.{◌≡◌, ◌≢◌, ℕ, ◌+◌, ◌^◌, ◌<◌, Bool, true, false, ◌&&◌, List, [], ◌∷◌, filter, fold, length, map, Some, None, is_none}
 use Rattle.std.specs.List.{flat_map, list_any}
 use Rattle.std.specs.List.Sorted.{IsStrictlySortedBy}
 use Rattle.std.specs.Map.{keys_of}
@@ -16,6 +16,7 @@ use Rattle.zq_told.specs.Telling.{KeyDue, lacks_ids, tell_due, tell_faces}
 use Rattle.zq_told.specs.Receiver.{Heard, Tied, heard_after, memory_of, receive}
 use Rattle.zq_told.specs.Laws.{InOrder, differs, is_to, told_in, told_info}
 use Rattle.zq_told.specs.Leaving.{AreSound, HaveIds, is_too_great, news_of}
+use Rattle.zq_machine.specs.Deciding.{refusal_of}
 use Rattle.zq_machine.specs.Due.{due, due_keys, due_touched, listens, met_keys}
 use Rattle.zq_interests.specs.Interests.{Interests, meets}
 use Rattle.zq_machine.specs.State.{Core, is_open}
@@ -128,6 +129,10 @@ heard_ended c ints ears asker asked heard = heard_after Ending (ended_dues c int
 abbrev pub AllHear : Core → Interests → Ears → Type 0
 AllHear c ints ears = (face : ℕ) → is_open face c ≡ true → (heard : Heard) × Hears c ints ears face heard
 
+-- something is kept of the open faces, and of no others
+abbrev pub AreOfOpen : Core → Ears → Type 0
+AreOfOpen c ears = (face : ℕ) → is_some (at_face face ears) ≡ is_open face c
+
 -- ---- what is told at all, and ids that lack
 
 -- the keys stand in order, and all are there on which the face was told another than is due
@@ -157,11 +162,12 @@ pub record FaceTold (before after : Core) (ints : Interests) (t : TextCall) (ear
   pub keeps : Hears after ints (ears_after before after ints t ears) face (heard_over before after ints t ears face heard)
   pub exactly : (keys : List (List ℕ)) → HaveChanges after ints face ear keys → told_in Unasked face ear (map (due_on after ints face) keys) ≡ filter (is_to face) (neighbours_told before after ints t ears)
 
--- such a call, and all faces: what is told stands in order of faces and keys, and is told to open faces alone; what is kept of faces stays sound, and what receivers keep stays due; ids lack exactly where they lack to some open face, and never to a call that opens no face and declares nothing
+-- such a call, and all faces: what is told stands in order of faces and keys, and is told to open faces alone; what is kept of faces stays sound, and of open faces alone; what receivers keep stays due; ids lack exactly where they lack to some open face, and never to a call that opens no face and declares nothing
 pub record AllTold (before after : Core) (ints : Interests) (t : TextCall) (ears : Ears) : Type 0 where
   pub ordered : IsStrictlySortedBy telling_cmp (neighbours_told before after ints t ears)
   pub silent : (face : ℕ) → is_open face after ≡ false → filter (is_to face) (neighbours_told before after ints t ears) ≡ []
   pub sound : before.config.start.told < 2 ^ 32 → AreSound ears → neighbours_lack before after ints t ears ≡ false → AreSound (ears_after before after ints t ears)
+  pub faces : refusal_of before t ≡ None → AreSound ears → AreOfOpen before ears → AreOfOpen after (ears_after before after ints t ears)
   pub hear : AllHear before ints ears → AllHear after ints (ears_after before after ints t ears)
   pub lacks : AllHear before ints ears → HaveIds (with_new before t ears) → neighbours_lack before after ints t ears ≡ list_any (λ o. lacks_at after ints (with_new before t ears) o.0) after.faces
   pub enough : makes_due t ≡ false → AllHear before ints ears → HaveIds (with_new before t ears) → neighbours_lack before after ints t ears ≡ false

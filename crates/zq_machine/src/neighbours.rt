@@ -37,10 +37,10 @@ pub fn opening_told()
 {}
 
 /// What a call tells all faces stands in order, and is told to open faces alone; what is kept of faces
-/// stays sound; each open face has a receiver that keeps what is due to it, if each had before; and
-/// ids lack exactly where they lack to some open face: where its last id and the number of all keys
-/// newly due to it lead above those of 32 bits, and so never to a call that opens no face and declares
-/// nothing.
+/// stays sound, and of open faces alone; each open face has a receiver that keeps what is due to it, if
+/// each had before; and ids lack exactly where they lack to some open face: where its last id and the
+/// number of all keys newly due to it lead above those of 32 bits, and so never to a call that opens no
+/// face and declares nothing.
 pub fn all_told()
     ensures { (config : Settings) (calls : List Call) → let s : State = state_after (opening_state config) calls in (c : Call) (ints : Interests) (ears : Ears) → AllTold s.core (after s c).core ints (read s c) ears }
 {}
