@@ -33,16 +33,17 @@ fn first_bad_lines(rt: HostRuntime) {
     }
 }
 
-// How long the head of a script is, and how many parts it has.
-fn parts_of(alloc: Global, text: &[u8]) -> Result<(usize, usize), ScriptRefusal> {
+// Whether a script has this head, and so many parts.
+fn has_parts(alloc: Global, text: &[u8], head: &[u8], parts: usize) -> Result<bool, ScriptRefusal> {
     let script = read_script(alloc, text, 1)?;
-    Ok((script.head.as_slice().len(), script.parts.len()))
+    Ok(script.head.as_slice() == head && script.parts.len() == parts)
 }
 
 #[test]
 fn parts_of_a_script(rt: HostRuntime) {
     let text = b"config 1 10000 north:client local\nstart 1 2 3 4 5\nworker\npoll 0";
-    assert_eq!(rt; parts_of(rt.alloc(), text.as_slice()), Ok((50, 2)));
+    let parted = has_parts(rt.alloc(), text.as_slice(), &text[..50], 2);
+    assert_eq!(rt; parted, Ok(true));
 }
 
 #[test]
