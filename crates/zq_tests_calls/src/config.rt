@@ -1,0 +1,55 @@
+use crate::given::{FIRST, config};
+use std::alloc::Global;
+use zq_gateway::gateway::Gateway;
+use zq_key::memory::OutOfMemory;
+use zq_key::message::{Mode, Region, Zid};
+use zq_machine::config::{BadConfig, Config, ConfigRefusal, Entry};
+
+fn refusal(alloc: Global, entries: &[Entry]) -> Option<BadConfig> {
+    match Config::new(alloc, Zid(1), entries, 10_000, FIRST) {
+        Err(ConfigRefusal::BadConfig(found)) => Some(found),
+        _ => None,
+    }
+}
+
+// The first bad entry decides, its id before its repetition; a missing North comes last.
+#[test]
+fn bad_configurations(rt: HostRuntime) {
+    let north = Entry::North(Mode::Client);
+    let south = Entry::South {
+        id: 256,
+        mode: Mode::Peer,
+    };
+    for (entries, bad) in [
+        ([north, north].as_slice(), BadConfig::Twice(Region::North)),
+        (
+            &[Entry::Local, Entry::Local],
+            BadConfig::Twice(Region::Local),
+        ),
+        (&[south, south], BadConfig::IdAbove(256)),
+        (&[Entry::Local], BadConfig::NoNorth),
+    ] {
+        assert!(rt; refusal(rt.alloc(), entries) == Some(bad));
+    }
+}
+
+// Whether a configuration, and its gateway, have what it was made of.
+fn has_all(alloc: Global) -> Result<bool, OutOfMemory> {
+    let config = config(alloc)?;
+    let gateway = Gateway::new(alloc, &config)?;
+    Ok(
+        config.zid() == Zid(1)
+            && config.north() == Mode::Client
+            && config.has_local()
+            && config.has_region(Region::North)
+            && config.timeout() == 10_000
+            && *config.counters() == FIRST
+            && gateway.zid() == Zid(1)
+            && gateway.north() == Mode::Client,
+    )
+}
+
+#[test]
+fn configurations(rt: HostRuntime) {
+    assert!(rt; has_all(rt.alloc()) == Ok(true));
+}

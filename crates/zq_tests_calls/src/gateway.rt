@@ -1,0 +1,342 @@
+use crate::given::{application, config, gateway};
+use std::alloc::Global;
+use zq_gateway::gateway::Gateway;
+use zq_gateway::runs::replay;
+use zq_given::{CLIENTS, information, wire};
+use zq_hat::types::{FinalMark, Network, NodeIds};
+use zq_key::items::Items;
+use zq_key::memory::OutOfMemory;
+use zq_key::message::{
+    Declare, DeclareBody, FaceId, Message, QueryTarget, Region, ReplyBody, Request, Response,
+};
+use zq_key::text::Bytes;
+use zq_machine::call::{Call, Outcome, Refusal, Step};
+use zq_machine::handed::Handed;
+use zq_route::gateways::Gateways;
+
+// The outcome of a step, and how many messages it hands; none where it found no memory.
+type Seen = Option<(Outcome, usize)>;
+
+fn seen(step: Result<Step, OutOfMemory>) -> Seen {
+    match step {
+        Ok(step) => Some((step.outcome, step.handed.len())),
+        Err(_) => None,
+    }
+}
+
+fn declares(gateway: &mut Gateway, body: DeclareBody) -> Seen {
+    let declared = Declare {
+        interest: None,
+        node: 0,
+        body,
+    };
+    seen(gateway.send_declare(FaceId(0), &declared))
+}
+
+fn names_key(gateway: &mut Gateway, alloc: Global) -> Seen {
+    let Ok(wire) = wire(alloc, 0, "k") else {
+        return None;
+    };
+    declares(gateway, DeclareBody::DeclareKeyExpr { id: 1, wire })
+}
+
+fn registers(gateway: &mut Gateway, alloc: Global) -> Seen {
+    let Ok(wire) = wire(alloc, 0, "k") else {
+        return None;
+    };
+    let info = information(true, 0);
+    declares(gateway, DeclareBody::DeclareQueryable { id: 1, wire, info })
+}
+
+fn request(alloc: Global, id: u32, timeout: u64) -> Result<Request, OutOfMemory> {
+    Ok(Request {
+        id,
+        wire: wire(alloc, 0, "k")?,
+        target: QueryTarget::BestMatching,
+        timeout: Some(timeout),
+        node: 0,
+        qos: 0,
+        payload: Bytes::new(alloc, b"ask".as_slice())?,
+    })
+}
+
+fn asks(gateway: &mut Gateway, alloc: Global, id: u32, timeout: u64) -> Seen {
+    let Ok(asked) = request(alloc, id, timeout) else {
+        return None;
+    };
+    seen(gateway.send_request(FaceId(1), &asked, 0))
+}
+
+fn routes(gateway: &mut Gateway, alloc: Global) -> Seen {
+    let Ok(asked) = request(alloc, 8, 5) else {
+        return None;
+    };
+    seen(gateway.route_query(FaceId(1), &asked, 0))
+}
+
+fn response(alloc: Global) -> Result<Response, OutOfMemory> {
+    Ok(Response {
+        rid: 1,
+        wire: wire(alloc, 0, "k")?,
+        qos: 0,
+        payload: ReplyBody::Reply(Bytes::new(alloc, b"v".as_slice())?),
+        responder: None,
+    })
+}
+
+fn replies(gateway: &mut Gateway, alloc: Global) -> Seen {
+    let Ok(reply) = response(alloc) else {
+        return None;
+    };
+    seen(gateway.send_response(FaceId(0), &reply))
+}
+
+fn lists(gateway: &mut Gateway, alloc: Global) -> Seen {
+    let table = Gateways {
+        of: Items::new(alloc),
+        all: None,
+    };
+    seen(gateway.set_gateways(Region::Local, &table))
+}
+
+fn opens(gateway: &mut Gateway, alloc: Global, zid: u128) -> Seen {
+    let opening = application(alloc, zid);
+    if !opening.is_built(gateway.config()) {
+        return None;
+    }
+    seen(gateway.open_face(&opening))
+}
+
+fn is_final(handed: &Option<Handed>) -> bool {
+    match handed {
+        Some(handed) => {
+            handed.to() == FaceId(1) && matches!(handed.message(), Message::ResponseFinal(_))
+        }
+        None => false,
+    }
+}
+
+// Whether the call hands a final to the asker; none where it is refused.
+fn hands_final(last: Result<Option<Handed>, Refusal>) -> Option<bool> {
+    match last {
+        Ok(handed) => Some(is_final(&handed)),
+        Err(_) => None,
+    }
+}
+
+// A gateway with a face that answers and one that asks.
+fn pair(alloc: Global) -> Result<Gateway, OutOfMemory> {
+    let mut gateway = gateway(alloc)?;
+    let _ = opens(&mut gateway, alloc, 10);
+    let _ = opens(&mut gateway, alloc, 11);
+    let _ = registers(&mut gateway, alloc);
+    Ok(gateway)
+}
+
+const DONE: Seen = Some((Outcome::Done, 0));
+
+const UNKNOWN_FACE: Seen = Some((Outcome::Refused(Refusal::UnknownFace), 0));
+
+// What a face is answered that opens and declares.
+fn declared(alloc: Global) -> Result<[Seen; 4], OutOfMemory> {
+    let mut gateway = gateway(alloc)?;
+    Ok([
+        opens(&mut gateway, alloc, 10),
+        names_key(&mut gateway, alloc),
+        registers(&mut gateway, alloc),
+        declares(&mut gateway, DeclareBody::DeclareFinal),
+    ])
+}
+
+#[test]
+fn declarations(rt: HostRuntime) {
+    let opened = Some((Outcome::Opened(FaceId(0)), 0));
+    let want = [opened, DONE, DONE, DONE];
+    assert!(rt; declared(rt.alloc()) == Ok(want));
+}
+
+// What a face is answered that withdraws what it declared, its number twice.
+fn withdrawn(alloc: Global) -> Result<[Seen; 3], OutOfMemory> {
+    let mut gateway = pair(alloc)?;
+    let _ = names_key(&mut gateway, alloc);
+    Ok([
+        declares(
+            &mut gateway,
+            DeclareBody::UndeclareQueryable { id: 1, wire: None },
+        ),
+        declares(&mut gateway, DeclareBody::UndeclareKeyExpr { id: 1 }),
+        declares(&mut gateway, DeclareBody::UndeclareKeyExpr { id: 1 }),
+    ])
+}
+
+#[test]
+fn withdrawals(rt: HostRuntime) {
+    let again = Some((Outcome::Refused(Refusal::UnknownId), 0));
+    assert!(rt; withdrawn(rt.alloc()) == Ok([DONE, DONE, again]));
+}
+
+// What a request and its reply come to.
+fn answered(alloc: Global) -> Result<[Seen; 2], OutOfMemory> {
+    let mut gateway = pair(alloc)?;
+    Ok([
+        asks(&mut gateway, alloc, 7, 5),
+        replies(&mut gateway, alloc),
+    ])
+}
+
+#[test]
+fn a_query_and_its_reply(rt: HostRuntime) {
+    let asked = Some((Outcome::Asked(0), 1));
+    let replied = Some((Outcome::Replied(Some(0)), 1));
+    assert!(rt; answered(rt.alloc()) == Ok([asked, replied]));
+}
+
+// Whether the target's final and two reports of the reply hand the final to the asker.
+fn ended(alloc: Global) -> Result<[Option<bool>; 3], OutOfMemory> {
+    let mut gateway = pair(alloc)?;
+    let _ = asks(&mut gateway, alloc, 7, 5);
+    let _ = replies(&mut gateway, alloc);
+    Ok([
+        hands_final(gateway.send_response_final(FaceId(0), 1)),
+        hands_final(gateway.sent(0)),
+        hands_final(gateway.sent(0)),
+    ])
+}
+
+#[test]
+fn a_query_and_its_end(rt: HostRuntime) {
+    assert!(rt; ended(rt.alloc()) == Ok([Some(false), Some(true), None]));
+}
+
+// What comes of a request that is out of time, of a list of gateways and of a closing.
+fn out_of_time(alloc: Global) -> Result<[Seen; 4], OutOfMemory> {
+    let mut gateway = pair(alloc)?;
+    Ok([
+        routes(&mut gateway, alloc),
+        seen(gateway.poll(5)),
+        lists(&mut gateway, alloc),
+        seen(gateway.send_close(FaceId(0))),
+    ])
+}
+
+#[test]
+fn time_and_closing(rt: HostRuntime) {
+    let asked = Some((Outcome::Asked(0), 1));
+    let ended = Some((Outcome::Done, 1));
+    assert!(rt; out_of_time(rt.alloc()) == Ok([asked, ended, DONE, DONE]));
+}
+
+// What comes of a face's initial mark, of that of a face that is not there, and of the end of what
+// was declared at the opening.
+fn marked(alloc: Global) -> Result<[Seen; 3], OutOfMemory> {
+    let mut gateway = pair(alloc)?;
+    let mark = FinalMark::Initial;
+    let end = Declare {
+        interest: Some(0),
+        node: 0,
+        body: DeclareBody::DeclareFinal,
+    };
+    Ok([
+        seen(gateway.finalize_local_interest(FaceId(0), &mark, true)),
+        seen(gateway.finalize_local_interest(FaceId(9), &mark, true)),
+        seen(gateway.send_declare(FaceId(0), &end)),
+    ])
+}
+
+#[test]
+fn marks(rt: HostRuntime) {
+    assert!(rt; marked(rt.alloc()) == Ok([DONE, UNKNOWN_FACE, DONE]));
+}
+
+// What comes of a network in North, and in a region that is not there.
+fn networks_put(alloc: Global) -> Result<[Seen; 2], OutOfMemory> {
+    let mut gateway = pair(alloc)?;
+    let net = Network::empty(alloc);
+    Ok([
+        seen(gateway.set_network(Region::North, &net)),
+        seen(gateway.set_network(CLIENTS, &net)),
+    ])
+}
+
+// Outside regions of routers a network changes nothing.
+#[test]
+fn networks(rt: HostRuntime) {
+    let unknown = Some((Outcome::Refused(Refusal::UnknownRegion), 0));
+    assert!(rt; networks_put(rt.alloc()) == Ok([DONE, unknown]));
+}
+
+// What comes of a table of nodes, and of one for a face that is not there.
+fn nodes_put(alloc: Global) -> Result<[Seen; 2], OutOfMemory> {
+    let mut gateway = pair(alloc)?;
+    let ids = NodeIds::empty(alloc);
+    Ok([
+        seen(gateway.set_node_ids(FaceId(0), &ids)),
+        seen(gateway.set_node_ids(FaceId(9), &ids)),
+    ])
+}
+
+// Nor does a table of nodes.
+#[test]
+fn node_tables(rt: HostRuntime) {
+    assert!(rt; nodes_put(rt.alloc()) == Ok([DONE, UNKNOWN_FACE]));
+}
+
+// Whether each step, in order, has the outcome.
+fn are(steps: &[Step], outcomes: &[Outcome]) -> bool {
+    steps.len() == outcomes.len()
+        && steps
+            .iter()
+            .zip(outcomes)
+            .all(|(step, outcome)| step.outcome == *outcome)
+}
+
+// Whether a run of these calls has steps of these outcomes.
+fn runs_to(alloc: Global, calls: &[Call], outcomes: &[Outcome]) -> Result<bool, OutOfMemory> {
+    let replayed = replay(alloc, &config(alloc)?, calls)?;
+    Ok(are(replayed.steps.as_slice(), outcomes))
+}
+
+#[test]
+fn runs(rt: HostRuntime) {
+    let calls = [
+        Call::Poll { now: 1 },
+        Call::Sent { reply: 0 },
+        Call::Close { face: FaceId(3) },
+    ];
+    let outcomes = [
+        Outcome::Done,
+        Outcome::Refused(Refusal::NotInFlight),
+        Outcome::Refused(Refusal::UnknownFace),
+    ];
+    assert!(rt; runs_to(rt.alloc(), &calls, &outcomes) == Ok(true));
+}
+
+fn asks_each(gateway: &mut Gateway, alloc: Global, count: u32) {
+    for id in 0..count {
+        let _ = asks(gateway, alloc, id, u64::from(id) + 1);
+    }
+}
+
+// Whether each poll lets one entry go, and each report ends its query.
+fn each_ends(gateway: &mut Gateway, count: u64) -> bool {
+    for reply in 0..count {
+        let polled = seen(gateway.poll(reply + 1));
+        if polled != Some((Outcome::Done, 1)) || hands_final(gateway.sent(reply)) != Some(true) {
+            return false;
+        }
+    }
+    true
+}
+
+// Whether each of so many open requests ends by itself.
+fn deadlines(alloc: Global, count: u32) -> Result<bool, OutOfMemory> {
+    let mut gateway = pair(alloc)?;
+    asks_each(&mut gateway, alloc, count);
+    Ok(each_ends(&mut gateway, u64::from(count)))
+}
+
+// What else is open costs nothing.
+#[test]
+fn many_deadlines(rt: HostRuntime) {
+    assert!(rt; deadlines(rt.alloc(), 100_000) == Ok(true));
+}

@@ -1,0 +1,116 @@
+use std::alloc::Global;
+use std::test::Fail;
+use zq_interests::interests::Interests;
+use zq_interests::types::InterestEntry;
+use zq_key::memory::OutOfMemory;
+use zq_key::message::FaceId;
+use zq_key::{Key, is_key};
+
+/// A face asks for a key, or for all.
+fn ask(
+    asked: &mut Interests,
+    alloc: Global,
+    face: u32,
+    id: u32,
+    text: Option<&str>,
+    keys: bool,
+) -> Result<(), OutOfMemory> {
+    let key = match text {
+        Some(text) => match Key::new(alloc, text) {
+            Ok(key) => Some(key),
+            Err(_) => return Err(OutOfMemory),
+        },
+        None => None,
+    };
+    match asked.put(alloc, FaceId(face), id, InterestEntry { key, keys }) {
+        Ok(()) => Ok(()),
+        Err(error) => Err(error),
+    }
+}
+
+/// The faces that ask for the key; a text that is no key has no answer.
+fn askers(asked: &Interests, alloc: Global, text: &str) -> Result<Vec<u32>, OutOfMemory> {
+    if !is_key(text) {
+        return Err(OutOfMemory);
+    }
+    let mut numbers = Vec::new(alloc);
+    for face in asked.askers(alloc, text)?.as_slice() {
+        numbers.push(face.0)?;
+    }
+    Ok(numbers)
+}
+
+/// Whether the face asks for the key, and whether numbers may be declared for keys there; none where the
+/// text is no key.
+fn asks(asked: &Interests, face: u32, text: &str) -> Option<(bool, bool)> {
+    if !is_key(text) {
+        return None;
+    }
+    let face = FaceId(face);
+    Some((asked.asks_for(face, text), asked.has_keyed(face, text)))
+}
+
+/// How many interests the face has.
+fn count(asked: &Interests, face: u32) -> Option<usize> {
+    match asked.asked_by(FaceId(face)) {
+        Some(entries) => Some(entries.len()),
+        None => None,
+    }
+}
+
+/// Face 9 asks for `a/*` with numbers, 3 for `a/b` and `a/**`, 5 for all keys with numbers.
+fn three_ask(alloc: Global) -> Result<Interests, OutOfMemory> {
+    let mut asked = Interests::new(alloc);
+    ask(&mut asked, alloc, 9, 1, Some("a/*"), true)?;
+    ask(&mut asked, alloc, 3, 1, Some("a/b"), false)?;
+    ask(&mut asked, alloc, 3, 2, Some("a/**"), false)?;
+    ask(&mut asked, alloc, 5, 7, None, true)?;
+    Ok(asked)
+}
+
+#[test]
+fn faces_ask(rt: HostRuntime) -> Result<(), Fail> {
+    let alloc = rt.alloc();
+    let asked = three_ask(alloc)?;
+    assert_eq!(rt; askers(&asked, alloc, "a/b")?.as_slice(), [3, 5, 9].as_slice());
+    assert_eq!(rt; askers(&asked, alloc, "a/b/c")?.as_slice(), [3, 5].as_slice());
+    assert_eq!(rt; askers(&asked, alloc, "b")?.as_slice(), [5].as_slice());
+    Ok(())
+}
+
+#[test]
+fn a_face_asks(rt: HostRuntime) -> Result<(), Fail> {
+    let asked = three_ask(rt.alloc())?;
+    assert_eq!(rt; asks(&asked, 9, "a/c"), Some((true, true)));
+    assert_eq!(rt; asks(&asked, 3, "a/c"), Some((true, false)));
+    assert_eq!(rt; asks(&asked, 3, "b"), Some((false, false)));
+    assert!(rt; asked.get(FaceId(3), 2).is_some());
+    assert!(rt; asked.get(FaceId(3), 7).is_none());
+    assert_eq!(rt; count(&asked, 3), Some(2));
+    Ok(())
+}
+
+// Another interest under an id takes its place.
+#[test]
+fn interests_change(rt: HostRuntime) -> Result<(), Fail> {
+    let alloc = rt.alloc();
+    let mut asked = three_ask(alloc)?;
+    ask(&mut asked, alloc, 9, 1, Some("c"), false)?;
+    assert_eq!(rt; askers(&asked, alloc, "a/x")?.as_slice(), [3, 5].as_slice());
+    assert_eq!(rt; askers(&asked, alloc, "c")?.as_slice(), [5, 9].as_slice());
+    Ok(())
+}
+
+#[test]
+fn interests_end(rt: HostRuntime) -> Result<(), Fail> {
+    let alloc = rt.alloc();
+    let mut asked = three_ask(alloc)?;
+    asked.end(FaceId(3), 2);
+    asked.end(FaceId(3), 8);
+    asked.end(FaceId(8), 1);
+    assert_eq!(rt; count(&asked, 3), Some(1));
+    assert_eq!(rt; count(&asked, 8), None);
+    asked.close(FaceId(3));
+    assert_eq!(rt; askers(&asked, alloc, "a/b")?.as_slice(), [5, 9].as_slice());
+    Ok(())
+}

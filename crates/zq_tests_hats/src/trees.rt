@@ -1,0 +1,117 @@
+use std::alloc::Global;
+use zq_given::{information, list};
+use zq_key::items::Items;
+use zq_key::memory::OutOfMemory;
+use zq_key::message::{FaceId, NodeId, Zid};
+use zq_trees::children::{fresh_ids, tell_children};
+use zq_trees::nets::Net;
+use zq_trees::seats::Seats;
+use zq_trees::tellings::in_order;
+use zq_trees::types::{Network, Tree};
+
+fn tree(alloc: Global, children: &[u32], directions: &[Option<u32>]) -> Result<Tree, OutOfMemory> {
+    Ok(Tree {
+        children: list(alloc, children)?,
+        directions: list(alloc, directions)?,
+    })
+}
+
+/// Nodes 1, 2, 3 and 2 again, with trees of the first two: 1 has the children 2 and 3, and one that
+/// no node is at; 2 has 3, twice.
+fn small_net(alloc: Global) -> Result<Net, OutOfMemory> {
+    let mut trees = Items::new(alloc);
+    trees.push(tree(alloc, &[1, 2, 9], &[None, Some(1), Some(1), Some(7)])?)?;
+    trees.push(tree(alloc, &[2, 2], &[Some(0)])?)?;
+    let network = Network {
+        nodes: list(alloc, &[Zid(1), Zid(2), Zid(3), Zid(2)])?,
+        trees,
+        distances: list(alloc, &[0, 1, 2])?,
+    };
+    Net::new(alloc, network)
+}
+
+/// The places of routers, of which the last is none.
+fn places_of(alloc: Global) -> Result<[Option<NodeId>; 4], OutOfMemory> {
+    let net = small_net(alloc)?;
+    Ok([
+        net.place_of(Zid(1)),
+        net.place_of(Zid(2)),
+        net.place_of(Zid(3)),
+        net.place_of(Zid(4)),
+    ])
+}
+
+#[test]
+fn places(rt: HostRuntime) {
+    assert_eq!(rt;
+        places_of(rt.alloc()),
+        Ok([Some(0), Some(1), Some(2), None])
+    );
+}
+
+/// The next router from a source towards another, and its distance.
+type Next = Option<(Zid, u16)>;
+
+fn towards(alloc: Global, source: NodeId, router: u128) -> Result<Next, OutOfMemory> {
+    Ok(small_net(alloc)?.towards(source, Zid(router)))
+}
+
+#[test]
+fn ways(rt: HostRuntime) {
+    for (source, router, way) in [
+        (0, 3, Some((Zid(2), 2))),
+        (0, 1, None),
+        (1, 1, Some((Zid(1), 0))),
+        (1, 3, None),
+        (2, 3, None),
+        (0, 4, None),
+    ] {
+        assert_eq!(rt; towards(rt.alloc(), source, router), Ok(way));
+    }
+}
+
+fn seats(alloc: Global) -> Result<Seats, OutOfMemory> {
+    let mut seats = Seats::new(alloc);
+    for (zid, face) in [(3, 7), (2, 5), (2, 4)] {
+        seats.take(Zid(zid), FaceId(face))?;
+    }
+    Ok(seats)
+}
+
+/// The faces that hear of `k` of the root, and the node of the first telling.
+fn told(alloc: Global, from: Option<FaceId>, root: u128) -> Result<(usize, u32, u16), OutOfMemory> {
+    let net = small_net(alloc)?;
+    let seats = seats(alloc)?;
+    let info = Some(information(true, 0));
+    let tellings = tell_children(alloc, &net, &seats, from, Zid(root), "k", info)?;
+    let tellings = in_order(alloc, tellings.as_slice())?;
+    match tellings.get(0) {
+        Some(first) => Ok((tellings.len(), first.face.0, first.node)),
+        None => Ok((0, 0, 0)),
+    }
+}
+
+#[test]
+fn children(rt: HostRuntime) {
+    for (from, root, heard) in [
+        (None, 1, (2, 4, 0)),
+        (Some(FaceId(4)), 1, (1, 7, 0)),
+        (Some(FaceId(5)), 1, (2, 4, 0)),
+        (None, 2, (1, 7, 1)),
+        (None, 3, (0, 0, 0)),
+        (None, 4, (0, 0, 0)),
+    ] {
+        assert_eq!(rt; told(rt.alloc(), from, root), Ok(heard));
+    }
+}
+
+/// How many ids are new to the children of root 1.
+fn fresh(alloc: Global) -> Result<usize, OutOfMemory> {
+    let net = small_net(alloc)?;
+    Ok(fresh_ids(alloc, &net, Zid(1), &[Zid(2), Zid(4), Zid(3)])?.len())
+}
+
+#[test]
+fn fresh_children(rt: HostRuntime) {
+    assert_eq!(rt; fresh(rt.alloc()), Ok(1));
+}
