@@ -206,7 +206,7 @@ module _ (asks : List ℕ → Bool) (next : Option HatChange) (face : ℕ) (o : 
 
 -- ---- the same of what decides after a call
 module _ (c : Core) (ints : Interests) (face : ℕ) (o : OpenFace) (opened : at face c.faces ≡ Some o) (key : List ℕ) (asks : Bool) (asked : asks ≡ asks_for face key ints) (hats : List (ℕ × HatState)) (same : hats ≡ c.hats) where
-  listens_is : listens_as asks hats o ≡ listens c ints face key
+  pub listens_is : listens_as asks hats o ≡ listens c ints face key
   listens_is =
       (λ j. listens_as (asked j) (same j) o)
       ∙ ap (λ (p : Option OpenFace). option_map_or (listens_in ints face key) (option_and_then (λ (q : OpenFace). hat_at q.region c.hats) p) false) (sym opened)

@@ -1,10 +1,10 @@
 //! Whether a face listens on a key, and what will be due to it there once a hat has changed.
-ghost use Rattle.std.specs.Prelude.{◌≡◌, Some, option_copied};
+ghost use Rattle.std.specs.Prelude.{◌≡◌, ℕ, List, Some, option_copied};
 ghost use Rattle.zq_regions.specs.Region.{region_index};
 ghost use Rattle.zq_hat.specs.Changes.{changed_if};
 ghost use Rattle.zq_hat.specs.Fellows.{fellow_info};
 ghost use Rattle.zq_hat.specs.Regions.{is_north, strategy_at};
-ghost use Rattle.zq_machine.specs.Due.{due, heard_as, heard_by, is_unasked};
+ghost use Rattle.zq_machine.specs.Due.{due, heard_as, heard_by, is_unasked, listens};
 ghost use Rattle.zq_interests.specs.Interests.{Interests, asks_for};
 ghost use Rattle.zq_machine.specs.State.{Core, at};
 ghost use Rattle.zq_machine.specs.Trees.{own_entry};
@@ -36,7 +36,8 @@ fn is_unasked(hat: &Hat) -> bool
 /// Whether an open face listens on a key: it is told unasked, or it asks for it. No change of a hat
 /// changes that.
 pub fn listens(hats: &RegionMap<Hat>, opened: OpenFace, asks: bool) -> bool
-    ensures { result ≡ listens_as asks hats.now opened }
+    ensures value { result ≡ listens_as asks hats.now opened }
+    ensures same { (c : Core) (ints : Interests) (face : ℕ) (key : List ℕ) → at face c.faces ≡ Some opened → asks ≡ asks_for face key ints → hats.now ≡ c.hats → result ≡ listens c ints face key }
 {
     match hat_at(hats, opened.region) {
         Some(hat) => is_unasked(hat) || asks,

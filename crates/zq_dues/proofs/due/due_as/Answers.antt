@@ -11,5 +11,5 @@ returns-else-listens-clause-same c core ints opened asked same =
     let face = c.args.face.0 in
     let key = c.args.key.now in
     let hats = hats_after next key c.args.hats.now in
-    let none : None ≡ due_as c.args.asks face key hats c.args.opened = ap (λ b. cond b (heard_as face key hats c.args.opened) None) (sym (listens_after c.args.asks key c.args.opened c.args.hats.now next ∙ sym c.listens.ensures ∙ c.if-listens.false)) in
+    let none : None ≡ due_as c.args.asks face key hats c.args.opened = ap (λ b. cond b (heard_as face key hats c.args.opened) None) (sym (listens_after c.args.asks key c.args.opened c.args.hats.now next ∙ sym c.listens.ensures.value ∙ c.if-listens.false)) in
     none ∙ due_is core ints face c.args.opened opened key c.args.asks asked hats same

@@ -13,4 +13,4 @@ returns-then-not-listens c =
     let hats = c.args.hats.now in
     let here : List KeyDue = (key, heard_as c.args.face.0 key (hats_after next key hats) c.args.opened) ∷ [] in
     sym (append-nil c.args.dues.now)
-    ∙ ap (λ (l : List KeyDue). c.args.dues.now ++ l) (sym (ap (λ b. cond b here []) (listens_after c.args.asks key c.args.opened hats next ∙ sym c.listens.ensures ∙ c.if-not-listens.true)))
+    ∙ ap (λ (l : List KeyDue). c.args.dues.now ++ l) (sym (ap (λ b. cond b here []) (listens_after c.args.asks key c.args.opened hats next ∙ sym c.listens.ensures.value ∙ c.if-not-listens.true)))
