@@ -1,4 +1,5 @@
 use std::alloc::Global;
+use std::test::Fail;
 use zq_given::wire;
 use zq_key::memory::OutOfMemory;
 use zq_key::message::FaceId;
