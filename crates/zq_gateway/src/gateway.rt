@@ -205,20 +205,20 @@ impl Gateway {
     pub fn config(&self) -> &Config
         ensures { result.now ≡ self.now.core.config }
     {
-        self.tables.config()
+        &self.tables.config
     }
 
     /// The gateway's own id.
     pub fn zid(&self) -> Zid
         ensures { result ≡ self.now.core.config.zid }
     {
-        self.tables.config().zid()
+        self.tables.config.zid()
     }
 
     /// The mode of the entry North.
     pub fn north(&self) -> Mode
         ensures { result ≡ north_of self.now.core.config.entries }
     {
-        self.tables.config().north()
+        self.tables.config.north()
     }
 }

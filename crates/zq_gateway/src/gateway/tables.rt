@@ -182,13 +182,6 @@ impl Tables {
         }
     }
 
-    /// What it was made with.
-    pub fn config(&self) -> &Config
-        ensures { result.now ≡ self.now.core.config }
-    {
-        &self.config
-    }
-
     pub(super) fn refused(&self, refusal: Refusal) -> Step
         ensures { result ≡ refused_step refusal }
     {
