@@ -72,8 +72,14 @@ fn three_ask(alloc: Global) -> Result<Interests, OutOfMemory> {
 fn faces_ask(rt: HostRuntime) -> Result<(), Fail> {
     let alloc = rt.alloc();
     let asked = three_ask(alloc)?;
-    assert_eq!(rt; askers(&asked, alloc, "a/b")?.as_slice(), [3, 5, 9].as_slice());
-    assert_eq!(rt; askers(&asked, alloc, "a/b/c")?.as_slice(), [3, 5].as_slice());
+    assert_eq!(rt;
+        askers(&asked, alloc, "a/b")?.as_slice(),
+        [3, 5, 9].as_slice()
+    );
+    assert_eq!(rt;
+        askers(&asked, alloc, "a/b/c")?.as_slice(),
+        [3, 5].as_slice()
+    );
     assert_eq!(rt; askers(&asked, alloc, "b")?.as_slice(), [5].as_slice());
     Ok(())
 }
