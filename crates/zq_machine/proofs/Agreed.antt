@@ -24,7 +24,7 @@ use Rattle.zq_query.specs.declared.records.ReplyTo.{ReplyTo}
 use Rattle.zq_query.specs.Closing.{at_face}
 use Rattle.zq_query.specs.Polling.{is_due, timeouts, timing_out}
 use Rattle.zq_query.specs.Records.{QueryState, is_entry, next_reply}
-use Rattle.zq_tables.specs.Naming.{NamingState, change_naming, face_queryables, with_queryable, with_told_number}
+use Rattle.zq_tables.specs.Naming.{NamingState, face_queryables, with_told_number}
 use Rattle.zq_machine.specs.declared.call.Call.{Call}
 use Rattle.zq_machine.specs.declared.config.Entry.{Entry}
 use Rattle.zq_machine.specs.declared.face.OpenFace.{OpenFace}

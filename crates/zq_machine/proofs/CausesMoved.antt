@@ -1,5 +1,5 @@
 -- A call with its texts moved is refused for the cause that refuses the call.
-use Rattle.std.proofs.Common.{◌≡◌, ◌∙◌, refl, ap, ℕ, Bool, true, false, cond, not, List, [], ◌∷◌, Option, Some, None}
+use Rattle.std.proofs.Common.{◌≡◌, ◌∙◌, refl, ap, ℕ, true, false, not, List, [], ◌∷◌, Option, Some, None}
 use Rattle.std.specs.Prelude.{◌==◌, ◌||◌, is_none, option_map}
 use Rattle.std.specs.Option.{option_and_then, option_map_or}
 use Rattle.zq_message.specs.declared.message.FaceId.{FaceId}
@@ -16,18 +16,10 @@ use Rattle.zq_machine.specs.State.{Core, hat_of, has_declared_in, clashes_in}
 use Rattle.zq_machine.specs.TextCalls.{TextCall, opening, closing, naming, unnaming, declaring, withdrawing, asking, replying, ending, reporting, passing, listing, finalizing, announcing, retracting, networking, tabling, unbuilt}
 use Rattle.zq_machine.specs.Deciding.{entry_by, entry_of, first_of, clashes, has_declared, lacks_face_number, lacks_router, unknown_face, refusal_of}
 use Rattle.zq_machine.specs.Moved.{move_core, move_text}
+use Rattle.zq_machine.proofs.ChangedMoved.{lacks_moved}
 use Rattle.zq_machine.proofs.HatsMoved.{declared_moved, clashes_moved, has_moved, full_moved, own_found}
 use Rattle.zq_machine.proofs.RoutersMoved.{entry_moved, router_moved}
 use Rattle.zq_machine.proofs.SelectionMoved.{targets_moved}
-
--- ---- what cannot be: a call is accepted whose second or third cause holds
-pub second_holds : {X : Type 0} (a : Bool) (x y : X) → cond a (Some x) (Some y) ≡ None → ⊥
-second_holds true x y e = cc
-second_holds false x y e = cc
-
-pub third_holds : {X : Type 0} (a b : Bool) (x y z : X) → cond a (Some x) (cond b (Some y) (Some z)) ≡ None → ⊥
-third_holds true b x y z e = cc
-third_holds false b x y z e = second_holds b y z e
 
 -- ---- causes
 module _ (φ : List ℕ → List ℕ) (keeps : Keeps φ) (c : Core) where
@@ -41,14 +33,14 @@ module _ (φ : List ℕ → List ℕ) (keeps : Keeps φ) (c : Core) where
   known_moved : (face : FaceId) (id : ℕ) → has_declared face id (move_core φ c) ≡ has_declared face id c
   known_moved face id = ap (has_declared_in face.0 id) (own_found φ c face.0) ∙ declared_moved φ face.0 id (hat_of face.0 c)
 
-  lacks_moved : (face : FaceId) (node : ℕ) → lacks_router face node (move_core φ c) ≡ lacks_router face node c
-  lacks_moved face node = ap (λ o. option_map_or (is_zid c.config.zid) o true) (ap (option_and_then (source_at face.0 node)) (own_found φ c face.0) ∙ router_moved φ face.0 node (hat_of face.0 c))
+  routers_moved : (face : FaceId) (node : ℕ) → lacks_router face node (move_core φ c) ≡ lacks_router face node c
+  routers_moved face node = ap (λ o. option_map_or (is_zid c.config.zid) o true) (ap (option_and_then (source_at face.0 node)) (own_found φ c face.0) ∙ router_moved φ face.0 node (hat_of face.0 c))
 
   entry_there : (face : FaceId) (node : ℕ) (text : List ℕ) → entry_of face node (φ text) (move_core φ c) ≡ entry_of face node text c
   entry_there face node text = ap (option_and_then (entry_by face.0 node (φ text))) (own_found φ c face.0) ∙ entry_moved φ keeps face.0 node text (hat_of face.0 c)
 
   pub refused_alike : (t : TextCall) → refusal_of (move_core φ c) (move_text φ t) ≡ refusal_of c t
-  refused_alike (opening o) = λ j. first_of ((not (has_moved φ c o.region j), refusal.UnknownRegion) ∷ (full_moved φ c o.region j, refusal.UpstreamInUse) ∷ (lacks_face_number c, refusal.NoFreeId) ∷ [])
+  refused_alike (opening o) = λ j. first_of ((not (has_moved φ c o.region j), refusal.UnknownRegion) ∷ (full_moved φ c o.region j, refusal.UpstreamInUse) ∷ (lacks_face_number c, refusal.NoFreeId) ∷ (lacks_moved φ keeps c (opening o) tt j, refusal.NoFreeId) ∷ [])
   refused_alike (closing face) = refl
   refused_alike (naming face id said.Unscoped standing) = refl
   refused_alike (naming face id said.Empty standing) = refl
@@ -59,7 +51,8 @@ module _ (φ : List ℕ → List ℕ) (keeps : Keeps φ) (c : Core) where
   refused_alike (declaring face id said.Unscoped info node) = refl
   refused_alike (declaring face id said.Empty info node) = refl
   refused_alike (declaring face id (said.Full text) info node) =
-      λ j. first_of (unknown_face face c ∷ (false, refusal.UnknownScope) ∷ (not (keeps.key text j), refusal.InvalidKeyExpr) ∷ (clash_moved face id text j, refusal.IdInUse) ∷ [])
+      λ j. first_of (unknown_face face c ∷ (false, refusal.UnknownScope) ∷ (not (keeps.key text j), refusal.InvalidKeyExpr) ∷ (clash_moved face id text j, refusal.IdInUse)
+      ∷ (lacks_moved φ keeps c (declaring face id (said.Full text) info node) tt j, refusal.NoFreeId) ∷ [])
   refused_alike (withdrawing face id) = ap (λ b. first_of (unknown_face face c ∷ (not b, refusal.UnknownId) ∷ [])) (known_moved face id)
   refused_alike (asking face s r now) = ap (λ fs. first_of (unknown_face face c ∷ (lacks_number fs c.queries, refusal.NoFreeId) ∷ [])) (targets_moved φ keeps c face s r)
   refused_alike (replying face said.Unscoped r) = refl
@@ -76,11 +69,12 @@ module _ (φ : List ℕ → List ℕ) (keeps : Keeps φ) (c : Core) where
   refused_alike (announcing face said.Unscoped info node) = refl
   refused_alike (announcing face said.Empty info node) = refl
   refused_alike (announcing face (said.Full text) info node) =
-      λ j. first_of (unknown_face face c ∷ (false, refusal.UnknownScope) ∷ (not (keeps.key text j), refusal.InvalidKeyExpr) ∷ (lacks_moved face node j, refusal.UnknownRouter) ∷ [])
+      λ j. first_of (unknown_face face c ∷ (false, refusal.UnknownScope) ∷ (not (keeps.key text j), refusal.InvalidKeyExpr) ∷ (routers_moved face node j, refusal.UnknownRouter)
+      ∷ (lacks_moved φ keeps c (announcing face (said.Full text) info node) tt j, refusal.NoFreeId) ∷ [])
   refused_alike (retracting face said.Unscoped node) = refl
   refused_alike (retracting face said.Empty node) = refl
   refused_alike (retracting face (said.Full text) node) =
-      λ j. first_of (unknown_face face c ∷ (false, refusal.UnknownScope) ∷ (not (keeps.key text j), refusal.InvalidKeyExpr) ∷ (lacks_moved face node j, refusal.UnknownRouter)
+      λ j. first_of (unknown_face face c ∷ (false, refusal.UnknownScope) ∷ (not (keeps.key text j), refusal.InvalidKeyExpr) ∷ (routers_moved face node j, refusal.UnknownRouter)
       ∷ (is_none (entry_there face node text j), refusal.UnknownId) ∷ [])
   refused_alike (networking r net) = ap (λ b. first_of ((not b, refusal.UnknownRegion) ∷ [])) (has_moved φ c r)
   refused_alike (tabling face ids) = refl

@@ -3,6 +3,8 @@ use Rattle.std.proofs.Common.{◌≡◌, ◌∙◌, refl, sym, ap, subst, ℕ, B
 use Rattle.std.specs.List.{AllByRecursion, list_any}
 use Rattle.std.specs.Option.{is_some, option_and_then, option_map, option_map_or}
 use Rattle.std.specs.Str.{bytes_eq}
+use Rattle.std.specs.Prelude.{◌||◌}
+use Rattle.std.proofs.Math.Bool.{or-false}
 use Rattle.std.proofs.lemmas.Bool.{false≢true, or_parts, true≢false}
 use Rattle.std.proofs.lemmas.List.Folds.{list_any-append}
 use Rattle.zq_message.specs.declared.message.QueryableInfoType.{QueryableInfoType}
@@ -15,35 +17,42 @@ use Rattle.zq_trees.specs.Entries.{entry_of, staying}
 use Rattle.zq_trees.specs.Nets.{child_ids, children_of, is_listed, is_zid, place_of, tree_at}
 use Rattle.zq_hat.specs.declared.types.Strategy.{Strategy}
 use Rattle.zq_hat.specs.declared.types.Strategy.TheVariants as strategy
-use Rattle.zq_hat.specs.Regions.{in_routers, strategy_at}
+use Rattle.zq_hat.specs.Regions.{in_routers, is_north, strategy_at}
 use Rattle.zq_hat.specs.Routers.{announced, entry_at, networked, retracted}
 use Rattle.zq_hat.specs.State.{HatState}
 use Rattle.zq_machine.specs.declared.call.Call.{Call}
 use Rattle.zq_machine.specs.declared.call.Call.TheVariants as call
 use Rattle.zq_machine.specs.Children.{ChildPromise, StaysChild, is_child, is_child_in, is_face_of, known_after, known_in, root_place, said_for, speaks_for, stands_of, with_heard_of, with_news}
 use Rattle.zq_machine.specs.Configs.{Settings}
-use Rattle.zq_machine.specs.Deciding.{accepted, causes, granted, is_accepted, refusal_of, told_of}
+use Rattle.zq_interests.specs.Interests.{asks_for}
+use Rattle.zq_machine.specs.Agreeing.{stands_in}
+use Rattle.zq_machine.specs.Deciding.{accepted, causes, granted, is_accepted, refusal_of, renamed, told_of}
+use Rattle.zq_machine.specs.Due.{listens_by, listens_in}
 use Rattle.zq_machine.specs.Hearing.{hear}
 use Rattle.zq_machine.specs.Machine.{accepted_state, after, follow, state_after}
 use Rattle.zq_machine.specs.Messages.{key_ended, key_told}
 use Rattle.zq_machine.specs.Selecting.{full_text}
-use Rattle.zq_machine.specs.State.{Core, State, at, hat_at, opening_state}
+use Rattle.zq_machine.specs.declared.face.OpenFace.{OpenFace}
+use Rattle.zq_machine.specs.State.{Core, State, at, hat_at, hat_of, opening_state}
 use Rattle.zq_machine.specs.TextCalls.{TextCall, announcing, retracting, networking, read}
 use Rattle.zq_machine.specs.Trees.{all_own_told, own_entry, touched, tree_told}
 use Rattle.zq_machine.proofs.Agreed.{InOrder, granted_in_order, numbered_in_order, run_in_order}
 use Rattle.zq_machine.proofs.Agreeing.{some_of}
 use Rattle.zq_machine.proofs.Always.{after_kept}
-use Rattle.zq_machine.proofs.Changing.{hat_here, region_there}
+use Rattle.zq_machine.proofs.Changing.{hat_here, number_test, one_number, region_there}
 use Rattle.zq_machine.proofs.Finals.{is_there}
 use Rattle.zq_machine.proofs.Foreign.{entries_kept, entry_put, entry_taken, listed, of_routers}
 use Rattle.zq_machine.proofs.Frame.{accepted_config, config_kept, run_config}
 use Rattle.zq_machine.specs.Writing.{write}
 use Rattle.zq_machine.proofs.Granted.{all_passed, by_granted, granted_is_accepted, told_by}
-use Rattle.zq_machine.proofs.Learning.{is_news, order_heard}
-use Rattle.zq_machine.proofs.Lists.{all_append}
+use Rattle.zq_machine.proofs.DueHeard.{AlongTree, trees_due}
+use Rattle.zq_machine.proofs.Learning.{Says, is_news, order_heard}
+use Rattle.zq_machine.proofs.Lists.{all_append, all_weaker}
+use Rattle.zq_machine.proofs.NeighboursTold.{IsNear, neighbours, neighbours_near}
 use Rattle.zq_machine.proofs.NetworkTold.{entries_stay, made, network_true}
-use Rattle.zq_machine.proofs.OwnTold.{IsTrue, own_true, stands}
+use Rattle.zq_machine.proofs.OwnTold.{IsTrue, child_seat, news_parts, own_true, stands}
 use Rattle.zq_machine.proofs.RouterTold.{IsComplete, other_stands, other_stood, own_complete, router_complete, router_true}
+use Rattle.zq_machine.proofs.Telling.{none_any}
 use Rattle.zq_machine.proofs.Tells.{granted_heard}
 
 no_tree : (before after : Core) (t : TextCall) → of_routers t ≡ false → tree_told before after t ≡ []
@@ -95,6 +104,23 @@ child_of r face root hats e = by_hat (hat_at r hats) refl e
     by_hat : (o : Option HatState) → hat_at r hats ≡ o → option_map_or (is_child_in face root) o false ≡ true → Child r face root hats
     by_hat None its c = absurd (false≢true c)
     by_hat (Some h) its c = by_kind h its (strategy_at h) refl c
+
+-- the child's hat is the face's
+child_home : {config : Settings} (s : State) → InOrder config s → (r : Region) (face : ℕ) (root : Zid) (key : List ℕ) (b : Child r face root s.core.hats) → hat_of face s.core ≡ Some b.hat
+child_home s j r face root key b = by (at face s.core.faces) refl (sym (j.tied.seats r b.hat face b.its) ∙ child_seat face b.hat (children_of b.hat.network root) b.child)
+  where
+    by : (o : Option OpenFace) → at face s.core.faces ≡ o → option_map_or (stands_in r) o false ≡ true → option_and_then (λ (x : OpenFace). hat_at x.region s.core.hats) o ≡ Some b.hat
+    by None e on = absurd (false≢true on)
+    by (Some o) e on =
+        let there : (h : HatState) × (hat_at o.region s.core.hats ≡ Some h) = some_of (hat_at o.region s.core.hats) (j.tied.homes face o e) in
+        there.1
+        ∙ sym (region_there o.region s.core.hats there.0 there.1).1
+        ∙ ap (λ n. at n s.core.hats) (one_number (region_index o.region) (region_index r) (number_test (region_index o.region) (region_index r) ∙ on))
+        ∙ (region_there r s.core.hats b.hat b.its).1
+
+off : (b : Bool) → (b ≡ true → ⊥) → b ≡ false
+off true never = absurd (never refl)
+off false never = refl
 
 -- ---- a call at a point of a run
 module _ (config : Settings) (s : State) (i : InOrder config s) (same_config : s.core.config ≡ config) (r : Region) (face : ℕ) (root : Zid) (key : List ℕ) where
@@ -179,8 +205,13 @@ module _ (config : Settings) (s : State) (i : InOrder config s) (same_config : s
       ≡ stands config s i t fits j r face root key b.hat b.its b.node b.place b.child b.routes
   learned t known fits j b is =
       ap (λ o. fold (with_heard_of face o key) said (told_of s.core t)) (ap (option_and_then (λ (h : HatState). place_of h.network root)) b.its ∙ b.place)
-      ∙ order_heard face (Some b.node) key stands_after all said
+      ∙ order_heard face (Some b.node) key stands_after (all ++ near) said
+      (all_append (Says face (Some b.node) key stands_after) all near
+      (all_say all
       (all_append (IsTrue config s i t fits j r face root key b.hat b.its b.node b.place b.child b.routes) (tree_told s.core (accepted s.core t) t) own is.true_tree (own_true config s i t fits j r face root key b.hat b.its b.node b.place b.child b.routes))
+      (trees_due config s i t fits j))
+      (all_weaker (λ u. is_news face (Some b.node) key u ≡ false) (Says face (Some b.node) key stands_after) (λ u none. record { id = λ on. absurd (true≢false (sym on ∙ none)); info = λ on. absurd (true≢false (sym on ∙ none)) }) near far))
+      ∙ ap (λ x. cond x stands_after said) (list_any-append (is_news face (Some b.node) key) all near ∙ ap (λ x. list_any (is_news face (Some b.node) key) all || x) (none_any (is_news face (Some b.node) key) near far) ∙ or-false (list_any (is_news face (Some b.node) key) all))
       ∙ by (list_any (is_news face (Some b.node) key) all) refl
     where
       own : List TreeTelling
@@ -189,11 +220,31 @@ module _ (config : Settings) (s : State) (i : InOrder config s) (same_config : s
       all : List TreeTelling
       all = tree_told s.core (accepted s.core t) t ++ own
 
+      near : List TreeTelling
+      near = neighbours config s i t fits j
+
       said : Option QueryableInfoType
       said = fold (with_news key) known (said_for face root s.core t)
 
       stands_after : Option QueryableInfoType
       stands_after = stands config s i t fits j r face root key b.hat b.its b.node b.place b.child b.routes
+
+      all_say : (ts : List TreeTelling) → AllByRecursion (IsTrue config s i t fits j r face root key b.hat b.its b.node b.place b.child b.routes) ts → AllByRecursion (AlongTree (renamed s t)) ts → AllByRecursion (Says face (Some b.node) key stands_after) ts
+      all_say [] true_ones along = tt
+      all_say (u ∷ us) true_ones along = (record { id = λ on. along.0.id; info = true_ones.0 }, all_say us true_ones.1 along.1)
+
+      -- a router's face is told nothing as a neighbour
+      deaf : (u : TreeTelling) → IsNear (renamed s t) (accepted s.core t) s.core.interests u → is_news face (Some b.node) key u ≡ true → ⊥
+      deaf u is_near on =
+          let there : hat_of u.face.0 (accepted s.core t) ≡ Some b.hat = ap (λ n. hat_of n (accepted s.core t)) (news_parts face b.node key u on).0 ∙ child_home (accepted_state s t) j r face root key b in
+          false≢true
+          (sym (ap (λ (o : Option HatState). option_map_or (listens_in s.core.interests u.face.0 u.key) o false) there ∙ ap (λ k. listens_by k (is_north b.hat.region) (asks_for u.face.0 u.key s.core.interests)) b.routes)
+          ∙ is_near.listens)
+
+      far : AllByRecursion (λ u. is_news face (Some b.node) key u ≡ false) near
+      far =
+          all_weaker (IsNear (renamed s t) (accepted s.core t) s.core.interests) (λ u. is_news face (Some b.node) key u ≡ false)
+          (λ u is_near. off (is_news face (Some b.node) key u) (deaf u is_near)) near (neighbours_near config s i t fits j)
 
       by : (x : Bool) → list_any (is_news face (Some b.node) key) all ≡ x → cond x stands_after said ≡ stands_after
       by true e = refl

@@ -2,9 +2,6 @@
 use Rattle.std.proofs.Common.{◌≡◌, ◌∙◌, sym, refl, ap, ℕ, Bool, true, false, cond, not, List, [], ◌∷◌, ◌++◌, map, Option, Some, None}
 use Rattle.std.specs.List.{cons_option}
 use Rattle.std.specs.Option.{option_map}
-use Rattle.std.specs.Ordering.{nat_cmp}
-use Rattle.std.specs.BTreeMap.{is_at}
-use Rattle.std.specs.Map.{remove_entry}
 use Rattle.std.proofs.lemmas.List.{map-append}
 use Rattle.zq_key.proofs.Naturals.{map-map}
 use Rattle.zq_key.specs.Key.{is_key, is_chunk}
@@ -12,15 +9,11 @@ use Rattle.zq_message.specs.declared.message.FaceId.{FaceId}
 use Rattle.zq_message.specs.declared.message.Request.{Request}
 use Rattle.zq_message.specs.declared.message.Response.{Response}
 use Rattle.zq_offers.specs.declared.types.QueryTargetQabl.{QueryTargetQabl}
-use Rattle.zq_hat.specs.Kept.{registered, unregistered, without_face}
-use Rattle.zq_hat.specs.Marks.{finalized}
-use Rattle.zq_hat.specs.Moved.{Keeps, move_mark, move_offer}
-use Rattle.zq_hat.specs.Routers.{networked, noded}
+use Rattle.zq_hat.specs.Moved.{Keeps, move_offer}
 use Rattle.zq_query.specs.declared.records.Final.{Final}
 use Rattle.zq_query.specs.declared.records.ReplyTo.{ReplyTo}
 use Rattle.zq_query.specs.declared.records.Timeout.{Timeout}
-use Rattle.zq_query.specs.Asking.{after_ask}
-use Rattle.zq_query.specs.Closing.{after_close, closing_finals, finals_after, finals_landed}
+use Rattle.zq_query.specs.Closing.{closing_finals, finals_after, finals_landed}
 use Rattle.zq_query.specs.Polling.{timeouts}
 use Rattle.zq_query.specs.Records.{is_entry, is_pending, next_reply}
 use Rattle.zq_tables.specs.declared.said.Said.{Said}
@@ -28,17 +21,15 @@ use Rattle.zq_tables.specs.declared.said.Said.TheVariants as said
 use Rattle.zq_machine.specs.declared.call.Refusal.{Refusal}
 use Rattle.zq_machine.specs.Messages.{Decided, text_final}
 use Rattle.zq_machine.specs.declared.face.OpenFace.{OpenFace}
-use Rattle.zq_machine.specs.State.{Core, at, is_open, joined}
+use Rattle.zq_machine.specs.State.{Core, at, is_open}
 use Rattle.zq_machine.specs.Selecting.{select_for, select}
 use Rattle.zq_machine.specs.TextCalls.{TextCall, opening, closing, naming, unnaming, declaring, withdrawing, asking, replying, ending, reporting, passing, listing, finalizing, announcing, retracting, networking, tabling, unbuilt}
-use Rattle.zq_machine.specs.Trees.{due_told}
-use Rattle.zq_machine.specs.Deciding.{refusal_of, handed_request, handed_requests, handed_reply, timed_out, handed_timeouts, passing_finals, replied, granted, messages_of, outcome_of, told_of, answered, decide, is_accepted, deadline, with_queries, with_open, seat, accepted, announced_by, retracted_by}
-use Rattle.zq_machine.specs.Moved.{move_said, move_text, move_core, move_suffix, move_message, move_telling, move_decided, after_text, DecidesAlike}
-use Rattle.zq_machine.proofs.HatsMoved.{finalized_moved, registered_moved, unregistered_moved, left_moved, joined_moved, hat_changed, own_changed}
-use Rattle.zq_machine.proofs.RoutersMoved.{announced_moved, networked_moved, noded_moved, retracted_moved}
-use Rattle.zq_machine.proofs.DueMoved.{due_moved}
-use Rattle.zq_machine.proofs.SelectionMoved.{select_moved, targets_moved}
-use Rattle.zq_machine.proofs.CausesMoved.{refused_alike, second_holds, third_holds}
+use Rattle.zq_machine.specs.Deciding.{refusal_of, handed_request, handed_requests, handed_reply, timed_out, handed_timeouts, passing_finals, replied, granted, messages_of, outcome_of, answered, decide, is_accepted, accepted}
+use Rattle.zq_machine.specs.Moved.{move_said, move_text, move_core, move_suffix, move_message, move_decided, after_text, DecidesAlike}
+use Rattle.zq_machine.proofs.ChangedMoved.{accepted_moved, told_moved}
+use Rattle.zq_machine.proofs.SelectionMoved.{select_moved}
+use Rattle.zq_machine.proofs.CausesMoved.{refused_alike}
+use Rattle.zq_machine.proofs.Refused.{has_text, third_holds}
 
 -- ---- the empty text is no key: no request on it is handed on, and no reply on it is accepted
 nothing_selected : (c : Core) (face : FaceId) (t : Request) (o : Option OpenFace) → select_for c face (said.Full []) t o ≡ []
@@ -125,46 +116,9 @@ module _ (φ : List ℕ → List ℕ) where
     outcome_moved (opening o) = refl
     outcome_moved t = refl
 
-    -- ---- what an accepted call changes
-    pub accepted_moved : (t : TextCall) → refusal_of c t ≡ None → accepted (move_core φ c) (move_text φ t) ≡ move_core φ (accepted c t)
-    accepted_moved (opening o) e =
-        ap (λ l. record (move_core φ (with_open o c)) { hats = l }) (hat_changed φ c.hats o.region (joined (seat c.next_face o)) (joined (seat c.next_face o)) (joined_moved φ (seat c.next_face o)))
-    accepted_moved (closing face) e =
-        ap (λ (k : Core). record k { faces = remove_entry (is_at (nat_cmp face.0)) c.faces; queries = after_close face.0 c.queries })
-        (own_changed φ c (without_face face.0) (without_face face.0) (left_moved φ face.0) face.0)
-    accepted_moved (naming face id s standing) e = refl
-    accepted_moved (unnaming face id standing) e = refl
-    accepted_moved (declaring face id said.Unscoped info node) e = absurd (second_holds (not (is_open face.0 c)) _ _ e)
-    accepted_moved (declaring face id said.Empty info node) e = absurd (second_holds (not (is_open face.0 c)) _ _ e)
-    accepted_moved (declaring face id (said.Full text) info node) e =
-        own_changed φ c (registered face.0 id (φ text) node info) (registered face.0 id text node info) (registered_moved φ face.0 id text node info) face.0
-    accepted_moved (withdrawing face id) e = own_changed φ c (unregistered face.0 id) (unregistered face.0 id) (unregistered_moved φ face.0 id) face.0
-    accepted_moved (asking face s r now) e =
-        ap (λ fs. with_queries (move_core φ c) (after_ask face r.id r.qos fs (deadline c r.timeout now) c.queries)) (targets_moved φ keeps c face s r)
-    accepted_moved (replying face s r) e = refl
-    accepted_moved (ending face rid) e = refl
-    accepted_moved (reporting reply) e = refl
-    accepted_moved (passing now) e = refl
-    accepted_moved (listing r table) e = refl
-    accepted_moved (finalizing face m set) e = own_changed φ c (finalized face.0 (move_mark φ m) set) (finalized face.0 m set) (finalized_moved φ keeps face.0 m set) face.0
-    accepted_moved (announcing face said.Unscoped info node) e = absurd (second_holds (not (is_open face.0 c)) _ _ e)
-    accepted_moved (announcing face said.Empty info node) e = absurd (second_holds (not (is_open face.0 c)) _ _ e)
-    accepted_moved (announcing face (said.Full text) info node) e =
-        own_changed φ c (announced_by face.0 node (φ text) info) (announced_by face.0 node text info) (announced_moved φ keeps face.0 node text info) face.0
-    accepted_moved (retracting face said.Unscoped node) e = absurd (second_holds (not (is_open face.0 c)) _ _ e)
-    accepted_moved (retracting face said.Empty node) e = absurd (second_holds (not (is_open face.0 c)) _ _ e)
-    accepted_moved (retracting face (said.Full text) node) e =
-        own_changed φ c (retracted_by face.0 node (φ text)) (retracted_by face.0 node text) (retracted_moved φ keeps face.0 node text) face.0
-    accepted_moved (networking r net) e = ap (λ l. record (move_core φ c) { hats = l }) (hat_changed φ c.hats r (networked net) (networked net) (networked_moved φ net))
-    accepted_moved (tabling face ids) e = own_changed φ c (noded face.0 ids) (noded face.0 ids) (noded_moved φ face.0 ids) face.0
-    accepted_moved unbuilt e = refl
-
     -- ---- what it decides
-    told_moved : (t : TextCall) → refusal_of c t ≡ None → told_of (move_core φ c) (move_text φ t) ≡ map (move_telling φ) (told_of c t)
-    told_moved t e = ap (λ d. due_told (move_core φ c) d (move_text φ t)) (accepted_moved t e) ∙ due_moved φ keeps c (accepted c t) t e
-
     granted_moved : (t : TextCall) → refusal_of c t ≡ None → granted (move_core φ c) (move_text φ t) ≡ move_decided φ (granted c t)
-    granted_moved t e = λ j. record { outcome = outcome_moved t j; messages = messages_moved t e j; told = told_moved t e j }
+    granted_moved t e = λ j. record { outcome = outcome_moved t j; messages = messages_moved t e j; told = told_moved φ keeps c t (has_text c t e) j }
 
     answer_by : (t : TextCall) (o : Option Refusal) → refusal_of c t ≡ o → answered o (granted (move_core φ c) (move_text φ t)) ≡ move_decided φ (answered o (granted c t))
     answer_by t None e = granted_moved t e
@@ -174,7 +128,7 @@ module _ (φ : List ℕ → List ℕ) where
     answer_moved t = ap (λ o. answered o (granted (move_core φ c) (move_text φ t))) (refused_alike φ keeps c t) ∙ answer_by t (refusal_of c t) refl
 
     change_by : (t : TextCall) → refusal_of c t ≡ None → (b : Bool) → cond b (accepted (move_core φ c) (move_text φ t)) (move_core φ c) ≡ move_core φ (cond b (accepted c t) c)
-    change_by t e true = accepted_moved t e
+    change_by t e true = accepted_moved φ keeps c t (has_text c t e)
     change_by t e false = refl
 
     change_of : (t : TextCall) (o : Option Refusal) → refusal_of c t ≡ o

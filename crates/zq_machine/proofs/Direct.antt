@@ -29,8 +29,8 @@ use Rattle.zq_machine.specs.State.{Core, State}
 use Rattle.zq_machine.specs.TextCalls.{read}
 use Rattle.zq_machine.specs.Writing.{and_then, is_local_face, may_number, tell, tell_body, tell_declare, tell_number, told_key, write}
 use Rattle.zq_machine.proofs.Agreed.{InOrder, granted_in_order}
-use Rattle.zq_machine.proofs.DueHeard.{due_can}
 use Rattle.zq_machine.proofs.Granted.{by_granted, told_by}
+use Rattle.zq_machine.proofs.NeighboursTold.{due_can}
 use Rattle.zq_machine.proofs.Hearing.{Stands, all_open, found_there, known_stands, positive}
 use Rattle.zq_machine.proofs.Tells.{followed}
 

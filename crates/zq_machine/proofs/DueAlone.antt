@@ -1,6 +1,6 @@
 -- What does not enter what is due to a face: interests of other faces, what the face itself declared, and where it hears no fellows all that its region's faces declared; and to a face outside North that asks for nothing, nothing is due.
 use Rattle.std.proofs.Common.{◌≡◌, ◌∙◌, refl, sym, ap, ℕ, false, cond, eq-eqb, List, [], Option, Some, None, true≢false}
-use Rattle.std.specs.Prelude.{◌≢◌, ◌||◌}
+use Rattle.std.specs.Prelude.{◌≢◌}
 use Rattle.std.specs.List.{list_any}
 use Rattle.std.specs.Map.{set_value}
 use Rattle.std.specs.BTreeMap.{is_at}
@@ -23,7 +23,7 @@ use Rattle.zq_hat.specs.Kept.{change_face, face_at, info, region_info}
 use Rattle.zq_hat.specs.Regions.{is_north, strategy_at, strategy_of}
 use Rattle.zq_hat.specs.State.{FaceState, HatState}
 use Rattle.zq_machine.specs.declared.face.OpenFace.{OpenFace}
-use Rattle.zq_machine.specs.Due.{due, heard, heard_as, heard_by, is_unasked, listens_in, redeclared}
+use Rattle.zq_machine.specs.Due.{due, heard, heard_as, heard_by, listens_by, listens_in, redeclared}
 use Rattle.zq_interests.specs.Interests.{Interests, interests_of, wants}
 use Rattle.zq_machine.specs.State.{Core, at, change_hat, change_hat_of, face_region, hat_at, hat_of, put_hat}
 use Rattle.zq_machine.specs.Trees.{own_entry, with_other}
@@ -33,10 +33,10 @@ use Rattle.zq_machine.proofs.Folding.{fold_set}
 -- ---- interests of other faces
 pub interests_alone : (c : Core) (ints others : Interests) (face : ℕ) (key : List ℕ) → interests_of face ints ≡ interests_of face others → due c ints face key ≡ due c others face key
 interests_alone c ints others face key same =
-    ap (λ (es : List (ℕ × InterestEntry)). cond (option_map_or (λ (h : HatState). is_unasked (strategy_at h) (is_north h.region) || list_any (wants key) es) (hat_of face c) false) (heard c face key) None) same
+    ap (λ (es : List (ℕ × InterestEntry)). cond (option_map_or (λ (h : HatState). listens_by (strategy_at h) (is_north h.region) (list_any (wants key) es)) (hat_of face c) false) (heard c face key) None) same
 
 -- ---- a face outside North that asks for nothing
-quiet : (r : Region) (m : Mode) → is_north r ≡ false → is_unasked (strategy_of r m) (is_north r) ≡ false
+quiet : (r : Region) (m : Mode) → is_north r ≡ false → listens_by (strategy_of r m) (is_north r) false ≡ false
 quiet region.North m out = absurd (true≢false out)
 quiet region.Local m out = refl
 quiet (region.South id mode.Router) m out = refl
@@ -47,8 +47,8 @@ pub south_unasked : (c : Core) (ints : Interests) (face : ℕ) (key : List ℕ) 
 south_unasked c ints face key h here out none =
     ap (λ b. cond b (heard c face key) None)
     (ap (λ (o : Option HatState). option_map_or (listens_in ints face key) o false) here
-    ∙ ap (λ (es : List (ℕ × InterestEntry)). is_unasked (strategy_at h) (is_north h.region) || list_any (wants key) es) none
-    ∙ ap (λ b. b || false) (quiet h.region h.north_mode out))
+    ∙ ap (λ (es : List (ℕ × InterestEntry)). listens_by (strategy_at h) (is_north h.region) (list_any (wants key) es)) none
+    ∙ quiet h.region h.north_mode out)
 
 -- ---- a face of the own region is changed
 module _ (key : List ℕ) where

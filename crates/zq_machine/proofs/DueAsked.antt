@@ -16,9 +16,11 @@ use Rattle.std.proofs.lemmas.Slice.Eq.{bytes_eq-Decides}
 use Rattle.zq_message.specs.declared.message.QueryableInfoType.{QueryableInfoType}
 use Rattle.zq_key.proofs.Lookups.{found_after_insertion, found_after_write}
 use Rattle.zq_interests.specs.declared.types.InterestEntry.{InterestEntry}
+use Rattle.zq_hat.specs.declared.types.Strategy.{Strategy}
+use Rattle.zq_hat.specs.declared.types.Strategy.TheVariants as strategy
 use Rattle.zq_hat.specs.Regions.{is_north, strategy_at}
 use Rattle.zq_hat.specs.State.{HatState}
-use Rattle.zq_machine.specs.Due.{ask_touched, due, due_keys, heard, is_unasked, met_keys}
+use Rattle.zq_machine.specs.Due.{ask_touched, due, due_keys, heard, listens_by, met_keys}
 use Rattle.zq_interests.specs.Interests.{Interests, asks_for, interests_of, meets, wants, with_interest, without_interest}
 use Rattle.zq_machine.specs.State.{Core, at, hat_of}
 use Rattle.zq_machine.proofs.Changing.{one_number}
@@ -74,7 +76,7 @@ off_filter key p on (k ∷ ks) off = by (bytes_eq k key) refl (p k) refl off (of
 -- ---- what is due
 -- what is due to a face, by whether it asks for the key
 abbrev pub due_asking : Core → ℕ → List ℕ → Bool → Option QueryableInfoType
-due_asking c face key asked = cond (option_map_or (λ (h : HatState). is_unasked (strategy_at h) (is_north h.region) || asked) (hat_of face c) false) (heard c face key) None
+due_asking c face key asked = cond (option_map_or (λ (h : HatState). listens_by (strategy_at h) (is_north h.region) asked) (hat_of face c) false) (heard c face key) None
 
 -- a face's interests are others
 module _ (ints : Interests) (asker : ℕ) (more : List (ℕ × InterestEntry)) (face : ℕ) where
@@ -141,14 +143,17 @@ asks_stay c ints asker id asked same face key off = by (is_at (nat_cmp asker) fa
     by false is = interests_alone c (with_interest asker id asked ints) ints face key (found ∙ ap (listed ints asker (with_one asker id asked ints) face) is)
 
 -- what is due without asking for the key is due all the more to who asks for it
-asked_more : (x : Option HatState) (i : Option QueryableInfoType) → is_some (cond (option_map_or (λ (h : HatState). is_unasked (strategy_at h) (is_north h.region) || false) x false) i None) ≡ true
-    → cond (option_map_or (λ (h : HatState). is_unasked (strategy_at h) (is_north h.region) || false) x false) i None ≡ cond (option_map_or (λ (h : HatState). is_unasked (strategy_at h) (is_north h.region) || true) x false) i None
+asked_more : (x : Option HatState) (i : Option QueryableInfoType) → is_some (cond (option_map_or (λ (h : HatState). listens_by (strategy_at h) (is_north h.region) false) x false) i None) ≡ true
+    → cond (option_map_or (λ (h : HatState). listens_by (strategy_at h) (is_north h.region) false) x false) i None ≡ cond (option_map_or (λ (h : HatState). listens_by (strategy_at h) (is_north h.region) true) x false) i None
 asked_more None i some = absurd (false≢true some)
-asked_more (Some h) i some = by (is_unasked (strategy_at h) (is_north h.region)) some
+asked_more (Some h) i some = by (strategy_at h) (is_north h.region) some
   where
-    by : (b : Bool) → is_some (cond (b || false) i None) ≡ true → cond (b || false) i None ≡ cond (b || true) i None
-    by true s = refl
-    by false s = absurd (false≢true s)
+    by : (k : Strategy) (north : Bool) → is_some (cond (listens_by k north false) i None) ≡ true → cond (listens_by k north false) i None ≡ cond (listens_by k north true) i None
+    by strategy.Broker north s = absurd (false≢true s)
+    by strategy.Client north s = refl
+    by strategy.Peer true s = refl
+    by strategy.Peer false s = absurd (false≢true s)
+    by strategy.Router north s = refl
 
 pub asked_less : (c : Core) (face : ℕ) (key : List ℕ) (now was : Bool) → (now ≡ true → was ≡ true) → is_some (due_asking c face key now) ≡ true → due_asking c face key now ≡ due_asking c face key was
 asked_less c face key true was less some = ap (due_asking c face key) (sym (less refl))

@@ -1,4 +1,4 @@
--- What faces are due to be told can be told: the faces are open, and no key is an empty text. So it is what they hear.
+-- What faces are told along trees can be told: the faces are open, and no key is an empty text.
 use Rattle.std.proofs.Common.{◌≡◌, ◌∙◌, refl, ap, subst, ℕ, Bool, true, false, cond, List, [], ◌∷◌, ◌++◌, map, filter, fold, Option, Some, None}
 use Rattle.std.specs.Prelude.{◌==◌, find}
 use Rattle.std.specs.BTreeMap.{is_at}
@@ -20,7 +20,7 @@ use Rattle.zq_trees.specs.declared.types.Telling.{Telling as TreeTelling}
 use Rattle.zq_trees.specs.declared.types.Tree.{Tree}
 use Rattle.zq_trees.specs.Nets.{child_ids, children_of, fresh_ids, is_zid, place_of}
 use Rattle.zq_trees.specs.Seating.{faces_by, is_other}
-use Rattle.zq_trees.specs.Tellings.{all_told_of, in_order, same_infos, telling_cmp, tree_telling}
+use Rattle.zq_trees.specs.Tellings.{all_told_of, same_infos, telling_cmp, tree_telling}
 use Rattle.zq_index.specs.Texts.{text_cmp}
 use Rattle.zq_hat.specs.declared.types.Declaration.{Declaration}
 use Rattle.zq_hat.specs.declared.types.Strategy.{Strategy}
@@ -40,14 +40,13 @@ use Rattle.zq_machine.specs.Machine.{accepted_state}
 use Rattle.zq_machine.specs.Selecting.{full_text}
 use Rattle.zq_machine.specs.State.{Core, State, at, hat_at, hat_of}
 use Rattle.zq_machine.specs.TextCalls.{TextCall, closing, declaring, withdrawing, announcing, retracting, networking}
-use Rattle.zq_machine.specs.Trees.{all_own_told, due_told, keyed_own, networked_told, own_entries, own_entry, own_keys, own_told_in, own_told_on, placed_told, router_told, source_told, touched, tree_told, with_other_keys}
+use Rattle.zq_machine.specs.Trees.{all_own_told, keyed_own, networked_told, own_entries, own_entry, own_keys, own_told_in, own_told_on, placed_told, router_told, source_told, touched, tree_told, with_other_keys}
 use Rattle.zq_machine.specs.Handing.{Handed}
-use Rattle.zq_machine.specs.Messages.{TextMessage, from_hat, told_or_ended, text_final, text_reply, text_request}
-use Rattle.zq_machine.specs.Writing.{tell, write}
+use Rattle.zq_machine.specs.Messages.{TextMessage, from_hat, key_ended, told_or_ended, text_final, text_reply, text_request}
+use Rattle.zq_machine.specs.Writing.{write}
 use Rattle.zq_machine.proofs.Agreed.{InOrder}
 use Rattle.zq_machine.proofs.Changing.{itself, region_there}
 use Rattle.zq_machine.proofs.Granted.{all_passed}
-use Rattle.zq_machine.proofs.Hearing.{told_heard}
 use Rattle.zq_machine.proofs.Lists.{all_append, all_filter, all_mapped, all_weaker}
 use Rattle.zq_machine.proofs.Targets.{all_hats_open}
 use Rattle.zq_machine.proofs.Worded.{Any, Each, IsKey, IsUsed, IsWorded, WordedFace, each_found, key_text, said_key}
@@ -67,10 +66,10 @@ pub all_ordered : (P : TreeTelling → Type 0) (ts us : List TreeTelling) → Al
 all_ordered P ts [] all more = all
 all_ordered P ts (u ∷ us) all more = all_ordered P (insert_key telling_cmp ts u) us (all_put P telling_cmp ts u all more.0) more.1
 
-abbrev AreTexts : List (List ℕ) → Type 0
+abbrev pub AreTexts : List (List ℕ) → Type 0
 AreTexts ks = AllByRecursion IsKey ks
 
-texts_put : (ks more : List (List ℕ)) → AreTexts ks → AreTexts more → AreTexts (fold (insert_key text_cmp) ks more)
+pub texts_put : (ks more : List (List ℕ)) → AreTexts ks → AreTexts more → AreTexts (fold (insert_key text_cmp) ks more)
 texts_put ks [] all rest = all
 texts_put ks (k ∷ more) all rest = texts_put (insert_key text_cmp ks k) more (all_put IsKey text_cmp ks k all rest.0) rest.1
 
@@ -86,7 +85,7 @@ entry_texts : (es : List (List ℕ × List (ℕ × QueryableInfoType))) → Each
 entry_texts [] w = tt
 entry_texts (e ∷ es) w = (w.0.0, entry_texts es w.1)
 
-region_texts : (h : HatState) → IsWorded h → AreTexts (region_keys h)
+pub region_texts : (h : HatState) → IsWorded h → AreTexts (region_keys h)
 region_texts h w = by (strategy_at h)
   where
     by : (k : Strategy) → AreTexts (in_routers k (keys_of h.entries) (declared_keys h.faces))
@@ -168,18 +167,23 @@ module _ (P : ℕ → Type 0) (h : HatState) (each : (n : ℕ) → has_face n h 
 
 -- ---- what can be told
 module _ (names : NamingState) where
-  abbrev IsOpen : ℕ → Type 0
+  abbrev pub IsOpen : ℕ → Type 0
   IsOpen n = is_some (naming_at n names) ≡ true
 
   -- the hat's faces are open
   abbrev pub Seats : HatState → Type 0
   Seats h = (n : ℕ) → has_face n h ≡ true → IsOpen n
 
-  abbrev Can : TreeTelling → Type 0
+  abbrev pub Can : TreeTelling → Type 0
   Can t = IsOpen t.face.0 × IsKey t.key
 
+  -- it can be told, and along trees the id is 0
+  pub record AlongTree (t : TreeTelling) : Type 0 where
+    pub can : Can t
+    pub id : t.id ≡ 0
+
   abbrev AllCan : List TreeTelling → Type 0
-  AllCan ts = AllByRecursion Can ts
+  AllCan ts = AllByRecursion AlongTree ts
 
   children_can : (from : Option ℕ) (root : Zid) (key : List ℕ) (i : Option QueryableInfoType) (h : HatState) → Seats h → IsKey key → AllCan (to_children from root key i h)
   children_can from root key i h seats some = by (place_of h.network root)
@@ -189,7 +193,7 @@ module _ (names : NamingState) where
 
       by : (o : Option ℕ) → AllCan (option_map_or (λ node. map (tree_telling key i node) ns) o [])
       by None = tt
-      by (Some node) = all_mapped Can (tree_telling key i node) ns (all_weaker IsOpen (λ n. Can (tree_telling key i node n)) (λ n there. (there, some)) ns (faces_each IsOpen h seats from (children_of h.network root)))
+      by (Some node) = all_mapped AlongTree (tree_telling key i node) ns (all_weaker IsOpen (λ n. AlongTree (tree_telling key i node n)) (λ n there. record { can = (there, some); id = refl }) ns (faces_each IsOpen h seats from (children_of h.network root)))
 
   own_can : (key : List ℕ) (was is : Option QueryableInfoType) (h : HatState) → Seats h → IsKey key → AllCan (own_told key was is h)
   own_can key was is h seats some = by (same_infos was is)
@@ -200,11 +204,11 @@ module _ (names : NamingState) where
 
   each_told : (es : List (List ℕ × QueryableInfoType)) (node n : ℕ) → IsOpen n → AreKeyed es → AllCan (all_told_of es node n)
   each_told [] node n there keyed = tt
-  each_told (e ∷ es) node n there keyed = ((there, keyed.0), each_told es node n there keyed.1)
+  each_told (e ∷ es) node n there keyed = (record { can = (there, keyed.0); id = refl }, each_told es node n there keyed.1)
 
   faces_told : (es : List (List ℕ × QueryableInfoType)) (node : ℕ) (ns : List ℕ) → AllByRecursion IsOpen ns → AreKeyed es → AllCan (flat_map (all_told_of es node) ns)
   faces_told es node [] all keyed = tt
-  faces_told es node (n ∷ ns) all keyed = all_append Can (all_told_of es node n) (flat_map (all_told_of es node) ns) (each_told es node n all.0 keyed) (faces_told es node ns all.1 keyed)
+  faces_told es node (n ∷ ns) all keyed = all_append AlongTree (all_told_of es node n) (flat_map (all_told_of es node) ns) (each_told es node n all.0 keyed) (faces_told es node ns all.1 keyed)
 
   root_can : (own : List (List ℕ × QueryableInfoType)) (old : Network) (h : HatState) (root : Zid) (tree : Tree) → AreKeyed own → IsWorded h → Seats h → AllCan (root_told own old h root tree)
   root_can own old h root tree keyed w seats = by (place_of h.network root)
@@ -219,7 +223,7 @@ module _ (names : NamingState) where
   trees_can : (own : List (List ℕ × QueryableInfoType)) (old : Network) (h : HatState) → AreKeyed own → IsWorded h → Seats h → (zs : List Zid) (ts : List Tree) → AllCan (trees_told own old h zs ts)
   trees_can own old h keyed w seats [] ts = tt
   trees_can own old h keyed w seats (z ∷ zs) [] = tt
-  trees_can own old h keyed w seats (z ∷ zs) (t ∷ ts) = all_append Can (root_told own old h z t) (trees_told own old h zs ts) (root_can own old h z t keyed w seats) (trees_can own old h keyed w seats zs ts)
+  trees_can own old h keyed w seats (z ∷ zs) (t ∷ ts) = all_append AlongTree (root_told own old h z t) (trees_told own old h zs ts) (root_can own old h z t keyed w seats) (trees_can own old h keyed w seats zs ts)
 
   placed_can : (own : List (List ℕ × QueryableInfoType)) (old h : HatState) → AreKeyed own → IsWorded h → Seats h → AllCan (placed_told own old h)
   placed_can own old h keyed w seats = by (strategy_at h)
@@ -242,18 +246,22 @@ module _ (names : NamingState) where
   own_hats_can : (before after : List (ℕ × HatState)) (key : List ℕ) (hats : List (ℕ × HatState)) → IsKey key → AllByRecursion (λ (e : ℕ × HatState). Seats e.1) hats → AllCan (flat_map (own_told_in before after key) hats)
   own_hats_can before after key [] some seats = tt
   own_hats_can before after key (h ∷ hats) some seats =
-      all_append Can (own_told_in before after key h) (flat_map (own_told_in before after key) hats) (own_in_can before after key h some seats.0) (own_hats_can before after key hats some seats.1)
+      all_append AlongTree (own_told_in before after key h) (flat_map (own_told_in before after key) hats) (own_in_can before after key h some seats.0) (own_hats_can before after key hats some seats.1)
 
   own_all_can : (before after : List (ℕ × HatState)) (keys : List (List ℕ)) → AreTexts keys → AllByRecursion (λ (e : ℕ × HatState). Seats e.1) after → AllCan (all_own_told before after keys)
   own_all_can before after [] some seats = tt
   own_all_can before after (k ∷ ks) some seats =
-      all_append Can (own_told_on before after k) (all_own_told before after ks) (own_hats_can before after k after some.0 seats) (own_all_can before after ks some.1 seats)
+      all_append AlongTree (own_told_on before after k) (all_own_told before after ks) (own_hats_can before after k after some.0 seats) (own_all_can before after ks some.1 seats)
 
   body_can : (id : ℕ) (key : List ℕ) (i : Option QueryableInfoType) → IsKey key → tells_text (told_or_ended id key i) ≡ true
-  body_can id key None some = key_text key some
+  body_can id key None some = by (id == 0)
+    where
+      by : (b : Bool) → tells_text (key_ended id (cond b (Some key) None)) ≡ true
+      by true = key_text key some
+      by false = refl
   body_can id key (Some i) some = key_text key some
 
-  from_can : (ts : List TreeTelling) → AllCan ts → AllByRecursion (CanBeTold names) (map from_hat ts)
+  pub from_can : (ts : List TreeTelling) → AllByRecursion Can ts → AllByRecursion (CanBeTold names) (map from_hat ts)
   from_can [] all = tt
   from_can (t ∷ ts) all = ((all.0.0, body_can t.id t.key t.info all.0.1), from_can ts all.1)
 
@@ -273,7 +281,7 @@ module _ (c : Core) (w : Each Any IsWorded c.hats) where
       by None e = absurd (let gap : None ≡ Some h = e in cc)
       by (Some x) e = worded_at x.region h e
 
-  touched_texts : (t : TextCall) → refusal_of c t ≡ None → AreTexts (touched c t)
+  pub touched_texts : (t : TextCall) → refusal_of c t ≡ None → AreTexts (touched c t)
   touched_texts (closing face) h = by (hat_of face.0 c) refl
     where
       by_face : (x : HatState) → IsWorded x → (o : Option FaceState) → face_at face.0 x ≡ o → AreTexts (option_map_or (λ (f : FaceState). map key_of f.declared) o [])
@@ -364,24 +372,11 @@ module _ (config : Settings) where
     abbrev pub due_trees : TextCall → List TreeTelling
     due_trees t = tree_told s.core (accepted s.core t) t ++ all_own_told s.core.hats (accepted s.core t).hats (touched s.core t)
 
-    trees_due : (t : TextCall) → refusal_of s.core t ≡ None → InOrder config (accepted_state s t) → AllCan (renamed s t) (due_trees t)
+    pub trees_due : (t : TextCall) → refusal_of s.core t ≡ None → InOrder config (accepted_state s t) → AllCan (renamed s t) (due_trees t)
     trees_due t h j =
         let tree = tree_told s.core (accepted s.core t) t in
         let own = all_own_told s.core.hats (accepted s.core t).hats (touched s.core t) in
-        all_append (Can (renamed s t)) tree own (tree_can t h j) (own_all_can (renamed s t) s.core.hats (accepted s.core t).hats (touched s.core t) (touched_texts s.core i.worded t h) (hat_seats (accepted_state s t) j))
-
-    -- it is told of keys
-    pub due_keys : (t : TextCall) → refusal_of s.core t ≡ None → InOrder config (accepted_state s t) → AllByRecursion (λ (u : TreeTelling). IsKey u.key) (due_trees t)
-    due_keys t h j = all_weaker (Can (renamed s t)) (λ (u : TreeTelling). IsKey u.key) (λ u can. can.1) (due_trees t) (trees_due t h j)
-
-    -- what is due by an accepted call can be told
-    pub due_can : (t : TextCall) → refusal_of s.core t ≡ None → InOrder config (accepted_state s t) → AllByRecursion (CanBeTold (renamed s t)) (due_told s.core (accepted s.core t) t)
-    due_can t h j = from_can (renamed s t) (in_order (due_trees t)) (all_ordered (Can (renamed s t)) [] (due_trees t) tt (trees_due t h j))
-
-    -- and once it is told it is what faces hear
-    pub due_heard : (t : TextCall) → refusal_of s.core t ≡ None → InOrder config (accepted_state s t)
-        → hear (tell (accepted s.core t) (due_told s.core (accepted s.core t) t) (renamed s t)).handed (renamed s t) ≡ due_told s.core (accepted s.core t) t
-    due_heard t h j = told_heard (accepted s.core t) (due_told s.core (accepted s.core t) t) (renamed s t) (due_can t h j)
+        all_append (AlongTree (renamed s t)) tree own (tree_can t h j) (own_all_can (renamed s t) s.core.hats (accepted s.core t).hats (touched s.core t) (touched_texts s.core i.worded t h) (hat_seats (accepted_state s t) j))
 
 -- messages of requests say nothing that is told
 pub written_unheard : (names : NamingState) (ms : List TextMessage) (rest : List Handed) (z : NamingState) → hear (write names ms ++ rest) z ≡ hear rest z

@@ -1,5 +1,5 @@
 -- What faces are due to be told along trees moves with its texts.
-use Rattle.std.proofs.Common.{◌≡◌, ◌∙◌, refl, sym, ap, ℕ, Bool, true, false, cond, not, List, [], ◌∷◌, ◌++◌, map, filter, fold, Option, Some, None}
+use Rattle.std.proofs.Common.{◌≡◌, ◌∙◌, refl, sym, ap, ℕ, Bool, true, false, cond, List, [], ◌∷◌, ◌++◌, map, filter, fold, Option, Some, None}
 use Rattle.std.specs.Prelude.{◌==◌}
 use Rattle.std.specs.BTreeSet.{insert_key}
 use Rattle.std.specs.List.{cons_option, filter_map, flat_map}
@@ -36,13 +36,12 @@ use Rattle.zq_hat.specs.Trees.{network_told, own_told, region_keys, root_told, s
 use Rattle.zq_hat.proofs.OffersMoved.{key_moved}
 use Rattle.zq_hat.proofs.RoutersMoved.{joined_lists, routers_info_moved, seat_moved}
 use Rattle.zq_tables.specs.declared.said.Said.TheVariants as said
-use Rattle.zq_machine.specs.Deciding.{refusal_of}
 use Rattle.zq_machine.specs.Moved.{move_core, move_region, move_telling, move_text, move_told}
-use Rattle.zq_machine.specs.State.{Core, hat_at, hat_of, is_open}
+use Rattle.zq_machine.specs.State.{Core, hat_at, hat_of}
 use Rattle.zq_machine.specs.TextCalls.{TextCall, closing, declaring, withdrawing, announcing, retracting, networking}
-use Rattle.zq_machine.specs.Messages.{from_hat, told_or_ended}
-use Rattle.zq_machine.specs.Trees.{all_own_told, due_told, keyed_own, networked_told, own_entries, own_entry, own_keys, own_told_in, own_told_on, placed_told, router_told, source_told, touched, tree_told, with_other, with_other_keys, withdrawn_key}
-use Rattle.zq_machine.proofs.CausesMoved.{second_holds}
+use Rattle.zq_machine.specs.Messages.{TellingBody, from_hat, key_ended, told_or_ended}
+use Rattle.zq_machine.specs.Trees.{all_own_told, keyed_own, networked_told, own_entries, own_entry, own_keys, own_told_in, own_told_on, placed_told, router_told, source_told, touched, tree_told, with_other, with_other_keys, withdrawn_key}
+use Rattle.zq_machine.proofs.Refused.{HasText}
 use Rattle.zq_machine.proofs.HatsMoved.{declaration_found, face_found, hat_found, moved_declaration, moved_face, own_found}
 use Rattle.zq_machine.proofs.RoutersMoved.{source_moved}
 
@@ -58,7 +57,7 @@ module _ {X Y Z W : Type 0} (g : X → Y) (k : Z → W) (f : Y → Option W) (h 
 
 module _ (φ : List ℕ → List ℕ) (keeps : Keeps φ) where
   -- a telling along a tree with its key moved
-  abbrev move_tree : TreeTelling → TreeTelling
+  abbrev pub move_tree : TreeTelling → TreeTelling
   move_tree t = record t { key = φ t.key }
 
   abbrev move_hats : List (ℕ × HatState) → List (ℕ × HatState)
@@ -81,14 +80,18 @@ module _ (φ : List ℕ → List ℕ) (keeps : Keeps φ) where
       (move_tree t ∷ move_tree x ∷ map move_tree xs) (move_tree x ∷ map move_tree xs) (move_tree x ∷ insert_key telling_cmp (map move_tree xs) (move_tree t))) (keeps.order t.key x.key)
       ∙ order_by t x xs (telling_cmp t x) (put_moved xs t)
 
-  ordered_moved : (ts : List TreeTelling) → in_order (map move_tree ts) ≡ map move_tree (in_order ts)
+  pub ordered_moved : (ts : List TreeTelling) → in_order (map move_tree ts) ≡ map move_tree (in_order ts)
   ordered_moved ts = fold-moved move_tree (map move_tree) (insert_key telling_cmp) (insert_key telling_cmp) put_moved [] ts
 
+  ending_moved : (id : ℕ) (key : List ℕ) (b : Bool) → ◌≡◌ {A = TellingBody} (key_ended id (cond b (Some (φ key)) None)) (move_told φ (key_ended id (cond b (Some key) None)))
+  ending_moved id key true = refl
+  ending_moved id key false = refl
+
   body_moved : (id : ℕ) (key : List ℕ) (i : Option QueryableInfoType) → told_or_ended id (φ key) i ≡ move_told φ (told_or_ended id key i)
-  body_moved id key None = refl
+  body_moved id key None = ending_moved id key (id == 0)
   body_moved id key (Some i) = refl
 
-  from_moved : (ts : List TreeTelling) → map from_hat (map move_tree ts) ≡ map (move_telling φ) (map from_hat ts)
+  pub from_moved : (ts : List TreeTelling) → map from_hat (map move_tree ts) ≡ map (move_telling φ) (map from_hat ts)
   from_moved ts =
       map-map move_tree from_hat (λ t. move_telling φ (from_hat t)) (λ t. ap (λ b. record (from_hat t) { body = b }) (body_moved t.id t.key t.info)) ts
       ∙ sym (map-map from_hat (move_telling φ) (λ t. move_telling φ (from_hat t)) (λ t. refl) ts)
@@ -297,36 +300,34 @@ module _ (φ : List ℕ → List ℕ) (keeps : Keeps φ) where
         by None = refl
         by (Some h) = losing_moved net h.entries
 
-    pub touched_moved : (t : TextCall) → refusal_of c t ≡ None → touched (move_core φ c) (move_text φ t) ≡ map φ (touched c t)
+    pub touched_moved : (t : TextCall) → HasText t → touched (move_core φ c) (move_text φ t) ≡ map φ (touched c t)
     touched_moved (closing face) e = closed_keys face
-    touched_moved (declaring face id said.Unscoped info node) e = absurd (second_holds (not (is_open face.0 c)) _ _ e)
-    touched_moved (declaring face id said.Empty info node) e = absurd (second_holds (not (is_open face.0 c)) _ _ e)
+    touched_moved (declaring face id said.Unscoped info node) e = absurd e
+    touched_moved (declaring face id said.Empty info node) e = absurd e
     touched_moved (declaring face id (said.Full text) info node) e = refl
     touched_moved (withdrawing face id) e = withdrawn_keys face id
-    touched_moved (announcing face said.Unscoped info node) e = absurd (second_holds (not (is_open face.0 c)) _ _ e)
-    touched_moved (announcing face said.Empty info node) e = absurd (second_holds (not (is_open face.0 c)) _ _ e)
+    touched_moved (announcing face said.Unscoped info node) e = absurd e
+    touched_moved (announcing face said.Empty info node) e = absurd e
     touched_moved (announcing face (said.Full text) info node) e = refl
-    touched_moved (retracting face said.Unscoped node) e = absurd (second_holds (not (is_open face.0 c)) _ _ e)
-    touched_moved (retracting face said.Empty node) e = absurd (second_holds (not (is_open face.0 c)) _ _ e)
+    touched_moved (retracting face said.Unscoped node) e = absurd e
+    touched_moved (retracting face said.Empty node) e = absurd e
     touched_moved (retracting face (said.Full text) node) e = refl
     touched_moved (networking r net) e = lost_keys r net
     touched_moved t e = refl
 
-    tree_moved : (d : Core) (t : TextCall) → refusal_of c t ≡ None → tree_told (move_core φ c) (move_core φ d) (move_text φ t) ≡ map move_tree (tree_told c d t)
-    tree_moved d (announcing face said.Unscoped info node) e = absurd (second_holds (not (is_open face.0 c)) _ _ e)
-    tree_moved d (announcing face said.Empty info node) e = absurd (second_holds (not (is_open face.0 c)) _ _ e)
+    tree_moved : (d : Core) (t : TextCall) → HasText t → tree_told (move_core φ c) (move_core φ d) (move_text φ t) ≡ map move_tree (tree_told c d t)
+    tree_moved d (announcing face said.Unscoped info node) e = absurd e
+    tree_moved d (announcing face said.Empty info node) e = absurd e
     tree_moved d (announcing face (said.Full text) info node) e = router_told_moved face node text (Some info) c
-    tree_moved d (retracting face said.Unscoped node) e = absurd (second_holds (not (is_open face.0 c)) _ _ e)
-    tree_moved d (retracting face said.Empty node) e = absurd (second_holds (not (is_open face.0 c)) _ _ e)
+    tree_moved d (retracting face said.Unscoped node) e = absurd e
+    tree_moved d (retracting face said.Empty node) e = absurd e
     tree_moved d (retracting face (said.Full text) node) e = router_told_moved face node text None c
     tree_moved d (networking r net) e = networked_told_moved r c.hats d.hats
     tree_moved d t e = refl
 
-    -- what is due by a call that nothing refuses
-    pub due_moved : (d : Core) (t : TextCall) → refusal_of c t ≡ None → due_told (move_core φ c) (move_core φ d) (move_text φ t) ≡ map (move_telling φ) (due_told c d t)
-    due_moved d t e =
-        ap (λ l. map from_hat (in_order l))
-        ((λ j. tree_moved d t e j ++ (ap (all_own_told (move_hats c.hats) (move_hats d.hats)) (touched_moved t e) ∙ own_all_moved c.hats d.hats (touched c t)) j)
-        ∙ sym (map-append move_tree (tree_told c d t) (all_own_told c.hats d.hats (touched c t))))
-        ∙ ap (map from_hat) (ordered_moved (tree_told c d t ++ all_own_told c.hats d.hats (touched c t)))
-        ∙ from_moved (in_order (tree_told c d t ++ all_own_told c.hats d.hats (touched c t)))
+    -- all that is told along trees
+    pub all_trees_moved : (d : Core) (t : TextCall) → HasText t
+        → tree_told (move_core φ c) (move_core φ d) (move_text φ t) ++ all_own_told (move_hats c.hats) (move_hats d.hats) (touched (move_core φ c) (move_text φ t)) ≡ map move_tree (tree_told c d t ++ all_own_told c.hats d.hats (touched c t))
+    all_trees_moved d t e =
+        (λ j. tree_moved d t e j ++ (ap (all_own_told (move_hats c.hats) (move_hats d.hats)) (touched_moved t e) ∙ own_all_moved c.hats d.hats (touched c t)) j)
+        ∙ sym (map-append move_tree (tree_told c d t) (all_own_told c.hats d.hats (touched c t)))

@@ -31,7 +31,7 @@ use Rattle.zq_machine.specs.declared.call.Call.{Call}
 use Rattle.zq_machine.specs.declared.face.OpenFace.{OpenFace}
 use Rattle.zq_machine.specs.Configs.{Settings}
 use Rattle.zq_machine.specs.Machine.{state_after}
-use Rattle.zq_machine.specs.Due.{due, heard, heard_as, heard_by, heard_in, is_unasked, listens, listens_in}
+use Rattle.zq_machine.specs.Due.{due, heard, heard_as, heard_by, heard_in, listens, listens_by, listens_in}
 use Rattle.zq_interests.specs.Interests.{Interests, asks_for, interests_of, wants}
 use Rattle.zq_machine.specs.State.{Core, at, hat_at, hat_of, is_routing, opening_state}
 use Rattle.zq_machine.specs.Trees.{own_entry}
@@ -212,16 +212,22 @@ module _ (c : Core) (ints : Interests) (face : ℕ) (key : List ℕ) (h : HatSta
       by false found more = or_right (wants key e) (list_any (wants key) es) (more found)
 
   -- a face listens that has an interest without a key, or with one that meets the key
-  pub asking_listens : (id : ℕ) (asked : InterestEntry) → at id (interests_of face ints) ≡ Some asked → option_map_or (λ k. intersects k key) asked.key true ≡ true → listens c ints face key ≡ true
-  asking_listens id asked there on = listening (or_right (is_unasked (strategy_at h) (is_north h.region)) (asks_for face key ints) (any_at id asked on (interests_of face ints) there))
+  pub asking_listens : is_routing h ≡ false → (id : ℕ) (asked : InterestEntry) → at id (interests_of face ints) ≡ Some asked → option_map_or (λ k. intersects k key) asked.key true ≡ true → listens c ints face key ≡ true
+  asking_listens routed id asked there on = listening (by (strategy_at h) (is_north h.region) (asks_for face key ints) routed (any_at id asked on (interests_of face ints) there))
+    where
+      by : (k : Strategy) (north asks : Bool) → in_routers k true false ≡ false → asks ≡ true → listens_by k north asks ≡ true
+      by strategy.Broker north asks r e = e
+      by strategy.Client north asks r e = refl
+      by strategy.Peer north asks r e = or_right north asks e
+      by strategy.Router north asks r e = absurd (true≢false r)
 
-  unasked : (r : Region) (m : Mode) → is_north r ≡ true → in_routers (strategy_of r m) true false ≡ false → is_unasked (strategy_of r m) (is_north r) ≡ true
-  unasked region.North mode.Router n routed = absurd (true≢false routed)
-  unasked region.North mode.Peer n routed = refl
-  unasked region.North mode.Client n routed = refl
-  unasked region.Local m n routed = absurd (false≢true n)
-  unasked (region.South id k) m n routed = absurd (false≢true n)
+  unasked : (r : Region) (m : Mode) (asks : Bool) → is_north r ≡ true → in_routers (strategy_of r m) true false ≡ false → listens_by (strategy_of r m) (is_north r) asks ≡ true
+  unasked region.North mode.Router asks n routed = absurd (true≢false routed)
+  unasked region.North mode.Peer asks n routed = refl
+  unasked region.North mode.Client asks n routed = refl
+  unasked region.Local m asks n routed = absurd (false≢true n)
+  unasked (region.South id k) m asks n routed = absurd (false≢true n)
 
   -- and each in North that is no router's
   pub north_listens : is_north h.region ≡ true → is_routing h ≡ false → listens c ints face key ≡ true
-  north_listens north routed = listening (ap (λ b. b || asks_for face key ints) (unasked h.region h.north_mode north routed))
+  north_listens north routed = listening (unasked h.region h.north_mode (asks_for face key ints) north routed)

@@ -1,6 +1,6 @@
 -- A call changes what is due to a face on no key but those that it touches at the face; and of those that are due to a new face it misses none.
 use Rattle.std.proofs.Common.{◌≡◌, ◌∙◌, refl, sym, ap, ℕ, Bool, true, false, cond, eq-eqb, List, [], map, fold, Option, Some, None}
-use Rattle.std.specs.Prelude.{◌==◌, ◌||◌}
+use Rattle.std.specs.Prelude.{◌==◌}
 use Rattle.std.specs.BTreeMap.{is_at}
 use Rattle.std.specs.BTreeSet.{insert_key}
 use Rattle.std.specs.List.{list_any}
@@ -38,7 +38,7 @@ use Rattle.zq_machine.specs.declared.call.Opening.{Opening}
 use Rattle.zq_machine.specs.declared.face.OpenFace.{OpenFace}
 use Rattle.zq_machine.specs.Configs.{Settings}
 use Rattle.zq_machine.specs.Deciding.{accepted, announced_by, causes, opened, refusal_of, retracted_by, seat}
-use Rattle.zq_machine.specs.Due.{due, due_keys, heard_as, heard_by, heard_in, is_due_touched, is_unasked, listens_in}
+use Rattle.zq_machine.specs.Due.{due, due_keys, heard_as, heard_by, heard_in, is_due_touched, listens_by, listens_in}
 use Rattle.zq_interests.specs.Interests.{Interests, asks_for}
 use Rattle.zq_machine.specs.Machine.{after, state_after}
 use Rattle.zq_machine.specs.Selecting.{full_text}
@@ -69,7 +69,7 @@ module _ (face : ℕ) (key : List ℕ) where
     hears own v = heard_by v.kind v.fellows own
 
     abbrev hearkens : Seen → Bool
-    hearkens v = is_unasked v.kind (is_north v.region) || asks_for face key ints
+    hearkens v = listens_by v.kind (is_north v.region) (asks_for face key ints)
 
     -- what stands of a region
     abbrev standing_at : (ℕ → Option Seen) → Region → Option Seen

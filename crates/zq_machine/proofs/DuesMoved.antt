@@ -1,6 +1,6 @@
 -- What is due moves with texts, and the keys that are looked at move along.
 use Rattle.std.proofs.Common.{◌≡◌, ◌∙◌, refl, ap, ℕ, Bool, true, false, cond, List, [], map, filter, fold, Option, Some, None}
-use Rattle.std.specs.Prelude.{◌==◌, ◌||◌}
+use Rattle.std.specs.Prelude.{◌==◌}
 use Rattle.std.specs.BTreeMap.{is_at}
 use Rattle.std.specs.BTreeSet.{insert_key}
 use Rattle.std.specs.List.{list_any}
@@ -14,22 +14,20 @@ use Rattle.zq_index.specs.Texts.{text_cmp}
 use Rattle.zq_hat.specs.Fellows.{fellow_info, with_fellow}
 use Rattle.zq_interests.specs.declared.types.InterestEntry.{InterestEntry}
 use Rattle.zq_hat.specs.Moved.{Keeps, move_face, move_hat}
-use Rattle.zq_machine.specs.DueAlike.{move_interest}
 use Rattle.zq_hat.specs.Regions.{is_north, strategy_at}
 use Rattle.zq_hat.specs.State.{HatState}
 use Rattle.zq_hat.specs.Trees.{region_keys}
 use Rattle.zq_hat.proofs.OffersMoved.{key_moved}
 use Rattle.zq_machine.specs.declared.face.OpenFace.{OpenFace}
-use Rattle.zq_machine.specs.Deciding.{refusal_of}
-use Rattle.zq_machine.specs.Due.{due, due_keys, due_touched, heard, heard_as, heard_by, heard_in, is_unasked, listens, listens_in, met_keys, with_region_keys}
+use Rattle.zq_machine.specs.Due.{due, due_keys, due_touched, heard, heard_as, heard_by, heard_in, listens, listens_by, listens_in, met_keys, with_region_keys}
 use Rattle.zq_interests.specs.Interests.{Interests, asks_for, interests_of, meets, wants}
-use Rattle.zq_machine.specs.DueAlike.{move_interests}
-use Rattle.zq_machine.specs.Moved.{move_core, move_region, move_text}
+use Rattle.zq_machine.specs.Moved.{move_core, move_interest, move_interests, move_region, move_text}
 use Rattle.zq_machine.specs.State.{Core, at, hat_at, hat_of}
 use Rattle.zq_machine.specs.TextCalls.{TextCall, opening}
 use Rattle.zq_machine.specs.Trees.{touched}
 use Rattle.zq_machine.proofs.DueMoved.{face_info_moved, own_entry_moved, region_keys_moved, touched_moved}
 use Rattle.zq_machine.proofs.HatsMoved.{hat_found, own_found}
+use Rattle.zq_machine.proofs.Refused.{HasText}
 
 module _ (φ : List ℕ → List ℕ) (keeps : Keeps φ) where
   -- ---- what faces ask to hear
@@ -55,7 +53,7 @@ module _ (φ : List ℕ → List ℕ) (keeps : Keeps φ) where
     where
       by : (o : Option HatState) → option_map_or (listens_in (move_interests φ ints) face (φ key)) (option_map (move_hat φ) o) false ≡ option_map_or (listens_in ints face key) o false
       by None = refl
-      by (Some h) = ap (λ b. is_unasked (strategy_at h) (is_north h.region) || b) (asks_moved face key ints)
+      by (Some h) = ap (listens_by (strategy_at h) (is_north h.region)) (asks_moved face key ints)
 
   -- ---- what there is to hear
   fellows_moved : (face : ℕ) (key : List ℕ) (h : HatState) → fellow_info face (φ key) (move_hat φ h) ≡ fellow_info face key h
@@ -84,10 +82,10 @@ module _ (φ : List ℕ → List ℕ) (keeps : Keeps φ) where
   pub met_moved : (c : Core) (asked : Option (List ℕ)) → met_keys (option_map φ asked) (move_core φ c) ≡ map φ (met_keys asked c)
   met_moved c asked = ap (filter (meets (option_map φ asked))) (keys_moved c) ∙ filter-map φ (meets (option_map φ asked)) (meets asked) (meets_moved asked) (due_keys c)
 
-  keys_touched : (c : Core) (t : TextCall) → refusal_of c t ≡ None → fold (insert_key text_cmp) [] (touched (move_core φ c) (move_text φ t)) ≡ map φ (fold (insert_key text_cmp) [] (touched c t))
+  keys_touched : (c : Core) (t : TextCall) → HasText t → fold (insert_key text_cmp) [] (touched (move_core φ c) (move_text φ t)) ≡ map φ (fold (insert_key text_cmp) [] (touched c t))
   keys_touched c t e = ap (fold (insert_key text_cmp) []) (touched_moved φ keeps c t e) ∙ put_moved [] (touched c t)
 
-  pub looked_moved : (c : Core) (t : TextCall) (face : ℕ) → refusal_of c t ≡ None → due_touched (move_core φ c) (move_text φ t) face ≡ map φ (due_touched c t face)
+  pub looked_moved : (c : Core) (t : TextCall) (face : ℕ) → HasText t → due_touched (move_core φ c) (move_text φ t) face ≡ map φ (due_touched c t face)
   looked_moved c (opening o) face e = by (face == c.next_face)
     where
       by : (b : Bool) → cond b (due_keys (move_core φ c)) [] ≡ map φ (cond b (due_keys c) [])

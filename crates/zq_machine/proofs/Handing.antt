@@ -32,7 +32,7 @@ use Rattle.zq_machine.specs.Machine.{step}
 use Rattle.zq_machine.specs.Messages.{TextMessage, text_final}
 use Rattle.zq_machine.specs.Selecting.{full_text, select}
 use Rattle.zq_machine.specs.State.{Core, State}
-use Rattle.zq_machine.specs.TextCalls.{TextCall, closing, declaring, withdrawing, asking, replying, ending, reporting, passing, announcing, retracting, networking, read}
+use Rattle.zq_machine.specs.TextCalls.{TextCall, opening, closing, declaring, withdrawing, asking, replying, ending, reporting, passing, announcing, retracting, networking, read}
 use Rattle.zq_machine.specs.Writing.{write}
 use Rattle.zq_machine.proofs.Granted.{by_granted, mapped_beside, told_by}
 use Rattle.zq_machine.proofs.Lists.{all_append, sorted_left, sorted_numbers}
@@ -59,6 +59,7 @@ may_text (replying face s r) m = is_response m
 may_text (ending face rid) m = is_final m
 may_text (reporting reply) m = is_final m
 may_text (passing now) m = is_response m || is_final m
+may_text (opening o) m = is_declaration m
 may_text (closing face) m = is_final m || is_declaration m
 may_text (declaring face id s i n) m = is_declaration m
 may_text (withdrawing face id) m = is_declaration m
@@ -133,6 +134,7 @@ declared_fit s t may gives = told_all (IsFit may) (λ to text d n. record { flyi
 
 told_fit : (s : State) (t : TextCall) → AllByRecursion (IsFit (may_text t)) (told_by s t).handed
 unfolding may_text
+told_fit s (opening o) = declared_fit s (opening o) is_declaration (λ d. refl)
 told_fit s (closing face) = declared_fit s (closing face) (λ m. is_final m || is_declaration m) (λ d. refl)
 told_fit s (declaring face id sd i n) = declared_fit s (declaring face id sd i n) is_declaration (λ d. refl)
 told_fit s (withdrawing face id) = declared_fit s (withdrawing face id) is_declaration (λ d. refl)

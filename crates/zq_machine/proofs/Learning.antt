@@ -1,5 +1,5 @@
 -- What a face knows once it heard tellings in order: the last word of those that are news to it, where all of them say the same.
-use Rattle.std.proofs.Common.{◌≡◌, ◌∙◌, refl, sym, ap, ℕ, Bool, true, false, cond, List, [], ◌∷◌, map, fold, Option, Some, None}
+use Rattle.std.proofs.Common.{◌≡◌, ◌∙◌, refl, sym, ap, ℕ, Bool, true, false, cond, List, [], ◌∷◌, map, fold, Option, Some, None, true≢false}
 use Rattle.std.specs.Prelude.{◌==◌, ◌&&◌, ◌||◌}
 use Rattle.std.specs.BTreeSet.{insert_key}
 use Rattle.std.specs.List.{AllByRecursion, list_any}
@@ -16,7 +16,7 @@ use Rattle.zq_index.proofs.Orders.{text_exact}
 use Rattle.zq_trees.specs.declared.types.Telling.{Telling as TreeTelling}
 use Rattle.zq_trees.specs.Tellings.{in_order, telling_cmp}
 use Rattle.zq_machine.specs.Children.{is_of_root, with_heard_of, with_news}
-use Rattle.zq_machine.specs.Messages.{from_hat, told_or_ended}
+use Rattle.zq_machine.specs.Messages.{from_hat, key_ended, told_or_ended}
 use Rattle.zq_machine.proofs.DueHeard.{all_ordered}
 
 -- ---- order keeps what tells no two equal ones apart
@@ -72,22 +72,29 @@ module _ (face : ℕ) (place : Option ℕ) (key : List ℕ) where
       let nodes : a.node ≡ b.node = exact_unsigned a.node b.node q.1 in
       λ j. ((faces j == face) && option_map_or (λ m. nodes j == m) place false) && bytes_eq (keys j) key
 
-  -- each of the tellings that is news says this
+  -- a telling that is news says this under the id 0
+  pub record Says (i : Option QueryableInfoType) (t : TreeTelling) : Type 0 where
+    pub id : is_news t ≡ true → t.id ≡ 0
+    pub info : is_news t ≡ true → t.info ≡ i
+
   abbrev pub AllSay : Option QueryableInfoType → List TreeTelling → Type 0
-  AllSay i ts = AllByRecursion (λ t. is_news t ≡ true → t.info ≡ i) ts
+  AllSay i ts = AllByRecursion (Says i) ts
 
-  word_by : (id : ℕ) (text : List ℕ) (i : Option QueryableInfoType) (was : Option QueryableInfoType) → with_news key was (told_or_ended id text i) ≡ cond (bytes_eq text key) i was
-  word_by id text None was = refl
-  word_by id text (Some i) was = refl
+  word_by : (id : ℕ) (text : List ℕ) (i : Option QueryableInfoType) (was : Option QueryableInfoType) → (bytes_eq text key ≡ true → id ≡ 0) → with_news key was (told_or_ended id text i) ≡ cond (bytes_eq text key) i was
+  word_by id text None was zero = by (id == 0) refl (bytes_eq text key) refl
+    where
+      by : (z : Bool) → (id == 0) ≡ z → (b : Bool) → bytes_eq text key ≡ b → with_news key was (key_ended id (cond z (Some text) None)) ≡ cond b None was
+      by true e b f = ap (λ x. cond x None was) f
+      by false e true f = absurd (true≢false (sym (ap (λ n. n == 0) (zero f)) ∙ e))
+      by false e false f = refl
+  word_by id text (Some i) was zero = refl
 
-  either : {X : Type 0} (a b : Bool) (x y : X) → cond a (cond b x y) y ≡ cond (a && b) x y
-  either true b x y = refl
-  either false b x y = refl
-
-  one_heard : (t : TreeTelling) (was : Option QueryableInfoType) → with_heard_of face place key was (from_hat t) ≡ cond (is_news t) t.info was
-  one_heard t was =
-      ap (λ x. cond (is_of_root face place (from_hat t)) x was) (word_by t.id t.key t.info was)
-      ∙ either (is_of_root face place (from_hat t)) (bytes_eq t.key key) t.info was
+  one_heard : (t : TreeTelling) (was : Option QueryableInfoType) → (is_news t ≡ true → t.id ≡ 0) → with_heard_of face place key was (from_hat t) ≡ cond (is_news t) t.info was
+  one_heard t was zero = by (is_of_root face place (from_hat t)) refl
+    where
+      by : (b : Bool) → is_of_root face place (from_hat t) ≡ b → cond b (with_news key was (told_or_ended t.id t.key t.info)) was ≡ cond (b && bytes_eq t.key key) t.info was
+      by true e = word_by t.id t.key t.info was (λ on. zero (ap (λ b. b && bytes_eq t.key key) e ∙ on))
+      by false e = refl
 
   said_again : (i was : Option QueryableInfoType) (a b : Bool) (x : Option QueryableInfoType) → (a ≡ true → x ≡ i) → cond b i (cond a x was) ≡ cond (a || b) i was
   said_again i was true true x says = refl
@@ -97,12 +104,12 @@ module _ (face : ℕ) (place : Option ℕ) (key : List ℕ) where
   all_heard : (i : Option QueryableInfoType) (ts : List TreeTelling) (was : Option QueryableInfoType) → AllSay i ts → fold (with_heard_of face place key) was (map from_hat ts) ≡ cond (list_any is_news ts) i was
   all_heard i [] was all = refl
   all_heard i (t ∷ ts) was all =
-      ap (λ w. fold (with_heard_of face place key) w (map from_hat ts)) (one_heard t was)
+      ap (λ w. fold (with_heard_of face place key) w (map from_hat ts)) (one_heard t was all.0.id)
       ∙ all_heard i ts (cond (is_news t) t.info was) all.1
-      ∙ said_again i was (is_news t) (list_any is_news ts) t.info all.0
+      ∙ said_again i was (is_news t) (list_any is_news ts) t.info all.0.info
 
   -- in order or not
   pub order_heard : (i : Option QueryableInfoType) (ts : List TreeTelling) (was : Option QueryableInfoType) → AllSay i ts → fold (with_heard_of face place key) was (map from_hat (in_order ts)) ≡ cond (list_any is_news ts) i was
   order_heard i ts was all =
-      all_heard i (in_order ts) was (all_ordered (λ t. is_news t ≡ true → t.info ≡ i) [] ts tt all)
+      all_heard i (in_order ts) was (all_ordered (Says i) [] ts tt all)
       ∙ ap (λ b. cond b i was) (any_ordered is_news news_alike ts)

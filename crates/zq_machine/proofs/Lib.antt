@@ -18,8 +18,9 @@ pub mod Kept
 pub mod EntriesMoved
 pub mod HatsMoved
 pub mod SelectionMoved
-pub mod CausesMoved
-pub mod DecidingMoved
+pub mod Refused
+pub mod NeighbourLooks
+pub mod NeighbourDues
 pub mod Changing
 pub mod Agreeing
 pub mod Joining
@@ -33,6 +34,8 @@ pub mod DueMoved
 pub mod Worded
 pub mod Foreign
 pub mod DueHeard
+pub mod NeighboursTold
+pub mod Quiet
 pub mod Tells
 pub mod Direct
 pub mod Learning
@@ -60,7 +63,6 @@ pub mod DueEnds
 pub mod Dues
 pub mod DueLess
 pub mod DuesMoved
-pub mod NeighbourDues
 pub mod NeighbourTold
 pub mod NeighbourAsked
 pub mod NeighbourAnswers
@@ -69,3 +71,6 @@ pub mod NeighbourIds
 pub mod NeighbourAll
 pub mod NeighbourLaws
 pub mod NeighbourMoved
+pub mod ChangedMoved
+pub mod CausesMoved
+pub mod DecidingMoved

@@ -29,7 +29,8 @@ use Rattle.zq_machine.specs.Deciding.{accepted, opened as as_opened, refusal_of}
 use Rattle.zq_machine.specs.Due.{due, due_touched, listens}
 use Rattle.zq_interests.specs.Interests.{Interests}
 use Rattle.zq_machine.specs.Machine.{settle}
-use Rattle.zq_machine.specs.Neighbours.{AllHear, AreOfOpen, Hears, dues_on, ears_after, looked_at, neighbours_lack, neighbours_told, with_dues, with_new, without_closed}
+use Rattle.zq_machine.specs.Neighbours.{dues_on, ears_after, looked_at, neighbours_lack, neighbours_told, with_dues, with_new, without_closed}
+use Rattle.zq_machine.specs.Receivers.{AllHear, AreOfOpen, Hears}
 use Rattle.zq_machine.specs.State.{Core, State, at, is_open}
 use Rattle.zq_machine.specs.TextCalls.{TextCall, opening, closing}
 use Rattle.zq_machine.proofs.Agreed.{InOrder as Kept}
@@ -37,6 +38,7 @@ use Rattle.zq_machine.proofs.Changing.{number_test}
 use Rattle.zq_machine.proofs.DueEnds.{closed_undue}
 use Rattle.zq_machine.proofs.Granted.{settles_told}
 use Rattle.zq_machine.proofs.NeighbourDues.{all_keys, dues_of, rows_rise}
+use Rattle.zq_machine.proofs.NeighbourLooks.{looked_is}
 use Rattle.zq_machine.proofs.NeighbourIds.{fresh, new_face, opens}
 use Rattle.zq_machine.proofs.NeighbourTold.{all_rise, call_hears, call_told, looked, looked_rise, still_hears}
 
@@ -49,7 +51,7 @@ module _ (config : Settings) (s : State) (i : Kept config s) (t : TextCall) (int
 
   -- ---- in order, to open faces
   keys_ordered : AllByRecursion (λ (d : FaceDues). InOrder d.keys) (looked_at s.core w ints t)
-  keys_ordered = all_keys keys_of_face (λ (d : FaceDues). InOrder d.keys) (λ m ks is. subst InOrder is (rows_rise (due w ints m) (looked config s i t ints m) (looked_rise config s i t ints m))) w.faces
+  keys_ordered = subst (AllByRecursion (λ (d : FaceDues). InOrder d.keys)) (sym (looked_is s.core w ints t)) (all_keys keys_of_face (λ (d : FaceDues). InOrder d.keys) (λ m ks is. subst InOrder is (rows_rise (due w ints m) (looked config s i t ints m) (looked_rise config s i t ints m))) w.faces)
 
   pub told_ordered : IsStrictlySortedBy telling_cmp (neighbours_told s.core w ints t ears)
   told_ordered = tells_in_order Unasked (with_new s.core t ears) (looked_at s.core w ints t) (all_rise config s i t ints) keys_ordered
@@ -72,7 +74,7 @@ module _ (config : Settings) (s : State) (i : Kept config s) (t : TextCall) (int
         others_by e.0 (keys_of_face e.0) (dues_of keys_of_face es) p.0 (others_told es p.1)
 
     pub closed_untold : is_open face w ≡ false → filter (is_to face) (neighbours_told s.core w ints t ears) ≡ []
-    closed_untold shut = tells_each Unasked (with_new s.core t ears) (looked_at s.core w ints t) face ∙ others_told w.faces shut
+    closed_untold shut = tells_each Unasked (with_new s.core t ears) (looked_at s.core w ints t) face ∙ ap (flat_map (told_alone Unasked (with_new s.core t ears) face)) (looked_is s.core w ints t) ∙ others_told w.faces shut
 
   -- ---- what is kept of faces
   new_sound : (x : TextCall) → s.core.config.start.told < 2 ^ 32 → AreSound ears → AreSound (with_new s.core x ears)

@@ -26,7 +26,8 @@ use Rattle.zq_told.specs.Leaving.{news_of}
 use Rattle.zq_told.proofs.Leaving.{answers_all}
 use Rattle.zq_machine.specs.Due.{due, met_keys}
 use Rattle.zq_interests.specs.Interests.{Interests, interests_of, with_interest}
-use Rattle.zq_machine.specs.Neighbours.{Hears, answer_told, asked_dues, heard_asked, with_dues}
+use Rattle.zq_machine.specs.Neighbours.{answer_told, asked_dues, with_dues}
+use Rattle.zq_machine.specs.Receivers.{Hears, heard_asked}
 use Rattle.zq_machine.specs.State.{Core, at}
 use Rattle.zq_machine.proofs.DueEnds.{asks_more}
 use Rattle.zq_machine.proofs.NeighbourDues.{alone_rises, keys_alone, row}

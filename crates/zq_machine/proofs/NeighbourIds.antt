@@ -28,13 +28,15 @@ use Rattle.zq_machine.specs.Deciding.{accepted, opened}
 use Rattle.zq_machine.specs.Due.{due, due_keys, due_touched, heard as heard_there, listens}
 use Rattle.zq_interests.specs.Interests.{Interests}
 use Rattle.zq_machine.specs.Machine.{settle}
-use Rattle.zq_machine.specs.Neighbours.{AllHear, dues_on, is_news, lacks_at, neighbours_lack, with_dues, with_new}
+use Rattle.zq_machine.specs.Neighbours.{dues_on, looked_at, neighbours_lack, with_dues, with_new}
+use Rattle.zq_machine.specs.Receivers.{AllHear, is_news, lacks_at}
 use Rattle.zq_machine.specs.State.{Core, State, at, is_open}
 use Rattle.zq_machine.specs.TextCalls.{TextCall, opening, closing}
 use Rattle.zq_machine.proofs.Agreed.{InOrder as Kept}
 use Rattle.zq_machine.proofs.DueEnds.{closed_undue}
 use Rattle.zq_machine.proofs.Granted.{by_granted}
 use Rattle.zq_machine.proofs.NeighbourTells.{news_counted}
+use Rattle.zq_machine.proofs.NeighbourLooks.{looked_is}
 use Rattle.zq_machine.proofs.NeighbourTold.{faces_rise, new_beside}
 
 -- the call opens a face
@@ -131,7 +133,7 @@ module _ (config : Settings) (s : State) (i : Kept config s) (ints : Interests) 
         ∙ (λ j. lacks_one o.0 open_all.0 j || lacks_of os open_all.1 j)
 
     pub lacks_are : neighbours_lack s.core w ints t ears ≡ list_any (λ o. lacks_at w ints before o.0) w.faces
-    lacks_are = lacks_exactly Unasked before _ ∙ lacks_of w.faces all_open
+    lacks_are = lacks_exactly Unasked before (looked_at s.core w ints t) ∙ ap (list_any (lacks_there Unasked before)) (looked_is s.core w ints t) ∙ lacks_of w.faces all_open
 
     -- ---- a call that makes nothing due
     module _ (no_face : opens t ≡ false) (less : (face : ℕ) (key : List ℕ) → is_open face s.core ≡ true → is_some (due w ints face key) ≡ true → is_some (due s.core ints face key) ≡ true) where

@@ -15,7 +15,8 @@ use Rattle.zq_machine.specs.Deciding.{is_accepted}
 use Rattle.zq_machine.specs.Due.{due, heard as heard_there}
 use Rattle.zq_interests.specs.Interests.{Interests, interests_of, with_interest, without_interest}
 use Rattle.zq_machine.specs.Machine.{after, settle, state_after, step}
-use Rattle.zq_machine.specs.Neighbours.{AllTold, AskingTold, EndingTold, FaceTold, Hears, asked_at, ended_at, makes_due}
+use Rattle.zq_machine.specs.Neighbours.{asked_at, ended_at}
+use Rattle.zq_machine.specs.Receivers.{AllTold, AskingTold, EndingTold, FaceTold, Hears, makes_due}
 use Rattle.zq_machine.specs.State.{Core, State, at, is_open, opening_state}
 use Rattle.zq_machine.specs.TextCalls.{TextCall, announcing, declaring, opening, read}
 use Rattle.zq_machine.proofs.Agreed.{InOrder as Kept, run_in_order}

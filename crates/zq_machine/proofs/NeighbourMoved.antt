@@ -19,14 +19,15 @@ use Rattle.zq_told.specs.Moved.{TellsAlike, move_dues, move_ear, move_ears, move
 use Rattle.zq_told.specs.Telling.{KeyDue, lacks_ids, tell_due, tell_faces}
 use Rattle.zq_told.proofs.Moved.{tells_alike}
 use Rattle.zq_machine.specs.declared.face.OpenFace.{OpenFace}
-use Rattle.zq_machine.specs.Deciding.{refusal_of}
 use Rattle.zq_machine.specs.Due.{due_touched, listens, met_keys}
 use Rattle.zq_interests.specs.Interests.{Interests, meets}
-use Rattle.zq_machine.specs.DueAlike.{DueAlike, ToldAlike, move_asked, move_interests}
-use Rattle.zq_machine.specs.Moved.{move_core, move_text}
-use Rattle.zq_machine.specs.Neighbours.{asked_at, asked_dues, due_on, dues_on, ended_at, ended_dues, looked_at, told_keys, with_dues, with_new, without_closed}
+use Rattle.zq_machine.specs.DueAlike.{DueAlike, ToldAlike}
+use Rattle.zq_machine.specs.Moved.{move_asked, move_core, move_interests, move_text}
+use Rattle.zq_machine.specs.Neighbours.{kept_after, kept_lack, kept_told, asked_at, asked_dues, due_on, dues_on, ended_at, ended_dues, looked_at, told_keys, with_dues, with_new, without_closed}
 use Rattle.zq_machine.specs.State.{Core}
 use Rattle.zq_machine.specs.TextCalls.{TextCall, opening, closing}
+use Rattle.zq_machine.proofs.NeighbourLooks.{looked_is}
+use Rattle.zq_machine.proofs.Refused.{HasText, has_text}
 use Rattle.zq_machine.proofs.DuesMoved.{dues_moved, keys_moved, listens_moved, looked_moved, meets_moved, met_moved}
 
 flat_same : {X Y Z : Type 0} (k : Y → Z) (f : X → List Z) (h : X → List Y) → ((x : X) → f x ≡ map k (h x)) → (xs : List X) → flat_map f xs ≡ map k (flat_map h xs)
@@ -54,17 +55,19 @@ module _ (φ : List ℕ → List ℕ) (keeps : Keeps φ) where
   face_moved face (k ∷ ks) = refl
 
   -- ---- what is looked at
-  module _ (before after : Core) (ints : Interests) (t : TextCall) (fits : refusal_of before t ≡ None) where
+  module _ (before after : Core) (ints : Interests) (t : TextCall) (text : HasText t) where
     one_moved : (o : ℕ × OpenFace) → with_dues o.0 (dues_on (move_core φ after) (move_interests φ ints) (due_touched (move_core φ before) (move_text φ t) o.0) o.0) ≡ map (move_dues φ) (with_dues o.0 (dues_on after ints (due_touched before t o.0) o.0))
     one_moved o =
-        ap (λ ks. with_dues o.0 (dues_on (move_core φ after) (move_interests φ ints) ks o.0)) (looked_moved φ keeps before t o.0 fits)
+        ap (λ ks. with_dues o.0 (dues_on (move_core φ after) (move_interests φ ints) ks o.0)) (looked_moved φ keeps before t o.0 text)
         ∙ ap (with_dues o.0) (heard_rows after ints o.0 (due_touched before t o.0))
         ∙ face_moved o.0 (dues_on after ints (due_touched before t o.0) o.0)
 
     dues_alike : looked_at (move_core φ before) (move_core φ after) (move_interests φ ints) (move_text φ t) ≡ map (move_dues φ) (looked_at before after ints t)
     dues_alike =
-        flat_same (move_dues φ) (λ (o : ℕ × OpenFace). with_dues o.0 (dues_on (move_core φ after) (move_interests φ ints) (due_touched (move_core φ before) (move_text φ t) o.0) o.0))
+        looked_is (move_core φ before) (move_core φ after) (move_interests φ ints) (move_text φ t)
+        ∙ flat_same (move_dues φ) (λ (o : ℕ × OpenFace). with_dues o.0 (dues_on (move_core φ after) (move_interests φ ints) (due_touched (move_core φ before) (move_text φ t) o.0) o.0))
         (λ (o : ℕ × OpenFace). with_dues o.0 (dues_on after ints (due_touched before t o.0) o.0)) one_moved after.faces
+        ∙ ap (map (move_dues φ)) (sym (looked_is before after ints t))
 
   asked_alike : (c : Core) (ints : Interests) (asker : ℕ) (asked : InterestEntry) → asked_at (move_core φ c) (move_interests φ ints) asker (move_asked φ asked) ≡ map (move_dues φ) (asked_at c ints asker asked)
   asked_alike c ints asker asked =
@@ -109,13 +112,24 @@ module _ (φ : List ℕ → List ℕ) (keeps : Keeps φ) where
   closed_alike (closing g) ears = alike.closes g.0 ears
   closed_alike t ears = refl
 
+  -- ---- what a call tells the faces of which something is kept
+  module _ (before after : Core) (ints : Interests) (t : TextCall) (text : HasText t) (kept others : Ears) (e : others ≡ move_ears φ kept) where
+    pub kept_moved : kept_told (move_core φ before) (move_core φ after) (move_interests φ ints) (move_text φ t) others ≡ map (move_telling φ) (kept_told before after ints t kept)
+    kept_moved = tellings_alike Unasked kept others (looked_at before after ints t) _ e (dues_alike before after ints t text)
+
+    pub kept_lacks : kept_lack (move_core φ before) (move_core φ after) (move_interests φ ints) (move_text φ t) others ≡ kept_lack before after ints t kept
+    kept_lacks = lacks_alike Unasked kept others (looked_at before after ints t) _ e (dues_alike before after ints t text)
+
+    pub kept_left : kept_after (move_core φ before) (move_core φ after) (move_interests φ ints) (move_text φ t) others ≡ move_ears φ (kept_after before after ints t kept)
+    kept_left =
+        ap (without_closed (move_text φ t)) (left_alike Unasked kept others (looked_at before after ints t) _ e (dues_alike before after ints t text))
+        ∙ closed_alike t (tell_due Unasked kept (looked_at before after ints t))
+
   told_alike : ToldAlike φ
   told_alike = record {
-    told = λ before after ints t ears fits. tellings_alike Unasked (with_new before t ears) _ (looked_at before after ints t) _ (new_alike before t ears) (dues_alike before after ints t fits);
-    lack = λ before after ints t ears fits. lacks_alike Unasked (with_new before t ears) _ (looked_at before after ints t) _ (new_alike before t ears) (dues_alike before after ints t fits);
-    left = λ before after ints t ears fits.
-        ap (without_closed (move_text φ t)) (left_alike Unasked (with_new before t ears) _ (looked_at before after ints t) _ (new_alike before t ears) (dues_alike before after ints t fits))
-        ∙ closed_alike t (tell_due Unasked (with_new before t ears) (looked_at before after ints t));
+    told = λ before after ints t ears fits. kept_moved before after ints t (has_text before t fits) (with_new before t ears) _ (new_alike before t ears);
+    lack = λ before after ints t ears fits. kept_lacks before after ints t (has_text before t fits) (with_new before t ears) _ (new_alike before t ears);
+    left = λ before after ints t ears fits. kept_left before after ints t (has_text before t fits) (with_new before t ears) _ (new_alike before t ears);
     told_asked = λ c ints ears asker asked. tellings_alike Answering ears (move_ears φ ears) (asked_at c ints asker asked) _ refl (asked_alike c ints asker asked);
     lack_asked = λ c ints ears asker asked. lacks_alike Answering ears (move_ears φ ears) (asked_at c ints asker asked) _ refl (asked_alike c ints asker asked);
     left_asked = λ c ints ears asker asked. left_alike Answering ears (move_ears φ ears) (asked_at c ints asker asked) _ refl (asked_alike c ints asker asked);
@@ -127,6 +141,6 @@ module _ (φ : List ℕ → List ℕ) (keeps : Keeps φ) where
     dues = dues_moved φ keeps;
     keys = keys_moved φ keeps;
     met = met_moved φ keeps;
-    touches = looked_moved φ keeps;
+    touches = λ c t face fits. looked_moved φ keeps c t face (has_text c t fits);
     told = told_alike;
   }

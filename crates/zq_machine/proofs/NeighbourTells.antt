@@ -17,7 +17,8 @@ use Rattle.zq_machine.specs.Configs.{Settings}
 use Rattle.zq_machine.specs.Due.{due, due_keys, listens}
 use Rattle.zq_interests.specs.Interests.{Interests}
 use Rattle.zq_machine.specs.Machine.{settle}
-use Rattle.zq_machine.specs.Neighbours.{HaveChanges, due_on, is_news, neighbours_told, with_new}
+use Rattle.zq_machine.specs.Neighbours.{due_on, neighbours_told, with_new}
+use Rattle.zq_machine.specs.Receivers.{HaveChanges, is_news}
 use Rattle.zq_machine.specs.State.{Core, State, is_open}
 use Rattle.zq_machine.specs.TextCalls.{TextCall}
 use Rattle.zq_machine.proofs.Agreed.{InOrder as Kept}

@@ -40,7 +40,8 @@ use Rattle.zq_machine.specs.Deciding.{is_accepted, opened as as_opened}
 use Rattle.zq_machine.specs.Due.{due, due_touched, heard as heard_there, is_due_touched, listens}
 use Rattle.zq_interests.specs.Interests.{Interests}
 use Rattle.zq_machine.specs.Machine.{answer, settle}
-use Rattle.zq_machine.specs.Neighbours.{Hears, due_on, dues_on, ears_after, heard_over, looked_at, with_new, without_closed}
+use Rattle.zq_machine.specs.Neighbours.{due_on, dues_on, ears_after, looked_at, with_new, without_closed}
+use Rattle.zq_machine.specs.Receivers.{Hears, heard_over}
 use Rattle.zq_machine.specs.State.{Core, State, at, is_open, region_in}
 use Rattle.zq_machine.specs.TextCalls.{TextCall, opening, closing}
 use Rattle.zq_machine.proofs.Agreed.{InOrder as Kept, accepted_in_order, next_absent}
@@ -50,6 +51,7 @@ use Rattle.zq_machine.proofs.DueEnds.{closed_undue}
 use Rattle.zq_machine.proofs.DueKeys.{among, is_among, keys_rise}
 use Rattle.zq_machine.proofs.Dues.{due_kept}
 use Rattle.zq_machine.proofs.Granted.{by_granted, closed_after}
+use Rattle.zq_machine.proofs.NeighbourLooks.{looked_is}
 use Rattle.zq_machine.proofs.NeighbourDues.{Sorted, aims_at, among_filter, dues_rise, keys_at, keys_of_face, numbers, rows_rise}
 
 -- ---- a receiver keeps what is due
@@ -148,11 +150,11 @@ module _ (config : Settings) (s : State) (i : Kept config s) (t : TextCall) (int
   faces_rise = by_granted (λ z x. IsStrictlySortedBy nat_cmp (keys_of x.core.faces)) s t (λ h. (accepted_in_order config s t h i).sound.sorted) (λ r. i.sound.sorted)
 
   pub all_rise : Sorted dues
-  all_rise = dues_rise (λ n. dues_on w ints (due_touched s.core t n) n) w.faces faces_rise
+  all_rise = subst Sorted (sym (looked_is s.core w ints t)) (dues_rise (λ n. dues_on w ints (due_touched s.core t n) n) w.faces faces_rise)
 
   module _ (face : ℕ) (seen : is_open face w ≡ true) where
     pub keys_are : keys_at face dues ≡ map (due_on w ints face) (looked face)
-    keys_are = keys_of_face (λ n. dues_on w ints (due_touched s.core t n) n) face w.faces ∙ ap (λ b. cond b (dues_on w ints (due_touched s.core t face) face) []) seen
+    keys_are = ap (keys_at face) (looked_is s.core w ints t) ∙ keys_of_face (λ n. dues_on w ints (due_touched s.core t n) n) face w.faces ∙ ap (λ b. cond b (dues_on w ints (due_touched s.core t face) face) []) seen
 
     pub keys_in_order : InOrder (keys_at face dues)
     keys_in_order = subst InOrder (sym keys_are) (rows_rise (due w ints face) (looked face) (looked_rise face))

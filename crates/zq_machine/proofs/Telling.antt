@@ -12,11 +12,14 @@ use Rattle.zq_trees.specs.Tellings.{in_order}
 use Rattle.zq_names.specs.Texts.{nonwild}
 use Rattle.zq_ids.specs.declared.decl.DeclKey.{DeclKey}
 use Rattle.zq_tables.specs.Naming.{FaceKeys, NamingState, change_naming, face_keys, plain, with_told_number}
+use Rattle.zq_interests.specs.Interests.{Interests}
+use Rattle.zq_told.specs.Ears.{Ears}
 use Rattle.zq_machine.specs.Handing.{Handed}
 use Rattle.zq_machine.specs.Messages.{Telling, TellingBody, all_told, from_hat, key_ended, key_told}
+use Rattle.zq_machine.specs.Neighbours.{due_told, kept_told}
 use Rattle.zq_machine.specs.State.{Core}
 use Rattle.zq_machine.specs.TextCalls.{TextCall}
-use Rattle.zq_machine.specs.Trees.{all_own_told, due_told, touched, tree_told}
+use Rattle.zq_machine.specs.Trees.{all_own_told, touched, tree_told}
 use Rattle.zq_machine.specs.Writing.{and_then, leaving, tell, tell_body, tell_by, tell_declare, tell_number, told_key}
 use Rattle.zq_machine.proofs.Lists.{all_append}
 
@@ -92,9 +95,9 @@ module _ (P : Handed → Type 0) (number : (to : FaceId) (text : List ℕ) (id :
       all_append P (tell_body c t t.body names).handed (tell c ts (tell_body c t t.body names).names).handed
       (body_each c t t.body all.0 names) (told_each c ts (tell_body c t t.body names).names all.1)
 
--- what holds of each telling along a tree holds of what is due
-pub due_each : (Q : Telling → Type 0) → ((t : TreeTelling) → Q (from_hat t)) → (before after : Core) (t : TextCall) → AllByRecursion Q (due_told before after t)
-due_each Q each before after t = all (in_order (tree_told before after t ++ all_own_told before.hats after.hats (touched before t)))
+-- what holds of each telling of a hat holds of all that a call tells
+pub due_each : (Q : Telling → Type 0) → ((t : TreeTelling) → Q (from_hat t)) → (before after : Core) (ints : Interests) (t : TextCall) (kept : Ears) → AllByRecursion Q (due_told before after ints t kept)
+due_each Q each before after ints t kept = all (in_order ((tree_told before after t ++ all_own_told before.hats after.hats (touched before t)) ++ kept_told before after ints t kept))
   where
     all : (ts : List TreeTelling) → AllByRecursion Q (map from_hat ts)
     all [] = tt

@@ -11,8 +11,9 @@ use Rattle.zq_machine.specs.State.{State}
 use Rattle.zq_machine.specs.TextCalls.{TextCall, read}
 use Rattle.zq_machine.specs.Writing.{write}
 use Rattle.zq_machine.proofs.Agreed.{InOrder, granted_in_order}
-use Rattle.zq_machine.proofs.DueHeard.{due_heard, written_unheard}
+use Rattle.zq_machine.proofs.DueHeard.{written_unheard}
 use Rattle.zq_machine.proofs.Granted.{by_granted, granted_is_accepted, told_by}
+use Rattle.zq_machine.proofs.NeighboursTold.{due_heard}
 
 -- an accepted call is followed
 pub followed : (s : State) (t : TextCall) → refusal_of s.core t ≡ None → follow s t ≡ accepted_state s t

@@ -1,5 +1,5 @@
 -- What faces declared, and what routers' entries are on, are keys; and each key of entries has one.
-use Rattle.std.proofs.Common.{◌≡◌, refl, sym, subst, ℕ, Bool, true, false, cond, not, List, [], ◌∷◌, filter, fold, Option, Some, None}
+use Rattle.std.proofs.Common.{◌≡◌, refl, subst, ℕ, Bool, true, false, cond, not, List, [], ◌∷◌, filter, fold, Option, Some, None}
 use Rattle.std.specs.BTreeMap.{insert_entry, is_at}
 use Rattle.std.specs.List.{AllByRecursion, cons_option}
 use Rattle.std.specs.Map.{lookup, remove_entry, set_value}

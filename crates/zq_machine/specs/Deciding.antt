@@ -21,6 +21,8 @@ use Rattle.zq_hat.specs.Kept.{registered, unregistered, without_face}
 use Rattle.zq_hat.specs.Marks.{finalized}
 use Rattle.zq_hat.specs.Routers.{announced, entry_at, networked, noded, retracted, source_at}
 use Rattle.zq_hat.specs.State.{HatState}
+use Rattle.zq_interests.specs.Interests.{closed_face}
+use Rattle.zq_told.specs.Ears.{Ears}
 use Rattle.zq_trees.specs.Nets.{is_zid}
 use Rattle.zq_query.specs.declared.records.Final.{Final}
 use Rattle.zq_query.specs.declared.records.ReplyTo.{ReplyTo}
@@ -37,13 +39,13 @@ use Rattle.zq_machine.specs.declared.call.Outcome.TheVariants as outcome
 use Rattle.zq_machine.specs.declared.call.Refusal.{Refusal}
 use Rattle.zq_machine.specs.declared.call.Refusal.TheVariants as refusal
 use Rattle.zq_machine.specs.Messages.{Decided, Telling, TextMessage, text_final, text_reply, text_request}
+use Rattle.zq_machine.specs.Neighbours.{due_told, kept_after, kept_lack}
 use Rattle.zq_machine.specs.declared.face.OpenFace.{OpenFace}
 use Rattle.zq_machine.specs.State.{Core, State, is_open, has_hat, is_full_region, hat_of, has_declared_in, clashes_in, joined, change_hat, change_hat_of}
 use Rattle.zq_machine.specs.TextCalls.{TextCall, opening, closing, naming, unnaming, declaring, withdrawing, asking, replying, ending, reporting, passing, listing, finalizing, announcing, retracting, networking, tabling, unbuilt}
 use Rattle.zq_machine.specs.Selecting.{router_by, select, target_of, zid_of, is_unscoped, says_key, says_key_or_nothing, full_text}
-use Rattle.zq_machine.specs.Trees.{due_told}
 
--- ---- causes of a refusal
+-- ---- words for what may refuse a call
 
 -- a cause that may hold, and the refusal that it gives
 abbrev pub Cause : Type 0
@@ -90,41 +92,6 @@ entry_by face node key h = option_and_then (λ (z : Zid). entry_at z.0 key h) (s
 -- the entry on a key of the router that a node number of the face stands for
 abbrev pub entry_of : FaceId → ℕ → List ℕ → Core → Option QueryableInfoType
 entry_of face node key c = option_and_then (entry_by face.0 node key) (hat_of face.0 c)
-
--- what may refuse a call, in order
-abbrev pub causes : Core → TextCall → List Cause
-causes c (opening o) = (not (has_hat o.region c), refusal.UnknownRegion) ∷ (is_full_region o.region c, refusal.UpstreamInUse) ∷ (lacks_face_number c, refusal.NoFreeId) ∷ []
-causes c (closing face) = unknown_face face c ∷ []
-causes c (naming face id s standing) =
-    unknown_face face c ∷ (is_unscoped s, refusal.UnknownScope) ∷ (not (says_key s), refusal.InvalidKeyExpr)
-    ∷ (remaps id (full_text s) standing, refusal.Remapped) ∷ []
-causes c (unnaming face id standing) = unknown_face face c ∷ (is_none standing, refusal.UnknownId) ∷ []
-causes c (declaring face id s info node) =
-    unknown_face face c ∷ (is_unscoped s, refusal.UnknownScope) ∷ (not (says_key s), refusal.InvalidKeyExpr)
-    ∷ (clashes face id (full_text s) c, refusal.IdInUse) ∷ []
-causes c (withdrawing face id) = unknown_face face c ∷ (not (has_declared face id c), refusal.UnknownId) ∷ []
-causes c (asking face s r now) = unknown_face face c ∷ (lacks_number (targets c face s r) c.queries, refusal.NoFreeId) ∷ []
-causes c (replying face s r) =
-    unknown_face face c ∷ (is_unscoped s, refusal.UnknownScope) ∷ (not (is_pending face.0 r.rid c.queries.records), refusal.QueryNotFound)
-    ∷ (not (says_key_or_nothing s), refusal.InvalidKeyExpr) ∷ (lacks_reply face.0 r.rid c.queries, refusal.NoFreeId) ∷ []
-causes c (ending face rid) = unknown_face face c ∷ (not (is_pending face.0 rid c.queries.records), refusal.QueryNotFound) ∷ []
-causes c (reporting reply) = (not (is_in_flight reply c.queries.records), refusal.NotInFlight) ∷ []
-causes c (passing now) = (lacks_replies (timeouts now c.queries) c.queries, refusal.NoFreeId) ∷ []
-causes c (listing r table) = (not (has_hat r c), refusal.UnknownRegion) ∷ []
-causes c (finalizing face mark set) = unknown_face face c ∷ (not (marks_key mark), refusal.InvalidKeyExpr) ∷ []
-causes c (announcing face s info node) =
-    unknown_face face c ∷ (is_unscoped s, refusal.UnknownScope) ∷ (not (says_key s), refusal.InvalidKeyExpr)
-    ∷ (lacks_router face node c, refusal.UnknownRouter) ∷ []
-causes c (retracting face s node) =
-    unknown_face face c ∷ (is_unscoped s, refusal.UnknownScope) ∷ (not (says_key s), refusal.InvalidKeyExpr)
-    ∷ (lacks_router face node c, refusal.UnknownRouter) ∷ (is_none (entry_of face node (full_text s) c), refusal.UnknownId) ∷ []
-causes c (networking r net) = (not (has_hat r c), refusal.UnknownRegion) ∷ []
-causes c (tabling face ids) = unknown_face face c ∷ []
-causes c unbuilt = []
-
--- the refusal of a call, if some cause of it holds
-abbrev pub refusal_of : Core → TextCall → Option Refusal
-refusal_of c t = first_of (causes c t)
 
 -- ---- what is handed, over texts
 
@@ -210,7 +177,7 @@ messages_of c (reporting reply) = map text_final (finals_landed reply c.queries.
 messages_of c (passing now) = handed_timeouts c.faces (timeouts now c.queries) ++ map text_final (passing_finals now c.queries)
 messages_of c t = []
 
--- ---- what an accepted call changes
+-- ---- what an accepted call changes, but for what is kept of what faces were told
 
 -- with other queries
 abbrev pub with_queries : Core → QueryState → Core
@@ -232,11 +199,12 @@ with_open o c = record c { faces = insert_entry nat_cmp c.faces c.next_face (ope
 abbrev pub with_face : Opening → Core → Core
 with_face o c = record (with_open o c) { hats = change_hat o.region (joined (seat c.next_face o)) c.hats }
 
--- a face leaves the open ones and its region's, and its entries are let go
+-- a face leaves the open ones and its region's, its entries are let go, and it asks nothing more
 abbrev pub without_open : ℕ → Core → Core
 without_open face c = record (change_hat_of face (without_face face) c) {
   faces = remove_entry (is_at (nat_cmp face)) c.faces;
   queries = after_close face c.queries;
+  interests = closed_face face c.interests;
 }
 
 -- the queries after a reply, by where it goes
@@ -252,32 +220,87 @@ announced_by face node key info h = option_map_or (λ (z : Zid). announced z.0 k
 abbrev pub retracted_by : ℕ → ℕ → List ℕ → HatState → HatState
 retracted_by face node key h = option_map_or (λ (z : Zid). retracted z.0 key h) (source_at face node h) h
 
+-- what decides after a call that was accepted, but for that
+abbrev pub changed : Core → TextCall → Core
+changed c (opening o) = with_face o c
+changed c (closing face) = without_open face.0 c
+changed c (naming face id s standing) = c
+changed c (unnaming face id standing) = c
+changed c (declaring face id s info node) = change_hat_of face.0 (registered face.0 id (full_text s) node info) c
+changed c (withdrawing face id) = change_hat_of face.0 (unregistered face.0 id) c
+changed c (asking face s r now) = with_queries c (after_ask face r.id r.qos (targets c face s r) (deadline c r.timeout now) c.queries)
+changed c (replying face s r) = with_queries c (after_replied (next_reply face.0 r.rid c.queries) c.queries)
+changed c (ending face rid) = with_queries c (record c.queries { records = letting_go (is_entry face.0 rid) c.queries.records })
+changed c (reporting reply) = with_queries c (record c.queries { records = landing reply c.queries.records })
+changed c (passing now) = with_queries c (after_poll now c.queries)
+changed c (listing r table) = record c { tables = with_entry c.tables r table }
+changed c (finalizing face mark set) = change_hat_of face.0 (finalized face.0 mark set) c
+changed c (announcing face s info node) = change_hat_of face.0 (announced_by face.0 node (full_text s) info) c
+changed c (retracting face s node) = change_hat_of face.0 (retracted_by face.0 node (full_text s)) c
+changed c (networking r net) = record c { hats = change_hat r (networked net) c.hats }
+changed c (tabling face ids) = change_hat_of face.0 (noded face.0 ids) c
+changed c unbuilt = c
+
+-- ---- what neighbours are told of it
+
+-- what is kept of faces where a call tells them; a face that comes is not entered yet, so that it is nothing
+abbrev pub kept : Core → TextCall → Ears
+kept c t = c.ears
+
+-- some neighbour needs an id for it that there is not
+abbrev pub lacks_told : Core → TextCall → Bool
+lacks_told c t = kept_lack c (changed c t) c.interests t (kept c t)
+
+-- what is kept of faces after it
+abbrev pub ears_of : Core → TextCall → Ears
+ears_of c t = kept_after c (changed c t) c.interests t (kept c t)
+
 -- the deciding part after a call that was accepted
 abbrev pub accepted : Core → TextCall → Core
-accepted c (opening o) = with_face o c
-accepted c (closing face) = without_open face.0 c
-accepted c (naming face id s standing) = c
-accepted c (unnaming face id standing) = c
-accepted c (declaring face id s info node) = change_hat_of face.0 (registered face.0 id (full_text s) node info) c
-accepted c (withdrawing face id) = change_hat_of face.0 (unregistered face.0 id) c
-accepted c (asking face s r now) = with_queries c (after_ask face r.id r.qos (targets c face s r) (deadline c r.timeout now) c.queries)
-accepted c (replying face s r) = with_queries c (after_replied (next_reply face.0 r.rid c.queries) c.queries)
-accepted c (ending face rid) = with_queries c (record c.queries { records = letting_go (is_entry face.0 rid) c.queries.records })
-accepted c (reporting reply) = with_queries c (record c.queries { records = landing reply c.queries.records })
-accepted c (passing now) = with_queries c (after_poll now c.queries)
-accepted c (listing r table) = record c { tables = with_entry c.tables r table }
-accepted c (finalizing face mark set) = change_hat_of face.0 (finalized face.0 mark set) c
-accepted c (announcing face s info node) = change_hat_of face.0 (announced_by face.0 node (full_text s) info) c
-accepted c (retracting face s node) = change_hat_of face.0 (retracted_by face.0 node (full_text s)) c
-accepted c (networking r net) = record c { hats = change_hat r (networked net) c.hats }
-accepted c (tabling face ids) = change_hat_of face.0 (noded face.0 ids) c
-accepted c unbuilt = c
+accepted c t = record (changed c t) { ears = ears_of c t }
+
+-- ---- what may refuse a call
+
+-- what may refuse a call, in order
+abbrev pub causes : Core → TextCall → List Cause
+causes c (opening o) = (not (has_hat o.region c), refusal.UnknownRegion) ∷ (is_full_region o.region c, refusal.UpstreamInUse) ∷ (lacks_face_number c, refusal.NoFreeId) ∷ (lacks_told c (opening o), refusal.NoFreeId) ∷ []
+causes c (closing face) = unknown_face face c ∷ []
+causes c (naming face id s standing) =
+    unknown_face face c ∷ (is_unscoped s, refusal.UnknownScope) ∷ (not (says_key s), refusal.InvalidKeyExpr)
+    ∷ (remaps id (full_text s) standing, refusal.Remapped) ∷ []
+causes c (unnaming face id standing) = unknown_face face c ∷ (is_none standing, refusal.UnknownId) ∷ []
+causes c (declaring face id s info node) =
+    unknown_face face c ∷ (is_unscoped s, refusal.UnknownScope) ∷ (not (says_key s), refusal.InvalidKeyExpr)
+    ∷ (clashes face id (full_text s) c, refusal.IdInUse) ∷ (lacks_told c (declaring face id s info node), refusal.NoFreeId) ∷ []
+causes c (withdrawing face id) = unknown_face face c ∷ (not (has_declared face id c), refusal.UnknownId) ∷ []
+causes c (asking face s r now) = unknown_face face c ∷ (lacks_number (targets c face s r) c.queries, refusal.NoFreeId) ∷ []
+causes c (replying face s r) =
+    unknown_face face c ∷ (is_unscoped s, refusal.UnknownScope) ∷ (not (is_pending face.0 r.rid c.queries.records), refusal.QueryNotFound)
+    ∷ (not (says_key_or_nothing s), refusal.InvalidKeyExpr) ∷ (lacks_reply face.0 r.rid c.queries, refusal.NoFreeId) ∷ []
+causes c (ending face rid) = unknown_face face c ∷ (not (is_pending face.0 rid c.queries.records), refusal.QueryNotFound) ∷ []
+causes c (reporting reply) = (not (is_in_flight reply c.queries.records), refusal.NotInFlight) ∷ []
+causes c (passing now) = (lacks_replies (timeouts now c.queries) c.queries, refusal.NoFreeId) ∷ []
+causes c (listing r table) = (not (has_hat r c), refusal.UnknownRegion) ∷ []
+causes c (finalizing face mark set) = unknown_face face c ∷ (not (marks_key mark), refusal.InvalidKeyExpr) ∷ []
+causes c (announcing face s info node) =
+    unknown_face face c ∷ (is_unscoped s, refusal.UnknownScope) ∷ (not (says_key s), refusal.InvalidKeyExpr)
+    ∷ (lacks_router face node c, refusal.UnknownRouter) ∷ (lacks_told c (announcing face s info node), refusal.NoFreeId) ∷ []
+causes c (retracting face s node) =
+    unknown_face face c ∷ (is_unscoped s, refusal.UnknownScope) ∷ (not (says_key s), refusal.InvalidKeyExpr)
+    ∷ (lacks_router face node c, refusal.UnknownRouter) ∷ (is_none (entry_of face node (full_text s) c), refusal.UnknownId) ∷ []
+causes c (networking r net) = (not (has_hat r c), refusal.UnknownRegion) ∷ []
+causes c (tabling face ids) = unknown_face face c ∷ []
+causes c unbuilt = []
+
+-- the refusal of a call, if some cause of it holds
+abbrev pub refusal_of : Core → TextCall → Option Refusal
+refusal_of c t = first_of (causes c t)
 
 -- ---- what a call decides
 
 -- what faces are told after it
 abbrev pub told_of : Core → TextCall → List Telling
-told_of c t = due_told c (accepted c t) t
+told_of c t = due_told c (accepted c t) c.interests t (kept c t)
 
 -- what a call decides that nothing refuses
 abbrev pub granted : Core → TextCall → Decided

@@ -1,20 +1,15 @@
 -- What is due to each face outside regions of routers, and the keys on which a call may change it.
 use Rattle.std.specs.Prelude.{ℕ, ◌==◌, Bool, true, false, ◌||◌, List, [], filter, fold, Option, None, if◌then◌else◌}
-use Rattle.std.specs.BTreeMap.{insert_entry, is_at}
 use Rattle.std.specs.BTreeSet.{insert_key}
 use Rattle.std.specs.List.{list_any}
 use Rattle.std.specs.List.Sorted.{IsStrictlySortedBy}
-use Rattle.std.specs.Map.{remove_entry}
 use Rattle.std.specs.Option.{option_and_then, option_map_or}
-use Rattle.std.specs.Ordering.{nat_cmp}
 use Rattle.std.specs.Str.{bytes_eq}
 use Rattle.zq_message.specs.declared.message.QueryableInfoType.{QueryableInfoType}
 use Rattle.zq_regions.specs.Region.{region_index}
-use Rattle.zq_key.specs.Key.{intersects}
 use Rattle.zq_index.specs.Infos.{joined}
 use Rattle.zq_index.specs.Texts.{text_cmp}
 use Rattle.zq_hat.specs.declared.types.Declaration.{Declaration}
-use Rattle.zq_interests.specs.declared.types.InterestEntry.{InterestEntry}
 use Rattle.zq_hat.specs.declared.types.Strategy.{Strategy}
 use Rattle.zq_hat.specs.declared.types.Strategy.TheVariants as strategy
 use Rattle.zq_hat.specs.Fellows.{fellow_info}
@@ -30,16 +25,16 @@ use Rattle.zq_machine.specs.Trees.{own_entry, touched}
 
 -- ---- who listens
 
--- an upstream and a peer in North are told unasked
-abbrev pub is_unasked : Strategy → Bool → Bool
-is_unasked strategy.Broker north = false
-is_unasked strategy.Client north = true
-is_unasked strategy.Peer north = north
-is_unasked strategy.Router north = false
+-- a broker's face listens where it asks, an upstream always, a peer in North always and elsewhere where it asks, and a router's face never
+abbrev pub listens_by : Strategy → (north asks : Bool) → Bool
+listens_by strategy.Broker north asks = asks
+listens_by strategy.Client north asks = true
+listens_by strategy.Peer north asks = north || asks
+listens_by strategy.Router north asks = false
 
--- a face of the hat listens on the key: it is told unasked, or asks for the key
+-- a face of the hat listens on the key, which it asks for or not
 abbrev pub listens_in : Interests → ℕ → List ℕ → HatState → Bool
-listens_in ints face key h = is_unasked (strategy_at h) (is_north h.region) || asks_for face key ints
+listens_in ints face key h = listens_by (strategy_at h) (is_north h.region) (asks_for face key ints)
 
 -- the face is open, and listens on the key
 abbrev pub listens : Core → Interests → ℕ → List ℕ → Bool

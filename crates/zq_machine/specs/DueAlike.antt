@@ -6,27 +6,10 @@ use Rattle.zq_told.specs.Moved.{move_ears, move_telling}
 use Rattle.zq_machine.specs.Deciding.{refusal_of}
 use Rattle.zq_machine.specs.Due.{due, due_keys, due_touched, met_keys}
 use Rattle.zq_interests.specs.Interests.{Interests}
-use Rattle.zq_machine.specs.Moved.{move_core, move_text}
+use Rattle.zq_machine.specs.Moved.{move_asked, move_core, move_interests, move_text}
 use Rattle.zq_machine.specs.Neighbours.{answer_lacks, answer_told, ears_after, ears_asked, ears_ended, neighbours_lack, neighbours_told}
 use Rattle.zq_machine.specs.State.{Core}
 use Rattle.zq_machine.specs.TextCalls.{TextCall}
-
-module _ (φ : List ℕ → List ℕ) where
-  -- what an interest asks for, with its key moved
-  abbrev pub move_asked : InterestEntry → InterestEntry
-  move_asked asked = record asked { key = option_map φ asked.key }
-
-  -- the same, with its id
-  abbrev pub move_interest : ℕ × InterestEntry → ℕ × InterestEntry
-  move_interest i = (i.0, move_asked i.1)
-
-  -- the interests of a face with their keys moved
-  abbrev pub move_interests_of : ℕ × List (ℕ × InterestEntry) → ℕ × List (ℕ × InterestEntry)
-  move_interests_of f = (f.0, map move_interest f.1)
-
-  -- the interests of all faces with their keys moved
-  abbrev pub move_interests : Interests → Interests
-  move_interests ints = map move_interests_of ints
 
 -- what faces are told moves with its texts: with all texts moved, a call, an interest and the end of one tell the moved keys, leave what is kept of faces with its keys moved, and lack ids where they lacked
 pub record ToldAlike (φ : List ℕ → List ℕ) : Type 0 where

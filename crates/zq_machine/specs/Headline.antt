@@ -182,13 +182,14 @@ ended_by h = if is_final h.message then h.number else None
 abbrev pub ended_in : List Handed → List ℕ
 ended_in hs = filter_map ended_by hs
 
--- what a call may hand: a request, requests or the asker's final; a reply, a reply; a moment that has come, replies and finals; the end of an entry or of a reply, finals; a closing, finals and declarations; what is declared or withdrawn, and a network, declarations; any other call, nothing
+-- what a call may hand: a request, requests or the asker's final; a reply, a reply; a moment that has come, replies and finals; the end of an entry or of a reply, finals; a closing, finals and declarations; an opening, what is declared or withdrawn, and a network, declarations; any other call, nothing
 abbrev pub may_hand : Call → Message → Bool
 may_hand (call.Request face r now) m = is_request m || is_final m
 may_hand (call.Response face r) m = is_response m
 may_hand (call.ResponseFinal face rid) m = is_final m
 may_hand (call.Sent reply) m = is_final m
 may_hand (call.Poll now) m = is_response m || is_final m
+may_hand (call.Open o) m = is_declaration m
 may_hand (call.Close face) m = is_final m || is_declaration m
 may_hand (call.DeclareQueryable face id wire info node) m = is_declaration m
 may_hand (call.UndeclareQueryable face id wire node) m = is_declaration m

@@ -6,7 +6,10 @@ pub mod TextCalls
 pub mod Selecting
 pub mod Messages
 pub mod Trees
+pub mod Due
+pub mod Neighbours
 pub mod Deciding
+pub mod Receivers
 pub mod Writing
 pub mod Hearing
 pub mod Direct
@@ -18,6 +21,4 @@ pub mod Children
 pub mod Headline
 pub mod Moved
 pub mod Agreeing
-pub mod Due
-pub mod Neighbours
 pub mod DueAlike

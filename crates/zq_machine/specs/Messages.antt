@@ -1,5 +1,5 @@
 -- What a call decides to hand, over texts: its outcome, its messages, and what faces are told.
-use Rattle.std.specs.Prelude.{ℕ, List, Option, Some, None}
+use Rattle.std.specs.Prelude.{ℕ, ◌==◌, List, Option, Some, None, if◌then◌else◌}
 use Rattle.zq_message.specs.declared.message.FaceId.{FaceId}
 use Rattle.zq_message.specs.declared.message.QueryTarget.{QueryTarget}
 use Rattle.zq_message.specs.declared.message.QueryableInfoType.{QueryableInfoType}
@@ -51,9 +51,13 @@ pub record Telling : Type 0 where
   pub node : ℕ
   pub body : TellingBody
 
+-- the id 0, which along trees all keys have, ends with its key, and any other by itself
+abbrev pub ending_key : ℕ → List ℕ → Option (List ℕ)
+ending_key id key = if id == 0 then Some key else None
+
 -- a hat tells of a key: that an id has it with this information, or that the id ended
 abbrev pub told_or_ended : ℕ → List ℕ → Option QueryableInfoType → TellingBody
-told_or_ended id key None = key_ended id (Some key)
+told_or_ended id key None = key_ended id (ending_key id key)
 told_or_ended id key (Some info) = key_told id key info
 
 -- what a hat tells a face, in answer to no interest

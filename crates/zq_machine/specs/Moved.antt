@@ -2,6 +2,9 @@
 use Rattle.std.specs.Prelude.{◌≡◌, ℕ, List, [], ◌∷◌, map, option_map, if◌then◌else◌}
 use Rattle.zq_hat.specs.State.{HatState}
 use Rattle.zq_hat.specs.Moved.{move_hat, move_mark}
+use Rattle.zq_interests.specs.declared.types.InterestEntry.{InterestEntry}
+use Rattle.zq_interests.specs.Interests.{Interests}
+use Rattle.zq_told.specs.Moved.{move_ears}
 use Rattle.zq_tables.specs.declared.said.Said.{Said}
 use Rattle.zq_tables.specs.declared.said.Said.TheVariants as said
 use Rattle.zq_machine.specs.Messages.{Decided, Telling, TellingBody, TextMessage, all_told, key_ended, key_told, text_final, text_reply, text_request}
@@ -32,9 +35,25 @@ module _ (φ : List ℕ → List ℕ) where
   abbrev pub move_region : ℕ × HatState → ℕ × HatState
   move_region h = (h.0, move_hat φ h.1)
 
-  -- the deciding part with its texts moved: the hats alone have some
+  -- what an interest asks for, with its key moved
+  abbrev pub move_asked : InterestEntry → InterestEntry
+  move_asked asked = record asked { key = option_map φ asked.key }
+
+  -- the same, with its id
+  abbrev pub move_interest : ℕ × InterestEntry → ℕ × InterestEntry
+  move_interest i = (i.0, move_asked i.1)
+
+  -- the interests of a face with their keys moved
+  abbrev pub move_interests_of : ℕ × List (ℕ × InterestEntry) → ℕ × List (ℕ × InterestEntry)
+  move_interests_of f = (f.0, map move_interest f.1)
+
+  -- the interests of all faces with their keys moved
+  abbrev pub move_interests : Interests → Interests
+  move_interests ints = map move_interests_of ints
+
+  -- the deciding part with its texts moved: the hats have some, what faces ask, and what they were told
   abbrev pub move_core : Core → Core
-  move_core c = record c { hats = map move_region c.hats }
+  move_core c = record c { hats = map move_region c.hats; interests = move_interests c.interests; ears = move_ears φ c.ears }
 
   -- a text that stands whole in a message, moved; the empty one stands for no expression, and stays empty
   abbrev pub move_suffix : List ℕ → List ℕ

@@ -13,14 +13,16 @@ use Rattle.zq_hat.specs.Regions.{in_routers, strategy_at}
 use Rattle.zq_hat.specs.State.{HatState}
 use Rattle.zq_hat.specs.declared.types.FaceRecord.{FaceRecord}
 use Rattle.zq_hat.specs.Kept.{clashes_at, declaration_at, has_face, is_full, new_hat, with_face_opened}
+use Rattle.zq_interests.specs.Interests.{Interests}
 use Rattle.zq_query.specs.Records.{QueryState}
 use Rattle.zq_tables.specs.Naming.{NamingState}
+use Rattle.zq_told.specs.Ears.{Ears}
 use Rattle.zq_route.specs.declared.gateways.Gateways.{Gateways}
 use Rattle.zq_machine.specs.declared.config.Entry.{Entry}
 use Rattle.zq_machine.specs.declared.face.OpenFace.{OpenFace}
 use Rattle.zq_machine.specs.Configs.{Settings, region_of, north_of}
 
--- what decides: it holds texts, and no number that stands for one
+-- what decides: it holds texts, and no number that stands for one; what faces ask to hear and what is kept of what they were told stand with it
 pub record Core : Type 0 where
   pub config : Settings
   pub faces : List (ℕ × OpenFace)
@@ -28,6 +30,8 @@ pub record Core : Type 0 where
   pub hats : List (ℕ × HatState)
   pub tables : List (ℕ × Gateways)
   pub queries : QueryState
+  pub interests : Interests
+  pub ears : Ears
 
 -- a gateway: what decides, and what stands for keys at each face
 pub record State : Type 0 where
@@ -49,7 +53,7 @@ no_queries config = record { records = []; last_ids = []; closed = []; requests 
 -- the gateway before any call
 abbrev pub opening_state : Settings → State
 opening_state config = record {
-  core = record { config = config; faces = []; next_face = config.start.faces; hats = first_hats config; tables = []; queries = no_queries config };
+  core = record { config = config; faces = []; next_face = config.start.faces; hats = first_hats config; tables = []; queries = no_queries config; interests = []; ears = [] };
   names = [];
 }
 

@@ -1,5 +1,5 @@
 -- What faces are told along the trees of router regions.
-use Rattle.std.specs.Prelude.{ℕ, ◌==◌, Bool, List, [], ◌∷◌, ◌++◌, map, fold, Option, Some, None, if◌then◌else◌}
+use Rattle.std.specs.Prelude.{ℕ, ◌==◌, Bool, List, [], ◌∷◌, fold, Option, Some, None, if◌then◌else◌}
 use Rattle.std.specs.BTreeSet.{insert_key}
 use Rattle.std.specs.List.{filter_map, flat_map, list_any}
 use Rattle.std.specs.Str.{bytes_eq}
@@ -12,14 +12,12 @@ use Rattle.zq_regions.specs.Region.{region_index}
 use Rattle.zq_index.specs.Infos.{joined}
 use Rattle.zq_index.specs.Texts.{text_cmp}
 use Rattle.zq_trees.specs.declared.types.Telling.{Telling as TreeTelling}
-use Rattle.zq_trees.specs.Tellings.{in_order}
 use Rattle.zq_hat.specs.declared.types.Declaration.{Declaration}
 use Rattle.zq_hat.specs.Kept.{declaration_at, keys_of_face, region_info}
 use Rattle.zq_hat.specs.Regions.{in_routers, strategy_at}
 use Rattle.zq_hat.specs.Routers.{losing, source_at}
 use Rattle.zq_hat.specs.State.{HatState}
 use Rattle.zq_hat.specs.Trees.{network_told, own_told, region_keys, to_children}
-use Rattle.zq_machine.specs.Messages.{Telling, from_hat}
 use Rattle.zq_machine.specs.Selecting.{full_text}
 use Rattle.zq_machine.specs.State.{Core, hat_at, hat_of}
 use Rattle.zq_machine.specs.TextCalls.{TextCall, closing, declaring, withdrawing, announcing, retracting, networking}
@@ -106,9 +104,3 @@ tree_told before after (announcing face s info node) = router_told face node (fu
 tree_told before after (retracting face s node) = router_told face node (full_text s) None before
 tree_told before after (networking r net) = networked_told r before.hats after.hats
 tree_told before after t = []
-
--- ---- all of it
-
--- what faces are told by a call that is accepted, by what decides before and after it: in order, each once
-abbrev pub due_told : (before after : Core) → TextCall → List Telling
-due_told before after t = map from_hat (in_order (tree_told before after t ++ all_own_told before.hats after.hats (touched before t)))

@@ -202,9 +202,10 @@ pub fn routers_undue()
     ensures { (c : Core) (ints : Interests) (face : ℕ) (key : List ℕ) (h : HatState) → hat_of face c ≡ Some h → is_routing h ≡ true → due c ints face key ≡ None }
 {}
 
-/// A face listens on a key that has an interest without a key, or with one that meets it.
+/// A face that is no router's listens on a key that has an interest without a key, or with one that
+/// meets it.
 pub fn asking_listens()
-    ensures { (c : Core) (ints : Interests) (face : ℕ) (key : List ℕ) (h : HatState) → hat_of face c ≡ Some h → (id : ℕ) (asked : InterestEntry) → at id (interests_of face ints) ≡ Some asked → option_map_or (λ k. intersects k key) asked.key true ≡ true → listens c ints face key ≡ true }
+    ensures { (c : Core) (ints : Interests) (face : ℕ) (key : List ℕ) (h : HatState) → hat_of face c ≡ Some h → is_routing h ≡ false → (id : ℕ) (asked : InterestEntry) → at id (interests_of face ints) ≡ Some asked → option_map_or (λ k. intersects k key) asked.key true ≡ true → listens c ints face key ≡ true }
 {}
 
 /// A face in North that is no router's listens on every key.

@@ -13,7 +13,7 @@ ghost use Rattle.zq_machine.specs.Deciding.{is_accepted};
 ghost use Rattle.zq_machine.specs.Due.{due};
 ghost use Rattle.zq_interests.specs.Interests.{Interests, interests_of, with_interest, without_interest};
 ghost use Rattle.zq_machine.specs.Machine.{after, state_after, step};
-ghost use Rattle.zq_machine.specs.Neighbours.{AllTold, AskingTold, EndingTold, FaceTold, Hears};
+ghost use Rattle.zq_machine.specs.Receivers.{AllTold, AskingTold, EndingTold, FaceTold, Hears};
 ghost use Rattle.zq_machine.specs.State.{Core, State, at, is_open, opening_state};
 ghost use Rattle.zq_machine.specs.TextCalls.{read};
 

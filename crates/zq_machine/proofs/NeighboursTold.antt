@@ -1,0 +1,155 @@
+-- What a call tells neighbours is told to open faces that listen, and of keys; so all that a call tells can be told, and is what faces hear.
+use Rattle.std.proofs.Common.{◌≡◌, ◌∙◌, refl, sym, ap, subst, ℕ, Bool, true, false, cond, List, [], ◌∷◌, ◌++◌, map, filter, fold, Option, Some, None}
+use Rattle.std.specs.Prelude.{◌==◌, ◌&&◌, ◌||◌}
+use Rattle.std.specs.BTreeMap.{is_at}
+use Rattle.std.specs.List.{AllByRecursion, flat_map, list_any}
+use Rattle.std.specs.Option.{is_some}
+use Rattle.std.specs.Ordering.{nat_cmp}
+use Rattle.std.specs.Str.{bytes_eq}
+use Rattle.std.proofs.lemmas.Bool.{false≢true}
+use Rattle.std.proofs.lemmas.Slice.Eq.{bytes_eq-Decides}
+use Rattle.zq_trees.specs.declared.types.Telling.{Telling as TreeTelling}
+use Rattle.zq_trees.specs.Tellings.{in_order}
+use Rattle.zq_hat.specs.State.{HatState}
+use Rattle.zq_hat.specs.Trees.{region_keys}
+use Rattle.zq_interests.specs.Interests.{Interests}
+use Rattle.zq_told.specs.declared.types.FaceDues.{FaceDues}
+use Rattle.zq_told.specs.declared.types.Way.TheVariants.{Unasked}
+use Rattle.zq_told.specs.Ears.{Ears}
+use Rattle.zq_told.specs.Leaving.{IsMeant, is_looked_at}
+use Rattle.zq_told.specs.Telling.{KeyDue, tell_faces}
+use Rattle.zq_told.proofs.Meant.{tells_meant}
+use Rattle.zq_tables.specs.Naming.{NamingState}
+use Rattle.zq_machine.specs.declared.face.OpenFace.{OpenFace}
+use Rattle.zq_machine.specs.Configs.{Settings}
+use Rattle.zq_machine.specs.Deciding.{accepted, refusal_of, renamed, told_of}
+use Rattle.zq_machine.specs.Due.{due_keys as keys_due, due_touched, listens, with_region_keys}
+use Rattle.zq_machine.specs.Hearing.{CanBeTold, hear}
+use Rattle.zq_machine.specs.Machine.{accepted_state}
+use Rattle.zq_machine.specs.Neighbours.{due_on, dues_on, kept_told, looked_at, with_dues}
+use Rattle.zq_machine.specs.State.{Core, State, at}
+use Rattle.zq_machine.specs.TextCalls.{TextCall, opening}
+use Rattle.zq_machine.specs.Trees.{touched}
+use Rattle.zq_machine.specs.Writing.{tell}
+use Rattle.zq_machine.proofs.Agreed.{InOrder}
+use Rattle.zq_machine.proofs.Changing.{itself, number_test, one_number}
+use Rattle.zq_machine.proofs.DueHeard.{AlongTree, AreTexts, Can, IsOpen, all_ordered, due_trees, from_can, region_texts, texts_put, touched_texts, trees_due}
+use Rattle.zq_machine.proofs.Hearing.{told_heard}
+use Rattle.zq_machine.proofs.NeighbourLooks.{looked_is}
+use Rattle.zq_machine.proofs.Lists.{all_append, all_weaker}
+use Rattle.zq_machine.proofs.Worded.{Any, Each, IsKey, IsWorded}
+
+-- ---- what holds of each key that is looked at at a face
+module _ (P : ℕ → List ℕ → Type 0) where
+  abbrev Holds : FaceDues → Type 0
+  Holds d = AllByRecursion (λ (k : KeyDue). P d.face.0 k.0) d.keys
+
+  key_holds : (n : ℕ) (key : List ℕ) (ks : List KeyDue) → AllByRecursion (λ (k : KeyDue). P n k.0) ks → list_any (λ (k : KeyDue). bytes_eq key k.0) ks ≡ true → P n key
+  key_holds n key [] all e = absurd (false≢true e)
+  key_holds n key (k ∷ ks) all e = by (bytes_eq key k.0) refl (key_holds n key ks all.1) e
+    where
+      by : (b : Bool) → bytes_eq key k.0 ≡ b → (list_any (λ (q : KeyDue). bytes_eq key q.0) ks ≡ true → P n key) → (b || list_any (λ (q : KeyDue). bytes_eq key q.0) ks) ≡ true → P n key
+      by true is more f = subst (P n) (sym ((bytes_eq-Decides key k.0).0 is)) all.0
+      by false is more f = more f
+
+  pub looked_holds : (dues : List FaceDues) → AllByRecursion Holds dues → (n : ℕ) (key : List ℕ) → is_looked_at dues n key ≡ true → P n key
+  looked_holds [] all n key e = absurd (false≢true e)
+  looked_holds (d ∷ ds) all n key e = by (n == d.face.0) refl (list_any (λ (k : KeyDue). bytes_eq key k.0) d.keys) refl (looked_holds ds all.1 n key) e
+    where
+      by : (b : Bool) → (n == d.face.0) ≡ b → (x : Bool) → list_any (λ (k : KeyDue). bytes_eq key k.0) d.keys ≡ x → (is_looked_at ds n key ≡ true → P n key) → ((b && x) || is_looked_at ds n key) ≡ true → P n key
+      by true is true on more f = subst (λ m. P m key) (sym (one_number n d.face.0 (number_test n d.face.0 ∙ is))) (key_holds d.face.0 key d.keys all.0 on)
+      by true is false on more f = more f
+      by false is x on more f = more f
+
+-- ---- numbers of a list are there
+there_by : {X : Type 0} (b : Bool) (x : X) (o : Option X) → is_some o ≡ true → is_some (cond b (Some x) o) ≡ true
+there_by true x o e = refl
+there_by false x o e = e
+
+each_there : {X : Type 0} (all es : List (ℕ × X)) → ((k : ℕ) → is_some (at k es) ≡ true → is_some (at k all) ≡ true) → AllByRecursion (λ (e : ℕ × X). is_some (at e.0 all) ≡ true) es
+each_there all [] in_all = tt
+each_there all (e ∷ es) in_all = (
+  in_all e.0 (ap (λ b. is_some (cond b (Some e.1) (at e.0 es))) (itself e.0)),
+  each_there all es (λ k there. in_all k (there_by (is_at (nat_cmp k) e.0) e.1 (at k es) there)),
+)
+
+-- ---- keys that are looked at
+keys_texts : (ks : List (List ℕ)) (hats : List (ℕ × HatState)) → AreTexts ks → Each Any IsWorded hats → AreTexts (fold with_region_keys ks hats)
+keys_texts ks [] all w = all
+keys_texts ks (h ∷ hats) all w = keys_texts (with_region_keys ks h) hats (texts_put ks (region_keys h.1) all (region_texts h.1 w.0.1)) w.1
+
+looked_texts : (c : Core) → Each Any IsWorded c.hats → (t : TextCall) → refusal_of c t ≡ None → (face : ℕ) → AreTexts (due_touched c t face)
+looked_texts c w (opening o) h face = by (face == c.next_face)
+  where
+    by : (b : Bool) → AreTexts (cond b (keys_due c) [])
+    by true = keys_texts [] c.hats tt w
+    by false = tt
+looked_texts c w t h face = texts_put [] (touched c t) tt (touched_texts c w t h)
+
+-- ---- what is told
+-- it can be told, and to a face that listens on the key
+pub record IsNear (names : NamingState) (c : Core) (ints : Interests) (u : TreeTelling) : Type 0 where
+  pub can : Can names u
+  pub listens : listens c ints u.face.0 u.key ≡ true
+
+module _ (names : NamingState) (before after : Core) (ints : Interests) (t : TextCall) where
+  abbrev Near : ℕ → List ℕ → Type 0
+  Near n key = (IsOpen names n × IsKey key) × (listens after ints n key ≡ true)
+
+  near_rows : (n : ℕ) → IsOpen names n → (ks : List (List ℕ)) → AreTexts ks → AllByRecursion (λ (k : KeyDue). Near n k.0) (map (due_on after ints n) (filter (λ key. listens after ints n key) ks))
+  near_rows n there [] all = tt
+  near_rows n there (k ∷ ks) all = by (listens after ints n k) refl (near_rows n there ks all.1)
+    where
+      by : (b : Bool) → listens after ints n k ≡ b → AllByRecursion (λ (q : KeyDue). Near n q.0) (map (due_on after ints n) (filter (λ key. listens after ints n key) ks))
+          → AllByRecursion (λ (q : KeyDue). Near n q.0) (map (due_on after ints n) (cond b (k ∷ filter (λ key. listens after ints n key) ks) (filter (λ key. listens after ints n key) ks)))
+      by true e more = (((there, all.0), e), more)
+      by false e more = more
+
+  near_by : (m : ℕ) (ks : List KeyDue) (rest : List FaceDues) → AllByRecursion (λ (k : KeyDue). Near m k.0) ks → AllByRecursion (Holds Near) rest → AllByRecursion (Holds Near) (with_dues m ks ++ rest)
+  near_by m [] rest all more = more
+  near_by m (k ∷ ks) rest all more = (all, more)
+
+  near_faces : ((face : ℕ) → AreTexts (due_touched before t face)) → (es : List (ℕ × OpenFace)) → AllByRecursion (λ (e : ℕ × OpenFace). IsOpen names e.0) es
+      → AllByRecursion (Holds Near) (flat_map (λ (o : ℕ × OpenFace). with_dues o.0 (dues_on after ints (due_touched before t o.0) o.0)) es)
+  near_faces texts [] there = tt
+  near_faces texts (e ∷ es) there = near_by e.0 (dues_on after ints (due_touched before t e.0) e.0) _ (near_rows e.0 there.0 (due_touched before t e.0) (texts e.0)) (near_faces texts es there.1)
+
+  pub near_told : ((face : ℕ) → AreTexts (due_touched before t face)) → AllByRecursion (λ (e : ℕ × OpenFace). IsOpen names e.0) after.faces → (kept : Ears) → AllByRecursion (IsNear names after ints) (kept_told before after ints t kept)
+  near_told texts there kept =
+      all_weaker (IsMeant kept (looked_at before after ints t)) (IsNear names after ints)
+      (λ u meant. let near = looked_holds Near (looked_at before after ints t) near_all u.face.0 u.key meant.asked in record { can = near.0; listens = near.1 })
+      (tell_faces Unasked kept (looked_at before after ints t)).tellings (tells_meant Unasked kept (looked_at before after ints t))
+    where
+      near_all : AllByRecursion (Holds Near) (looked_at before after ints t)
+      near_all = subst (AllByRecursion (Holds Near)) (sym (looked_is before after ints t)) (near_faces texts after.faces there)
+
+module _ (config : Settings) (s : State) (i : InOrder config s) (t : TextCall) (fits : refusal_of s.core t ≡ None) (j : InOrder config (accepted_state s t)) where
+  open_after : AllByRecursion (λ (e : ℕ × OpenFace). IsOpen (renamed s t) e.0) (accepted s.core t).faces
+  open_after =
+      all_weaker (λ (e : ℕ × OpenFace). is_some (at e.0 (accepted s.core t).faces) ≡ true) (λ (e : ℕ × OpenFace). IsOpen (renamed s t) e.0) (λ e there. j.tied.named e.0 ∙ there)
+      (accepted s.core t).faces (each_there (accepted s.core t).faces (accepted s.core t).faces (λ k there. there))
+
+  -- what an accepted call tells neighbours
+  abbrev pub neighbours : List TreeTelling
+  neighbours = kept_told s.core (accepted s.core t) s.core.interests t s.core.ears
+
+  pub neighbours_near : AllByRecursion (IsNear (renamed s t) (accepted s.core t) s.core.interests) neighbours
+  neighbours_near = near_told (renamed s t) s.core (accepted s.core t) s.core.interests t (looked_texts s.core i.worded t fits) open_after s.core.ears
+
+  all_can : AllByRecursion (Can (renamed s t)) (due_trees config s i t ++ neighbours)
+  all_can =
+      all_append (Can (renamed s t)) (due_trees config s i t) neighbours
+      (all_weaker (AlongTree (renamed s t)) (Can (renamed s t)) (λ u along. along.can) (due_trees config s i t) (trees_due config s i t fits j))
+      (all_weaker (IsNear (renamed s t) (accepted s.core t) s.core.interests) (Can (renamed s t)) (λ u near. near.can) neighbours neighbours_near)
+
+  -- all that an accepted call tells is told of keys
+  pub due_keys : AllByRecursion (λ (u : TreeTelling). IsKey u.key) (due_trees config s i t ++ neighbours)
+  due_keys = all_weaker (Can (renamed s t)) (λ (u : TreeTelling). IsKey u.key) (λ u can. can.1) (due_trees config s i t ++ neighbours) all_can
+
+  -- it can be told
+  pub due_can : AllByRecursion (CanBeTold (renamed s t)) (told_of s.core t)
+  due_can = from_can (renamed s t) (in_order (due_trees config s i t ++ neighbours)) (all_ordered (Can (renamed s t)) [] (due_trees config s i t ++ neighbours) tt all_can)
+
+  -- and once it is told it is what faces hear
+  pub due_heard : hear (tell (accepted s.core t) (told_of s.core t) (renamed s t)).handed (renamed s t) ≡ told_of s.core t
+  due_heard = told_heard (accepted s.core t) (told_of s.core t) (renamed s t) due_can
