@@ -1,6 +1,6 @@
 -- What a change of one region's hat does to what faces hear: their own hat's fellows, the other regions' merge, and on what they listen.
 use Rattle.std.proofs.Common.{◌≡◌, ◌∙◌, refl, sym, ap, ℕ, Bool, true, false, cond, List, [], ◌∷◌, ◌++◌, map, Option, Some, None, eq-eqb, eqb-true, true≢false}
-use Rattle.std.specs.Prelude.{◌==◌, ◌&&◌, ◌||◌, filter}
+use Rattle.std.specs.Prelude.{◌==◌, ◌&&◌, filter}
 use Rattle.std.specs.List.{AllByRecursion, flat_map}
 use Rattle.std.specs.Map.{keys_of}
 use Rattle.std.specs.BTreeMap.{is_at}
@@ -30,7 +30,7 @@ use Rattle.zq_hat.specs.Kept.{region_info}
 use Rattle.zq_hat.specs.Regions.{in_routers, is_north, same_mode, same_region, strategy_at, strategy_of}
 use Rattle.zq_hat.specs.State.{HatState}
 use Rattle.zq_machine.specs.declared.face.OpenFace.{OpenFace}
-use Rattle.zq_machine.specs.Due.{due, heard, heard_as, heard_by, heard_in, is_unasked, listens, listens_in}
+use Rattle.zq_machine.specs.Due.{due, heard, heard_as, heard_by, heard_in, listens, listens_by, listens_in}
 use Rattle.zq_interests.specs.Interests.{Interests, asks_for}
 use Rattle.zq_machine.specs.State.{Core, at, change_hat, hat_at, is_region, put_hat}
 use Rattle.zq_machine.specs.Trees.{own_entry}
@@ -177,19 +177,19 @@ module _ (c : HatChange) (face : ℕ) (key : List ℕ) (o : OpenFace) (hats : Li
 
 -- ---- a face listens as before
 hears_same : (asks : Bool) (x : Change) (key : List ℕ) (h : HatState) → hears_as asks (changed_by x key h) ≡ hears_as asks h
-hears_same asks x key h = λ j. is_unasked (keeps_strategy x key h j) (is_north (keeps_region x key h j)) || asks
+hears_same asks x key h = λ j. listens_by (keeps_strategy x key h j) (is_north (keeps_region x key h j)) asks
 
 module _ (asks : Bool) (key : List ℕ) (o : OpenFace) (hats : List (ℕ × HatState)) where
-  listens_by : (x : Change) (b : Bool) (h : Option HatState) → option_map_or (hears_as asks) (cond b (option_map (changed_by x key) h) h) false ≡ option_map_or (hears_as asks) h false
-  listens_by x true None = refl
-  listens_by x true (Some h) = hears_same asks x key h
-  listens_by x false h = refl
+  listens_if : (x : Change) (b : Bool) (h : Option HatState) → option_map_or (hears_as asks) (cond b (option_map (changed_by x key) h) h) false ≡ option_map_or (hears_as asks) h false
+  listens_if x true None = refl
+  listens_if x true (Some h) = hears_same asks x key h
+  listens_if x false h = refl
 
   pub listens_after : (next : Option HatChange) → listens_as asks (hats_after next key hats) o ≡ listens_as asks hats o
   listens_after None = refl
   listens_after (Some c) =
       ap (λ (h : Option HatState). option_map_or (hears_as asks) h false) (hat_after o.region c.region (changed_by c.change key) hats)
-      ∙ listens_by c.change (same_region o.region c.region) (hat_at o.region hats)
+      ∙ listens_if c.change (same_region o.region c.region) (hat_at o.region hats)
 
 -- ---- the list of what will be due
 module _ (asks : List ℕ → Bool) (next : Option HatChange) (face : ℕ) (o : OpenFace) (hats : List (ℕ × HatState)) where

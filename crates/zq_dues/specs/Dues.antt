@@ -1,5 +1,5 @@
 -- What is due to an open face, by the hats of the regions as they are or as a change of one of them will make them.
-use Rattle.std.specs.Prelude.{◌≡◌, ℕ, Bool, false, ◌||◌, List, [], ◌∷◌, filter, fold, map, Option, Some, None, if◌then◌else◌}
+use Rattle.std.specs.Prelude.{◌≡◌, ℕ, Bool, false, List, [], ◌∷◌, filter, fold, map, Option, Some, None, if◌then◌else◌}
 use Rattle.std.specs.Option.{option_map, option_map_or}
 use Rattle.std.specs.List.{AllByRecursion}
 use Rattle.zq_message.specs.declared.message.QueryableInfoType.{QueryableInfoType}
@@ -9,7 +9,7 @@ use Rattle.zq_hat.specs.Regions.{is_north, strategy_at}
 use Rattle.zq_hat.specs.State.{HatState}
 use Rattle.zq_told.specs.Telling.{KeyDue}
 use Rattle.zq_machine.specs.declared.face.OpenFace.{OpenFace}
-use Rattle.zq_machine.specs.Due.{heard_as, is_unasked, with_region_keys}
+use Rattle.zq_machine.specs.Due.{heard_as, listens_by, with_region_keys}
 use Rattle.zq_interests.specs.Interests.{Interests, asks_for}
 use Rattle.zq_machine.specs.State.{Core, at, change_hat, hat_at}
 use Rattle.zq_own.specs.declared.entries.NewInfo.{NewInfo}
@@ -29,7 +29,7 @@ new_info c key hats = option_map (λ (h : HatState). record { region = c.region;
 
 -- a face of the hat that asks for a key, or not, listens on it
 abbrev pub hears_as : Bool → HatState → Bool
-hears_as asks h = is_unasked (strategy_at h) (is_north h.region) || asks
+hears_as asks h = listens_by (strategy_at h) (is_north h.region) asks
 
 -- an open face does
 abbrev pub listens_as : Bool → List (ℕ × HatState) → OpenFace → Bool

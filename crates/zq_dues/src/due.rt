@@ -4,7 +4,7 @@ ghost use Rattle.zq_regions.specs.Region.{region_index};
 ghost use Rattle.zq_hat.specs.Changes.{changed_if};
 ghost use Rattle.zq_hat.specs.Fellows.{fellow_info};
 ghost use Rattle.zq_hat.specs.Regions.{is_north, strategy_at};
-ghost use Rattle.zq_machine.specs.Due.{due, heard_as, heard_by, is_unasked, listens};
+ghost use Rattle.zq_machine.specs.Due.{due, heard_as, heard_by, listens, listens_by};
 ghost use Rattle.zq_interests.specs.Interests.{Interests, asks_for};
 ghost use Rattle.zq_machine.specs.State.{Core, at};
 ghost use Rattle.zq_machine.specs.Trees.{own_entry};
@@ -21,26 +21,26 @@ use zq_own::entries::{NewInfo, own_entry, own_entry_as};
 use zq_own::hats::hat_at;
 use zq_tables::RegionMap;
 
-/// Whether the faces of a hat are told unasked: as an upstream, or as a peer in North.
-fn is_unasked(hat: &Hat) -> bool
-    ensures { result ≡ is_unasked (strategy_at hat.now) (is_north hat.now.region) }
+// Whether a face of the hat, which asks for a key or not, listens on it: a broker's if it asks, an
+// upstream always, a peer in North always and elsewhere if it asks, and a router's never.
+fn listens_by(hat: &Hat, asks: bool) -> bool
+    ensures { result ≡ listens_by (strategy_at hat.now) (is_north hat.now.region) asks }
 {
     match hat.strategy() {
-        Strategy::Broker => false,
+        Strategy::Broker => asks,
         Strategy::Client => true,
-        Strategy::Peer => is_north(hat.region()),
+        Strategy::Peer => is_north(hat.region()) || asks,
         Strategy::Router => false,
     }
 }
 
-/// Whether an open face listens on a key: it is told unasked, or it asks for it. No change of a hat
-/// changes that.
+/// Whether an open face, which asks for a key or not, listens on it. No change of a hat changes that.
 pub fn listens(hats: &RegionMap<Hat>, opened: OpenFace, asks: bool) -> bool
     ensures value { result ≡ listens_as asks hats.now opened }
     ensures same { (c : Core) (ints : Interests) (face : ℕ) (key : List ℕ) → at face c.faces ≡ Some opened → asks ≡ asks_for face key ints → hats.now ≡ c.hats → result ≡ listens c ints face key }
 {
     match hat_at(hats, opened.region) {
-        Some(hat) => is_unasked(hat) || asks,
+        Some(hat) => listens_by(hat, asks),
         None => false,
     }
 }
