@@ -1,6 +1,9 @@
 -- What is told, message by message, and how it is taken back.
-use Rattle.std.proofs.Common.{◌≡◌, ◌∙◌, ℕ, Bool, false, List, [], ◌∷◌, ◌++◌, fold, Option, Some, None, IfSome, refl, sym, ap, arith, append_assoc, append-nil}
+use Rattle.std.proofs.Common.{◌≡◌, ◌∙◌, ℕ, ◌==◌, Bool, true, false, true≢false, cond, not, List, [], ◌∷◌, ◌++◌, drop, fold, length, Option, Some, None, IfSome, refl, sym, ap, arith, append_assoc, append-nil}
+use Rattle.std.specs.Prelude.{◌&&◌, ◌≤◌, is_none}
 use Rattle.std.specs.BTreeSet.{insert_key}
+use Rattle.std.proofs.lemmas.Bool.{false≢true}
+use Rattle.std.proofs.lemmas.List.{drop-append-le}
 use Rattle.std.specs.List.{All}
 use Rattle.std.proofs.lemmas.List.Elements.{All-nil, All-tail}
 use Rattle.std.proofs.lemmas.Map.Views.{All-insert_key}
@@ -17,11 +20,11 @@ use Rattle.zq_ids.proofs.IdLemmas.{without-with_id}
 use Rattle.zq_tables.specs.Naming.{Names, NamingState, change_naming, face_keys, face_naming, text_at, with_told_number, without_sent}
 use Rattle.zq_tables.proofs.Emptied.{changed_back, changed_idle}
 use Rattle.zq_machine.specs.Handing.{Handed}
-use Rattle.zq_machine.specs.Messages.{Telling, from_hat, told_or_ended}
+use Rattle.zq_machine.specs.Messages.{Telling, from_hat, key_ended, told_or_ended}
 use Rattle.zq_machine.specs.State.{Core, at}
 use Rattle.zq_machine.specs.declared.face.OpenFace.{OpenFace}
 use Rattle.zq_machine.specs.Writing.{Told, and_then, is_local_face, is_local_region, may_number, numbers_region, tell, tell_body, tell_by, tell_declare, tell_number, told_key}
-use Rattle.zq_handing.specs.Telling.{body_of, declare_of, handed_declare, handed_number, untold, untold_body, untold_message}
+use Rattle.zq_handing.specs.Telling.{body_of, declare_of, end_of, ends_alone, handed_declare, handed_number, untold, untold_body, untold_message}
 
 -- ---- lists of what is told
 
@@ -52,24 +55,40 @@ all_ordered P ts all = by [] ts (All-nil P) all
 
 -- ---- one thing that a hat tells
 
--- it is told of its key, whether with an information or without
-told_as : (c : Core) (t : hat.Telling) (names : NamingState) → tell_body c (from_hat t) (from_hat t).body names ≡ tell_by c t.face t.key (λ k. declare_of t k.wire) names
-told_as c t names = by t.info
+-- the end of an id other than 0 is told by the id alone, and numbers stay as they are
+pub told_end : (c : Core) (t : hat.Telling) (names : NamingState) → ends_alone t ≡ true → tell_body c (from_hat t) (from_hat t).body names ≡ tell_declare t.face [] (end_of t) names
+told_end c t names alone = by t.info alone
   where
-    by : (o : Option QueryableInfoType) → tell_body c (from_hat t) (told_or_ended t.id t.key o) names ≡ tell_by c t.face t.key (λ k. record { interest = None; node = t.node; body = body_of t.id k.wire o }) names
-    by None = refl
-    by (Some info) = refl
+    ended : (b : Bool) → not b ≡ true → tell_body c (from_hat t) (key_ended t.id (cond b (Some t.key) None)) names ≡ tell_declare t.face [] (end_of t) names
+    ended true alone = absurd (false≢true alone)
+    ended false alone = refl
+
+    by : (o : Option QueryableInfoType) → (is_none o && not (t.id == 0)) ≡ true → tell_body c (from_hat t) (told_or_ended t.id t.key o) names ≡ tell_declare t.face [] (end_of t) names
+    by None alone = ended (t.id == 0) alone
+    by (Some info) alone = absurd (false≢true alone)
+
+-- all else is told of its key, whether with an information or without
+told_as : (c : Core) (t : hat.Telling) (names : NamingState) → ends_alone t ≡ false → tell_body c (from_hat t) (from_hat t).body names ≡ tell_by c t.face t.key (λ k. declare_of t k.wire) names
+told_as c t names keyed = by t.info keyed
+  where
+    ended : (b : Bool) → not b ≡ false → tell_body c (from_hat t) (key_ended t.id (cond b (Some t.key) None)) names ≡ tell_by c t.face t.key (λ k. record { interest = None; node = t.node; body = body_of t.id k.wire None }) names
+    ended true keyed = refl
+    ended false keyed = absurd (true≢false keyed)
+
+    by : (o : Option QueryableInfoType) → (is_none o && not (t.id == 0)) ≡ false → tell_body c (from_hat t) (told_or_ended t.id t.key o) names ≡ tell_by c t.face t.key (λ k. record { interest = None; node = t.node; body = body_of t.id k.wire o }) names
+    by None keyed = ended (t.id == 0) keyed
+    by (Some info) keyed = refl
 
 -- the messages: of a number, if one is new, and of the key
 abbrev pub messages_of : hat.Telling → DeclKey → List Handed
 messages_of t d = handed_number t.face (nonwild t.key) d.declared ++ handed_declare t.face (declare_of t d.wire) ∷ []
 
-module _ (c : Core) (t : hat.Telling) (names : NamingState) (d : DeclKey) (key : d ≡ told_key c t.face t.key names) where
+module _ (c : Core) (t : hat.Telling) (names : NamingState) (d : DeclKey) (keyed : ends_alone t ≡ false) (key : d ≡ told_key c t.face t.key names) where
   abbrev told_by : DeclKey → Told
   told_by k = and_then (tell_number t.face t.key k.declared names) (tell_declare t.face t.key (declare_of t k.wire))
 
   told : tell_body c (from_hat t) (from_hat t).body names ≡ told_by d
-  told = told_as c t names ∙ ap told_by (sym key)
+  told = told_as c t names keyed ∙ ap told_by (sym key)
 
   pub told_messages : (tell_body c (from_hat t) (from_hat t).body names).handed ≡ messages_of t d
   told_messages = ap (λ (w : Told). w.handed) told ∙ by d.declared
@@ -129,3 +148,11 @@ untold_messages t d names fresh = untold-append (handed_number t.face (nonwild t
     by : (o : Option ℕ) → IfSome o (λ id. text_at id (face_naming t.face.0 names).ours ≡ None) → untold (handed_number t.face (nonwild t.key) o) (change_naming t.face.0 (with_told_number t.key o) names) ≡ names
     by None free = changed_idle t.face.0 (with_told_number t.key None) names refl
     by (Some id) free = taken_back t.face.0 id t.key names free
+
+-- nothing of an end is taken back
+pub untold_end : (t : hat.Telling) (old new : List Handed) (names : NamingState) (first : ℕ) → first ≤ length old → new ≡ old ++ handed_declare t.face (end_of t) ∷ [] → untold (drop first new) names ≡ untold (drop first old) names
+untold_end t old new names first le is =
+    let end = handed_declare t.face (end_of t) ∷ [] in
+    ap (λ (hs : List Handed). untold (drop first hs) names) is
+    ∙ ap (λ (hs : List Handed). untold hs names) (drop-append-le first old end le)
+    ∙ untold-append (drop first old) end names

@@ -1,5 +1,5 @@
 -- The messages of what a hat tells, and how the numbers that they declare are taken back.
-use Rattle.std.specs.Prelude.{ℕ, List, [], ◌∷◌, ◌++◌, Option, Some, None}
+use Rattle.std.specs.Prelude.{ℕ, ◌==◌, Bool, ◌&&◌, not, List, [], ◌∷◌, ◌++◌, Option, Some, None, is_none}
 use Rattle.zq_message.specs.declared.message.Declare.{Declare}
 use Rattle.zq_message.specs.declared.message.DeclareBody.{DeclareBody}
 use Rattle.zq_message.specs.declared.message.DeclareBody.TheVariants as body
@@ -24,6 +24,14 @@ body_of id w (Some info) = body.DeclareQueryable id w info
 -- what a hat tells, by an expression of its key
 abbrev pub declare_of : Telling → WireExpr → Declare
 declare_of t w = record { interest = None; node = t.node; body = body_of t.id w t.info }
+
+-- a hat tells that an id other than 0 ended, which it says by the id alone
+abbrev pub ends_alone : Telling → Bool
+ends_alone t = is_none t.info && not (t.id == 0)
+
+-- the end of its id, with no expression
+abbrev pub end_of : Telling → Declare
+end_of t = record { interest = None; node = t.node; body = body.UndeclareQueryable t.id None }
 
 -- a number is declared for a text
 abbrev pub number_of : ℕ → List ℕ → Declare

@@ -1,5 +1,5 @@
 //! What faces are told: declarations, each with the number that it needs declared directly before it.
-ghost use Rattle.std.specs.Prelude.{◌≡◌, ℕ, ◌+◌, ◌<◌, ◌≤◌, ◌++◌, drop, length, map, true, false, vec_capacity, vec_len, IfOk, OnOk, OnErr};
+ghost use Rattle.std.specs.Prelude.{◌≡◌, ℕ, ◌+◌, ◌<◌, ◌≤◌, ◌∷◌, ◌++◌, [], drop, length, map, true, false, vec_capacity, vec_len, IfOk, OnOk, OnErr};
 ghost use Rattle.std.specs.List.{All};
 ghost use Rattle.std.specs.Option.{option_map_or};
 ghost use Rattle.zq_key.specs.Key.{is_key as key_of};
@@ -8,7 +8,7 @@ ghost use Rattle.zq_trees.specs.Tellings.{in_order};
 ghost use Rattle.zq_machine.specs.Messages.{from_hat};
 ghost use Rattle.zq_machine.specs.State.{Core, at};
 ghost use Rattle.zq_machine.specs.Writing.{is_local_region, numbers_region, tell as tell_of, tell_body};
-ghost use Rattle.zq_handing.specs.Telling.{behind, body_of, declare_of, handed_declare as handed_declare_of, handed_number, number_of, untold, untold_message};
+ghost use Rattle.zq_handing.specs.Telling.{behind, body_of, declare_of, end_of, ends_alone, handed_declare as handed_declare_of, handed_number, number_of, untold, untold_message};
 
 use crate::write::whole;
 use std::alloc::Global;
@@ -87,6 +87,26 @@ fn key_declare(telling: &Telling, wire: WireExpr) -> Declare
     }
 }
 
+// Whether an id other than 0 ends: its face knows it, so that its key need not be said.
+fn ends_alone(telling: &Telling) -> bool
+    ensures { result ≡ ends_alone telling.now }
+{
+    telling.info.is_none() && telling.id != 0
+}
+
+fn end_declare(telling: &Telling) -> Declare
+    ensures { result ≡ end_of telling.now }
+{
+    Declare {
+        interest: None,
+        node: telling.node,
+        body: DeclareBody::UndeclareQueryable {
+            id: telling.id,
+            wire: None,
+        },
+    }
+}
+
 // The message of the number, if one is new, goes behind the others.
 fn push_number(handed: &mut Vec<Handed>, to: FaceId, part: Text, number: Option<u16>)
     requires { vec_len handed.old + 2 ≤ vec_capacity handed.old }
@@ -98,15 +118,25 @@ fn push_number(handed: &mut Vec<Handed>, to: FaceId, part: Text, number: Option<
     }
 }
 
-// A face is told one thing. A new number stands from then on.
-fn tell_one(
+// A face is told that an id ended, by the id alone. It takes no number.
+fn tell_end(telling: &Telling, handed: &mut Vec<Handed>) -> Result<(), OutOfMemory>
+    ensures ok { OnOk result (handed.new.items ≡ handed.old.items ++ handed_declare_of telling.now.face (end_of telling.now) ∷ []) }
+    ensures kept { OnErr result (handed.new.items ≡ handed.old.items) }
+{
+    handed.push(handed_declare(telling.face, end_declare(telling)))?;
+    Ok(())
+}
+
+// A face is told of a key, by an expression of it. A new number stands from then on.
+fn tell_key(
     alloc: Global,
     faces: &BTreeMap<u32, OpenFace>,
     names: &mut Naming,
     telling: &Telling,
     handed: &mut Vec<Handed>,
 ) -> Result<(), OutOfMemory>
-    requires { key_of telling.now.key ≡ true }
+    requires valid { key_of telling.now.key ≡ true }
+    requires keyed { ends_alone telling.now ≡ false }
     ensures messages { (c : Core) → c.faces ≡ faces.now.entries → OnOk result (handed.new.items ≡ handed.old.items ++ (tell_body c (from_hat telling.now) (from_hat telling.now).body names.old).handed) }
     ensures names { (c : Core) → c.faces ≡ faces.now.entries → OnOk result (names.new ≡ (tell_body c (from_hat telling.now) (from_hat telling.now).body names.old).names) }
     ensures longer { OnOk result (length handed.old.items ≤ length handed.new.items) }
@@ -122,6 +152,29 @@ fn tell_one(
     push_number(handed, to, part, key.declared);
     handed.push_reserved(handed_declare(to, key_declare(telling, key.wire)));
     Ok(())
+}
+
+// A face is told one thing: that an id ended, by the id alone, or of a key.
+fn tell_one(
+    alloc: Global,
+    faces: &BTreeMap<u32, OpenFace>,
+    names: &mut Naming,
+    telling: &Telling,
+    handed: &mut Vec<Handed>,
+) -> Result<(), OutOfMemory>
+    requires { key_of telling.now.key ≡ true }
+    ensures messages { (c : Core) → c.faces ≡ faces.now.entries → OnOk result (handed.new.items ≡ handed.old.items ++ (tell_body c (from_hat telling.now) (from_hat telling.now).body names.old).handed) }
+    ensures names { (c : Core) → c.faces ≡ faces.now.entries → OnOk result (names.new ≡ (tell_body c (from_hat telling.now) (from_hat telling.now).body names.old).names) }
+    ensures longer { OnOk result (length handed.old.items ≤ length handed.new.items) }
+    ensures back { (first : ℕ) → first ≤ length handed.old.items → OnOk result (untold (drop first handed.new.items) names.new ≡ untold (drop first handed.old.items) names.old) }
+    ensures kept { OnErr result (handed.new.items ≡ handed.old.items) }
+    ensures err { OnErr result (names.new ≡ names.old) }
+{
+    if ends_alone(telling) {
+        tell_end(telling, handed)
+    } else {
+        tell_key(alloc, faces, names, telling, handed)
+    }
 }
 
 // The number that a message declares is taken back.
