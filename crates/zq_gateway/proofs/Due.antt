@@ -29,26 +29,28 @@ use Rattle.zq_machine.specs.declared.call.Refusal.{Refusal}
 use Rattle.zq_machine.specs.declared.call.Refusal.TheVariants as refusal
 use Rattle.zq_machine.specs.declared.call.Step.{Step}
 use Rattle.zq_machine.specs.declared.face.OpenFace.{OpenFace}
-use Rattle.zq_machine.specs.Deciding.{accepted, answered, granted, refusal_of, renamed, told_of}
+use Rattle.zq_machine.specs.Deciding.{accepted, answered, changed, granted, lacks_told, refusal_of, renamed, told_of}
 use Rattle.zq_machine.specs.Handing.{Handed}
 use Rattle.zq_machine.specs.Hearing.{CanBeTold}
 use Rattle.zq_machine.specs.Machine.{accepted_state, answer, refused_step, settle}
 use Rattle.zq_machine.specs.Messages.{Telling, from_hat}
+use Rattle.zq_machine.specs.Neighbours.{kept_told}
 use Rattle.zq_machine.specs.State.{Core, State, at, change_hat, change_hat_of, clashes_in, face_region, has_declared_in, hat_at, hat_of, is_open, region_in}
 use Rattle.zq_machine.specs.TextCalls.{TextCall, closing, declaring, withdrawing}
 use Rattle.zq_machine.specs.Trees.{all_own_told, own_told_on, touched, tree_told}
 use Rattle.zq_machine.specs.Writing.{Told, sent_final, tell, write}
 use Rattle.zq_machine.proofs.Agreed.{InOrder, accepted_in_order}
-use Rattle.zq_machine.proofs.DueHeard.{due_can, due_keys}
 use Rattle.zq_machine.proofs.Granted.{answers_told, closed_after, closed_step, settles_told, told_by}
 use Rattle.zq_machine.proofs.Lists.{all_weaker}
+use Rattle.zq_machine.proofs.NeighboursTold.{due_can, due_keys}
+use Rattle.zq_machine.proofs.Quiet.{just_changed, none_lack, none_new}
 use Rattle.zq_machine.proofs.Writing.{after_decided, answers_fully, fully, settles_fully, told_after, with_told}
 use Rattle.zq_machine.specs.Selecting.{full_text, is_unscoped, says_key}
 use Rattle.zq_handing.specs.Reading.{key_refusal}
 use Rattle.zq_handing.specs.Telling.{behind}
 use Rattle.zq_gateway.specs.Making.{IsReached}
 use Rattle.zq_gateway.proofs.Beside.{IsBeside, changed_after, left_beside, released_beside, told_beside}
-use Rattle.zq_gateway.proofs.Reached.{reached_in_order}
+use Rattle.zq_gateway.proofs.Reached.{reached_in_order, reached_quiet}
 
 -- ---- the hat of an open face's region
 module _ (face : ℕ) (r : Region) (c : Core) (home : face_region face c ≡ Some r) where
@@ -71,9 +73,21 @@ all_from : {X : Type 0} (P : X → Type 0) (xs : List X) → AllByRecursion P xs
 all_from P [] all = All-nil P
 all_from P (x ∷ xs) all = All-cons P x xs all.0 (all_from P xs all.1)
 
--- what a call tells, in no order
+-- what a call tells along trees, in no order
+abbrev pub along_trees : Core → TextCall → List TreeTelling
+along_trees c t = tree_told c (accepted c t) t ++ all_own_told c.hats (accepted c t).hats (touched c t)
+
+-- what it tells at all: neighbours too
 abbrev pub due : Core → TextCall → List TreeTelling
-due c t = tree_told c (accepted c t) t ++ all_own_told c.hats (accepted c t).hats (touched c t)
+due c t = along_trees c t ++ kept_told c (accepted c t) c.interests t c.ears
+
+-- that is all told along trees, as nothing is kept of neighbours
+pub along_trees_alone : (s : State) → IsReached s → (t : TextCall) → along_trees s.core t ≡ due s.core t
+along_trees_alone s i t = sym (ap (λ l. along_trees s.core t ++ l) (none_new s.core (reached_quiet s i) t (accepted s.core t)) ∙ append-nil (along_trees s.core t))
+
+-- so the call leaves what it changes itself
+pub left_changed : (s : State) → IsReached s → (t : TextCall) (names : NamingState) → ◌≡◌ {A = State} (record { core = accepted s.core t; names = names }) (record { core = changed s.core t; names = names })
+left_changed s i t names = ap (λ (c : Core). record { core = c; names = names }) (just_changed s.core (reached_quiet s i) t)
 
 module _ (s : State) (i : IsReached s) (t : TextCall) (fits : refusal_of s.core t ≡ None) where
   later : InOrder i.config (accepted_state s t)
@@ -86,7 +100,7 @@ module _ (s : State) (i : IsReached s) (t : TextCall) (fits : refusal_of s.core 
   due_open = due_can i.config s (reached_in_order s i) t fits later
 
 -- ---- a call that changes the names before it tells, or not at all
-module _ (s : State) (t : TextCall) (fits : refusal_of s.core t ≡ None) (ts : List TreeTelling) (same : ts ≡ due s.core t) (l : List Handed) (new : NamingState)
+module _ (s : State) (i : IsReached s) (t : TextCall) (fits : refusal_of s.core t ≡ None) (ts : List TreeTelling) (same : ts ≡ due s.core t) (l : List Handed) (new : NamingState)
     (told : behind [] (tell (accepted s.core t) (map from_hat (ordered ts)) (renamed s t)) ≡ record { handed = l; names = new }) where
   its_telling : told_by s t ≡ record { handed = l; names = new }
   its_telling = ap (λ us. behind [] (tell (accepted s.core t) (map from_hat (ordered us)) (renamed s t))) (sym same) ∙ told
@@ -94,8 +108,8 @@ module _ (s : State) (t : TextCall) (fits : refusal_of s.core t ≡ None) (ts : 
   pub told_answered : (granted s.core t).messages ≡ [] → ◌≡◌ {A = Step} (record { outcome = (granted s.core t).outcome; handed = l }) (answer s t)
   told_answered none = answers_told s t l fits (ap (λ (w : Told). w.handed) (sym its_telling) ∙ ap (λ ms. write s.names ms ++ (told_by s t).handed) (sym none))
 
-  pub told_left : settle s t ≡ record { core = accepted s.core t; names = new }
-  told_left = settles_told s t fits ∙ ap (with_told (accepted_state s t)) its_telling
+  pub told_left : settle s t ≡ record { core = changed s.core t; names = new }
+  told_left = settles_told s t fits ∙ ap (with_told (accepted_state s t)) its_telling ∙ left_changed s i t new
 
 -- ---- a closing tells before the face goes
 module _ (s : State) (i : IsReached s) (face : FaceId) (r : Region) (home : face_region face.0 s.core ≡ Some r) (fits : refusal_of s.core (closing face) ≡ None) where
@@ -130,14 +144,15 @@ module _ (s : State) (i : IsReached s) (face : FaceId) (r : Region) (home : face
         ∙ ap (λ fs. fs ++ (tell s.core (told_of s.core (closing face)) s.names).handed) are
         ∙ ap (λ (w : Told). map sent_final (closing_finals face.0 s.core.queries) ++ w.handed) (sym told_before))
 
-    pub closed_left : settle s (closing face) ≡ record { core = accepted s.core (closing face); names = gone new }
+    pub closed_left : settle s (closing face) ≡ record { core = changed s.core (closing face); names = gone new }
     closed_left =
         closed_after s face r home
         ∙ ap (with_told (accepted_state s (closing face))) told_before
         ∙ ap (λ (w : Told). record { core = accepted s.core (closing face); names = gone w.names }) its_told
+        ∙ left_changed s i (closing face) (gone new)
 
 -- ---- a withdrawal tells before the queryable is let go
-module _ (s : State) (face : FaceId) (id : ℕ) (fits : refusal_of s.core (withdrawing face id) ≡ None) (ts : List TreeTelling) (same : ts ≡ due s.core (withdrawing face id)) (l : List Handed) (new : NamingState)
+module _ (s : State) (i : IsReached s) (face : FaceId) (id : ℕ) (fits : refusal_of s.core (withdrawing face id) ≡ None) (ts : List TreeTelling) (same : ts ≡ due s.core (withdrawing face id)) (l : List Handed) (new : NamingState)
     (told : behind [] (tell s.core (map from_hat (ordered ts)) s.names) ≡ record { handed = l; names = new }) where
   abbrev let_go : NamingState → NamingState
   let_go = change_naming face.0 (without_queryable id)
@@ -155,8 +170,8 @@ module _ (s : State) (face : FaceId) (id : ℕ) (fits : refusal_of s.core (withd
   pub withdrawn_answered : ◌≡◌ {A = Step} (record { outcome = outcome.Done; handed = l }) (answer s (withdrawing face id))
   withdrawn_answered = answers_told s (withdrawing face id) l fits (ap (λ (w : Told). w.handed) (sym told_first))
 
-  pub withdrawn_left : settle s (withdrawing face id) ≡ record { core = accepted s.core (withdrawing face id); names = let_go new }
-  withdrawn_left = settles_told s (withdrawing face id) fits ∙ ap (with_told (accepted_state s (withdrawing face id))) told_first
+  pub withdrawn_left : settle s (withdrawing face id) ≡ record { core = changed s.core (withdrawing face id); names = let_go new }
+  withdrawn_left = settles_told s (withdrawing face id) fits ∙ ap (with_told (accepted_state s (withdrawing face id))) told_first ∙ left_changed s i (withdrawing face id) (let_go new)
 
 -- ---- what own trees tell of one key
 pub one_key : (before after : List (ℕ × HatState)) (key : List ℕ) → all_own_told before after (key ∷ []) ≡ own_told_on before after key
@@ -172,22 +187,24 @@ module _ (s : State) (t : TextCall) (r : Refusal) (refuses : refusal_of s.core t
 
 -- ---- the tellings of calls, as the bodies gather them
 -- of a call that touches one key of a region's hat
-module _ (s : State) (t : TextCall) (r : Region) (f : HatState → HatState) (key : List ℕ) (touches : touched s.core t ≡ key ∷ []) (changes : (accepted s.core t).hats ≡ change_hat r f s.core.hats) where
+module _ (s : State) (i : IsReached s) (t : TextCall) (r : Region) (f : HatState → HatState) (key : List ℕ) (touches : touched s.core t ≡ key ∷ []) (changes : (accepted s.core t).hats ≡ change_hat r f s.core.hats) where
   pub key_due : (hats : List (ℕ × HatState)) → hats ≡ s.core.hats → (tree ts : List TreeTelling) → tree ≡ tree_told s.core (accepted s.core t) t → ts ≡ tree ++ own_told_on hats (change_hat r f hats) key → ts ≡ due s.core t
   key_due hats same tree ts is_tree is =
       is
       ∙ (λ j. is_tree j ++ own_told_on (same j) (change_hat r f (same j)) key)
       ∙ ap (λ l. tree_told s.core (accepted s.core t) t ++ l) (sym (one_key s.core.hats (change_hat r f s.core.hats) key))
       ∙ (λ j. tree_told s.core (accepted s.core t) t ++ all_own_told s.core.hats (sym changes j) (sym touches j))
+      ∙ along_trees_alone s i t
 
 -- of a closing
-pub closing_due : (s : State) (face : FaceId) (r : Region) → face_region face.0 s.core ≡ Some r → (hats : List (ℕ × HatState)) → hats ≡ s.core.hats
+pub closing_due : (s : State) → IsReached s → (face : FaceId) (r : Region) → face_region face.0 s.core ≡ Some r → (hats : List (ℕ × HatState)) → hats ≡ s.core.hats
     → (keys : List (List ℕ)) → keys ≡ option_map_or (keys_of_face face.0) (hat_at r hats) [] → (ts : List TreeTelling) → ts ≡ all_own_told hats (change_hat r (without_face face.0) hats) keys → ts ≡ due s.core (closing face)
-closing_due s face r home hats same keys are ts is =
+closing_due s i face r home hats same keys are ts is =
     let keys_are : keys ≡ touched s.core (closing face) = are ∙ ap (λ h. option_map_or (keys_of_face face.0) (hat_at r h) []) same ∙ ap (λ o. option_map_or (keys_of_face face.0) o []) (sym (hat_home face.0 r s.core home)) in
     is
     ∙ (λ j. all_own_told (same j) (change_hat r (without_face face.0) (same j)) keys)
     ∙ (λ j. all_own_told s.core.hats (sym (changed_home face.0 r s.core home (without_face face.0)) j) (keys_are j))
+    ∙ along_trees_alone s i (closing face)
 
 -- ---- what refuses a call for its key
 -- whatever may refuse it behind that
@@ -218,11 +235,12 @@ closed_there face c = by (at face c.faces)
 pub declaration_no_key : (s : State) (face : FaceId) (id : ℕ) (opens : is_open face.0 s.core ≡ true) (sd : Said) (info : QueryableInfoType) (node : ℕ) (x : Refusal) → key_refusal sd ≡ Some x
     → refusal_of s.core (declaring face id sd info node) ≡ Some x
 declaration_no_key s face id opens sd info node x e =
-    let last : Option Refusal = cond (clashes_in face.0 id (full_text sd) (hat_of face.0 s.core)) (Some refusal.IdInUse) None in
+    let lacks : Option Refusal = cond (lacks_told s.core (declaring face id sd info node)) (Some refusal.NoFreeId) None in
+    let last : Option Refusal = cond (clashes_in face.0 id (full_text sd) (hat_of face.0 s.core)) (Some refusal.IdInUse) lacks in
     ap (λ b. cond (not b) (Some refusal.UnknownFace) (cond (is_unscoped sd) (Some refusal.UnknownScope) (cond (not (says_key sd)) (Some refusal.InvalidKeyExpr) last))) opens
     ∙ key_refuses sd last x e
 
-module _ (s : State) (face : FaceId) (id : ℕ) (r : Region) (home : face_region face.0 s.core ≡ Some r) (h : HatState) (there : hat_at r s.core.hats ≡ Some h) where
+module _ (s : State) (i : IsReached s) (face : FaceId) (id : ℕ) (r : Region) (home : face_region face.0 s.core ≡ Some r) (h : HatState) (there : hat_at r s.core.hats ≡ Some h) where
   hat_there : hat_of face.0 s.core ≡ Some h
   hat_there = hat_home face.0 r s.core home ∙ there
 
@@ -249,26 +267,33 @@ module _ (s : State) (face : FaceId) (id : ℕ) (r : Region) (home : face_region
 
     pub withdrawal_due : (hats : List (ℕ × HatState)) → hats ≡ s.core.hats → (ts : List TreeTelling) → ts ≡ own_told_on hats (change_hat r (unregistered face.0 id) hats) key → ts ≡ due s.core (withdrawing face id)
     withdrawal_due hats same ts is =
-        key_due s (withdrawing face id) r (unregistered face.0 id) key
+        key_due s i (withdrawing face id) r (unregistered face.0 id) key
         (ap (λ x. option_to_list (option_map (λ (d : Declaration). d.key) (option_and_then (declaration_at face.0 id) x))) hat_there ∙ ap option_to_list (sym declared))
         (changed_home face.0 r s.core home (unregistered face.0 id)) hats same [] ts refl is
 
   module _ (text : List ℕ) (info : QueryableInfoType) (node : ℕ) where
+    abbrev declared_call : TextCall
+    declared_call = declaring face id (said.Full text) info node
+
+    -- what refuses it behind its key: that the id stands for another one, or that a neighbour lacks an id
+    past_key : is_key text ≡ true → refusal_of s.core declared_call ≡ cond (clashes_at face.0 id text h) (Some refusal.IdInUse) (cond (lacks_told s.core declared_call) (Some refusal.NoFreeId) None)
+    past_key valid =
+        let lacks : Option Refusal = cond (lacks_told s.core declared_call) (Some refusal.NoFreeId) None in
+        let clashes : Option Refusal = cond (clashes_in face.0 id text (hat_of face.0 s.core)) (Some refusal.IdInUse) lacks in
+        ap (λ b. cond (not b) (Some refusal.UnknownFace) (cond (not (is_key text)) (Some refusal.InvalidKeyExpr) clashes)) (opened_there face.0 r s.core home)
+        ∙ ap (λ b. cond (not b) (Some refusal.InvalidKeyExpr) clashes) valid
+        ∙ ap (λ x. cond (clashes_in face.0 id text x) (Some refusal.IdInUse) lacks) hat_there
+
     pub declaration_fits : is_key text ≡ true → clashes_at face.0 id text h ≡ false → refusal_of s.core (declaring face id (said.Full text) info node) ≡ None
     declaration_fits valid free =
-        ap (λ b. cond (not b) (Some refusal.UnknownFace) (cond (not (is_key text)) (Some refusal.InvalidKeyExpr) (cond (clashes_in face.0 id text (hat_of face.0 s.core)) (Some refusal.IdInUse) None))) (opened_there face.0 r s.core home)
-        ∙ ap (λ b. cond (not b) (Some refusal.InvalidKeyExpr) (cond (clashes_in face.0 id text (hat_of face.0 s.core)) (Some refusal.IdInUse) None)) valid
-        ∙ ap (λ x. cond (clashes_in face.0 id text x) (Some refusal.IdInUse) None) hat_there
-        ∙ ap (λ b. cond b (Some refusal.IdInUse) None) free
+        past_key valid
+        ∙ ap (λ b. cond b (Some refusal.IdInUse) (cond (lacks_told s.core declared_call) (Some refusal.NoFreeId) None)) free
+        ∙ ap (λ b. cond b (Some refusal.NoFreeId) None) (none_lack s.core (reached_quiet s i) declared_call)
 
     pub declaration_clashes : is_key text ≡ true → clashes_at face.0 id text h ≡ true → refusal_of s.core (declaring face id (said.Full text) info node) ≡ Some refusal.IdInUse
-    declaration_clashes valid used =
-        ap (λ b. cond (not b) (Some refusal.UnknownFace) (cond (not (is_key text)) (Some refusal.InvalidKeyExpr) (cond (clashes_in face.0 id text (hat_of face.0 s.core)) (Some refusal.IdInUse) None))) (opened_there face.0 r s.core home)
-        ∙ ap (λ b. cond (not b) (Some refusal.InvalidKeyExpr) (cond (clashes_in face.0 id text (hat_of face.0 s.core)) (Some refusal.IdInUse) None)) valid
-        ∙ ap (λ x. cond (clashes_in face.0 id text x) (Some refusal.IdInUse) None) hat_there
-        ∙ ap (λ b. cond b (Some refusal.IdInUse) None) used
+    declaration_clashes valid used = past_key valid ∙ ap (λ b. cond b (Some refusal.IdInUse) (cond (lacks_told s.core declared_call) (Some refusal.NoFreeId) None)) used
 
     pub declaration_due : (hats : List (ℕ × HatState)) → hats ≡ s.core.hats → (ts : List TreeTelling) → ts ≡ own_told_on hats (change_hat r (registered face.0 id text node info) hats) text → ts ≡ due s.core (declaring face id (said.Full text) info node)
     declaration_due hats same ts is =
-        key_due s (declaring face id (said.Full text) info node) r (registered face.0 id text node info) text refl
+        key_due s i (declaring face id (said.Full text) info node) r (registered face.0 id text node info) text refl
         (changed_home face.0 r s.core home (registered face.0 id text node info)) hats same [] ts refl is

@@ -22,21 +22,24 @@ use Rattle.zq_machine.specs.declared.call.Outcome.TheVariants as outcome
 use Rattle.zq_machine.specs.declared.call.Step.{Step}
 use Rattle.zq_machine.specs.declared.call.Refusal.{Refusal}
 use Rattle.zq_machine.specs.declared.call.Refusal.TheVariants as refusal
-use Rattle.zq_machine.specs.Deciding.{accepted, announced_by, entry_by, entry_of, granted, lacks_router, refusal_of, renamed, retracted_by}
+use Rattle.zq_machine.specs.Deciding.{accepted, announced_by, changed, entry_by, entry_of, granted, lacks_router, lacks_told, refusal_of, renamed, retracted_by}
 use Rattle.zq_machine.specs.Handing.{Handed}
 use Rattle.zq_machine.specs.Machine.{answer, settle}
 use Rattle.zq_machine.specs.Messages.{from_hat}
 use Rattle.zq_machine.specs.Selecting.{full_text, is_unscoped, says_key}
 use Rattle.zq_machine.specs.State.{Core, State, change_hat, face_region, hat_at, hat_of, is_open, is_routing, put_hat}
-use Rattle.zq_machine.specs.TextCalls.{by_router}
+use Rattle.zq_machine.specs.TextCalls.{announcing, by_router}
 use Rattle.zq_machine.specs.Trees.{own_told_on, source_told, touched, tree_told}
 use Rattle.zq_machine.specs.Writing.{tell}
+use Rattle.zq_machine.proofs.Quiet.{none_lack}
 use Rattle.zq_tables.specs.Naming.{NamingState}
 use Rattle.zq_handing.specs.Telling.{behind}
 use Rattle.zq_handing.specs.Reading.{key_refusal}
 use Rattle.zq_own.specs.Routers.{entered, other_router}
+use Rattle.zq_gateway.specs.Making.{IsReached}
 use Rattle.zq_gateway.specs.Routing.{entering}
 use Rattle.zq_gateway.proofs.Due.{changed_home, due, hat_home, key_due, key_refuses, told_answered, told_left}
+use Rattle.zq_gateway.proofs.Reached.{reached_quiet}
 
 -- in a region of routers
 in_routing : {X : Type 0} (k : Strategy) (a b : X) → in_routers k true false ≡ true → in_routers k a b ≡ a
@@ -67,10 +70,10 @@ source_is own (Some z) router e = by (is_zid own z) e
     by false f = f
 
 module _ (c : Core) (face : FaceId) (sd : Said) (info : Option QueryableInfoType) (node : ℕ) where
-  -- a router without an entry has none to retract
+  -- a router without an entry has none to retract; a new one may lack an id to a neighbour
   abbrev last_refusal : Option QueryableInfoType → Option Refusal
   last_refusal None = cond (is_none (entry_of face node (full_text sd) c)) (Some refusal.UnknownId) None
-  last_refusal (Some i) = None
+  last_refusal (Some i) = cond (lacks_told c (announcing face sd i node)) (Some refusal.NoFreeId) None
 
   refusal_is : refusal_of c (entering face sd info node) ≡ cond (not (is_open face.0 c)) (Some refusal.UnknownFace) (cond (is_unscoped sd) (Some refusal.UnknownScope) (cond (not (says_key sd)) (Some refusal.InvalidKeyExpr) (cond (lacks_router face node c) (Some refusal.UnknownRouter) (last_refusal info))))
   refusal_is = by info
@@ -126,11 +129,11 @@ module _ (c : Core) (face : FaceId) (sd : Said) (info : Option QueryableInfoType
           pub no_entry : info ≡ None → entry_at router.0 key h ≡ None → refusal_of c (entering face sd info node) ≡ Some refusal.UnknownId
           no_entry none e = past_router ∙ ap last_refusal none ∙ ap (λ o. cond (is_none o) (Some refusal.UnknownId) None) (entry_is ∙ e)
 
-          pub entry_fits : (info ≡ None → is_none (entry_at router.0 key h) ≡ false) → refusal_of c (entering face sd info node) ≡ None
-          entry_fits has = past_router ∙ by info has
+          pub entry_fits : c.ears ≡ [] → (info ≡ None → is_none (entry_at router.0 key h) ≡ false) → refusal_of c (entering face sd info node) ≡ None
+          entry_fits quiet has = past_router ∙ by info has
             where
               by : (o : Option QueryableInfoType) → (o ≡ None → is_none (entry_at router.0 key h) ≡ false) → last_refusal o ≡ None
-              by (Some i) f = refl
+              by (Some i) f = ap (λ b. cond b (Some refusal.NoFreeId) None) (none_lack c quiet (announcing face sd i node))
               by None f = ap (λ b. cond b (Some refusal.UnknownId) None) (ap is_none entry_is ∙ f refl)
 
           changes : (accepted c (entering face sd info node)).hats ≡ change_hat r (entered router key info) c.hats
@@ -185,17 +188,17 @@ module _ (s : State) (face : FaceId) (sd : Said) (node : ℕ) where
   entering_names None = refl
   entering_names (Some i) = refl
 
-  pub entering_core : (info : Option QueryableInfoType) → accepted s.core (entering face sd info node) ≡ record s.core { hats = (accepted s.core (entering face sd info node)).hats }
+  pub entering_core : (info : Option QueryableInfoType) → changed s.core (entering face sd info node) ≡ record s.core { hats = (changed s.core (entering face sd info node)).hats }
   entering_core None = refl
   entering_core (Some i) = refl
 
 -- what the body gathers, is answered and leaves
-module _ (s : State) (face : FaceId) (sd : Said) (info : Option QueryableInfoType) (node : ℕ) (opens : is_open face.0 s.core ≡ true) (key : List ℕ) (says : sd ≡ said.Full key) (valid : is_key key ≡ true)
+module _ (s : State) (reached : IsReached s) (face : FaceId) (sd : Said) (info : Option QueryableInfoType) (node : ℕ) (opens : is_open face.0 s.core ≡ true) (key : List ℕ) (says : sd ≡ said.Full key) (valid : is_key key ≡ true)
     (r : Region) (home : face_region face.0 s.core ≡ Some r) (h : HatState) (there : hat_at r s.core.hats ≡ Some h) (router : Zid) (is : other_router s.core.config.zid (source_at face.0 node h) ≡ Some router) where
   pub entering_due : by_router face s.core ≡ true → (hats : List (ℕ × HatState)) → hats ≡ s.core.hats → (ts : List TreeTelling)
       → ts ≡ in_routers (strategy_at h) (to_children (Some face.0) router key info h) [] ++ own_told_on hats (change_hat r (entered router key info) hats) key → ts ≡ due s.core (entering face sd info node)
   entering_due routing hats same ts are =
-      key_due s (entering face sd info node) r (entered router key info) key
+      key_due s reached (entering face sd info node) r (entered router key info) key
       (touches s.core face sd info node opens key says valid r home h there router is)
       (changes s.core face sd info node opens key says valid r home h there router is) hats same (in_routers (strategy_at h) (to_children (Some face.0) router key info h) []) ts
       (tree_is s.core face sd info node opens key says valid r home h there router is routing)
@@ -210,10 +213,10 @@ module _ (s : State) (face : FaceId) (sd : Said) (info : Option QueryableInfoTyp
     its_told = ap (λ n. behind [] (tell (accepted s.core (entering face sd info node)) (map from_hat (in_order ts)) n)) (entering_names s face sd node info) ∙ told
 
     pub entering_answered : ◌≡◌ {A = Step} (record { outcome = outcome.Done; handed = l }) (answer s (entering face sd info node))
-    entering_answered = ap (λ o. record { outcome = o; handed = l }) (sym (entering_done s face sd node info)) ∙ told_answered s (entering face sd info node) fits ts are l new its_told (entering_quiet s face sd node info)
+    entering_answered = ap (λ o. record { outcome = o; handed = l }) (sym (entering_done s face sd node info)) ∙ told_answered s reached (entering face sd info node) fits ts are l new its_told (entering_quiet s face sd node info)
 
     pub entering_left : settle s (entering face sd info node) ≡ record { core = record s.core { hats = change_hat r (entered router key info) s.core.hats }; names = new }
     entering_left =
-        told_left s (entering face sd info node) fits ts are l new its_told
+        told_left s reached (entering face sd info node) fits ts are l new its_told
         ∙ ap (λ (x : Core). record { core = x; names = new }) (entering_core s face sd node info)
         ∙ ap (λ hats. record { core = record s.core { hats = hats }; names = new }) (changes s.core face sd info node opens key says valid r home h there router is)

@@ -4,3 +4,4 @@ pub mod Beside
 pub mod Due
 pub mod Entering
 pub mod Networks
+pub mod Openings

@@ -11,18 +11,20 @@ use Rattle.zq_machine.specs.Deciding.{refusal_of}
 use Rattle.zq_machine.specs.State.{State, change_hat, hat_at}
 use Rattle.zq_machine.specs.TextCalls.{networking}
 use Rattle.zq_machine.specs.Trees.{all_own_told, networked_told}
-use Rattle.zq_gateway.proofs.Due.{due}
+use Rattle.zq_gateway.specs.Making.{IsReached}
+use Rattle.zq_gateway.proofs.Due.{along_trees_alone, due}
 
 -- the region has a hat: nothing refuses
 pub network_fits : (s : State) (r : Region) (net : Network) (first : HatState) → hat_at r s.core.hats ≡ Some first → refusal_of s.core (networking r net) ≡ None
 network_fits s r net first there = ap (λ (o : Option HatState). cond (not (is_some o)) (Some refusal.UnknownRegion) None) there
 
 -- what is gathered is what is due
-pub network_due : (s : State) (r : Region) (net : Network) (hats : List (ℕ × HatState)) → hats ≡ s.core.hats → (first : HatState) → hat_at r hats ≡ Some first
+pub network_due : (s : State) → IsReached s → (r : Region) (net : Network) (hats : List (ℕ × HatState)) → hats ≡ s.core.hats → (first : HatState) → hat_at r hats ≡ Some first
     → (tree ts : List TreeTelling) → tree ≡ networked_told r hats (change_hat r (networked net) hats)
     → ts ≡ tree ++ all_own_told hats (change_hat r (networked net) hats) (losing net first) → ts ≡ due s.core (networking r net)
-network_due s r net hats same first there tree ts is_tree is =
+network_due s i r net hats same first there tree ts is_tree is =
     is
     ∙ ap (λ l. l ++ all_own_told hats (change_hat r (networked net) hats) (losing net first)) is_tree
     ∙ ap (λ o. networked_told r hats (change_hat r (networked net) hats) ++ all_own_told hats (change_hat r (networked net) hats) (option_map_or (losing net) o [])) (sym there)
     ∙ (λ j. networked_told r (same j) (change_hat r (networked net) (same j)) ++ all_own_told (same j) (change_hat r (networked net) (same j)) (option_map_or (losing net) (hat_at r (same j)) []))
+    ∙ along_trees_alone s i (networking r net)

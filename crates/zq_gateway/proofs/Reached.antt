@@ -1,4 +1,4 @@
--- What holds of a gateway that calls made: faces, hats and what stands for keys agree, and the next number is no face's.
+-- What holds of a gateway that calls made: faces, hats and what stands for keys agree, the next number is no face's, and nothing is kept of what faces were told.
 use Rattle.std.proofs.Common.{◌≡◌, ◌∙◌, refl, sym, ap, subst, ℕ, true, false, List, [], ◌∷◌, ◌++◌, Option, Some, None, Result, Ok, Err}
 use Rattle.std.specs.Option.{is_some, option_map, option_map_or}
 use Rattle.std.proofs.lemmas.Bool.{true≢false}
@@ -19,6 +19,7 @@ use Rattle.zq_machine.proofs.Agreed.{InOrder, next_absent, run_in_order}
 use Rattle.zq_machine.proofs.Agreeing.{some_of}
 use Rattle.zq_machine.proofs.Changing.{itself, number_test}
 use Rattle.zq_machine.proofs.Frame.{config_kept}
+use Rattle.zq_machine.proofs.Quiet.{always_quiet}
 use Rattle.zq_gateway.specs.Making.{Answers, IsReached, MayPerform}
 use Rattle.zq_own.specs.Seats.{seats}
 
@@ -54,6 +55,10 @@ reached_may s z (Some c) r g i = reached_given s z c _ r g i
 -- ---- what holds of it
 pub reached_in_order : (s : State) (i : IsReached s) → InOrder i.config s
 reached_in_order s i = subst (InOrder i.config) (sym i.here) (run_in_order i.config i.calls)
+
+-- nothing is kept of what faces were told
+pub reached_quiet : (s : State) → IsReached s → s.core.ears ≡ []
+reached_quiet s i = ap (λ (z : State). z.core.ears) i.here ∙ always_quiet i.config i.calls
 
 gone : {X : Type 0} (o : Option X) → is_some o ≡ false → o ≡ None
 gone None e = refl

@@ -43,6 +43,7 @@ pub struct Tables {
 }
 
 impl Model for Tables {
+    ghost use Rattle.std.specs.Prelude.{[]};
     ghost use Rattle.zq_machine.specs.State.{State};
 
     ghost Value = { State };
@@ -55,6 +56,8 @@ impl Model for Tables {
         hats = t.hats;
         tables = t.tables;
         queries = t.queries;
+        interests = [];
+        ears = [];
       };
       names = t.names;
     } };

@@ -1,3 +1,6 @@
+use Rattle.std.proofs.Common.{subst}
+use Rattle.zq_machine.specs.State.{State}
+use Rattle.zq_gateway.specs.Making.{Performs}
 use Rattle.zq_gateway.proofs.Reached.{reached_given}
 use Rattle.zq_gateway.proofs.gateway.Gateway.call.Goals as goal
 
@@ -5,4 +8,4 @@ pub invariant_of-self : goal.invariant_of-self
 invariant_of-self c = reached_given c.self.inside.tables _ (c.args.call.now) _ c.call.result c.call.ensures c.self.invariant
 
 pub returns : goal.returns
-returns c = rw (← c.self.view_is) c.call.ensures
+returns c = subst (λ (s : State). Performs s c.call.new.self c.args.call.now c.call.result) c.self.view_is c.call.ensures

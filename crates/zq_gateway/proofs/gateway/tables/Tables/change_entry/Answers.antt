@@ -24,6 +24,7 @@ use Rattle.zq_own.specs.Routers.{entered, other_router}
 use Rattle.zq_gateway.specs.Routing.{entering}
 use Rattle.zq_gateway.proofs.Due.{closed_there, due, due_of_keys, opened_there, refused_answered, refused_left}
 use Rattle.zq_gateway.proofs.Entering.{entering_answered, entering_due, entering_faces, entering_left, entry_fits, no_entry, no_key, no_router, not_open}
+use Rattle.zq_gateway.proofs.Reached.{reached_quiet}
 use Rattle.zq_gateway.proofs.gateway.tables.Tables.change_entry.Goals as goal
 
 pub returns-in_default : goal.returns-in_default
@@ -121,9 +122,9 @@ tell-requires c =
     let is : other_router s.core.config.zid (source_at face.0 node h) ≡ Some router = ap (λ (z : Zid). other_router z (source_at face.0 node h)) (sym (c.zid.ensures ∙ ap (λ (x : State). x.core.config.zid) v)) ∙ sym c.in-Some-router_of.ensures in
     let lacks : (is_none info && is_none (entry_at router.0 key h)) ≡ false = ap (λ k. is_none info && is_none (entry_at router.0 k h)) (sym c.as_str.ensures.text) ∙ sym c.lacks_entry.ensures ∙ c.if-lacks_entry.false in
     let has : info ≡ None → is_none (entry_at router.0 key h) ≡ false = λ e. ap (λ (o : Option QueryableInfoType). is_none o && is_none (entry_at router.0 key h)) (sym e) ∙ lacks in
-    let fits : refusal_of s.core (entering face sd info node) ≡ None = entry_fits s.core face sd info node opens key says valid r home h there router is has in
+    let fits : refusal_of s.core (entering face sd info node) ≡ None = entry_fits s.core face sd info node opens key says valid r home h there router is (reached_quiet s c.requires.reached) has in
     let told = c.in_ok-told.ensures ∙ ap (λ k. in_routers (strategy_at h) (to_children (Some face.0) router k info h) [] ++ own_told_on i.hats (change_hat r (entered router k info) i.hats) k) c.as_str-2.ensures.text in
-    let are : c.as_slice.result.now ≡ due s.core (entering face sd info node) = c.as_slice.ensures ∙ entering_due s face sd info node opens key says valid r home h there router is c.requires.routing i.hats hats c.in_ok-told.told told in
+    let are : c.as_slice.result.now ≡ due s.core (entering face sd info node) = c.as_slice.ensures ∙ entering_due s c.requires.reached face sd info node opens key says valid r home h there router is c.requires.routing i.hats hats c.in_ok-told.told told in
     due_of_keys s c.requires.reached (entering face sd info node) fits c.as_slice.result.now are
 
 pub put_entry-requires : goal.put_entry-requires
@@ -151,25 +152,25 @@ returns-in-Ok-put_entry c =
     let is : other_router s.core.config.zid (source_at face.0 node h) ≡ Some router = ap (λ (z : Zid). other_router z (source_at face.0 node h)) (sym (c.zid.ensures ∙ ap (λ (x : State). x.core.config.zid) v)) ∙ sym c.in-Some-router_of.ensures in
     let lacks : (is_none info && is_none (entry_at router.0 key h)) ≡ false = ap (λ k. is_none info && is_none (entry_at router.0 k h)) (sym c.as_str.ensures.text) ∙ sym c.lacks_entry.ensures ∙ c.if-lacks_entry.false in
     let has : info ≡ None → is_none (entry_at router.0 key h) ≡ false = λ e. ap (λ (o : Option QueryableInfoType). is_none o && is_none (entry_at router.0 key h)) (sym e) ∙ lacks in
-    let fits : refusal_of s.core (entering face sd info node) ≡ None = entry_fits s.core face sd info node opens key says valid r home h there router is has in
+    let fits : refusal_of s.core (entering face sd info node) ≡ None = entry_fits s.core face sd info node opens key says valid r home h there router is (reached_quiet s c.requires.reached) has in
     let told = c.in_ok-told.ensures ∙ ap (λ k. in_routers (strategy_at h) (to_children (Some face.0) router k info h) [] ++ own_told_on i.hats (change_hat r (entered router k info) i.hats) k) c.as_str-2.ensures.text in
-    let are : c.as_slice.result.now ≡ due s.core (entering face sd info node) = c.as_slice.ensures ∙ entering_due s face sd info node opens key says valid r home h there router is c.requires.routing i.hats hats c.in_ok-told.told told in
+    let are : c.as_slice.result.now ≡ due s.core (entering face sd info node) = c.as_slice.ensures ∙ entering_due s c.requires.reached face sd info node opens key says valid r home h there router is c.requires.routing i.hats hats c.in_ok-told.told told in
     let t = entering face sd info node in
     let ts = c.as_slice.result.now in
-    let faces = entering_faces s face sd info node opens key says valid r home h there router is in
+    let faces = entering_faces s c.requires.reached face sd info node opens key says valid r home h there router is in
     let handed =
     ap (λ (f : List Handed). behind f (tell (accepted s.core t) (map from_hat (in_order ts)) s.names)) (sym c.new-none.ensures)
     ∙ ap (λ (n : NamingState). behind c.new-none.result (tell (accepted s.core t) (map from_hat (in_order ts)) n)) (sym (ap (λ (x : State). x.names) v))
     ∙ c.in_ok-handed.ensures.ok (accepted s.core t) (faces ∙ sym (ap (λ (x : State). x.core.faces) v)) in
     let left = c.in-Ok-put_entry.ensures.ok ∙ ap (change_hat r (entered router key info)) hats in
     record {
-      step = c.told-in-Ok-put_entry.ensures ∙ entering_answered s face sd info node opens key says valid r home h there router is fits ts are c.in_ok-handed.handed c.tell.new.names handed;
+      step = c.told-in-Ok-put_entry.ensures ∙ entering_answered s c.requires.reached face sd info node opens key says valid r home h there router is fits ts are c.in_ok-handed.handed c.tell.new.names handed;
       after =
           (λ j. record {
-            core = record { config = (v j).core.config; faces = (v j).core.faces; next_face = (v j).core.next_face; hats = left j; tables = (v j).core.tables; queries = (v j).core.queries };
+            core = record { config = (v j).core.config; faces = (v j).core.faces; next_face = (v j).core.next_face; hats = left j; tables = (v j).core.tables; queries = (v j).core.queries; interests = (v j).core.interests; ears = (v j).core.ears };
             names = c.tell.new.names;
           })
-          ∙ sym (entering_left s face sd info node opens key says valid r home h there router is fits ts are c.in_ok-handed.handed c.tell.new.names handed);
+          ∙ sym (entering_left s c.requires.reached face sd info node opens key says valid r home h there router is fits ts are c.in_ok-handed.handed c.tell.new.names handed);
       err = tt;
     }
 
@@ -187,7 +188,7 @@ returns c =
       step = tt;
       after = tt;
       err = λ j. record {
-        core = record { config = (v j).core.config; faces = (v j).core.faces; next_face = (v j).core.next_face; hats = left j; tables = (v j).core.tables; queries = (v j).core.queries };
+        core = record { config = (v j).core.config; faces = (v j).core.faces; next_face = (v j).core.next_face; hats = left j; tables = (v j).core.tables; queries = (v j).core.queries; interests = (v j).core.interests; ears = (v j).core.ears };
         names = back j;
       };
     }

@@ -41,7 +41,7 @@ returns-then-clashes c =
     let valid : is_key key ≡ true = subst (λ (x : Result (List ℕ) Refusal). IfOk x (λ k. is_key k ≡ true)) c.in-Ok.is c.in_ok-key.ensures.key in
     let used : clashes_at face.0 id key h ≡ true = ap (λ k. clashes_at face.0 id k h) (sym c.as_str.ensures.text) ∙ sym c.clashes.ensures ∙ c.if-clashes.true in
     let t = declaring face id c.args.said.now c.args.info c.args.node in
-    let e = ap (λ x. refusal_of s.core (declaring face id x c.args.info c.args.node)) says ∙ declaration_clashes s face id r home h there key c.args.info c.args.node valid used in
+    let e = ap (λ x. refusal_of s.core (declaring face id x c.args.info c.args.node)) says ∙ declaration_clashes s c.requires face id r home h there key c.args.info c.args.node valid used in
     record { step = c.refused-then-clashes.ensures ∙ refused_answered s t refusal.IdInUse e; after = sym (refused_left s t refusal.IdInUse e); err = tt }
 
 pub hold_and_tell-requires : goal.hold_and_tell-requires
@@ -63,8 +63,8 @@ hold_and_tell-requires c =
     c.in_ok-tell_change.ensures
     ∙ ap (λ (l : List TreeTelling). l ++ own_told_on i.hats (change_hat r (registered face.0 id at_key c.args.node c.args.info) i.hats) at_key) c.new-told.ensures
     ∙ ap (λ (k : List ℕ). own_told_on i.hats (change_hat r (registered face.0 id k c.args.node c.args.info) i.hats) k) c.as_str-2.ensures.text in
-    due_of_keys s c.requires (declaring face id (said.Full key) c.args.info c.args.node) (declaration_fits s face id r home h there key c.args.info c.args.node valid free) c.tell_change.new.told
-    (declaration_due s face id r home h there key c.args.info c.args.node i.hats hats c.tell_change.new.told told)
+    due_of_keys s c.requires (declaring face id (said.Full key) c.args.info c.args.node) (declaration_fits s c.requires face id r home h there key c.args.info c.args.node valid free) c.tell_change.new.told
+    (declaration_due s c.requires face id r home h there key c.args.info c.args.node i.hats hats c.tell_change.new.told told)
 
 pub returns-in-Ok-register : goal.returns-in-Ok-register
 returns-in-Ok-register c =
@@ -86,22 +86,22 @@ returns-in-Ok-register c =
     ∙ ap (λ (l : List TreeTelling). l ++ own_told_on i.hats (change_hat r (registered face.0 id at_key c.args.node c.args.info) i.hats) at_key) c.new-told.ensures
     ∙ ap (λ (k : List ℕ). own_told_on i.hats (change_hat r (registered face.0 id k c.args.node c.args.info) i.hats) k) c.as_str-2.ensures.text in
     let t = declaring face id (said.Full key) c.args.info c.args.node in
-    let fits = declaration_fits s face id r home h there key c.args.info c.args.node valid free in
+    let fits = declaration_fits s c.requires face id r home h there key c.args.info c.args.node valid free in
     let ts = c.tell_change.new.told in
-    let are : ts ≡ due s.core t = declaration_due s face id r home h there key c.args.info c.args.node i.hats hats ts told in
+    let are : ts ≡ due s.core t = declaration_due s c.requires face id r home h there key c.args.info c.args.node i.hats hats ts told in
     let handed = c.in_ok-handed.ensures.told (accepted s.core t) refl in
     let w = c.self-2.view_is in
     let same = ap (λ (x : State). x.core) w ∙ c.in_ok-handed.ensures.core in
     let left = c.in-Ok-register.ensures.ok ∙ ap (change_hat r (registered face.0 id key c.args.node c.args.info)) (ap (λ (x : Core). x.hats) same) ∙ sym (changed_home face.0 r s.core home (registered face.0 id key c.args.node c.args.info)) in
     let says : c.args.said.now ≡ said.Full key = subst (λ (x : Result (List ℕ) Refusal). IfOk x (λ k. c.args.said.now ≡ said.Full k)) c.in-Ok.is c.in_ok-key.ensures.says in
     record {
-      step = c.told-in-Ok-register.ensures ∙ told_answered s t fits ts are c.in_ok-handed.handed c.hold_and_tell.new.self.names handed refl ∙ ap (λ sd. answer s (declaring face id sd c.args.info c.args.node)) (sym says);
+      step = c.told-in-Ok-register.ensures ∙ told_answered s c.requires t fits ts are c.in_ok-handed.handed c.hold_and_tell.new.self.names handed refl ∙ ap (λ sd. answer s (declaring face id sd c.args.info c.args.node)) (sym says);
       after =
           (λ j. record {
-            core = record { config = (same j).config; faces = (same j).faces; next_face = (same j).next_face; hats = left j; tables = (same j).tables; queries = (same j).queries };
+            core = record { config = (same j).config; faces = (same j).faces; next_face = (same j).next_face; hats = left j; tables = (same j).tables; queries = (same j).queries; interests = (same j).interests; ears = (same j).ears };
             names = (w j).names;
           })
-          ∙ sym (told_left s t fits ts are c.in_ok-handed.handed c.hold_and_tell.new.self.names handed)
+          ∙ sym (told_left s c.requires t fits ts are c.in_ok-handed.handed c.hold_and_tell.new.self.names handed)
           ∙ ap (λ sd. settle s (declaring face id sd c.args.info c.args.node)) (sym says);
       err = tt;
     }
@@ -127,7 +127,7 @@ returns c =
       step = tt;
       after = tt;
       err = λ j. record {
-        core = record { config = (same j).config; faces = (same j).faces; next_face = (same j).next_face; hats = left j; tables = (same j).tables; queries = (same j).queries };
+        core = record { config = (same j).config; faces = (same j).faces; next_face = (same j).next_face; hats = left j; tables = (same j).tables; queries = (same j).queries; interests = (same j).interests; ears = (same j).ears };
         names = back j;
       };
     }
