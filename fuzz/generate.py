@@ -55,8 +55,10 @@ THEMES = {
     'told': dict(interest=14, uninterest=6, queryable=24, unqueryable=14, open=3, close=3, key=6, unkey=5, ask=5,
                  reply=1, final=1, sent=0.5, poll=0.5, finalize=0.5, gateways=0.5, network=2, nodes=1),
 }
-if reading.TELLS:
+if reading.ASKS:
     WEIGHTS.update(interest=3, uninterest=1)
+else:
+    del THEMES['told']['interest'], THEMES['told']['uninterest']
 
 
 def word(rng, content):
@@ -169,7 +171,7 @@ class Writer:
     def expression(self, face, text):
         """A text, often by a number of the face, at times by an unknown one."""
         rng = self.rng
-        given = [n for n, part in face.ours.items() if reading.TELLS and text.startswith(part)]
+        given = [n for n, part in face.ours.items() if text.startswith(part)]
         if given and rng.random() < 0.3:
             number = rng.choice(given)
             return b'%d:r:%s' % (number, word(rng, text[len(face.ours[number]):]))
@@ -407,9 +409,7 @@ def change(rng, script):
     return b''.join(parts)
 
 
-KINDS = {'mixed': mixed, 'dense': dense, 'long': long, 'wide': wide, 'mutated': mutated, 'routers': routers}
-if reading.TELLS:
-    KINDS['told'] = told
+KINDS = {'mixed': mixed, 'dense': dense, 'long': long, 'wide': wide, 'mutated': mutated, 'routers': routers, 'told': told}
 
 
 def generate(kind, seed):

@@ -4,7 +4,6 @@ from collections import namedtuple
 from contextlib import contextmanager
 from itertools import takewhile
 
-import reading
 from faces import Info, Interest, Known, Refused, refuse
 from words import NORTH, NOTHING, U16, U32, shown
 
@@ -146,7 +145,7 @@ class Declared:
 
     def due(self, face):
         """What a face has to know: in North all that it hears, elsewhere what an interest meets, of routers none."""
-        if not reading.TELLS or face.region in self.routed:
+        if face.region in self.routed:
             return {}
         asked = face.interests.values()
         return {key: info for key, info in self.heard(face).items()

@@ -201,7 +201,7 @@ def read_call(words, config):
     kind, values = words[0].decode('latin-1'), words[1:]
     if kind == 'open':
         return kind, read_open(values, config)
-    require((kind, len(values)) in READERS and (reading.TELLS or kind not in ('interest', 'uninterest')))
+    require((kind, len(values)) in READERS and (reading.ASKS or kind not in ('interest', 'uninterest')))
     return kind, fields(values, *READERS[kind, len(values)])
 
 

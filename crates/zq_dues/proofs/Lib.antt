@@ -1,2 +1,4 @@
 pub mod Nexts
 pub mod KeysGathered
+pub mod Overs
+pub mod Joining

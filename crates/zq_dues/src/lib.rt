@@ -5,9 +5,13 @@
 //! - `due`: whether a face listens on a key, and what will be due to it there
 //! - `dues`: the same of some keys
 //! - `keys`: the keys on which regions have information
+//! - `sorted`: keys in order, each once
+//! - `over`: what a whole call looks at
 #![tactic(auto)]
 
 pub mod due;
 pub mod dues;
 pub mod keys;
+pub mod over;
+pub mod sorted;
 pub mod types;

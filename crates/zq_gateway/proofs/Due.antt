@@ -1,6 +1,7 @@
 -- What a call tells: it is of keys; and what the call is answered and leaves, by what its tellings are told.
-use Rattle.std.proofs.Common.{◌≡◌, ◌∙◌, refl, sym, ap, subst, ℕ, Bool, true, false, cond, not, map, List, [], ◌∷◌, ◌++◌, append-nil, Option, Some, None}
+use Rattle.std.proofs.Common.{◌≡◌, ◌∙◌, refl, sym, ap, subst, ℕ, Bool, true, false, cond, not, map, List, [], ◌∷◌, ◌++◌, append-nil, fold, Option, Some, None}
 use Rattle.std.specs.BTreeMap.{is_at}
+use Rattle.std.specs.BTreeSet.{insert_key}
 use Rattle.std.specs.List.{All, AllByRecursion}
 use Rattle.std.specs.Map.{remove_entry}
 use Rattle.std.specs.Option.{is_some, option_and_then, option_map, option_map_or, option_to_list}
@@ -23,18 +24,25 @@ use Rattle.zq_hat.specs.State.{HatState}
 use Rattle.zq_tables.specs.declared.said.Said.{Said}
 use Rattle.zq_tables.specs.declared.said.Said.TheVariants as said
 use Rattle.zq_tables.specs.Naming.{NamingState, change_naming, naming_at, without_queryable}
+use Rattle.zq_index.specs.Texts.{text_cmp}
+use Rattle.zq_interests.specs.Interests.{Interests}
+use Rattle.zq_told.specs.declared.types.FaceDues.{FaceDues}
+use Rattle.zq_told.specs.declared.types.FacePlan.{FacePlan}
+use Rattle.zq_told.specs.declared.types.Way.TheVariants.{Unasked}
+use Rattle.zq_told.specs.Ears.{Ears}
+use Rattle.zq_told.specs.Telling.{lacks_ids, put_plan, tell_due, tell_faces}
 use Rattle.zq_query.specs.Closing.{closing_finals}
 use Rattle.zq_machine.specs.declared.call.Outcome.TheVariants as outcome
 use Rattle.zq_machine.specs.declared.call.Refusal.{Refusal}
 use Rattle.zq_machine.specs.declared.call.Refusal.TheVariants as refusal
 use Rattle.zq_machine.specs.declared.call.Step.{Step}
 use Rattle.zq_machine.specs.declared.face.OpenFace.{OpenFace}
-use Rattle.zq_machine.specs.Deciding.{accepted, answered, changed, granted, lacks_told, refusal_of, renamed, told_of}
+use Rattle.zq_machine.specs.Deciding.{accepted, answered, changed, granted, kept, lacks_told, refusal_of, renamed, told_of}
 use Rattle.zq_machine.specs.Handing.{Handed}
 use Rattle.zq_machine.specs.Hearing.{CanBeTold}
 use Rattle.zq_machine.specs.Machine.{accepted_state, answer, refused_step, settle}
 use Rattle.zq_machine.specs.Messages.{Telling, from_hat}
-use Rattle.zq_machine.specs.Neighbours.{kept_told}
+use Rattle.zq_machine.specs.Neighbours.{looked_at, looked_over}
 use Rattle.zq_machine.specs.State.{Core, State, at, change_hat, change_hat_of, clashes_in, face_region, has_declared_in, hat_at, hat_of, is_open, region_in}
 use Rattle.zq_machine.specs.TextCalls.{TextCall, closing, declaring, withdrawing}
 use Rattle.zq_machine.specs.Trees.{all_own_told, own_told_on, touched, tree_told}
@@ -43,14 +51,16 @@ use Rattle.zq_machine.proofs.Agreed.{InOrder, accepted_in_order}
 use Rattle.zq_machine.proofs.Granted.{answers_told, closed_after, closed_step, settles_told, told_by}
 use Rattle.zq_machine.proofs.Lists.{all_weaker}
 use Rattle.zq_machine.proofs.NeighboursTold.{due_can, due_keys}
-use Rattle.zq_machine.proofs.Quiet.{just_changed, none_lack, none_new}
 use Rattle.zq_machine.proofs.Writing.{after_decided, answers_fully, fully, settles_fully, told_after, with_told}
 use Rattle.zq_machine.specs.Selecting.{full_text, is_unscoped, says_key}
 use Rattle.zq_handing.specs.Reading.{key_refusal}
 use Rattle.zq_handing.specs.Telling.{behind}
+use Rattle.zq_handing.specs.Neighbours.{told_with}
 use Rattle.zq_gateway.specs.Making.{IsReached}
 use Rattle.zq_gateway.proofs.Beside.{IsBeside, changed_after, left_beside, released_beside, told_beside}
-use Rattle.zq_gateway.proofs.Reached.{reached_in_order, reached_quiet}
+use Rattle.zq_machine.proofs.Keeping.{same_looked}
+use Rattle.zq_gateway.proofs.Hearing.{lacks_looked}
+use Rattle.zq_gateway.proofs.Reached.{reached_in_order}
 
 -- ---- the hat of an open face's region
 module _ (face : ℕ) (r : Region) (c : Core) (home : face_region face c ≡ Some r) where
@@ -77,17 +87,32 @@ all_from P (x ∷ xs) all = All-cons P x xs all.0 (all_from P xs all.1)
 abbrev pub along_trees : Core → TextCall → List TreeTelling
 along_trees c t = tree_told c (accepted c t) t ++ all_own_told c.hats (accepted c t).hats (touched c t)
 
+-- what it looks at
+abbrev pub looked : Core → TextCall → List FaceDues
+looked c t = looked_at c (accepted c t) c.interests t
+
 -- what it tells at all: neighbours too
 abbrev pub due : Core → TextCall → List TreeTelling
-due c t = along_trees c t ++ kept_told c (accepted c t) c.interests t c.ears
+due c t = told_with (kept c t) (looked c t) (along_trees c t)
 
--- that is all told along trees, as nothing is kept of neighbours
-pub along_trees_alone : (s : State) → IsReached s → (t : TextCall) → along_trees s.core t ≡ due s.core t
-along_trees_alone s i t = sym (ap (λ l. along_trees s.core t ++ l) (none_new s.core (reached_quiet s i) t (accepted s.core t)) ∙ append-nil (along_trees s.core t))
+-- what a body gathers for a call: what is kept of faces, what is looked at, and what is told along trees
+pub record Gathers (c : Core) (t : TextCall) (ears : Ears) (dues : List FaceDues) (told : List TreeTelling) : Type 0 where
+  pub is_kept : ears ≡ kept c t
+  pub is_looked : dues ≡ looked c t
+  pub is_told : told ≡ along_trees c t
 
--- so the call leaves what it changes itself
-pub left_changed : (s : State) → IsReached s → (t : TextCall) (names : NamingState) → ◌≡◌ {A = State} (record { core = accepted s.core t; names = names }) (record { core = changed s.core t; names = names })
-left_changed s i t names = ap (λ (c : Core). record { core = c; names = names }) (just_changed s.core (reached_quiet s i) t)
+module _ (c : Core) (t : TextCall) (ears : Ears) (dues : List FaceDues) (told : List TreeTelling) (g : Gathers c t ears dues told) where
+  -- so it tells what is due
+  pub gathered_due : told_with ears dues told ≡ due c t
+  gathered_due = λ j. told_with (g.is_kept j) (g.is_looked j) (g.is_told j)
+
+  -- ids lack where they lack to the call
+  pub gathered_lacks : lacks_ids Unasked ears dues ≡ lacks_told c t
+  gathered_lacks = (λ j. lacks_ids Unasked (g.is_kept j) (g.is_looked j)) ∙ sym (lacks_looked c t)
+
+  -- and it leaves of faces what the call leaves
+  pub gathered_left : (plan : List FacePlan) → plan ≡ (tell_faces Unasked ears dues).plan → put_plan plan ears ≡ tell_due Unasked (kept c t) (looked_at c (changed c t) c.interests t)
+  gathered_left plan is = ap (λ p. put_plan p ears) is ∙ (λ j. tell_due Unasked (g.is_kept j) (g.is_looked j)) ∙ ap (tell_due Unasked (kept c t)) (same_looked c t)
 
 module _ (s : State) (i : IsReached s) (t : TextCall) (fits : refusal_of s.core t ≡ None) where
   later : InOrder i.config (accepted_state s t)
@@ -108,8 +133,8 @@ module _ (s : State) (i : IsReached s) (t : TextCall) (fits : refusal_of s.core 
   pub told_answered : (granted s.core t).messages ≡ [] → ◌≡◌ {A = Step} (record { outcome = (granted s.core t).outcome; handed = l }) (answer s t)
   told_answered none = answers_told s t l fits (ap (λ (w : Told). w.handed) (sym its_telling) ∙ ap (λ ms. write s.names ms ++ (told_by s t).handed) (sym none))
 
-  pub told_left : settle s t ≡ record { core = changed s.core t; names = new }
-  told_left = settles_told s t fits ∙ ap (with_told (accepted_state s t)) its_telling ∙ left_changed s i t new
+  pub told_left : settle s t ≡ record { core = accepted s.core t; names = new }
+  told_left = settles_told s t fits ∙ ap (with_told (accepted_state s t)) its_telling
 
 -- ---- a closing tells before the face goes
 module _ (s : State) (i : IsReached s) (face : FaceId) (r : Region) (home : face_region face.0 s.core ≡ Some r) (fits : refusal_of s.core (closing face) ≡ None) where
@@ -144,12 +169,11 @@ module _ (s : State) (i : IsReached s) (face : FaceId) (r : Region) (home : face
         ∙ ap (λ fs. fs ++ (tell s.core (told_of s.core (closing face)) s.names).handed) are
         ∙ ap (λ (w : Told). map sent_final (closing_finals face.0 s.core.queries) ++ w.handed) (sym told_before))
 
-    pub closed_left : settle s (closing face) ≡ record { core = changed s.core (closing face); names = gone new }
+    pub closed_left : settle s (closing face) ≡ record { core = accepted s.core (closing face); names = gone new }
     closed_left =
         closed_after s face r home
         ∙ ap (with_told (accepted_state s (closing face))) told_before
         ∙ ap (λ (w : Told). record { core = accepted s.core (closing face); names = gone w.names }) its_told
-        ∙ left_changed s i (closing face) (gone new)
 
 -- ---- a withdrawal tells before the queryable is let go
 module _ (s : State) (i : IsReached s) (face : FaceId) (id : ℕ) (fits : refusal_of s.core (withdrawing face id) ≡ None) (ts : List TreeTelling) (same : ts ≡ due s.core (withdrawing face id)) (l : List Handed) (new : NamingState)
@@ -170,8 +194,8 @@ module _ (s : State) (i : IsReached s) (face : FaceId) (id : ℕ) (fits : refusa
   pub withdrawn_answered : ◌≡◌ {A = Step} (record { outcome = outcome.Done; handed = l }) (answer s (withdrawing face id))
   withdrawn_answered = answers_told s (withdrawing face id) l fits (ap (λ (w : Told). w.handed) (sym told_first))
 
-  pub withdrawn_left : settle s (withdrawing face id) ≡ record { core = changed s.core (withdrawing face id); names = let_go new }
-  withdrawn_left = settles_told s (withdrawing face id) fits ∙ ap (with_told (accepted_state s (withdrawing face id))) told_first ∙ left_changed s i (withdrawing face id) (let_go new)
+  pub withdrawn_left : settle s (withdrawing face id) ≡ record { core = accepted s.core (withdrawing face id); names = let_go new }
+  withdrawn_left = settles_told s (withdrawing face id) fits ∙ ap (with_told (accepted_state s (withdrawing face id))) told_first
 
 -- ---- what own trees tell of one key
 pub one_key : (before after : List (ℕ × HatState)) (key : List ℕ) → all_own_told before after (key ∷ []) ≡ own_told_on before after key
@@ -187,24 +211,34 @@ module _ (s : State) (t : TextCall) (r : Refusal) (refuses : refusal_of s.core t
 
 -- ---- the tellings of calls, as the bodies gather them
 -- of a call that touches one key of a region's hat
-module _ (s : State) (i : IsReached s) (t : TextCall) (r : Region) (f : HatState → HatState) (key : List ℕ) (touches : touched s.core t ≡ key ∷ []) (changes : (accepted s.core t).hats ≡ change_hat r f s.core.hats) where
-  pub key_due : (hats : List (ℕ × HatState)) → hats ≡ s.core.hats → (tree ts : List TreeTelling) → tree ≡ tree_told s.core (accepted s.core t) t → ts ≡ tree ++ own_told_on hats (change_hat r f hats) key → ts ≡ due s.core t
-  key_due hats same tree ts is_tree is =
+module _ (c : Core) (t : TextCall) (r : Region) (f : HatState → HatState) (key : List ℕ) (touches : touched c t ≡ key ∷ []) (changes : (accepted c t).hats ≡ change_hat r f c.hats) where
+  pub key_along : (hats : List (ℕ × HatState)) → hats ≡ c.hats → (tree ts : List TreeTelling) → tree ≡ tree_told c (accepted c t) t → ts ≡ tree ++ own_told_on hats (change_hat r f hats) key → ts ≡ along_trees c t
+  key_along hats same tree ts is_tree is =
       is
       ∙ (λ j. is_tree j ++ own_told_on (same j) (change_hat r f (same j)) key)
-      ∙ ap (λ l. tree_told s.core (accepted s.core t) t ++ l) (sym (one_key s.core.hats (change_hat r f s.core.hats) key))
-      ∙ (λ j. tree_told s.core (accepted s.core t) t ++ all_own_told s.core.hats (sym changes j) (sym touches j))
-      ∙ along_trees_alone s i t
+      ∙ ap (λ l. tree_told c (accepted c t) t ++ l) (sym (one_key c.hats (change_hat r f c.hats) key))
+      ∙ (λ j. tree_told c (accepted c t) t ++ all_own_told c.hats (sym changes j) (sym touches j))
 
--- of a closing
-pub closing_due : (s : State) → IsReached s → (face : FaceId) (r : Region) → face_region face.0 s.core ≡ Some r → (hats : List (ℕ × HatState)) → hats ≡ s.core.hats
-    → (keys : List (List ℕ)) → keys ≡ option_map_or (keys_of_face face.0) (hat_at r hats) [] → (ts : List TreeTelling) → ts ≡ all_own_told hats (change_hat r (without_face face.0) hats) keys → ts ≡ due s.core (closing face)
-closing_due s i face r home hats same keys are ts is =
+  -- and what it looks at
+  pub key_looked : looked c t ≡ looked_over (accepted c t) c.interests (fold (insert_key text_cmp) [] (touched c t)) → (ints : Interests) → ints ≡ c.interests
+      → (dues : List FaceDues) → dues ≡ looked_over (accepted c t) ints (key ∷ []) → dues ≡ looked c t
+  key_looked over ints same dues is = is ∙ (λ j. looked_over (accepted c t) (same j) (fold (insert_key text_cmp) [] (sym touches j))) ∙ sym over
+
+-- of a closing, which is told before the face goes
+pub closing_gathers : (s : State) (face : FaceId) (r : Region) → face_region face.0 s.core ≡ Some r → (hats : List (ℕ × HatState)) → hats ≡ s.core.hats
+    → (keys : List (List ℕ)) → keys ≡ option_map_or (keys_of_face face.0) (hat_at r hats) [] → (ts : List TreeTelling) → ts ≡ all_own_told hats (change_hat r (without_face face.0) hats) keys
+    → (ears : Ears) → ears ≡ s.core.ears → (ints : Interests) → ints ≡ s.core.interests → (dues : List FaceDues) → dues ≡ looked_over (accepted s.core (closing face)) ints (fold (insert_key text_cmp) [] keys)
+    → Gathers s.core (closing face) ears dues ts
+closing_gathers s face r home hats same keys are ts is ears kept_is ints asked dues due_are =
     let keys_are : keys ≡ touched s.core (closing face) = are ∙ ap (λ h. option_map_or (keys_of_face face.0) (hat_at r h) []) same ∙ ap (λ o. option_map_or (keys_of_face face.0) o []) (sym (hat_home face.0 r s.core home)) in
-    is
-    ∙ (λ j. all_own_told (same j) (change_hat r (without_face face.0) (same j)) keys)
-    ∙ (λ j. all_own_told s.core.hats (sym (changed_home face.0 r s.core home (without_face face.0)) j) (keys_are j))
-    ∙ along_trees_alone s i (closing face)
+    record {
+      is_kept = kept_is;
+      is_looked = due_are ∙ (λ j. looked_over (accepted s.core (closing face)) (asked j) (fold (insert_key text_cmp) [] (keys_are j)));
+      is_told =
+          is
+          ∙ (λ j. all_own_told (same j) (change_hat r (without_face face.0) (same j)) keys)
+          ∙ (λ j. all_own_told s.core.hats (sym (changed_home face.0 r s.core home (without_face face.0)) j) (keys_are j));
+    }
 
 -- ---- what refuses a call for its key
 -- whatever may refuse it behind that
@@ -265,11 +299,18 @@ module _ (s : State) (i : IsReached s) (face : FaceId) (id : ℕ) (r : Region) (
         by None e f = absurd (let gap : Some key ≡ None = f in cc)
         by (Some d) e f = withdrawal (Some d) e
 
-    pub withdrawal_due : (hats : List (ℕ × HatState)) → hats ≡ s.core.hats → (ts : List TreeTelling) → ts ≡ own_told_on hats (change_hat r (unregistered face.0 id) hats) key → ts ≡ due s.core (withdrawing face id)
-    withdrawal_due hats same ts is =
-        key_due s i (withdrawing face id) r (unregistered face.0 id) key
-        (ap (λ x. option_to_list (option_map (λ (d : Declaration). d.key) (option_and_then (declaration_at face.0 id) x))) hat_there ∙ ap option_to_list (sym declared))
-        (changed_home face.0 r s.core home (unregistered face.0 id)) hats same [] ts refl is
+    withdrawal_touches : touched s.core (withdrawing face id) ≡ key ∷ []
+    withdrawal_touches = ap (λ x. option_to_list (option_map (λ (d : Declaration). d.key) (option_and_then (declaration_at face.0 id) x))) hat_there ∙ ap option_to_list (sym declared)
+
+    -- what its body gathers
+    pub withdrawal_gathers : (hats : List (ℕ × HatState)) → hats ≡ s.core.hats → (ts : List TreeTelling) → ts ≡ own_told_on hats (change_hat r (unregistered face.0 id) hats) key
+        → (ears : Ears) → ears ≡ s.core.ears → (ints : Interests) → ints ≡ s.core.interests → (dues : List FaceDues) → dues ≡ looked_over (accepted s.core (withdrawing face id)) ints (key ∷ [])
+        → Gathers s.core (withdrawing face id) ears dues ts
+    withdrawal_gathers hats same ts is ears kept_is ints asked dues are = record {
+      is_kept = kept_is;
+      is_looked = key_looked s.core (withdrawing face id) r (unregistered face.0 id) key withdrawal_touches (changed_home face.0 r s.core home (unregistered face.0 id)) refl ints asked dues are;
+      is_told = key_along s.core (withdrawing face id) r (unregistered face.0 id) key withdrawal_touches (changed_home face.0 r s.core home (unregistered face.0 id)) hats same [] ts refl is;
+    }
 
   module _ (text : List ℕ) (info : QueryableInfoType) (node : ℕ) where
     abbrev declared_call : TextCall
@@ -284,16 +325,27 @@ module _ (s : State) (i : IsReached s) (face : FaceId) (id : ℕ) (r : Region) (
         ∙ ap (λ b. cond (not b) (Some refusal.InvalidKeyExpr) clashes) valid
         ∙ ap (λ x. cond (clashes_in face.0 id text x) (Some refusal.IdInUse) lacks) hat_there
 
-    pub declaration_fits : is_key text ≡ true → clashes_at face.0 id text h ≡ false → refusal_of s.core (declaring face id (said.Full text) info node) ≡ None
-    declaration_fits valid free =
+    pub declaration_fits : is_key text ≡ true → clashes_at face.0 id text h ≡ false → lacks_told s.core declared_call ≡ false → refusal_of s.core (declaring face id (said.Full text) info node) ≡ None
+    declaration_fits valid free enough =
         past_key valid
         ∙ ap (λ b. cond b (Some refusal.IdInUse) (cond (lacks_told s.core declared_call) (Some refusal.NoFreeId) None)) free
-        ∙ ap (λ b. cond b (Some refusal.NoFreeId) None) (none_lack s.core (reached_quiet s i) declared_call)
+        ∙ ap (λ b. cond b (Some refusal.NoFreeId) None) enough
+
+    pub declaration_lacks : is_key text ≡ true → clashes_at face.0 id text h ≡ false → lacks_told s.core declared_call ≡ true → refusal_of s.core (declaring face id (said.Full text) info node) ≡ Some refusal.NoFreeId
+    declaration_lacks valid free lacks =
+        past_key valid
+        ∙ ap (λ b. cond b (Some refusal.IdInUse) (cond (lacks_told s.core declared_call) (Some refusal.NoFreeId) None)) free
+        ∙ ap (λ b. cond b (Some refusal.NoFreeId) None) lacks
 
     pub declaration_clashes : is_key text ≡ true → clashes_at face.0 id text h ≡ true → refusal_of s.core (declaring face id (said.Full text) info node) ≡ Some refusal.IdInUse
     declaration_clashes valid used = past_key valid ∙ ap (λ b. cond b (Some refusal.IdInUse) (cond (lacks_told s.core declared_call) (Some refusal.NoFreeId) None)) used
 
-    pub declaration_due : (hats : List (ℕ × HatState)) → hats ≡ s.core.hats → (ts : List TreeTelling) → ts ≡ own_told_on hats (change_hat r (registered face.0 id text node info) hats) text → ts ≡ due s.core (declaring face id (said.Full text) info node)
-    declaration_due hats same ts is =
-        key_due s i (declaring face id (said.Full text) info node) r (registered face.0 id text node info) text refl
-        (changed_home face.0 r s.core home (registered face.0 id text node info)) hats same [] ts refl is
+    -- what its body gathers
+    pub declaration_gathers : (hats : List (ℕ × HatState)) → hats ≡ s.core.hats → (ts : List TreeTelling) → ts ≡ own_told_on hats (change_hat r (registered face.0 id text node info) hats) text
+        → (ears : Ears) → ears ≡ s.core.ears → (ints : Interests) → ints ≡ s.core.interests → (dues : List FaceDues) → dues ≡ looked_over (accepted s.core declared_call) ints (text ∷ [])
+        → Gathers s.core declared_call ears dues ts
+    declaration_gathers hats same ts is ears kept_is ints asked dues are = record {
+      is_kept = kept_is;
+      is_looked = key_looked s.core declared_call r (registered face.0 id text node info) text refl (changed_home face.0 r s.core home (registered face.0 id text node info)) refl ints asked dues are;
+      is_told = key_along s.core declared_call r (registered face.0 id text node info) text refl (changed_home face.0 r s.core home (registered face.0 id text node info)) hats same [] ts refl is;
+    }

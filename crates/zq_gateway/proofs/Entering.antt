@@ -1,7 +1,8 @@
 -- A router has an entry on a key from now on, or has none: what refuses it, what it tells, and what it changes.
-use Rattle.std.proofs.Common.{◌≡◌, ◌∙◌, refl, sym, ap, ℕ, Bool, true, false, cond, not, List, [], ◌∷◌, ◌++◌, map, Option, Some, None}
+use Rattle.std.proofs.Common.{◌≡◌, ◌∙◌, refl, sym, ap, ℕ, Bool, true, false, cond, not, List, [], ◌∷◌, ◌++◌, map, fold, Option, Some, None}
 use Rattle.std.specs.Option.{is_none, option_and_then, option_map_or}
-use Rattle.std.proofs.lemmas.Bool.{false≢true}
+use Rattle.std.specs.BTreeSet.{insert_key}
+use Rattle.std.proofs.lemmas.Bool.{false≢true, true≢false}
 use Rattle.zq_message.specs.declared.message.FaceId.{FaceId}
 use Rattle.zq_message.specs.declared.message.QueryableInfoType.{QueryableInfoType}
 use Rattle.zq_message.specs.declared.message.Region.{Region}
@@ -10,6 +11,15 @@ use Rattle.zq_key.specs.Key.{is_key}
 use Rattle.zq_trees.specs.declared.types.Telling.{Telling as TreeTelling}
 use Rattle.zq_trees.specs.Nets.{is_zid}
 use Rattle.zq_trees.specs.Tellings.{in_order}
+use Rattle.zq_index.specs.Texts.{text_cmp}
+use Rattle.zq_interests.specs.Interests.{Interests}
+use Rattle.zq_told.specs.declared.types.FaceDues.{FaceDues}
+use Rattle.zq_told.specs.Ears.{Ears}
+use Rattle.zq_told.specs.declared.types.Way.TheVariants.{Unasked}
+use Rattle.zq_told.specs.Telling.{tell_due}
+use Rattle.zq_hat.specs.Changes.{changed_by}
+use Rattle.zq_machine.specs.Neighbours.{looked_at, looked_over}
+use Rattle.zq_machine.specs.Receivers.{makes_due}
 use Rattle.zq_hat.specs.declared.types.Strategy.{Strategy}
 use Rattle.zq_hat.specs.declared.types.Strategy.TheVariants as strategy
 use Rattle.zq_hat.specs.Regions.{in_routers, strategy_at}
@@ -22,7 +32,7 @@ use Rattle.zq_machine.specs.declared.call.Outcome.TheVariants as outcome
 use Rattle.zq_machine.specs.declared.call.Step.{Step}
 use Rattle.zq_machine.specs.declared.call.Refusal.{Refusal}
 use Rattle.zq_machine.specs.declared.call.Refusal.TheVariants as refusal
-use Rattle.zq_machine.specs.Deciding.{accepted, announced_by, changed, entry_by, entry_of, granted, lacks_router, lacks_told, refusal_of, renamed, retracted_by}
+use Rattle.zq_machine.specs.Deciding.{accepted, announced_by, changed, entry_by, entry_of, granted, kept, lacks_router, lacks_told, refusal_of, renamed, retracted_by}
 use Rattle.zq_machine.specs.Handing.{Handed}
 use Rattle.zq_machine.specs.Machine.{answer, settle}
 use Rattle.zq_machine.specs.Messages.{from_hat}
@@ -31,15 +41,13 @@ use Rattle.zq_machine.specs.State.{Core, State, change_hat, face_region, hat_at,
 use Rattle.zq_machine.specs.TextCalls.{announcing, by_router}
 use Rattle.zq_machine.specs.Trees.{own_told_on, source_told, touched, tree_told}
 use Rattle.zq_machine.specs.Writing.{tell}
-use Rattle.zq_machine.proofs.Quiet.{none_lack}
 use Rattle.zq_tables.specs.Naming.{NamingState}
 use Rattle.zq_handing.specs.Telling.{behind}
 use Rattle.zq_handing.specs.Reading.{key_refusal}
-use Rattle.zq_own.specs.Routers.{entered, other_router}
+use Rattle.zq_own.specs.Routers.{entered, entry_change, other_router}
 use Rattle.zq_gateway.specs.Making.{IsReached}
 use Rattle.zq_gateway.specs.Routing.{entering}
-use Rattle.zq_gateway.proofs.Due.{changed_home, due, hat_home, key_due, key_refuses, told_answered, told_left}
-use Rattle.zq_gateway.proofs.Reached.{reached_quiet}
+use Rattle.zq_gateway.proofs.Due.{Gathers, changed_home, due, hat_home, key_along, key_looked, key_refuses, looked, told_answered, told_left}
 
 -- in a region of routers
 in_routing : {X : Type 0} (k : Strategy) (a b : X) → in_routers k true false ≡ true → in_routers k a b ≡ a
@@ -129,12 +137,22 @@ module _ (c : Core) (face : FaceId) (sd : Said) (info : Option QueryableInfoType
           pub no_entry : info ≡ None → entry_at router.0 key h ≡ None → refusal_of c (entering face sd info node) ≡ Some refusal.UnknownId
           no_entry none e = past_router ∙ ap last_refusal none ∙ ap (λ o. cond (is_none o) (Some refusal.UnknownId) None) (entry_is ∙ e)
 
-          pub entry_fits : c.ears ≡ [] → (info ≡ None → is_none (entry_at router.0 key h) ≡ false) → refusal_of c (entering face sd info node) ≡ None
-          entry_fits quiet has = past_router ∙ by info has
+          pub entry_fits : lacks_told c (entering face sd info node) ≡ false → (info ≡ None → is_none (entry_at router.0 key h) ≡ false) → refusal_of c (entering face sd info node) ≡ None
+          entry_fits enough has = past_router ∙ by info enough has
             where
-              by : (o : Option QueryableInfoType) → (o ≡ None → is_none (entry_at router.0 key h) ≡ false) → last_refusal o ≡ None
-              by (Some i) f = ap (λ b. cond b (Some refusal.NoFreeId) None) (none_lack c quiet (announcing face sd i node))
-              by None f = ap (λ b. cond b (Some refusal.UnknownId) None) (ap is_none entry_is ∙ f refl)
+              by : (o : Option QueryableInfoType) → lacks_told c (entering face sd o node) ≡ false → (o ≡ None → is_none (entry_at router.0 key h) ≡ false) → last_refusal o ≡ None
+              by (Some i) e f = ap (λ b. cond b (Some refusal.NoFreeId) None) e
+              by None e f = ap (λ b. cond b (Some refusal.UnknownId) None) (ap is_none entry_is ∙ f refl)
+
+          -- ids that it lacks refuse it, where it may lack some
+          pub entry_lacks : lacks_told c (entering face sd info node) ≡ true → (refusal_of c (entering face sd info node) ≡ None → makes_due (entering face sd info node) ≡ false → lacks_told c (entering face sd info node) ≡ false)
+              → (info ≡ None → is_none (entry_at router.0 key h) ≡ false) → refusal_of c (entering face sd info node) ≡ Some refusal.NoFreeId
+          entry_lacks lacks less has = past_router ∙ by info lacks (λ fits. less (past_router ∙ fits)) has
+            where
+              by : (o : Option QueryableInfoType) → lacks_told c (entering face sd o node) ≡ true → (last_refusal o ≡ None → makes_due (entering face sd o node) ≡ false → lacks_told c (entering face sd o node) ≡ false)
+                  → (o ≡ None → is_none (entry_at router.0 key h) ≡ false) → last_refusal o ≡ Some refusal.NoFreeId
+              by (Some i) e l f = ap (λ b. cond b (Some refusal.NoFreeId) None) e
+              by None e l f = absurd (true≢false (sym e ∙ l (ap (λ b. cond b (Some refusal.UnknownId) None) (ap is_none entry_is ∙ f refl)) refl))
 
           changes : (accepted c (entering face sd info node)).hats ≡ change_hat r (entered router key info) c.hats
           changes = by info
@@ -188,21 +206,50 @@ module _ (s : State) (face : FaceId) (sd : Said) (node : ℕ) where
   entering_names None = refl
   entering_names (Some i) = refl
 
-  pub entering_core : (info : Option QueryableInfoType) → changed s.core (entering face sd info node) ≡ record s.core { hats = (changed s.core (entering face sd info node)).hats }
+  pub entering_core : (info : Option QueryableInfoType) → accepted s.core (entering face sd info node) ≡ record s.core { hats = (accepted s.core (entering face sd info node)).hats; ears = (accepted s.core (entering face sd info node)).ears }
   entering_core None = refl
   entering_core (Some i) = refl
+
+-- a change of an entry neither opens nor closes a face
+pub entering_ears : (s : State) (face : FaceId) (sd : Said) (node : ℕ) (info : Option QueryableInfoType) → tell_due Unasked (kept s.core (entering face sd info node)) (looked_at s.core (changed s.core (entering face sd info node)) s.core.interests (entering face sd info node)) ≡ (accepted s.core (entering face sd info node)).ears
+entering_ears s face sd node None = refl
+entering_ears s face sd node (Some i) = refl
+
+-- the change of a hat that an entry is
+pub change_is : (r : Region) (router : Zid) (info : Option QueryableInfoType) (key : List ℕ) (hats : List (ℕ × HatState)) → change_hat r (changed_by (entry_change router info) key) hats ≡ change_hat r (entered router key info) hats
+change_is r router None key hats = refl
+change_is r router (Some i) key hats = refl
 
 -- what the body gathers, is answered and leaves
 module _ (s : State) (reached : IsReached s) (face : FaceId) (sd : Said) (info : Option QueryableInfoType) (node : ℕ) (opens : is_open face.0 s.core ≡ true) (key : List ℕ) (says : sd ≡ said.Full key) (valid : is_key key ≡ true)
     (r : Region) (home : face_region face.0 s.core ≡ Some r) (h : HatState) (there : hat_at r s.core.hats ≡ Some h) (router : Zid) (is : other_router s.core.config.zid (source_at face.0 node h) ≡ Some router) where
-  pub entering_due : by_router face s.core ≡ true → (hats : List (ℕ × HatState)) → hats ≡ s.core.hats → (ts : List TreeTelling)
-      → ts ≡ in_routers (strategy_at h) (to_children (Some face.0) router key info h) [] ++ own_told_on hats (change_hat r (entered router key info) hats) key → ts ≡ due s.core (entering face sd info node)
-  entering_due routing hats same ts are =
-      key_due s reached (entering face sd info node) r (entered router key info) key
-      (touches s.core face sd info node opens key says valid r home h there router is)
-      (changes s.core face sd info node opens key says valid r home h there router is) hats same (in_routers (strategy_at h) (to_children (Some face.0) router key info h) []) ts
-      (tree_is s.core face sd info node opens key says valid r home h there router is routing)
-      are
+  -- what its body gathers
+  pub entering_gathers : by_router face s.core ≡ true → (hats : List (ℕ × HatState)) → hats ≡ s.core.hats → (ts : List TreeTelling)
+      → ts ≡ in_routers (strategy_at h) (to_children (Some face.0) router key info h) [] ++ own_told_on hats (change_hat r (entered router key info) hats) key
+      → (ears : Ears) → ears ≡ s.core.ears → (ints : Interests) → ints ≡ s.core.interests → (dues : List FaceDues) → dues ≡ looked_over (accepted s.core (entering face sd info node)) ints (key ∷ [])
+      → Gathers s.core (entering face sd info node) ears dues ts
+  entering_gathers routing hats same ts are ears kept_is ints asked dues due_are =
+      let t = entering face sd info node in
+      let touched_is = touches s.core face sd info node opens key says valid r home h there router is in
+      let changes_is = changes s.core face sd info node opens key says valid r home h there router is in
+      record {
+        is_kept = kept_is ∙ sym (kept_is_same info);
+        is_looked = key_looked s.core t r (entered router key info) key touched_is changes_is (over info) ints asked dues due_are;
+        is_told = key_along s.core t r (entered router key info) key touched_is changes_is hats same (in_routers (strategy_at h) (to_children (Some face.0) router key info h) []) ts
+            (tree_is s.core face sd info node opens key says valid r home h there router is routing) are;
+      }
+    where
+      kept_is_same : (o : Option QueryableInfoType) → kept s.core (entering face sd o node) ≡ s.core.ears
+      kept_is_same None = refl
+      kept_is_same (Some i) = refl
+
+      over : (o : Option QueryableInfoType) → looked s.core (entering face sd o node) ≡ looked_over (accepted s.core (entering face sd o node)) s.core.interests (fold (insert_key text_cmp) [] (touched s.core (entering face sd o node)))
+      over None = refl
+      over (Some i) = refl
+
+  -- what the change of its hat is
+  pub entering_changes : (accepted s.core (entering face sd info node)).hats ≡ change_hat r (entered router key info) s.core.hats
+  entering_changes = changes s.core face sd info node opens key says valid r home h there router is
 
   pub entering_faces : (accepted s.core (entering face sd info node)).faces ≡ s.core.faces
   entering_faces = ap (λ (x : Core). x.faces) (entering_core s face sd node info)
@@ -215,8 +262,8 @@ module _ (s : State) (reached : IsReached s) (face : FaceId) (sd : Said) (info :
     pub entering_answered : ◌≡◌ {A = Step} (record { outcome = outcome.Done; handed = l }) (answer s (entering face sd info node))
     entering_answered = ap (λ o. record { outcome = o; handed = l }) (sym (entering_done s face sd node info)) ∙ told_answered s reached (entering face sd info node) fits ts are l new its_told (entering_quiet s face sd node info)
 
-    pub entering_left : settle s (entering face sd info node) ≡ record { core = record s.core { hats = change_hat r (entered router key info) s.core.hats }; names = new }
+    pub entering_left : settle s (entering face sd info node) ≡ record { core = record s.core { hats = change_hat r (entered router key info) s.core.hats; ears = (accepted s.core (entering face sd info node)).ears }; names = new }
     entering_left =
         told_left s reached (entering face sd info node) fits ts are l new its_told
         ∙ ap (λ (x : Core). record { core = x; names = new }) (entering_core s face sd node info)
-        ∙ ap (λ hats. record { core = record s.core { hats = hats }; names = new }) (changes s.core face sd info node opens key says valid r home h there router is)
+        ∙ ap (λ hats. record { core = record s.core { hats = hats; ears = (accepted s.core (entering face sd info node)).ears }; names = new }) (changes s.core face sd info node opens key says valid r home h there router is)

@@ -1,4 +1,4 @@
-pub mod Queryables
+pub mod Hearing
 pub mod Reached
 pub mod Beside
 pub mod Due

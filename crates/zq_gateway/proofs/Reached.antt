@@ -1,4 +1,5 @@
--- What holds of a gateway that calls made: faces, hats and what stands for keys agree, the next number is no face's, and nothing is kept of what faces were told.
+-- What holds of a gateway that calls made: faces, hats and what stands for keys agree, the next number is no face's, and what is kept of each open face is what is due to it.
+use Rattle.std.specs.Prelude.{◌<◌, ◌^◌}
 use Rattle.std.proofs.Common.{◌≡◌, ◌∙◌, refl, sym, ap, subst, ℕ, true, false, List, [], ◌∷◌, ◌++◌, Option, Some, None, Result, Ok, Err}
 use Rattle.std.specs.Option.{is_some, option_map, option_map_or}
 use Rattle.std.proofs.lemmas.Bool.{true≢false}
@@ -8,19 +9,25 @@ use Rattle.zq_message.specs.declared.message.Region.{Region}
 use Rattle.zq_regions.specs.Region.{region_index}
 use Rattle.zq_hat.specs.State.{HatState}
 use Rattle.zq_hat.specs.Kept.{has_face}
+use Rattle.zq_told.specs.Ears.{at_face}
 use Rattle.zq_machine.specs.declared.call.Call.{Call}
 use Rattle.zq_machine.specs.declared.call.Step.{Step}
 use Rattle.zq_machine.specs.declared.face.OpenFace.{OpenFace}
 use Rattle.zq_machine.specs.Agreeing.{stands_in}
 use Rattle.zq_machine.specs.Configs.{Settings}
+use Rattle.zq_machine.specs.Deciding.{lacks_told, refusal_of}
 use Rattle.zq_machine.specs.Machine.{after, state_after}
+use Rattle.zq_machine.specs.Receivers.{makes_due}
+use Rattle.zq_machine.specs.TextCalls.{TextCall}
 use Rattle.zq_machine.specs.State.{State, at, face_region, has_hat, hat_at, opening_state, region_in}
 use Rattle.zq_machine.proofs.Agreed.{InOrder, next_absent, run_in_order}
 use Rattle.zq_machine.proofs.Agreeing.{some_of}
 use Rattle.zq_machine.proofs.Changing.{itself, number_test}
-use Rattle.zq_machine.proofs.Frame.{config_kept}
-use Rattle.zq_machine.proofs.Quiet.{always_quiet}
+use Rattle.zq_machine.proofs.Frame.{run_config}
+use Rattle.zq_machine.proofs.Keeping.{Keeps, run_keeps}
+use Rattle.zq_machine.specs.Keeping.{kept_in}
 use Rattle.zq_gateway.specs.Making.{Answers, IsReached, MayPerform}
+use Rattle.zq_gateway.proofs.Hearing.{enough_told}
 use Rattle.zq_own.specs.Seats.{seats}
 
 -- ---- a call more
@@ -28,17 +35,13 @@ state_last : (cs : List Call) (s : State) (c : Call) → state_after s (cs ++ c 
 state_last [] s c = refl
 state_last (d ∷ cs) s c = state_last cs (after s d) c
 
--- the configuration is that of the new gateway
-config_at : (cs : List Call) (s : State) → (state_after s cs).core.config ≡ s.core.config
-config_at [] s = refl
-config_at (c ∷ cs) s = config_at cs (after s c) ∙ config_kept s c
-
-pub reached_opening : (config : Settings) → IsReached (opening_state config)
-reached_opening config = record { config = config; calls = []; here = refl }
+pub reached_opening : (config : Settings) → config.start.told < 2 ^ 32 → IsReached (opening_state config)
+reached_opening config low = record { config = config; low = low; calls = []; here = refl }
 
 pub reached_after : (s z : State) (c : Call) → IsReached s → z ≡ after s c → IsReached z
 reached_after s z c r e = record {
   config = r.config;
+  low = r.low;
   calls = r.calls ++ c ∷ [];
   here = e ∙ ap (λ x. after x c) r.here ∙ sym (state_last r.calls (opening_state r.config) c);
 }
@@ -56,9 +59,9 @@ reached_may s z (Some c) r g i = reached_given s z c _ r g i
 pub reached_in_order : (s : State) (i : IsReached s) → InOrder i.config s
 reached_in_order s i = subst (InOrder i.config) (sym i.here) (run_in_order i.config i.calls)
 
--- nothing is kept of what faces were told
-pub reached_quiet : (s : State) → IsReached s → s.core.ears ≡ []
-reached_quiet s i = ap (λ (z : State). z.core.ears) i.here ∙ always_quiet i.config i.calls
+-- what is kept of each open face is what is due to it
+pub reached_keeps : (s : State) (i : IsReached s) → Keeps s.core (λ face. kept_in face (opening_state i.config) i.calls [])
+reached_keeps s i = subst (λ (z : State). Keeps z.core (λ face. kept_in face (opening_state i.config) i.calls [])) (sym i.here) (run_keeps i.config i.low i.calls)
 
 gone : {X : Type 0} (o : Option X) → is_some o ≡ false → o ≡ None
 gone None e = refl
@@ -71,6 +74,10 @@ reached_absent s i = next_absent s (reached_in_order s i).sound
 -- nothing stands for keys at it
 pub reached_unnamed : (s : State) → IsReached s → at s.core.next_face s.names ≡ None
 reached_unnamed s i = gone (at s.core.next_face s.names) ((reached_in_order s i).tied.named s.core.next_face ∙ ap is_some (reached_absent s i))
+
+-- nothing is kept of it
+pub reached_unheard : (s : State) → IsReached s → at_face s.core.next_face s.core.ears ≡ None
+reached_unheard s i = gone (at_face s.core.next_face s.core.ears) ((reached_keeps s i).faces s.core.next_face ∙ ap is_some (reached_absent s i))
 
 -- and it is in no hat
 pub reached_vacant : (s : State) (r : Region) → IsReached s → has_hat r s.core ≡ true → seats r s.core.next_face s.core.hats ≡ Some false
@@ -90,3 +97,11 @@ reached_seated s face r i e = by (at face s.core.faces) refl e
         let open_here = ap (λ x. option_map_or (stands_in o.region) x false) seen ∙ sym (number_test (region_index o.region) (region_index o.region)) ∙ itself (region_index o.region) in
         let found : seats o.region face s.core.hats ≡ Some true = ap (option_map (has_face face)) h.1 ∙ ap Some ((reached_in_order s i).tied.seats o.region h.0 face h.1 ∙ open_here) in
         subst (λ x. seats x face s.core.hats ≡ Some true) (same_Some _ _ f) found
+
+-- the configuration's first told id stays
+reached_low : (s : State) (i : IsReached s) → s.core.config.start.told < 2 ^ 32
+reached_low s i = subst (λ (x : Settings). x.start.told < 2 ^ 32) (sym (ap (λ (z : State). z.core.config) i.here ∙ run_config i.calls (opening_state i.config))) i.low
+
+-- no ids lack to a call that opens no face and declares nothing
+pub reached_enough : (s : State) → IsReached s → (t : TextCall) → refusal_of s.core t ≡ None → makes_due t ≡ false → lacks_told s.core t ≡ false
+reached_enough s i t fits none = enough_told i.config s (reached_in_order s i) (reached_low s i) (reached_keeps s i).sound (reached_keeps s i).all t fits none

@@ -1,3 +1,2 @@
-pub mod Undoing
 pub mod Making
 pub mod Routing

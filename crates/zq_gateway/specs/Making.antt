@@ -1,5 +1,5 @@
 -- What a call gives, and what a gateway has behind it.
-use Rattle.std.specs.Prelude.{◌≡◌, List, Option, Result, IfOk, OnOk, OnErr}
+use Rattle.std.specs.Prelude.{◌≡◌, ◌<◌, ◌^◌, List, Option, Result, IfOk, OnOk, OnErr}
 use Rattle.zq_message.specs.declared.memory.OutOfMemory.{OutOfMemory}
 use Rattle.zq_machine.specs.declared.call.Call.{Call}
 use Rattle.zq_machine.specs.declared.call.Step.{Step}
@@ -26,8 +26,9 @@ MayPerform old new c r = Answers old new (step_of old c) (after_of old c) r
 abbrev pub Settles : State → State → TextCall → Result Step OutOfMemory → Type 0
 Settles old new t r = Answers old new (answer old t) (settle old t) r
 
--- calls made this state of a new gateway's
+-- calls made this state of a new gateway's, whose first id is one of 32 bits
 pub record IsReached (s : State) : Type 0 where
   pub config : Settings
+  pub low : config.start.told < 2 ^ 32
   pub calls : List Call
   pub here : s ≡ state_after (opening_state config) calls

@@ -1,3 +1,4 @@
 pub mod Askers
+pub mod Neighbours
 pub mod Telling
 pub mod Reading

@@ -4,8 +4,12 @@
 //! - `select`: which offers a request is handed to
 //! - `write`: the messages, written for their receivers
 //! - `tell`: declarations to faces, and the numbers of keys that they need
+//! - `opening`: a face that joins the others, and what it is told
+//! - `neighbours`: what is told along trees and to neighbours, with room for what it leaves of them
 #![tactic(auto)]
 
+pub mod neighbours;
+pub mod opening;
 pub mod read;
 pub mod select;
 pub mod tell;

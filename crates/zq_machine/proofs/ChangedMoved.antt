@@ -16,7 +16,7 @@ use Rattle.zq_query.specs.Closing.{after_close}
 use Rattle.zq_told.specs.Ears.{Ears}
 use Rattle.zq_told.specs.Moved.{move_ears}
 use Rattle.zq_tables.specs.declared.said.Said.TheVariants as said
-use Rattle.zq_machine.specs.Deciding.{accepted, announced_by, changed, deadline, ears_of, lacks_told, retracted_by, seat, told_of, with_open, with_queries}
+use Rattle.zq_machine.specs.Deciding.{accepted, announced_by, changed, deadline, ears_of, kept, lacks_told, retracted_by, seat, told_of, with_open, with_queries}
 use Rattle.zq_machine.specs.Messages.{from_hat}
 use Rattle.zq_machine.specs.Moved.{move_core, move_interest, move_interests, move_telling, move_text}
 use Rattle.zq_machine.specs.Neighbours.{due_told, kept_after, kept_lack, kept_told}
@@ -25,7 +25,7 @@ use Rattle.zq_machine.specs.TextCalls.{TextCall, opening, closing, naming, unnam
 use Rattle.zq_machine.specs.Trees.{all_own_told, touched, tree_told}
 use Rattle.zq_machine.proofs.DueMoved.{all_trees_moved, from_moved, move_tree, ordered_moved}
 use Rattle.zq_machine.proofs.HatsMoved.{finalized_moved, hat_changed, joined_moved, left_moved, own_changed, registered_moved, unregistered_moved}
-use Rattle.zq_machine.proofs.NeighbourMoved.{kept_lacks, kept_left, kept_moved}
+use Rattle.zq_machine.proofs.NeighbourMoved.{kept_lacks, kept_left, kept_moved, new_alike}
 use Rattle.zq_machine.proofs.Refused.{HasText}
 use Rattle.zq_machine.proofs.RoutersMoved.{announced_moved, networked_moved, noded_moved, retracted_moved}
 use Rattle.zq_machine.proofs.SelectionMoved.{targets_moved}
@@ -70,29 +70,29 @@ module _ (φ : List ℕ → List ℕ) (keeps : Keeps φ) (c : Core) where
   -- ---- what is kept of it, and lacks
   pub lacks_moved : (t : TextCall) → HasText t → lacks_told (move_core φ c) (move_text φ t) ≡ lacks_told c t
   lacks_moved t e =
-      ap (λ d. kept_lack (move_core φ c) d (move_interests φ c.interests) (move_text φ t) (move_ears φ c.ears)) (changed_moved t e)
-      ∙ kept_lacks φ keeps c (changed c t) c.interests t e c.ears (move_ears φ c.ears) refl
+      ap (λ d. kept_lack (move_core φ c) d (move_interests φ c.interests) (move_text φ t) (kept (move_core φ c) (move_text φ t))) (changed_moved t e)
+      ∙ kept_lacks φ keeps c (changed c t) c.interests t e (kept c t) (kept (move_core φ c) (move_text φ t)) (new_alike φ keeps c t c.ears)
 
   ears_moved : (t : TextCall) → HasText t → ears_of (move_core φ c) (move_text φ t) ≡ move_ears φ (ears_of c t)
   ears_moved t e =
-      ap (λ d. kept_after (move_core φ c) d (move_interests φ c.interests) (move_text φ t) (move_ears φ c.ears)) (changed_moved t e)
-      ∙ kept_left φ keeps c (changed c t) c.interests t e c.ears (move_ears φ c.ears) refl
+      ap (λ d. kept_after (move_core φ c) d (move_interests φ c.interests) (move_text φ t) (kept (move_core φ c) (move_text φ t))) (changed_moved t e)
+      ∙ kept_left φ keeps c (changed c t) c.interests t e (kept c t) (kept (move_core φ c) (move_text φ t)) (new_alike φ keeps c t c.ears)
 
   pub accepted_moved : (t : TextCall) → HasText t → accepted (move_core φ c) (move_text φ t) ≡ move_core φ (accepted c t)
   accepted_moved t e = λ j. record (changed_moved t e j) { ears = ears_moved t e j }
 
   -- ---- what is told
-  module _ (d : Core) (ints : Interests) (t : TextCall) (kept : Ears) (e : HasText t) where
-    due_moved : due_told (move_core φ c) (move_core φ d) (move_interests φ ints) (move_text φ t) (move_ears φ kept) ≡ map (move_telling φ) (due_told c d ints t kept)
+  module _ (d : Core) (ints : Interests) (t : TextCall) (held others : Ears) (same : others ≡ move_ears φ held) (e : HasText t) where
+    due_moved : due_told (move_core φ c) (move_core φ d) (move_interests φ ints) (move_text φ t) others ≡ map (move_telling φ) (due_told c d ints t held)
     due_moved =
         let trees = tree_told c d t ++ all_own_told c.hats d.hats (touched c t) in
         ap (λ l. map from_hat (in_order l))
-        ((λ j. all_trees_moved φ keeps c d t e j ++ kept_moved φ keeps c d ints t e kept (move_ears φ kept) refl j)
-        ∙ sym (map-append (move_tree φ keeps) trees (kept_told c d ints t kept)))
-        ∙ ap (map from_hat) (ordered_moved φ keeps (trees ++ kept_told c d ints t kept))
-        ∙ from_moved φ keeps (in_order (trees ++ kept_told c d ints t kept))
+        ((λ j. all_trees_moved φ keeps c d t e j ++ kept_moved φ keeps c d ints t e held others same j)
+        ∙ sym (map-append (move_tree φ keeps) trees (kept_told c d ints t held)))
+        ∙ ap (map from_hat) (ordered_moved φ keeps (trees ++ kept_told c d ints t held))
+        ∙ from_moved φ keeps (in_order (trees ++ kept_told c d ints t held))
 
   pub told_moved : (t : TextCall) → HasText t → told_of (move_core φ c) (move_text φ t) ≡ map (move_telling φ) (told_of c t)
   told_moved t e =
-      ap (λ d. due_told (move_core φ c) d (move_interests φ c.interests) (move_text φ t) (move_ears φ c.ears)) (accepted_moved t e)
-      ∙ due_moved (accepted c t) c.interests t c.ears e
+      ap (λ d. due_told (move_core φ c) d (move_interests φ c.interests) (move_text φ t) (kept (move_core φ c) (move_text φ t))) (accepted_moved t e)
+      ∙ due_moved (accepted c t) c.interests t (kept c t) (kept (move_core φ c) (move_text φ t)) (new_alike φ keeps c t c.ears) e

@@ -45,10 +45,10 @@ use Rattle.zq_machine.proofs.Foreign.{entries_kept, entry_put, entry_taken, list
 use Rattle.zq_machine.proofs.Frame.{accepted_config, config_kept, run_config}
 use Rattle.zq_machine.specs.Writing.{write}
 use Rattle.zq_machine.proofs.Granted.{all_passed, by_granted, granted_is_accepted, told_by}
-use Rattle.zq_machine.proofs.DueHeard.{AlongTree, trees_due}
+use Rattle.zq_machine.proofs.DueHeard.{AlongTree, IsOpen, trees_due}
 use Rattle.zq_machine.proofs.Learning.{Says, is_news, order_heard}
 use Rattle.zq_machine.proofs.Lists.{all_append, all_weaker}
-use Rattle.zq_machine.proofs.NeighboursTold.{IsNear, neighbours, neighbours_near}
+use Rattle.zq_machine.proofs.NeighboursTold.{IsNear, neighbours, neighbours_near, seat_home}
 use Rattle.zq_machine.proofs.NetworkTold.{entries_stay, made, network_true}
 use Rattle.zq_machine.proofs.OwnTold.{IsTrue, child_seat, news_parts, own_true, stands}
 use Rattle.zq_machine.proofs.RouterTold.{IsComplete, other_stands, other_stood, own_complete, router_complete, router_true}
@@ -107,16 +107,7 @@ child_of r face root hats e = by_hat (hat_at r hats) refl e
 
 -- the child's hat is the face's
 child_home : {config : Settings} (s : State) → InOrder config s → (r : Region) (face : ℕ) (root : Zid) (key : List ℕ) (b : Child r face root s.core.hats) → hat_of face s.core ≡ Some b.hat
-child_home s j r face root key b = by (at face s.core.faces) refl (sym (j.tied.seats r b.hat face b.its) ∙ child_seat face b.hat (children_of b.hat.network root) b.child)
-  where
-    by : (o : Option OpenFace) → at face s.core.faces ≡ o → option_map_or (stands_in r) o false ≡ true → option_and_then (λ (x : OpenFace). hat_at x.region s.core.hats) o ≡ Some b.hat
-    by None e on = absurd (false≢true on)
-    by (Some o) e on =
-        let there : (h : HatState) × (hat_at o.region s.core.hats ≡ Some h) = some_of (hat_at o.region s.core.hats) (j.tied.homes face o e) in
-        there.1
-        ∙ sym (region_there o.region s.core.hats there.0 there.1).1
-        ∙ ap (λ n. at n s.core.hats) (one_number (region_index o.region) (region_index r) (number_test (region_index o.region) (region_index r) ∙ on))
-        ∙ (region_there r s.core.hats b.hat b.its).1
+child_home s j r face root key b = seat_home s.core s.names j.tied r b.hat face b.its (child_seat face b.hat (children_of b.hat.network root) b.child)
 
 off : (b : Bool) → (b ≡ true → ⊥) → b ≡ false
 off true never = absurd (never refl)
@@ -229,7 +220,7 @@ module _ (config : Settings) (s : State) (i : InOrder config s) (same_config : s
       stands_after : Option QueryableInfoType
       stands_after = stands config s i t fits j r face root key b.hat b.its b.node b.place b.child b.routes
 
-      all_say : (ts : List TreeTelling) → AllByRecursion (IsTrue config s i t fits j r face root key b.hat b.its b.node b.place b.child b.routes) ts → AllByRecursion (AlongTree (renamed s t)) ts → AllByRecursion (Says face (Some b.node) key stands_after) ts
+      all_say : (ts : List TreeTelling) → AllByRecursion (IsTrue config s i t fits j r face root key b.hat b.its b.node b.place b.child b.routes) ts → AllByRecursion (AlongTree (IsOpen (renamed s t))) ts → AllByRecursion (Says face (Some b.node) key stands_after) ts
       all_say [] true_ones along = tt
       all_say (u ∷ us) true_ones along = (record { id = λ on. along.0.id; info = true_ones.0 }, all_say us true_ones.1 along.1)
 
@@ -315,7 +306,7 @@ module _ (config : Settings) (r : Region) (face : ℕ) (root : Zid) (key : List 
       ap (known_in r face root key (after s c) cs) (call_keeps config s i same r face root key c was stays.0)
       ∙ stays_known cs (after s c) (after_kept (InOrder config) (granted_in_order config) (numbered_in_order config) s c i) (config_kept s c ∙ same) stays.0 stays.1
 
-after_both : (before later : List Call) (s : State) → state_after s (before ++ later) ≡ state_after (state_after s before) later
+pub after_both : (before later : List Call) (s : State) → state_after s (before ++ later) ≡ state_after (state_after s before) later
 after_both [] later s = refl
 after_both (c ∷ before) later s = after_both before later (after s c)
 

@@ -113,7 +113,7 @@ own_keyed place hats (k ∷ ks) all = by (own_entry place k hats) (own_keyed pla
     by None ih = ih
     by (Some i) ih = (all.0, ih)
 
-own_entries_keyed : (place : ℕ) (hats : List (ℕ × HatState)) → Each Any IsWorded hats → AreKeyed (own_entries place hats)
+pub own_entries_keyed : (place : ℕ) (hats : List (ℕ × HatState)) → Each Any IsWorded hats → AreKeyed (own_entries place hats)
 own_entries_keyed place hats w = own_keyed place hats (own_keys place hats) (own_texts place [] hats tt w)
 
 keyed_entries : (root : Zid) (es : List (List ℕ × List (ℕ × QueryableInfoType))) → Each IsKey IsUsed es → AreKeyed (filter_map (keyed_entry root) es)
@@ -166,18 +166,23 @@ module _ (P : ℕ → Type 0) (h : HatState) (each : (n : ℕ) → has_face n h 
   faces_each from zids = all_filter P (is_other from) (filter_map (λ zid. face_with zid h.faces) zids) (found_each zids)
 
 -- ---- what can be told
-module _ (names : NamingState) where
-  abbrev pub IsOpen : ℕ → Type 0
-  IsOpen n = is_some (naming_at n names) ≡ true
+-- the face is open
+abbrev pub IsOpen : NamingState → ℕ → Type 0
+IsOpen names n = is_some (naming_at n names) ≡ true
 
-  -- the hat's faces are open
+module _ (P : ℕ → Type 0) where
+  -- each of the hat's faces is such a one
   abbrev pub Seats : HatState → Type 0
-  Seats h = (n : ℕ) → has_face n h ≡ true → IsOpen n
+  Seats h = (n : ℕ) → has_face n h ≡ true → P n
+
+  -- the same of a hat of routers
+  abbrev pub RouterSeats : HatState → Type 0
+  RouterSeats h = strategy_at h ≡ strategy.Router → Seats h
 
   abbrev pub Can : TreeTelling → Type 0
-  Can t = IsOpen t.face.0 × IsKey t.key
+  Can t = P t.face.0 × IsKey t.key
 
-  -- it can be told, and along trees the id is 0
+  -- its face is such a one, it is of a key, and the id is 0, as along trees
   pub record AlongTree (t : TreeTelling) : Type 0 where
     pub can : Can t
     pub id : t.id ≡ 0
@@ -185,7 +190,7 @@ module _ (names : NamingState) where
   abbrev AllCan : List TreeTelling → Type 0
   AllCan ts = AllByRecursion AlongTree ts
 
-  children_can : (from : Option ℕ) (root : Zid) (key : List ℕ) (i : Option QueryableInfoType) (h : HatState) → Seats h → IsKey key → AllCan (to_children from root key i h)
+  pub children_can : (from : Option ℕ) (root : Zid) (key : List ℕ) (i : Option QueryableInfoType) (h : HatState) → Seats h → IsKey key → AllCan (to_children from root key i h)
   children_can from root key i h seats some = by (place_of h.network root)
     where
       ns : List ℕ
@@ -193,7 +198,7 @@ module _ (names : NamingState) where
 
       by : (o : Option ℕ) → AllCan (option_map_or (λ node. map (tree_telling key i node) ns) o [])
       by None = tt
-      by (Some node) = all_mapped AlongTree (tree_telling key i node) ns (all_weaker IsOpen (λ n. AlongTree (tree_telling key i node n)) (λ n there. record { can = (there, some); id = refl }) ns (faces_each IsOpen h seats from (children_of h.network root)))
+      by (Some node) = all_mapped AlongTree (tree_telling key i node) ns (all_weaker P (λ n. AlongTree (tree_telling key i node n)) (λ n there. record { can = (there, some); id = refl }) ns (faces_each P h seats from (children_of h.network root)))
 
   own_can : (key : List ℕ) (was is : Option QueryableInfoType) (h : HatState) → Seats h → IsKey key → AllCan (own_told key was is h)
   own_can key was is h seats some = by (same_infos was is)
@@ -202,11 +207,11 @@ module _ (names : NamingState) where
       by true = tt
       by false = children_can None h.own key is h seats some
 
-  each_told : (es : List (List ℕ × QueryableInfoType)) (node n : ℕ) → IsOpen n → AreKeyed es → AllCan (all_told_of es node n)
+  each_told : (es : List (List ℕ × QueryableInfoType)) (node n : ℕ) → P n → AreKeyed es → AllCan (all_told_of es node n)
   each_told [] node n there keyed = tt
   each_told (e ∷ es) node n there keyed = (record { can = (there, keyed.0); id = refl }, each_told es node n there keyed.1)
 
-  faces_told : (es : List (List ℕ × QueryableInfoType)) (node : ℕ) (ns : List ℕ) → AllByRecursion IsOpen ns → AreKeyed es → AllCan (flat_map (all_told_of es node) ns)
+  faces_told : (es : List (List ℕ × QueryableInfoType)) (node : ℕ) (ns : List ℕ) → AllByRecursion P ns → AreKeyed es → AllCan (flat_map (all_told_of es node) ns)
   faces_told es node [] all keyed = tt
   faces_told es node (n ∷ ns) all keyed = all_append AlongTree (all_told_of es node n) (flat_map (all_told_of es node) ns) (each_told es node n all.0 keyed) (faces_told es node ns all.1 keyed)
 
@@ -218,41 +223,42 @@ module _ (names : NamingState) where
 
       by : (o : Option ℕ) → AllCan (option_map_or (λ node. flat_map (all_told_of (standing_of own root h) node) (faces_by None (λ zid. face_with zid h.faces) zids)) o [])
       by None = tt
-      by (Some node) = faces_told (standing_of own root h) node (faces_by None (λ zid. face_with zid h.faces) zids) (faces_each IsOpen h seats None zids) (standing_keyed own root h keyed w)
+      by (Some node) = faces_told (standing_of own root h) node (faces_by None (λ zid. face_with zid h.faces) zids) (faces_each P h seats None zids) (standing_keyed own root h keyed w)
 
   trees_can : (own : List (List ℕ × QueryableInfoType)) (old : Network) (h : HatState) → AreKeyed own → IsWorded h → Seats h → (zs : List Zid) (ts : List Tree) → AllCan (trees_told own old h zs ts)
   trees_can own old h keyed w seats [] ts = tt
   trees_can own old h keyed w seats (z ∷ zs) [] = tt
   trees_can own old h keyed w seats (z ∷ zs) (t ∷ ts) = all_append AlongTree (root_told own old h z t) (trees_told own old h zs ts) (root_can own old h z t keyed w seats) (trees_can own old h keyed w seats zs ts)
 
-  placed_can : (own : List (List ℕ × QueryableInfoType)) (old h : HatState) → AreKeyed own → IsWorded h → Seats h → AllCan (placed_told own old h)
-  placed_can own old h keyed w seats = by (strategy_at h)
+  pub placed_can : (own : List (List ℕ × QueryableInfoType)) (old h : HatState) → AreKeyed own → IsWorded h → RouterSeats h → AllCan (placed_told own old h)
+  placed_can own old h keyed w seats = by (strategy_at h) refl
     where
-      by : (k : Strategy) → AllCan (in_routers k (network_told own old.network h) [])
-      by strategy.Broker = tt
-      by strategy.Client = tt
-      by strategy.Peer = tt
-      by strategy.Router = trees_can own old.network h keyed w seats h.network.nodes h.network.trees
+      by : (k : Strategy) → strategy_at h ≡ k → AllCan (in_routers k (network_told own old.network h) [])
+      by strategy.Broker k = tt
+      by strategy.Client k = tt
+      by strategy.Peer k = tt
+      by strategy.Router k = trees_can own old.network h keyed w (seats k) h.network.nodes h.network.trees
 
-  own_in_can : (before after : List (ℕ × HatState)) (key : List ℕ) (h : ℕ × HatState) → IsKey key → Seats h.1 → AllCan (own_told_in before after key h)
-  own_in_can before after key h some seats = by (strategy_at h.1)
+  own_in_can : (before after : List (ℕ × HatState)) (key : List ℕ) (h : ℕ × HatState) → IsKey key → RouterSeats h.1 → AllCan (own_told_in before after key h)
+  own_in_can before after key h some seats = by (strategy_at h.1) refl
     where
-      by : (k : Strategy) → AllCan (in_routers k (own_told key (own_entry h.0 key before) (own_entry h.0 key after) h.1) [])
-      by strategy.Broker = tt
-      by strategy.Client = tt
-      by strategy.Peer = tt
-      by strategy.Router = own_can key (own_entry h.0 key before) (own_entry h.0 key after) h.1 seats some
+      by : (k : Strategy) → strategy_at h.1 ≡ k → AllCan (in_routers k (own_told key (own_entry h.0 key before) (own_entry h.0 key after) h.1) [])
+      by strategy.Broker k = tt
+      by strategy.Client k = tt
+      by strategy.Peer k = tt
+      by strategy.Router k = own_can key (own_entry h.0 key before) (own_entry h.0 key after) h.1 (seats k) some
 
-  own_hats_can : (before after : List (ℕ × HatState)) (key : List ℕ) (hats : List (ℕ × HatState)) → IsKey key → AllByRecursion (λ (e : ℕ × HatState). Seats e.1) hats → AllCan (flat_map (own_told_in before after key) hats)
+  own_hats_can : (before after : List (ℕ × HatState)) (key : List ℕ) (hats : List (ℕ × HatState)) → IsKey key → AllByRecursion (λ (e : ℕ × HatState). RouterSeats e.1) hats → AllCan (flat_map (own_told_in before after key) hats)
   own_hats_can before after key [] some seats = tt
   own_hats_can before after key (h ∷ hats) some seats =
       all_append AlongTree (own_told_in before after key h) (flat_map (own_told_in before after key) hats) (own_in_can before after key h some seats.0) (own_hats_can before after key hats some seats.1)
 
-  own_all_can : (before after : List (ℕ × HatState)) (keys : List (List ℕ)) → AreTexts keys → AllByRecursion (λ (e : ℕ × HatState). Seats e.1) after → AllCan (all_own_told before after keys)
+  pub own_all_can : (before after : List (ℕ × HatState)) (keys : List (List ℕ)) → AreTexts keys → AllByRecursion (λ (e : ℕ × HatState). RouterSeats e.1) after → AllCan (all_own_told before after keys)
   own_all_can before after [] some seats = tt
   own_all_can before after (k ∷ ks) some seats =
       all_append AlongTree (own_told_on before after k) (all_own_told before after ks) (own_hats_can before after k after some.0 seats) (own_all_can before after ks some.1 seats)
 
+module _ (names : NamingState) where
   body_can : (id : ℕ) (key : List ℕ) (i : Option QueryableInfoType) → IsKey key → tells_text (told_or_ended id key i) ≡ true
   body_can id key None some = by (id == 0)
     where
@@ -261,7 +267,7 @@ module _ (names : NamingState) where
       by false = refl
   body_can id key (Some i) some = key_text key some
 
-  pub from_can : (ts : List TreeTelling) → AllByRecursion Can ts → AllByRecursion (CanBeTold names) (map from_hat ts)
+  pub from_can : (ts : List TreeTelling) → AllByRecursion (Can (IsOpen names)) ts → AllByRecursion (CanBeTold names) (map from_hat ts)
   from_can [] all = tt
   from_can (t ∷ ts) all = ((all.0.0, body_can t.id t.key t.info all.0.1), from_can ts all.1)
 
@@ -271,7 +277,7 @@ face_keys_texts [] w = tt
 face_keys_texts (d ∷ ds) w = (w.0.1, face_keys_texts ds w.1)
 
 module _ (c : Core) (w : Each Any IsWorded c.hats) where
-  worded_at : (r : Region) (h : HatState) → hat_at r c.hats ≡ Some h → IsWorded h
+  pub worded_at : (r : Region) (h : HatState) → hat_at r c.hats ≡ Some h → IsWorded h
   worded_at r h e = each_found Any IsWorded (is_at (nat_cmp (region_index r))) c.hats h (region_there r c.hats h e).1 w
 
   worded_of : (face : ℕ) (h : HatState) → hat_of face c ≡ Some h → IsWorded h
@@ -316,53 +322,53 @@ module _ (c : Core) (w : Each Any IsWorded c.hats) where
 
 -- ---- a call at a point of a run
 module _ (config : Settings) where
-  hat_seats : (s : State) → InOrder config s → AllByRecursion (λ (e : ℕ × HatState). Seats s.names e.1) s.core.hats
+  hat_seats : (s : State) → InOrder config s → AllByRecursion (λ (e : ℕ × HatState). Seats (IsOpen s.names) e.1) s.core.hats
   hat_seats s i =
-      all_weaker _ (λ (e : ℕ × HatState). Seats s.names e.1) (λ e opens n has. i.tied.named n ∙ opens n has) s.core.hats
+      all_weaker _ (λ (e : ℕ × HatState). Seats (IsOpen s.names) e.1) (λ e opens n has. i.tied.named n ∙ opens n has) s.core.hats
       (all_hats_open config s.core.faces s.core.hats s.names i.tied i.hats)
 
-  seats_there : (names : NamingState) (hats : List (ℕ × HatState)) (k : ℕ) (h : HatState) → at k hats ≡ Some h → AllByRecursion (λ (e : ℕ × HatState). Seats names e.1) hats → Seats names h
+  seats_there : (names : NamingState) (hats : List (ℕ × HatState)) (k : ℕ) (h : HatState) → at k hats ≡ Some h → AllByRecursion (λ (e : ℕ × HatState). Seats (IsOpen names) e.1) hats → Seats (IsOpen names) h
   seats_there names [] k h e all = absurd (let gap : None ≡ Some h = e in cc)
   seats_there names (x ∷ hats) k h e all = by (is_at (nat_cmp k) x.0) e (λ f. seats_there names hats k h f all.1)
     where
-      by : (b : Bool) → cond b (Some x.1) (at k hats) ≡ Some h → (at k hats ≡ Some h → Seats names h) → Seats names h
-      by true f more = subst (Seats names) (same_Some _ _ f) all.0
+      by : (b : Bool) → cond b (Some x.1) (at k hats) ≡ Some h → (at k hats ≡ Some h → Seats (IsOpen names) h) → Seats (IsOpen names) h
+      by true f more = subst (Seats (IsOpen names)) (same_Some _ _ f) all.0
       by false f more = more f
 
   module _ (s : State) (i : InOrder config s) where
-    seats_at : (r : Region) (h : HatState) → hat_at r s.core.hats ≡ Some h → Seats s.names h
+    seats_at : (r : Region) (h : HatState) → hat_at r s.core.hats ≡ Some h → Seats (IsOpen s.names) h
     seats_at r h e = seats_there s.names s.core.hats (region_index r) h (region_there r s.core.hats h e).1 (hat_seats s i)
 
-    seats_of : (face : ℕ) (h : HatState) → hat_of face s.core ≡ Some h → Seats s.names h
+    seats_of : (face : ℕ) (h : HatState) → hat_of face s.core ≡ Some h → Seats (IsOpen s.names) h
     seats_of face h = by (at face s.core.faces)
       where
-        by : (o : Option OpenFace) → option_and_then (λ (x : OpenFace). hat_at x.region s.core.hats) o ≡ Some h → Seats s.names h
+        by : (o : Option OpenFace) → option_and_then (λ (x : OpenFace). hat_at x.region s.core.hats) o ≡ Some h → Seats (IsOpen s.names) h
         by None e = absurd (let gap : None ≡ Some h = e in cc)
         by (Some x) e = seats_at x.region h e
 
-    router_can : (face : FaceId) (node : ℕ) (key : List ℕ) (info : Option QueryableInfoType) → IsKey key → AllCan s.names (router_told face node key info s.core)
+    router_can : (face : FaceId) (node : ℕ) (key : List ℕ) (info : Option QueryableInfoType) → IsKey key → AllCan (IsOpen s.names) (router_told face node key info s.core)
     router_can face node key info some = by (hat_of face.0 s.core) refl
       where
-        source : (h : HatState) → Seats s.names h → (o : Option Zid) → AllCan s.names (option_map_or (λ (z : Zid). to_children (Some face.0) z key info h) o [])
+        source : (h : HatState) → Seats (IsOpen s.names) h → (o : Option Zid) → AllCan (IsOpen s.names) (option_map_or (λ (z : Zid). to_children (Some face.0) z key info h) o [])
         source h seats None = tt
-        source h seats (Some z) = children_can s.names (Some face.0) z key info h seats some
+        source h seats (Some z) = children_can (IsOpen s.names) (Some face.0) z key info h seats some
 
-        by : (o : Option HatState) → hat_of face.0 s.core ≡ o → AllCan s.names (option_map_or (source_told face node key info) o [])
+        by : (o : Option HatState) → hat_of face.0 s.core ≡ o → AllCan (IsOpen s.names) (option_map_or (source_told face node key info) o [])
         by None e = tt
         by (Some h) e = source h (seats_of face.0 h e) (source_at face.0 node h)
 
-    networked_can : (t : TextCall) → InOrder config (accepted_state s t) → (r : Region) → AllCan (renamed s t) (networked_told r s.core.hats (accepted s.core t).hats)
+    networked_can : (t : TextCall) → InOrder config (accepted_state s t) → (r : Region) → AllCan (IsOpen (renamed s t)) (networked_told r s.core.hats (accepted s.core t).hats)
     networked_can t j r = by (hat_at r s.core.hats) (hat_at r (accepted s.core t).hats) refl
       where
-        by : (o p : Option HatState) → hat_at r (accepted s.core t).hats ≡ p → AllCan (renamed s t) (option_map_or (λ (old : HatState). option_map_or (placed_told (own_entries (region_index r) s.core.hats) old) p []) o [])
+        by : (o p : Option HatState) → hat_at r (accepted s.core t).hats ≡ p → AllCan (IsOpen (renamed s t)) (option_map_or (λ (old : HatState). option_map_or (placed_told (own_entries (region_index r) s.core.hats) old) p []) o [])
         by None p e = tt
         by (Some old) None e = tt
         by (Some old) (Some x) e =
-            placed_can (renamed s t) (own_entries (region_index r) s.core.hats) old x (own_entries_keyed (region_index r) s.core.hats i.worded)
+            placed_can (IsOpen (renamed s t)) (own_entries (region_index r) s.core.hats) old x (own_entries_keyed (region_index r) s.core.hats i.worded)
             (worded_at (accepted s.core t) j.worded r x e)
-            (seats_there (renamed s t) (accepted s.core t).hats (region_index r) x (region_there r (accepted s.core t).hats x e).1 (hat_seats (accepted_state s t) j))
+            (λ k. seats_there (renamed s t) (accepted s.core t).hats (region_index r) x (region_there r (accepted s.core t).hats x e).1 (hat_seats (accepted_state s t) j))
 
-    tree_can : (t : TextCall) → refusal_of s.core t ≡ None → InOrder config (accepted_state s t) → AllCan (renamed s t) (tree_told s.core (accepted s.core t) t)
+    tree_can : (t : TextCall) → refusal_of s.core t ≡ None → InOrder config (accepted_state s t) → AllCan (IsOpen (renamed s t)) (tree_told s.core (accepted s.core t) t)
     tree_can (announcing face sd info node) h j = router_can face node (full_text sd) (Some info) (said_key sd (all_passed (causes s.core (announcing face sd info node)) h).1.1.0)
     tree_can (retracting face sd node) h j = router_can face node (full_text sd) None (said_key sd (all_passed (causes s.core (retracting face sd node)) h).1.1.0)
     tree_can (networking r net) h j = networked_can (networking r net) j r
@@ -372,11 +378,12 @@ module _ (config : Settings) where
     abbrev pub due_trees : TextCall → List TreeTelling
     due_trees t = tree_told s.core (accepted s.core t) t ++ all_own_told s.core.hats (accepted s.core t).hats (touched s.core t)
 
-    pub trees_due : (t : TextCall) → refusal_of s.core t ≡ None → InOrder config (accepted_state s t) → AllCan (renamed s t) (due_trees t)
+    pub trees_due : (t : TextCall) → refusal_of s.core t ≡ None → InOrder config (accepted_state s t) → AllCan (IsOpen (renamed s t)) (due_trees t)
     trees_due t h j =
         let tree = tree_told s.core (accepted s.core t) t in
         let own = all_own_told s.core.hats (accepted s.core t).hats (touched s.core t) in
-        all_append (AlongTree (renamed s t)) tree own (tree_can t h j) (own_all_can (renamed s t) s.core.hats (accepted s.core t).hats (touched s.core t) (touched_texts s.core i.worded t h) (hat_seats (accepted_state s t) j))
+        all_append (AlongTree (IsOpen (renamed s t))) tree own (tree_can t h j) (own_all_can (IsOpen (renamed s t)) s.core.hats (accepted s.core t).hats (touched s.core t) (touched_texts s.core i.worded t h)
+        (all_weaker (λ (e : ℕ × HatState). Seats (IsOpen (renamed s t)) e.1) (λ (e : ℕ × HatState). RouterSeats (IsOpen (renamed s t)) e.1) (λ e seats k. seats) (accepted s.core t).hats (hat_seats (accepted_state s t) j)))
 
 -- messages of requests say nothing that is told
 pub written_unheard : (names : NamingState) (ms : List TextMessage) (rest : List Handed) (z : NamingState) → hear (write names ms ++ rest) z ≡ hear rest z

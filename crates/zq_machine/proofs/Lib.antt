@@ -35,7 +35,8 @@ pub mod Worded
 pub mod Foreign
 pub mod DueHeard
 pub mod NeighboursTold
-pub mod Quiet
+pub mod Sifting
+pub mod RoutersAlone
 pub mod Tells
 pub mod Direct
 pub mod Learning
@@ -74,3 +75,4 @@ pub mod NeighbourMoved
 pub mod ChangedMoved
 pub mod CausesMoved
 pub mod DecidingMoved
+pub mod Keeping

@@ -30,7 +30,7 @@ use Rattle.zq_machine.specs.Due.{due, due_touched, listens}
 use Rattle.zq_interests.specs.Interests.{Interests}
 use Rattle.zq_machine.specs.Machine.{settle}
 use Rattle.zq_machine.specs.Neighbours.{dues_on, ears_after, looked_at, neighbours_lack, neighbours_told, with_dues, with_new, without_closed}
-use Rattle.zq_machine.specs.Receivers.{AllHear, AreOfOpen, Hears}
+use Rattle.zq_machine.specs.Receivers.{AllHear, AreOfOpen, Hears, heard_over}
 use Rattle.zq_machine.specs.State.{Core, State, at, is_open}
 use Rattle.zq_machine.specs.TextCalls.{TextCall, opening, closing}
 use Rattle.zq_machine.proofs.Agreed.{InOrder as Kept}
@@ -77,7 +77,7 @@ module _ (config : Settings) (s : State) (i : Kept config s) (t : TextCall) (int
     closed_untold shut = tells_each Unasked (with_new s.core t ears) (looked_at s.core w ints t) face ∙ ap (flat_map (told_alone Unasked (with_new s.core t ears) face)) (looked_is s.core w ints t) ∙ others_told w.faces shut
 
   -- ---- what is kept of faces
-  new_sound : (x : TextCall) → s.core.config.start.told < 2 ^ 32 → AreSound ears → AreSound (with_new s.core x ears)
+  pub new_sound : (x : TextCall) → s.core.config.start.told < 2 ^ 32 → AreSound ears → AreSound (with_new s.core x ears)
   new_sound (opening o) low a = stay_sound.opens s.core.next_face s.core.config.start.told ears low a
   new_sound x low a = a
 
@@ -127,27 +127,29 @@ module _ (config : Settings) (s : State) (i : Kept config s) (t : TextCall) (int
   still_there (closing g) others e = absurd (false≢true e)
   still_there x others e = refl
 
-  pub all_hear : ((face : ℕ) → is_open face s.core ≡ true → is_open face w ≡ true → (key : List ℕ) → listens w ints face key ≡ listens s.core ints face key)
-      → AllHear s.core ints ears → AllHear w ints (ears_after s.core w ints t ears)
-  all_hear same all face seen = by (is_open face s.core) refl
+  -- of a face that is open after the call and was not before it, the receiver kept nothing
+  pub new_hears : (face : ℕ) → is_open face w ≡ true → is_open face s.core ≡ false → Hears w ints (ears_after s.core w ints t ears) face (heard_over s.core w ints t ears face [])
+  new_hears face seen was =
+      still_hears w ints (tell_due Unasked (with_new s.core t ears) (looked_at s.core w ints t)) (ears_after s.core w ints t ears) face (heard_over s.core w ints t ears face [])
+      (ap (at_face face) (still_there t (tell_due Unasked (with_new s.core t ears) (looked_at s.core w ints t)) (new_face config s i ints ears t face seen was).0))
+      (call_hears config s i t ints face seen (with_new s.core t ears) [] (λ key off. none key) first)
     where
-      none : is_open face s.core ≡ false → (key : List ℕ) → due s.core ints face key ≡ None
-      none was key = closed_undue s.core ints face key was
+      none : (key : List ℕ) → due s.core ints face key ≡ None
+      none key = closed_undue s.core ints face key was
 
-      first : (was : is_open face s.core ≡ false) → Hears s.core ints (with_new s.core t ears) face []
-      first was = record {
+      first : Hears s.core ints (with_new s.core t ears) face []
+      first = record {
         ear = fresh config s i ints ears;
         there = (new_face config s i ints ears t face seen was).1;
         sorted = none_sorted ToldEntry;
         tied = opens_sound.tied s.core.config.start.told;
-        told = λ key. sym (none was key);
+        told = λ key. sym (none key);
       }
 
+  pub all_hear : ((face : ℕ) → is_open face s.core ≡ true → is_open face w ≡ true → (key : List ℕ) → listens w ints face key ≡ listens s.core ints face key)
+      → AllHear s.core ints ears → AllHear w ints (ears_after s.core w ints t ears)
+  all_hear same all face seen = by (is_open face s.core) refl
+    where
       by : (b : Bool) → is_open face s.core ≡ b → (heard : Heard) × Hears w ints (ears_after s.core w ints t ears) face heard
       by true was = let h = all face was in (_, call_told config s i t ints face seen was ears h.0 (same face was seen) h.1)
-      by false was = (
-        _,
-        still_hears w ints (tell_due Unasked (with_new s.core t ears) (looked_at s.core w ints t)) (ears_after s.core w ints t ears) face _
-            (ap (at_face face) (still_there t (tell_due Unasked (with_new s.core t ears) (looked_at s.core w ints t)) (new_face config s i ints ears t face seen was).0))
-            (call_hears config s i t ints face seen (with_new s.core t ears) [] (λ key off. none was key) (first was)),
-      )
+      by false was = (_, new_hears face seen was)

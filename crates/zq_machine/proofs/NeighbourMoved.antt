@@ -104,7 +104,7 @@ module _ (φ : List ℕ → List ℕ) (keeps : Keeps φ) where
     left_alike : tell_due way others more ≡ move_ears φ (tell_due way ears dues)
     left_alike = (λ i. tell_due way (e i) (d i)) ∙ alike.leaves way ears dues
 
-  new_alike : (c : Core) (t : TextCall) (ears : Ears) → with_new (move_core φ c) (move_text φ t) (move_ears φ ears) ≡ move_ears φ (with_new c t ears)
+  pub new_alike : (c : Core) (t : TextCall) (ears : Ears) → with_new (move_core φ c) (move_text φ t) (move_ears φ ears) ≡ move_ears φ (with_new c t ears)
   new_alike c (opening o) ears = alike.opens c.next_face c.config.start.told ears
   new_alike c t ears = refl
 

@@ -3,13 +3,16 @@ use Rattle.std.proofs.Common.{◌≡◌, ◌∙◌, refl, sym, ap, subst, ℕ, B
 use Rattle.std.specs.Prelude.{◌==◌, ◌&&◌, ◌||◌}
 use Rattle.std.specs.BTreeMap.{is_at}
 use Rattle.std.specs.List.{AllByRecursion, flat_map, list_any}
-use Rattle.std.specs.Option.{is_some}
+use Rattle.std.specs.Option.{is_some, option_and_then, option_map_or}
 use Rattle.std.specs.Ordering.{nat_cmp}
 use Rattle.std.specs.Str.{bytes_eq}
 use Rattle.std.proofs.lemmas.Bool.{false≢true}
 use Rattle.std.proofs.lemmas.Slice.Eq.{bytes_eq-Decides}
+use Rattle.zq_message.specs.declared.message.Region.{Region}
+use Rattle.zq_regions.specs.Region.{region_index}
 use Rattle.zq_trees.specs.declared.types.Telling.{Telling as TreeTelling}
 use Rattle.zq_trees.specs.Tellings.{in_order}
+use Rattle.zq_hat.specs.Kept.{has_face}
 use Rattle.zq_hat.specs.State.{HatState}
 use Rattle.zq_hat.specs.Trees.{region_keys}
 use Rattle.zq_interests.specs.Interests.{Interests}
@@ -22,17 +25,19 @@ use Rattle.zq_told.proofs.Meant.{tells_meant}
 use Rattle.zq_tables.specs.Naming.{NamingState}
 use Rattle.zq_machine.specs.declared.face.OpenFace.{OpenFace}
 use Rattle.zq_machine.specs.Configs.{Settings}
-use Rattle.zq_machine.specs.Deciding.{accepted, refusal_of, renamed, told_of}
+use Rattle.zq_machine.specs.Deciding.{accepted, kept, refusal_of, renamed, told_of}
 use Rattle.zq_machine.specs.Due.{due_keys as keys_due, due_touched, listens, with_region_keys}
 use Rattle.zq_machine.specs.Hearing.{CanBeTold, hear}
 use Rattle.zq_machine.specs.Machine.{accepted_state}
 use Rattle.zq_machine.specs.Neighbours.{due_on, dues_on, kept_told, looked_at, with_dues}
-use Rattle.zq_machine.specs.State.{Core, State, at}
+use Rattle.zq_machine.specs.Agreeing.{stands_in}
+use Rattle.zq_machine.specs.State.{Core, State, at, hat_at, hat_of}
 use Rattle.zq_machine.specs.TextCalls.{TextCall, opening}
 use Rattle.zq_machine.specs.Trees.{touched}
 use Rattle.zq_machine.specs.Writing.{tell}
 use Rattle.zq_machine.proofs.Agreed.{InOrder}
-use Rattle.zq_machine.proofs.Changing.{itself, number_test, one_number}
+use Rattle.zq_machine.proofs.Agreeing.{Tied, some_of}
+use Rattle.zq_machine.proofs.Changing.{itself, number_test, one_number, region_there}
 use Rattle.zq_machine.proofs.DueHeard.{AlongTree, AreTexts, Can, IsOpen, all_ordered, due_trees, from_can, region_texts, texts_put, touched_texts, trees_due}
 use Rattle.zq_machine.proofs.Hearing.{told_heard}
 use Rattle.zq_machine.proofs.NeighbourLooks.{looked_is}
@@ -73,6 +78,19 @@ each_there all (e ∷ es) in_all = (
   each_there all es (λ k there. in_all k (there_by (is_at (nat_cmp k) e.0) e.1 (at k es) there)),
 )
 
+-- ---- the hat that has a face is the face's
+pub seat_home : (c : Core) (names : NamingState) → Tied c.faces c.hats names → (r : Region) (h : HatState) (face : ℕ) → hat_at r c.hats ≡ Some h → has_face face h ≡ true → hat_of face c ≡ Some h
+seat_home c names tied r h face its has = by (at face c.faces) refl (sym (tied.seats r h face its) ∙ has)
+  where
+    by : (o : Option OpenFace) → at face c.faces ≡ o → option_map_or (stands_in r) o false ≡ true → option_and_then (λ (x : OpenFace). hat_at x.region c.hats) o ≡ Some h
+    by None e on = absurd (false≢true on)
+    by (Some o) e on =
+        let there : (x : HatState) × (hat_at o.region c.hats ≡ Some x) = some_of (hat_at o.region c.hats) (tied.homes face o e) in
+        there.1
+        ∙ sym (region_there o.region c.hats there.0 there.1).1
+        ∙ ap (λ n. at n c.hats) (one_number (region_index o.region) (region_index r) (number_test (region_index o.region) (region_index r) ∙ on))
+        ∙ (region_there r c.hats h its).1
+
 -- ---- keys that are looked at
 keys_texts : (ks : List (List ℕ)) (hats : List (ℕ × HatState)) → AreTexts ks → Each Any IsWorded hats → AreTexts (fold with_region_keys ks hats)
 keys_texts ks [] all w = all
@@ -89,7 +107,7 @@ looked_texts c w t h face = texts_put [] (touched c t) tt (touched_texts c w t h
 -- ---- what is told
 -- it can be told, and to a face that listens on the key
 pub record IsNear (names : NamingState) (c : Core) (ints : Interests) (u : TreeTelling) : Type 0 where
-  pub can : Can names u
+  pub can : Can (IsOpen names) u
   pub listens : listens c ints u.face.0 u.key ≡ true
 
 module _ (names : NamingState) (before after : Core) (ints : Interests) (t : TextCall) where
@@ -131,24 +149,24 @@ module _ (config : Settings) (s : State) (i : InOrder config s) (t : TextCall) (
 
   -- what an accepted call tells neighbours
   abbrev pub neighbours : List TreeTelling
-  neighbours = kept_told s.core (accepted s.core t) s.core.interests t s.core.ears
+  neighbours = kept_told s.core (accepted s.core t) s.core.interests t (kept s.core t)
 
   pub neighbours_near : AllByRecursion (IsNear (renamed s t) (accepted s.core t) s.core.interests) neighbours
-  neighbours_near = near_told (renamed s t) s.core (accepted s.core t) s.core.interests t (looked_texts s.core i.worded t fits) open_after s.core.ears
+  neighbours_near = near_told (renamed s t) s.core (accepted s.core t) s.core.interests t (looked_texts s.core i.worded t fits) open_after (kept s.core t)
 
-  all_can : AllByRecursion (Can (renamed s t)) (due_trees config s i t ++ neighbours)
+  all_can : AllByRecursion (Can (IsOpen (renamed s t))) (due_trees config s i t ++ neighbours)
   all_can =
-      all_append (Can (renamed s t)) (due_trees config s i t) neighbours
-      (all_weaker (AlongTree (renamed s t)) (Can (renamed s t)) (λ u along. along.can) (due_trees config s i t) (trees_due config s i t fits j))
-      (all_weaker (IsNear (renamed s t) (accepted s.core t) s.core.interests) (Can (renamed s t)) (λ u near. near.can) neighbours neighbours_near)
+      all_append (Can (IsOpen (renamed s t))) (due_trees config s i t) neighbours
+      (all_weaker (AlongTree (IsOpen (renamed s t))) (Can (IsOpen (renamed s t))) (λ u along. along.can) (due_trees config s i t) (trees_due config s i t fits j))
+      (all_weaker (IsNear (renamed s t) (accepted s.core t) s.core.interests) (Can (IsOpen (renamed s t))) (λ u near. near.can) neighbours neighbours_near)
 
   -- all that an accepted call tells is told of keys
   pub due_keys : AllByRecursion (λ (u : TreeTelling). IsKey u.key) (due_trees config s i t ++ neighbours)
-  due_keys = all_weaker (Can (renamed s t)) (λ (u : TreeTelling). IsKey u.key) (λ u can. can.1) (due_trees config s i t ++ neighbours) all_can
+  due_keys = all_weaker (Can (IsOpen (renamed s t))) (λ (u : TreeTelling). IsKey u.key) (λ u can. can.1) (due_trees config s i t ++ neighbours) all_can
 
   -- it can be told
   pub due_can : AllByRecursion (CanBeTold (renamed s t)) (told_of s.core t)
-  due_can = from_can (renamed s t) (in_order (due_trees config s i t ++ neighbours)) (all_ordered (Can (renamed s t)) [] (due_trees config s i t ++ neighbours) tt all_can)
+  due_can = from_can (renamed s t) (in_order (due_trees config s i t ++ neighbours)) (all_ordered (Can (IsOpen (renamed s t))) [] (due_trees config s i t ++ neighbours) tt all_can)
 
   -- and once it is told it is what faces hear
   pub due_heard : hear (tell (accepted s.core t) (told_of s.core t) (renamed s t)).handed (renamed s t) ≡ told_of s.core t

@@ -39,7 +39,7 @@ use Rattle.zq_machine.specs.declared.call.Outcome.TheVariants as outcome
 use Rattle.zq_machine.specs.declared.call.Refusal.{Refusal}
 use Rattle.zq_machine.specs.declared.call.Refusal.TheVariants as refusal
 use Rattle.zq_machine.specs.Messages.{Decided, Telling, TextMessage, text_final, text_reply, text_request}
-use Rattle.zq_machine.specs.Neighbours.{due_told, kept_after, kept_lack}
+use Rattle.zq_machine.specs.Neighbours.{due_told, kept_after, kept_lack, with_new}
 use Rattle.zq_machine.specs.declared.face.OpenFace.{OpenFace}
 use Rattle.zq_machine.specs.State.{Core, State, is_open, has_hat, is_full_region, hat_of, has_declared_in, clashes_in, joined, change_hat, change_hat_of}
 use Rattle.zq_machine.specs.TextCalls.{TextCall, opening, closing, naming, unnaming, declaring, withdrawing, asking, replying, ending, reporting, passing, listing, finalizing, announcing, retracting, networking, tabling, unbuilt}
@@ -243,9 +243,9 @@ changed c unbuilt = c
 
 -- ---- what neighbours are told of it
 
--- what is kept of faces where a call tells them; a face that comes is not entered yet, so that it is nothing
+-- what is kept of faces where a call tells them: a face that it opens was told nothing
 abbrev pub kept : Core → TextCall → Ears
-kept c t = c.ears
+kept c t = with_new c t c.ears
 
 -- some neighbour needs an id for it that there is not
 abbrev pub lacks_told : Core → TextCall → Bool

@@ -18,6 +18,7 @@ pub mod Waiting
 pub mod Asked
 pub mod Standing
 pub mod Children
+pub mod Keeping
 pub mod Headline
 pub mod Moved
 pub mod Agreeing

@@ -37,8 +37,8 @@ pub fn lacks_entry(hat: &Hat, router: Zid, key: &str, info: Option<QueryableInfo
     info.is_none() && hat.entry(router, key).is_none()
 }
 
-// What an entry that is this one, or goes, changes.
-fn entry_change(router: Zid, info: Option<QueryableInfoType>) -> Change
+/// What an entry that is this one, or goes, changes.
+pub fn entry_change(router: Zid, info: Option<QueryableInfoType>) -> Change
     ensures { result ≡ entry_change router info }
 {
     match info {

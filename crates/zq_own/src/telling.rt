@@ -20,8 +20,8 @@ use zq_key::message::{FaceId, Region};
 use zq_key::text::Text;
 use zq_tables::RegionMap;
 
-// Tellings go behind the others.
-fn add_all(told: &mut TellingList, more: TellingList) -> Result<(), OutOfMemory>
+/// Tellings go behind the others.
+pub fn add_all(told: &mut TellingList, more: TellingList) -> Result<(), OutOfMemory>
     ensures { OnOk result (told.new ≡ told.old ++ more) }
 {
     for telling in more.into_vec() {

@@ -1,18 +1,33 @@
 //! Faces that come and go.
-ghost use Rattle.std.specs.Prelude.{◌≡◌};
+ghost use Rattle.std.specs.Prelude.{◌≡◌, [], true, IfOk, fold};
+ghost use Rattle.std.specs.BTreeMap.{is_at};
+ghost use Rattle.std.specs.BTreeSet.{insert_key};
+ghost use Rattle.std.specs.Map.{remove_entry};
+ghost use Rattle.std.specs.Ordering.{nat_cmp};
+ghost use Rattle.zq_index.specs.Texts.{text_cmp};
+ghost use Rattle.zq_hat.specs.Kept.{has_face, keys_of_face, without_face};
+ghost use Rattle.zq_machine.specs.Neighbours.{looked_over};
+ghost use Rattle.zq_machine.specs.State.{Core, change_hat};
 ghost use Rattle.zq_machine.specs.TextCalls.{closing, opening};
 ghost use Rattle.zq_gateway.specs.Making.{IsReached, Settles};
 
+use crate::gateway::dues::Nobody;
 use crate::gateway::tables::Tables;
-use zq_handing::tell::{tell, untell};
+use zq_dues::over::dues_at_opening;
+use zq_dues::types::{DuesList, HatChange};
+use zq_handing::neighbours::{take_back, tell_all};
+use zq_handing::opening::{join_and_tell, take_back_joined};
 use zq_handing::write::written_finals;
+use zq_hat::hat::Hat;
+use zq_hat::types::Change;
 use zq_key::items::Items;
 use zq_key::memory::OutOfMemory;
-use zq_key::message::FaceId;
+use zq_key::message::{FaceId, Region};
 use zq_machine::call::{Opening, Outcome, Refusal, Step};
 use zq_own::hats;
-use zq_own::seating::take_seat;
+use zq_own::seating::{opened, seat};
 use zq_own::telling::tell_left;
+use zq_told::types::TellRefusal;
 
 impl Tables {
     // A face is opened.
@@ -30,18 +45,35 @@ impl Tables {
             return Ok(self.refused(Refusal::NoFreeId));
         }
         let face = FaceId(self.next_face);
-        take_seat(
-            &mut self.names,
+        let dues = dues_at_opening(self.alloc, &self.hats, &Nobody, face, opened(asked))?;
+        let all = match join_and_tell(
+            self.alloc,
             &mut self.faces,
-            &mut self.hats,
+            &mut self.names,
+            &mut self.ears,
             face,
-            asked,
-        )?;
-        self.next_face += 1;
-        Ok(Step {
-            outcome: Outcome::Opened(face),
-            handed: Items::new(self.alloc),
-        })
+            opened(asked),
+            self.config.counters().told,
+            dues.as_slice(),
+        ) {
+            Ok(all) => all,
+            Err(TellRefusal::NoFreeId) => return Ok(self.refused(Refusal::NoFreeId)),
+            Err(TellRefusal::OutOfMemory) => return Err(OutOfMemory),
+        };
+        match hats::join(&mut self.hats, asked.region, seat(face, asked)) {
+            Ok(()) => {
+                self.ears.put(all.plan.as_slice());
+                self.next_face += 1;
+                Ok(Step {
+                    outcome: Outcome::Opened(face),
+                    handed: all.handed,
+                })
+            }
+            Err(_) => {
+                take_back_joined(&mut self.faces, &mut self.names, &mut self.ears, &all, face);
+                Err(OutOfMemory)
+            }
+        }
     }
 
     // A face is closed: its entries are let go, it gives up its numbers, and own entries that it
@@ -59,24 +91,46 @@ impl Tables {
         let hat = hats::home(&self.hats, region, face);
         let mut told = Items::new(self.alloc);
         tell_left(&self.hats, region, hat, face, &mut told)?;
-        let handed = tell(
+        let dues = self.dues_left(region, hat, face)?;
+        let all = match tell_all(
             self.alloc,
             &self.faces,
             &mut self.names,
-            told.as_slice(),
+            &mut self.ears,
+            dues.as_slice(),
+            told,
             finals,
-        )?;
+        ) {
+            Ok(all) => all,
+            Err(TellRefusal::NoFreeId) => unreachable!(),
+            Err(TellRefusal::OutOfMemory) => return Err(OutOfMemory),
+        };
         match self.queries.close_planned(face) {
             Ok(()) => {
                 hats::leave(&mut self.hats, region, face);
                 let _ = self.faces.remove(&face.0);
                 self.names.close(face);
-                Ok(self.told(handed))
+                self.ears.put(all.plan.as_slice());
+                self.ears.close(face);
+                Ok(self.told(all.handed))
             }
             Err(_) => {
-                untell(&mut self.names, &handed.as_slice()[count..]);
+                take_back(&mut self.names, &mut self.ears, &all, count);
                 Err(OutOfMemory)
             }
         }
+    }
+
+    // What will be due to the other faces where a face leaves its hat.
+    fn dues_left(&self, region: Region, hat: &Hat, face: FaceId) -> Result<DuesList, OutOfMemory>
+        requires { has_face face.0 hat.now ≡ true }
+        ensures { (c : Core) → c.faces ≡ remove_entry (is_at (nat_cmp face.0)) self.now.core.faces → change_hat region (without_face face.0) self.now.core.hats ≡ c.hats → IfOk result (λ ds. ds ≡ looked_over c [] (fold (insert_key text_cmp) [] (keys_of_face face.0 hat.now))) }
+    {
+        let keys = hat.keys_of(face)?;
+        let next = HatChange {
+            region,
+            change: Change::Left(face),
+        };
+        self.dues_on_all(Some(face), &next, keys.as_slice())
     }
 }

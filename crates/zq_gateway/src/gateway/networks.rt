@@ -4,14 +4,16 @@ ghost use Rattle.zq_machine.specs.TextCalls.{networking, tabling};
 ghost use Rattle.zq_gateway.specs.Making.{IsReached, Settles};
 
 use crate::gateway::tables::Tables;
-use zq_handing::tell::tell;
-use zq_hat::types::{Network, NodeIds};
+use zq_dues::types::HatChange;
+use zq_handing::neighbours::tell_all;
+use zq_hat::types::{Change, Network, NodeIds};
 use zq_key::items::Items;
 use zq_key::memory::OutOfMemory;
 use zq_key::message::{FaceId, Region};
 use zq_machine::call::{Refusal, Step};
 use zq_own::hats;
 use zq_own::networks::{tell_losses, tree_tellings};
+use zq_told::types::TellRefusal;
 use zq_trees::nets::Net;
 
 impl Tables {
@@ -41,15 +43,33 @@ impl Tables {
         let gone = hat.unlisted(&net)?;
         let mut told = tree_tellings(self.alloc, &self.hats, region, hat, &net)?;
         let net = tell_losses(&self.hats, region, hat, net, gone.as_slice(), &mut told)?;
+        let keys = hat.losing(gone.as_slice())?;
+        let next = HatChange {
+            region,
+            change: Change::Networked(net),
+        };
+        let dues = self.dues_on_all(None, &next, keys.as_slice())?;
         let none = Items::new(self.alloc);
-        let handed = tell(
+        let all = match tell_all(
             self.alloc,
             &self.faces,
             &mut self.names,
-            told.as_slice(),
+            &mut self.ears,
+            dues.as_slice(),
+            told,
             none,
-        )?;
-        hats::put_network(&mut self.hats, region, net, gone.as_slice());
-        Ok(self.told(handed))
+        ) {
+            Ok(all) => all,
+            Err(TellRefusal::NoFreeId) => unreachable!(),
+            Err(TellRefusal::OutOfMemory) => return Err(OutOfMemory),
+        };
+        match next.change {
+            Change::Networked(net) => {
+                hats::put_network(&mut self.hats, region, net, gone.as_slice());
+                self.ears.put(all.plan.as_slice());
+                Ok(self.told(all.handed))
+            }
+            _ => unreachable!(),
+        }
     }
 }

@@ -5,15 +5,16 @@ ghost use Rattle.zq_gateway.specs.Making.{IsReached, Settles};
 ghost use Rattle.zq_gateway.specs.Routing.{entering};
 
 use crate::gateway::tables::Tables;
+use zq_handing::neighbours::{take_back, tell_all};
 use zq_handing::read::key_said;
-use zq_handing::tell::{tell, untell};
 use zq_key::items::Items;
 use zq_key::memory::OutOfMemory;
 use zq_key::message::{FaceId, NodeId, QueryableInfoType};
 use zq_machine::call::{Refusal, Step};
 use zq_own::hats;
-use zq_own::routers::{entry_tellings, lacks_entry, put_entry, router_of};
+use zq_own::routers::{entry_change, entry_tellings, lacks_entry, put_entry, router_of};
 use zq_tables::said::Said;
+use zq_told::types::TellRefusal;
 
 impl Tables {
     // Whether the face's region is one of routers.
@@ -56,18 +57,27 @@ impl Tables {
             return Ok(self.refused(Refusal::UnknownId));
         }
         let told = entry_tellings(&self.hats, region, hat, face, router, key.as_str(), info)?;
-        let none = Items::new(self.alloc);
-        let handed = tell(
+        let dues = self.dues_on(region, entry_change(router, info), key.as_str())?;
+        let all = match tell_all(
             self.alloc,
             &self.faces,
             &mut self.names,
-            told.as_slice(),
-            none,
-        )?;
+            &mut self.ears,
+            dues.as_slice(),
+            told,
+            Items::new(self.alloc),
+        ) {
+            Ok(all) => all,
+            Err(TellRefusal::NoFreeId) => return Ok(self.refused(Refusal::NoFreeId)),
+            Err(TellRefusal::OutOfMemory) => return Err(OutOfMemory),
+        };
         match put_entry(&mut self.hats, region, router, &key, info) {
-            Ok(()) => Ok(self.told(handed)),
+            Ok(()) => {
+                self.ears.put(all.plan.as_slice());
+                Ok(self.told(all.handed))
+            }
             Err(_) => {
-                untell(&mut self.names, handed.as_slice());
+                take_back(&mut self.names, &mut self.ears, &all, 0);
                 Err(OutOfMemory)
             }
         }

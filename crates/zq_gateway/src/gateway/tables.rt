@@ -1,5 +1,5 @@
 //! What a gateway keeps, and a call by its kind.
-ghost use Rattle.std.specs.Prelude.{◌≡◌, [], true, Some, IfOk, IfErr, IfSome};
+ghost use Rattle.std.specs.Prelude.{◌≡◌, ◌<◌, ◌^◌, [], true, Some, IfOk, IfErr, IfSome};
 ghost use Rattle.std.specs.List.{cons_option};
 ghost use Rattle.zq_machine.specs.declared.call.Call.TheVariants as call;
 ghost use Rattle.zq_machine.specs.Calls.{declared_call, declaring_call, is_built};
@@ -27,9 +27,10 @@ use zq_query::queries::Queries;
 use zq_route::gateways::Gateways;
 use zq_tables::RegionMap;
 use zq_tables::naming::Naming;
+use zq_told::ears::Ears;
 
 /// What a gateway keeps (upstream's `Tables` with its faces): the open faces, a hat for each region,
-/// the gateways that were listed, the open queries, and the numbers of keys.
+/// the gateways that were listed, the open queries, the numbers of keys, and what faces were told.
 #[derive(Drop)]
 pub struct Tables {
     pub(super) alloc: Global,
@@ -40,10 +41,12 @@ pub struct Tables {
     pub(super) tables: RegionMap<Gateways>,
     pub(super) queries: Queries,
     pub(super) names: Naming,
+    pub(super) ears: Ears,
 }
 
 impl Model for Tables {
     ghost use Rattle.std.specs.Prelude.{[]};
+    ghost use Rattle.zq_told.specs.Rooms.{ears_of};
     ghost use Rattle.zq_machine.specs.State.{State};
 
     ghost Value = { State };
@@ -57,7 +60,7 @@ impl Model for Tables {
         tables = t.tables;
         queries = t.queries;
         interests = [];
-        ears = [];
+        ears = ears_of t.ears;
       };
       names = t.names;
     } };
@@ -66,9 +69,11 @@ impl Model for Tables {
 impl Tables {
     /// A new gateway's.
     pub fn new(alloc: Global, config: &Config) -> Result<Tables, OutOfMemory>
-        ensures { IfOk result (λ t. t ≡ opening_state config.now) }
+        ensures opening { IfOk result (λ t. t ≡ opening_state config.now) }
+        ensures low { config.now.start.told < 2 ^ 32 }
     {
         let counters = *config.counters();
+        let _told = counters.told;
         Ok(Tables {
             alloc,
             config: config.copy(alloc)?,
@@ -83,6 +88,7 @@ impl Tables {
                 counters.request_ids,
             ),
             names: Naming::new(alloc)?,
+            ears: Ears::new(alloc),
         })
     }
 

@@ -10,7 +10,7 @@ use Rattle.std.proofs.lemmas.Map.Lookups.{exact_unsigned}
 use Rattle.zq_tables.specs.Naming.{Names, NamingState, change_naming, face_keys, face_queryables, first_stays, text_at, with_queryable, without_queryable}
 use Rattle.zq_tables.proofs.Emptied.{changed_back, changed_idle}
 use Rattle.zq_query.proofs.Owing.{undone}
-use Rattle.zq_gateway.specs.Undoing.{taken_back}
+use Rattle.zq_handing.specs.Neighbours.{taken_back}
 
 absent_of : {X : Type 0} (o : Option X) → true ≡ is_none o → o ≡ None
 absent_of None is = refl

@@ -1,0 +1,52 @@
+-- What a call looks at does not hang on what is kept of faces; and no call lacks ids for what it tells that opens no face and declares nothing.
+use Rattle.std.proofs.Common.{◌≡◌, ◌∙◌, refl, sym, ap, ℕ, true, false, Bool, List, Option, Some, None, true≢false}
+use Rattle.std.specs.Prelude.{◌<◌, ◌^◌}
+use Rattle.std.specs.Option.{is_some}
+use Rattle.zq_told.specs.declared.types.Way.TheVariants.{Unasked}
+use Rattle.zq_told.specs.Leaving.{AreSound, HaveIds}
+use Rattle.zq_told.specs.Telling.{lacks_ids}
+use Rattle.zq_machine.specs.Configs.{Settings}
+use Rattle.zq_machine.specs.Deciding.{accepted, kept, lacks_told, refusal_of}
+use Rattle.zq_machine.specs.Due.{due, listens}
+use Rattle.zq_machine.specs.Machine.{settle}
+use Rattle.zq_machine.specs.Neighbours.{looked_at, neighbours_lack}
+use Rattle.zq_machine.specs.Receivers.{AllHear, makes_due}
+use Rattle.zq_machine.specs.State.{Core, State, is_open}
+use Rattle.zq_machine.specs.TextCalls.{TextCall, announcing, declaring, opening}
+use Rattle.zq_machine.proofs.Agreed.{InOrder}
+use Rattle.zq_machine.proofs.DueLess.{accepted_less, brings, listens_kept}
+use Rattle.zq_machine.proofs.Granted.{settles_told}
+use Rattle.zq_machine.proofs.Keeping.{same_looked}
+use Rattle.zq_machine.proofs.NeighbourAll.{new_sound}
+use Rattle.zq_machine.proofs.NeighbourIds.{enough, opens}
+
+-- whether ids lack, by what is looked at
+pub lacks_looked : (c : Core) (t : TextCall) → lacks_told c t ≡ lacks_ids Unasked (kept c t) (looked_at c (accepted c t) c.interests t)
+lacks_looked c t = ap (lacks_ids Unasked (kept c t)) (sym (same_looked c t))
+
+no_opening : (t : TextCall) → makes_due t ≡ false → opens t ≡ false
+no_opening (opening o) e = absurd (true≢false e)
+no_opening t e = refl
+
+no_bringing : (t : TextCall) → makes_due t ≡ false → brings t ≡ false
+no_bringing (declaring face id sd info node) e = absurd (true≢false e)
+no_bringing (announcing face sd info node) e = absurd (true≢false e)
+no_bringing t e = refl
+
+module _ (config : Settings) (s : State) (i : InOrder config s) (low : s.core.config.start.told < 2 ^ 32) (sound : AreSound s.core.ears) (hear : AllHear s.core s.core.interests s.core.ears)
+    (t : TextCall) (fits : refusal_of s.core t ≡ None) where
+  left : (settle s t).core ≡ accepted s.core t
+  left = ap (λ (z : State). z.core) (settles_told s t fits)
+
+  same : (face : ℕ) → is_open face s.core ≡ true → is_open face (settle s t).core ≡ true → (key : List ℕ) → listens (settle s t).core s.core.interests face key ≡ listens s.core s.core.interests face key
+  same face was seen key =
+      ap (λ (c : Core). listens c s.core.interests face key) left
+      ∙ listens_kept config s i s.core.interests face key was t (sym (ap (λ (c : Core). is_open face c) left) ∙ seen)
+
+  -- ids that a call does not lack which makes nothing due
+  pub enough_told : makes_due t ≡ false → lacks_told s.core t ≡ false
+  enough_told none =
+      lacks_looked s.core t
+      ∙ sym (ap (λ (c : Core). neighbours_lack s.core c s.core.interests t s.core.ears) left)
+      ∙ enough config s i s.core.interests s.core.ears t hear same (new_sound config s i t s.core.interests s.core.ears t low sound).ids (no_opening t none)
+      (λ face key was some. accepted_less config s i s.core.interests face key was t fits (no_bringing t none) (sym (ap (λ (c : Core). is_some (due c s.core.interests face key)) left) ∙ some))

@@ -1,0 +1,181 @@
+//! What a call tells along trees and what it tells neighbours, told at once, with room for what it
+//! leaves of neighbours.
+ghost use Rattle.std.specs.Prelude.{◌≡◌, ◌≤◌, [], drop, length, map, true, false, IfOk, OnOk, OnErr, IsErrOf};
+ghost use Rattle.std.specs.List.{All};
+ghost use Rattle.zq_key.specs.Key.{is_key as key_of};
+ghost use Rattle.zq_trees.specs.Tellings.{in_order};
+ghost use Rattle.zq_tables.specs.Naming.{change_naming, with_queryable};
+ghost use Rattle.zq_told.specs.declared.types.Way.TheVariants.{Unasked};
+ghost use Rattle.zq_told.specs.Rooms.{IsReady, ears_of};
+ghost use Rattle.zq_told.specs.Telling.{lacks_ids, tell_faces};
+ghost use Rattle.zq_machine.specs.Messages.{from_hat};
+ghost use Rattle.zq_machine.specs.State.{Core};
+ghost use Rattle.zq_machine.specs.Writing.{tell as tell_of};
+ghost use Rattle.zq_handing.specs.Neighbours.{taken_back, told_with};
+ghost use Rattle.zq_handing.specs.Telling.{behind, untold};
+
+use crate::tell::{tell, untell};
+use std::alloc::Global;
+use std::collections::BTreeMap;
+use zq_hat::types::TellingList;
+use zq_key::Key;
+use zq_key::items::Items;
+use zq_key::message::FaceId;
+use zq_machine::face::OpenFace;
+use zq_machine::handed::HandedList;
+use zq_own::telling::add_all;
+use zq_tables::naming::Naming;
+use zq_told::ears::Ears;
+use zq_told::types::{FaceDues, Plan, Planned, TellRefusal, Way};
+
+/// What a call tells, as messages, and what it leaves of neighbours; there is room for that.
+#[derive(Drop)]
+pub struct ToldAll {
+    pub plan: Plan,
+    pub handed: HandedList,
+}
+
+// What is told along trees, with what neighbours are told behind it, and what it leaves of them, for
+// which room is made.
+fn plan_room(
+    alloc: Global,
+    ears: &mut Ears,
+    dues: &[FaceDues],
+    told: TellingList,
+) -> Result<Planned, TellRefusal>
+    ensures ears { ears_of ears.new ≡ ears_of ears.old }
+    ensures plan { IfOk result (λ p. p.plan ≡ (tell_faces Unasked (ears_of ears.old) dues.now).plan) }
+    ensures told { IfOk result (λ p. p.tellings ≡ told_with (ears_of ears.old) dues.now told) }
+    ensures ready { IfOk result (λ p. IsReady p.plan ears.new) }
+    ensures free { OnOk result (lacks_ids Unasked (ears_of ears.old) dues.now ≡ false) }
+    ensures no_free { IsErrOf result TellRefusal.NoFreeId → lacks_ids Unasked (ears_of ears.old) dues.now ≡ true }
+{
+    let Planned { plan, tellings } = match ears.plan(alloc, Way::Unasked, dues) {
+        Ok(planned) => planned,
+        Err(refusal) => return Err(refusal),
+    };
+    let mut told = told;
+    match add_all(&mut told, tellings) {
+        Ok(()) => {}
+        Err(_) => return Err(TellRefusal::OutOfMemory),
+    }
+    match ears.make_room(alloc, plan.as_slice()) {
+        Ok(()) => Ok(Planned {
+            plan,
+            tellings: told,
+        }),
+        Err(_) => Err(TellRefusal::OutOfMemory),
+    }
+}
+
+/// The messages of what is told along trees and of what neighbours are told of the keys that a call
+/// looks at, behind messages that come first, as `tell` gives them. Room is made for what it leaves of
+/// neighbours, so that the plan can be put. `NoFreeId` where a face needs an id above those of 32 bits.
+/// Where it is refused, all is as it was.
+pub fn tell_all(
+    alloc: Global,
+    faces: &BTreeMap<u32, OpenFace>,
+    names: &mut Naming,
+    ears: &mut Ears,
+    dues: &[FaceDues],
+    told: TellingList,
+    first: HandedList,
+) -> Result<ToldAll, TellRefusal>
+    requires { lacks_ids Unasked (ears_of ears.old) dues.now ≡ false → All (λ t. key_of t.key ≡ true) (told_with (ears_of ears.old) dues.now told) }
+    ensures ok { (c : Core) → c.faces ≡ faces.now.entries → IfOk result (λ x. behind first (tell_of c (map from_hat (in_order (told_with (ears_of ears.old) dues.now told))) names.old) ≡ record { handed = x.handed; names = names.new }) }
+    ensures longer { IfOk result (λ x. length first ≤ length x.handed) }
+    ensures back { IfOk result (λ x. untold (drop (length first) x.handed) names.new ≡ names.old) }
+    ensures plan { IfOk result (λ x. x.plan ≡ (tell_faces Unasked (ears_of ears.old) dues.now).plan) }
+    ensures ready { IfOk result (λ x. IsReady x.plan ears.new) }
+    ensures ears { ears_of ears.new ≡ ears_of ears.old }
+    ensures err { OnErr result (names.new ≡ names.old) }
+    ensures free { OnOk result (lacks_ids Unasked (ears_of ears.old) dues.now ≡ false) }
+    ensures no_free { IsErrOf result TellRefusal.NoFreeId → lacks_ids Unasked (ears_of ears.old) dues.now ≡ true }
+{
+    let planned = match plan_room(alloc, ears, dues, told) {
+        Ok(planned) => planned,
+        Err(refusal) => return Err(refusal),
+    };
+    match tell(alloc, faces, names, planned.tellings.as_slice(), first) {
+        Ok(handed) => Ok(ToldAll {
+            plan: planned.plan,
+            handed,
+        }),
+        Err(_) => {
+            ears.give_back(planned.plan.as_slice());
+            Err(TellRefusal::OutOfMemory)
+        }
+    }
+}
+
+/// What was told is taken back: the numbers that messages declare behind the first ones, and the rooms.
+/// It takes no memory.
+pub fn take_back(names: &mut Naming, ears: &mut Ears, told: &ToldAll, first: usize)
+    requires { first ≤ length told.now.handed }
+    ensures names { names.new ≡ untold (drop first told.now.handed) names.old }
+    ensures ears { ears_of ears.new ≡ ears_of ears.old }
+{
+    untell(names, &told.handed.as_slice()[first..]);
+    ears.give_back(told.plan.as_slice());
+}
+
+// A queryable that was held afresh is let go again.
+fn let_go(names: &mut Naming, face: FaceId, id: u32, fresh: bool)
+    ensures { names.new ≡ taken_back face.0 id fresh names.old }
+{
+    if fresh {
+        names.release_queryable(face, id);
+    }
+}
+
+/// A queryable is held, and what comes of it is told. Where it is refused, all is as it was.
+pub fn hold_and_tell(
+    alloc: Global,
+    faces: &BTreeMap<u32, OpenFace>,
+    names: &mut Naming,
+    ears: &mut Ears,
+    face: FaceId,
+    id: u32,
+    key: &Key,
+    dues: &[FaceDues],
+    told: TellingList,
+) -> Result<ToldAll, TellRefusal>
+    requires { lacks_ids Unasked (ears_of ears.old) dues.now ≡ false → All (λ t. key_of t.key ≡ true) (told_with (ears_of ears.old) dues.now told) }
+    ensures ok { (c : Core) → c.faces ≡ faces.now.entries → IfOk result (λ x. behind [] (tell_of c (map from_hat (in_order (told_with (ears_of ears.old) dues.now told))) (change_naming face.0 (with_queryable id key.now) names.old)) ≡ record { handed = x.handed; names = names.new }) }
+    ensures back { IfOk result (λ x. untold x.handed names.new ≡ change_naming face.0 (with_queryable id key.now) names.old) }
+    ensures plan { IfOk result (λ x. x.plan ≡ (tell_faces Unasked (ears_of ears.old) dues.now).plan) }
+    ensures ready { IfOk result (λ x. IsReady x.plan ears.new) }
+    ensures ears { ears_of ears.new ≡ ears_of ears.old }
+    ensures err { OnErr result (names.new ≡ names.old) }
+    ensures free { OnOk result (lacks_ids Unasked (ears_of ears.old) dues.now ≡ false) }
+    ensures no_free { IsErrOf result TellRefusal.NoFreeId → lacks_ids Unasked (ears_of ears.old) dues.now ≡ true }
+{
+    let fresh = match names.hold_queryable(face, id, key) {
+        Ok(fresh) => fresh,
+        Err(_) => return Err(TellRefusal::OutOfMemory),
+    };
+    let none = Items::new(alloc);
+    match tell_all(alloc, faces, names, ears, dues, told, none) {
+        Ok(told) => Ok(told),
+        Err(refusal) => {
+            let_go(names, face, id, fresh);
+            Err(refusal)
+        }
+    }
+}
+
+/// A queryable that was held, afresh or not, and what came of it, are taken back. It takes no memory.
+pub fn take_back_held(
+    names: &mut Naming,
+    ears: &mut Ears,
+    told: &ToldAll,
+    face: FaceId,
+    id: u32,
+    fresh: bool,
+)
+    ensures names { names.new ≡ taken_back face.0 id fresh (untold told.now.handed names.old) }
+    ensures ears { ears_of ears.new ≡ ears_of ears.old }
+{
+    take_back(names, ears, told, 0);
+    let_go(names, face, id, fresh);
+}
