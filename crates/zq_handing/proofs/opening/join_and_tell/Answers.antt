@@ -18,7 +18,7 @@ use Rattle.std.proofs.lemmas.Cmp.{nat_cmp_total}
 use Rattle.std.proofs.lemmas.Map.Lookups.{exact_unsigned}
 use Rattle.zq_query.proofs.Owing.{undone}
 use Rattle.zq_tables.specs.Naming.{no_keys}
-use Rattle.zq_told.specs.Ears.{closed}
+use Rattle.zq_told.specs.Ears.{closed, opened}
 use Rattle.zq_told.specs.Leaving.{fresh_ear}
 use Rattle.zq_told.specs.Rooms.{ears_of}
 use Rattle.zq_handing.proofs.opening.join_and_tell.Goals as goal
@@ -27,7 +27,8 @@ pub tell_all-requires : goal.tell_all-requires
 tell_all-requires c enough =
     let dues = c.args.dues.now in
     let kept = c.in-Ok.ensures.ears in
-    let same = λ j. told_with (kept j) dues (c.new.ensures j) in
+    let before : Ears = opened c.args.face.0 c.args.last (ears_of c.args.ears.now) in
+    let same = ap (λ (e : Ears). told_with e dues c.new.result) kept ∙ ap (told_with before dues) c.new.ensures in
     subst (All (λ (t : Telling). is_key t.key ≡ true)) (sym same) (c.requires.keys (sym (ap (λ (e : Ears). lacks_ids Unasked e dues) kept) ∙ enough))
 
 pub returns-in-Ok-tell_all-clause-ok : goal.returns-in-Ok-tell_all-clause-ok
