@@ -35,10 +35,14 @@ looked_over_as asks next hats keys faces = flat_map (looked_as asks next hats ke
 
 -- ---- the same of what decides before and after a call
 
+-- faces ask for just these keys
+abbrev pub AskFor : (ℕ → List ℕ → Bool) → Interests → Type 0
+AskFor asks ints = (face : ℕ) (key : List ℕ) → asks face key ≡ asks_for face key ints
+
 -- after it these faces are open, they ask for just these keys, and on each of the keys the hats are those after the change
 pub record AreAfter (c : Core) (ints : Interests) (asks : ℕ → List ℕ → Bool) (next : Option HatChange) (faces : List (ℕ × OpenFace)) (hats : List (ℕ × HatState)) (keys : List (List ℕ)) : Type 0 where
   pub left : c.faces ≡ faces
-  pub asked : (face : ℕ) (key : List ℕ) → asks face key ≡ asks_for face key ints
+  pub asked : AskFor asks ints
   pub after : AllByRecursion (λ key. hats_after next key hats ≡ c.hats) keys
 
 -- before it these are the hats, and it opens the face so, under the next number, which no open face has; the face asks for just these keys

@@ -26,6 +26,19 @@ pub trait Asking {
         ensures { result ≡ asks self.now face.0 key.now };
 }
 
+/// No face asks to hear of a key.
+pub struct Nobody;
+
+impl Asking for Nobody {
+    ghost use Rattle.std.specs.Prelude.{false};
+
+    ghost asks = { λ n face key. false };
+
+    fn asks_for(&self, face: FaceId, key: &str) -> bool {
+        false
+    }
+}
+
 // The key with what will be due there joins the list, if the face will listen.
 #[tactic(auto, using(crate::proofs::Nexts::listens_after))]
 fn list_due(

@@ -7,8 +7,10 @@
 //! - `keys`: the keys on which regions have information
 //! - `sorted`: keys in order, each once
 //! - `over`: what a whole call looks at
+//! - `changes`: the same of a call that changes a hat
 #![tactic(auto)]
 
+pub mod changes;
 pub mod due;
 pub mod dues;
 pub mod keys;

@@ -1,7 +1,6 @@
 //! The gateway: each call is one event.
 //!
 //! - `tables`: what a gateway keeps, and a call by its kind
-//! - `dues`: what will be due to faces
 //! - `faces`: faces that come and go
 //! - `keys`: numbers that faces declare for keys
 //! - `networks`: networks of regions of routers, and what node numbers stand for
@@ -22,7 +21,6 @@ ghost use Rattle.zq_machine.specs.Machine.{after, done, refused_step, step};
 ghost use Rattle.zq_machine.specs.State.{opening_state};
 ghost use Rattle.zq_gateway.specs.Making.{Performs, MayPerform};
 
-mod dues;
 mod faces;
 mod keys;
 mod networks;

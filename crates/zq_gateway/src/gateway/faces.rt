@@ -1,28 +1,18 @@
 //! Faces that come and go.
-ghost use Rattle.std.specs.Prelude.{◌≡◌, [], true, IfOk, fold};
-ghost use Rattle.std.specs.BTreeMap.{is_at};
-ghost use Rattle.std.specs.BTreeSet.{insert_key};
-ghost use Rattle.std.specs.Map.{remove_entry};
-ghost use Rattle.std.specs.Ordering.{nat_cmp};
-ghost use Rattle.zq_index.specs.Texts.{text_cmp};
-ghost use Rattle.zq_hat.specs.Kept.{has_face, keys_of_face, without_face};
-ghost use Rattle.zq_machine.specs.Neighbours.{looked_over};
-ghost use Rattle.zq_machine.specs.State.{Core, change_hat};
+ghost use Rattle.std.specs.Prelude.{◌≡◌};
 ghost use Rattle.zq_machine.specs.TextCalls.{closing, opening};
 ghost use Rattle.zq_gateway.specs.Making.{IsReached, Settles};
 
-use crate::gateway::dues::Nobody;
 use crate::gateway::tables::Tables;
+use zq_dues::changes::dues_left;
+use zq_dues::dues::Nobody;
 use zq_dues::over::dues_at_opening;
-use zq_dues::types::{DuesList, HatChange};
 use zq_handing::neighbours::{take_back, tell_all};
 use zq_handing::opening::{join_and_tell, take_back_joined};
 use zq_handing::write::written_finals;
-use zq_hat::hat::Hat;
-use zq_hat::types::Change;
 use zq_key::items::Items;
 use zq_key::memory::OutOfMemory;
-use zq_key::message::{FaceId, Region};
+use zq_key::message::FaceId;
 use zq_machine::call::{Opening, Outcome, Refusal, Step};
 use zq_own::hats;
 use zq_own::seating::{opened, seat};
@@ -91,7 +81,15 @@ impl Tables {
         let hat = hats::home(&self.hats, region, face);
         let mut told = Items::new(self.alloc);
         tell_left(&self.hats, region, hat, face, &mut told)?;
-        let dues = self.dues_left(region, hat, face)?;
+        let dues = dues_left(
+            self.alloc,
+            &self.faces,
+            &self.hats,
+            &Nobody,
+            region,
+            hat,
+            face,
+        )?;
         let all = match tell_all(
             self.alloc,
             &self.faces,
@@ -119,18 +117,5 @@ impl Tables {
                 Err(OutOfMemory)
             }
         }
-    }
-
-    // What will be due to the other faces where a face leaves its hat.
-    fn dues_left(&self, region: Region, hat: &Hat, face: FaceId) -> Result<DuesList, OutOfMemory>
-        requires { has_face face.0 hat.now ≡ true }
-        ensures { (c : Core) → c.faces ≡ remove_entry (is_at (nat_cmp face.0)) self.now.core.faces → change_hat region (without_face face.0) self.now.core.hats ≡ c.hats → IfOk result (λ ds. ds ≡ looked_over c [] (fold (insert_key text_cmp) [] (keys_of_face face.0 hat.now))) }
-    {
-        let keys = hat.keys_of(face)?;
-        let next = HatChange {
-            region,
-            change: Change::Left(face),
-        };
-        self.dues_on_all(Some(face), &next, keys.as_slice())
     }
 }

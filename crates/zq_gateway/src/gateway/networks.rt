@@ -4,6 +4,8 @@ ghost use Rattle.zq_machine.specs.TextCalls.{networking, tabling};
 ghost use Rattle.zq_gateway.specs.Making.{IsReached, Settles};
 
 use crate::gateway::tables::Tables;
+use zq_dues::changes::dues_on_all;
+use zq_dues::dues::Nobody;
 use zq_dues::types::HatChange;
 use zq_handing::neighbours::tell_all;
 use zq_hat::types::{Change, Network, NodeIds};
@@ -48,7 +50,15 @@ impl Tables {
             region,
             change: Change::Networked(net),
         };
-        let dues = self.dues_on_all(None, &next, keys.as_slice())?;
+        let dues = dues_on_all(
+            self.alloc,
+            &self.faces,
+            None,
+            &self.hats,
+            &next,
+            &Nobody,
+            keys.as_slice(),
+        )?;
         let none = Items::new(self.alloc);
         let all = match tell_all(
             self.alloc,

@@ -5,6 +5,8 @@ ghost use Rattle.zq_machine.specs.TextCalls.{declaring, finalizing, withdrawing}
 ghost use Rattle.zq_gateway.specs.Making.{IsReached, Performs, Settles};
 
 use crate::gateway::tables::Tables;
+use zq_dues::changes::gather;
+use zq_dues::dues::Nobody;
 use zq_handing::neighbours::{hold_and_tell, take_back, take_back_held, tell_all};
 use zq_handing::read::{key_said, marks_key, said_or_none};
 use zq_hat::types::{Change, FinalMark};
@@ -41,7 +43,18 @@ impl Tables {
             return Ok(self.refused(Refusal::IdInUse));
         }
         let change = Change::Declared { face, id, info };
-        let found = self.gather(region, hat, change, key.as_str())?;
+        let found = gather(
+            self.alloc,
+            &self.faces,
+            &self.hats,
+            &Nobody,
+            region,
+            hat,
+            change,
+            key.as_str(),
+        )?;
+        let told = found.told;
+        let dues = found.dues;
         let fresh = !self.names.holds_queryable(face, id);
         let all = match hold_and_tell(
             self.alloc,
@@ -51,8 +64,8 @@ impl Tables {
             face,
             id,
             &key,
-            found.dues.as_slice(),
-            found.told,
+            dues.as_slice(),
+            told,
         ) {
             Ok(all) => all,
             Err(TellRefusal::NoFreeId) => return Ok(self.refused(Refusal::NoFreeId)),
@@ -88,15 +101,26 @@ impl Tables {
             return Ok(self.refused(Refusal::UnknownId));
         };
         let change = Change::Withdrawn { face, id };
-        let found = self.gather(region, hat, change, key)?;
+        let found = gather(
+            self.alloc,
+            &self.faces,
+            &self.hats,
+            &Nobody,
+            region,
+            hat,
+            change,
+            key,
+        )?;
+        let told = found.told;
+        let dues = found.dues;
         let none = Items::new(self.alloc);
         let all = match tell_all(
             self.alloc,
             &self.faces,
             &mut self.names,
             &mut self.ears,
-            found.dues.as_slice(),
-            found.told,
+            dues.as_slice(),
+            told,
             none,
         ) {
             Ok(all) => all,

@@ -5,6 +5,8 @@ ghost use Rattle.zq_gateway.specs.Making.{IsReached, Settles};
 ghost use Rattle.zq_gateway.specs.Routing.{entering};
 
 use crate::gateway::tables::Tables;
+use zq_dues::changes::dues_on;
+use zq_dues::dues::Nobody;
 use zq_handing::neighbours::{take_back, tell_all};
 use zq_handing::read::key_said;
 use zq_key::items::Items;
@@ -57,7 +59,15 @@ impl Tables {
             return Ok(self.refused(Refusal::UnknownId));
         }
         let told = entry_tellings(&self.hats, region, hat, face, router, key.as_str(), info)?;
-        let dues = self.dues_on(region, entry_change(router, info), key.as_str())?;
+        let dues = dues_on(
+            self.alloc,
+            &self.faces,
+            &self.hats,
+            &Nobody,
+            region,
+            entry_change(router, info),
+            key.as_str(),
+        )?;
         let all = match tell_all(
             self.alloc,
             &self.faces,

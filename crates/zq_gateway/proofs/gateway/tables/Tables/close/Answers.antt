@@ -44,7 +44,7 @@ tell_all-requires c enough =
     let changed = ap (change_hat r (without_face face.0)) hats ∙ sym (changed_home face.0 r s.core home (without_face face.0)) in
     let g : Gathers s.core t (ears_of i.ears) dues ts =
     closing_gathers s face r home i.hats hats keys (ap (λ o. option_map_or (keys_of_face face.0) o []) (sym c.home-hat.ensures.hat)) ts told (ears_of i.ears) (ap (λ (x : State). x.core.ears) v) [] (ap (λ (x : State). x.core.interests) v) dues
-    (c.as_slice-2.ensures ∙ c.in_ok-dues.ensures (accepted s.core t) refl (sym (changed_home face.0 r s.core home (without_face face.0)))) in
+    (c.as_slice-2.ensures ∙ c.in_ok-dues.ensures (accepted s.core t) [] (sym (ap (λ (x : State). remove_entry (is_at (nat_cmp face.0)) x.core.faces) v)) (λ f k. refl) changed) in
     due_of_keys s c.requires t fits (told_with (ears_of i.ears) dues ts) (gathered_due s.core t (ears_of i.ears) dues ts g)
 
 pub unreachable-requires : goal.unreachable-requires
@@ -65,7 +65,7 @@ unreachable-requires c =
     let changed = ap (change_hat r (without_face face.0)) hats ∙ sym (changed_home face.0 r s.core home (without_face face.0)) in
     let g : Gathers s.core t (ears_of i.ears) dues ts =
     closing_gathers s face r home i.hats hats keys (ap (λ o. option_map_or (keys_of_face face.0) o []) (sym c.home-hat.ensures.hat)) ts told (ears_of i.ears) (ap (λ (x : State). x.core.ears) v) [] (ap (λ (x : State). x.core.interests) v) dues
-    (c.as_slice-2.ensures ∙ c.in_ok-dues.ensures (accepted s.core t) refl (sym (changed_home face.0 r s.core home (without_face face.0)))) in
+    (c.as_slice-2.ensures ∙ c.in_ok-dues.ensures (accepted s.core t) [] (sym (ap (λ (x : State). remove_entry (is_at (nat_cmp face.0)) x.core.faces) v)) (λ f k. refl) changed) in
     let lacks = sym (gathered_lacks s.core t (ears_of i.ears) dues ts g) ∙ c.in-Err-NoFreeId.ensures.no_free (ap (λ e. Err e) c.in-Err-NoFreeId.field-0-is) in
     true≢false (sym lacks ∙ reached_enough s c.requires t fits refl)
 
@@ -87,7 +87,7 @@ returns-in-Ok-close_planned c =
     let changed = ap (change_hat r (without_face face.0)) hats ∙ sym (changed_home face.0 r s.core home (without_face face.0)) in
     let g : Gathers s.core t (ears_of i.ears) dues ts =
     closing_gathers s face r home i.hats hats keys (ap (λ o. option_map_or (keys_of_face face.0) o []) (sym c.home-hat.ensures.hat)) ts told (ears_of i.ears) (ap (λ (x : State). x.core.ears) v) [] (ap (λ (x : State). x.core.interests) v) dues
-    (c.as_slice-2.ensures ∙ c.in_ok-dues.ensures (accepted s.core t) refl (sym (changed_home face.0 r s.core home (without_face face.0)))) in
+    (c.as_slice-2.ensures ∙ c.in_ok-dues.ensures (accepted s.core t) [] (sym (ap (λ (x : State). remove_entry (is_at (nat_cmp face.0)) x.core.faces) v)) (λ f k. refl) changed) in
     let queries : i.queries ≡ s.core.queries = ap (λ (x : State). x.core.queries) v in
     let us = told_with (ears_of i.ears) dues ts in
     let are = gathered_due s.core t (ears_of i.ears) dues ts g in

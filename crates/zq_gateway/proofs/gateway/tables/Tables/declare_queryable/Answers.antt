@@ -51,7 +51,7 @@ returns-then-clashes c =
     record { step = c.refused-then-clashes.ensures ∙ refused_answered s t refusal.IdInUse e; after = sym (refused_left s t refusal.IdInUse e); err = tt }
 
 pub gather-requires : goal.gather-requires
-gather-requires c = ap (hat_at c.in-Some.region) (sym (ap (λ (x : State). x.core.hats) c.self.view_is)) ∙ c.home-hat.ensures.hat
+gather-requires c = c.home-hat.ensures.hat
 
 pub hold_and_tell-requires : goal.hold_and_tell-requires
 hold_and_tell-requires c enough =
@@ -74,11 +74,11 @@ hold_and_tell-requires c enough =
     let t = declaring face id (said.Full key) info node in
     let told = c.in_ok-found.found.told in
     let dues = c.as_slice.result.now in
-    let told_is = c.in_ok-found.ensures.told ∙ ap (λ (k : List ℕ). own_told_on s.core.hats (change_hat r (registered face.0 id k node info) s.core.hats) k) text in
-    let changed = ap (λ (k : List ℕ). change_hat r (registered face.0 id k node info) s.core.hats) text ∙ sym (changed_home face.0 r s.core home (registered face.0 id key node info)) in
-    let dues_are = c.as_slice.ensures ∙ c.in_ok-found.ensures.dues (accepted s.core t) refl changed ∙ ap (λ (k : List ℕ). looked_over (accepted s.core t) [] (k ∷ [])) text in
+    let told_is = c.in_ok-found.ensures.told ∙ ap (λ (k : List ℕ). own_told_on i.hats (change_hat r (registered face.0 id k node info) i.hats) k) text in
+    let changed = ap (λ (k : List ℕ). change_hat r (registered face.0 id k node info) i.hats) text ∙ ap (change_hat r (registered face.0 id key node info)) hats ∙ sym (changed_home face.0 r s.core home (registered face.0 id key node info)) in
+    let dues_are = c.as_slice.ensures ∙ c.in_ok-found.ensures.dues (accepted s.core t) [] (sym (ap (λ (x : State). x.core.faces) v)) (λ f k. refl) changed ∙ ap (λ (k : List ℕ). looked_over (accepted s.core t) [] (k ∷ [])) text in
     let g : Gathers s.core t (ears_of i.ears) dues told =
-    declaration_gathers s c.requires face id r home h there key info node s.core.hats refl told told_is (ears_of i.ears) (ap (λ (x : State). x.core.ears) v) [] (ap (λ (x : State). x.core.interests) v) dues dues_are in
+    declaration_gathers s c.requires face id r home h there key info node i.hats hats told told_is (ears_of i.ears) (ap (λ (x : State). x.core.ears) v) [] (ap (λ (x : State). x.core.interests) v) dues dues_are in
     let fits = declaration_fits s c.requires face id r home h there key info node valid free (sym (gathered_lacks s.core t (ears_of i.ears) dues told g) ∙ enough) in
     due_of_keys s c.requires t fits (told_with (ears_of i.ears) dues told) (gathered_due s.core t (ears_of i.ears) dues told g)
 
@@ -103,11 +103,11 @@ returns-in-Err-NoFreeId c =
     let t = declaring face id (said.Full key) info node in
     let told = c.in_ok-found.found.told in
     let dues = c.as_slice.result.now in
-    let told_is = c.in_ok-found.ensures.told ∙ ap (λ (k : List ℕ). own_told_on s.core.hats (change_hat r (registered face.0 id k node info) s.core.hats) k) text in
-    let changed = ap (λ (k : List ℕ). change_hat r (registered face.0 id k node info) s.core.hats) text ∙ sym (changed_home face.0 r s.core home (registered face.0 id key node info)) in
-    let dues_are = c.as_slice.ensures ∙ c.in_ok-found.ensures.dues (accepted s.core t) refl changed ∙ ap (λ (k : List ℕ). looked_over (accepted s.core t) [] (k ∷ [])) text in
+    let told_is = c.in_ok-found.ensures.told ∙ ap (λ (k : List ℕ). own_told_on i.hats (change_hat r (registered face.0 id k node info) i.hats) k) text in
+    let changed = ap (λ (k : List ℕ). change_hat r (registered face.0 id k node info) i.hats) text ∙ ap (change_hat r (registered face.0 id key node info)) hats ∙ sym (changed_home face.0 r s.core home (registered face.0 id key node info)) in
+    let dues_are = c.as_slice.ensures ∙ c.in_ok-found.ensures.dues (accepted s.core t) [] (sym (ap (λ (x : State). x.core.faces) v)) (λ f k. refl) changed ∙ ap (λ (k : List ℕ). looked_over (accepted s.core t) [] (k ∷ [])) text in
     let g : Gathers s.core t (ears_of i.ears) dues told =
-    declaration_gathers s c.requires face id r home h there key info node s.core.hats refl told told_is (ears_of i.ears) (ap (λ (x : State). x.core.ears) v) [] (ap (λ (x : State). x.core.interests) v) dues dues_are in
+    declaration_gathers s c.requires face id r home h there key info node i.hats hats told told_is (ears_of i.ears) (ap (λ (x : State). x.core.ears) v) [] (ap (λ (x : State). x.core.interests) v) dues dues_are in
     let lacks = sym (gathered_lacks s.core t (ears_of i.ears) dues told g) ∙ c.in-Err-NoFreeId.ensures.no_free (ap (λ e. Err e) c.in-Err-NoFreeId.field-0-is) in
     let says : c.args.said.now ≡ said.Full key = subst (λ (x : Result (List ℕ) Refusal). IfOk x (λ k. c.args.said.now ≡ said.Full k)) c.in-Ok.is c.in_ok-key.ensures.says in
     let e = ap (λ x. refusal_of s.core (declaring face id x info node)) says ∙ declaration_lacks s c.requires face id r home h there key info node valid free lacks in
@@ -135,11 +135,11 @@ returns-in-Ok-register c =
     let t = declaring face id (said.Full key) info node in
     let told = c.in_ok-found.found.told in
     let dues = c.as_slice.result.now in
-    let told_is = c.in_ok-found.ensures.told ∙ ap (λ (k : List ℕ). own_told_on s.core.hats (change_hat r (registered face.0 id k node info) s.core.hats) k) text in
-    let changed = ap (λ (k : List ℕ). change_hat r (registered face.0 id k node info) s.core.hats) text ∙ sym (changed_home face.0 r s.core home (registered face.0 id key node info)) in
-    let dues_are = c.as_slice.ensures ∙ c.in_ok-found.ensures.dues (accepted s.core t) refl changed ∙ ap (λ (k : List ℕ). looked_over (accepted s.core t) [] (k ∷ [])) text in
+    let told_is = c.in_ok-found.ensures.told ∙ ap (λ (k : List ℕ). own_told_on i.hats (change_hat r (registered face.0 id k node info) i.hats) k) text in
+    let changed = ap (λ (k : List ℕ). change_hat r (registered face.0 id k node info) i.hats) text ∙ ap (change_hat r (registered face.0 id key node info)) hats ∙ sym (changed_home face.0 r s.core home (registered face.0 id key node info)) in
+    let dues_are = c.as_slice.ensures ∙ c.in_ok-found.ensures.dues (accepted s.core t) [] (sym (ap (λ (x : State). x.core.faces) v)) (λ f k. refl) changed ∙ ap (λ (k : List ℕ). looked_over (accepted s.core t) [] (k ∷ [])) text in
     let g : Gathers s.core t (ears_of i.ears) dues told =
-    declaration_gathers s c.requires face id r home h there key info node s.core.hats refl told told_is (ears_of i.ears) (ap (λ (x : State). x.core.ears) v) [] (ap (λ (x : State). x.core.interests) v) dues dues_are in
+    declaration_gathers s c.requires face id r home h there key info node i.hats hats told told_is (ears_of i.ears) (ap (λ (x : State). x.core.ears) v) [] (ap (λ (x : State). x.core.interests) v) dues dues_are in
     let fits = declaration_fits s c.requires face id r home h there key info node valid free (sym (gathered_lacks s.core t (ears_of i.ears) dues told g) ∙ c.in-Ok-hold_and_tell.ensures.free) in
     let ts = told_with (ears_of i.ears) dues told in
     let are = gathered_due s.core t (ears_of i.ears) dues told g in

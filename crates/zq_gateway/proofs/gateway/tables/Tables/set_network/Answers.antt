@@ -42,9 +42,9 @@ tell_all-requires c enough =
     let fits = network_fits s r c.args.net.now hat (ap (hat_at r) (sym same) ∙ there) in
     let lost : c.in_ok-keys.keys ≡ losing net hat = search rules in
     let dues = c.as_slice-4.result.now in
-    let changed = λ (key : List ℕ). ap (λ (n : Network). change_hat r (networked n) s.core.hats) c.in_ok-net-2.ensures.net in
+    let changed = λ (key : List ℕ). ap (λ (n : Network). change_hat r (networked n) i.hats) c.in_ok-net-2.ensures.net ∙ ap (change_hat r (networked net)) same in
     let dues_are =
-    c.as_slice-4.ensures ∙ c.in_ok-dues.ensures (accepted s.core (networking r net)) refl changed
+    c.as_slice-4.ensures ∙ c.in_ok-dues.ensures (accepted s.core (networking r net)) [] (sym (ap (λ (x : State). x.core.faces) v)) (λ f k. refl) changed
     ∙ ap (λ (ks : List (List ℕ)). looked_over (accepted s.core (networking r net)) [] (fold (insert_key text_cmp) [] ks)) (c.as_slice-3.ensures ∙ lost) in
     let g : Gathers s.core t (ears_of i.ears) dues told =
     subst (λ (n : Network). Gathers s.core (networking r n) (ears_of i.ears) dues told) is_net
@@ -69,9 +69,9 @@ unreachable-requires c =
     let fits = network_fits s r c.args.net.now hat (ap (hat_at r) (sym same) ∙ there) in
     let lost : c.in_ok-keys.keys ≡ losing net hat = search rules in
     let dues = c.as_slice-4.result.now in
-    let changed = λ (key : List ℕ). ap (λ (n : Network). change_hat r (networked n) s.core.hats) c.in_ok-net-2.ensures.net in
+    let changed = λ (key : List ℕ). ap (λ (n : Network). change_hat r (networked n) i.hats) c.in_ok-net-2.ensures.net ∙ ap (change_hat r (networked net)) same in
     let dues_are =
-    c.as_slice-4.ensures ∙ c.in_ok-dues.ensures (accepted s.core (networking r net)) refl changed
+    c.as_slice-4.ensures ∙ c.in_ok-dues.ensures (accepted s.core (networking r net)) [] (sym (ap (λ (x : State). x.core.faces) v)) (λ f k. refl) changed
     ∙ ap (λ (ks : List (List ℕ)). looked_over (accepted s.core (networking r net)) [] (fold (insert_key text_cmp) [] ks)) (c.as_slice-3.ensures ∙ lost) in
     let g : Gathers s.core t (ears_of i.ears) dues told =
     subst (λ (n : Network). Gathers s.core (networking r n) (ears_of i.ears) dues told) is_net
@@ -97,9 +97,9 @@ returns-in-Networked c =
     let fits = network_fits s r c.args.net.now hat (ap (hat_at r) (sym same) ∙ there) in
     let lost : c.in_ok-keys.keys ≡ losing net hat = search rules in
     let dues = c.as_slice-4.result.now in
-    let changed = λ (key : List ℕ). ap (λ (n : Network). change_hat r (networked n) s.core.hats) c.in_ok-net-2.ensures.net in
+    let changed = λ (key : List ℕ). ap (λ (n : Network). change_hat r (networked n) i.hats) c.in_ok-net-2.ensures.net ∙ ap (change_hat r (networked net)) same in
     let dues_are =
-    c.as_slice-4.ensures ∙ c.in_ok-dues.ensures (accepted s.core (networking r net)) refl changed
+    c.as_slice-4.ensures ∙ c.in_ok-dues.ensures (accepted s.core (networking r net)) [] (sym (ap (λ (x : State). x.core.faces) v)) (λ f k. refl) changed
     ∙ ap (λ (ks : List (List ℕ)). looked_over (accepted s.core (networking r net)) [] (fold (insert_key text_cmp) [] ks)) (c.as_slice-3.ensures ∙ lost) in
     let g : Gathers s.core t (ears_of i.ears) dues told =
     subst (λ (n : Network). Gathers s.core (networking r n) (ears_of i.ears) dues told) is_net

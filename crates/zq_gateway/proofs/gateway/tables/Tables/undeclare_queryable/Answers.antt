@@ -21,7 +21,7 @@ use Rattle.zq_gateway.proofs.Reached.{reached_enough}
 use Rattle.zq_gateway.proofs.gateway.tables.Tables.undeclare_queryable.Goals as goal
 
 pub gather-requires : goal.gather-requires
-gather-requires c = ap (hat_at c.in-Some.region) (sym (ap (λ (x : State). x.core.hats) c.self.view_is)) ∙ c.home-hat.ensures.hat
+gather-requires c = c.home-hat.ensures.hat
 
 pub tell_all-requires : goal.tell_all-requires
 tell_all-requires c enough =
@@ -38,10 +38,10 @@ tell_all-requires c enough =
     let hats = ap (λ (x : State). x.core.hats) v in
     let there : hat_at r s.core.hats ≡ Some h = ap (hat_at r) (sym hats) ∙ c.home-hat.ensures.hat in
     let fits = withdrawal_fits s c.requires face id r home h there key c.in-Some-key_at.ensures in
-    let changed = sym (changed_home face.0 r s.core home (unregistered face.0 id)) in
+    let changed = ap (change_hat r (unregistered face.0 id)) hats ∙ sym (changed_home face.0 r s.core home (unregistered face.0 id)) in
     let g =
-    withdrawal_gathers s c.requires face id r home h there key c.in-Some-key_at.ensures s.core.hats refl c.in_ok-found.found.told c.in_ok-found.ensures.told (ears_of i.ears) (ap (λ (x : State). x.core.ears) v)
-    [] (ap (λ (x : State). x.core.interests) v) c.as_slice.result.now (c.as_slice.ensures ∙ c.in_ok-found.ensures.dues (accepted s.core t) refl changed) in
+    withdrawal_gathers s c.requires face id r home h there key c.in-Some-key_at.ensures i.hats hats c.in_ok-found.found.told c.in_ok-found.ensures.told (ears_of i.ears) (ap (λ (x : State). x.core.ears) v)
+    [] (ap (λ (x : State). x.core.interests) v) c.as_slice.result.now (c.as_slice.ensures ∙ c.in_ok-found.ensures.dues (accepted s.core t) [] (sym (ap (λ (x : State). x.core.faces) v)) (λ f k. refl) changed) in
     due_of_keys s c.requires t fits (told_with (ears_of i.ears) c.as_slice.result.now c.in_ok-found.found.told) (gathered_due s.core t (ears_of i.ears) c.as_slice.result.now c.in_ok-found.found.told g)
 
 pub unreachable-requires : goal.unreachable-requires
@@ -59,10 +59,10 @@ unreachable-requires c =
     let hats = ap (λ (x : State). x.core.hats) v in
     let there : hat_at r s.core.hats ≡ Some h = ap (hat_at r) (sym hats) ∙ c.home-hat.ensures.hat in
     let fits = withdrawal_fits s c.requires face id r home h there key c.in-Some-key_at.ensures in
-    let changed = sym (changed_home face.0 r s.core home (unregistered face.0 id)) in
+    let changed = ap (change_hat r (unregistered face.0 id)) hats ∙ sym (changed_home face.0 r s.core home (unregistered face.0 id)) in
     let g =
-    withdrawal_gathers s c.requires face id r home h there key c.in-Some-key_at.ensures s.core.hats refl c.in_ok-found.found.told c.in_ok-found.ensures.told (ears_of i.ears) (ap (λ (x : State). x.core.ears) v)
-    [] (ap (λ (x : State). x.core.interests) v) c.as_slice.result.now (c.as_slice.ensures ∙ c.in_ok-found.ensures.dues (accepted s.core t) refl changed) in
+    withdrawal_gathers s c.requires face id r home h there key c.in-Some-key_at.ensures i.hats hats c.in_ok-found.found.told c.in_ok-found.ensures.told (ears_of i.ears) (ap (λ (x : State). x.core.ears) v)
+    [] (ap (λ (x : State). x.core.interests) v) c.as_slice.result.now (c.as_slice.ensures ∙ c.in_ok-found.ensures.dues (accepted s.core t) [] (sym (ap (λ (x : State). x.core.faces) v)) (λ f k. refl) changed) in
     let lacks = sym (gathered_lacks s.core t (ears_of i.ears) c.as_slice.result.now c.in_ok-found.found.told g) ∙ c.in-Err-NoFreeId.ensures.no_free (ap (λ e. Err e) c.in-Err-NoFreeId.field-0-is) in
     true≢false (sym lacks ∙ reached_enough s c.requires t fits refl)
 
@@ -81,12 +81,12 @@ returns-in-Ok-withdraw c =
     let hats = ap (λ (x : State). x.core.hats) v in
     let there : hat_at r s.core.hats ≡ Some h = ap (hat_at r) (sym hats) ∙ c.home-hat.ensures.hat in
     let fits = withdrawal_fits s c.requires face id r home h there key c.in-Some-key_at.ensures in
-    let changed = sym (changed_home face.0 r s.core home (unregistered face.0 id)) in
+    let changed = ap (change_hat r (unregistered face.0 id)) hats ∙ sym (changed_home face.0 r s.core home (unregistered face.0 id)) in
     let told = c.in_ok-found.found.told in
     let dues = c.as_slice.result.now in
     let g =
-    withdrawal_gathers s c.requires face id r home h there key c.in-Some-key_at.ensures s.core.hats refl told c.in_ok-found.ensures.told (ears_of i.ears) (ap (λ (x : State). x.core.ears) v)
-    [] (ap (λ (x : State). x.core.interests) v) dues (c.as_slice.ensures ∙ c.in_ok-found.ensures.dues (accepted s.core t) refl changed) in
+    withdrawal_gathers s c.requires face id r home h there key c.in-Some-key_at.ensures i.hats hats told c.in_ok-found.ensures.told (ears_of i.ears) (ap (λ (x : State). x.core.ears) v)
+    [] (ap (λ (x : State). x.core.interests) v) dues (c.as_slice.ensures ∙ c.in_ok-found.ensures.dues (accepted s.core t) [] (sym (ap (λ (x : State). x.core.faces) v)) (λ f k. refl) changed) in
     let ts = told_with (ears_of i.ears) dues told in
     let are = gathered_due s.core t (ears_of i.ears) dues told g in
     let handed =

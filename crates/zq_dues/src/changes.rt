@@ -1,0 +1,140 @@
+//! What a call looks at that changes a region's hat, and what it tells own trees.
+ghost use Rattle.std.specs.Prelude.{◌≡◌, [], ◌∷◌, ℕ, List, Some, IfOk, fold, true};
+ghost use Rattle.std.specs.BTreeMap.{is_at};
+ghost use Rattle.std.specs.BTreeSet.{insert_key};
+ghost use Rattle.std.specs.Map.{remove_entry};
+ghost use Rattle.std.specs.Ordering.{nat_cmp};
+ghost use Rattle.zq_index.specs.Texts.{text_cmp};
+ghost use Rattle.zq_hat.specs.Changes.{changed_by};
+ghost use Rattle.zq_hat.specs.Kept.{has_face, keys_of_face, without_face};
+ghost use Rattle.zq_interests.specs.Interests.{Interests};
+ghost use Rattle.zq_machine.specs.Neighbours.{looked_over};
+ghost use Rattle.zq_machine.specs.State.{Core, change_hat, hat_at};
+ghost use Rattle.zq_own.specs.Own.{change_told};
+ghost use Rattle.zq_dues.specs.Dues.{hats_next};
+ghost use Rattle.zq_dues.specs.Over.{AskFor, faces_but};
+
+use crate::dues::Asking;
+use crate::over::dues_over;
+use crate::sorted::sorted;
+use crate::types::{DuesList, HatChange};
+use std::alloc::Global;
+use std::collections::BTreeMap;
+use zq_hat::hat::Hat;
+use zq_hat::types::{Change, TellingList};
+use zq_key::items::Items;
+use zq_key::memory::OutOfMemory;
+use zq_key::message::{FaceId, Region};
+use zq_key::text::Text;
+use zq_machine::face::OpenFace;
+use zq_own::telling::tell_change;
+use zq_tables::RegionMap;
+
+/// What own trees are told of a key, and what will be due there to faces.
+#[derive(Drop)]
+pub struct Gathered {
+    pub told: TellingList,
+    pub dues: DuesList,
+}
+
+/// What will be due to each open face on a key, once the region's hat has changed. Refused only where
+/// memory is lacking, and then nothing is changed.
+pub fn dues_on<A: Asking>(
+    alloc: Global,
+    faces: &BTreeMap<u32, OpenFace>,
+    hats: &RegionMap<Hat>,
+    asking: &A,
+    region: Region,
+    change: Change,
+    key: &str,
+) -> Result<DuesList, OutOfMemory>
+    ensures { (c : Core) (ints : Interests) → c.faces ≡ faces.now.entries → AskFor (A.asks asking.now) ints → change_hat region (changed_by change key.now) hats.now ≡ c.hats → IfOk result (λ ds. ds ≡ looked_over c ints (key.now ∷ [])) }
+{
+    let next = HatChange { region, change };
+    let mut keys = Items::new(alloc);
+    keys.push(Text::new(alloc, key)?)?;
+    dues_over(
+        alloc,
+        faces,
+        None,
+        hats,
+        Some(&next),
+        asking,
+        keys.as_slice(),
+    )
+}
+
+/// The same on keys in any order, on each of which the change is the same, and but for a face that is
+/// closed.
+pub fn dues_on_all<A: Asking>(
+    alloc: Global,
+    faces: &BTreeMap<u32, OpenFace>,
+    but: Option<FaceId>,
+    hats: &RegionMap<Hat>,
+    next: &HatChange,
+    asking: &A,
+    keys: &[Text],
+) -> Result<DuesList, OutOfMemory>
+    ensures { (c : Core) (ints : Interests) → c.faces ≡ faces_but but faces.now.entries → AskFor (A.asks asking.now) ints → ((key : List ℕ) → hats_next next.now key hats.now ≡ c.hats) → IfOk result (λ ds. ds ≡ looked_over c ints (fold (insert_key text_cmp) [] keys.now)) }
+{
+    let keys = sorted(alloc, keys)?;
+    dues_over(
+        alloc,
+        faces,
+        but,
+        hats,
+        Some(next),
+        asking,
+        keys.as_slice(),
+    )
+}
+
+/// What will be due to the other faces where a face leaves its hat.
+pub fn dues_left<A: Asking>(
+    alloc: Global,
+    faces: &BTreeMap<u32, OpenFace>,
+    hats: &RegionMap<Hat>,
+    asking: &A,
+    region: Region,
+    hat: &Hat,
+    face: FaceId,
+) -> Result<DuesList, OutOfMemory>
+    requires { has_face face.0 hat.now ≡ true }
+    ensures { (c : Core) (ints : Interests) → c.faces ≡ remove_entry (is_at (nat_cmp face.0)) faces.now.entries → AskFor (A.asks asking.now) ints → change_hat region (without_face face.0) hats.now ≡ c.hats → IfOk result (λ ds. ds ≡ looked_over c ints (fold (insert_key text_cmp) [] (keys_of_face face.0 hat.now))) }
+{
+    let keys = hat.keys_of(face)?;
+    let next = HatChange {
+        region,
+        change: Change::Left(face),
+    };
+    dues_on_all(
+        alloc,
+        faces,
+        Some(face),
+        hats,
+        &next,
+        asking,
+        keys.as_slice(),
+    )
+}
+
+/// What own trees are told of a key, and what will be due there, once the region's hat has changed.
+pub fn gather<A: Asking>(
+    alloc: Global,
+    faces: &BTreeMap<u32, OpenFace>,
+    hats: &RegionMap<Hat>,
+    asking: &A,
+    region: Region,
+    hat: &Hat,
+    change: Change,
+    key: &str,
+) -> Result<Gathered, OutOfMemory>
+    requires { hat_at region hats.now ≡ Some hat.now }
+    ensures told { IfOk result (λ g. g.told ≡ change_told hats.now region change key.now) }
+    ensures dues { (c : Core) (ints : Interests) → c.faces ≡ faces.now.entries → AskFor (A.asks asking.now) ints → change_hat region (changed_by change key.now) hats.now ≡ c.hats → IfOk result (λ g. g.dues ≡ looked_over c ints (key.now ∷ [])) }
+{
+    let mut told = Items::new(alloc);
+    tell_change(hats, region, hat, &change, key, &mut told)?;
+    let dues = dues_on(alloc, faces, hats, asking, region, change, key)?;
+    Ok(Gathered { told, dues })
+}
