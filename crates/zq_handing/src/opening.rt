@@ -77,7 +77,7 @@ pub fn join_and_tell(
     requires keys { lacks_ids Unasked (heard_opened face.0 last (ears_of ears.old)) dues.now ≡ false → All (λ t. key_of t.key ≡ true) (told_with (heard_opened face.0 last (ears_of ears.old)) dues.now []) }
     ensures faces { OnOk result (faces.new.entries ≡ insert_entry nat_cmp faces.old.entries face.0 opened) }
     ensures ok { (c : Core) → c.faces ≡ insert_entry nat_cmp faces.old.entries face.0 opened → IfOk result (λ x. behind [] (tell_of c (map from_hat (in_order (told_with (heard_opened face.0 last (ears_of ears.old)) dues.now []))) (insert_entry nat_cmp names.old face.0 no_keys)) ≡ record { handed = x.handed; names = names.new }) }
-    ensures back { IfOk result (λ x. untold x.handed names.new ≡ insert_entry nat_cmp names.old face.0 no_keys) }
+    ensures taken { IfOk result (λ x. untold x.handed names.new ≡ insert_entry nat_cmp names.old face.0 no_keys) }
     ensures plan { IfOk result (λ x. x.plan ≡ (tell_faces Unasked (heard_opened face.0 last (ears_of ears.old)) dues.now).plan) }
     ensures ready { IfOk result (λ x. IsReady x.plan ears.new) }
     ensures ears { OnOk result (ears_of ears.new ≡ heard_opened face.0 last (ears_of ears.old)) }

@@ -1,5 +1,5 @@
 //! What a gateway keeps, and a call by its kind.
-ghost use Rattle.std.specs.Prelude.{◌≡◌, ◌<◌, ◌^◌, [], true, Some, IfOk, IfErr, IfSome};
+ghost use Rattle.std.specs.Prelude.{◌≡◌, ◌<◌, ◌^◌, [], true, Some, IfOk, IfErr, IfSome, OnOk};
 ghost use Rattle.std.specs.List.{cons_option};
 ghost use Rattle.zq_machine.specs.declared.call.Call.TheVariants as call;
 ghost use Rattle.zq_machine.specs.Calls.{declared_call, declaring_call, is_built};
@@ -70,7 +70,7 @@ impl Tables {
     /// A new gateway's.
     pub fn new(alloc: Global, config: &Config) -> Result<Tables, OutOfMemory>
         ensures opening { IfOk result (λ t. t ≡ opening_state config.now) }
-        ensures low { config.now.start.told < 2 ^ 32 }
+        ensures low { OnOk result (config.now.start.told < 2 ^ 32) }
     {
         let counters = *config.counters();
         let _told = counters.told;

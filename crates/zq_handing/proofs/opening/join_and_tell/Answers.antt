@@ -40,8 +40,8 @@ returns-in-Ok-tell_all-clause-ok c m same =
     let names = sym c.in-Ok.ensures.names in
     (λ j. behind (none j) (tell m (map from_hat (in_order (told_with (kept j) dues (empty j)))) (names j))) ∙ c.in-Ok-tell_all.ensures.ok m (same ∙ sym c.in-Ok.ensures.faces)
 
-pub returns-in-Ok-tell_all-clause-back : goal.returns-in-Ok-tell_all-clause-back
-returns-in-Ok-tell_all-clause-back c =
+pub returns-in-Ok-tell_all-clause-taken : goal.returns-in-Ok-tell_all-clause-taken
+returns-in-Ok-tell_all-clause-taken c =
     ap (λ (f : List Handed). untold (drop (length f) c.in-Ok-tell_all.told.handed) c.tell_all.new.names) (sym c.new-none.ensures) ∙ c.in-Ok-tell_all.ensures.back ∙ c.in-Ok.ensures.names
 
 pub returns-in-Ok-tell_all-clause-plan : goal.returns-in-Ok-tell_all-clause-plan

@@ -131,7 +131,7 @@ tell_all-requires c enough =
     let t = entering face sd info node in
     let told = c.in_ok-told.ensures ∙ ap (λ k. in_routers (strategy_at h) (to_children (Some face.0) router k info h) [] ++ own_told_on i.hats (change_hat r (entered router k info) i.hats) k) c.as_str-2.ensures.text in
     let dues = c.as_slice.result.now in
-    let changed = ap (λ (x : Change). change_hat r (changed_by x c.as_str-3.result.now) i.hats) c.entry_change.ensures ∙ change_is r router info c.as_str-3.result.now i.hats ∙ ap (λ (k : List ℕ). change_hat r (entered router k info) i.hats) c.as_str-3.ensures.text ∙ ap (change_hat r (entered router key info)) hats ∙ sym (entering_changes s face sd info node opens key says valid r home h there router is) in
+    let changed = ap (λ (x : Change). change_hat r (changed_by x c.as_str-3.result.now) i.hats) c.entry_change.ensures ∙ change_is r router info c.as_str-3.result.now i.hats ∙ ap (λ (k : List ℕ). change_hat r (entered router k info) i.hats) c.as_str-3.ensures.text ∙ ap (change_hat r (entered router key info)) hats ∙ sym (entering_changes s c.requires.reached face sd info node opens key says valid r home h there router is) in
     let faces = entering_faces s c.requires.reached face sd info node opens key says valid r home h there router is in
     let dues_are = c.as_slice.ensures ∙ c.in_ok-dues.ensures (accepted s.core t) [] (faces ∙ sym (ap (λ (x : State). x.core.faces) v)) (λ f k. refl) changed ∙ ap (λ (k : List ℕ). looked_over (accepted s.core t) [] (k ∷ [])) c.as_str-3.ensures.text in
     let g : Gathers s.core t (ears_of i.ears) dues c.in_ok-told.told =
@@ -164,14 +164,25 @@ returns-in-Err-NoFreeId c =
     let t = entering face sd info node in
     let told = c.in_ok-told.ensures ∙ ap (λ k. in_routers (strategy_at h) (to_children (Some face.0) router k info h) [] ++ own_told_on i.hats (change_hat r (entered router k info) i.hats) k) c.as_str-2.ensures.text in
     let dues = c.as_slice.result.now in
-    let changed = ap (λ (x : Change). change_hat r (changed_by x c.as_str-3.result.now) i.hats) c.entry_change.ensures ∙ change_is r router info c.as_str-3.result.now i.hats ∙ ap (λ (k : List ℕ). change_hat r (entered router k info) i.hats) c.as_str-3.ensures.text ∙ ap (change_hat r (entered router key info)) hats ∙ sym (entering_changes s face sd info node opens key says valid r home h there router is) in
+    let changed = ap (λ (x : Change). change_hat r (changed_by x c.as_str-3.result.now) i.hats) c.entry_change.ensures ∙ change_is r router info c.as_str-3.result.now i.hats ∙ ap (λ (k : List ℕ). change_hat r (entered router k info) i.hats) c.as_str-3.ensures.text ∙ ap (change_hat r (entered router key info)) hats ∙ sym (entering_changes s c.requires.reached face sd info node opens key says valid r home h there router is) in
     let faces = entering_faces s c.requires.reached face sd info node opens key says valid r home h there router is in
     let dues_are = c.as_slice.ensures ∙ c.in_ok-dues.ensures (accepted s.core t) [] (faces ∙ sym (ap (λ (x : State). x.core.faces) v)) (λ f k. refl) changed ∙ ap (λ (k : List ℕ). looked_over (accepted s.core t) [] (k ∷ [])) c.as_str-3.ensures.text in
     let g : Gathers s.core t (ears_of i.ears) dues c.in_ok-told.told =
     entering_gathers s c.requires.reached face sd info node opens key says valid r home h there router is c.requires.routing i.hats hats c.in_ok-told.told told (ears_of i.ears) (ap (λ (x : State). x.core.ears) v) [] (ap (λ (x : State). x.core.interests) v) dues dues_are in
     let short = sym (gathered_lacks s.core t (ears_of i.ears) dues c.in_ok-told.told g) ∙ c.in-Err-NoFreeId.ensures.no_free (ap (λ e. Err e) c.in-Err-NoFreeId.field-0-is) in
     let e = entry_lacks s.core face sd info node opens key says valid r home h there router is short (λ fits none. reached_enough s c.requires.reached t fits none) has in
-    record { step = c.refused-in-Err-NoFreeId.ensures ∙ refused_answered s t refusal.NoFreeId e; after = sym (refused_left s t refusal.NoFreeId e); err = tt }
+    let names_back = c.in-Err-NoFreeId.ensures.err ∙ ap (λ (x : State). x.names) v in
+    let ears_back = c.tell_all.ensures.ears ∙ ap (λ (x : State). x.core.ears) v in
+    record {
+      step = c.refused-in-Err-NoFreeId.ensures ∙ refused_answered s t refusal.NoFreeId e;
+      after =
+          (λ j. record {
+            core = record { config = (v j).core.config; faces = (v j).core.faces; next_face = (v j).core.next_face; hats = (v j).core.hats; tables = (v j).core.tables; queries = (v j).core.queries; interests = (v j).core.interests; ears = ears_back j };
+            names = names_back j;
+          })
+          ∙ sym (refused_left s t refusal.NoFreeId e);
+      err = tt;
+    }
 
 pub put_entry-requires : goal.put_entry-requires
 put_entry-requires c = ap is_some c.home-hat.ensures.hat
@@ -201,7 +212,7 @@ returns-in-Ok-put_entry c =
     let t = entering face sd info node in
     let told = c.in_ok-told.ensures ∙ ap (λ k. in_routers (strategy_at h) (to_children (Some face.0) router k info h) [] ++ own_told_on i.hats (change_hat r (entered router k info) i.hats) k) c.as_str-2.ensures.text in
     let dues = c.as_slice.result.now in
-    let changed = ap (λ (x : Change). change_hat r (changed_by x c.as_str-3.result.now) i.hats) c.entry_change.ensures ∙ change_is r router info c.as_str-3.result.now i.hats ∙ ap (λ (k : List ℕ). change_hat r (entered router k info) i.hats) c.as_str-3.ensures.text ∙ ap (change_hat r (entered router key info)) hats ∙ sym (entering_changes s face sd info node opens key says valid r home h there router is) in
+    let changed = ap (λ (x : Change). change_hat r (changed_by x c.as_str-3.result.now) i.hats) c.entry_change.ensures ∙ change_is r router info c.as_str-3.result.now i.hats ∙ ap (λ (k : List ℕ). change_hat r (entered router k info) i.hats) c.as_str-3.ensures.text ∙ ap (change_hat r (entered router key info)) hats ∙ sym (entering_changes s c.requires.reached face sd info node opens key says valid r home h there router is) in
     let faces = entering_faces s c.requires.reached face sd info node opens key says valid r home h there router is in
     let dues_are = c.as_slice.ensures ∙ c.in_ok-dues.ensures (accepted s.core t) [] (faces ∙ sym (ap (λ (x : State). x.core.faces) v)) (λ f k. refl) changed ∙ ap (λ (k : List ℕ). looked_over (accepted s.core t) [] (k ∷ [])) c.as_str-3.ensures.text in
     let g : Gathers s.core t (ears_of i.ears) dues c.in_ok-told.told =

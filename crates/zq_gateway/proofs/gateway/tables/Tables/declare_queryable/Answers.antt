@@ -112,7 +112,18 @@ returns-in-Err-NoFreeId c =
     let says : c.args.said.now ≡ said.Full key = subst (λ (x : Result (List ℕ) Refusal). IfOk x (λ k. c.args.said.now ≡ said.Full k)) c.in-Ok.is c.in_ok-key.ensures.says in
     let e = ap (λ x. refusal_of s.core (declaring face id x info node)) says ∙ declaration_lacks s c.requires face id r home h there key info node valid free lacks in
     let u = declaring face id c.args.said.now info node in
-    record { step = c.refused-in-Err-NoFreeId.ensures ∙ refused_answered s u refusal.NoFreeId e; after = sym (refused_left s u refusal.NoFreeId e); err = tt }
+    let names_back = c.in-Err-NoFreeId.ensures.err ∙ ap (λ (x : State). x.names) v in
+    let ears_back = c.hold_and_tell.ensures.ears ∙ ap (λ (x : State). x.core.ears) v in
+    record {
+      step = c.refused-in-Err-NoFreeId.ensures ∙ refused_answered s u refusal.NoFreeId e;
+      after =
+          (λ j. record {
+            core = record { config = (v j).core.config; faces = (v j).core.faces; next_face = (v j).core.next_face; hats = (v j).core.hats; tables = (v j).core.tables; queries = (v j).core.queries; interests = (v j).core.interests; ears = ears_back j };
+            names = names_back j;
+          })
+          ∙ sym (refused_left s u refusal.NoFreeId e);
+      err = tt;
+    }
 
 pub returns-in-Ok-register : goal.returns-in-Ok-register
 returns-in-Ok-register c =

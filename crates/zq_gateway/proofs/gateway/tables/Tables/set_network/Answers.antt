@@ -1,9 +1,12 @@
+use Rattle.std.specs.Prelude.{option_copied}
 use Rattle.std.proofs.Common.{◌≡◌, ◌∙◌, refl, sym, ap, Err, subst, rules, ℕ, ◌++◌, List, [], map, fold, Some, true≢false}
 use Rattle.std.specs.BTreeSet.{insert_key}
 use Rattle.zq_index.specs.Texts.{text_cmp}
 use Rattle.zq_machine.specs.Neighbours.{looked_over}
 use Rattle.zq_trees.specs.declared.types.Network.{Network}
 use Rattle.zq_trees.specs.declared.types.Telling.{Telling as TreeTelling}
+use Rattle.zq_message.specs.declared.message.Zid.{Zid}
+use Rattle.zq_trees.specs.Entries.{is_one_of, keys_by}
 use Rattle.zq_trees.specs.Tellings.{in_order}
 use Rattle.zq_hat.specs.Routers.{losing, networked}
 use Rattle.zq_hat.specs.State.{HatState}
@@ -33,14 +36,14 @@ tell_all-requires c enough =
     let net : Network = c.in_ok-net.net in
     let hat : HatState = c.in-Some.hat.now in
     let t = networking r c.args.net.now in
-    let same : i.hats ≡ s.core.hats = search rules in
-    let there : hat_at r i.hats ≡ Some hat = search rules in
-    let is_net : net ≡ c.args.net.now = search rules in
-    let tree : c.in_ok-told.told ≡ networked_told r i.hats (change_hat r (networked net) i.hats) = search rules in
+    let same : i.hats ≡ s.core.hats = ap (λ (x : State). x.core.hats) v in
+    let there : hat_at r i.hats ≡ Some hat = sym c.hat_at.ensures ∙ ap option_copied c.in-Some.is in
+    let is_net : net ≡ c.args.net.now = c.in_ok-net.ensures ∙ c.in_ok-copy.ensures in
+    let tree : c.in_ok-told.told ≡ networked_told r i.hats (change_hat r (networked net) i.hats) = c.in_ok-told.ensures in
     let told : List TreeTelling = c.tell_losses.new.told in
-    let all : told ≡ c.in_ok-told.told ++ all_own_told i.hats (change_hat r (networked net) i.hats) (losing net hat) = search rules in
+    let all : told ≡ c.in_ok-told.told ++ all_own_told i.hats (change_hat r (networked net) i.hats) (losing net hat) = c.in_ok-net-2.ensures.told in
     let fits = network_fits s r c.args.net.now hat (ap (hat_at r) (sym same) ∙ there) in
-    let lost : c.in_ok-keys.keys ≡ losing net hat = search rules in
+    let lost : c.in_ok-keys.keys ≡ losing net hat = c.in_ok-keys.ensures ∙ ap (λ (ids : List Zid). keys_by (is_one_of ids) hat.entries) c.as_slice-2.ensures ∙ c.in_ok-gone.ensures.losing in
     let dues = c.as_slice-4.result.now in
     let changed = λ (key : List ℕ). ap (λ (n : Network). change_hat r (networked n) i.hats) c.in_ok-net-2.ensures.net ∙ ap (change_hat r (networked net)) same in
     let dues_are =
@@ -60,14 +63,14 @@ unreachable-requires c =
     let net : Network = c.in_ok-net.net in
     let hat : HatState = c.in-Some.hat.now in
     let t = networking r c.args.net.now in
-    let same : i.hats ≡ s.core.hats = search rules in
-    let there : hat_at r i.hats ≡ Some hat = search rules in
-    let is_net : net ≡ c.args.net.now = search rules in
-    let tree : c.in_ok-told.told ≡ networked_told r i.hats (change_hat r (networked net) i.hats) = search rules in
+    let same : i.hats ≡ s.core.hats = ap (λ (x : State). x.core.hats) v in
+    let there : hat_at r i.hats ≡ Some hat = sym c.hat_at.ensures ∙ ap option_copied c.in-Some.is in
+    let is_net : net ≡ c.args.net.now = c.in_ok-net.ensures ∙ c.in_ok-copy.ensures in
+    let tree : c.in_ok-told.told ≡ networked_told r i.hats (change_hat r (networked net) i.hats) = c.in_ok-told.ensures in
     let told : List TreeTelling = c.tell_losses.new.told in
-    let all : told ≡ c.in_ok-told.told ++ all_own_told i.hats (change_hat r (networked net) i.hats) (losing net hat) = search rules in
+    let all : told ≡ c.in_ok-told.told ++ all_own_told i.hats (change_hat r (networked net) i.hats) (losing net hat) = c.in_ok-net-2.ensures.told in
     let fits = network_fits s r c.args.net.now hat (ap (hat_at r) (sym same) ∙ there) in
-    let lost : c.in_ok-keys.keys ≡ losing net hat = search rules in
+    let lost : c.in_ok-keys.keys ≡ losing net hat = c.in_ok-keys.ensures ∙ ap (λ (ids : List Zid). keys_by (is_one_of ids) hat.entries) c.as_slice-2.ensures ∙ c.in_ok-gone.ensures.losing in
     let dues = c.as_slice-4.result.now in
     let changed = λ (key : List ℕ). ap (λ (n : Network). change_hat r (networked n) i.hats) c.in_ok-net-2.ensures.net ∙ ap (change_hat r (networked net)) same in
     let dues_are =
@@ -79,8 +82,8 @@ unreachable-requires c =
     let lacks = sym (gathered_lacks s.core t (ears_of i.ears) dues told g) ∙ c.in-Err-NoFreeId.ensures.no_free (ap (λ e. Err e) c.in-Err-NoFreeId.field-0-is) in
     true≢false (sym lacks ∙ reached_enough s c.requires t fits refl)
 
-pub returns-in-Networked : goal.returns-in-Networked
-returns-in-Networked c =
+pub returns : goal.returns
+returns c =
     let s : State = c.args.self.now in
     let i = c.self.inside in
     let v = c.self.view_is in
@@ -88,14 +91,14 @@ returns-in-Networked c =
     let net : Network = c.in_ok-net.net in
     let hat : HatState = c.in-Some.hat.now in
     let t = networking r c.args.net.now in
-    let same : i.hats ≡ s.core.hats = search rules in
-    let there : hat_at r i.hats ≡ Some hat = search rules in
-    let is_net : net ≡ c.args.net.now = search rules in
-    let tree : c.in_ok-told.told ≡ networked_told r i.hats (change_hat r (networked net) i.hats) = search rules in
+    let same : i.hats ≡ s.core.hats = ap (λ (x : State). x.core.hats) v in
+    let there : hat_at r i.hats ≡ Some hat = sym c.hat_at.ensures ∙ ap option_copied c.in-Some.is in
+    let is_net : net ≡ c.args.net.now = c.in_ok-net.ensures ∙ c.in_ok-copy.ensures in
+    let tree : c.in_ok-told.told ≡ networked_told r i.hats (change_hat r (networked net) i.hats) = c.in_ok-told.ensures in
     let told : List TreeTelling = c.tell_losses.new.told in
-    let all : told ≡ c.in_ok-told.told ++ all_own_told i.hats (change_hat r (networked net) i.hats) (losing net hat) = search rules in
+    let all : told ≡ c.in_ok-told.told ++ all_own_told i.hats (change_hat r (networked net) i.hats) (losing net hat) = c.in_ok-net-2.ensures.told in
     let fits = network_fits s r c.args.net.now hat (ap (hat_at r) (sym same) ∙ there) in
-    let lost : c.in_ok-keys.keys ≡ losing net hat = search rules in
+    let lost : c.in_ok-keys.keys ≡ losing net hat = c.in_ok-keys.ensures ∙ ap (λ (ids : List Zid). keys_by (is_one_of ids) hat.entries) c.as_slice-2.ensures ∙ c.in_ok-gone.ensures.losing in
     let dues = c.as_slice-4.result.now in
     let changed = λ (key : List ℕ). ap (λ (n : Network). change_hat r (networked n) i.hats) c.in_ok-net-2.ensures.net ∙ ap (change_hat r (networked net)) same in
     let dues_are =
