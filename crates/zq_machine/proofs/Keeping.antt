@@ -6,7 +6,8 @@ use Rattle.std.specs.BTreeSet.{insert_key}
 use Rattle.std.specs.Cmp.{IsTotalOrder, nat_cmp_total, on_total, then_total}
 use Rattle.std.specs.List.{AllByRecursion, list_any}
 use Rattle.std.specs.List.Sorted.{IsStrictlySortedBy}
-use Rattle.std.specs.Option.{is_some, option_and_then, option_to_list}
+use Rattle.std.specs.Option.{is_some, option_and_then, option_map}
+use Rattle.std.proofs.lemmas.Option.{same_Some}
 use Rattle.std.specs.Ordering.{nat_cmp, ordering_then}
 use Rattle.std.specs.declared.cmp.Ordering.{Ordering}
 use Rattle.std.specs.declared.cmp.Ordering.TheVariants.{Less, Equal, Greater}
@@ -22,24 +23,26 @@ use Rattle.zq_trees.specs.declared.types.Telling.{Telling as TreeTelling}
 use Rattle.zq_trees.specs.Tellings.{in_order, telling_cmp}
 use Rattle.zq_interests.specs.Interests.{Interests, closed_face}
 use Rattle.zq_told.specs.declared.types.Way.TheVariants.{Unasked}
-use Rattle.zq_told.specs.Ears.{Ears}
-use Rattle.zq_told.specs.Receiver.{Heard, heard_entry, heard_on, receive}
+use Rattle.zq_told.specs.declared.types.ToldEntry.{ToldEntry}
+use Rattle.zq_told.specs.Ears.{Ear, Ears, last_at}
+use Rattle.zq_told.specs.Receiver.{Heard, heard_entry, receive}
 use Rattle.zq_told.specs.Telling.{lacks_ids, tell_due}
-use Rattle.zq_told.specs.Laws.{is_to}
-use Rattle.zq_told.specs.Leaving.{AreSound}
-use Rattle.zq_told.proofs.Faces.{stay_sound}
+use Rattle.zq_told.specs.Laws.{is_to, last_given, told_in}
+use Rattle.zq_told.specs.Leaving.{AreSound, fresh_ear}
+use Rattle.zq_told.proofs.Faces.{opens, stay_sound}
+use Rattle.zq_told.proofs.Slotted.{none_sorted}
 use Rattle.zq_tables.specs.Naming.{NamingState, naming_at}
 use Rattle.zq_machine.specs.declared.call.Call.{Call}
 use Rattle.zq_machine.specs.declared.face.OpenFace.{OpenFace}
 use Rattle.zq_machine.specs.Configs.{Settings}
-use Rattle.zq_machine.specs.Deciding.{accepted, changed, causes, granted, lacks_told, opened, refusal_of, renamed, told_of}
+use Rattle.zq_machine.specs.Deciding.{accepted, changed, causes, granted, is_accepted, lacks_told, opened, refusal_of, renamed, told_of}
 use Rattle.zq_machine.specs.Due.{listens}
 use Rattle.zq_machine.specs.Hearing.{CanBeTold, hear}
-use Rattle.zq_machine.specs.Keeping.{KeepPromise, kept_after, kept_in, with_heard, with_told}
-use Rattle.zq_machine.specs.Machine.{accepted_state, after, follow, settle, state_after}
-use Rattle.zq_machine.specs.Messages.{Telling, from_hat, told_or_ended}
-use Rattle.zq_machine.specs.Neighbours.{ears_after, looked_at, neighbours_lack, neighbours_told, with_new, without_closed}
-use Rattle.zq_machine.specs.Receivers.{AllHear, AllTold, AreOfOpen, Hears, heard_over, makes_due}
+use Rattle.zq_machine.specs.Keeping.{ChangePromise, IsKept, IsNear, KeepPromise, TellsChanges, greater, heard_in, is_told, kept_after, kept_in, last_in, said_by, with_heard, with_id, with_told}
+use Rattle.zq_machine.specs.Machine.{accepted_state, after, follow, settle, state_after, step}
+use Rattle.zq_machine.specs.Messages.{Telling, TellingBody, from_hat, told_or_ended}
+use Rattle.zq_machine.specs.Neighbours.{due_on, ears_after, looked_at, neighbours_lack, neighbours_told, with_new, without_closed}
+use Rattle.zq_machine.specs.Receivers.{AllHear, AllTold, AreOfOpen, FaceTold, HaveChanges, Hears, makes_due}
 use Rattle.zq_machine.specs.State.{Core, State, at, hat_at, hat_of, is_open, opening_state}
 use Rattle.zq_machine.specs.TextCalls.{TextCall, opening, closing, naming, unnaming, declaring, withdrawing, asking, replying, ending, reporting, passing, listing, finalizing, announcing, retracting, networking, tabling, unbuilt, by_router, read}
 use Rattle.zq_machine.specs.Writing.{write}
@@ -52,8 +55,8 @@ use Rattle.zq_machine.proofs.DueLess.{listens_kept}
 use Rattle.zq_machine.proofs.Frame.{run_config}
 use Rattle.zq_machine.proofs.Granted.{all_passed, by_granted, settles_told, told_by}
 use Rattle.zq_machine.proofs.Lists.{all_weaker}
-use Rattle.zq_machine.proofs.NeighbourAll.{new_hears, new_sound}
-use Rattle.zq_machine.proofs.NeighbourLaws.{all_told, face_told}
+use Rattle.zq_machine.proofs.NeighbourAll.{new_sound}
+use Rattle.zq_machine.proofs.NeighbourLaws.{all_told, comes_told, face_told}
 use Rattle.zq_machine.proofs.NeighbourLooks.{looked_is}
 use Rattle.zq_machine.proofs.NeighbourTold.{told_due}
 use Rattle.zq_machine.proofs.NeighboursTold.{due_can, neighbours}
@@ -85,25 +88,41 @@ behind_trees n trees near none sorted =
     ∙ in_order_stays telling_total (filter (is_to n) near) (IsStrictlySortedBy-filter telling_cmp (is_to n) near sorted)
 
 -- ---- a receiver hears what a hat tells
-hat_heard : (n : ℕ) (heard : Heard) (t : TreeTelling) → with_heard n heard (from_hat t) ≡ cond (n == t.face.0) (receive heard t) heard
-hat_heard n heard t = by t.info
+module _ {K : Type 0} (f : K → TellingBody → K) (g : K → TreeTelling → K) (same : (kept : K) (t : TreeTelling) → f kept (from_hat t).body ≡ g kept t) where
+  all_heard : (n : ℕ) (kept : K) (ts : List TreeTelling) → fold (with_heard f n) kept (map from_hat ts) ≡ fold g kept (filter (is_to n) ts)
+  all_heard n kept [] = refl
+  all_heard n kept (t ∷ ts) =
+      ap (λ k. fold (with_heard f n) (cond (n == t.face.0) k kept) (map from_hat ts)) (same kept t) ∙ all_heard n (cond (n == t.face.0) (g kept t) kept) ts ∙ by (n == t.face.0)
+    where
+      by : (b : Bool) → fold g (cond b (g kept t) kept) (filter (is_to n) ts) ≡ fold g kept (cond b (t ∷ filter (is_to n) ts) (filter (is_to n) ts))
+      by true = refl
+      by false = refl
+
+by_ids : (heard : Heard) (t : TreeTelling) → with_told heard (from_hat t).body ≡ receive heard t
+by_ids heard t = by t.info
   where
-    by : (i : Option QueryableInfoType) → with_heard n heard (record (from_hat t) { body = told_or_ended t.id t.key i }) ≡ cond (n == t.face.0) (heard_entry heard t.id t.key i) heard
+    by : (i : Option QueryableInfoType) → with_told heard (told_or_ended t.id t.key i) ≡ heard_entry heard t.id t.key i
     by None = refl
     by (Some i) = refl
 
-all_heard : (n : ℕ) (heard : Heard) (ts : List TreeTelling) → fold (with_heard n) heard (map from_hat ts) ≡ fold receive heard (filter (is_to n) ts)
-all_heard n heard [] = refl
-all_heard n heard (t ∷ ts) =
-    ap (λ h. fold (with_heard n) h (map from_hat ts)) (hat_heard n heard t) ∙ all_heard n (cond (n == t.face.0) (receive heard t) heard) ts ∙ by (n == t.face.0)
+the_greatest : (last : ℕ) (t : TreeTelling) → with_id last (from_hat t).body ≡ last_given last t
+the_greatest last t = by t.info
   where
-    by : (b : Bool) → fold receive (cond b (receive heard t) heard) (filter (is_to n) ts) ≡ fold receive heard (cond b (t ∷ filter (is_to n) ts) (filter (is_to n) ts))
+    by : (i : Option QueryableInfoType) → with_id last (told_or_ended t.id t.key i) ≡ greater last t.id
+    by None = refl
+    by (Some i) = refl
+
+none_heard : {K : Type 0} (f : K → TellingBody → K) (n : ℕ) (kept : K) (ts : List Telling) → AllByRecursion (λ (t : Telling). is_told n t ≡ false) ts → fold (with_heard f n) kept ts ≡ kept
+none_heard f n kept [] none = refl
+none_heard f n kept (t ∷ ts) none = ap (λ b. fold (with_heard f n) (cond b (f kept t.body) kept) ts) none.0 ∙ none_heard f n kept ts none.1
+
+told_only : (n : ℕ) (ts : List TreeTelling) → filter (is_told n) (map from_hat ts) ≡ map from_hat (filter (is_to n) ts)
+told_only n [] = refl
+told_only n (t ∷ ts) = ap (λ l. cond (n == t.face.0) (from_hat t ∷ l) l) (told_only n ts) ∙ by (n == t.face.0)
+  where
+    by : (b : Bool) → cond b (from_hat t ∷ map from_hat (filter (is_to n) ts)) (map from_hat (filter (is_to n) ts)) ≡ map from_hat (cond b (t ∷ filter (is_to n) ts) (filter (is_to n) ts))
     by true = refl
     by false = refl
-
-none_heard : (n : ℕ) (heard : Heard) (ts : List Telling) → AllByRecursion (λ (t : Telling). (n == t.to.0) ≡ false) ts → fold (with_heard n) heard ts ≡ heard
-none_heard n heard [] none = refl
-none_heard n heard (t ∷ ts) none = ap (λ b. fold (with_heard n) (cond b (with_told heard t.body) heard) ts) none.0 ∙ none_heard n heard ts none.1
 
 -- ---- what a call leaves
 quiet_after : (c : Core) → c.interests ≡ [] → (t : TextCall) → (changed c t).interests ≡ []
@@ -153,13 +172,27 @@ lacks_none c (announcing f s i n) h e = (all_passed (causes c (announcing f s i 
 lacks_none c t h e = absurd (false≢true e)
 
 -- ---- what holds at a point of a run
-pub record Keeps (c : Core) (heards : ℕ → Heard) : Type 0 where
+-- what the receiver of a face keeps is due, and the id that was given last there is its greatest
+record Follows (c : Core) (face : ℕ) (heard : Heard) (last : ℕ) : Type 0 where
+  hears : Hears c c.interests c.ears face heard
+  greatest : last_at face c.ears ≡ Some last
+
+pub record Keeps (first : ℕ) (c : Core) (heards : ℕ → Heard) (lasts : ℕ → ℕ) : Type 0 where
   pub quiet : c.interests ≡ []
   pub sound : AreSound c.ears
   pub faces : AreOfOpen c c.ears
   pub all : AllHear c c.interests c.ears
-  kept : (face : ℕ) → is_open face c ≡ true → by_router (record { 0 = face }) c ≡ false → Hears c c.interests c.ears face (heards face)
-  unborn : (face : ℕ) → c.next_face ≤ face → heards face ≡ []
+  kept : (face : ℕ) → IsNear face c → Follows c face (heards face) (lasts face)
+  unborn : (face : ℕ) → c.next_face ≤ face → (heards face ≡ []) × (lasts face ≡ first)
+
+kept_of : (c : Core) (face : ℕ) (heard : Heard) (last : ℕ) (f : Follows c face heard last) → IsKept f.hears.ear heard last
+kept_of c face heard last f = record { sorted = f.hears.sorted; tied = f.hears.tied; greatest = same_Some _ _ (sym (ap (option_map (λ (e : Ear). e.last)) f.hears.there) ∙ f.greatest) }
+
+-- what a face is told by a call, of which this was kept
+record Tells (s : State) (t : TextCall) (d : Core) (face : ℕ) (heard : Heard) (last : ℕ) : Type 0 where
+  ear : Ear
+  is : IsKept ear heard last
+  told : FaceTold s.core d s.core.interests t s.core.ears face ear heard
 
 -- what the laws say of a call, by what decides after it
 record Told (s : State) (t : TextCall) (d : Core) : Type 0 where
@@ -168,11 +201,11 @@ record Told (s : State) (t : TextCall) (d : Core) : Type 0 where
   faces : AreOfOpen d (ears_after s.core d s.core.interests t s.core.ears)
   hear : AllHear d s.core.interests (ears_after s.core d s.core.interests t s.core.ears)
   ordered : IsStrictlySortedBy telling_cmp (neighbours_told s.core d s.core.interests t s.core.ears)
-  stays : (face : ℕ) (heard : Heard) → is_open face s.core ≡ true → is_open face d ≡ true → Hears s.core s.core.interests s.core.ears face heard
-      → Hears d s.core.interests (ears_after s.core d s.core.interests t s.core.ears) face (heard_over s.core d s.core.interests t s.core.ears face heard)
-  comes : (face : ℕ) → is_open face d ≡ true → is_open face s.core ≡ false → Hears d s.core.interests (ears_after s.core d s.core.interests t s.core.ears) face (heard_over s.core d s.core.interests t s.core.ears face [])
+  stays : (face : ℕ) (heard : Heard) → is_open face s.core ≡ true → is_open face d ≡ true → (h : Hears s.core s.core.interests s.core.ears face heard)
+      → FaceTold s.core d s.core.interests t s.core.ears face h.ear heard
+  comes : (face : ℕ) → is_open face s.core ≡ false → is_open face d ≡ true → FaceTold s.core d s.core.interests t s.core.ears face (fresh_ear s.core.config.start.told) []
 
-module _ (config : Settings) (low : config.start.told < 2 ^ 32) (calls : List Call) (c : Call) (heards : ℕ → Heard) where
+module _ (config : Settings) (low : config.start.told < 2 ^ 32) (calls : List Call) (c : Call) (heards : ℕ → Heard) (lasts : ℕ → ℕ) where
   abbrev s : State
   s = state_after (opening_state config) calls
 
@@ -182,7 +215,7 @@ module _ (config : Settings) (low : config.start.told < 2 ^ 32) (calls : List Ca
   i : InOrder config s
   i = run_in_order config calls
 
-  module _ (k : Keeps s.core heards) (h : refusal_of s.core t ≡ None) where
+  module _ (k : Keeps config.start.told s.core heards lasts) (h : refusal_of s.core t ≡ None) where
     abbrev d : Core
     d = accepted s.core t
 
@@ -204,8 +237,8 @@ module _ (config : Settings) (low : config.start.told < 2 ^ 32) (calls : List Ca
               faces = a.faces h k.sound k.faces;
               hear = a.hear k.all;
               ordered = a.ordered;
-              stays = λ face heard was seen x. (face_told config calls c s.core.interests s.core.ears face heard was seen x).keeps;
-              comes = λ face seen was. new_hears config s i t s.core.interests s.core.ears face seen was;
+              stays = λ face heard was seen x. face_told config calls c s.core.interests s.core.ears face heard was seen x;
+              comes = λ face was seen. comes_told config calls c s.core.interests s.core.ears face was seen;
             }
 
     ears_are : ears_after s.core d s.core.interests t s.core.ears ≡ d.ears
@@ -221,11 +254,17 @@ module _ (config : Settings) (low : config.start.told < 2 ^ 32) (calls : List Ca
         by true e = ap (lacks_ids Unasked (with_new s.core t s.core.ears)) (same_looked s.core t) ∙ lacks_none s.core t h e
         by false e = told_so.enough e
 
-    -- a face outside regions of routers hears what it is told as a neighbour
-    heard_here : (face : ℕ) (heard : Heard) → listens d (asks_all face) face [] ≡ true → heard_over s.core d s.core.interests t s.core.ears face heard ≡ fold (with_heard face) heard (told_of s.core t)
-    heard_here face heard hears =
-        sym (all_heard face heard (in_order (due_trees config s i t ++ neighbours config s i t h j))
-        ∙ ap (fold receive heard) (behind_trees face (due_trees config s i t) (neighbours config s i t h j) (none_to d (due_trees config s i t) (trees_deaf config s i t h j (is_read s c)) face hears) told_so.ordered))
+    -- a face outside regions of routers is told what it is told as a neighbour
+    abbrev near_told : ℕ → List TreeTelling
+    near_told face = filter (is_to face) (neighbours_told s.core d s.core.interests t s.core.ears)
+
+    only_near : (face : ℕ) → listens d (asks_all face) face [] ≡ true → filter (is_to face) (in_order (due_trees config s i t ++ neighbours config s i t h j)) ≡ near_told face
+    only_near face hears = behind_trees face (due_trees config s i t) (neighbours config s i t h j) (none_to d (due_trees config s i t) (trees_deaf config s i t h j (is_read s c)) face hears) told_so.ordered
+
+    heard_here : {K : Type 0} (f : K → TellingBody → K) (g : K → TreeTelling → K) → ((kept : K) (u : TreeTelling) → f kept (from_hat u).body ≡ g kept u) → (face : ℕ) (kept : K) → listens d (asks_all face) face [] ≡ true
+        → fold g kept (near_told face) ≡ fold (with_heard f face) kept (told_of s.core t)
+    heard_here f g same face kept hears =
+        sym (all_heard f g same face kept (in_order (due_trees config s i t ++ neighbours config s i t h j)) ∙ ap (fold g kept) (only_near face hears))
 
     moved : (face : ℕ) (heard : Heard) → Hears d s.core.interests (ears_after s.core d s.core.interests t s.core.ears) face heard → Hears d d.interests d.ears face heard
     moved face heard x = subst (λ (z : Interests × Ears). Hears d z.0 z.1 face heard) (λ m. (ints_are m, ears_are m)) x
@@ -251,26 +290,55 @@ module _ (config : Settings) (low : config.start.told < 2 ^ 32) (calls : List Ca
         let x : (o : OpenFace) × (at face d.faces ≡ Some o) = some_of (at face d.faces) seen in
         ap (λ z. is_some (option_and_then (λ (o : OpenFace). hat_at o.region d.hats) z)) x.1 ∙ j.tied.homes face x.0 x.1
 
-    kept_then : (face : ℕ) → is_open face d ≡ true → by_router (record { 0 = face }) d ≡ false → Hears d d.interests d.ears face (fold (with_heard face) (heards face) (told_of s.core t))
-    kept_then face seen near = by (is_open face s.core) refl
-      where
-        hears : listens d (asks_all face) face [] ≡ true
-        hears = near_hears d face (open_home face seen) near
+    hears_all : (face : ℕ) → IsNear face d → listens d (asks_all face) face [] ≡ true
+    hears_all face n = near_hears d face (open_home face n.opened) n.near
 
-        by : (b : Bool) → is_open face s.core ≡ b → Hears d d.interests d.ears face (fold (with_heard face) (heards face) (told_of s.core t))
+    tells_at : (face : ℕ) → IsNear face d → Tells s t d face (heards face) (lasts face)
+    tells_at face n = by (is_open face s.core) refl
+      where
+        by : (b : Bool) → is_open face s.core ≡ b → Tells s t d face (heards face) (lasts face)
         by true was =
-            let before : listens s.core (asks_all face) face [] ≡ true = sym (listens_kept config s i (asks_all face) face [] was t seen) ∙ hears in
-            subst (Hears d d.interests d.ears face) (heard_here face (heards face) hears) (moved face _ (told_so.stays face (heards face) was seen (k.kept face was (hears_near s.core face before))))
+            let before : listens s.core (asks_all face) face [] ≡ true = sym (listens_kept config s i (asks_all face) face [] was t n.opened) ∙ hears_all face n in
+            let f : Follows s.core face (heards face) (lasts face) = k.kept face (record { opened = was; near = hears_near s.core face before }) in
+            record { ear = f.hears.ear; is = kept_of s.core face (heards face) (lasts face) f; told = told_so.stays face (heards face) was n.opened f.hears }
         by false was =
-            let nothing : heards face ≡ [] = k.unborn face (let e : s.core.next_face ≡ face = new_number t face seen was in omega (arith, e)) in
-            subst (Hears d d.interests d.ears face) (heard_here face [] hears ∙ ap (λ l. fold (with_heard face) l (told_of s.core t)) (sym nothing)) (moved face _ (told_so.comes face seen was))
+            let none = k.unborn face (let e : s.core.next_face ≡ face = new_number t face n.opened was in omega (arith, e)) in
+            subst (λ (x : Heard × ℕ). Tells s t d face x.0 x.1) (λ m. (sym none.0 m, sym none.1 m))
+            (record {
+              ear = fresh_ear s.core.config.start.told;
+              is = record { sorted = none_sorted ToldEntry; tied = opens.tied s.core.config.start.told; greatest = ap (λ (x : Settings). x.start.told) (run_config calls (opening_state config)) };
+              told = told_so.comes face was n.opened;
+            })
+
+    kept_then : (face : ℕ) → IsNear face d → Follows d face (fold (with_heard with_told face) (heards face) (told_of s.core t)) (fold (with_heard with_id face) (lasts face) (told_of s.core t))
+    kept_then face n =
+        let x = tells_at face n in
+        record {
+          hears = subst (Hears d d.interests d.ears face) (heard_here with_told receive by_ids face (heards face) (hears_all face n)) (moved face _ x.told.keeps);
+          greatest =
+              ap (last_at face) (sym ears_are) ∙ x.told.last
+              ∙ ap Some (ap (λ l. fold last_given l (near_told face)) x.is.greatest ∙ heard_here with_id last_given the_greatest face (lasts face) (hears_all face n));
+        }
+
+    -- the difference, and nothing else
+    changes : (face : ℕ) → IsNear face d → TellsChanges d face (heards face) (lasts face) (told_of s.core t)
+    changes face n =
+        let x = tells_at face n in
+        record {
+          ear = x.ear;
+          is = x.is;
+          exactly = λ keys have.
+              told_only face (in_order (due_trees config s i t ++ neighbours config s i t h j))
+              ∙ ap (map from_hat) (only_near face (hears_all face n) ∙ sym (x.told.exactly keys (subst (λ ints. HaveChanges d ints face x.ear keys) (sym ints_are) have)))
+              ∙ ap (λ ints. map from_hat (told_in Unasked face x.ear (map (due_on d ints face) keys))) ints_are;
+        }
 
     -- a face that is yet to come is told nothing
-    unborn_then : (face : ℕ) → d.next_face ≤ face → fold (with_heard face) (heards face) (told_of s.core t) ≡ []
-    unborn_then face le =
-        none_heard face (heards face) (told_of s.core t)
-        (all_weaker (CanBeTold (renamed s t)) (λ (u : Telling). (face == u.to.0) ≡ false) (λ u can. apart u.to.0 (j.sound.open_below u.to.0 (sym (j.tied.named u.to.0) ∙ can.0))) (told_of s.core t) (due_can config s i t h j))
-        ∙ k.unborn face (let first : s.core.next_face ≤ d.next_face = next_after s.core t in omega (arith, first, le))
+    unborn_then : {K : Type 0} (f : K → TellingBody → K) (face : ℕ) → d.next_face ≤ face → (kept first : K) → kept ≡ first → fold (with_heard f face) kept (told_of s.core t) ≡ first
+    unborn_then f face le kept first is =
+        none_heard f face kept (told_of s.core t)
+        (all_weaker (CanBeTold (renamed s t)) (λ (u : Telling). is_told face u ≡ false) (λ u can. apart u.to.0 (j.sound.open_below u.to.0 (sym (j.tied.named u.to.0) ∙ can.0))) (told_of s.core t) (due_can config s i t h j))
+        ∙ is
       where
         apart : (to : ℕ) → to < d.next_face → (face == to) ≡ false
         apart to below = by (face == to) refl
@@ -279,35 +347,51 @@ module _ (config : Settings) (low : config.start.told < 2 ^ 32) (calls : List Ca
             by true e = let same : face ≡ to = one_number face to (number_test face to ∙ e) in absurd (omega (arith, same, below, le))
             by false e = refl
 
-    call_keeps : Keeps d (λ face. fold (with_heard face) (heards face) (told_of s.core t))
+    was_unborn : (face : ℕ) → d.next_face ≤ face → s.core.next_face ≤ face
+    was_unborn face le = let first : s.core.next_face ≤ d.next_face = next_after s.core t in omega (arith, first, le)
+
+    call_keeps : Keeps config.start.told d (λ face. fold (with_heard with_told face) (heards face) (told_of s.core t)) (λ face. fold (with_heard with_id face) (lasts face) (told_of s.core t))
     call_keeps = record {
       quiet = quiet_after s.core k.quiet t;
       sound = subst AreSound ears_are (told_so.sound none_lacks);
       faces = subst (AreOfOpen d) ears_are told_so.faces;
       all = λ face seen. let x = told_so.hear face seen in (x.0, moved face x.0 x.1);
       kept = kept_then;
-      unborn = unborn_then;
+      unborn = λ face le.
+          let none = k.unborn face (was_unborn face le) in
+          (unborn_then with_told face le (heards face) [] none.0, unborn_then with_id face le (lasts face) config.start.told none.1);
     }
 
-  step_keeps : Keeps s.core heards → Keeps (after s c).core (λ face. kept_after face s c (heards face))
+  step_keeps : Keeps config.start.told s.core heards lasts → Keeps config.start.told (after s c).core (λ face. kept_after with_told face s c (heards face)) (λ face. kept_after with_id face s c (lasts face))
   step_keeps k =
-      by_granted (λ z w. Keeps w.core (λ face. fold (with_heard face) (heards face) (hear z.handed (follow s t).names))) s t
-      (λ h. subst (λ l. Keeps (accepted s.core t) (λ face. fold (with_heard face) (heards face) l)) (sym (granted_heard config s c i h)) (call_keeps k h))
+      by_granted (λ z w. Keeps config.start.told w.core (λ face. fold (with_heard with_told face) (heards face) (hear z.handed (follow s t).names)) (λ face. fold (with_heard with_id face) (lasts face) (hear z.handed (follow s t).names))) s t
+      (λ h. subst (λ l. Keeps config.start.told (accepted s.core t) (λ face. fold (with_heard with_told face) (heards face) l) (λ face. fold (with_heard with_id face) (lasts face) l)) (sym (granted_heard config s c i h)) (call_keeps k h))
       (λ r. k)
+
+  step_changes : Keeps config.start.told s.core heards lasts → is_accepted (step s c).outcome ≡ true → (face : ℕ) → IsNear face (after s c).core
+      → TellsChanges (after s c).core face (heards face) (lasts face) (said_by s c)
+  step_changes k =
+      by_granted (λ z w. is_accepted z.outcome ≡ true → (face : ℕ) → IsNear face w.core → TellsChanges w.core face (heards face) (lasts face) (hear z.handed (follow s t).names)) s t
+      (λ h given face n. subst (TellsChanges (accepted s.core t) face (heards face) (lasts face)) (sym (granted_heard config s c i h)) (changes k h face n))
+      (λ r given. absurd (false≢true given))
 
 -- ---- over a run
 module _ (config : Settings) (low : config.start.told < 2 ^ 32) where
   abbrev pub KeepsAll : List Call → Type 0
-  KeepsAll calls = Keeps (state_after (opening_state config) calls).core (λ face. kept_in face (opening_state config) calls [])
+  KeepsAll calls = Keeps config.start.told (state_after (opening_state config) calls).core (λ face. heard_in face config calls) (λ face. last_in face config calls)
 
-  kept_both : (face : ℕ) (before later : List Call) (s : State) (heard : Heard) → kept_in face s (before ++ later) heard ≡ kept_in face (state_after s before) later (kept_in face s before heard)
-  kept_both face [] later s heard = refl
-  kept_both face (c ∷ before) later s heard = kept_both face before later (after s c) (kept_after face s c heard)
+  kept_both : {K : Type 0} (f : K → TellingBody → K) (face : ℕ) (before later : List Call) (s : State) (kept : K) → kept_in f face s (before ++ later) kept ≡ kept_in f face (state_after s before) later (kept_in f face s before kept)
+  kept_both f face [] later s kept = refl
+  kept_both f face (c ∷ before) later s kept = kept_both f face before later (after s c) (kept_after f face s c kept)
 
   one_more : (calls : List Call) (c : Call) → KeepsAll calls → KeepsAll (calls ++ c ∷ [])
   one_more calls c k =
-      subst (λ (x : State × (ℕ → Heard)). Keeps x.0.core x.1) (λ m. (sym (after_both calls (c ∷ []) (opening_state config)) m, λ face. sym (kept_both face calls (c ∷ []) (opening_state config) []) m))
-      (step_keeps config low calls c (λ face. kept_in face (opening_state config) calls []) k)
+      subst (λ (x : State × ((ℕ → Heard) × (ℕ → ℕ))). Keeps config.start.told x.0.core x.1.0 x.1.1)
+      (λ m. (sym (after_both calls (c ∷ []) (opening_state config)) m, (
+        λ face. sym (kept_both with_told face calls (c ∷ []) (opening_state config) []) m,
+        λ face. sym (kept_both with_id face calls (c ∷ []) (opening_state config) config.start.told) m
+      )))
+      (step_keeps config low calls c (λ face. heard_in face config calls) (λ face. last_in face config calls) k)
 
   more : (calls rest : List Call) → KeepsAll calls → KeepsAll (calls ++ rest)
   more calls [] k = subst KeepsAll (sym (append-nil calls)) k
@@ -319,14 +403,32 @@ module _ (config : Settings) (low : config.start.told < 2 ^ 32) where
     sound = stay_sound.first;
     faces = λ face. refl;
     all = λ face seen. absurd (false≢true seen);
-    kept = λ face seen near. absurd (false≢true seen);
-    unborn = λ face le. refl;
+    kept = λ face n. absurd (false≢true n.opened);
+    unborn = λ face le. (refl, refl);
   }
 
   pub run_keeps : (calls : List Call) → KeepsAll calls
   run_keeps calls = more [] calls first_keeps
 
 pub keep_promise : (config : Settings) (calls : List Call) → KeepPromise config calls
-keep_promise config calls low face key seen near =
+keep_promise config calls low face n =
     let s : State = state_after (opening_state config) calls in
-    told_due s.core s.core.interests s.core.ears face (kept_in face (opening_state config) calls []) ((run_keeps config low calls).kept face seen near) key
+    let f : Follows s.core face (heard_in face config calls) (last_in face config calls) = (run_keeps config low calls).kept face n in
+    record {
+      due = told_due s.core s.core.interests s.core.ears face (heard_in face config calls) f.hears;
+      ear = f.hears.ear;
+      there = f.hears.there;
+      is = kept_of s.core face (heard_in face config calls) (last_in face config calls) f;
+    }
+
+pub change_promise : (config : Settings) (calls : List Call) → ChangePromise config calls
+change_promise config calls low before rest c is given face n =
+    step_changes config low before c (λ f. heard_in f config before) (λ f. last_in f config before) (run_keeps config low before) given face n
+
+-- no face asks to hear of a key yet
+pub always_unasked : (config : Settings) (calls : List Call) → (state_after (opening_state config) calls).core.interests ≡ []
+always_unasked config calls = by calls (opening_state config) refl
+  where
+    by : (cs : List Call) (s : State) → s.core.interests ≡ [] → (state_after s cs).core.interests ≡ []
+    by [] s none = none
+    by (c ∷ cs) s none = by cs (after s c) (by_granted (λ z w. w.core.interests ≡ []) s (read s c) (λ h. quiet_after s.core none (read s c)) (λ r. none))

@@ -1,5 +1,5 @@
 -- What a call that is no interest tells all faces: in order, to open faces alone; what is kept of them stays sound, and what receivers keep stays due.
-use Rattle.std.proofs.Common.{◌≡◌, ◌∙◌, refl, sym, ap, subst, ℕ, ◌<◌, ◌^◌, Bool, true, false, cond, List, [], ◌∷◌, ◌++◌, filter, Option, Some, None, true≢false}
+use Rattle.std.proofs.Common.{◌≡◌, ◌∙◌, refl, sym, ap, subst, ℕ, ◌<◌, ◌^◌, Bool, true, false, cond, List, [], ◌∷◌, ◌++◌, filter, Option, Some, None, true≢false, fold, option_map}
 use Rattle.std.specs.BTreeMap.{is_at}
 use Rattle.std.specs.List.{AllByRecursion, flat_map, list_any}
 use Rattle.std.specs.List.Sorted.{IsStrictlySortedBy}
@@ -15,10 +15,10 @@ use Rattle.zq_trees.specs.Tellings.{telling_cmp}
 use Rattle.zq_told.specs.declared.types.FaceDues.{FaceDues}
 use Rattle.zq_told.specs.declared.types.ToldEntry.{ToldEntry}
 use Rattle.zq_told.specs.declared.types.Way.TheVariants.{Unasked}
-use Rattle.zq_told.specs.Ears.{Ear, Ears, at_face}
+use Rattle.zq_told.specs.Ears.{Ear, Ears, at_face, last_at}
 use Rattle.zq_told.specs.Receiver.{Heard}
 use Rattle.zq_told.specs.Telling.{KeyDue, tell_due}
-use Rattle.zq_told.specs.Laws.{InOrder, is_to, told_alone, told_in}
+use Rattle.zq_told.specs.Laws.{InOrder, is_to, last_given, told_alone, told_in}
 use Rattle.zq_told.specs.Leaving.{AreSound, fresh_ear}
 use Rattle.zq_told.proofs.Differing.{tells_each}
 use Rattle.zq_told.proofs.Faces.{keeps_faces, opens as opens_sound, stay_sound}
@@ -40,7 +40,7 @@ use Rattle.zq_machine.proofs.Granted.{settles_told}
 use Rattle.zq_machine.proofs.NeighbourDues.{all_keys, dues_of, rows_rise}
 use Rattle.zq_machine.proofs.NeighbourLooks.{looked_is}
 use Rattle.zq_machine.proofs.NeighbourIds.{fresh, new_face, opens}
-use Rattle.zq_machine.proofs.NeighbourTold.{all_rise, call_hears, call_told, looked, looked_rise, still_hears}
+use Rattle.zq_machine.proofs.NeighbourTold.{all_rise, call_hears, call_last, call_told, looked, looked_rise, still_hears}
 
 module _ (config : Settings) (s : State) (i : Kept config s) (t : TextCall) (ints : Interests) (ears : Ears) where
   abbrev w : Core
@@ -145,6 +145,12 @@ module _ (config : Settings) (s : State) (i : Kept config s) (t : TextCall) (int
         tied = opens_sound.tied s.core.config.start.told;
         told = λ key. sym (none key);
       }
+
+  pub new_last : (face : ℕ) → is_open face w ≡ true → is_open face s.core ≡ false
+      → last_at face (ears_after s.core w ints t ears) ≡ Some (fold last_given s.core.config.start.told (filter (is_to face) (neighbours_told s.core w ints t ears)))
+  new_last face seen was =
+      ap (λ x. option_map (λ (e : Ear). e.last) (at_face face x)) (still_there t (tell_due Unasked (with_new s.core t ears) (looked_at s.core w ints t)) (new_face config s i ints ears t face seen was).0)
+      ∙ call_last config s i t ints face seen (with_new s.core t ears) (fresh config s i ints ears) [] (new_face config s i ints ears t face seen was).1 (none_sorted ToldEntry) (opens_sound.tied s.core.config.start.told)
 
   pub all_hear : ((face : ℕ) → is_open face s.core ≡ true → is_open face w ≡ true → (key : List ℕ) → listens w ints face key ≡ listens s.core ints face key)
       → AllHear s.core ints ears → AllHear w ints (ears_after s.core w ints t ears)

@@ -19,15 +19,16 @@ use Rattle.zq_machine.specs.Neighbours.{asked_at, ended_at}
 use Rattle.zq_machine.specs.Receivers.{AllTold, AskingTold, EndingTold, FaceTold, Hears, makes_due}
 use Rattle.zq_machine.specs.State.{Core, State, at, is_open, opening_state}
 use Rattle.zq_machine.specs.TextCalls.{TextCall, announcing, declaring, opening, read}
-use Rattle.zq_machine.proofs.Agreed.{InOrder as Kept, run_in_order}
+use Rattle.zq_machine.proofs.Agreed.{InOrder as Kept, next_absent, run_in_order}
 use Rattle.zq_machine.proofs.DueLess.{accepted_less, brings, listens_stay}
 use Rattle.zq_machine.proofs.Granted.{by_granted}
-use Rattle.zq_machine.proofs.NeighbourAll.{all_hear, closed_untold, ears_sound, faces_kept, told_ordered}
+use Rattle.zq_machine.proofs.DueEnds.{closed_undue}
+use Rattle.zq_machine.proofs.NeighbourAll.{all_hear, closed_untold, ears_sound, faces_kept, new_hears, new_last, told_ordered}
 use Rattle.zq_machine.proofs.NeighbourAnswers.{asked_told, drops_none}
 use Rattle.zq_machine.proofs.NeighbourAsked.{asker_ended, asker_told, lacks_asked, none_lack, others_asked, others_ended, others_untold, untold}
-use Rattle.zq_machine.proofs.NeighbourIds.{enough, lacks_are, opens}
+use Rattle.zq_machine.proofs.NeighbourIds.{enough, lacks_are, new_face, opens}
 use Rattle.zq_machine.proofs.NeighbourTells.{tells_exactly}
-use Rattle.zq_machine.proofs.NeighbourTold.{call_told, first_there, new_beside, open_after, nothing_before, opening_told}
+use Rattle.zq_machine.proofs.NeighbourTold.{call_told, last_told, new_beside, open_after}
 
 module _ (config : Settings) (calls : List Call) where
   abbrev s : State
@@ -44,16 +45,23 @@ module _ (config : Settings) (calls : List Call) where
     exactly = tells_exactly config s i (read s c) ints face seen h.ear h.told
         (λ key off. ap (λ b. cond b (heard_there s.core face key) None) (sym (listens_stay config calls c ints face key was seen) ∙ off)) ears
         (new_beside config s i (read s c) ints face seen was ears (read s c) ∙ h.there);
+    last = last_told config s i (read s c) ints face seen was ears heard h;
   }
+
+  -- a face that is open after a call and was not before it was told nothing
+  pub comes_told : (c : Call) (ints : Interests) (ears : Ears) (face : ℕ) → is_open face s.core ≡ false → is_open face (after s c).core ≡ true
+      → FaceTold s.core (after s c).core ints (read s c) ears face (fresh_ear s.core.config.start.told) []
+  comes_told c ints ears face was seen =
+      let none : (key : List ℕ) → due s.core ints face key ≡ None = λ key. closed_undue s.core ints face key was in
+      record {
+        keeps = new_hears config s i (read s c) ints ears face seen was;
+        exactly = tells_exactly config s i (read s c) ints face seen (fresh_ear s.core.config.start.told) (λ key. sym (none key)) (λ key off. none key) ears (new_face config s i ints ears (read s c) face seen was).1;
+        last = new_last config s i (read s c) ints ears face seen was;
+      }
 
   pub new_told : (o : Opening) (ints : Interests) (ears : Ears) → is_accepted (step s (call.Open o)).outcome ≡ true
       → FaceTold s.core (after s (call.Open o)).core ints (read s (call.Open o)) ears s.core.next_face (fresh_ear s.core.config.start.told) []
-  new_told o ints ears given =
-      let none : (key : List ℕ) → due s.core ints s.core.next_face key ≡ None = nothing_before config s i o ints in
-      record {
-        keeps = opening_told config s i o ints ears given;
-        exactly = tells_exactly config s i (opening o) ints s.core.next_face (open_after config s i o ints given) (fresh_ear s.core.config.start.told) (λ key. sym (none key)) (λ key off. none key) ears (first_there config s i o ints ears);
-      }
+  new_told o ints ears given = comes_told (call.Open o) ints ears s.core.next_face (ap is_some (next_absent s i.sound)) (open_after s o given)
 
   -- ---- all faces
   no_opening : (t : TextCall) → makes_due t ≡ false → opens t ≡ false

@@ -23,11 +23,12 @@ use Rattle.zq_told.specs.declared.types.FaceDues.{FaceDues}
 use Rattle.zq_told.specs.declared.types.ToldEntry.{ToldEntry}
 use Rattle.zq_told.specs.declared.types.Way.{Way}
 use Rattle.zq_told.specs.declared.types.Way.TheVariants.{Unasked}
-use Rattle.zq_told.specs.Ears.{Ear, Ears, at_face, opened}
+use Rattle.zq_told.specs.Ears.{Ear, Ears, at_face, last_at}
 use Rattle.zq_told.specs.Telling.{KeyDue, tell_due, tell_faces}
 use Rattle.zq_told.specs.Receiver.{Heard, Tied, heard_after, heard_on, memory_of, receive}
-use Rattle.zq_told.specs.Laws.{InOrder, aim, aim_on, ear_after, is_to, keys_for, told_alone, told_in}
+use Rattle.zq_told.specs.Laws.{InOrder, aim, aim_on, ear_after, is_to, keys_for, last_given, told_alone, told_in}
 use Rattle.zq_told.proofs.Differing.{looks_up, tells_each}
+use Rattle.zq_told.proofs.Numbers.{ids_are_given}
 use Rattle.zq_told.proofs.Faces.{opens}
 use Rattle.zq_told.proofs.Hearing.{heard_is_told}
 use Rattle.zq_told.proofs.Leaving.{stays_in_order, told_aimed}
@@ -40,7 +41,7 @@ use Rattle.zq_machine.specs.Deciding.{is_accepted, opened as as_opened}
 use Rattle.zq_machine.specs.Due.{due, due_touched, heard as heard_there, is_due_touched, listens}
 use Rattle.zq_interests.specs.Interests.{Interests}
 use Rattle.zq_machine.specs.Machine.{answer, settle}
-use Rattle.zq_machine.specs.Neighbours.{due_on, dues_on, ears_after, looked_at, with_new, without_closed}
+use Rattle.zq_machine.specs.Neighbours.{due_on, dues_on, ears_after, looked_at, neighbours_told, with_new, without_closed}
 use Rattle.zq_machine.specs.Receivers.{Hears, heard_over}
 use Rattle.zq_machine.specs.State.{Core, State, at, is_open, region_in}
 use Rattle.zq_machine.specs.TextCalls.{TextCall, opening, closing}
@@ -179,6 +180,13 @@ module _ (config : Settings) (s : State) (i : Kept config s) (t : TextCall) (int
         (λ key. ap (λ ks. aim_on Unasked ks (due s.core ints face key) key) keys_are
         ∙ aims_at (due w ints face) Unasked key (looked face) (due s.core ints face key) (due w ints face key) (λ on. aimed (due w ints face key) (due s.core ints face key)) (unlooked quiet key))
 
+    -- the id given last is the greatest that the face was told of
+    pub call_last : (ears : Ears) (ear : Ear) (heard : Heard) → at_face face ears ≡ Some ear → InOrder ear.told → Tied (memory_of ear) heard
+        → last_at face (tell_due Unasked ears dues) ≡ Some (fold last_given ear.last (filter (is_to face) (tell_faces Unasked ears dues).tellings))
+    call_last ears ear heard there sorted tied =
+        ap (option_map (λ (e : Ear). e.last)) (left_here Unasked ears face ear there dues all_rise)
+        ∙ ap Some (sym (ap (fold last_given ear.last) (told_here Unasked ears face ear there dues all_rise) ∙ (ids_are_given Unasked face ear (keys_at face dues) heard sorted keys_in_order tied).1))
+
     -- ---- the face was open before
     module _ (was : is_open face s.core ≡ true) where
       pub new_beside : (ears : Ears) (x : TextCall) → at_face face (with_new s.core x ears) ≡ at_face face ears
@@ -212,37 +220,16 @@ module _ (config : Settings) (s : State) (i : Kept config s) (t : TextCall) (int
           (closed_beside (tell_due Unasked (with_new s.core t ears) dues) t seen)
           (call_hears (with_new s.core t ears) heard quiet (still_hears s.core ints ears (with_new s.core t ears) face heard (new_beside ears t) h))
 
+      pub last_told : (ears : Ears) (heard : Heard) (h : Hears s.core ints ears face heard)
+          → last_at face (ears_after s.core w ints t ears) ≡ Some (fold last_given h.ear.last (filter (is_to face) (neighbours_told s.core w ints t ears)))
+      last_told ears heard h =
+          ap (option_map (λ (e : Ear). e.last)) (closed_beside (tell_due Unasked (with_new s.core t ears) dues) t seen)
+          ∙ call_last (with_new s.core t ears) h.ear heard (new_beside ears t ∙ h.there) h.sorted h.tied
+
 -- ---- a face that a call opens
-module _ (config : Settings) (s : State) (i : Kept config s) (o : Opening) (ints : Interests) where
-  abbrev n : ℕ
-  n = s.core.next_face
-
-  abbrev new : Ear
-  new = record { last = s.core.config.start.told; told = [] }
-
-  pub open_after : is_accepted (answer s (opening o)).outcome ≡ true → is_open n (settle s (opening o)).core ≡ true
+module _ (s : State) (o : Opening) where
+  pub open_after : is_accepted (answer s (opening o)).outcome ≡ true → is_open s.core.next_face (settle s (opening o)).core ≡ true
   open_after =
-      by_granted (λ z x. is_accepted z.outcome ≡ true → is_open n x.core ≡ true) s (opening o)
-      (λ h given. ap is_some (found_after_insertion nat_cmp_total exact_unsigned n n (as_opened o) s.core.faces ∙ ap (λ b. cond b (Some (as_opened o)) (at n s.core.faces)) (itself n)))
+      by_granted (λ z x. is_accepted z.outcome ≡ true → is_open s.core.next_face x.core ≡ true) s (opening o)
+      (λ h given. ap is_some (found_after_insertion nat_cmp_total exact_unsigned s.core.next_face s.core.next_face (as_opened o) s.core.faces ∙ ap (λ b. cond b (Some (as_opened o)) (at s.core.next_face s.core.faces)) (itself s.core.next_face)))
       (λ r given. absurd (false≢true given))
-
-  pub first_there : (ears : Ears) → at_face n (opened n new.last ears) ≡ Some new
-  first_there ears = found_after_insertion nat_cmp_total exact_unsigned n n new ears ∙ ap (λ b. cond b (Some new) (at_face n ears)) (itself n)
-
-  -- before the call nothing is due to it
-  pub nothing_before : (key : List ℕ) → due s.core ints n key ≡ None
-  nothing_before key = closed_undue s.core ints n key (ap is_some (next_absent s i.sound))
-
-  first_hears : (ears : Ears) → Hears s.core ints (opened n new.last ears) n []
-  first_hears ears = record {
-    ear = new;
-    there = first_there ears;
-    sorted = none_sorted ToldEntry;
-    tied = opens.tied new.last;
-    told = λ key. sym (nothing_before key);
-  }
-
-  pub opening_told : (ears : Ears) → is_accepted (answer s (opening o)).outcome ≡ true
-      → Hears (settle s (opening o)).core ints (ears_after s.core (settle s (opening o)).core ints (opening o) ears) n (heard_over s.core (settle s (opening o)).core ints (opening o) ears n [])
-  opening_told ears given =
-      call_hears config s i (opening o) ints n (open_after given) (opened n new.last ears) [] (λ key off. nothing_before key) (first_hears ears)

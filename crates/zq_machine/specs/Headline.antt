@@ -34,7 +34,7 @@ use Rattle.zq_machine.specs.Standing.{first_routed, listed_in, routed_at, routed
 use Rattle.zq_machine.specs.Hearing.{hear}
 use Rattle.zq_machine.specs.Direct.{AreDirect}
 use Rattle.zq_machine.specs.Children.{ChildPromise}
-use Rattle.zq_machine.specs.Keeping.{KeepPromise}
+use Rattle.zq_machine.specs.Keeping.{ChangePromise, KeepPromise}
 use Rattle.zq_machine.specs.Machine.{step, steps, after, follow, state_after, refused_step}
 use Rattle.zq_machine.specs.Writing.{leaving, sent_final, write}
 
@@ -226,7 +226,7 @@ pub record KeepsPromises (s : State) (c : Call) : Type 0 where
   pub closed : (face : ℕ) → is_closed (after s c).core.queries.closed face ≡ (closes face c (step s c) || is_closed s.core.queries.closed face)
   pub refusals : RefusesBy (refusal_of s.core (read s c)) s c
 
--- what a whole run promises: each of its calls keeps its promises; the configuration stays, and what stands of each face and of the routers of each region, and which lists of gateways there are, is what the calls and their answers made of it; what a child of a root's tree knows of it is what stands of the root; what a receiver keeps at any other face is what is due to it; accepted requests, opened faces and replies are numbered one after another, and the id that was last given at a face is that of the last request handed to it; each message that it hands, but for declarations, is of a request, and each reply and final goes to the request's asker, under the asker's id; it hands one final of a request at most, and nothing of the request afterwards
+-- what a whole run promises: each of its calls keeps its promises; the configuration stays, and what stands of each face and of the routers of each region, and which lists of gateways there are, is what the calls and their answers made of it; what a child of a root's tree knows of it is what stands of the root; what a receiver keeps at any other face is what is due to it, and each call hands it the difference; no face asks to hear of a key yet; accepted requests, opened faces and replies are numbered one after another, and the id that was last given at a face is that of the last request handed to it; each message that it hands, but for declarations, is of a request, and each reply and final goes to the request's asker, under the asker's id; it hands one final of a request at most, and nothing of the request afterwards
 pub record RunPromise (config : Settings) (calls : List Call) : Type 0 where
   pub each : (before rest : List Call) (c : Call) → calls ≡ before ++ c ∷ rest → KeepsPromises (state_after (opening_state config) before) c
   pub settings : (state_after (opening_state config) calls).core.config ≡ config
@@ -235,6 +235,8 @@ pub record RunPromise (config : Settings) (calls : List Call) : Type 0 where
   pub listed : (state_after (opening_state config) calls).core.tables ≡ listed_in calls (steps config calls) []
   pub children : ChildPromise config calls
   pub neighbours : KeepPromise config calls
+  pub changes : ChangePromise config calls
+  pub unasked : (state_after (opening_state config) calls).core.interests ≡ []
   pub numbers : AreCounted config.start.requests (map asked_number (asked_in calls (steps config calls)))
   pub faces : AreCounted config.start.faces (opened_in (steps config calls))
   pub replies : AreCounted config.start.replies (replies_in (steps config calls))

@@ -9,10 +9,10 @@ use Rattle.zq_trees.specs.Tellings.{telling_cmp}
 use Rattle.zq_interests.specs.declared.types.InterestEntry.{InterestEntry}
 use Rattle.zq_interests.specs.Interests.{Interests}
 use Rattle.zq_told.specs.declared.types.Way.TheVariants.{Unasked, Answering, Ending}
-use Rattle.zq_told.specs.Ears.{Ear, Ears, at_face}
+use Rattle.zq_told.specs.Ears.{Ear, Ears, at_face, last_at}
 use Rattle.zq_told.specs.Telling.{KeyDue, lacks_ids, tell_faces}
 use Rattle.zq_told.specs.Receiver.{Heard, Tied, heard_after, memory_of, receive}
-use Rattle.zq_told.specs.Laws.{InOrder, differs, is_to, told_in, told_info}
+use Rattle.zq_told.specs.Laws.{InOrder, differs, is_to, last_given, told_in, told_info}
 use Rattle.zq_told.specs.Leaving.{AreSound, HaveIds, is_too_great, news_of}
 use Rattle.zq_machine.specs.Deciding.{refusal_of}
 use Rattle.zq_machine.specs.Due.{due, due_keys}
@@ -76,10 +76,11 @@ makes_due t = false
 
 -- ---- the laws
 
--- a call that is no interest, and one face: its receiver keeps afterwards what is due then; and it is told the difference between what it was told and what is due, over any keys in order that have all on which there is one
+-- a call that is no interest, and one face: its receiver keeps afterwards what is due then; and it is told the difference between what it was told and what is due, over any keys in order that have all on which there is one; the id given last is then the greatest that it was told of
 pub record FaceTold (before after : Core) (ints : Interests) (t : TextCall) (ears : Ears) (face : ℕ) (ear : Ear) (heard : Heard) : Type 0 where
   pub keeps : Hears after ints (ears_after before after ints t ears) face (heard_over before after ints t ears face heard)
   pub exactly : (keys : List (List ℕ)) → HaveChanges after ints face ear keys → told_in Unasked face ear (map (due_on after ints face) keys) ≡ filter (is_to face) (neighbours_told before after ints t ears)
+  pub last : last_at face (ears_after before after ints t ears) ≡ Some (fold last_given ear.last (filter (is_to face) (neighbours_told before after ints t ears)))
 
 -- such a call, and all faces: what is told stands in order of faces and keys, and is told to open faces alone; what is kept of faces stays sound, and of open faces alone; what receivers keep stays due; ids lack exactly where they lack to some open face, and never to a call that opens no face and declares nothing
 pub record AllTold (before after : Core) (ints : Interests) (t : TextCall) (ears : Ears) : Type 0 where
