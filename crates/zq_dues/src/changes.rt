@@ -78,15 +78,7 @@ pub fn dues_on_all<A: Asking>(
     ensures { (c : Core) (ints : Interests) → c.faces ≡ faces_but but faces.now.entries → AskFor (A.asks asking.now) ints → ((key : List ℕ) → hats_next next.now key hats.now ≡ c.hats) → IfOk result (λ ds. ds ≡ looked_over c ints (fold (insert_key text_cmp) [] keys.now)) }
 {
     let keys = sorted(alloc, keys)?;
-    dues_over(
-        alloc,
-        faces,
-        but,
-        hats,
-        Some(next),
-        asking,
-        keys.as_slice(),
-    )
+    dues_over(alloc, faces, but, hats, Some(next), asking, keys.as_slice())
 }
 
 /// What will be due to the other faces where a face leaves its hat.

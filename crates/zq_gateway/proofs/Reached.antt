@@ -25,7 +25,7 @@ use Rattle.zq_machine.proofs.Agreeing.{some_of}
 use Rattle.zq_machine.proofs.Changing.{itself, number_test}
 use Rattle.zq_machine.proofs.Frame.{run_config}
 use Rattle.zq_machine.proofs.Keeping.{Keeps, run_keeps}
-use Rattle.zq_machine.specs.Keeping.{kept_in}
+use Rattle.zq_machine.specs.Keeping.{heard_in, last_in}
 use Rattle.zq_gateway.specs.Making.{Answers, IsReached, MayPerform}
 use Rattle.zq_gateway.proofs.Hearing.{enough_told}
 use Rattle.zq_own.specs.Seats.{seats}
@@ -60,8 +60,8 @@ pub reached_in_order : (s : State) (i : IsReached s) → InOrder i.config s
 reached_in_order s i = subst (InOrder i.config) (sym i.here) (run_in_order i.config i.calls)
 
 -- what is kept of each open face is what is due to it
-pub reached_keeps : (s : State) (i : IsReached s) → Keeps s.core (λ face. kept_in face (opening_state i.config) i.calls [])
-reached_keeps s i = subst (λ (z : State). Keeps z.core (λ face. kept_in face (opening_state i.config) i.calls [])) (sym i.here) (run_keeps i.config i.low i.calls)
+pub reached_keeps : (s : State) (i : IsReached s) → Keeps i.config.start.told s.core (λ face. heard_in face i.config i.calls) (λ face. last_in face i.config i.calls)
+reached_keeps s i = subst (λ (z : State). Keeps i.config.start.told z.core (λ face. heard_in face i.config i.calls) (λ face. last_in face i.config i.calls)) (sym i.here) (run_keeps i.config i.low i.calls)
 
 gone : {X : Type 0} (o : Option X) → is_some o ≡ false → o ≡ None
 gone None e = refl
