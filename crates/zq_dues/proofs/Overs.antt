@@ -1,46 +1,27 @@
 -- What a call looks at over all faces, and what it looks at in a face that it opens.
-use Rattle.std.proofs.Common.{◌≡◌, ◌∙◌, refl, sym, ap, subst, ℕ, Bool, true, false, cond, not, eqb, eq-eqb, true≢false, List, [], ◌∷◌, ◌++◌, append-nil, map, filter, Option, Some, None}
-use Rattle.std.specs.Prelude.{◌==◌}
-use Rattle.std.specs.BTreeMap.{insert_entry, is_at}
+use Rattle.std.proofs.Common.{◌≡◌, ◌∙◌, refl, sym, ap, subst, ℕ, Bool, true, false, cond, not, List, [], ◌∷◌, ◌++◌, append-nil, filter, Option, Some, None}
+use Rattle.std.specs.BTreeMap.{is_at}
 use Rattle.std.specs.List.{AllByRecursion, flat_map}
 use Rattle.std.specs.List.Sorted.{IsStrictlySortedBy}
-use Rattle.std.specs.Map.{keys_of, remove_entry}
-use Rattle.std.specs.Option.{is_some, option_and_then, option_map, option_map_or}
-use Rattle.std.specs.Ordering.{is_eq, match_ordering, nat_cmp}
-use Rattle.std.specs.declared.cmp.Ordering.{Ordering}
-use Rattle.std.specs.declared.cmp.Ordering.TheVariants.{Less, Equal, Greater}
+use Rattle.std.specs.Map.{keys_of}
+use Rattle.std.specs.Ordering.{nat_cmp}
 use Rattle.std.specs.Cmp.{nat_cmp_total}
 use Rattle.std.proofs.lemmas.Map.Lookups.{exact_unsigned}
 use Rattle.zq_message.specs.declared.message.FaceId.{FaceId}
-use Rattle.zq_message.specs.declared.message.QueryableInfoType.{QueryableInfoType}
-use Rattle.zq_message.specs.declared.message.Region.{Region}
-use Rattle.zq_key.proofs.Lookups.{each_entry, found_after_insertion}
+use Rattle.zq_key.proofs.Lookups.{each_entry}
 use Rattle.zq_key.proofs.Sorted.{sorted_out}
-use Rattle.zq_regions.specs.Region.{region_index}
-use Rattle.zq_index.specs.Infos.{joined}
-use Rattle.zq_index.proofs.Merges.{joined_none}
-use Rattle.zq_hat.specs.declared.types.FaceRecord.{FaceRecord}
-use Rattle.zq_hat.specs.declared.types.Strategy.{Strategy}
-use Rattle.zq_hat.specs.Fellows.{fellow_info, with_fellow}
-use Rattle.zq_hat.specs.Kept.{face_at, faces_info, has_face, new_face, region_info, routers_info, with_face as with_face_info, with_face_opened}
-use Rattle.zq_hat.specs.Regions.{in_routers, strategy_at}
-use Rattle.zq_hat.specs.State.{FaceState, HatState}
+use Rattle.zq_hat.specs.State.{HatState}
 use Rattle.zq_query.proofs.Counts.{removed_by_filter}
 use Rattle.zq_told.specs.declared.types.FaceDues.{FaceDues}
-use Rattle.zq_interests.specs.Interests.{Interests, asks_for, meets}
-use Rattle.zq_machine.specs.declared.call.Opening.{Opening}
+use Rattle.zq_interests.specs.Interests.{Interests, asks_for}
 use Rattle.zq_machine.specs.declared.face.OpenFace.{OpenFace}
-use Rattle.zq_machine.specs.Deciding.{opened, seat, with_face}
-use Rattle.zq_machine.specs.Due.{due_keys, due_touched, heard_as, heard_by, heard_in}
-use Rattle.zq_machine.specs.Neighbours.{dues_on, looked_at, looked_by, looked_over, with_dues}
-use Rattle.zq_machine.specs.State.{Core, at, change_hat, hat_at, joined as join, put_hat}
-use Rattle.zq_machine.specs.TextCalls.{opening}
-use Rattle.zq_machine.specs.Trees.{own_entry, with_other}
-use Rattle.zq_machine.proofs.Changing.{hat_here, number_test, region_there}
-use Rattle.zq_machine.proofs.Folding.{fold_put, fold_set}
+use Rattle.zq_machine.specs.Deciding.{opened}
+use Rattle.zq_machine.specs.Neighbours.{dues_on, looked_by, looked_over, with_dues}
+use Rattle.zq_machine.specs.State.{Core, at}
+use Rattle.zq_machine.proofs.Changing.{number_test}
 use Rattle.zq_dues.specs.declared.types.HatChange.{HatChange}
-use Rattle.zq_dues.specs.Dues.{all_keys, due_as, dues_as, hats_after, hears_as, listens_as}
-use Rattle.zq_dues.specs.Over.{AreAfter, IsOpening, faces_but, is_gone, looked_as, looked_over_as}
+use Rattle.zq_dues.specs.Dues.{hats_after}
+use Rattle.zq_dues.specs.Over.{AreAfter, faces_but, is_gone, looked_over_as}
 use Rattle.zq_dues.proofs.Nexts.{dues_are}
 
 -- ---- all faces but the one that a closing takes away

@@ -1,9 +1,9 @@
 -- What a call looks at does not hang on what is kept of faces; and no call lacks ids for what it tells that opens no face and declares nothing.
-use Rattle.std.proofs.Common.{◌≡◌, ◌∙◌, refl, sym, ap, ℕ, true, false, Bool, List, Option, Some, None, true≢false}
+use Rattle.std.proofs.Common.{◌≡◌, ◌∙◌, refl, sym, ap, ℕ, true, false, List, None, true≢false}
 use Rattle.std.specs.Prelude.{◌<◌, ◌^◌}
 use Rattle.std.specs.Option.{is_some}
 use Rattle.zq_told.specs.declared.types.Way.TheVariants.{Unasked}
-use Rattle.zq_told.specs.Leaving.{AreSound, HaveIds}
+use Rattle.zq_told.specs.Leaving.{AreSound}
 use Rattle.zq_told.specs.Telling.{lacks_ids}
 use Rattle.zq_machine.specs.Configs.{Settings}
 use Rattle.zq_machine.specs.Deciding.{accepted, kept, lacks_told, refusal_of}

@@ -1,5 +1,5 @@
 -- What refuses an opening, what it is told, and what it leaves.
-use Rattle.std.proofs.Common.{◌≡◌, ◌∙◌, refl, sym, ap, ℕ, true, false, not, cond, List, [], ◌∷◌, map, Some, None}
+use Rattle.std.proofs.Common.{◌≡◌, ◌∙◌, refl, sym, ap, true, false, not, cond, List, [], ◌∷◌, map, Some, None}
 use Rattle.zq_trees.specs.declared.types.Telling.{Telling as TreeTelling}
 use Rattle.zq_trees.specs.Tellings.{in_order}
 use Rattle.zq_tables.specs.Naming.{NamingState}

@@ -25,21 +25,19 @@ use Rattle.zq_machine.specs.declared.call.Call.TheVariants as call
 use Rattle.zq_machine.specs.Children.{ChildPromise, StaysChild, is_child, is_child_in, is_face_of, known_after, known_in, root_place, said_for, speaks_for, stands_of, with_heard_of, with_news}
 use Rattle.zq_machine.specs.Configs.{Settings}
 use Rattle.zq_interests.specs.Interests.{asks_for}
-use Rattle.zq_machine.specs.Agreeing.{stands_in}
 use Rattle.zq_machine.specs.Deciding.{accepted, causes, granted, is_accepted, refusal_of, renamed, told_of}
 use Rattle.zq_machine.specs.Due.{listens_by, listens_in}
 use Rattle.zq_machine.specs.Hearing.{hear}
 use Rattle.zq_machine.specs.Machine.{accepted_state, after, follow, state_after}
 use Rattle.zq_machine.specs.Messages.{key_ended, key_told}
 use Rattle.zq_machine.specs.Selecting.{full_text}
-use Rattle.zq_machine.specs.declared.face.OpenFace.{OpenFace}
 use Rattle.zq_machine.specs.State.{Core, State, at, hat_at, hat_of, opening_state}
 use Rattle.zq_machine.specs.TextCalls.{TextCall, announcing, retracting, networking, read}
 use Rattle.zq_machine.specs.Trees.{all_own_told, own_entry, touched, tree_told}
 use Rattle.zq_machine.proofs.Agreed.{InOrder, granted_in_order, numbered_in_order, run_in_order}
 use Rattle.zq_machine.proofs.Agreeing.{some_of}
 use Rattle.zq_machine.proofs.Always.{after_kept}
-use Rattle.zq_machine.proofs.Changing.{hat_here, number_test, one_number, region_there}
+use Rattle.zq_machine.proofs.Changing.{hat_here, region_there}
 use Rattle.zq_machine.proofs.Finals.{is_there}
 use Rattle.zq_machine.proofs.Foreign.{entries_kept, entry_put, entry_taken, listed, of_routers}
 use Rattle.zq_machine.proofs.Frame.{accepted_config, config_kept, run_config}

@@ -4,7 +4,7 @@ use Rattle.std.specs.Prelude.{◌==◌}
 use Rattle.std.specs.BTreeMap.{is_at}
 use Rattle.std.specs.BTreeSet.{insert_key}
 use Rattle.std.specs.Cmp.{IsTotalOrder, nat_cmp_total, on_total, then_total}
-use Rattle.std.specs.List.{AllByRecursion, list_any}
+use Rattle.std.specs.List.{AllByRecursion}
 use Rattle.std.specs.List.Sorted.{IsStrictlySortedBy}
 use Rattle.std.specs.Option.{is_some, option_and_then, option_map}
 use Rattle.std.proofs.lemmas.Option.{same_Some}
@@ -31,21 +31,19 @@ use Rattle.zq_told.specs.Laws.{is_to, last_given, told_in}
 use Rattle.zq_told.specs.Leaving.{AreSound, fresh_ear}
 use Rattle.zq_told.proofs.Faces.{opens, stay_sound}
 use Rattle.zq_told.proofs.Slotted.{none_sorted}
-use Rattle.zq_tables.specs.Naming.{NamingState, naming_at}
 use Rattle.zq_machine.specs.declared.call.Call.{Call}
 use Rattle.zq_machine.specs.declared.face.OpenFace.{OpenFace}
 use Rattle.zq_machine.specs.Configs.{Settings}
-use Rattle.zq_machine.specs.Deciding.{accepted, changed, causes, granted, is_accepted, lacks_told, opened, refusal_of, renamed, told_of}
+use Rattle.zq_machine.specs.Deciding.{accepted, changed, causes, is_accepted, lacks_told, opened, refusal_of, renamed, told_of}
 use Rattle.zq_machine.specs.Due.{listens}
 use Rattle.zq_machine.specs.Hearing.{CanBeTold, hear}
 use Rattle.zq_machine.specs.Keeping.{ChangePromise, IsKept, IsNear, KeepPromise, TellsChanges, greater, heard_in, is_told, kept_after, kept_in, last_in, said_by, with_heard, with_id, with_told}
-use Rattle.zq_machine.specs.Machine.{accepted_state, after, follow, settle, state_after, step}
+use Rattle.zq_machine.specs.Machine.{accepted_state, after, follow, state_after, step}
 use Rattle.zq_machine.specs.Messages.{Telling, TellingBody, from_hat, told_or_ended}
 use Rattle.zq_machine.specs.Neighbours.{due_on, ears_after, looked_at, neighbours_lack, neighbours_told, with_new, without_closed}
 use Rattle.zq_machine.specs.Receivers.{AllHear, AllTold, AreOfOpen, FaceTold, HaveChanges, Hears, makes_due}
 use Rattle.zq_machine.specs.State.{Core, State, at, hat_at, hat_of, is_open, opening_state}
-use Rattle.zq_machine.specs.TextCalls.{TextCall, opening, closing, naming, unnaming, declaring, withdrawing, asking, replying, ending, reporting, passing, listing, finalizing, announcing, retracting, networking, tabling, unbuilt, by_router, read}
-use Rattle.zq_machine.specs.Writing.{write}
+use Rattle.zq_machine.specs.TextCalls.{TextCall, opening, closing, declaring, withdrawing, asking, replying, ending, reporting, passing, listing, finalizing, announcing, retracting, networking, tabling, read}
 use Rattle.zq_machine.proofs.Agreed.{InOrder, granted_in_order, run_in_order}
 use Rattle.zq_machine.proofs.Agreeing.{some_of}
 use Rattle.zq_machine.proofs.Changing.{number_test, one_number}
@@ -53,7 +51,7 @@ use Rattle.zq_machine.proofs.Children.{after_both}
 use Rattle.zq_machine.proofs.DueHeard.{due_trees}
 use Rattle.zq_machine.proofs.DueLess.{listens_kept}
 use Rattle.zq_machine.proofs.Frame.{run_config}
-use Rattle.zq_machine.proofs.Granted.{all_passed, by_granted, settles_told, told_by}
+use Rattle.zq_machine.proofs.Granted.{all_passed, by_granted, settles_told}
 use Rattle.zq_machine.proofs.Lists.{all_weaker}
 use Rattle.zq_machine.proofs.NeighbourAll.{new_sound}
 use Rattle.zq_machine.proofs.NeighbourLaws.{all_told, comes_told, face_told}

@@ -20,7 +20,6 @@ use Rattle.zq_key.proofs.Lookups.{found_after_insertion, found_after_removal}
 use Rattle.zq_index.specs.Texts.{text_cmp}
 use Rattle.zq_trees.specs.declared.types.Telling.{Telling}
 use Rattle.zq_told.specs.declared.types.FaceDues.{FaceDues}
-use Rattle.zq_told.specs.declared.types.ToldEntry.{ToldEntry}
 use Rattle.zq_told.specs.declared.types.Way.{Way}
 use Rattle.zq_told.specs.declared.types.Way.TheVariants.{Unasked}
 use Rattle.zq_told.specs.Ears.{Ear, Ears, at_face, last_at}
@@ -33,7 +32,6 @@ use Rattle.zq_told.proofs.Faces.{opens}
 use Rattle.zq_told.proofs.Hearing.{heard_is_told}
 use Rattle.zq_told.proofs.Leaving.{stays_in_order, told_aimed}
 use Rattle.zq_told.proofs.Settling.{keeps_up}
-use Rattle.zq_told.proofs.Slotted.{none_sorted}
 use Rattle.zq_machine.specs.declared.call.Opening.{Opening}
 use Rattle.zq_machine.specs.declared.face.OpenFace.{OpenFace}
 use Rattle.zq_machine.specs.Configs.{Settings}
@@ -48,7 +46,6 @@ use Rattle.zq_machine.specs.TextCalls.{TextCall, opening, closing}
 use Rattle.zq_machine.proofs.Agreed.{InOrder as Kept, accepted_in_order, next_absent}
 use Rattle.zq_machine.proofs.Agreeing.{some_of}
 use Rattle.zq_machine.proofs.Changing.{is_other, itself, number_test, one_number}
-use Rattle.zq_machine.proofs.DueEnds.{closed_undue}
 use Rattle.zq_machine.proofs.DueKeys.{among, is_among, keys_rise}
 use Rattle.zq_machine.proofs.Dues.{due_kept}
 use Rattle.zq_machine.proofs.Granted.{by_granted, closed_after}

@@ -1,5 +1,5 @@
 -- What is told along trees is told to faces in regions of routers alone: they hear nothing of what is due to neighbours, whatever they ask.
-use Rattle.std.proofs.Common.{◌≡◌, ◌∙◌, refl, sym, ap, subst, ℕ, Bool, true, false, cond, List, [], ◌∷◌, ◌++◌, Option, Some, None, ◌⊎◌, inl, inr, true≢false}
+use Rattle.std.proofs.Common.{◌≡◌, ◌∙◌, refl, sym, ap, subst, ℕ, Bool, true, false, cond, List, [], ◌∷◌, Option, Some, None, ◌⊎◌, inl, inr, true≢false}
 use Rattle.std.specs.Prelude.{◌==◌, ◌||◌}
 use Rattle.std.specs.List.{AllByRecursion, list_any}
 use Rattle.std.specs.Option.{is_some, option_and_then, option_map_or}
@@ -36,7 +36,7 @@ use Rattle.zq_machine.specs.State.{Core, State, at, hat_at, hat_of, is_open, is_
 use Rattle.zq_machine.specs.TextCalls.{TextCall, announcing, by_router, declaring, networking, read, retracting, said, said_or_none, withdrawing}
 use Rattle.zq_machine.specs.Trees.{all_own_told, networked_told, own_entries, placed_told, router_told, source_told, touched, tree_told}
 use Rattle.zq_machine.proofs.Agreed.{InOrder}
-use Rattle.zq_machine.proofs.Agreeing.{Tied, some_of}
+use Rattle.zq_machine.proofs.Agreeing.{Tied}
 use Rattle.zq_machine.proofs.Changing.{hat_found, itself, number_test, one_number}
 use Rattle.zq_machine.proofs.DueHeard.{AlongTree, RouterSeats, children_can, due_trees, own_all_can, own_entries_keyed, placed_can, touched_texts, worded_at}
 use Rattle.zq_machine.proofs.DueLess.{listens_kept}

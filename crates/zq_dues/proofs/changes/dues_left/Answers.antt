@@ -1,4 +1,4 @@
-use Rattle.std.proofs.Common.{◌≡◌, ◌∙◌, ap, subst, ℕ, List, [], IfOk, fold}
+use Rattle.std.proofs.Common.{◌≡◌, ◌∙◌, subst, ℕ, List, [], IfOk, fold}
 use Rattle.std.specs.BTreeSet.{insert_key}
 use Rattle.zq_index.specs.Texts.{text_cmp}
 use Rattle.zq_told.specs.declared.types.FaceDues.{FaceDues}

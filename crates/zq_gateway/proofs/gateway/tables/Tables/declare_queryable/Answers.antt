@@ -1,7 +1,6 @@
-use Rattle.std.proofs.Common.{◌≡◌, ◌∙◌, refl, sym, ap, Err, subst, List, ℕ, [], ◌∷◌, ◌++◌, map, IfErr, IfOk, Option, None, Some, Result, true, false, not}
+use Rattle.std.proofs.Common.{◌≡◌, ◌∙◌, refl, sym, ap, Err, subst, List, ℕ, [], ◌∷◌, map, IfErr, IfOk, Option, None, Some, Result, true, false, not}
 use Rattle.std.specs.Option.{is_none, is_some}
 use Rattle.zq_key.specs.Key.{is_key}
-use Rattle.zq_trees.specs.declared.types.Telling.{Telling as TreeTelling}
 use Rattle.zq_trees.specs.Tellings.{in_order}
 use Rattle.zq_hat.specs.Kept.{clashes_at, registered}
 use Rattle.zq_tables.specs.Naming.{NamingState, change_naming, face_queryables, text_at, with_queryable}

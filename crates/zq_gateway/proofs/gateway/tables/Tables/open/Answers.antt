@@ -1,4 +1,4 @@
-use Rattle.std.proofs.Common.{◌≡◌, ◌∙◌, refl, sym, ap, Err, subst, List, [], true, false, map, Some, None, arith, rules}
+use Rattle.std.proofs.Common.{◌≡◌, ◌∙◌, refl, sym, ap, Err, subst, [], true, false, map, Some, arith, rules}
 use Rattle.std.specs.Prelude.{◌+◌, ◌==◌, ◌^◌}
 use Rattle.std.specs.BTreeMap.{insert_entry, is_at}
 use Rattle.std.specs.Map.{remove_entry}
@@ -17,7 +17,7 @@ use Rattle.zq_told.specs.Telling.{put_plan}
 use Rattle.zq_machine.specs.declared.call.Opening.{Opening}
 use Rattle.zq_machine.specs.declared.call.Outcome.TheVariants as outcome
 use Rattle.zq_machine.specs.declared.call.Refusal.TheVariants as refusal
-use Rattle.zq_machine.specs.Deciding.{accepted, lacks_face_number, opened, with_face, with_numbers, with_open}
+use Rattle.zq_machine.specs.Deciding.{accepted, lacks_face_number, opened, with_face, with_numbers}
 use Rattle.zq_machine.specs.Messages.{from_hat}
 use Rattle.zq_hat.specs.declared.types.FaceRecord.{FaceRecord}
 use Rattle.zq_own.specs.Seats.{seats}

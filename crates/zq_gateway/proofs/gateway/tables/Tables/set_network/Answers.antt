@@ -1,5 +1,5 @@
 use Rattle.std.specs.Prelude.{option_copied}
-use Rattle.std.proofs.Common.{◌≡◌, ◌∙◌, refl, sym, ap, Err, subst, rules, ℕ, ◌++◌, List, [], map, fold, Some, true≢false}
+use Rattle.std.proofs.Common.{◌≡◌, ◌∙◌, refl, sym, ap, Err, subst, ℕ, ◌++◌, List, [], map, fold, Some, true≢false}
 use Rattle.std.specs.BTreeSet.{insert_key}
 use Rattle.zq_index.specs.Texts.{text_cmp}
 use Rattle.zq_machine.specs.Neighbours.{looked_over}

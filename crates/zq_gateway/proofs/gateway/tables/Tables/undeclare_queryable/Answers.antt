@@ -1,22 +1,18 @@
-use Rattle.std.proofs.Common.{◌≡◌, ◌∙◌, refl, sym, ap, Err, ℕ, List, [], ◌++◌, map, Some, true, false, true≢false}
-use Rattle.zq_trees.specs.declared.types.Telling.{Telling as TreeTelling}
+use Rattle.std.proofs.Common.{◌≡◌, ◌∙◌, refl, sym, ap, Err, List, [], map, Some, true≢false}
 use Rattle.zq_trees.specs.Tellings.{in_order}
 use Rattle.zq_hat.specs.Kept.{unregistered}
-use Rattle.zq_hat.specs.State.{HatState}
 use Rattle.zq_tables.specs.Naming.{NamingState}
-use Rattle.zq_told.specs.declared.types.FaceDues.{FaceDues}
-use Rattle.zq_told.specs.Ears.{Ears}
 use Rattle.zq_told.specs.Rooms.{ears_of}
 use Rattle.zq_told.specs.Telling.{put_plan}
 use Rattle.zq_machine.specs.Deciding.{accepted}
 use Rattle.zq_machine.specs.Handing.{Handed}
 use Rattle.zq_machine.specs.Messages.{from_hat}
-use Rattle.zq_machine.specs.State.{Core, State, change_hat, face_region, hat_at}
+use Rattle.zq_machine.specs.State.{State, change_hat, face_region, hat_at}
 use Rattle.zq_machine.specs.TextCalls.{withdrawing}
 use Rattle.zq_machine.specs.Writing.{tell}
 use Rattle.zq_handing.specs.Neighbours.{told_with}
 use Rattle.zq_handing.specs.Telling.{behind}
-use Rattle.zq_gateway.proofs.Due.{Gathers, changed_home, due_of_keys, gathered_due, gathered_lacks, gathered_left, withdrawal_fits, withdrawal_gathers, withdrawn_answered, withdrawn_left}
+use Rattle.zq_gateway.proofs.Due.{changed_home, due_of_keys, gathered_due, gathered_lacks, gathered_left, withdrawal_fits, withdrawal_gathers, withdrawn_answered, withdrawn_left}
 use Rattle.zq_gateway.proofs.Reached.{reached_enough}
 use Rattle.zq_gateway.proofs.gateway.tables.Tables.undeclare_queryable.Goals as goal
 
