@@ -1,5 +1,5 @@
 -- Faces and replies are numbered one after another.
-use Rattle.std.proofs.Common.{◌≡◌, ◌∙◌, refl, sym, ap, subst, ℕ, ◌+◌, Bool, true, false, cond, List, [], ◌∷◌, ◌++◌, fold, map, Option, Some, None, append_assoc, append-nil, arith}
+use Rattle.std.proofs.Common.{◌≡◌, ◌∙◌, refl, sym, ap, subst, ℕ, ◌+◌, Bool, true, false, cond, List, [], ◌∷◌, ◌++◌, fold, map, Option, Some, None, append_assoc, append-nil, arith, length, length-append}
 use Rattle.std.specs.List.{cons_option, filter_map, flat_map}
 use Rattle.std.specs.Option.{is_some, option_map}
 use Rattle.zq_message.specs.declared.message.FaceId.{FaceId}
@@ -23,7 +23,7 @@ use Rattle.zq_machine.specs.declared.face.OpenFace.{OpenFace}
 use Rattle.zq_machine.specs.Asked.{AreCounted, opened_by, opened_in, replies_in, replies_of, reply_number}
 use Rattle.zq_machine.specs.Configs.{Settings}
 use Rattle.zq_machine.specs.Deciding.{accepted, after_replied, granted, handed_reply, handed_request, handed_requests, handed_timeouts, passing_finals, replied, replied_outcome, timed_out as text_timeout}
-use Rattle.zq_machine.specs.Machine.{after, step, steps_from}
+use Rattle.zq_machine.specs.Machine.{after, state_after, step, steps_from}
 use Rattle.zq_machine.specs.Messages.{text_final}
 use Rattle.zq_machine.specs.Selecting.{full_text, select}
 use Rattle.zq_machine.specs.State.{State, opening_state}
@@ -52,6 +52,23 @@ faces_counted config calls =
     counted_run (λ s. s.core.next_face) (λ t. opened_by t.outcome)
     (λ s c rest. by_granted (λ t z. AreCounted z.core.next_face rest → AreCounted s.core.next_face (opened_by t.outcome ++ rest)) s (read s c) (λ h. opens_next s (read s c) rest) (λ r are. are))
     calls (opening_state config)
+
+-- the next number is the one after those
+many_opened : (s : State) (t : TextCall) → (accepted s.core t).next_face ≡ s.core.next_face + length (opened_by (granted s.core t).outcome)
+many_opened s (opening o) = refl
+many_opened s (replying face sd r) = (let e : s.core.next_face ≡ s.core.next_face + 0 = omega arith in e) ∙ ap (λ (l : List ℕ). s.core.next_face + length l) (sym (none_opened (next_reply face.0 r.rid s.core.queries)))
+many_opened s (closing face) = let e : s.core.next_face ≡ s.core.next_face + 0 = omega arith in e
+many_opened s (asking face sd r now) = let e : s.core.next_face ≡ s.core.next_face + 0 = omega arith in e
+many_opened s t = let e : s.core.next_face ≡ s.core.next_face + 0 = omega arith in e
+
+pub faces_next : (cs : List Call) (s : State) → (state_after s cs).core.next_face ≡ s.core.next_face + length (opened_in (steps_from s cs))
+faces_next [] s = let e : s.core.next_face ≡ s.core.next_face + 0 = omega arith in e
+faces_next (c ∷ cs) s =
+    let one : (after s c).core.next_face ≡ s.core.next_face + length (opened_by (step s c).outcome) =
+    by_granted (λ t z. z.core.next_face ≡ s.core.next_face + length (opened_by t.outcome)) s (read s c) (λ h. many_opened s (read s c)) (λ r. (let e : s.core.next_face ≡ s.core.next_face + 0 = omega arith in e)) in
+    let all = faces_next cs (after s c) in
+    let both : length (opened_by (step s c).outcome ++ opened_in (steps_from (after s c) cs)) ≡ length (opened_by (step s c).outcome) + length (opened_in (steps_from (after s c) cs)) = length-append (opened_by (step s c).outcome) (opened_in (steps_from (after s c) cs)) in
+    omega (arith, one, all, both)
 
 -- ---- replies
 module _ (names : NamingState) where

@@ -1,5 +1,5 @@
 -- Calls are answered by their kind. What they hand is of the kinds that they may hand, has a reply number where it is a reply, and leaves as it is; and finals stand by number.
-use Rattle.std.proofs.Common.{◌≡◌, refl, sym, ap, subst, ℕ, Bool, true, false, List, [], ◌∷◌, ◌++◌, map, Option, Some, None}
+use Rattle.std.proofs.Common.{◌≡◌, ◌∙◌, refl, sym, ap, subst, ℕ, Bool, true, false, cond, not, List, [], ◌∷◌, ◌++◌, map, Option, Some, None}
 use Rattle.std.specs.Prelude.{◌||◌}
 use Rattle.std.specs.List.{AllByRecursion, cons_option, filter}
 use Rattle.std.specs.List.Sorted.{IsStrictlySortedBy}
@@ -27,13 +27,14 @@ use Rattle.zq_machine.specs.declared.face.OpenFace.{OpenFace}
 use Rattle.zq_machine.specs.Agreeing.{number_of}
 use Rattle.zq_machine.specs.Asked.{asked_number, is_declaration}
 use Rattle.zq_machine.specs.Deciding.{accepted, granted, renamed, told_of, is_accepted, handed_reply, handed_request, handed_requests, handed_timeouts, passing_finals, replied, timed_out}
-use Rattle.zq_machine.specs.Headline.{AnswerPromise, IsFit, ended_by, ended_in, is_final, is_request, is_response, may_hand}
+use Rattle.zq_machine.specs.Handing.{Handed}
+use Rattle.zq_machine.specs.Headline.{AnswerPromise, IsFit, declares, ended_by, ended_in, is_final, is_of_request, is_request, is_response, may_hand}
 use Rattle.zq_machine.specs.Machine.{step}
-use Rattle.zq_machine.specs.Messages.{TextMessage, text_final}
+use Rattle.zq_machine.specs.Messages.{TextMessage, text_final, text_reply, text_request}
 use Rattle.zq_machine.specs.Selecting.{full_text, select}
 use Rattle.zq_machine.specs.State.{Core, State}
 use Rattle.zq_machine.specs.TextCalls.{TextCall, opening, closing, declaring, withdrawing, asking, replying, ending, reporting, passing, announcing, retracting, networking, read}
-use Rattle.zq_machine.specs.Writing.{write}
+use Rattle.zq_machine.specs.Writing.{write, written}
 use Rattle.zq_machine.proofs.Granted.{by_granted, mapped_beside, told_by}
 use Rattle.zq_machine.proofs.Lists.{all_append, sorted_left, sorted_numbers}
 use Rattle.zq_machine.proofs.Reading.{declare_read, withdraw_read}
@@ -81,11 +82,11 @@ module _ (names : NamingState) (may : Message → Bool) where
 
   finals_fit : ((m : Message) → is_final m ≡ true → may m ≡ true) → (fs : List Final) → AllFit (map text_final fs)
   finals_fit gives [] = tt
-  finals_fit gives (f ∷ fs) = (record { flying = refl; out = refl; kind = gives _ refl }, finals_fit gives fs)
+  finals_fit gives (f ∷ fs) = (record { number = refl; flying = refl; out = refl; kind = gives _ refl }, finals_fit gives fs)
 
   requests_fit : ((m : Message) → is_request m ≡ true → may m ≡ true) → (q : QueryState) (text : List ℕ) (r : Request) (os : List QueryTargetQabl) → AllFit (map (handed_request q text r) os)
   requests_fit gives q text r [] = tt
-  requests_fit gives q text r (o ∷ os) = (record { flying = refl; out = refl; kind = gives _ refl }, requests_fit gives q text r os)
+  requests_fit gives q text r (o ∷ os) = (record { number = refl; flying = refl; out = refl; kind = gives _ refl }, requests_fit gives q text r os)
 
   replied_fit : ((m : Message) → is_response m ≡ true → may m ≡ true) → (text : List ℕ) (r : Response) (o : Option ReplyTo) → AllFit (replied text r o)
   replied_fit gives text r None = tt
@@ -93,7 +94,7 @@ module _ (names : NamingState) (may : Message → Bool) where
     where
       by : (o : Option ℕ) → AllFit (cons_option (option_map (handed_reply text r to) o) [])
       by None = tt
-      by (Some k) = (record { flying = refl; out = refl; kind = gives _ refl }, tt)
+      by (Some k) = (record { number = refl; flying = refl; out = refl; kind = gives _ refl }, tt)
 
   passed_fit : ((m : Message) → is_response m ≡ true → may m ≡ true) → (faces : List (ℕ × OpenFace)) (ts : List Timeout) (rest : List TextMessage) → AllFit rest → AllFit (handed_timeouts faces ts ++ rest)
   passed_fit gives faces [] rest fit = fit
@@ -101,10 +102,10 @@ module _ (names : NamingState) (may : Message → Bool) where
     where
       by : (o : Option ℕ) → AllFit (handed_timeouts faces ts ++ rest) → AllFit ((cons_option (option_map (timed_out faces t) o) [] ++ handed_timeouts faces ts) ++ rest)
       by None ih = ih
-      by (Some k) ih = (record { flying = refl; out = refl; kind = gives _ refl }, ih)
+      by (Some k) ih = (record { number = refl; flying = refl; out = refl; kind = gives _ refl }, ih)
 
   requested_fit : ((m : Message) → is_request m ≡ true → may m ≡ true) → ((m : Message) → is_final m ≡ true → may m ≡ true) → (q : QueryState) (face : FaceId) (text : List ℕ) (r : Request) (os : List QueryTargetQabl) → AllFit (handed_requests q face text r os)
-  requested_fit gives ends q face text r [] = (record { flying = refl; out = refl; kind = ends _ refl }, tt)
+  requested_fit gives ends q face text r [] = (record { number = refl; flying = refl; out = refl; kind = ends _ refl }, tt)
   requested_fit gives ends q face text r (o ∷ os) = requests_fit gives q text r (o ∷ os)
 
 or_left : (a b : Bool) → a ≡ true → (a || b) ≡ true
@@ -130,7 +131,7 @@ granted_fit names c t = tt
 
 -- what is told are declarations
 declared_fit : (s : State) (t : TextCall) (may : Message → Bool) → ((d : Declare) → may (message.Declare d) ≡ true) → AllByRecursion (IsFit may) (told_by s t).handed
-declared_fit s t may gives = told_all (IsFit may) (λ to text d n. record { flying = refl; out = refl; kind = gives d }) (accepted s.core t) (told_of s.core t) (renamed s t)
+declared_fit s t may gives = told_all (IsFit may) (λ to text d n. record { number = refl; flying = refl; out = refl; kind = gives d }) (accepted s.core t) (told_of s.core t) (renamed s t)
 
 told_fit : (s : State) (t : TextCall) → AllByRecursion (IsFit (may_text t)) (told_by s t).handed
 unfolding may_text
@@ -149,6 +150,29 @@ call_fits s c =
     (by_granted (λ z w. AllByRecursion (IsFit (may_text (read s c))) z.handed) s (read s c)
     (λ h. all_append (IsFit (may_text (read s c))) (write s.names (granted s.core (read s c)).messages) (told_by s (read s c)).handed (granted_fit s.names s.core (read s c)) (told_fit s (read s c)))
     (λ r. tt))
+
+-- ---- declarations stand behind messages of requests
+module _ (names : NamingState) where
+  parted : (rest : List Handed) → AllByRecursion (λ h. declares h ≡ true) rest → (ms : List TextMessage)
+      → (filter is_of_request (write names ms ++ rest) ≡ write names ms) × (filter declares (write names ms ++ rest) ≡ rest)
+  parted rest all (text_request r ∷ ms) = let e = parted rest all ms in (ap (λ l. written names (text_request r) ∷ l) e.0, e.1)
+  parted rest all (text_reply r ∷ ms) = let e = parted rest all ms in (ap (λ l. written names (text_reply r) ∷ l) e.0, e.1)
+  parted rest all (text_final f ∷ ms) = let e = parted rest all ms in (ap (λ l. written names (text_final f) ∷ l) e.0, e.1)
+  parted [] all [] = (refl, refl)
+  parted (h ∷ hs) all [] =
+      let e = parted hs all.1 [] in (
+        ap (λ b. cond (not b) (h ∷ filter is_of_request hs) (filter is_of_request hs)) all.0 ∙ e.0,
+        ap (λ b. cond b (h ∷ filter declares hs) (filter declares hs)) all.0 ∙ ap (λ l. h ∷ l) e.1
+      )
+
+pub call_behind : (s : State) (c : Call) → filter is_of_request (step s c).handed ++ filter declares (step s c).handed ≡ (step s c).handed
+call_behind s c =
+    let t = read s c in
+    by_granted (λ z w. filter is_of_request z.handed ++ filter declares z.handed ≡ z.handed) s t
+    (λ h.
+    let e = parted s.names (told_by s t).handed (told_all (λ (h : Handed). declares h ≡ true) (λ to text d n. refl) (accepted s.core t) (told_of s.core t) (renamed s t)) (granted s.core t).messages in
+    λ j. e.0 j ++ e.1 j)
+    (λ r. refl)
 
 -- ---- finals stand by number
 module _ (names : NamingState) where

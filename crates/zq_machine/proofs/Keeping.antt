@@ -37,7 +37,7 @@ use Rattle.zq_machine.specs.Configs.{Settings}
 use Rattle.zq_machine.specs.Deciding.{accepted, changed, causes, is_accepted, lacks_told, opened, refusal_of, renamed, told_of}
 use Rattle.zq_machine.specs.Due.{listens}
 use Rattle.zq_machine.specs.Hearing.{CanBeTold, hear}
-use Rattle.zq_machine.specs.Keeping.{ChangePromise, IsKept, IsNear, KeepPromise, TellsChanges, greater, heard_in, is_told, kept_after, kept_in, last_in, said_by, with_heard, with_id, with_told}
+use Rattle.zq_machine.specs.Keeping.{ChangePromise, IsKept, IsNear, KeepPromise, TellsChanges, greater, heard_in, is_told, received_after, received_in, last_in, told_by, if_told, greatest_with, with_told}
 use Rattle.zq_machine.specs.Machine.{accepted_state, after, follow, state_after, step}
 use Rattle.zq_machine.specs.Messages.{Telling, TellingBody, from_hat, told_or_ended}
 use Rattle.zq_machine.specs.Neighbours.{due_on, ears_after, looked_at, neighbours_lack, neighbours_told, with_new, without_closed}
@@ -87,10 +87,10 @@ behind_trees n trees near none sorted =
 
 -- ---- a receiver hears what a hat tells
 module _ {K : Type 0} (f : K → TellingBody → K) (g : K → TreeTelling → K) (same : (kept : K) (t : TreeTelling) → f kept (from_hat t).body ≡ g kept t) where
-  all_heard : (n : ℕ) (kept : K) (ts : List TreeTelling) → fold (with_heard f n) kept (map from_hat ts) ≡ fold g kept (filter (is_to n) ts)
+  all_heard : (n : ℕ) (kept : K) (ts : List TreeTelling) → fold (if_told f n) kept (map from_hat ts) ≡ fold g kept (filter (is_to n) ts)
   all_heard n kept [] = refl
   all_heard n kept (t ∷ ts) =
-      ap (λ k. fold (with_heard f n) (cond (n == t.face.0) k kept) (map from_hat ts)) (same kept t) ∙ all_heard n (cond (n == t.face.0) (g kept t) kept) ts ∙ by (n == t.face.0)
+      ap (λ k. fold (if_told f n) (cond (n == t.face.0) k kept) (map from_hat ts)) (same kept t) ∙ all_heard n (cond (n == t.face.0) (g kept t) kept) ts ∙ by (n == t.face.0)
     where
       by : (b : Bool) → fold g (cond b (g kept t) kept) (filter (is_to n) ts) ≡ fold g kept (cond b (t ∷ filter (is_to n) ts) (filter (is_to n) ts))
       by true = refl
@@ -103,16 +103,16 @@ by_ids heard t = by t.info
     by None = refl
     by (Some i) = refl
 
-the_greatest : (last : ℕ) (t : TreeTelling) → with_id last (from_hat t).body ≡ last_given last t
+the_greatest : (last : ℕ) (t : TreeTelling) → greatest_with last (from_hat t).body ≡ last_given last t
 the_greatest last t = by t.info
   where
-    by : (i : Option QueryableInfoType) → with_id last (told_or_ended t.id t.key i) ≡ greater last t.id
+    by : (i : Option QueryableInfoType) → greatest_with last (told_or_ended t.id t.key i) ≡ greater last t.id
     by None = refl
     by (Some i) = refl
 
-none_heard : {K : Type 0} (f : K → TellingBody → K) (n : ℕ) (kept : K) (ts : List Telling) → AllByRecursion (λ (t : Telling). is_told n t ≡ false) ts → fold (with_heard f n) kept ts ≡ kept
+none_heard : {K : Type 0} (f : K → TellingBody → K) (n : ℕ) (kept : K) (ts : List Telling) → AllByRecursion (λ (t : Telling). is_told n t ≡ false) ts → fold (if_told f n) kept ts ≡ kept
 none_heard f n kept [] none = refl
-none_heard f n kept (t ∷ ts) none = ap (λ b. fold (with_heard f n) (cond b (f kept t.body) kept) ts) none.0 ∙ none_heard f n kept ts none.1
+none_heard f n kept (t ∷ ts) none = ap (λ b. fold (if_told f n) (cond b (f kept t.body) kept) ts) none.0 ∙ none_heard f n kept ts none.1
 
 told_only : (n : ℕ) (ts : List TreeTelling) → filter (is_told n) (map from_hat ts) ≡ map from_hat (filter (is_to n) ts)
 told_only n [] = refl
@@ -175,11 +175,15 @@ record Follows (c : Core) (face : ℕ) (heard : Heard) (last : ℕ) : Type 0 whe
   hears : Hears c c.interests c.ears face heard
   greatest : last_at face c.ears ≡ Some last
 
-pub record Keeps (first : ℕ) (c : Core) (heards : ℕ → Heard) (lasts : ℕ → ℕ) : Type 0 where
-  pub quiet : c.interests ≡ []
+-- what is kept of faces is sound where the first id is one of 32 bits
+pub record AreKept (c : Core) : Type 0 where
   pub sound : AreSound c.ears
   pub faces : AreOfOpen c c.ears
   pub all : AllHear c c.interests c.ears
+
+pub record Keeps (first : ℕ) (c : Core) (heards : ℕ → Heard) (lasts : ℕ → ℕ) : Type 0 where
+  quiet : c.interests ≡ []
+  pub ears : first < 2 ^ 32 → AreKept c
   kept : (face : ℕ) → IsNear face c → Follows c face (heards face) (lasts face)
   unborn : (face : ℕ) → c.next_face ≤ face → (heards face ≡ []) × (lasts face ≡ first)
 
@@ -194,16 +198,16 @@ record Tells (s : State) (t : TextCall) (d : Core) (face : ℕ) (heard : Heard) 
 
 -- what the laws say of a call, by what decides after it
 record Told (s : State) (t : TextCall) (d : Core) : Type 0 where
-  sound : neighbours_lack s.core d s.core.interests t s.core.ears ≡ false → AreSound (ears_after s.core d s.core.interests t s.core.ears)
-  enough : makes_due t ≡ false → neighbours_lack s.core d s.core.interests t s.core.ears ≡ false
-  faces : AreOfOpen d (ears_after s.core d s.core.interests t s.core.ears)
-  hear : AllHear d s.core.interests (ears_after s.core d s.core.interests t s.core.ears)
+  sound : s.core.config.start.told < 2 ^ 32 → AreKept s.core → neighbours_lack s.core d s.core.interests t s.core.ears ≡ false → AreSound (ears_after s.core d s.core.interests t s.core.ears)
+  enough : s.core.config.start.told < 2 ^ 32 → AreKept s.core → makes_due t ≡ false → neighbours_lack s.core d s.core.interests t s.core.ears ≡ false
+  faces : AreKept s.core → AreOfOpen d (ears_after s.core d s.core.interests t s.core.ears)
+  hear : AreKept s.core → AllHear d s.core.interests (ears_after s.core d s.core.interests t s.core.ears)
   ordered : IsStrictlySortedBy telling_cmp (neighbours_told s.core d s.core.interests t s.core.ears)
   stays : (face : ℕ) (heard : Heard) → is_open face s.core ≡ true → is_open face d ≡ true → (h : Hears s.core s.core.interests s.core.ears face heard)
       → FaceTold s.core d s.core.interests t s.core.ears face h.ear heard
   comes : (face : ℕ) → is_open face s.core ≡ false → is_open face d ≡ true → FaceTold s.core d s.core.interests t s.core.ears face (fresh_ear s.core.config.start.told) []
 
-module _ (config : Settings) (low : config.start.told < 2 ^ 32) (calls : List Call) (c : Call) (heards : ℕ → Heard) (lasts : ℕ → ℕ) where
+module _ (config : Settings) (calls : List Call) (c : Call) (heards : ℕ → Heard) (lasts : ℕ → ℕ) where
   abbrev s : State
   s = state_after (opening_state config) calls
 
@@ -220,8 +224,8 @@ module _ (config : Settings) (low : config.start.told < 2 ^ 32) (calls : List Ca
     j : InOrder config (accepted_state s t)
     j = granted_in_order config s c h i
 
-    low_here : s.core.config.start.told < 2 ^ 32
-    low_here = subst (λ (x : Settings). x.start.told < 2 ^ 32) (sym (run_config calls (opening_state config))) low
+    low_here : config.start.told < 2 ^ 32 → s.core.config.start.told < 2 ^ 32
+    low_here low = subst (λ (x : Settings). x.start.told < 2 ^ 32) (sym (run_config calls (opening_state config))) low
 
     told_so : Told s t d
     told_so = subst (λ (x : State). Told s t x.core) (settles_told s t h) by_laws
@@ -230,10 +234,10 @@ module _ (config : Settings) (low : config.start.told < 2 ^ 32) (calls : List Ca
         by_laws =
             let a : AllTold s.core (after s c).core s.core.interests t s.core.ears = all_told config calls c s.core.interests s.core.ears in
             record {
-              sound = λ enough. a.sound low_here k.sound enough;
-              enough = λ none. a.enough none k.all (new_sound config s i t s.core.interests s.core.ears t low_here k.sound).ids;
-              faces = a.faces h k.sound k.faces;
-              hear = a.hear k.all;
+              sound = λ low e enough. a.sound low e.sound enough;
+              enough = λ low e none. a.enough none e.all (new_sound config s i t s.core.interests s.core.ears t low e.sound).ids;
+              faces = λ e. a.faces h e.sound e.faces;
+              hear = λ e. a.hear e.all;
               ordered = a.ordered;
               stays = λ face heard was seen x. face_told config calls c s.core.interests s.core.ears face heard was seen x;
               comes = λ face was seen. comes_told config calls c s.core.interests s.core.ears face was seen;
@@ -245,12 +249,12 @@ module _ (config : Settings) (low : config.start.told < 2 ^ 32) (calls : List Ca
     ints_are : s.core.interests ≡ d.interests
     ints_are = k.quiet ∙ sym (quiet_after s.core k.quiet t)
 
-    none_lacks : neighbours_lack s.core d s.core.interests t s.core.ears ≡ false
-    none_lacks = by (makes_due t) refl
+    none_lacks : config.start.told < 2 ^ 32 → neighbours_lack s.core d s.core.interests t s.core.ears ≡ false
+    none_lacks low = by (makes_due t) refl
       where
         by : (b : Bool) → makes_due t ≡ b → neighbours_lack s.core d s.core.interests t s.core.ears ≡ false
         by true e = ap (lacks_ids Unasked (with_new s.core t s.core.ears)) (same_looked s.core t) ∙ lacks_none s.core t h e
-        by false e = told_so.enough e
+        by false e = told_so.enough (low_here low) (k.ears low) e
 
     -- a face outside regions of routers is told what it is told as a neighbour
     abbrev near_told : ℕ → List TreeTelling
@@ -260,7 +264,7 @@ module _ (config : Settings) (low : config.start.told < 2 ^ 32) (calls : List Ca
     only_near face hears = behind_trees face (due_trees config s i t) (neighbours config s i t h j) (none_to d (due_trees config s i t) (trees_deaf config s i t h j (is_read s c)) face hears) told_so.ordered
 
     heard_here : {K : Type 0} (f : K → TellingBody → K) (g : K → TreeTelling → K) → ((kept : K) (u : TreeTelling) → f kept (from_hat u).body ≡ g kept u) → (face : ℕ) (kept : K) → listens d (asks_all face) face [] ≡ true
-        → fold g kept (near_told face) ≡ fold (with_heard f face) kept (told_of s.core t)
+        → fold g kept (near_told face) ≡ fold (if_told f face) kept (told_of s.core t)
     heard_here f g same face kept hears =
         sym (all_heard f g same face kept (in_order (due_trees config s i t ++ neighbours config s i t h j)) ∙ ap (fold g kept) (only_near face hears))
 
@@ -308,14 +312,14 @@ module _ (config : Settings) (low : config.start.told < 2 ^ 32) (calls : List Ca
               told = told_so.comes face was n.opened;
             })
 
-    kept_then : (face : ℕ) → IsNear face d → Follows d face (fold (with_heard with_told face) (heards face) (told_of s.core t)) (fold (with_heard with_id face) (lasts face) (told_of s.core t))
+    kept_then : (face : ℕ) → IsNear face d → Follows d face (fold (if_told with_told face) (heards face) (told_of s.core t)) (fold (if_told greatest_with face) (lasts face) (told_of s.core t))
     kept_then face n =
         let x = tells_at face n in
         record {
           hears = subst (Hears d d.interests d.ears face) (heard_here with_told receive by_ids face (heards face) (hears_all face n)) (moved face _ x.told.keeps);
           greatest =
               ap (last_at face) (sym ears_are) ∙ x.told.last
-              ∙ ap Some (ap (λ l. fold last_given l (near_told face)) x.is.greatest ∙ heard_here with_id last_given the_greatest face (lasts face) (hears_all face n));
+              ∙ ap Some (ap (λ l. fold last_given l (near_told face)) x.is.greatest ∙ heard_here greatest_with last_given the_greatest face (lasts face) (hears_all face n));
         }
 
     -- the difference, and nothing else
@@ -332,7 +336,7 @@ module _ (config : Settings) (low : config.start.told < 2 ^ 32) (calls : List Ca
         }
 
     -- a face that is yet to come is told nothing
-    unborn_then : {K : Type 0} (f : K → TellingBody → K) (face : ℕ) → d.next_face ≤ face → (kept first : K) → kept ≡ first → fold (with_heard f face) kept (told_of s.core t) ≡ first
+    unborn_then : {K : Type 0} (f : K → TellingBody → K) (face : ℕ) → d.next_face ≤ face → (kept first : K) → kept ≡ first → fold (if_told f face) kept (told_of s.core t) ≡ first
     unborn_then f face le kept first is =
         none_heard f face kept (told_of s.core t)
         (all_weaker (CanBeTold (renamed s t)) (λ (u : Telling). is_told face u ≡ false) (λ u can. apart u.to.0 (j.sound.open_below u.to.0 (sym (j.tied.named u.to.0) ∙ can.0))) (told_of s.core t) (due_can config s i t h j))
@@ -348,48 +352,50 @@ module _ (config : Settings) (low : config.start.told < 2 ^ 32) (calls : List Ca
     was_unborn : (face : ℕ) → d.next_face ≤ face → s.core.next_face ≤ face
     was_unborn face le = let first : s.core.next_face ≤ d.next_face = next_after s.core t in omega (arith, first, le)
 
-    call_keeps : Keeps config.start.told d (λ face. fold (with_heard with_told face) (heards face) (told_of s.core t)) (λ face. fold (with_heard with_id face) (lasts face) (told_of s.core t))
+    call_keeps : Keeps config.start.told d (λ face. fold (if_told with_told face) (heards face) (told_of s.core t)) (λ face. fold (if_told greatest_with face) (lasts face) (told_of s.core t))
     call_keeps = record {
       quiet = quiet_after s.core k.quiet t;
-      sound = subst AreSound ears_are (told_so.sound none_lacks);
-      faces = subst (AreOfOpen d) ears_are told_so.faces;
-      all = λ face seen. let x = told_so.hear face seen in (x.0, moved face x.0 x.1);
+      ears = λ low. record {
+        sound = subst AreSound ears_are (told_so.sound (low_here low) (k.ears low) (none_lacks low));
+        faces = subst (AreOfOpen d) ears_are (told_so.faces (k.ears low));
+        all = λ face seen. let x = told_so.hear (k.ears low) face seen in (x.0, moved face x.0 x.1);
+      };
       kept = kept_then;
       unborn = λ face le.
           let none = k.unborn face (was_unborn face le) in
-          (unborn_then with_told face le (heards face) [] none.0, unborn_then with_id face le (lasts face) config.start.told none.1);
+          (unborn_then with_told face le (heards face) [] none.0, unborn_then greatest_with face le (lasts face) config.start.told none.1);
     }
 
-  step_keeps : Keeps config.start.told s.core heards lasts → Keeps config.start.told (after s c).core (λ face. kept_after with_told face s c (heards face)) (λ face. kept_after with_id face s c (lasts face))
+  step_keeps : Keeps config.start.told s.core heards lasts → Keeps config.start.told (after s c).core (λ face. received_after with_told face s c (heards face)) (λ face. received_after greatest_with face s c (lasts face))
   step_keeps k =
-      by_granted (λ z w. Keeps config.start.told w.core (λ face. fold (with_heard with_told face) (heards face) (hear z.handed (follow s t).names)) (λ face. fold (with_heard with_id face) (lasts face) (hear z.handed (follow s t).names))) s t
-      (λ h. subst (λ l. Keeps config.start.told (accepted s.core t) (λ face. fold (with_heard with_told face) (heards face) l) (λ face. fold (with_heard with_id face) (lasts face) l)) (sym (granted_heard config s c i h)) (call_keeps k h))
+      by_granted (λ z w. Keeps config.start.told w.core (λ face. fold (if_told with_told face) (heards face) (hear z.handed (follow s t).names)) (λ face. fold (if_told greatest_with face) (lasts face) (hear z.handed (follow s t).names))) s t
+      (λ h. subst (λ l. Keeps config.start.told (accepted s.core t) (λ face. fold (if_told with_told face) (heards face) l) (λ face. fold (if_told greatest_with face) (lasts face) l)) (sym (granted_heard config s c i h)) (call_keeps k h))
       (λ r. k)
 
   step_changes : Keeps config.start.told s.core heards lasts → is_accepted (step s c).outcome ≡ true → (face : ℕ) → IsNear face (after s c).core
-      → TellsChanges (after s c).core face (heards face) (lasts face) (said_by s c)
+      → TellsChanges (after s c).core face (heards face) (lasts face) (told_by s c)
   step_changes k =
       by_granted (λ z w. is_accepted z.outcome ≡ true → (face : ℕ) → IsNear face w.core → TellsChanges w.core face (heards face) (lasts face) (hear z.handed (follow s t).names)) s t
       (λ h given face n. subst (TellsChanges (accepted s.core t) face (heards face) (lasts face)) (sym (granted_heard config s c i h)) (changes k h face n))
       (λ r given. absurd (false≢true given))
 
 -- ---- over a run
-module _ (config : Settings) (low : config.start.told < 2 ^ 32) where
+module _ (config : Settings) where
   abbrev pub KeepsAll : List Call → Type 0
   KeepsAll calls = Keeps config.start.told (state_after (opening_state config) calls).core (λ face. heard_in face config calls) (λ face. last_in face config calls)
 
-  kept_both : {K : Type 0} (f : K → TellingBody → K) (face : ℕ) (before later : List Call) (s : State) (kept : K) → kept_in f face s (before ++ later) kept ≡ kept_in f face (state_after s before) later (kept_in f face s before kept)
+  kept_both : {K : Type 0} (f : K → TellingBody → K) (face : ℕ) (before later : List Call) (s : State) (kept : K) → received_in f face s (before ++ later) kept ≡ received_in f face (state_after s before) later (received_in f face s before kept)
   kept_both f face [] later s kept = refl
-  kept_both f face (c ∷ before) later s kept = kept_both f face before later (after s c) (kept_after f face s c kept)
+  kept_both f face (c ∷ before) later s kept = kept_both f face before later (after s c) (received_after f face s c kept)
 
   one_more : (calls : List Call) (c : Call) → KeepsAll calls → KeepsAll (calls ++ c ∷ [])
   one_more calls c k =
       subst (λ (x : State × ((ℕ → Heard) × (ℕ → ℕ))). Keeps config.start.told x.0.core x.1.0 x.1.1)
       (λ m. (sym (after_both calls (c ∷ []) (opening_state config)) m, (
         λ face. sym (kept_both with_told face calls (c ∷ []) (opening_state config) []) m,
-        λ face. sym (kept_both with_id face calls (c ∷ []) (opening_state config) config.start.told) m
+        λ face. sym (kept_both greatest_with face calls (c ∷ []) (opening_state config) config.start.told) m
       )))
-      (step_keeps config low calls c (λ face. heard_in face config calls) (λ face. last_in face config calls) k)
+      (step_keeps config calls c (λ face. heard_in face config calls) (λ face. last_in face config calls) k)
 
   more : (calls rest : List Call) → KeepsAll calls → KeepsAll (calls ++ rest)
   more calls [] k = subst KeepsAll (sym (append-nil calls)) k
@@ -398,9 +404,7 @@ module _ (config : Settings) (low : config.start.told < 2 ^ 32) where
   first_keeps : KeepsAll []
   first_keeps = record {
     quiet = refl;
-    sound = stay_sound.first;
-    faces = λ face. refl;
-    all = λ face seen. absurd (false≢true seen);
+    ears = λ low. record { sound = stay_sound.first; faces = λ face. refl; all = λ face seen. absurd (false≢true seen) };
     kept = λ face n. absurd (false≢true n.opened);
     unborn = λ face le. (refl, refl);
   }
@@ -409,19 +413,19 @@ module _ (config : Settings) (low : config.start.told < 2 ^ 32) where
   run_keeps calls = more [] calls first_keeps
 
 pub keep_promise : (config : Settings) (calls : List Call) → KeepPromise config calls
-keep_promise config calls low face n =
-    let s : State = state_after (opening_state config) calls in
-    let f : Follows s.core face (heard_in face config calls) (last_in face config calls) = (run_keeps config low calls).kept face n in
+keep_promise config calls before rest is face n =
+    let s : State = state_after (opening_state config) before in
+    let f : Follows s.core face (heard_in face config before) (last_in face config before) = (run_keeps config before).kept face n in
     record {
-      due = told_due s.core s.core.interests s.core.ears face (heard_in face config calls) f.hears;
+      due = told_due s.core s.core.interests s.core.ears face (heard_in face config before) f.hears;
       ear = f.hears.ear;
       there = f.hears.there;
-      is = kept_of s.core face (heard_in face config calls) (last_in face config calls) f;
+      is = kept_of s.core face (heard_in face config before) (last_in face config before) f;
     }
 
 pub change_promise : (config : Settings) (calls : List Call) → ChangePromise config calls
-change_promise config calls low before rest c is given face n =
-    step_changes config low before c (λ f. heard_in f config before) (λ f. last_in f config before) (run_keeps config low before) given face n
+change_promise config calls before rest c is given face n =
+    step_changes config before c (λ f. heard_in f config before) (λ f. last_in f config before) (run_keeps config before) given face n
 
 -- no face asks to hear of a key yet
 pub always_unasked : (config : Settings) (calls : List Call) → (state_after (opening_state config) calls).core.interests ≡ []

@@ -5,14 +5,14 @@ use Rattle.zq_machine.specs.Configs.{Settings}
 use Rattle.zq_machine.specs.State.{State, opening_state}
 use Rattle.zq_machine.specs.Machine.{state_after}
 use Rattle.zq_machine.specs.Headline.{KeepsPromises, RunPromise}
-use Rattle.zq_machine.proofs.Agreed.{run_in_order}
+use Rattle.zq_machine.proofs.Agreed.{agree_always, run_in_order}
 use Rattle.zq_machine.proofs.Asking.{counted, to_askers}
 use Rattle.zq_machine.proofs.Children.{child_promise}
 use Rattle.zq_machine.proofs.Keeping.{always_unasked, change_promise, keep_promise}
 use Rattle.zq_machine.proofs.Closings.{call_closed}
-use Rattle.zq_machine.proofs.Counting.{faces_counted, replies_counted}
+use Rattle.zq_machine.proofs.Counting.{faces_counted, faces_next, replies_counted}
 use Rattle.zq_machine.proofs.Frame.{run_config}
-use Rattle.zq_machine.proofs.Handing.{call_answers, call_fits, call_ordered}
+use Rattle.zq_machine.proofs.Handing.{call_answers, call_behind, call_fits, call_ordered}
 use Rattle.zq_machine.proofs.LastIds.{run_last}
 use Rattle.zq_machine.proofs.Promises.{request_promise, reply_promise, refusal_promise}
 use Rattle.zq_machine.proofs.Silent.{nothing_after}
@@ -37,6 +37,7 @@ kept config before c =
       answer = call_answers s c;
       fit = call_fits s c;
       ordered = call_ordered s c (run_in_order config before).numbered;
+      behind = call_behind s c;
       finals = λ n. final_promise n s c (run_sound before (opening_state config) (opening_sound config)) (run_once n config before);
       closed = λ face. call_closed s face c;
       refusals = refusal_promise s c;
@@ -49,12 +50,14 @@ headline config calls = record {
   stands = λ face. all_stand config calls face;
   routed = λ place. all_routed config calls place;
   listed = all_listed config calls;
+  agrees = agree_always config calls;
   children = child_promise config calls;
   neighbours = keep_promise config calls;
   changes = change_promise config calls;
   unasked = always_unasked config calls;
   numbers = counted config calls;
   faces = faces_counted config calls;
+  next_face = faces_next calls (opening_state config);
   replies = replies_counted config calls;
   last_ids = λ face. run_last face calls (opening_state config);
   askers = λ before rest c at. to_askers config before c;

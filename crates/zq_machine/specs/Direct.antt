@@ -54,9 +54,10 @@ pub record IsDirect (to : FaceId) (id : ℕ) (w : WireExpr) (names : NamingState
   pub full : w ≡ plain w.suffix
   pub used : IsUsedNext to id next
 
--- a number that is declared stands directly before its first use, and any other declaration uses no number of the gateway's, or one that was declared to the face before
+-- a number that is declared stands directly before its first use, none is taken back, and any other declaration uses no number of the gateway's, or one that was declared to the face before
 abbrev pub IsDirectBody : FaceId → DeclareBody → NamingState → List Handed → Type 0
 IsDirectBody to (body.DeclareKeyExpr id w) names next = IsDirect to id w names next
+IsDirectBody to (body.UndeclareKeyExpr id) names next = ⊥
 IsDirectBody to b names next = option_map_or (is_declared_to to names) (number_of b) true ≡ true
 
 -- the same of a message; those of requests declare none

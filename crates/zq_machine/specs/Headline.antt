@@ -1,5 +1,5 @@
 -- What each call of a run promises: of requests, of replies, of finals and of refusals. It is said of the step that answers a call and of the lists before and after it.
-use Rattle.std.specs.Prelude.{◌≡◌, ℕ, ◌+◌, ◌<◌, ◌≤◌, Bool, true, false, ◌&&◌, ◌||◌, List, [], ◌∷◌, ◌++◌, map, length, Option, Some, None, if◌then◌else◌, nat_lt}
+use Rattle.std.specs.Prelude.{◌≡◌, ℕ, ◌+◌, ◌<◌, ◌≤◌, Bool, true, false, not, ◌&&◌, ◌||◌, List, [], ◌∷◌, ◌++◌, map, length, Option, Some, None, if◌then◌else◌, nat_lt}
 use Rattle.std.specs.List.{AllByRecursion, filter, filter_map, list_any}
 use Rattle.std.specs.List.Sorted.{IsStrictlySortedBy}
 use Rattle.std.specs.Option.{is_some}
@@ -30,6 +30,7 @@ use Rattle.zq_machine.specs.TextCalls.{read, said as said_by_face}
 use Rattle.zq_machine.specs.Asked.{AreCounted, IsHandedToAsker, asked_in, asked_number, closes, is_declaration, is_own, last_asked, opened_in, replies_in}
 use Rattle.zq_machine.specs.Deciding.{handed_replies, handed_timeouts, passing_finals, refusal_of, is_accepted, told_of}
 use Rattle.zq_machine.specs.Waiting.{Waits, IsSettled, ends_entry, lands, until, is_of}
+use Rattle.zq_machine.specs.Agreeing.{Agrees}
 use Rattle.zq_machine.specs.Standing.{first_routed, listed_in, routed_at, routed_in, standing_at, standing_in}
 use Rattle.zq_machine.specs.Hearing.{hear}
 use Rattle.zq_machine.specs.Direct.{AreDirect}
@@ -197,11 +198,20 @@ may_hand (call.UndeclareQueryable face id wire node) m = is_declaration m
 may_hand (call.SetNetwork r net) m = is_declaration m
 may_hand c m = false
 
--- what is handed has a reply number exactly where it is a reply, leaves as it is (as long as no face has an exit of its own), and is of a kind that the call may hand
+-- what is handed has a reply number exactly where it is a reply, and a request's number exactly where it is no declaration; it leaves as it is (as long as no face has an exit of its own), and is of a kind that the call may hand
 pub record IsFit (may : Message → Bool) (h : Handed) : Type 0 where
+  pub number : is_some h.number ≡ not (is_declaration h.message)
   pub flying : is_some h.reply ≡ replies_to h
   pub out : h.leaves ≡ Some h.message
   pub kind : may h.message ≡ true
+
+-- what is handed is a declaration
+abbrev pub declares : Handed → Bool
+declares h = is_declaration h.message
+
+-- what is handed is of a request
+abbrev pub is_of_request : Handed → Bool
+is_of_request h = not (declares h)
 
 -- ---- refusals
 
@@ -212,7 +222,7 @@ RefusesBy None s c = is_accepted (step s c).outcome ≡ true
 
 -- ---- all of them
 
--- what one call promises, at any point of a run
+-- what one call promises, at any point of a run; its declarations stand behind its messages of requests, whose finals stand by number
 pub record KeepsPromises (s : State) (c : Call) : Type 0 where
   pub requests : RequestPromise s c (step s c)
   pub replies : ReplyPromise s c (step s c)
@@ -223,22 +233,25 @@ pub record KeepsPromises (s : State) (c : Call) : Type 0 where
   pub answer : is_accepted (step s c).outcome ≡ true → AnswerPromise s c (step s c).outcome
   pub fit : AllByRecursion (IsFit (may_hand c)) (step s c).handed
   pub ordered : IsStrictlySortedBy nat_cmp (ended_in (step s c).handed)
+  pub behind : filter is_of_request (step s c).handed ++ filter declares (step s c).handed ≡ (step s c).handed
   pub closed : (face : ℕ) → is_closed (after s c).core.queries.closed face ≡ (closes face c (step s c) || is_closed s.core.queries.closed face)
   pub refusals : RefusesBy (refusal_of s.core (read s c)) s c
 
--- what a whole run promises: each of its calls keeps its promises; the configuration stays, and what stands of each face and of the routers of each region, and which lists of gateways there are, is what the calls and their answers made of it; what a child of a root's tree knows of it is what stands of the root; what a receiver keeps at any other face is what is due to it, and each call hands it the difference; no face asks to hear of a key yet; accepted requests, opened faces and replies are numbered one after another, and the id that was last given at a face is that of the last request handed to it; each message that it hands, but for declarations, is of a request, and each reply and final goes to the request's asker, under the asker's id; it hands one final of a request at most, and nothing of the request afterwards
+-- what a whole run promises: each of its calls keeps its promises; the configuration stays, and what stands of each face and of the routers of each region, and which lists of gateways there are, is what the calls and their answers made of it; the open faces, the hats and what stands for keys agree; what a child of a root's tree knows of it is what stands of the root; what the receiver of an open face outside regions of routers keeps is what is due to it, and each call hands it the difference; no face asks to hear of a key yet; accepted requests, opened faces and replies are numbered one after another, and the id that was last given at a face is that of the last request handed to it; each message that it hands, but for declarations, is of a request, and each reply and final goes to the request's asker, under the asker's id; it hands one final of a request at most, and nothing of the request afterwards
 pub record RunPromise (config : Settings) (calls : List Call) : Type 0 where
   pub each : (before rest : List Call) (c : Call) → calls ≡ before ++ c ∷ rest → KeepsPromises (state_after (opening_state config) before) c
   pub settings : (state_after (opening_state config) calls).core.config ≡ config
   pub stands : (face : ℕ) → standing_at face (state_after (opening_state config) calls) ≡ standing_in config face calls (steps config calls) None
   pub routed : (place : ℕ) → routed_at place (state_after (opening_state config) calls) ≡ routed_in config place calls (steps config calls) (λ face. None) (first_routed config place)
   pub listed : (state_after (opening_state config) calls).core.tables ≡ listed_in calls (steps config calls) []
+  pub agrees : Agrees (state_after (opening_state config) calls)
   pub children : ChildPromise config calls
   pub neighbours : KeepPromise config calls
   pub changes : ChangePromise config calls
   pub unasked : (state_after (opening_state config) calls).core.interests ≡ []
   pub numbers : AreCounted config.start.requests (map asked_number (asked_in calls (steps config calls)))
   pub faces : AreCounted config.start.faces (opened_in (steps config calls))
+  pub next_face : (state_after (opening_state config) calls).core.next_face ≡ config.start.faces + length (opened_in (steps config calls))
   pub replies : AreCounted config.start.replies (replies_in (steps config calls))
   pub last_ids : (face : ℕ) → last_given (state_after (opening_state config) calls).core.queries face ≡ last_asked face config.start.request_ids (steps config calls)
   pub askers : (before rest : List Call) (c : Call) → calls ≡ before ++ c ∷ rest → AllByRecursion (IsHandedToAsker (asked_in (before ++ c ∷ []) (steps config (before ++ c ∷ [])))) (step (state_after (opening_state config) before) c).handed

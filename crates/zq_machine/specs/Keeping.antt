@@ -1,5 +1,5 @@
 -- What a receiver keeps of the declarations that a face is handed over a run, read by their ids alone: outside regions of routers it is, after every call, what is due to the face; and each call hands the face exactly the difference.
-use Rattle.std.specs.Prelude.{◌≡◌, ℕ, ◌^◌, ◌<◌, ◌==◌, nat_lt, Bool, true, false, List, [], ◌∷◌, ◌++◌, filter, fold, map, Some, None, if◌then◌else◌}
+use Rattle.std.specs.Prelude.{◌≡◌, ℕ, ◌==◌, nat_lt, Bool, true, false, List, [], ◌∷◌, ◌++◌, filter, fold, map, Some, None, if◌then◌else◌}
 use Rattle.std.specs.Option.{option_to_list}
 use Rattle.zq_told.specs.declared.types.Way.TheVariants.{Unasked}
 use Rattle.zq_told.specs.Ears.{Ear, at_face}
@@ -30,43 +30,43 @@ abbrev pub greater : ℕ → ℕ → ℕ
 greater last id = if nat_lt last id then id else last
 
 -- the greatest id that was told of
-abbrev pub with_id : ℕ → TellingBody → ℕ
-with_id last (key_told id text info) = greater last id
-with_id last (key_ended id text) = greater last id
-with_id last all_told = last
+abbrev pub greatest_with : ℕ → TellingBody → ℕ
+greatest_with last (key_told id text info) = greater last id
+greatest_with last (key_ended id text) = greater last id
+greatest_with last all_told = last
 
 -- the face is told it
 abbrev pub is_told : ℕ → Telling → Bool
 is_told face t = face == t.to.0
 
 -- what is told to the face changes what is kept there
-abbrev pub with_heard : {K : Type 0} → (K → TellingBody → K) → ℕ → K → Telling → K
-with_heard f face kept t = if is_told face t then f kept t.body else kept
+abbrev pub if_told : {K : Type 0} → (K → TellingBody → K) → ℕ → K → Telling → K
+if_told f face kept t = if is_told face t then f kept t.body else kept
 
 -- what the messages say to their receivers that a call hands
-abbrev pub said_by : State → Call → List Telling
-said_by s c = hear (step s c).handed (follow s (read s c)).names
+abbrev pub told_by : State → Call → List Telling
+told_by s c = hear (step s c).handed (follow s (read s c)).names
 
 -- what is kept at the face once a call is made
-abbrev pub kept_after : {K : Type 0} → (K → TellingBody → K) → ℕ → State → Call → K → K
-kept_after f face s c kept = fold (with_heard f face) kept (said_by s c)
+abbrev pub received_after : {K : Type 0} → (K → TellingBody → K) → ℕ → State → Call → K → K
+received_after f face s c kept = fold (if_told f face) kept (told_by s c)
 
 -- the same once calls are made
-abbrev pub kept_in : {K : Type 0} → (K → TellingBody → K) → ℕ → State → List Call → K → K
-kept_in f face s [] kept = kept
-kept_in f face s (c ∷ cs) kept = kept_in f face (after s c) cs (kept_after f face s c kept)
+abbrev pub received_in : {K : Type 0} → (K → TellingBody → K) → ℕ → State → List Call → K → K
+received_in f face s [] kept = kept
+received_in f face s (c ∷ cs) kept = received_in f face (after s c) cs (received_after f face s c kept)
 
 -- what a run leaves with the face's receiver
 abbrev pub heard_in : ℕ → Settings → List Call → Heard
-heard_in face config calls = kept_in with_told face (opening_state config) calls []
+heard_in face config calls = received_in with_told face (opening_state config) calls []
 
 -- the greatest id that the face was told of in it, or the one before the first
 abbrev pub last_in : ℕ → Settings → List Call → ℕ
-last_in face config calls = kept_in with_id face (opening_state config) calls config.start.told
+last_in face config calls = received_in greatest_with face (opening_state config) calls config.start.told
 
 -- ---- what is promised of it
 
--- what is kept of a face, by key, is what its receiver keeps by ids, with the greatest id
+-- what is kept of a face, by key and in order, is what its receiver keeps by ids, with the greatest id
 pub record IsKept (ear : Ear) (heard : Heard) (last : ℕ) : Type 0 where
   pub sorted : InOrder ear.told
   pub tied : Tied (memory_of ear) heard
@@ -77,20 +77,20 @@ pub record IsNear (face : ℕ) (c : Core) : Type 0 where
   pub opened : is_open face c ≡ true
   pub near : by_router (record { 0 = face }) c ≡ false
 
--- where a face is near, its receiver keeps on each key one information, the one that is due, or none where nothing is; and the gateway keeps of the face what its receiver does
+-- the receiver of a face keeps on each key one information, the one that is due, or none where nothing is; and the gateway keeps of the face what its receiver does
 pub record KeepsDue (c : Core) (face : ℕ) (heard : Heard) (last : ℕ) : Type 0 where
   pub due : (key : List ℕ) → heard_on key heard ≡ option_to_list (due c c.interests face key)
   pub ear : Ear
   pub there : at_face face c.ears ≡ Some ear
   pub is : IsKept ear heard last
 
--- so it is at every point of a run; the first id that is told is one of 32 bits
+-- so it is at every point of a run, at each face that is near
 abbrev pub KeepPromise : Settings → List Call → Type 0
 KeepPromise config calls =
-    config.start.told < 2 ^ 32 → (face : ℕ) → IsNear face (state_after (opening_state config) calls).core
-    → KeepsDue (state_after (opening_state config) calls).core face (heard_in face config calls) (last_in face config calls)
+    (before rest : List Call) → calls ≡ before ++ rest → (face : ℕ) → IsNear face (state_after (opening_state config) before).core
+    → KeepsDue (state_after (opening_state config) before).core face (heard_in face config before) (last_in face config before)
 
--- the face is told the difference between what is kept of it and what is due: over any keys in order that have all on which there is one, each that is due is told under the id that it has, or under the next; and of each that is not due any more that its id ended
+-- the face is told the difference between what is kept of it and what is due: over any keys in order that have all on which there is one (the keys that are due, with those that were told, are such), each that is due with another information than was told is told under the id that it has, or under the next; and of each that is not due any more that its id ended
 pub record TellsChanges (c : Core) (face : ℕ) (heard : Heard) (last : ℕ) (told : List Telling) : Type 0 where
   pub ear : Ear
   pub is : IsKept ear heard last
@@ -99,6 +99,6 @@ pub record TellsChanges (c : Core) (face : ℕ) (heard : Heard) (last : ℕ) (to
 -- so does each accepted call of a run, at each face that is near after it
 abbrev pub ChangePromise : Settings → List Call → Type 0
 ChangePromise config calls =
-    config.start.told < 2 ^ 32 → (before rest : List Call) (c : Call) → calls ≡ before ++ c ∷ rest → is_accepted (step (state_after (opening_state config) before) c).outcome ≡ true
+    (before rest : List Call) (c : Call) → calls ≡ before ++ c ∷ rest → is_accepted (step (state_after (opening_state config) before) c).outcome ≡ true
     → (face : ℕ) → IsNear face (after (state_after (opening_state config) before) c).core
-    → TellsChanges (after (state_after (opening_state config) before) c).core face (heard_in face config before) (last_in face config before) (said_by (state_after (opening_state config) before) c)
+    → TellsChanges (after (state_after (opening_state config) before) c).core face (heard_in face config before) (last_in face config before) (told_by (state_after (opening_state config) before) c)
