@@ -12,7 +12,7 @@ use Rattle.zq_message.specs.declared.message.Mapping.TheVariants as mapping
 use Rattle.zq_message.specs.declared.message.WireExpr.{WireExpr}
 use Rattle.zq_names.specs.Texts.{nonwild}
 use Rattle.zq_ids.specs.FaceIds.{next_id}
-use Rattle.zq_ids.specs.FaceTexts.{declared_key, known, known_choice, new_choice, prefix_key, whole_key, with_declared}
+use Rattle.zq_ids.specs.FaceTexts.{declared_key, known, known_choice, least_name, new_choice, or_else, prefix_key, tagged, whole_key, with_declared}
 use Rattle.zq_ids.specs.declared.decl.DeclKey.{DeclKey}
 use Rattle.zq_ids.proofs.IdLemmas.{free_from-least, of_id-with_id}
 use Rattle.zq_tables.specs.Naming.{FaceNaming, NamingState, change_naming, face_naming, naming_at, text_at, with_told_number}
@@ -35,38 +35,44 @@ use Rattle.zq_machine.proofs.Hearing.{Stands, all_open, found_there, known_stand
 use Rattle.zq_machine.proofs.Tells.{followed}
 
 -- ---- the number that an expression uses stands at its face, or is new and declared with it
-abbrev Fits : FaceNaming → Option ℕ → WireExpr → Type 0
-Fits n None w = option_map_or (λ id. is_some (text_at id n.ours)) (number_in w) true ≡ true
-Fits n (Some id) w = (is_some (text_at id n.ours) ≡ false) × (number_in w ≡ Some id)
+abbrev Fits : FaceNaming → List ℕ → Option ℕ → WireExpr → Type 0
+Fits n p None w = option_map_or (λ id. is_some (text_at id n.ours)) (number_in w) true ≡ true
+Fits n p (Some id) w = (is_some (text_at id n.ours) ≡ false) × ((number_in w ≡ Some id) × (least_name p n.ours ≡ None))
+
+-- a part that no number stands for has none of the gateway's
+unknown_ours : (theirs ours : Option ℕ) → or_else (tagged mapping.Receiver theirs) (tagged mapping.Sender ours) ≡ None → ours ≡ None
+unknown_ours None None e = refl
+unknown_ours None (Some id) e = absurd (let gap : Some (id, mapping.Sender) ≡ None = e in cc)
+unknown_ours (Some id) ours e = absurd (let gap : Some (id, mapping.Receiver) ≡ None = e in cc)
 
 module _ (n : FaceNaming) (text : List ℕ) where
-  abbrev FitsKey : DeclKey → Type 0
-  FitsKey d = Fits n d.declared d.wire
+  abbrev FitsKey : List ℕ → DeclKey → Type 0
+  FitsKey p d = Fits n p d.declared d.wire
 
-  new_fits : (p : List ℕ) (o : Option ℕ) → next_id n.theirs n.ours ≡ o → FitsKey (unwrap_or (new_choice (drop (length p) text) o) (whole_key text))
-  new_fits p None e = refl
-  new_fits p (Some id) e =
+  new_fits : (p : List ℕ) → known n p ≡ None → (o : Option ℕ) → next_id n.theirs n.ours ≡ o → FitsKey p (unwrap_or (new_choice (drop (length p) text) o) (whole_key text))
+  new_fits p none None e = refl
+  new_fits p none (Some id) e =
       let least = free_from-least n.theirs n.ours 65535 1 id e in
-      ((or_parts (is_some (text_at id n.theirs)) (is_some (text_at id n.ours)) least.2).1, ap (λ b. cond b None (Some id)) (positive id least.0))
+      ((or_parts (is_some (text_at id n.theirs)) (is_some (text_at id n.ours)) least.2).1, (ap (λ b. cond b None (Some id)) (positive id least.0), unknown_ours (least_name p n.theirs) (least_name p n.ours) none))
 
-  known_fits : (p : List ℕ) (may : Bool) (o : Option (ℕ × Mapping)) → known n p ≡ o → FitsKey (unwrap_or (known_choice n may (drop (length p) text) o) (whole_key text))
+  known_fits : (p : List ℕ) (may : Bool) (o : Option (ℕ × Mapping)) → known n p ≡ o → FitsKey p (unwrap_or (known_choice n may (drop (length p) text) o) (whole_key text))
   known_fits p may (Some x) e = by x.1 (known_stands n p x e)
     where
       unused : (b : Bool) → option_map_or (λ id. is_some (text_at id n.ours)) (cond b None None) true ≡ true
       unused true = refl
       unused false = refl
 
-      by : (m : Mapping) → Stands n p (x.0, m) → Fits n None (record { scope = x.0; mapping = m; suffix = drop (length p) text })
+      by : (m : Mapping) → Stands n p (x.0, m) → Fits n p None (record { scope = x.0; mapping = m; suffix = drop (length p) text })
       by mapping.Receiver s = unused (x.0 == 0)
       by mapping.Sender s = ap (λ b. option_map_or (λ id. is_some (text_at id n.ours)) (cond b None (Some x.0)) true) s.number ∙ ap is_some s.stands
-  known_fits p true None e = new_fits p (next_id n.theirs n.ours) refl
+  known_fits p true None e = new_fits p e (next_id n.theirs n.ours) refl
   known_fits p false None e = refl
 
-  part_fits : (may : Bool) (p : List ℕ) → FitsKey (prefix_key n may text p)
+  part_fits : (may : Bool) (p : List ℕ) → FitsKey p (prefix_key n may text p)
   part_fits may [] = refl
   part_fits may (b ∷ p) = known_fits (b ∷ p) may (known n (b ∷ p)) refl
 
-  key_fits : (local may : Bool) → FitsKey (declared_key n local may text)
+  key_fits : (local may : Bool) → FitsKey (nonwild text) (declared_key n local may text)
   key_fits true may = refl
   key_fits false may = part_fits may (nonwild text)
 
@@ -76,16 +82,16 @@ module _ (to : FaceId) (text : List ℕ) (make : DeclKey → Declare) (names : N
     (tells : (d : DeclKey) (z : NamingState) (hs : List Handed) → option_map_or (is_declared_to to z) (number_in d.wire) true ≡ true → IsDirectBody to (make d).body z hs)
     (quiet : (d : DeclKey) (z : NamingState) → heard_body to (make d).body z ≡ z)
     (there_is : is_some (naming_at to.0 names) ≡ true) where
-  one_by : (d : DeclKey) (o : Option ℕ) → Fits (face_naming to.0 names) o d.wire → AreDirect (rest (tell_number to text o names).names) (tell_number to text o names).names
+  one_by : (d : DeclKey) (o : Option ℕ) → Fits (face_naming to.0 names) (nonwild text) o d.wire → AreDirect (rest (tell_number to text o names).names) (tell_number to text o names).names
       → AreDirect ((and_then (tell_number to text o names) (tell_declare to text (make d))).handed ++ rest (tell_number to text o names).names) names
   one_by d None fits more = (tells d names (rest names) fits, subst (AreDirect (rest names)) (sym (quiet d names)) more)
   one_by d (Some id) fits more =
       let after = change_naming to.0 (with_told_number text (Some id)) names in
       let numbers : face_naming to.0 after ≡ with_declared (face_naming to.0 names) text (Some id) = found_there to.0 (with_told_number text (Some id)) names there_is in
       let stands : is_declared_to to after id ≡ true = ap (λ n. is_some (text_at id n.ours)) numbers ∙ ap is_some (of_id-with_id (face_naming to.0 names).ours id (nonwild text)) in (
-        record { fresh = fits.0; full = refl; used = (refl, uses d ∙ fits.1) },
+        record { fresh = fits.0; first = fits.1.1; full = refl; used = (refl, uses d ∙ fits.1.0) },
         (
-          tells d after (rest after) (ap (λ o. option_map_or (is_declared_to to after) o true) fits.1 ∙ stands),
+          tells d after (rest after) (ap (λ o. option_map_or (is_declared_to to after) o true) fits.1.0 ∙ stands),
           subst (AreDirect (rest after)) (sym (quiet d after)) more,
         ),
       )

@@ -29,7 +29,7 @@ use Rattle.zq_machine.specs.declared.face.OpenFace.{OpenFace}
 use Rattle.zq_machine.specs.Configs.{Settings, north_of, region_of}
 use Rattle.zq_machine.specs.Deciding.{accepted, announced_by, retracted_by, seat}
 use Rattle.zq_machine.specs.Selecting.{full_text}
-use Rattle.zq_machine.specs.State.{Core, at, change_hat, change_hat_of, first_hats, hat_at, hat_of, is_region, joined, put_hat, with_hat}
+use Rattle.zq_machine.specs.State.{Core, at, change_hat, change_hat_of, first_hats, hat_at, hat_of, is_region, joined, put_hat, with_hat, kind_of}
 use Rattle.zq_machine.specs.TextCalls.{TextCall, opening, closing, naming, unnaming, declaring, withdrawing, asking, replying, ending, reporting, passing, listing, finalizing, announcing, retracting, networking, tabling, unbuilt}
 use Rattle.zq_machine.proofs.Changing.{one_number, region_there}
 use Rattle.zq_machine.proofs.Finals.{none_sorted}
@@ -50,6 +50,14 @@ pub record AreHats (told : ℕ) (first hats : List (ℕ × HatState)) : Type 0 w
   pub homes : (k : ℕ) (h : HatState) → at k hats ≡ Some h → (h.faces ≡ []) ⊎ IsIndex k
   pub starts : (k : ℕ) (h : HatState) → at k hats ≡ Some h → h.told_start ≡ told
   pub shape : (k : ℕ) → option_map bare (at k hats) ≡ option_map bare (at k first)
+
+-- so each is of what the first hat there is of
+pub kinds_of : (x y : Option HatState) → option_map bare x ≡ option_map bare y → option_map kind_of x ≡ option_map kind_of y
+kinds_of x y e = sym (same x) ∙ ap (option_map kind_of) e ∙ same y
+  where
+    same : (o : Option HatState) → option_map kind_of (option_map bare o) ≡ option_map kind_of o
+    same None = refl
+    same (Some h) = refl
 
 -- the hats of a gateway that was made with the configuration
 abbrev pub AreHatsOf : Settings → List (ℕ × HatState) → Type 0

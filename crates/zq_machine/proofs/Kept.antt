@@ -2,7 +2,7 @@
 use Rattle.std.proofs.Common.{List}
 use Rattle.zq_machine.specs.declared.call.Call.{Call}
 use Rattle.zq_machine.specs.Configs.{Settings}
-use Rattle.zq_machine.specs.State.{State, opening_state}
+use Rattle.zq_machine.specs.State.{State, at, first_hats, opening_state}
 use Rattle.zq_machine.specs.Machine.{state_after}
 use Rattle.zq_machine.specs.Headline.{KeepsPromises, RunPromise}
 use Rattle.zq_machine.proofs.Agreed.{agree_always, run_in_order}
@@ -12,6 +12,7 @@ use Rattle.zq_machine.proofs.Keeping.{always_unasked, change_promise, keep_promi
 use Rattle.zq_machine.proofs.Closings.{call_closed}
 use Rattle.zq_machine.proofs.Counting.{faces_counted, faces_next, replies_counted}
 use Rattle.zq_machine.proofs.Frame.{run_config}
+use Rattle.zq_machine.proofs.Hats.{kinds_of}
 use Rattle.zq_machine.proofs.Handing.{call_answers, call_behind, call_fits, call_ordered}
 use Rattle.zq_machine.proofs.LastIds.{run_last}
 use Rattle.zq_machine.proofs.Promises.{request_promise, reply_promise, refusal_promise}
@@ -50,6 +51,8 @@ headline config calls = record {
   stands = λ face. all_stand config calls face;
   routed = λ place. all_routed config calls place;
   listed = all_listed config calls;
+  kinds = λ place. kinds_of (at place (state_after (opening_state config) calls).core.hats) (at place (first_hats config)) ((run_in_order config calls).hats.shape place);
+  places = (run_in_order config calls).hats.sorted;
   agrees = agree_always config calls;
   children = child_promise config calls;
   neighbours = keep_promise config calls;

@@ -9,6 +9,7 @@ use Rattle.zq_message.specs.declared.message.Mapping.TheVariants as mapping
 use Rattle.zq_message.specs.declared.message.Message.{Message}
 use Rattle.zq_message.specs.declared.message.Message.TheVariants as message
 use Rattle.zq_message.specs.declared.message.WireExpr.{WireExpr}
+use Rattle.zq_ids.specs.FaceTexts.{least_name}
 use Rattle.zq_tables.specs.Naming.{NamingState, face_naming, plain, text_at}
 use Rattle.zq_machine.specs.Handing.{Handed}
 use Rattle.zq_machine.specs.Hearing.{heard_body}
@@ -48,9 +49,10 @@ abbrev pub IsUsedNext : FaceId → ℕ → List Handed → Type 0
 IsUsedNext to id [] = ⊥
 IsUsedNext to id (h ∷ hs) = (h.to ≡ to) × (number_by h.message ≡ Some id)
 
--- a number that is declared to a face was not declared to it before, its text is given in full, and the very next message uses it
+-- a number that is declared to a face was not declared to it before, nor was another for its text, which is given in full; and the very next message uses it
 pub record IsDirect (to : FaceId) (id : ℕ) (w : WireExpr) (names : NamingState) (next : List Handed) : Type 0 where
   pub fresh : is_declared_to to names id ≡ false
+  pub first : least_name w.suffix (face_naming to.0 names).ours ≡ None
   pub full : w ≡ plain w.suffix
   pub used : IsUsedNext to id next
 

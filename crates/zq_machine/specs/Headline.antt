@@ -2,7 +2,8 @@
 use Rattle.std.specs.Prelude.{◌≡◌, ℕ, ◌+◌, ◌<◌, ◌≤◌, Bool, true, false, not, ◌&&◌, ◌||◌, List, [], ◌∷◌, ◌++◌, map, length, Option, Some, None, if◌then◌else◌, nat_lt}
 use Rattle.std.specs.List.{AllByRecursion, filter, filter_map, list_any}
 use Rattle.std.specs.List.Sorted.{IsStrictlySortedBy}
-use Rattle.std.specs.Option.{is_some}
+use Rattle.std.specs.Map.{keys_of}
+use Rattle.std.specs.Option.{is_some, option_map}
 use Rattle.std.specs.Ordering.{nat_cmp}
 use Rattle.zq_message.specs.declared.message.FaceId.{FaceId}
 use Rattle.zq_message.specs.declared.message.Message.{Message}
@@ -24,7 +25,7 @@ use Rattle.zq_machine.specs.declared.call.Outcome.TheVariants as outcome
 use Rattle.zq_machine.specs.declared.call.Refusal.{Refusal}
 use Rattle.zq_machine.specs.declared.call.Step.{Step}
 use Rattle.zq_machine.specs.Configs.{Settings}
-use Rattle.zq_machine.specs.State.{State, opening_state}
+use Rattle.zq_machine.specs.State.{State, at, first_hats, kind_of, opening_state}
 use Rattle.zq_machine.specs.Selecting.{select, full_text}
 use Rattle.zq_machine.specs.TextCalls.{read, said as said_by_face}
 use Rattle.zq_machine.specs.Asked.{AreCounted, IsHandedToAsker, asked_in, asked_number, closes, is_declaration, is_own, last_asked, opened_in, replies_in}
@@ -237,13 +238,15 @@ pub record KeepsPromises (s : State) (c : Call) : Type 0 where
   pub closed : (face : ℕ) → is_closed (after s c).core.queries.closed face ≡ (closes face c (step s c) || is_closed s.core.queries.closed face)
   pub refusals : RefusesBy (refusal_of s.core (read s c)) s c
 
--- what a whole run promises: each of its calls keeps its promises; the configuration stays, and what stands of each face and of the routers of each region, and which lists of gateways there are, is what the calls and their answers made of it; the open faces, the hats and what stands for keys agree; what a child of a root's tree knows of it is what stands of the root; what the receiver of an open face outside regions of routers keeps is what is due to it, and each call hands it the difference; no face asks to hear of a key yet; accepted requests, opened faces and replies are numbered one after another, and the id that was last given at a face is that of the last request handed to it; each message that it hands, but for declarations, is of a request, and each reply and final goes to the request's asker, under the asker's id; it hands one final of a request at most, and nothing of the request afterwards
+-- what a whole run promises: each of its calls keeps its promises; the configuration stays, and what stands of each face and of the routers of each region, and which lists of gateways there are, is what the calls and their answers made of it; the hats stand by place, and each is of what it was made for; the open faces, the hats and what stands for keys agree; what a child of a root's tree knows of it is what stands of the root; what the receiver of an open face outside regions of routers keeps is what is due to it, and each call hands it the difference; no face asks to hear of a key yet; accepted requests, opened faces and replies are numbered one after another, and the id that was last given at a face is that of the last request handed to it; each message that it hands, but for declarations, is of a request, and each reply and final goes to the request's asker, under the asker's id; it hands one final of a request at most, and nothing of the request afterwards
 pub record RunPromise (config : Settings) (calls : List Call) : Type 0 where
   pub each : (before rest : List Call) (c : Call) → calls ≡ before ++ c ∷ rest → KeepsPromises (state_after (opening_state config) before) c
   pub settings : (state_after (opening_state config) calls).core.config ≡ config
   pub stands : (face : ℕ) → standing_at face (state_after (opening_state config) calls) ≡ standing_in config face calls (steps config calls) None
   pub routed : (place : ℕ) → routed_at place (state_after (opening_state config) calls) ≡ routed_in config place calls (steps config calls) (λ face. None) (first_routed config place)
   pub listed : (state_after (opening_state config) calls).core.tables ≡ listed_in calls (steps config calls) []
+  pub kinds : (place : ℕ) → option_map kind_of (at place (state_after (opening_state config) calls).core.hats) ≡ option_map kind_of (at place (first_hats config))
+  pub places : IsStrictlySortedBy nat_cmp (keys_of (state_after (opening_state config) calls).core.hats)
   pub agrees : Agrees (state_after (opening_state config) calls)
   pub children : ChildPromise config calls
   pub neighbours : KeepPromise config calls

@@ -5,7 +5,9 @@ use Rattle.std.specs.List.{All}
 use Rattle.std.specs.Map.{keys_of, lookup, set_value}
 use Rattle.std.specs.BTreeMap.{is_at}
 use Rattle.std.specs.Ordering.{nat_cmp}
+use Rattle.zq_message.specs.declared.message.Mode.{Mode}
 use Rattle.zq_message.specs.declared.message.Region.{Region}
+use Rattle.zq_message.specs.declared.message.Zid.{Zid}
 use Rattle.zq_message.specs.declared.message.Region.TheVariants as region
 use Rattle.zq_regions.specs.Region.{region_index}
 use Rattle.zq_regions.specs.RegionMap.{value_at, with_entry}
@@ -45,6 +47,10 @@ with_hat config hats e = with_entry hats (region_of e) (new_hat (region_of e) (n
 -- one hat for each region of the configuration
 abbrev pub first_hats : Settings → List (ℕ × HatState)
 first_hats config = fold (with_hat config) [] config.entries
+
+-- what a hat is of: its region, the mode of a North, and the gateway's own id
+abbrev pub kind_of : HatState → Region × (Mode × Zid)
+kind_of h = (h.region, (h.north_mode, h.own))
 
 -- no request was asked
 abbrev pub no_queries : Settings → QueryState
