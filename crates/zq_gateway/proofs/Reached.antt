@@ -61,7 +61,7 @@ reached_in_order s i = subst (InOrder i.config) (sym i.here) (run_in_order i.con
 
 -- what is kept of each open face is what is due to it
 pub reached_keeps : (s : State) (i : IsReached s) → Keeps i.config.start.told s.core (λ face. heard_in face i.config i.calls) (λ face. last_in face i.config i.calls)
-reached_keeps s i = subst (λ (z : State). Keeps i.config.start.told z.core (λ face. heard_in face i.config i.calls) (λ face. last_in face i.config i.calls)) (sym i.here) (run_keeps i.config i.low i.calls)
+reached_keeps s i = subst (λ (z : State). Keeps i.config.start.told z.core (λ face. heard_in face i.config i.calls) (λ face. last_in face i.config i.calls)) (sym i.here) (run_keeps i.config i.calls)
 
 gone : {X : Type 0} (o : Option X) → is_some o ≡ false → o ≡ None
 gone None e = refl
@@ -77,7 +77,7 @@ reached_unnamed s i = gone (at s.core.next_face s.names) ((reached_in_order s i)
 
 -- nothing is kept of it
 pub reached_unheard : (s : State) → IsReached s → at_face s.core.next_face s.core.ears ≡ None
-reached_unheard s i = gone (at_face s.core.next_face s.core.ears) ((reached_keeps s i).faces s.core.next_face ∙ ap is_some (reached_absent s i))
+reached_unheard s i = gone (at_face s.core.next_face s.core.ears) (((reached_keeps s i).ears i.low).faces s.core.next_face ∙ ap is_some (reached_absent s i))
 
 -- and it is in no hat
 pub reached_vacant : (s : State) (r : Region) → IsReached s → has_hat r s.core ≡ true → seats r s.core.next_face s.core.hats ≡ Some false
@@ -104,4 +104,4 @@ reached_low s i = subst (λ (x : Settings). x.start.told < 2 ^ 32) (sym (ap (λ 
 
 -- no ids lack to a call that opens no face and declares nothing
 pub reached_enough : (s : State) → IsReached s → (t : TextCall) → refusal_of s.core t ≡ None → makes_due t ≡ false → lacks_told s.core t ≡ false
-reached_enough s i t fits none = enough_told i.config s (reached_in_order s i) (reached_low s i) (reached_keeps s i).sound (reached_keeps s i).all t fits none
+reached_enough s i t fits none = enough_told i.config s (reached_in_order s i) (reached_low s i) ((reached_keeps s i).ears i.low).sound ((reached_keeps s i).ears i.low).all t fits none
