@@ -17,7 +17,7 @@ pub const FIRST: Counters = Counters {
 };
 
 /// The gateway 1 with an upstream and a region of applications.
-pub fn config(alloc: Global) -> Result<Config, OutOfMemory> {
+pub(crate) fn config(alloc: Global) -> Result<Config, OutOfMemory> {
     let entries = [Entry::North(Mode::Client), Entry::Local];
     match Config::new(alloc, Zid(1), entries.as_slice(), 10_000, FIRST) {
         Ok(config) => Ok(config),
@@ -26,12 +26,12 @@ pub fn config(alloc: Global) -> Result<Config, OutOfMemory> {
 }
 
 /// A new gateway of that configuration.
-pub fn gateway(alloc: Global) -> Result<Gateway, OutOfMemory> {
+pub(crate) fn gateway(alloc: Global) -> Result<Gateway, OutOfMemory> {
     Gateway::new(alloc, &config(alloc)?)
 }
 
 /// An application is opened.
-pub fn application(alloc: Global, zid: u128) -> Opening {
+pub(crate) fn application(alloc: Global, zid: u128) -> Opening {
     Opening {
         region: Region::Local,
         zid: Zid(zid),

@@ -15,7 +15,7 @@ fn texts(alloc: Global, words: &[&str]) -> Result<Vec<Text>, OutOfMemory> {
 
 /// How a run ends, and what it wrote in pieces of 8 bytes, where the read and the write of the
 /// number `fails` fail.
-pub fn run_on(
+pub(crate) fn run_on(
     alloc: Global,
     words: &[&str],
     script: &[u8],
@@ -30,7 +30,7 @@ pub fn run_on(
 }
 
 /// Whether a run, where the read and the write of the number `fails` fail, ends so and wrote this.
-pub fn ends_as(
+pub(crate) fn ends_as(
     alloc: Global,
     words: &[&str],
     script: &[u8],
