@@ -162,7 +162,7 @@ module _ (names : NamingState) where
   parted (h ∷ hs) all [] =
       let e = parted hs all.1 [] in (
         ap (λ b. cond (not b) (h ∷ filter is_of_request hs) (filter is_of_request hs)) all.0 ∙ e.0,
-        ap (λ b. cond b (h ∷ filter declares hs) (filter declares hs)) all.0 ∙ ap (λ l. h ∷ l) e.1
+        ap (λ b. cond b (h ∷ filter declares hs) (filter declares hs)) all.0 ∙ ap (λ l. h ∷ l) e.1,
       )
 
 pub call_behind : (s : State) (c : Call) → filter is_of_request (step s c).handed ++ filter declares (step s c).handed ≡ (step s c).handed

@@ -391,10 +391,13 @@ module _ (config : Settings) where
   one_more : (calls : List Call) (c : Call) → KeepsAll calls → KeepsAll (calls ++ c ∷ [])
   one_more calls c k =
       subst (λ (x : State × ((ℕ → Heard) × (ℕ → ℕ))). Keeps config.start.told x.0.core x.1.0 x.1.1)
-      (λ m. (sym (after_both calls (c ∷ []) (opening_state config)) m, (
-        λ face. sym (kept_both with_told face calls (c ∷ []) (opening_state config) []) m,
-        λ face. sym (kept_both greatest_with face calls (c ∷ []) (opening_state config) config.start.told) m
-      )))
+      (λ m. (
+        sym (after_both calls (c ∷ []) (opening_state config)) m,
+        (
+          λ face. sym (kept_both with_told face calls (c ∷ []) (opening_state config) []) m,
+          λ face. sym (kept_both greatest_with face calls (c ∷ []) (opening_state config) config.start.told) m,
+        ),
+      ))
       (step_keeps config calls c (λ face. heard_in face config calls) (λ face. last_in face config calls) k)
 
   more : (calls rest : List Call) → KeepsAll calls → KeepsAll (calls ++ rest)
