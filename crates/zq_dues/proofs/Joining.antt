@@ -34,9 +34,16 @@ use Rattle.zq_machine.specs.TextCalls.{opening}
 use Rattle.zq_machine.specs.Trees.{own_entry, with_other}
 use Rattle.zq_machine.proofs.Changing.{hat_here, number_test, region_there}
 use Rattle.zq_machine.proofs.Folding.{fold_put, fold_set}
-use Rattle.zq_dues.specs.Dues.{all_keys, dues_as, hears_as, listens_as}
+use Rattle.zq_dues.specs.Dues.{all_keys, dues_as, hears_as, listens_as, will_be_due, will_listen}
 use Rattle.zq_dues.specs.Over.{IsOpening, looked_as}
 use Rattle.zq_dues.proofs.Nexts.{dues_are}
+
+-- ---- a face that listens on nothing unasked, and asks for nothing
+pub none_listening : (asks : List ℕ → Bool) (face : ℕ) (o : OpenFace) (hats : List (ℕ × HatState)) → ((key : List ℕ) → asks key ≡ false) → listens_as false hats o ≡ false → (keys : List (List ℕ)) → dues_as asks None face o hats keys ≡ []
+none_listening asks face o hats unasked deaf [] = refl
+none_listening asks face o hats unasked deaf (k ∷ ks) =
+    ap (λ b. map (will_be_due asks None face o hats) (cond b (k ∷ filter (will_listen asks None o hats) ks) (filter (will_listen asks None o hats) ks))) (ap (λ b. listens_as b hats o) (unasked k) ∙ deaf)
+    ∙ none_listening asks face o hats unasked deaf ks
 
 -- ---- a hat that a face joins
 module _ (r : FaceRecord) where

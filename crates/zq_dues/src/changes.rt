@@ -33,7 +33,9 @@ use zq_tables::RegionMap;
 /// What own trees are told of a key, and what will be due there to faces.
 #[derive(Drop)]
 pub struct Gathered {
+    /// What the children of own trees are told.
     pub told: TellingList,
+    /// What will be due to open faces.
     pub dues: DuesList,
 }
 
@@ -64,8 +66,9 @@ pub fn dues_on<A: Asking>(
     )
 }
 
-/// The same on keys in any order, on each of which the change is the same, and but for a face that is
-/// closed.
+/// The same on keys in any order, where the hats are the same after the change whichever the key is,
+/// and but for a face that is closed. Refused only where memory is lacking, and then nothing is
+/// changed.
 pub fn dues_on_all<A: Asking>(
     alloc: Global,
     faces: &BTreeMap<u32, OpenFace>,
@@ -81,7 +84,8 @@ pub fn dues_on_all<A: Asking>(
     dues_over(alloc, faces, but, hats, Some(next), asking, keys.as_slice())
 }
 
-/// What will be due to the other faces where a face leaves its hat.
+/// What will be due to the other faces, on the keys that a face declared, where it leaves its hat.
+/// Refused only where memory is lacking, and then nothing is changed.
 pub fn dues_left<A: Asking>(
     alloc: Global,
     faces: &BTreeMap<u32, OpenFace>,
@@ -111,6 +115,7 @@ pub fn dues_left<A: Asking>(
 }
 
 /// What own trees are told of a key, and what will be due there, once the region's hat has changed.
+/// Refused only where memory is lacking, and then nothing is changed.
 pub fn gather<A: Asking>(
     alloc: Global,
     faces: &BTreeMap<u32, OpenFace>,

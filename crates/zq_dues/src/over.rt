@@ -1,6 +1,6 @@
 //! What a whole call looks at: at each face that is open after it those of its keys on which the
-//! face listens; at a new face all keys.
-ghost use Rattle.std.specs.Prelude.{◌≡◌, ◌++◌, IfOk, OnOk, None, option_copied};
+//! face listens; at a new face those of all keys.
+ghost use Rattle.std.specs.Prelude.{◌≡◌, ◌++◌, ℕ, List, false, IfOk, OnOk, None, option_copied};
 ghost use Rattle.zq_interests.specs.Interests.{Interests};
 ghost use Rattle.zq_machine.specs.declared.call.Opening.{Opening};
 ghost use Rattle.zq_machine.specs.Deciding.{with_face};
@@ -10,6 +10,7 @@ ghost use Rattle.zq_machine.specs.TextCalls.{opening};
 ghost use Rattle.zq_dues.specs.Dues.{all_keys};
 ghost use Rattle.zq_dues.specs.Over.{AreAfter, IsOpening, faces_but, is_gone, looked_as, looked_over_as};
 
+use crate::due::listens;
 use crate::dues::{Asking, dues_of_face};
 use crate::keys::met_keys;
 use crate::types::{DuesList, HatChange};
@@ -45,9 +46,10 @@ fn list_face(list: &mut DuesList, face: FaceId, dues: KeyDues) -> Result<(), Out
     Ok(())
 }
 
-/// The dues of each open face on the keys, once a hat has changed, in order of their numbers: of all
-/// faces but one that a closing takes away. A face with none is left out, and where there are no
-/// keys, no face is looked at. Refused only where memory is lacking, and then nothing is changed.
+/// What will be due to each open face on those of the keys on which it listens, once a hat has
+/// changed, in order of their numbers: to all faces but one that a closing takes away. A face that
+/// listens on none is left out, and where there are no keys, no face is looked at. Refused only where
+/// memory is lacking, and then nothing is changed.
 pub fn dues_over<A: Asking>(
     alloc: Global,
     faces: &BTreeMap<u32, OpenFace>,
@@ -74,9 +76,10 @@ pub fn dues_over<A: Asking>(
     Ok(list)
 }
 
-/// The dues of a face that is about to be opened, on all keys on which regions have information, by
-/// the hats as they are before it joins its region: one entry, or none. Refused only where memory is
-/// lacking, and then nothing is changed.
+/// What will be due to a face that is about to be opened and asks for nothing yet, on those of all
+/// keys with information on which it listens, by the hats as they are before it joins its region: one
+/// entry, or none. Keys are gathered only for a face that listens unasked. Refused only where memory
+/// is lacking, and then nothing is changed.
 pub fn dues_at_opening<A: Asking>(
     alloc: Global,
     hats: &RegionMap<Hat>,
@@ -84,9 +87,13 @@ pub fn dues_at_opening<A: Asking>(
     face: FaceId,
     opened: OpenFace,
 ) -> Result<DuesList, OutOfMemory>
+    requires unasked { (key : List ℕ) → A.asks asking.now face.0 key ≡ false }
     ensures dues { IfOk result (λ ds. ds ≡ looked_as (A.asks asking.now) None hats.now (all_keys hats.now) (face.0, opened)) }
     ensures same { (c : Core) (ints : Interests) (o : Opening) → IsOpening c ints (A.asks asking.now face.0) face.0 opened o hats.now → IfOk result (λ ds. ds ≡ looked_at c (with_face o c) ints (opening o)) }
 {
+    if !listens(hats, opened, false) {
+        return Ok(Items::new(alloc));
+    }
     let keys = met_keys(alloc, hats, None)?;
     let dues = dues_of_face(alloc, hats, None, asking, face, opened, keys.as_slice())?;
     let mut list = Items::new(alloc);

@@ -329,6 +329,7 @@ module _ (config : Settings) (calls : List Call) (c : Call) (heards : ℕ → He
         record {
           ear = x.ear;
           is = x.is;
+          some = subst (λ ints. (keys : List (List ℕ)) × HaveChanges d ints face x.ear keys) ints_are x.told.some;
           exactly = λ keys have.
               told_only face (in_order (due_trees config s i t ++ neighbours config s i t h j))
               ∙ ap (map from_hat) (only_near face (hears_all face n) ∙ sym (x.told.exactly keys (subst (λ ints. HaveChanges d ints face x.ear keys) (sym ints_are) have)))

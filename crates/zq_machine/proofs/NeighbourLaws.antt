@@ -27,7 +27,7 @@ use Rattle.zq_machine.proofs.NeighbourAll.{all_hear, closed_untold, ears_sound, 
 use Rattle.zq_machine.proofs.NeighbourAnswers.{asked_told, drops_none}
 use Rattle.zq_machine.proofs.NeighbourAsked.{asker_ended, asker_told, lacks_asked, none_lack, others_asked, others_ended, others_untold, untold}
 use Rattle.zq_machine.proofs.NeighbourIds.{enough, lacks_are, new_face, opens}
-use Rattle.zq_machine.proofs.NeighbourTells.{tells_exactly}
+use Rattle.zq_machine.proofs.NeighbourTells.{have_looked, tells_exactly}
 use Rattle.zq_machine.proofs.NeighbourTold.{call_told, last_told, new_beside, open_after}
 
 module _ (config : Settings) (calls : List Call) where
@@ -42,6 +42,7 @@ module _ (config : Settings) (calls : List Call) where
       → (h : Hears s.core ints ears face heard) → FaceTold s.core (after s c).core ints (read s c) ears face h.ear heard
   face_told c ints ears face heard was seen h = record {
     keeps = call_told config s i (read s c) ints face seen was ears heard (λ key. listens_stay config calls c ints face key was seen) h;
+    some = have_looked config s i (read s c) ints face seen h.ear h.told (λ key off. ap (λ b. cond b (heard_there s.core face key) None) (sym (listens_stay config calls c ints face key was seen) ∙ off));
     exactly = tells_exactly config s i (read s c) ints face seen h.ear h.told
         (λ key off. ap (λ b. cond b (heard_there s.core face key) None) (sym (listens_stay config calls c ints face key was seen) ∙ off)) ears
         (new_beside config s i (read s c) ints face seen was ears (read s c) ∙ h.there);
@@ -55,6 +56,7 @@ module _ (config : Settings) (calls : List Call) where
       let none : (key : List ℕ) → due s.core ints face key ≡ None = λ key. closed_undue s.core ints face key was in
       record {
         keeps = new_hears config s i (read s c) ints ears face seen was;
+        some = have_looked config s i (read s c) ints face seen (fresh_ear s.core.config.start.told) (λ key. sym (none key)) (λ key off. none key);
         exactly = tells_exactly config s i (read s c) ints face seen (fresh_ear s.core.config.start.told) (λ key. sym (none key)) (λ key off. none key) ears (new_face config s i ints ears (read s c) face seen was).1;
         last = new_last config s i (read s c) ints ears face seen was;
       }

@@ -61,6 +61,10 @@ module _ (config : Settings) (s : State) (i : Kept config s) (t : TextCall) (int
   difference_is : (keys : List (List ℕ)) → told_in Unasked face ear (map (due_on w ints face) keys) ≡ told_in Unasked face ear (map (due_on w ints face) (filter changes keys))
   difference_is keys = (tells_difference face ear (map (due_on w ints face) keys)).0 ∙ ap (told_in Unasked face ear) (filter_rows (due w ints face) (differs ear.told) keys)
 
+  -- the keys that are looked at have all changes
+  pub have_looked : (keys : List (List ℕ)) × HaveChanges w ints face ear keys
+  have_looked = (keys_looked, record { rise = looked_rise config s i t ints face; all = λ key change. among key keys_looked ∙ changed_by key (is_among key keys_looked) refl change })
+
   pub tells_exactly : (ears : Ears) → at_face face (with_new s.core t ears) ≡ Some ear → (keys : List (List ℕ)) → HaveChanges w ints face ear keys
       → told_in Unasked face ear (map (due_on w ints face) keys) ≡ filter (is_to face) (neighbours_told s.core w ints t ears)
   tells_exactly ears there keys have =

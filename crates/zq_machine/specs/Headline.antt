@@ -238,7 +238,7 @@ pub record KeepsPromises (s : State) (c : Call) : Type 0 where
   pub closed : (face : ℕ) → is_closed (after s c).core.queries.closed face ≡ (closes face c (step s c) || is_closed s.core.queries.closed face)
   pub refusals : RefusesBy (refusal_of s.core (read s c)) s c
 
--- what a whole run promises: each of its calls keeps its promises; the configuration stays, and what stands of each face and of the routers of each region, and which lists of gateways there are, is what the calls and their answers made of it; the hats stand by place, and each is of what it was made for; the open faces, the hats and what stands for keys agree; what a child of a root's tree knows of it is what stands of the root; what the receiver of an open face outside regions of routers keeps is what is due to it, and each call hands it the difference; no face asks to hear of a key yet; accepted requests, opened faces and replies are numbered one after another, and the id that was last given at a face is that of the last request handed to it; each message that it hands, but for declarations, is of a request, and each reply and final goes to the request's asker, under the asker's id; it hands one final of a request at most, and nothing of the request afterwards
+-- what a whole run promises: each of its calls keeps its promises; the configuration stays, and what stands of each face and of the routers of each region, and which lists of gateways there are, is what the calls and their answers made of it; the hats stand by place, and each is of what it was made for; the open faces, the hats and what stands for keys agree; what a child of a root's tree knows of it is what stands of the root; what the receiver of an open face outside regions of routers keeps is what is due to it, and each accepted call hands it the difference; no face asks to hear of a key yet; accepted requests, opened faces and replies are numbered one after another, and the next face by what comes after them; and the id that was last given at a face is that of the last request handed to it; each message that it hands, but for declarations, is of a request, and each reply and final goes to the request's asker, under the asker's id; it hands one final of a request at most, and nothing of the request afterwards
 pub record RunPromise (config : Settings) (calls : List Call) : Type 0 where
   pub each : (before rest : List Call) (c : Call) → calls ≡ before ++ c ∷ rest → KeepsPromises (state_after (opening_state config) before) c
   pub settings : (state_after (opening_state config) calls).core.config ≡ config

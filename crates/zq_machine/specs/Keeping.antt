@@ -90,10 +90,11 @@ KeepPromise config calls =
     (before rest : List Call) → calls ≡ before ++ rest → (face : ℕ) → IsNear face (state_after (opening_state config) before).core
     → KeepsDue (state_after (opening_state config) before).core face (heard_in face config before) (last_in face config before)
 
--- the face is told the difference between what is kept of it and what is due: over any keys in order that have all on which there is one (the keys that are due, with those that were told, are such), each that is due with another information than was told is told under the id that it has, or under the next; and of each that is not due any more that its id ended
+-- the face is told the difference between what is kept of it and what is due: over any keys in order that have all on which there is one, as some do, each that is due with another information than was told is told under the id that it has, or under the next; and of each that is not due any more that its id ended
 pub record TellsChanges (c : Core) (face : ℕ) (heard : Heard) (last : ℕ) (told : List Telling) : Type 0 where
   pub ear : Ear
   pub is : IsKept ear heard last
+  pub some : (keys : List (List ℕ)) × HaveChanges c c.interests face ear keys
   pub exactly : (keys : List (List ℕ)) → HaveChanges c c.interests face ear keys → filter (is_told face) told ≡ map from_hat (told_in Unasked face ear (map (due_on c c.interests face) keys))
 
 -- so does each accepted call of a run, at each face that is near after it

@@ -76,9 +76,10 @@ makes_due t = false
 
 -- ---- the laws
 
--- a call that is no interest, and one face: its receiver keeps afterwards what is due then; and it is told the difference between what it was told and what is due, over any keys in order that have all on which there is one; the id given last is then the greatest that it was told of
+-- a call that is no interest, and one face: its receiver keeps afterwards what is due then; and it is told the difference between what it was told and what is due, over any keys in order that have all on which there is one, as some do; the id given last is then the greatest that it was told of
 pub record FaceTold (before after : Core) (ints : Interests) (t : TextCall) (ears : Ears) (face : ℕ) (ear : Ear) (heard : Heard) : Type 0 where
   pub keeps : Hears after ints (ears_after before after ints t ears) face (heard_over before after ints t ears face heard)
+  pub some : (keys : List (List ℕ)) × HaveChanges after ints face ear keys
   pub exactly : (keys : List (List ℕ)) → HaveChanges after ints face ear keys → told_in Unasked face ear (map (due_on after ints face) keys) ≡ filter (is_to face) (neighbours_told before after ints t ears)
   pub last : last_at face (ears_after before after ints t ears) ≡ Some (fold last_given ear.last (filter (is_to face) (neighbours_told before after ints t ears)))
 

@@ -3,7 +3,7 @@
 //! as a change of one region would make them.
 //!
 //! - `hats`: the hats of the regions, read and changed
-//! - `seating`: a face that is opened takes its seat
+//! - `seating`: a face enters the open ones, or leaves them
 //! - `entries`: own entries, looked up
 //! - `telling`: whom a change of them is told
 //! - `routers`: what entries of routers change and tell

@@ -1,4 +1,4 @@
-//! A face that is opened takes its seat.
+//! A face that is opened enters the open ones, and those that have numbers.
 #![tactic(auto)]
 
 ghost use Rattle.std.specs.Prelude.{◌≡◌, None, OnOk, OnErr};
