@@ -24,7 +24,7 @@ use Rattle.zq_query.specs.declared.records.ReplyTo.{ReplyTo}
 use Rattle.zq_query.specs.Closing.{at_face}
 use Rattle.zq_query.specs.Polling.{is_due, timeouts, timing_out}
 use Rattle.zq_query.specs.Records.{QueryState, is_entry, next_reply}
-use Rattle.zq_tables.specs.Naming.{NamingState, face_queryables, with_told_number}
+use Rattle.zq_tables.specs.Naming.{NamingState, face_queryables, with_told_number, with_interest, without_interest}
 use Rattle.zq_machine.specs.declared.call.Call.{Call}
 use Rattle.zq_machine.specs.declared.config.Entry.{Entry}
 use Rattle.zq_machine.specs.declared.face.OpenFace.{OpenFace}
@@ -34,7 +34,7 @@ use Rattle.zq_machine.specs.Deciding.{accepted, after_replied, announced_by, cau
 use Rattle.zq_machine.specs.Machine.{accepted_state, state_after}
 use Rattle.zq_machine.specs.Selecting.{full_text}
 use Rattle.zq_machine.specs.State.{State, at, change_hat, clashes_in, first_hats, hat_at, hat_of, is_open, is_region, opening_state, with_hat}
-use Rattle.zq_machine.specs.TextCalls.{TextCall, opening, closing, naming, unnaming, declaring, withdrawing, asking, replying, ending, reporting, passing, listing, finalizing, announcing, retracting, networking, tabling, unbuilt, read}
+use Rattle.zq_machine.specs.TextCalls.{TextCall, opening, closing, naming, unnaming, declaring, withdrawing, asking, replying, ending, reporting, passing, listing, finalizing, announcing, retracting, networking, tabling, hearing, unhearing, read}
 use Rattle.zq_machine.proofs.Agreeing.{Tied, declared_tied, marked_tied, named_tied, noded_tied, renamed_tied, same_faces_tied, some_of, unnamed_tied, withdrawn_tied}
 use Rattle.zq_machine.proofs.Changing.{hat_found, itself, number_test, region_there}
 use Rattle.zq_machine.proofs.Finals.{IsSound, granted_sound, is_there, none_sorted, opening_sound}
@@ -123,7 +123,9 @@ module _ (s : State) (i : IsSound s) (t : IsTied s) where
   granted_tied (tabling face ids) h =
       let x : (o : OpenFace) × (at face.0 s.core.faces ≡ Some o) = opened_face face.0 (all_passed (causes s.core (tabling face ids)) h).0 in
       in_its_hat face.0 (noded face.0 ids) s.core.faces s.names x (noded_tied s.core.faces s.core.hats s.names t face.0 x.0 x.1 ids)
-  granted_tied unbuilt h = t
+  granted_tied (hearing face id keys None) h = t
+  granted_tied (hearing face id keys (Some sd)) h = renamed_tied s.core.faces s.core.hats s.names t face.0 (with_interest id (full_text sd)) (λ n. refl)
+  granted_tied (unhearing face id) h = renamed_tied s.core.faces s.core.hats s.names t face.0 (without_interest id) (λ n. refl)
 
 -- ---- all that holds between two calls
 pub record InOrder (config : Settings) (s : State) : Type 0 where
@@ -160,7 +162,8 @@ granted_numbers s (announcing face sd j node) h i = i
 granted_numbers s (retracting face sd node) h i = i
 granted_numbers s (networking r net) h i = i
 granted_numbers s (tabling face ids) h i = i
-granted_numbers s unbuilt h i = i
+granted_numbers s (hearing face id keys sd) h i = i
+granted_numbers s (unhearing face id) h i = i
 
 pub accepted_in_order : (config : Settings) (s : State) (x : TextCall) → refusal_of s.core x ≡ None → InOrder config s → InOrder config (accepted_state s x)
 accepted_in_order config s x h i = record {

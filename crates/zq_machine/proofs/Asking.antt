@@ -35,7 +35,7 @@ use Rattle.zq_machine.specs.Messages.{TextMessage, text_final}
 use Rattle.zq_machine.specs.Writing.{write}
 use Rattle.zq_machine.specs.Selecting.{full_text, select, target_of}
 use Rattle.zq_machine.specs.State.{Core, State, opening_state}
-use Rattle.zq_machine.specs.TextCalls.{TextCall, opening, closing, naming, unnaming, declaring, withdrawing, asking, replying, ending, reporting, passing, listing, finalizing, announcing, retracting, networking, tabling, unbuilt, read, said as said_by_face}
+use Rattle.zq_machine.specs.TextCalls.{TextCall, opening, closing, naming, unnaming, declaring, withdrawing, asking, replying, ending, reporting, passing, listing, finalizing, announcing, retracting, networking, tabling, hearing, unhearing, read, said as said_by_face, said_if}
 use Rattle.zq_machine.proofs.Lists.{all_append, all_filter, all_weaker}
 use Rattle.zq_machine.proofs.Granted.{all_beside, by_granted}
 use Rattle.zq_machine.proofs.Reading.{declare_read, withdraw_read}
@@ -154,7 +154,8 @@ module _ (P : ℕ → FaceId → ℕ → ℕ → Type 0) where
   each_kept c (retracting face sd node) h all = all
   each_kept c (networking r net) h all = all
   each_kept c (tabling face ids) h all = all
-  each_kept c unbuilt h all = all
+  each_kept c (hearing face id keys sd) h all = all
+  each_kept c (unhearing face id) h all = all
 
 -- ---- what is handed
 module _ (asked : List Final) (names : NamingState) where
@@ -215,7 +216,8 @@ module _ (asked : List Final) (names : NamingState) where
   all_handed c (retracting face sd node) h all = tt
   all_handed c (networking r net) h all = tt
   all_handed c (tabling face ids) h all = tt
-  all_handed c unbuilt h all = tt
+  all_handed c (hearing face id keys sd) h all = tt
+  all_handed c (unhearing face id) h all = tt
 
 -- ---- numbers of requests
 replied_count : (q : QueryState) (o : Option ReplyTo) → (after_replied o q).requests ≡ q.requests
@@ -245,7 +247,8 @@ same_count c (announcing face sd i node) h = refl
 same_count c (retracting face sd node) h = refl
 same_count c (networking r net) h = refl
 same_count c (tabling face ids) h = refl
-same_count c unbuilt h = refl
+same_count c (hearing face id keys sd) h = refl
+same_count c (unhearing face id) h = refl
 
 -- ---- one call
 abbrev Asks : List Final → State → Type 0
@@ -324,8 +327,8 @@ module _ (asked : List Final) (s : State) (all : Asks asked s) where
   call_tells (call.Sent reply) = quiet (reporting reply) refl
   call_tells (call.Poll now) = quiet (passing now) refl
   call_tells (call.SetGateways r t) = quiet (listing r t) refl
-  call_tells (call.Interest face id keys wire) = quiet unbuilt refl
-  call_tells (call.InterestFinal face id) = quiet unbuilt refl
+  call_tells (call.Interest face id keys wire) = quiet (hearing face id keys (said_if face wire s)) refl
+  call_tells (call.InterestFinal face id) = quiet (unhearing face id) refl
   call_tells (call.FinalizeInterest face mark set) = quiet (finalizing face mark set) refl
   call_tells (call.SetNetwork r net) = quiet (networking r net) refl
   call_tells (call.SetNodeIds face ids) = quiet (tabling face ids) refl

@@ -13,9 +13,13 @@ use Rattle.zq_query.specs.Asking.{lacks_number}
 use Rattle.zq_query.specs.Records.{is_pending, lacks_reply}
 use Rattle.zq_machine.specs.declared.call.Refusal.TheVariants as refusal
 use Rattle.zq_machine.specs.State.{Core, hat_of, has_declared_in, clashes_in}
-use Rattle.zq_machine.specs.TextCalls.{TextCall, opening, closing, naming, unnaming, declaring, withdrawing, asking, replying, ending, reporting, passing, listing, finalizing, announcing, retracting, networking, tabling, unbuilt}
-use Rattle.zq_machine.specs.Deciding.{entry_by, entry_of, first_of, clashes, has_declared, lacks_face_number, lacks_router, unknown_face, refusal_of}
-use Rattle.zq_machine.specs.Moved.{move_core, move_text}
+use Rattle.zq_machine.specs.TextCalls.{TextCall, opening, closing, naming, unnaming, declaring, withdrawing, asking, replying, ending, reporting, passing, listing, finalizing, announcing, retracting, networking, tabling, hearing, unhearing}
+use Rattle.zq_machine.specs.Deciding.{asks_another, clashes, entry_by, entry_of, first_of, has_declared, lacks_face_number, lacks_router, refusal_of, same_key, unknown_face}
+use Rattle.zq_interests.specs.declared.types.InterestEntry.{InterestEntry}
+use Rattle.zq_interests.specs.Interests.{interest_at}
+use Rattle.zq_machine.specs.Moved.{move_asked, move_core, move_text}
+use Rattle.zq_machine.specs.Selecting.{asked_by}
+use Rattle.zq_machine.proofs.DuesMoved.{interest_there}
 use Rattle.zq_machine.proofs.ChangedMoved.{lacks_moved}
 use Rattle.zq_machine.proofs.HatsMoved.{declared_moved, clashes_moved, has_moved, full_moved, own_found}
 use Rattle.zq_machine.proofs.RoutersMoved.{entry_moved, router_moved}
@@ -38,6 +42,23 @@ module _ (φ : List ℕ → List ℕ) (keeps : Keeps φ) (c : Core) where
 
   entry_there : (face : FaceId) (node : ℕ) (text : List ℕ) → entry_of face node (φ text) (move_core φ c) ≡ entry_of face node text c
   entry_there face node text = ap (option_and_then (entry_by face.0 node (φ text))) (own_found φ c face.0) ∙ entry_moved φ keeps face.0 node text (hat_of face.0 c)
+
+  same_still : (a b : Option (List ℕ)) → same_key (option_map φ a) (option_map φ b) ≡ same_key a b
+  same_still None None = refl
+  same_still None (Some b) = refl
+  same_still (Some a) None = refl
+  same_still (Some a) (Some b) = keeps.same a b
+
+  another_moved : (face : FaceId) (id : ℕ) (asked : InterestEntry) → asks_another face id (move_asked φ asked) (move_core φ c) ≡ asks_another face id asked c
+  another_moved face id asked = ap (λ o. option_map_or (λ (i : InterestEntry). not (same_key i.key (option_map φ asked.key))) o false) (interest_there φ keeps face.0 id c.interests) ∙ by (interest_at face.0 id c.interests)
+    where
+      by : (o : Option InterestEntry) → option_map_or (λ (i : InterestEntry). not (same_key i.key (option_map φ asked.key))) (option_map (move_asked φ) o) false ≡ option_map_or (λ (i : InterestEntry). not (same_key i.key asked.key)) o false
+      by None = refl
+      by (Some i) = ap not (same_still i.key asked.key)
+
+  none_still : (o : Option InterestEntry) → is_none (option_map (move_asked φ) o) ≡ is_none o
+  none_still None = refl
+  none_still (Some i) = refl
 
   pub refused_alike : (t : TextCall) → refusal_of (move_core φ c) (move_text φ t) ≡ refusal_of c t
   refused_alike (opening o) = λ j. first_of ((not (has_moved φ c o.region j), refusal.UnknownRegion) ∷ (full_moved φ c o.region j, refusal.UpstreamInUse) ∷ (lacks_face_number c, refusal.NoFreeId) ∷ (lacks_moved φ keeps c (opening o) tt j, refusal.NoFreeId) ∷ [])
@@ -78,4 +99,10 @@ module _ (φ : List ℕ → List ℕ) (keeps : Keeps φ) (c : Core) where
       ∷ (is_none (entry_there face node text j), refusal.UnknownId) ∷ [])
   refused_alike (networking r net) = ap (λ b. first_of ((not b, refusal.UnknownRegion) ∷ [])) (has_moved φ c r)
   refused_alike (tabling face ids) = refl
-  refused_alike unbuilt = refl
+  refused_alike (hearing face id keys None) = λ j. first_of (unknown_face face c ∷ (false, refusal.UnknownScope) ∷ (false, refusal.InvalidKeyExpr) ∷ (another_moved face id (asked_by keys None) j, refusal.IdInUse) ∷ (lacks_moved φ keeps c (hearing face id keys None) tt j, refusal.NoFreeId) ∷ [])
+  refused_alike (hearing face id keys (Some said.Unscoped)) = refl
+  refused_alike (hearing face id keys (Some said.Empty)) = refl
+  refused_alike (hearing face id keys (Some (said.Full text))) =
+      λ j. first_of (unknown_face face c ∷ (false, refusal.UnknownScope) ∷ (not (keeps.key text j), refusal.InvalidKeyExpr) ∷ (another_moved face id (asked_by keys (Some (said.Full text))) j, refusal.IdInUse)
+      ∷ (lacks_moved φ keeps c (hearing face id keys (Some (said.Full text))) tt j, refusal.NoFreeId) ∷ [])
+  refused_alike (unhearing face id) = ap (λ b. first_of (unknown_face face c ∷ (b, refusal.UnknownId) ∷ [])) (ap is_none (interest_there φ keeps face.0 id c.interests) ∙ none_still (interest_at face.0 id c.interests))

@@ -1,5 +1,5 @@
 -- What a child of a root's tree knows is what stands of the root.
-use Rattle.std.proofs.Common.{◌≡◌, ◌∙◌, refl, sym, ap, subst, ℕ, Bool, true, false, cond, List, [], ◌∷◌, ◌++◌, fold, Option, Some, None}
+use Rattle.std.proofs.Common.{◌≡◌, ◌∙◌, refl, sym, ap, subst, ℕ, Bool, true, false, cond, List, [], ◌∷◌, ◌++◌, fold, Option, Some, None, map}
 use Rattle.std.specs.List.{AllByRecursion, list_any}
 use Rattle.std.specs.Option.{is_some, option_and_then, option_map, option_map_or}
 use Rattle.std.specs.Str.{bytes_eq}
@@ -20,16 +20,17 @@ use Rattle.zq_hat.specs.declared.types.Strategy.TheVariants as strategy
 use Rattle.zq_hat.specs.Regions.{in_routers, is_north, strategy_at}
 use Rattle.zq_hat.specs.Routers.{announced, entry_at, networked, retracted}
 use Rattle.zq_hat.specs.State.{HatState}
+use Rattle.zq_trees.specs.Tellings.{in_order}
 use Rattle.zq_machine.specs.declared.call.Call.{Call}
 use Rattle.zq_machine.specs.declared.call.Call.TheVariants as call
 use Rattle.zq_machine.specs.Children.{ChildPromise, StaysChild, is_child, is_child_in, is_face_of, known_after, known_in, root_place, said_for, speaks_for, stands_of, with_heard_of, with_news}
 use Rattle.zq_machine.specs.Configs.{Settings}
 use Rattle.zq_interests.specs.Interests.{asks_for}
-use Rattle.zq_machine.specs.Deciding.{accepted, causes, granted, is_accepted, refusal_of, renamed, told_of}
+use Rattle.zq_machine.specs.Deciding.{accepted, causes, granted, is_accepted, refusal_of, renamed, told_of, interests_for}
 use Rattle.zq_machine.specs.Due.{listens_by, listens_in}
 use Rattle.zq_machine.specs.Hearing.{hear}
 use Rattle.zq_machine.specs.Machine.{accepted_state, after, follow, state_after}
-use Rattle.zq_machine.specs.Messages.{key_ended, key_told}
+use Rattle.zq_machine.specs.Messages.{key_ended, key_told, from_hat}
 use Rattle.zq_machine.specs.Selecting.{full_text}
 use Rattle.zq_machine.specs.State.{Core, State, at, hat_at, hat_of, opening_state}
 use Rattle.zq_machine.specs.TextCalls.{TextCall, announcing, retracting, networking, read}
@@ -44,7 +45,7 @@ use Rattle.zq_machine.proofs.Frame.{accepted_config, config_kept, run_config}
 use Rattle.zq_machine.specs.Writing.{write}
 use Rattle.zq_machine.proofs.Granted.{all_passed, by_granted, granted_is_accepted, told_by}
 use Rattle.zq_machine.proofs.DueHeard.{AlongTree, IsOpen, trees_due}
-use Rattle.zq_machine.proofs.Learning.{Says, is_news, order_heard}
+use Rattle.zq_machine.proofs.Learning.{Says, is_news, order_heard, marks_heard}
 use Rattle.zq_machine.proofs.Lists.{all_append, all_weaker}
 use Rattle.zq_machine.proofs.NeighboursTold.{IsNear, neighbours, neighbours_near, seat_home}
 use Rattle.zq_machine.proofs.NetworkTold.{entries_stay, made, network_true}
@@ -194,6 +195,7 @@ module _ (config : Settings) (s : State) (i : InOrder config s) (same_config : s
       ≡ stands config s i t fits j r face root key b.hat b.its b.node b.place b.child b.routes
   learned t known fits j b is =
       ap (λ o. fold (with_heard_of face o key) said (told_of s.core t)) (ap (option_and_then (λ (h : HatState). place_of h.network root)) b.its ∙ b.place)
+      ∙ marks_heard face (Some b.node) key t (map from_hat (in_order (all ++ near))) said
       ∙ order_heard face (Some b.node) key stands_after (all ++ near) said
       (all_append (Says face (Some b.node) key stands_after) all near
       (all_say all
@@ -223,16 +225,16 @@ module _ (config : Settings) (s : State) (i : InOrder config s) (same_config : s
       all_say (u ∷ us) true_ones along = (record { id = λ on. along.0.id; info = true_ones.0 }, all_say us true_ones.1 along.1)
 
       -- a router's face is told nothing as a neighbour
-      deaf : (u : TreeTelling) → IsNear (renamed s t) (accepted s.core t) s.core.interests u → is_news face (Some b.node) key u ≡ true → ⊥
+      deaf : (u : TreeTelling) → IsNear (renamed s t) (accepted s.core t) (interests_for s.core t) u → is_news face (Some b.node) key u ≡ true → ⊥
       deaf u is_near on =
           let there : hat_of u.face.0 (accepted s.core t) ≡ Some b.hat = ap (λ n. hat_of n (accepted s.core t)) (news_parts face b.node key u on).0 ∙ child_home (accepted_state s t) j r face root key b in
           false≢true
-          (sym (ap (λ (o : Option HatState). option_map_or (listens_in s.core.interests u.face.0 u.key) o false) there ∙ ap (λ k. listens_by k (is_north b.hat.region) (asks_for u.face.0 u.key s.core.interests)) b.routes)
+          (sym (ap (λ (o : Option HatState). option_map_or (listens_in (interests_for s.core t) u.face.0 u.key) o false) there ∙ ap (λ k. listens_by k (is_north b.hat.region) (asks_for u.face.0 u.key (interests_for s.core t))) b.routes)
           ∙ is_near.listens)
 
       far : AllByRecursion (λ u. is_news face (Some b.node) key u ≡ false) near
       far =
-          all_weaker (IsNear (renamed s t) (accepted s.core t) s.core.interests) (λ u. is_news face (Some b.node) key u ≡ false)
+          all_weaker (IsNear (renamed s t) (accepted s.core t) (interests_for s.core t)) (λ u. is_news face (Some b.node) key u ≡ false)
           (λ u is_near. off (is_news face (Some b.node) key u) (deaf u is_near)) near (neighbours_near config s i t fits j)
 
       by : (x : Bool) → list_any (is_news face (Some b.node) key) all ≡ x → cond x stands_after said ≡ stands_after

@@ -13,7 +13,7 @@ use Rattle.zq_machine.specs.Asked.{closes}
 use Rattle.zq_machine.specs.Deciding.{accepted, after_replied, decide, is_accepted}
 use Rattle.zq_machine.specs.Machine.{accepted_state, after, settle, step}
 use Rattle.zq_machine.specs.State.{Core, State}
-use Rattle.zq_machine.specs.TextCalls.{TextCall, opening, closing, naming, unnaming, declaring, withdrawing, asking, replying, ending, reporting, passing, listing, finalizing, announcing, retracting, networking, tabling, unbuilt, read}
+use Rattle.zq_machine.specs.TextCalls.{TextCall, opening, closing, naming, unnaming, declaring, withdrawing, asking, replying, ending, reporting, passing, listing, finalizing, announcing, retracting, networking, tabling, hearing, unhearing, read, said_if}
 use Rattle.zq_machine.proofs.Changing.{number_test}
 use Rattle.zq_machine.proofs.Finals.{put_closed, timing_closed}
 use Rattle.zq_machine.proofs.Granted.{by_granted}
@@ -39,7 +39,8 @@ is_closing (announcing face sd i node) = false
 is_closing (retracting face sd node) = false
 is_closing (networking r net) = false
 is_closing (tabling face ids) = false
-is_closing unbuilt = false
+is_closing (hearing face id keys sd) = false
+is_closing (unhearing face id) = false
 
 replied_closed : (q : QueryState) (o : Option ReplyTo) → (after_replied o q).closed ≡ q.closed
 replied_closed q None = refl
@@ -64,7 +65,8 @@ same_closed c (announcing face sd i node) h = refl
 same_closed c (retracting face sd node) h = refl
 same_closed c (networking r net) h = refl
 same_closed c (tabling face ids) h = refl
-same_closed c unbuilt h = refl
+same_closed c (hearing face id keys sd) h = refl
+same_closed c (unhearing face id) h = refl
 
 module _ (s : State) (face : ℕ) where
   quiet : (t : TextCall) → is_closing t ≡ false → is_closed (settle s t).core.queries.closed face ≡ is_closed s.core.queries.closed face
@@ -91,8 +93,8 @@ module _ (s : State) (face : ℕ) where
   call_closed (call.Sent reply) = quiet (reporting reply) refl
   call_closed (call.Poll now) = quiet (passing now) refl
   call_closed (call.SetGateways r t) = quiet (listing r t) refl
-  call_closed (call.Interest f id keys wire) = quiet unbuilt refl
-  call_closed (call.InterestFinal f id) = quiet unbuilt refl
+  call_closed (call.Interest f id keys wire) = quiet (hearing f id keys (said_if f wire s)) refl
+  call_closed (call.InterestFinal f id) = quiet (unhearing f id) refl
   call_closed (call.FinalizeInterest f mark set) = quiet (finalizing f mark set) refl
   call_closed (call.SetNetwork r net) = quiet (networking r net) refl
   call_closed (call.SetNodeIds f ids) = quiet (tabling f ids) refl

@@ -23,7 +23,7 @@ use Rattle.zq_machine.specs.Messages.{Decided, text_final}
 use Rattle.zq_machine.specs.declared.face.OpenFace.{OpenFace}
 use Rattle.zq_machine.specs.State.{Core, at, is_open}
 use Rattle.zq_machine.specs.Selecting.{select_for, select}
-use Rattle.zq_machine.specs.TextCalls.{TextCall, opening, closing, naming, unnaming, declaring, withdrawing, asking, replying, ending, reporting, passing, listing, finalizing, announcing, retracting, networking, tabling, unbuilt}
+use Rattle.zq_machine.specs.TextCalls.{TextCall, opening, closing, naming, unnaming, declaring, withdrawing, asking, replying, ending, reporting, passing, listing, finalizing, announcing, retracting, networking, tabling, hearing, unhearing}
 use Rattle.zq_machine.specs.Deciding.{refusal_of, handed_request, handed_requests, handed_reply, timed_out, handed_timeouts, passing_finals, replied, granted, messages_of, outcome_of, answered, decide, is_accepted, accepted}
 use Rattle.zq_machine.specs.Moved.{move_said, move_text, move_core, move_suffix, move_message, move_decided, after_text, DecidesAlike}
 use Rattle.zq_machine.proofs.ChangedMoved.{accepted_moved, told_moved}
@@ -110,7 +110,8 @@ module _ (φ : List ℕ → List ℕ) where
     messages_moved (retracting face sd node) e = refl
     messages_moved (networking r net) e = refl
     messages_moved (tabling face ids) e = refl
-    messages_moved unbuilt e = refl
+    messages_moved (hearing face id keys sd) e = refl
+    messages_moved (unhearing face id) e = refl
 
     outcome_moved : (t : TextCall) → outcome_of (move_core φ c) (move_text φ t) ≡ outcome_of c t
     outcome_moved (opening o) = refl

@@ -20,8 +20,8 @@ use Rattle.zq_hat.specs.Trees.{region_keys}
 use Rattle.zq_hat.proofs.OffersMoved.{key_moved}
 use Rattle.zq_machine.specs.declared.face.OpenFace.{OpenFace}
 use Rattle.zq_machine.specs.Due.{due, due_keys, due_touched, heard, heard_as, heard_by, heard_in, listens, listens_by, listens_in, met_keys, with_region_keys}
-use Rattle.zq_interests.specs.Interests.{Interests, asks_for, interests_of, meets, wants}
-use Rattle.zq_machine.specs.Moved.{move_core, move_interest, move_interests, move_region, move_text}
+use Rattle.zq_interests.specs.Interests.{Interests, asks_for, interests_of, meets, wants, interest_at}
+use Rattle.zq_machine.specs.Moved.{move_core, move_interest, move_interests, move_region, move_text, move_asked}
 use Rattle.zq_machine.specs.State.{Core, at, hat_at, hat_of}
 use Rattle.zq_machine.specs.TextCalls.{TextCall, opening}
 use Rattle.zq_machine.specs.Trees.{touched}
@@ -35,13 +35,16 @@ module _ (φ : List ℕ → List ℕ) (keeps : Keeps φ) where
   meets_moved None key = refl
   meets_moved (Some k) key = keeps.meet k key
 
-  interests_moved : (face : ℕ) (ints : Interests) → interests_of face (move_interests φ ints) ≡ map (move_interest φ) (interests_of face ints)
+  pub interests_moved : (face : ℕ) (ints : Interests) → interests_of face (move_interests φ ints) ≡ map (move_interest φ) (interests_of face ints)
   interests_moved face ints =
       ap (λ (o : Option (List (ℕ × InterestEntry))). option_map_or (λ es. es) o []) (lookup-map_values (map (move_interest φ)) (is_at (nat_cmp face)) ints) ∙ by (at face ints)
     where
       by : (o : Option (List (ℕ × InterestEntry))) → option_map_or (λ es. es) (option_map (map (move_interest φ)) o) [] ≡ map (move_interest φ) (option_map_or (λ es. es) o [])
       by None = refl
       by (Some es) = refl
+
+  pub interest_there : (face id : ℕ) (ints : Interests) → interest_at face id (move_interests φ ints) ≡ option_map (move_asked φ) (interest_at face id ints)
+  interest_there face id ints = ap (at id) (interests_moved face ints) ∙ lookup-map_values (move_asked φ) (is_at (nat_cmp id)) (interests_of face ints)
 
   asks_moved : (face : ℕ) (key : List ℕ) (ints : Interests) → asks_for face (φ key) (move_interests φ ints) ≡ asks_for face key ints
   asks_moved face key ints =

@@ -34,7 +34,7 @@ use Rattle.zq_machine.specs.declared.face.OpenFace.{OpenFace}
 use Rattle.zq_machine.specs.Configs.{Settings}
 use Rattle.zq_machine.specs.State.{State, Core, at, is_open, opening_state}
 use Rattle.zq_machine.specs.Selecting.{select, full_text, target_of}
-use Rattle.zq_machine.specs.TextCalls.{TextCall, opening, closing, naming, unnaming, declaring, withdrawing, asking, replying, ending, reporting, passing, listing, finalizing, announcing, retracting, networking, tabling, unbuilt, read}
+use Rattle.zq_machine.specs.TextCalls.{TextCall, opening, closing, naming, unnaming, declaring, withdrawing, asking, replying, ending, reporting, passing, listing, finalizing, announcing, retracting, networking, tabling, hearing, unhearing, read}
 use Rattle.zq_machine.specs.Deciding.{timed_out, causes, refusal_of, granted, accepted, after_replied, deadline, handed_reply, handed_request, handed_requests, handed_replies, handed_timeouts, opened, passing_finals, replied}
 use Rattle.zq_machine.specs.Machine.{after, state_after, step}
 use Rattle.zq_machine.specs.Messages.{text_final}
@@ -150,7 +150,8 @@ granted_sound c (announcing face sd i node) h s = s
 granted_sound c (retracting face sd node) h s = s
 granted_sound c (networking r net) h s = s
 granted_sound c (tabling face ids) h s = s
-granted_sound c unbuilt h s = s
+granted_sound c (hearing face id keys sd) h s = s
+granted_sound c (unhearing face id) h s = s
 
 abbrev pub IsSound : State → Type 0
 IsSound s = Sound s.core.faces s.core.next_face s.core.queries
@@ -280,7 +281,8 @@ granted_balance n s (announcing face sd j node) h i = omega arith
 granted_balance n s (retracting face sd node) h i = omega arith
 granted_balance n s (networking r net) h i = omega arith
 granted_balance n s (tabling face ids) h i = omega arith
-granted_balance n s unbuilt h i = omega arith
+granted_balance n s (hearing face id keys sd) h i = omega arith
+granted_balance n s (unhearing face id) h i = omega arith
 
 pub call_balance : (n : ℕ) (s : State) (c : Call) → IsSound s → finals_of n (step s c) + to_come (after s c).core.queries.closed n (after s c).core.queries ≡ to_come (after s c).core.queries.closed n s.core.queries
 call_balance n s c i =

@@ -20,7 +20,7 @@ use Rattle.zq_machine.specs.Deciding.{Cause, accepted, answered, causes, first_o
 use Rattle.zq_machine.specs.Machine.{accepted_state, answer, refused_step, settle}
 use Rattle.zq_machine.specs.Messages.{Decided}
 use Rattle.zq_machine.specs.State.{Core, State, face_region}
-use Rattle.zq_machine.specs.TextCalls.{TextCall, opening, closing, naming, unnaming, declaring, withdrawing, asking, replying, ending, reporting, passing, listing, finalizing, announcing, retracting, networking, tabling, unbuilt}
+use Rattle.zq_machine.specs.TextCalls.{TextCall, opening, closing, naming, unnaming, declaring, withdrawing, asking, replying, ending, reporting, passing, listing, finalizing, announcing, retracting, networking, tabling, hearing, unhearing}
 use Rattle.zq_machine.specs.Writing.{Told, sent_final, tell, write}
 use Rattle.zq_machine.proofs.Lists.{all_append}
 use Rattle.zq_machine.proofs.Replies.{next-pending}
@@ -67,7 +67,8 @@ granted_is_accepted c (announcing face sd i node) h = refl
 granted_is_accepted c (retracting face sd node) h = refl
 granted_is_accepted c (networking r net) h = refl
 granted_is_accepted c (tabling face ids) h = refl
-granted_is_accepted c unbuilt h = refl
+granted_is_accepted c (hearing face id keys sd) h = refl
+granted_is_accepted c (unhearing face id) h = refl
 
 -- ---- each call
 -- what an accepted call tells

@@ -33,7 +33,7 @@ use Rattle.zq_machine.specs.Machine.{step}
 use Rattle.zq_machine.specs.Messages.{TextMessage, text_final, text_reply, text_request}
 use Rattle.zq_machine.specs.Selecting.{full_text, select}
 use Rattle.zq_machine.specs.State.{Core, State}
-use Rattle.zq_machine.specs.TextCalls.{TextCall, opening, closing, declaring, withdrawing, asking, replying, ending, reporting, passing, announcing, retracting, networking, read}
+use Rattle.zq_machine.specs.TextCalls.{TextCall, opening, closing, declaring, withdrawing, asking, replying, ending, reporting, passing, announcing, retracting, networking, read, hearing}
 use Rattle.zq_machine.specs.Writing.{write, written}
 use Rattle.zq_machine.proofs.Granted.{by_granted, mapped_beside, told_by}
 use Rattle.zq_machine.proofs.Lists.{all_append, sorted_left, sorted_numbers}
@@ -67,6 +67,7 @@ may_text (withdrawing face id) m = is_declaration m
 may_text (announcing face s i n) m = is_declaration m
 may_text (retracting face s n) m = is_declaration m
 may_text (networking r net) m = is_declaration m
+may_text (hearing face id keys sd) m = is_declaration m
 may_text t m = false
 
 may_read : (s : State) (c : Call) (m : Message) → may_text (read s c) m ≡ may_hand c m
@@ -142,6 +143,7 @@ told_fit s (withdrawing face id) = declared_fit s (withdrawing face id) is_decla
 told_fit s (announcing face sd i n) = declared_fit s (announcing face sd i n) is_declaration (λ d. refl)
 told_fit s (retracting face sd n) = declared_fit s (retracting face sd n) is_declaration (λ d. refl)
 told_fit s (networking r net) = declared_fit s (networking r net) is_declaration (λ d. refl)
+told_fit s (hearing face id keys sd) = declared_fit s (hearing face id keys sd) is_declaration (λ d. refl)
 told_fit s t = tt
 
 pub call_fits : (s : State) (c : Call) → AllByRecursion (IsFit (may_hand c)) (step s c).handed

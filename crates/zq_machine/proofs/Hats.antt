@@ -30,7 +30,7 @@ use Rattle.zq_machine.specs.Configs.{Settings, north_of, region_of}
 use Rattle.zq_machine.specs.Deciding.{accepted, announced_by, retracted_by, seat}
 use Rattle.zq_machine.specs.Selecting.{full_text}
 use Rattle.zq_machine.specs.State.{Core, at, change_hat, change_hat_of, first_hats, hat_at, hat_of, is_region, joined, put_hat, with_hat, kind_of}
-use Rattle.zq_machine.specs.TextCalls.{TextCall, opening, closing, naming, unnaming, declaring, withdrawing, asking, replying, ending, reporting, passing, listing, finalizing, announcing, retracting, networking, tabling, unbuilt}
+use Rattle.zq_machine.specs.TextCalls.{TextCall, opening, closing, naming, unnaming, declaring, withdrawing, asking, replying, ending, reporting, passing, listing, finalizing, announcing, retracting, networking, tabling, hearing, unhearing}
 use Rattle.zq_machine.proofs.Changing.{one_number, region_there}
 use Rattle.zq_machine.proofs.Finals.{none_sorted}
 use Rattle.zq_key.proofs.Lookups.{found_after_insertion, found_after_write}
@@ -182,7 +182,8 @@ module _ (told : ℕ) (first : List (ℕ × HatState)) (c : Core) (a : AreHats t
   accepted_hats (retracting face s n) = in_its_hat face.0 (retracted_by face.0 n (full_text s)) (retracted_bare face.0 n (full_text s))
   accepted_hats (networking r net) = changed_hats told first r (networked net) c.hats (networked_bare net) a
   accepted_hats (tabling face ids) = in_its_hat face.0 (noded face.0 ids) (λ h. refl)
-  accepted_hats unbuilt = a
+  accepted_hats (hearing face id keys sd) = a
+  accepted_hats (unhearing face id) = a
 
 -- ---- before any call
 module _ (config : Settings) where

@@ -1,12 +1,12 @@
 -- What receivers of neighbours keep over a run is, after every call, what is due to them.
 use Rattle.std.proofs.Common.{◌≡◌, ◌∙◌, refl, sym, ap, subst, ℕ, ◌+◌, ◌^◌, ◌<◌, ◌≤◌, Bool, true, false, cond, List, [], ◌∷◌, ◌++◌, append_assoc, append-nil, filter, fold, map, Option, Some, None, arith, true≢false}
-use Rattle.std.specs.Prelude.{◌==◌}
+use Rattle.std.specs.Prelude.{◌==◌, ◌&&◌}
 use Rattle.std.specs.BTreeMap.{is_at}
 use Rattle.std.specs.BTreeSet.{insert_key}
 use Rattle.std.specs.Cmp.{IsTotalOrder, nat_cmp_total, on_total, then_total}
 use Rattle.std.specs.List.{AllByRecursion}
 use Rattle.std.specs.List.Sorted.{IsStrictlySortedBy}
-use Rattle.std.specs.Option.{is_some, option_and_then, option_map}
+use Rattle.std.specs.Option.{is_some, option_and_then, option_map, option_map_or}
 use Rattle.std.proofs.lemmas.Option.{same_Some}
 use Rattle.std.specs.Ordering.{nat_cmp, ordering_then}
 use Rattle.std.specs.declared.cmp.Ordering.{Ordering}
@@ -27,23 +27,35 @@ use Rattle.zq_told.specs.declared.types.ToldEntry.{ToldEntry}
 use Rattle.zq_told.specs.Ears.{Ear, Ears, last_at}
 use Rattle.zq_told.specs.Receiver.{Heard, heard_entry, receive}
 use Rattle.zq_told.specs.Telling.{lacks_ids, tell_due}
-use Rattle.zq_told.specs.Laws.{is_to, last_given, told_in}
+use Rattle.zq_told.specs.Laws.{is_to, last_given, told_in, differs}
 use Rattle.zq_told.specs.Leaving.{AreSound, fresh_ear}
 use Rattle.zq_told.proofs.Faces.{opens, stay_sound}
 use Rattle.zq_told.proofs.Slotted.{none_sorted}
+use Rattle.zq_interests.specs.declared.types.InterestEntry.{InterestEntry}
+use Rattle.zq_tables.specs.declared.said.Said.{Said}
+use Rattle.std.specs.Map.{keys_of}
+use Rattle.zq_machine.proofs.Writing.{fully}
+use Rattle.zq_machine.specs.declared.call.Refusal.{Refusal}
+use Rattle.zq_machine.specs.declared.call.Step.{Step}
+use Rattle.zq_machine.proofs.DueAlone.{interests_alone}
+use Rattle.zq_machine.proofs.Reading.{declare_read, withdraw_read}
+use Rattle.zq_machine.proofs.Answering.{answer_exactly, hearing_steps, unhearing_steps}
+use Rattle.zq_machine.proofs.Following.{AreKept, Follows, Steps, all_heard, behind_trees, by_ids, forget_at, kept_of, none_heard, the_greatest, told_only}
+use Rattle.zq_machine.specs.Selecting.{asked_by}
 use Rattle.zq_machine.specs.declared.call.Call.{Call}
+use Rattle.zq_machine.specs.declared.call.Call.TheVariants as call
 use Rattle.zq_machine.specs.declared.face.OpenFace.{OpenFace}
 use Rattle.zq_machine.specs.Configs.{Settings}
-use Rattle.zq_machine.specs.Deciding.{accepted, changed, causes, is_accepted, lacks_told, opened, refusal_of, renamed, told_of}
-use Rattle.zq_machine.specs.Due.{listens}
+use Rattle.zq_machine.specs.Deciding.{accepted, changed, causes, is_accepted, lacks_told, opened, refusal_of, renamed, told_of, ears_of, interests_for, kept, granted}
+use Rattle.zq_machine.specs.Due.{listens, due}
 use Rattle.zq_machine.specs.Hearing.{CanBeTold, hear}
-use Rattle.zq_machine.specs.Keeping.{ChangePromise, IsKept, IsNear, KeepPromise, TellsChanges, greater, heard_in, is_told, received_after, received_in, last_in, told_by, if_told, greatest_with, with_told}
-use Rattle.zq_machine.specs.Machine.{accepted_state, after, follow, state_after, step}
+use Rattle.zq_machine.specs.Keeping.{ChangePromise, IsKept, IsNear, KeepPromise, TellsChanges, greater, heard_in, is_told, received_in, last_in, told_by, if_told, greatest_with, with_told, AnswersInterests, TellsAnswer, forget_undue, heard_after, is_asking, is_due_at, last_after}
+use Rattle.zq_machine.specs.Machine.{accepted_state, after, follow, state_after, step, refused_step}
 use Rattle.zq_machine.specs.Messages.{Telling, TellingBody, from_hat, told_or_ended}
-use Rattle.zq_machine.specs.Neighbours.{due_on, ears_after, looked_at, neighbours_lack, neighbours_told, with_new, without_closed}
+use Rattle.zq_machine.specs.Neighbours.{due_on, ears_after, looked_at, neighbours_lack, neighbours_told, with_new, without_closed, marked, near_told as told_near}
 use Rattle.zq_machine.specs.Receivers.{AllHear, AllTold, AreOfOpen, FaceTold, HaveChanges, Hears, makes_due}
 use Rattle.zq_machine.specs.State.{Core, State, at, hat_at, hat_of, is_open, opening_state}
-use Rattle.zq_machine.specs.TextCalls.{TextCall, opening, closing, declaring, withdrawing, asking, replying, ending, reporting, passing, listing, finalizing, announcing, retracting, networking, tabling, read}
+use Rattle.zq_machine.specs.TextCalls.{TextCall, opening, closing, declaring, withdrawing, asking, replying, ending, reporting, passing, listing, finalizing, announcing, retracting, networking, tabling, read, hearing, unhearing, said_if}
 use Rattle.zq_machine.proofs.Agreed.{InOrder, granted_in_order, run_in_order}
 use Rattle.zq_machine.proofs.Agreeing.{some_of}
 use Rattle.zq_machine.proofs.Changing.{number_test, one_number}
@@ -51,95 +63,63 @@ use Rattle.zq_machine.proofs.Children.{after_both}
 use Rattle.zq_machine.proofs.DueHeard.{due_trees}
 use Rattle.zq_machine.proofs.DueLess.{listens_kept}
 use Rattle.zq_machine.proofs.Frame.{run_config}
-use Rattle.zq_machine.proofs.Granted.{all_passed, by_granted, settles_told}
+use Rattle.zq_machine.proofs.Granted.{all_passed, by_granted, settles_told, granted_is_accepted, told_by as told_by_hats}
 use Rattle.zq_machine.proofs.Lists.{all_weaker}
 use Rattle.zq_machine.proofs.NeighbourAll.{new_sound}
 use Rattle.zq_machine.proofs.NeighbourLaws.{all_told, comes_told, face_told}
 use Rattle.zq_machine.proofs.NeighbourLooks.{looked_is}
-use Rattle.zq_machine.proofs.NeighbourTold.{told_due}
+use Rattle.zq_machine.proofs.NeighbourTold.{told_due, found_beside}
 use Rattle.zq_machine.proofs.NeighboursTold.{due_can, neighbours}
 use Rattle.zq_machine.proofs.RoutersAlone.{asks_all, hears_near, is_read, near_hears, none_to, trees_deaf}
 use Rattle.zq_machine.proofs.Sifting.{in_order_stays, sifted}
 use Rattle.zq_machine.proofs.Telling.{none_filtered}
 use Rattle.zq_machine.proofs.Tells.{granted_heard}
 
--- ---- what is told in order, of it what is told to a face
-telling_total : IsTotalOrder telling_cmp
-telling_total = then_total (on_total (λ (t : TreeTelling). t.face.0) nat_cmp_total) (then_total (on_total (λ (t : TreeTelling). t.key) text_total) (on_total (λ (t : TreeTelling). t.node) nat_cmp_total))
-
-alike : (n : ℕ) (a b : TreeTelling) → telling_cmp a b ≡ Equal → is_to n a ≡ is_to n b
-alike n a b e = ap (λ m. n == m) (exact_unsigned a.face.0 b.face.0 (first (nat_cmp a.face.0 b.face.0) (ordering_then (text_cmp a.key b.key) (nat_cmp a.node b.node)) e))
-  where
-    first : (x y : Ordering) → ordering_then x y ≡ Equal → x ≡ Equal
-    first Less y f = absurd (cc)
-    first Equal y f = refl
-    first Greater y f = absurd (cc)
-
-none_in_order : IsStrictlySortedBy telling_cmp []
-unfolding IsStrictlySortedBy
-none_in_order = tt
-
-pub behind_trees : (n : ℕ) (trees near : List TreeTelling) → AllByRecursion (λ u. is_to n u ≡ false) trees → IsStrictlySortedBy telling_cmp near → filter (is_to n) (in_order (trees ++ near)) ≡ filter (is_to n) near
-behind_trees n trees near none sorted =
-    sifted telling_total (is_to n) (alike n) [] (trees ++ near) none_in_order
-    ∙ ap (fold (insert_key telling_cmp) []) (filter-append (is_to n) trees near ∙ ap (λ l. l ++ filter (is_to n) near) (none_filtered (is_to n) trees none))
-    ∙ in_order_stays telling_total (filter (is_to n) near) (IsStrictlySortedBy-filter telling_cmp (is_to n) near sorted)
-
--- ---- a receiver hears what a hat tells
-module _ {K : Type 0} (f : K → TellingBody → K) (g : K → TreeTelling → K) (same : (kept : K) (t : TreeTelling) → f kept (from_hat t).body ≡ g kept t) where
-  all_heard : (n : ℕ) (kept : K) (ts : List TreeTelling) → fold (if_told f n) kept (map from_hat ts) ≡ fold g kept (filter (is_to n) ts)
-  all_heard n kept [] = refl
-  all_heard n kept (t ∷ ts) =
-      ap (λ k. fold (if_told f n) (cond (n == t.face.0) k kept) (map from_hat ts)) (same kept t) ∙ all_heard n (cond (n == t.face.0) (g kept t) kept) ts ∙ by (n == t.face.0)
-    where
-      by : (b : Bool) → fold g (cond b (g kept t) kept) (filter (is_to n) ts) ≡ fold g kept (cond b (t ∷ filter (is_to n) ts) (filter (is_to n) ts))
-      by true = refl
-      by false = refl
-
-by_ids : (heard : Heard) (t : TreeTelling) → with_told heard (from_hat t).body ≡ receive heard t
-by_ids heard t = by t.info
-  where
-    by : (i : Option QueryableInfoType) → with_told heard (told_or_ended t.id t.key i) ≡ heard_entry heard t.id t.key i
-    by None = refl
-    by (Some i) = refl
-
-the_greatest : (last : ℕ) (t : TreeTelling) → greatest_with last (from_hat t).body ≡ last_given last t
-the_greatest last t = by t.info
-  where
-    by : (i : Option QueryableInfoType) → greatest_with last (told_or_ended t.id t.key i) ≡ greater last t.id
-    by None = refl
-    by (Some i) = refl
-
-none_heard : {K : Type 0} (f : K → TellingBody → K) (n : ℕ) (kept : K) (ts : List Telling) → AllByRecursion (λ (t : Telling). is_told n t ≡ false) ts → fold (if_told f n) kept ts ≡ kept
-none_heard f n kept [] none = refl
-none_heard f n kept (t ∷ ts) none = ap (λ b. fold (if_told f n) (cond b (f kept t.body) kept) ts) none.0 ∙ none_heard f n kept ts none.1
-
-told_only : (n : ℕ) (ts : List TreeTelling) → filter (is_told n) (map from_hat ts) ≡ map from_hat (filter (is_to n) ts)
-told_only n [] = refl
-told_only n (t ∷ ts) = ap (λ l. cond (n == t.face.0) (from_hat t ∷ l) l) (told_only n ts) ∙ by (n == t.face.0)
-  where
-    by : (b : Bool) → cond b (from_hat t ∷ map from_hat (filter (is_to n) ts)) (map from_hat (filter (is_to n) ts)) ≡ map from_hat (cond b (t ∷ filter (is_to n) ts) (filter (is_to n) ts))
-    by true = refl
-    by false = refl
-
 -- ---- what a call leaves
-quiet_after : (c : Core) → c.interests ≡ [] → (t : TextCall) → (changed c t).interests ≡ []
-quiet_after c quiet (opening o) = quiet
-quiet_after c quiet (closing g) = ap (closed_face g.0) quiet
-quiet_after c quiet (declaring f id s i n) = quiet
-quiet_after c quiet (withdrawing f id) = quiet
-quiet_after c quiet (asking f s r now) = quiet
-quiet_after c quiet (replying f s r) = quiet
-quiet_after c quiet (ending f rid) = quiet
-quiet_after c quiet (reporting reply) = quiet
-quiet_after c quiet (passing now) = quiet
-quiet_after c quiet (listing r table) = quiet
-quiet_after c quiet (finalizing f m set) = quiet
-quiet_after c quiet (announcing f s i n) = quiet
-quiet_after c quiet (retracting f s n) = quiet
-quiet_after c quiet (networking r net) = quiet
-quiet_after c quiet (tabling f ids) = quiet
-quiet_after c quiet t = quiet
+-- a call that is no interest, nor the end of one
+abbrev pub is_plain : TextCall → Bool
+is_plain (hearing face id numbers sd) = false
+is_plain (unhearing face id) = false
+is_plain t = true
+
+near_is : (c d : Core) (t : TextCall) → is_plain t ≡ true → told_near c d (interests_for c t) t (kept c t) ≡ neighbours_told c d c.interests t c.ears
+near_is c d (hearing face id numbers sd) e = absurd (false≢true e)
+near_is c d (unhearing face id) e = absurd (false≢true e)
+near_is c d t e = refl
+
+lacks_is : (c : Core) (t : TextCall) → is_plain t ≡ true → lacks_told c t ≡ neighbours_lack c (changed c t) c.interests t c.ears
+lacks_is c (hearing face id numbers sd) e = absurd (false≢true e)
+lacks_is c (unhearing face id) e = absurd (false≢true e)
+lacks_is c t e = refl
+
+kept_is : (c : Core) (t : TextCall) → is_plain t ≡ true → ears_of c t ≡ ears_after c (changed c t) c.interests t c.ears
+kept_is c (hearing face id numbers sd) e = absurd (false≢true e)
+kept_is c (unhearing face id) e = absurd (false≢true e)
+kept_is c t e = refl
+
+marks_is : (t : TextCall) (ts : List Telling) → is_plain t ≡ true → marked t ts ≡ ts
+marks_is (hearing face id numbers sd) ts e = absurd (false≢true e)
+marks_is (unhearing face id) ts e = absurd (false≢true e)
+marks_is t ts e = refl
+
+forgets_none : (face : ℕ) (t : TextCall) (d : Core) (heard : Heard) → is_plain t ≡ true → forget_at face t d heard ≡ heard
+forgets_none face (hearing f id numbers sd) d heard e = absurd (false≢true e)
+forgets_none face (unhearing f id) d heard e = absurd (false≢true e)
+forgets_none face t d heard e = refl
+
+-- to a face that stays open the same is due by the interests after the call
+due_same : (c : Core) (t : TextCall) → is_plain t ≡ true → (face : ℕ) → is_open face (accepted c t) ≡ true → IsStrictlySortedBy nat_cmp (keys_of c.faces) → (key : List ℕ)
+    → due (accepted c t) (accepted c t).interests face key ≡ due (accepted c t) c.interests face key
+due_same c (hearing f id numbers sd) e face seen rise key = absurd (false≢true e)
+due_same c (unhearing f id) e face seen rise key = absurd (false≢true e)
+due_same c (closing g) e face seen rise key =
+    interests_alone (accepted c (closing g)) (closed_face g.0 c.interests) c.interests face key
+    (ap (λ (o : Option (List (ℕ × InterestEntry))). option_map_or (λ es. es) o []) (found_beside g.0 face c.interests (other (is_at (nat_cmp g.0) face) refl)))
+  where
+    other : (b : Bool) → is_at (nat_cmp g.0) face ≡ b → b ≡ false
+    other true is = absurd (false≢true (sym (ap is_some (found_after_removal nat_cmp_total exact_unsigned g.0 face c.faces rise ∙ ap (λ x. cond x None (at face c.faces)) is)) ∙ seen))
+    other false is = refl
+due_same c t e face seen rise key = refl
 
 next_after : (c : Core) (t : TextCall) → c.next_face ≤ (accepted c t).next_face
 next_after c (opening o) = omega arith
@@ -170,25 +150,10 @@ lacks_none c (announcing f s i n) h e = (all_passed (causes c (announcing f s i 
 lacks_none c t h e = absurd (false≢true e)
 
 -- ---- what holds at a point of a run
--- what the receiver of a face keeps is due, and the id that was given last there is its greatest
-record Follows (c : Core) (face : ℕ) (heard : Heard) (last : ℕ) : Type 0 where
-  hears : Hears c c.interests c.ears face heard
-  greatest : last_at face c.ears ≡ Some last
-
--- what is kept of faces is sound where the first id is one of 32 bits
-pub record AreKept (c : Core) : Type 0 where
-  pub sound : AreSound c.ears
-  pub faces : AreOfOpen c c.ears
-  pub all : AllHear c c.interests c.ears
-
 pub record Keeps (first : ℕ) (c : Core) (heards : ℕ → Heard) (lasts : ℕ → ℕ) : Type 0 where
-  quiet : c.interests ≡ []
   pub ears : first < 2 ^ 32 → AreKept c
   kept : (face : ℕ) → IsNear face c → Follows c face (heards face) (lasts face)
   unborn : (face : ℕ) → c.next_face ≤ face → (heards face ≡ []) × (lasts face ≡ first)
-
-kept_of : (c : Core) (face : ℕ) (heard : Heard) (last : ℕ) (f : Follows c face heard last) → IsKept f.hears.ear heard last
-kept_of c face heard last f = record { sorted = f.hears.sorted; tied = f.hears.tied; greatest = same_Some _ _ (sym (ap (option_map (λ (e : Ear). e.last)) f.hears.there) ∙ f.greatest) }
 
 -- what a face is told by a call, of which this was kept
 record Tells (s : State) (t : TextCall) (d : Core) (face : ℕ) (heard : Heard) (last : ℕ) : Type 0 where
@@ -217,7 +182,7 @@ module _ (config : Settings) (calls : List Call) (c : Call) (heards : ℕ → He
   i : InOrder config s
   i = run_in_order config calls
 
-  module _ (k : Keeps config.start.told s.core heards lasts) (h : refusal_of s.core t ≡ None) where
+  module _ (k : Keeps config.start.told s.core heards lasts) (h : refusal_of s.core t ≡ None) (plain : is_plain t ≡ true) where
     abbrev d : Core
     d = accepted s.core t
 
@@ -244,32 +209,38 @@ module _ (config : Settings) (calls : List Call) (c : Call) (heards : ℕ → He
             }
 
     ears_are : ears_after s.core d s.core.interests t s.core.ears ≡ d.ears
-    ears_are = ap (λ l. without_closed t (tell_due Unasked (with_new s.core t s.core.ears) l)) (same_looked s.core t)
+    ears_are = ap (λ l. without_closed t (tell_due Unasked (with_new s.core t s.core.ears) l)) (same_looked s.core t) ∙ sym (kept_is s.core t plain)
 
-    ints_are : s.core.interests ≡ d.interests
-    ints_are = k.quiet ∙ sym (quiet_after s.core k.quiet t)
+    due_is : (face : ℕ) → is_open face d ≡ true → (key : List ℕ) → due d d.interests face key ≡ due d s.core.interests face key
+    due_is face seen = due_same s.core t plain face seen i.sound.sorted
 
-    none_lacks : config.start.told < 2 ^ 32 → neighbours_lack s.core d s.core.interests t s.core.ears ≡ false
-    none_lacks low = by (makes_due t) refl
+    none_lacks : config.start.told < 2 ^ 32 → AreKept s.core → neighbours_lack s.core d s.core.interests t s.core.ears ≡ false
+    none_lacks low e0 = by (makes_due t) refl
       where
         by : (b : Bool) → makes_due t ≡ b → neighbours_lack s.core d s.core.interests t s.core.ears ≡ false
-        by true e = ap (lacks_ids Unasked (with_new s.core t s.core.ears)) (same_looked s.core t) ∙ lacks_none s.core t h e
-        by false e = told_so.enough (low_here low) (k.ears low) e
+        by true e = ap (lacks_ids Unasked (with_new s.core t s.core.ears)) (same_looked s.core t) ∙ sym (lacks_is s.core t plain) ∙ lacks_none s.core t h e
+        by false e = told_so.enough (low_here low) e0 e
 
     -- a face outside regions of routers is told what it is told as a neighbour
     abbrev near_told : ℕ → List TreeTelling
     near_told face = filter (is_to face) (neighbours_told s.core d s.core.interests t s.core.ears)
 
+    near_sorted : IsStrictlySortedBy telling_cmp (neighbours config s i t h j)
+    near_sorted = subst (IsStrictlySortedBy telling_cmp) (sym (near_is s.core d t plain)) told_so.ordered
+
     only_near : (face : ℕ) → listens d (asks_all face) face [] ≡ true → filter (is_to face) (in_order (due_trees config s i t ++ neighbours config s i t h j)) ≡ near_told face
-    only_near face hears = behind_trees face (due_trees config s i t) (neighbours config s i t h j) (none_to d (due_trees config s i t) (trees_deaf config s i t h j (is_read s c)) face hears) told_so.ordered
+    only_near face hears =
+        behind_trees face (due_trees config s i t) (neighbours config s i t h j) (none_to d (due_trees config s i t) (trees_deaf config s i t h j (is_read s c)) face hears) near_sorted
+        ∙ ap (filter (is_to face)) (near_is s.core d t plain)
 
     heard_here : {K : Type 0} (f : K → TellingBody → K) (g : K → TreeTelling → K) → ((kept : K) (u : TreeTelling) → f kept (from_hat u).body ≡ g kept u) → (face : ℕ) (kept : K) → listens d (asks_all face) face [] ≡ true
         → fold g kept (near_told face) ≡ fold (if_told f face) kept (told_of s.core t)
     heard_here f g same face kept hears =
-        sym (all_heard f g same face kept (in_order (due_trees config s i t ++ neighbours config s i t h j)) ∙ ap (fold g kept) (only_near face hears))
+        sym (ap (fold (if_told f face) kept) (marks_is t (map from_hat (in_order (due_trees config s i t ++ neighbours config s i t h j))) plain)
+        ∙ all_heard f g same face kept (in_order (due_trees config s i t ++ neighbours config s i t h j)) ∙ ap (fold g kept) (only_near face hears))
 
-    moved : (face : ℕ) (heard : Heard) → Hears d s.core.interests (ears_after s.core d s.core.interests t s.core.ears) face heard → Hears d d.interests d.ears face heard
-    moved face heard x = subst (λ (z : Interests × Ears). Hears d z.0 z.1 face heard) (λ m. (ints_are m, ears_are m)) x
+    moved : (face : ℕ) (heard : Heard) → is_open face d ≡ true → Hears d s.core.interests (ears_after s.core d s.core.interests t s.core.ears) face heard → Hears d d.interests d.ears face heard
+    moved face heard seen x = subst (λ z. Hears d d.interests z face heard) ears_are (record { ear = x.ear; there = x.there; sorted = x.sorted; tied = x.tied; told = λ key. x.told key ∙ sym (due_is face seen key) })
 
     -- the number of a face that the call opens
     new_number : (x : TextCall) (face : ℕ) → is_open face (accepted s.core x) ≡ true → is_open face s.core ≡ false → s.core.next_face ≡ face
@@ -312,15 +283,25 @@ module _ (config : Settings) (calls : List Call) (c : Call) (heards : ℕ → He
               told = told_so.comes face was n.opened;
             })
 
-    kept_then : (face : ℕ) → IsNear face d → Follows d face (fold (if_told with_told face) (heards face) (told_of s.core t)) (fold (if_told greatest_with face) (lasts face) (told_of s.core t))
-    kept_then face n =
-        let x = tells_at face n in
-        record {
-          hears = subst (Hears d d.interests d.ears face) (heard_here with_told receive by_ids face (heards face) (hears_all face n)) (moved face _ x.told.keeps);
-          greatest =
-              ap (last_at face) (sym ears_are) ∙ x.told.last
-              ∙ ap Some (ap (λ l. fold last_given l (near_told face)) x.is.greatest ∙ heard_here greatest_with last_given the_greatest face (lasts face) (hears_all face n));
-        }
+    plain_steps : Steps config.start.told s t d heards lasts
+    plain_steps = record {
+      ears = λ low e. record {
+        sound = subst AreSound ears_are (told_so.sound (low_here low) e (none_lacks low e));
+        faces = subst (AreOfOpen d) ears_are (told_so.faces e);
+        all = λ face seen. let x = told_so.hear e face seen in (x.0, moved face x.0 seen x.1);
+      };
+      kept = λ face n.
+          let x = tells_at face n in
+          record {
+            hears =
+                subst (Hears d d.interests d.ears face)
+                (heard_here with_told receive by_ids face (heards face) (hears_all face n) ∙ sym (forgets_none face t d (fold (if_told with_told face) (heards face) (told_of s.core t)) plain))
+                (moved face _ n.opened x.told.keeps);
+            greatest =
+                ap (last_at face) (sym ears_are) ∙ x.told.last
+                ∙ ap Some (ap (λ l. fold last_given l (near_told face)) x.is.greatest ∙ heard_here greatest_with last_given the_greatest face (lasts face) (hears_all face n));
+          };
+    }
 
     -- the difference, and nothing else
     changes : (face : ℕ) → IsNear face d → TellsChanges d face (heards face) (lasts face) (told_of s.core t)
@@ -329,55 +310,108 @@ module _ (config : Settings) (calls : List Call) (c : Call) (heards : ℕ → He
         record {
           ear = x.ear;
           is = x.is;
-          some = subst (λ ints. (keys : List (List ℕ)) × HaveChanges d ints face x.ear keys) ints_are x.told.some;
+          some = (x.told.some.0, record { rise = x.told.some.1.rise; all = λ key change. x.told.some.1.all key (ap (λ o. differs x.ear.told (key, o)) (sym (due_is face n.opened key)) ∙ change) });
           exactly = λ keys have.
-              told_only face (in_order (due_trees config s i t ++ neighbours config s i t h j))
-              ∙ ap (map from_hat) (only_near face (hears_all face n) ∙ sym (x.told.exactly keys (subst (λ ints. HaveChanges d ints face x.ear keys) (sym ints_are) have)))
-              ∙ ap (λ ints. map from_hat (told_in Unasked face x.ear (map (due_on d ints face) keys))) ints_are;
+              ap (filter (is_told face)) (marks_is t (map from_hat (in_order (due_trees config s i t ++ neighbours config s i t h j))) plain)
+              ∙ told_only face (in_order (due_trees config s i t ++ neighbours config s i t h j))
+              ∙ ap (map from_hat)
+              (only_near face (hears_all face n)
+              ∙ sym (x.told.exactly keys (record { rise = have.rise; all = λ key change. have.all key (ap (λ o. differs x.ear.told (key, o)) (due_is face n.opened key) ∙ change) })))
+              ∙ (λ m. map from_hat (told_in Unasked face x.ear (map (λ key. (key, sym (due_is face n.opened key) m)) keys)));
         }
 
+  -- ---- any call that nothing refuses
+  module _ (k : Keeps config.start.told s.core heards lasts) (h : refusal_of s.core t ≡ None) where
+    then_core : Core
+    then_core = accepted s.core t
+
+    then_order : InOrder config (accepted_state s t)
+    then_order = granted_in_order config s c h i
+
     -- a face that is yet to come is told nothing
-    unborn_then : {K : Type 0} (f : K → TellingBody → K) (face : ℕ) → d.next_face ≤ face → (kept first : K) → kept ≡ first → fold (if_told f face) kept (told_of s.core t) ≡ first
+    unborn_then : {K : Type 0} (f : K → TellingBody → K) (face : ℕ) → (accepted s.core t).next_face ≤ face → (kept first : K) → kept ≡ first → fold (if_told f face) kept (told_of s.core t) ≡ first
     unborn_then f face le kept first is =
         none_heard f face kept (told_of s.core t)
-        (all_weaker (CanBeTold (renamed s t)) (λ (u : Telling). is_told face u ≡ false) (λ u can. apart u.to.0 (j.sound.open_below u.to.0 (sym (j.tied.named u.to.0) ∙ can.0))) (told_of s.core t) (due_can config s i t h j))
+        (all_weaker (CanBeTold (renamed s t)) (λ (u : Telling). is_told face u ≡ false) (λ u can. apart u.to.0 (then_order.sound.open_below u.to.0 (sym (then_order.tied.named u.to.0) ∙ can.0))) (told_of s.core t) (due_can config s i t h then_order))
         ∙ is
       where
-        apart : (to : ℕ) → to < d.next_face → (face == to) ≡ false
+        apart : (to : ℕ) → to < (accepted s.core t).next_face → (face == to) ≡ false
         apart to below = by (face == to) refl
           where
             by : (b : Bool) → (face == to) ≡ b → b ≡ false
             by true e = let same : face ≡ to = one_number face to (number_test face to ∙ e) in absurd (omega (arith, same, below, le))
             by false e = refl
 
-    was_unborn : (face : ℕ) → d.next_face ≤ face → s.core.next_face ≤ face
-    was_unborn face le = let first : s.core.next_face ≤ d.next_face = next_after s.core t in omega (arith, first, le)
+    was_unborn : (face : ℕ) → (accepted s.core t).next_face ≤ face → s.core.next_face ≤ face
+    was_unborn face le = let first : s.core.next_face ≤ (accepted s.core t).next_face = next_after s.core t in omega (arith, first, le)
 
-    call_keeps : Keeps config.start.told d (λ face. fold (if_told with_told face) (heards face) (told_of s.core t)) (λ face. fold (if_told greatest_with face) (lasts face) (told_of s.core t))
-    call_keeps = record {
-      quiet = quiet_after s.core k.quiet t;
-      ears = λ low. record {
-        sound = subst AreSound ears_are (told_so.sound (low_here low) (k.ears low) (none_lacks low));
-        faces = subst (AreOfOpen d) ears_are (told_so.faces (k.ears low));
-        all = λ face seen. let x = told_so.hear (k.ears low) face seen in (x.0, moved face x.0 x.1);
-      };
-      kept = kept_then;
-      unborn = λ face le.
-          let none = k.unborn face (was_unborn face le) in
-          (unborn_then with_told face le (heards face) [] none.0, unborn_then greatest_with face le (lasts face) config.start.told none.1);
-    }
+    forgets_nothing : (face : ℕ) (x : TextCall) (d : Core) → forget_at face x d [] ≡ []
+    forgets_nothing face (unhearing f id) d = by (f.0 == face)
+      where
+        by : (b : Bool) → cond b (filter (is_due_at face d) []) [] ≡ []
+        by true = refl
+        by false = refl
+    forgets_nothing face x d = refl
 
-  step_keeps : Keeps config.start.told s.core heards lasts → Keeps config.start.told (after s c).core (λ face. received_after with_told face s c (heards face)) (λ face. received_after greatest_with face s c (lasts face))
+    steps_by : (x : TextCall) → t ≡ x → Steps config.start.told s t (accepted s.core t) heards lasts
+    steps_by (hearing face id numbers sd) is =
+        subst (λ z. Steps config.start.told s z (accepted s.core z) heards lasts) (sym is) (hearing_steps s face id numbers sd (ap (refusal_of s.core) (sym is) ∙ h) config.start.told heards lasts k.kept)
+    steps_by (unhearing face id) is =
+        subst (λ z. Steps config.start.told s z (accepted s.core z) heards lasts) (sym is) (unhearing_steps s face id (ap (refusal_of s.core) (sym is) ∙ h) config.start.told heards lasts k.kept)
+    steps_by x is = plain_steps k h (ap is_plain is)
+
+    call_keeps : Keeps config.start.told (accepted s.core t) (λ face. forget_at face t (accepted s.core t) (fold (if_told with_told face) (heards face) (told_of s.core t))) (λ face. fold (if_told greatest_with face) (lasts face) (told_of s.core t))
+    call_keeps =
+        let steps = steps_by t refl in
+        record {
+          ears = λ low. steps.ears low (k.ears low);
+          kept = steps.kept;
+          unborn = λ face le.
+              let none = k.unborn face (was_unborn face le) in (
+                ap (forget_at face t (accepted s.core t)) (unborn_then with_told face le (heards face) [] none.0) ∙ forgets_nothing face t (accepted s.core t),
+                unborn_then greatest_with face le (lasts face) config.start.told none.1,
+              );
+        }
+
+  -- what is forgotten, by the answer
+  both_true : (b : Bool) → (b && true) ≡ b
+  both_true true = refl
+  both_true false = refl
+
+  both_false : (b : Bool) → (b && false) ≡ false
+  both_false true = refl
+  both_false false = refl
+
+  granted_forgets : (x : Call) (face : ℕ) (z : Step) → is_accepted z.outcome ≡ true → (d : Core) (heard : Heard) → forget_undue face z d x heard ≡ forget_at face (read s x) d heard
+  granted_forgets (call.InterestFinal f id) face z given d heard = ap (λ b. cond b (filter (is_due_at face d) heard) heard) (ap (λ b. (f.0 == face) && b) given ∙ both_true (f.0 == face))
+  granted_forgets (call.DeclareQueryable f id w info node) face z given d heard = sym (declare_read (λ x. forget_at face x d heard ≡ heard) s f id w info node refl refl)
+  granted_forgets (call.UndeclareQueryable f id w node) face z given d heard = sym (withdraw_read (λ x. forget_at face x d heard ≡ heard) s f id w node refl refl)
+  granted_forgets x face z given d heard = refl
+
+  refused_forgets : (x : Call) (face : ℕ) (z : Step) → is_accepted z.outcome ≡ false → (d : Core) (heard : Heard) → forget_undue face z d x heard ≡ heard
+  refused_forgets (call.InterestFinal f id) face z given d heard = ap (λ b. cond b (filter (is_due_at face d) heard) heard) (ap (λ b. (f.0 == face) && b) given ∙ both_false (f.0 == face))
+  refused_forgets x face z given d heard = refl
+
+  step_keeps : Keeps config.start.told s.core heards lasts → Keeps config.start.told (after s c).core (λ face. heard_after face s c (heards face)) (λ face. last_after face s c (lasts face))
   step_keeps k =
-      by_granted (λ z w. Keeps config.start.told w.core (λ face. fold (if_told with_told face) (heards face) (hear z.handed (follow s t).names)) (λ face. fold (if_told greatest_with face) (lasts face) (hear z.handed (follow s t).names))) s t
-      (λ h. subst (λ l. Keeps config.start.told (accepted s.core t) (λ face. fold (if_told with_told face) (heards face) l) (λ face. fold (if_told greatest_with face) (lasts face) l)) (sym (granted_heard config s c i h)) (call_keeps k h))
-      (λ r. k)
+      by_granted
+      (λ z w. Keeps config.start.told w.core (λ face. forget_undue face z w.core c (fold (if_told with_told face) (heards face) (hear z.handed (follow s t).names))) (λ face. fold (if_told greatest_with face) (lasts face) (hear z.handed (follow s t).names))) s t
+      (λ h.
+      subst (λ (x : (ℕ → Heard) × (ℕ → ℕ)). Keeps config.start.told (accepted s.core t) x.0 x.1)
+      (λ m. (
+        λ face.
+            sym (ap (λ l. forget_undue face (fully s.names (told_by_hats s t) (granted s.core t)) (accepted s.core t) c (fold (if_told with_told face) (heards face) l)) (granted_heard config s c i h)
+            ∙ granted_forgets c face (fully s.names (told_by_hats s t) (granted s.core t)) (granted_is_accepted s.core t h) (accepted s.core t) (fold (if_told with_told face) (heards face) (told_of s.core t))) m,
+        λ face. sym (ap (fold (if_told greatest_with face) (lasts face)) (granted_heard config s c i h)) m,
+      ))
+      (call_keeps k h))
+      (λ r. subst (λ f. Keeps config.start.told s.core f lasts) (λ m face. sym (refused_forgets c face (refused_step r) refl s.core (heards face)) m) k)
 
-  step_changes : Keeps config.start.told s.core heards lasts → is_accepted (step s c).outcome ≡ true → (face : ℕ) → IsNear face (after s c).core
+  step_changes : Keeps config.start.told s.core heards lasts → is_plain t ≡ true → is_accepted (step s c).outcome ≡ true → (face : ℕ) → IsNear face (after s c).core
       → TellsChanges (after s c).core face (heards face) (lasts face) (told_by s c)
-  step_changes k =
+  step_changes k plain =
       by_granted (λ z w. is_accepted z.outcome ≡ true → (face : ℕ) → IsNear face w.core → TellsChanges w.core face (heards face) (lasts face) (hear z.handed (follow s t).names)) s t
-      (λ h given face n. subst (TellsChanges (accepted s.core t) face (heards face) (lasts face)) (sym (granted_heard config s c i h)) (changes k h face n))
+      (λ h given face n. subst (TellsChanges (accepted s.core t) face (heards face) (lasts face)) (sym (granted_heard config s c i h)) (changes k h plain face n))
       (λ r given. absurd (false≢true given))
 
 -- ---- over a run
@@ -385,9 +419,9 @@ module _ (config : Settings) where
   abbrev pub KeepsAll : List Call → Type 0
   KeepsAll calls = Keeps config.start.told (state_after (opening_state config) calls).core (λ face. heard_in face config calls) (λ face. last_in face config calls)
 
-  kept_both : {K : Type 0} (f : K → TellingBody → K) (face : ℕ) (before later : List Call) (s : State) (kept : K) → received_in f face s (before ++ later) kept ≡ received_in f face (state_after s before) later (received_in f face s before kept)
-  kept_both f face [] later s kept = refl
-  kept_both f face (c ∷ before) later s kept = kept_both f face before later (after s c) (received_after f face s c kept)
+  received_both : {K : Type 0} (f : State → Call → K → K) (before later : List Call) (s : State) (kept : K) → received_in f s (before ++ later) kept ≡ received_in f (state_after s before) later (received_in f s before kept)
+  received_both f [] later s kept = refl
+  received_both f (c ∷ before) later s kept = received_both f before later (after s c) (f s c kept)
 
   one_more : (calls : List Call) (c : Call) → KeepsAll calls → KeepsAll (calls ++ c ∷ [])
   one_more calls c k =
@@ -395,8 +429,8 @@ module _ (config : Settings) where
       (λ m. (
         sym (after_both calls (c ∷ []) (opening_state config)) m,
         (
-          λ face. sym (kept_both with_told face calls (c ∷ []) (opening_state config) []) m,
-          λ face. sym (kept_both greatest_with face calls (c ∷ []) (opening_state config) config.start.told) m,
+          λ face. sym (received_both (heard_after face) calls (c ∷ []) (opening_state config) []) m,
+          λ face. sym (received_both (last_after face) calls (c ∷ []) (opening_state config) config.start.told) m,
         ),
       ))
       (step_keeps config calls c (λ face. heard_in face config calls) (λ face. last_in face config calls) k)
@@ -407,7 +441,6 @@ module _ (config : Settings) where
 
   first_keeps : KeepsAll []
   first_keeps = record {
-    quiet = refl;
     ears = λ low. record { sound = stay_sound.first; faces = λ face. refl; all = λ face seen. absurd (false≢true seen) };
     kept = λ face n. absurd (false≢true n.opened);
     unborn = λ face le. (refl, refl);
@@ -427,14 +460,31 @@ keep_promise config calls before rest is face n =
       is = kept_of s.core face (heard_in face config before) (last_in face config before) f;
     }
 
-pub change_promise : (config : Settings) (calls : List Call) → ChangePromise config calls
-change_promise config calls before rest c is given face n =
-    step_changes config before c (λ f. heard_in f config before) (λ f. last_in f config before) (run_keeps config before) given face n
+plain_read : (s : State) (c : Call) → is_asking c ≡ false → is_plain (read s c) ≡ true
+plain_read s (call.Interest f id keys wire) e = absurd (true≢false e)
+plain_read s (call.InterestFinal f id) e = absurd (true≢false e)
+plain_read s (call.DeclareQueryable f id w info node) e = declare_read (λ x. is_plain x ≡ true) s f id w info node refl refl
+plain_read s (call.UndeclareQueryable f id w node) e = withdraw_read (λ x. is_plain x ≡ true) s f id w node refl refl
+plain_read s c e = refl
 
--- no face asks to hear of a key yet
-pub always_unasked : (config : Settings) (calls : List Call) → (state_after (opening_state config) calls).core.interests ≡ []
-always_unasked config calls = by calls (opening_state config) refl
-  where
-    by : (cs : List Call) (s : State) → s.core.interests ≡ [] → (state_after s cs).core.interests ≡ []
-    by [] s none = none
-    by (c ∷ cs) s none = by cs (after s c) (by_granted (λ z w. w.core.interests ≡ []) s (read s c) (λ h. quiet_after s.core none (read s c)) (λ r. none))
+pub change_promise : (config : Settings) (calls : List Call) → ChangePromise config calls
+change_promise config calls before rest c is plain given face n =
+    step_changes config before c (λ f. heard_in f config before) (λ f. last_in f config before) (run_keeps config before) (plain_read (state_after (opening_state config) before) c plain) given face n
+
+-- an interest is answered by all that is due
+pub answers_interests : (config : Settings) (calls : List Call) → AnswersInterests config calls
+answers_interests config calls before rest face id keys wire is =
+    let s : State = state_after (opening_state config) before in
+    let sd : Option Said = said_if face wire s in
+    let kept = (run_keeps config before).kept in
+    by_granted
+    (λ z w. is_accepted z.outcome ≡ true → IsNear face.0 w.core → TellsAnswer w.core face id (asked_by keys sd) (heard_in face.0 config before) (last_in face.0 config before) (hear z.handed (follow s (hearing face id keys sd)).names))
+    s (hearing face id keys sd)
+    (λ h given n.
+    let f : Follows s.core face.0 (heard_in face.0 config before) (last_in face.0 config before) = kept face.0 (record { opened = n.opened; near = n.near }) in
+    record {
+      ear = f.hears.ear;
+      is = kept_of s.core face.0 (heard_in face.0 config before) (last_in face.0 config before) f;
+      exactly = granted_heard config s (call.Interest face id keys wire) (run_in_order config before) h ∙ answer_exactly s face id keys sd h f.hears.ear f.hears.there;
+    })
+    (λ r given. absurd (false≢true given))

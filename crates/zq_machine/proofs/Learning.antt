@@ -15,8 +15,11 @@ use Rattle.zq_index.specs.Texts.{text_cmp}
 use Rattle.zq_index.proofs.Orders.{text_exact}
 use Rattle.zq_trees.specs.declared.types.Telling.{Telling as TreeTelling}
 use Rattle.zq_trees.specs.Tellings.{in_order, telling_cmp}
+use Rattle.zq_message.specs.declared.message.FaceId.{FaceId}
+use Rattle.zq_machine.specs.TextCalls.{TextCall, hearing}
+use Rattle.zq_machine.specs.Neighbours.{marked}
 use Rattle.zq_machine.specs.Children.{is_of_root, with_heard_of, with_news}
-use Rattle.zq_machine.specs.Messages.{from_hat, key_ended, told_or_ended}
+use Rattle.zq_machine.specs.Messages.{from_hat, key_ended, told_or_ended, Telling, all_told, answered_by}
 use Rattle.zq_machine.proofs.DueHeard.{all_ordered}
 
 -- ---- order keeps what tells no two equal ones apart
@@ -113,3 +116,16 @@ module _ (face : ℕ) (place : Option ℕ) (key : List ℕ) where
   order_heard i ts was all =
       all_heard i (in_order ts) was (all_ordered (Says i) [] ts tt all)
       ∙ ap (λ b. cond b i was) (any_ordered is_news news_alike ts)
+
+-- ---- that it answers an interest changes nothing
+same_both : {X : Type 0} (b : Bool) (x : X) → cond b x x ≡ x
+same_both true x = refl
+same_both false x = refl
+
+answers_heard : (face : ℕ) (place : Option ℕ) (key : List ℕ) (to : FaceId) (id : ℕ) (ts : List Telling) (was : Option QueryableInfoType) → fold (with_heard_of face place key) was (answered_by to id ts) ≡ fold (with_heard_of face place key) was ts
+answers_heard face place key to id [] was = same_both (is_of_root face place (record { to = to; interest = Some id; node = 0; body = all_told })) was
+answers_heard face place key to id (t ∷ ts) was = answers_heard face place key to id ts (with_heard_of face place key was t)
+
+pub marks_heard : (face : ℕ) (place : Option ℕ) (key : List ℕ) (t : TextCall) (ts : List Telling) (was : Option QueryableInfoType) → fold (with_heard_of face place key) was (marked t ts) ≡ fold (with_heard_of face place key) was ts
+marks_heard face place key (hearing f id numbers sd) ts was = answers_heard face place key f id ts was
+marks_heard face place key t ts was = refl

@@ -75,4 +75,6 @@ pub mod NeighbourMoved
 pub mod ChangedMoved
 pub mod CausesMoved
 pub mod DecidingMoved
+pub mod Following
+pub mod Answering
 pub mod Keeping

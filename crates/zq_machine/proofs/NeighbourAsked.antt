@@ -152,7 +152,7 @@ module _ (c : Core) (ints : Interests) (ears : Ears) (asker id : ℕ) (asked : I
   kept_due : (face : ℕ) (key : List ℕ) → list_any (λ k. bytes_eq k key) (ask_touched asker asked.key c face) ≡ false → due c less face key ≡ due c ints face key
   kept_due face key off = ends_stay c ints asker id face key (λ old there. ap (λ (x : InterestEntry). list_any (λ k. bytes_eq k key) (ask_touched asker x.key c face)) (same_Some _ _ (sym there ∙ was)) ∙ off)
 
-  abbrev ended : List (List ℕ)
+  abbrev pub ended : List (List ℕ)
   ended = filter (meets asked.key) (told_keys asker ears)
 
   -- nothing is told
@@ -187,7 +187,7 @@ module _ (c : Core) (ints : Interests) (ears : Ears) (asker id : ℕ) (asked : I
     told_are : told_keys asker ears ≡ keys_of h.ear.told
     told_are = ap (λ (o : Option Ear). option_map_or (λ (e : Ear). keys_of e.told) o []) h.there
 
-    ended_rise : IsStrictlySortedBy text_cmp ended
+    pub ended_rise : IsStrictlySortedBy text_cmp ended
     ended_rise = IsStrictlySortedBy-filter text_cmp (meets asked.key) (told_keys asker ears) (subst (IsStrictlySortedBy text_cmp) (sym told_are) h.sorted)
 
     -- what was due on a key was told
@@ -198,7 +198,7 @@ module _ (c : Core) (ints : Interests) (ears : Ears) (asker id : ℕ) (asked : I
         by None g = absurd (let gap : None ≡ Some i = g in cc)
         by (Some t) g = refl
 
-    stays_by : (key : List ℕ) → is_among key ended ≡ false → (now old : Option QueryableInfoType) → due c less asker key ≡ now → due c ints asker key ≡ old → old ≡ now
+    pub stays_by : (key : List ℕ) → is_among key ended ≡ false → (now old : Option QueryableInfoType) → due c less asker key ≡ now → due c ints asker key ≡ old → old ≡ now
     stays_by key off (Some i) old e f = sym f ∙ sym (ends_less c ints asker id asker key (ap is_some e)) ∙ e
     stays_by key off None None e f = refl
     stays_by key off None (Some j) e f = sym f ∙ sym (kept_due asker key (own_untouched c asker asked.key key away)) ∙ e

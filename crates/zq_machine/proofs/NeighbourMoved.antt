@@ -125,7 +125,7 @@ module _ (φ : List ℕ → List ℕ) (keeps : Keeps φ) where
         ap (without_closed (move_text φ t)) (left_alike Unasked kept others (looked_at before after ints t) _ e (dues_alike before after ints t text))
         ∙ closed_alike t (tell_due Unasked kept (looked_at before after ints t))
 
-  told_alike : ToldAlike φ
+  pub told_alike : ToldAlike φ
   told_alike = record {
     told = λ before after ints t ears fits. kept_moved before after ints t (has_text before t fits) (with_new before t ears) _ (new_alike before t ears);
     lack = λ before after ints t ears fits. kept_lacks before after ints t (has_text before t fits) (with_new before t ears) _ (new_alike before t ears);

@@ -15,28 +15,38 @@ use Rattle.zq_trees.specs.Tellings.{in_order}
 use Rattle.zq_hat.specs.Kept.{has_face}
 use Rattle.zq_hat.specs.State.{HatState}
 use Rattle.zq_hat.specs.Trees.{region_keys}
-use Rattle.zq_interests.specs.Interests.{Interests}
+use Rattle.zq_interests.specs.Interests.{Interests, meets}
 use Rattle.zq_told.specs.declared.types.FaceDues.{FaceDues}
-use Rattle.zq_told.specs.declared.types.Way.TheVariants.{Unasked}
-use Rattle.zq_told.specs.Ears.{Ears}
-use Rattle.zq_told.specs.Leaving.{IsMeant, is_looked_at}
-use Rattle.zq_told.specs.Telling.{KeyDue, tell_faces}
+use Rattle.zq_told.specs.declared.types.Way.TheVariants.{Unasked, Answering}
+use Rattle.zq_told.specs.Ears.{Ears, Ear, Told, at_face}
+use Rattle.zq_told.specs.Leaving.{IsMeant, is_looked_at, news_of}
+use Rattle.zq_told.specs.Telling.{KeyDue, tell_faces, tell_key, tell_keys, tellings_for, entry_for, id_for, told_under, with_account}
 use Rattle.zq_told.proofs.Meant.{tells_meant}
 use Rattle.zq_tables.specs.Naming.{NamingState}
+use Rattle.zq_interests.specs.declared.types.InterestEntry.{InterestEntry}
+use Rattle.zq_index.specs.Texts.{at_text}
+use Rattle.zq_tables.specs.declared.said.Said.{Said}
+use Rattle.zq_message.specs.declared.message.FaceId.{FaceId}
+use Rattle.zq_message.specs.declared.message.QueryableInfoType.{QueryableInfoType}
+use Rattle.zq_told.proofs.Leaving.{answers_all}
+use Rattle.zq_machine.proofs.Granted.{all_passed}
+use Rattle.zq_machine.specs.Selecting.{asked_by}
+use Rattle.zq_machine.specs.Messages.{Telling, answered_by, from_hat}
 use Rattle.zq_machine.specs.declared.face.OpenFace.{OpenFace}
 use Rattle.zq_machine.specs.Configs.{Settings}
-use Rattle.zq_machine.specs.Deciding.{accepted, kept, refusal_of, renamed, told_of}
-use Rattle.zq_machine.specs.Due.{due_keys as keys_due, due_touched, listens, with_region_keys}
+use Rattle.zq_machine.specs.Deciding.{accepted, kept, refusal_of, renamed, told_of, causes, interests_for}
+use Rattle.zq_machine.specs.Due.{due_keys as keys_due, due_touched, listens, with_region_keys, heard as heard_there, met_keys, due}
 use Rattle.zq_machine.specs.Hearing.{CanBeTold, hear}
 use Rattle.zq_machine.specs.Machine.{accepted_state}
-use Rattle.zq_machine.specs.Neighbours.{due_on, dues_on, kept_told, looked_at, with_dues}
+use Rattle.zq_machine.specs.Neighbours.{due_on, dues_on, kept_told, looked_at, with_dues, answer_told, asked_dues, marked, near_told as told_near, asked_at}
 use Rattle.zq_machine.specs.Agreeing.{stands_in}
-use Rattle.zq_machine.specs.State.{Core, State, at, hat_at, hat_of}
-use Rattle.zq_machine.specs.TextCalls.{TextCall, opening}
+use Rattle.zq_machine.specs.State.{Core, State, at, hat_at, hat_of, is_open}
+use Rattle.zq_machine.specs.TextCalls.{TextCall, opening, hearing, unhearing}
 use Rattle.zq_machine.specs.Trees.{touched}
 use Rattle.zq_machine.specs.Writing.{tell}
 use Rattle.zq_machine.proofs.Agreed.{InOrder}
 use Rattle.zq_machine.proofs.Agreeing.{Tied, some_of}
+use Rattle.zq_machine.proofs.Finals.{is_there}
 use Rattle.zq_machine.proofs.Changing.{itself, number_test, one_number, region_there}
 use Rattle.zq_machine.proofs.DueHeard.{AlongTree, AreTexts, Can, IsOpen, all_ordered, due_trees, from_can, region_texts, texts_put, touched_texts, trees_due}
 use Rattle.zq_machine.proofs.Hearing.{told_heard}
@@ -141,6 +151,65 @@ module _ (names : NamingState) (before after : Core) (ints : Interests) (t : Tex
       near_all : AllByRecursion (Holds Near) (looked_at before after ints t)
       near_all = subst (AllByRecursion (Holds Near)) (sym (looked_is before after ints t)) (near_faces texts after.faces there)
 
+-- ---- what answers an interest
+due_listens : (b : Bool) (heard : Option QueryableInfoType) → is_some (cond b heard None) ≡ true → b ≡ true
+due_listens true heard e = refl
+due_listens false heard e = absurd (false≢true e)
+
+met_texts : (asked : Option (List ℕ)) (ks : List (List ℕ)) → AreTexts ks → AreTexts (filter (meets asked) ks)
+met_texts asked [] all = tt
+met_texts asked (k ∷ ks) all = by (meets asked k) (met_texts asked ks all.1)
+  where
+    by : (b : Bool) → AreTexts (filter (meets asked) ks) → AreTexts (cond b (k ∷ filter (meets asked) ks) (filter (meets asked) ks))
+    by true rest = (all.0, rest)
+    by false rest = rest
+
+module _ (names : NamingState) (after : Core) (ints : Interests) (asker : ℕ) (there : IsOpen names asker) where
+  abbrev IsHeard : KeyDue → Type 0
+  IsHeard k = IsKey k.0 × (listens after ints asker k.0 ≡ true)
+
+  answer_rows : (ks : List (List ℕ)) → AreTexts ks → AllByRecursion IsHeard (filter (λ (k : KeyDue). is_some k.1) (map (due_on after ints asker) ks))
+  answer_rows [] all = tt
+  answer_rows (k ∷ ks) all = by (is_some (due after ints asker k)) refl (answer_rows ks all.1)
+    where
+      rest : List KeyDue
+      rest = filter (λ (q : KeyDue). is_some q.1) (map (due_on after ints asker) ks)
+
+      by : (b : Bool) → is_some (due after ints asker k) ≡ b → AllByRecursion IsHeard rest → AllByRecursion IsHeard (cond b (due_on after ints asker k ∷ rest) rest)
+      by true e more = ((all.0, due_listens (listens after ints asker k) (heard_there after asker k) e), more)
+      by false e more = more
+
+  -- each of what is told is to the asker
+  to_asker : (face : ℕ) (key : List ℕ) (ks : List KeyDue) → is_looked_at (with_dues asker ks) face key ≡ true → face ≡ asker
+  to_asker face key [] e = absurd (false≢true e)
+  to_asker face key (k ∷ ks) e = one_number face asker (number_test face asker ∙ by (face == asker) (list_any (λ (q : KeyDue). bytes_eq key q.0) (k ∷ ks)) e)
+    where
+      by : (b d : Bool) → ((b && d) || false) ≡ true → b ≡ true
+      by true d x = refl
+      by false d x = absurd (false≢true x)
+
+  near_each : (ks : List KeyDue) (ears : Ears) (ts : List TreeTelling) → AllByRecursion IsHeard (map news_of ts) → AllByRecursion (IsMeant ears (with_dues asker ks)) ts → AllByRecursion (IsNear names after ints) ts
+  near_each ks ears [] news meant = tt
+  near_each ks ears (u ∷ us) news meant =
+      let face = to_asker u.face.0 u.key ks meant.0.asked in
+      (record { can = (subst (IsOpen names) (sym face) there, news.0.0); listens = ap (λ n. listens after ints n u.key) face ∙ news.0.1 }, near_each ks ears us news.1 meant.1)
+
+  pub answer_near : (asked : InterestEntry) (ears : Ears) → AreTexts (met_keys asked.key after) → AllByRecursion (IsNear names after ints) (answer_told after ints ears asker asked)
+  answer_near asked ears texts = near_each (asked_dues after ints asker asked) ears _ (by (asked_dues after ints asker asked) (answer_rows (met_keys asked.key after) texts)) (tells_meant Answering ears (asked_at after ints asker asked))
+    where
+      by : (ks : List KeyDue) → AllByRecursion IsHeard (filter (λ (k : KeyDue). is_some k.1) ks) → AllByRecursion IsHeard (map news_of (tell_faces Answering ears (with_dues asker ks)).tellings)
+      by [] all = tt
+      by (k ∷ ks) all = of_ear (at_face asker ears)
+        where
+          of_ear : (o : Option Ear) → AllByRecursion IsHeard (map news_of (option_map_or (λ (e : Ear). with_account asker (tell_keys Answering asker e (k ∷ ks) []) (record { plan = []; tellings = [] })) o (record { plan = []; tellings = [] })).tellings)
+          of_ear None = tt
+          of_ear (Some e) = subst (AllByRecursion IsHeard) (sym (answers_all asker e (k ∷ ks))) all
+
+-- what is told in answer can be told where the rest can
+answers_can : (names : NamingState) (face : FaceId) (id : ℕ) → IsOpen names face.0 → (ts : List Telling) → AllByRecursion (CanBeTold names) ts → AllByRecursion (CanBeTold names) (answered_by face id ts)
+answers_can names face id there [] all = ((there, refl), tt)
+answers_can names face id there (t ∷ ts) all = (all.0, answers_can names face id there ts all.1)
+
 module _ (config : Settings) (s : State) (i : InOrder config s) (t : TextCall) (fits : refusal_of s.core t ≡ None) (j : InOrder config (accepted_state s t)) where
   open_after : AllByRecursion (λ (e : ℕ × OpenFace). IsOpen (renamed s t) e.0) (accepted s.core t).faces
   open_after =
@@ -149,16 +218,29 @@ module _ (config : Settings) (s : State) (i : InOrder config s) (t : TextCall) (
 
   -- what an accepted call tells neighbours
   abbrev pub neighbours : List TreeTelling
-  neighbours = kept_told s.core (accepted s.core t) s.core.interests t (kept s.core t)
+  neighbours = told_near s.core (accepted s.core t) (interests_for s.core t) t (kept s.core t)
 
-  pub neighbours_near : AllByRecursion (IsNear (renamed s t) (accepted s.core t) s.core.interests) neighbours
-  neighbours_near = near_told (renamed s t) s.core (accepted s.core t) s.core.interests t (looked_texts s.core i.worded t fits) open_after (kept s.core t)
+  -- the face of an interest is open
+  asker_open : (face : FaceId) (id : ℕ) (keys : Bool) (sd : Option Said) → t ≡ hearing face id keys sd → IsOpen (renamed s t) face.0
+  asker_open face id keys sd is =
+      j.tied.named face.0 ∙ ap (λ (x : TextCall). is_open face.0 (accepted s.core x)) is
+      ∙ is_there (is_open face.0 s.core) (all_passed (causes s.core (hearing face id keys sd)) (ap (refusal_of s.core) (sym is) ∙ fits)).0
+
+  near_of : (x : TextCall) → t ≡ x → AllByRecursion (IsNear (renamed s t) (accepted s.core t) (interests_for s.core x)) (told_near s.core (accepted s.core t) (interests_for s.core x) x (kept s.core x))
+  near_of (hearing face id keys sd) is =
+      answer_near (renamed s t) (accepted s.core t) (interests_for s.core (hearing face id keys sd)) face.0 (asker_open face id keys sd is) (asked_by keys sd) s.core.ears
+      (met_texts (asked_by keys sd).key (keys_due (accepted s.core t)) (keys_texts [] (accepted s.core t).hats tt j.worded))
+  near_of (unhearing face id) is = tt
+  near_of x is = near_told (renamed s t) s.core (accepted s.core t) s.core.interests x (looked_texts s.core i.worded x (ap (refusal_of s.core) (sym is) ∙ fits)) open_after (kept s.core x)
+
+  pub neighbours_near : AllByRecursion (IsNear (renamed s t) (accepted s.core t) (interests_for s.core t)) neighbours
+  neighbours_near = near_of t refl
 
   all_can : AllByRecursion (Can (IsOpen (renamed s t))) (due_trees config s i t ++ neighbours)
   all_can =
       all_append (Can (IsOpen (renamed s t))) (due_trees config s i t) neighbours
       (all_weaker (AlongTree (IsOpen (renamed s t))) (Can (IsOpen (renamed s t))) (λ u along. along.can) (due_trees config s i t) (trees_due config s i t fits j))
-      (all_weaker (IsNear (renamed s t) (accepted s.core t) s.core.interests) (Can (IsOpen (renamed s t))) (λ u near. near.can) neighbours neighbours_near)
+      (all_weaker (IsNear (renamed s t) (accepted s.core t) (interests_for s.core t)) (Can (IsOpen (renamed s t))) (λ u near. near.can) neighbours neighbours_near)
 
   -- all that an accepted call tells is told of keys
   pub due_keys : AllByRecursion (λ (u : TreeTelling). IsKey u.key) (due_trees config s i t ++ neighbours)
@@ -166,7 +248,14 @@ module _ (config : Settings) (s : State) (i : InOrder config s) (t : TextCall) (
 
   -- it can be told
   pub due_can : AllByRecursion (CanBeTold (renamed s t)) (told_of s.core t)
-  due_can = from_can (renamed s t) (in_order (due_trees config s i t ++ neighbours)) (all_ordered (Can (IsOpen (renamed s t))) [] (due_trees config s i t ++ neighbours) tt all_can)
+  due_can = by t refl
+    where
+      plain : AllByRecursion (CanBeTold (renamed s t)) (map from_hat (in_order (due_trees config s i t ++ neighbours)))
+      plain = from_can (renamed s t) (in_order (due_trees config s i t ++ neighbours)) (all_ordered (Can (IsOpen (renamed s t))) [] (due_trees config s i t ++ neighbours) tt all_can)
+
+      by : (x : TextCall) → t ≡ x → AllByRecursion (CanBeTold (renamed s t)) (marked x (map from_hat (in_order (due_trees config s i t ++ neighbours))))
+      by (hearing face id keys sd) is = answers_can (renamed s t) face id (asker_open face id keys sd is) _ plain
+      by x is = plain
 
   -- and once it is told it is what faces hear
   pub due_heard : hear (tell (accepted s.core t) (told_of s.core t) (renamed s t)).handed (renamed s t) ≡ told_of s.core t

@@ -12,7 +12,7 @@ use Rattle.zq_query.specs.Balance.{owed_by}
 use Rattle.zq_machine.specs.declared.call.Call.{Call}
 use Rattle.zq_machine.specs.Configs.{Settings}
 use Rattle.zq_machine.specs.State.{State, Core, opening_state}
-use Rattle.zq_machine.specs.TextCalls.{TextCall, opening, closing, naming, unnaming, declaring, withdrawing, asking, replying, ending, reporting, passing, listing, finalizing, announcing, retracting, networking, tabling, unbuilt, read}
+use Rattle.zq_machine.specs.TextCalls.{TextCall, opening, closing, naming, unnaming, declaring, withdrawing, asking, replying, ending, reporting, passing, listing, finalizing, announcing, retracting, networking, tabling, hearing, unhearing, read}
 use Rattle.zq_machine.specs.Deciding.{decide, is_accepted, accepted, after_replied}
 use Rattle.zq_machine.specs.Machine.{follow, accepted_state, after, steps_from, state_after}
 use Rattle.zq_machine.specs.Headline.{finals_over, to_come}
@@ -43,7 +43,8 @@ granted_grows c (announcing face sd i node) f h = h
 granted_grows c (retracting face sd node) f h = h
 granted_grows c (networking r net) f h = h
 granted_grows c (tabling face ids) f h = h
-granted_grows c unbuilt f h = h
+granted_grows c (hearing face id keys sd) f h = h
+granted_grows c (unhearing face id) f h = h
 
 follow_grows : (s : State) (t : TextCall) (f : ℕ) → is_closed (follow s t).core.queries.closed f ≡ false → is_closed s.core.queries.closed f ≡ false
 follow_grows s t f h = by (is_accepted (decide s.core t).outcome) h

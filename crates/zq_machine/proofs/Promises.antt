@@ -31,7 +31,7 @@ use Rattle.zq_machine.specs.declared.call.Step.{Step}
 use Rattle.zq_machine.specs.declared.face.OpenFace.{OpenFace}
 use Rattle.zq_machine.specs.State.{State, Core, at}
 use Rattle.zq_machine.specs.Selecting.{select, select_for, full_text, target_of}
-use Rattle.zq_machine.specs.TextCalls.{TextCall, opening, closing, naming, unnaming, declaring, withdrawing, asking, replying, ending, reporting, passing, listing, finalizing, announcing, retracting, networking, tabling, unbuilt, read, said as said_by_face}
+use Rattle.zq_machine.specs.TextCalls.{TextCall, opening, closing, naming, unnaming, declaring, withdrawing, asking, replying, ending, reporting, passing, listing, finalizing, announcing, retracting, networking, tabling, hearing, unhearing, read, said as said_by_face, said_if}
 use Rattle.zq_machine.specs.Deciding.{replied_outcome, passing_finals, causes, refusal_of, granted, answered, is_accepted, targets, handed_reply, timed_out, handed_request, handed_requests, handed_replies, handed_timeouts, replied}
 use Rattle.zq_machine.specs.Machine.{answer, step}
 use Rattle.zq_machine.specs.Messages.{Decided, text_final}
@@ -179,7 +179,8 @@ is_asking (announcing face sd i node) = false
 is_asking (retracting face sd node) = false
 is_asking (networking r net) = false
 is_asking (tabling face ids) = false
-is_asking unbuilt = false
+is_asking (hearing face id keys sd) = false
+is_asking (unhearing face id) = false
 
 pub granted_asks : (names : NamingState) (c : Core) (t : TextCall) → is_asking t ≡ false → list_any asks (write names (granted c t).messages) ≡ false
 unfolding is_asking
@@ -202,7 +203,8 @@ granted_asks names c (announcing face sd i node) h = refl
 granted_asks names c (retracting face sd node) h = refl
 granted_asks names c (networking r net) h = refl
 granted_asks names c (tabling face ids) h = refl
-granted_asks names c unbuilt h = refl
+granted_asks names c (hearing face id keys sd) h = refl
+granted_asks names c (unhearing face id) h = refl
 
 quiet_asks : (s : State) (t : TextCall) → is_asking t ≡ false → list_any asks (answer s t).handed ≡ false
 quiet_asks s t h =
@@ -227,8 +229,8 @@ request_promise s (call.ResponseFinal face rid) = quiet_asks s (ending face rid)
 request_promise s (call.Sent reply) = quiet_asks s (reporting reply) refl
 request_promise s (call.Poll now) = quiet_asks s (passing now) refl
 request_promise s (call.SetGateways r t) = quiet_asks s (listing r t) refl
-request_promise s (call.Interest face id keys wire) = quiet_asks s unbuilt refl
-request_promise s (call.InterestFinal face id) = quiet_asks s unbuilt refl
+request_promise s (call.Interest face id keys wire) = quiet_asks s (hearing face id keys (said_if face wire s)) refl
+request_promise s (call.InterestFinal face id) = quiet_asks s (unhearing face id) refl
 request_promise s (call.FinalizeInterest face mark set) = quiet_asks s (finalizing face mark set) refl
 request_promise s (call.SetNetwork r net) = quiet_asks s (networking r net) refl
 request_promise s (call.SetNodeIds face ids) = quiet_asks s (tabling face ids) refl
@@ -252,7 +254,8 @@ is_replying (announcing face sd i node) = false
 is_replying (retracting face sd node) = false
 is_replying (networking r net) = false
 is_replying (tabling face ids) = false
-is_replying unbuilt = false
+is_replying (hearing face id keys sd) = false
+is_replying (unhearing face id) = false
 
 granted_replies : (names : NamingState) (c : Core) (t : TextCall) → is_replying t ≡ false → list_any replies_to (write names (granted c t).messages) ≡ false
 unfolding is_replying
@@ -273,7 +276,8 @@ granted_replies names c (announcing face sd i node) h = refl
 granted_replies names c (retracting face sd node) h = refl
 granted_replies names c (networking r net) h = refl
 granted_replies names c (tabling face ids) h = refl
-granted_replies names c unbuilt h = refl
+granted_replies names c (hearing face id keys sd) h = refl
+granted_replies names c (unhearing face id) h = refl
 
 quiet_replies : (s : State) (t : TextCall) → is_replying t ≡ false → list_any replies_to (answer s t).handed ≡ false
 quiet_replies s t h =
@@ -317,8 +321,8 @@ reply_promise s (call.UndeclareQueryable face id wire node) = quiet_replies s (r
 reply_promise s (call.ResponseFinal face rid) = quiet_replies s (ending face rid) refl
 reply_promise s (call.Sent reply) = quiet_replies s (reporting reply) refl
 reply_promise s (call.SetGateways r t) = quiet_replies s (listing r t) refl
-reply_promise s (call.Interest face id keys wire) = quiet_replies s unbuilt refl
-reply_promise s (call.InterestFinal face id) = quiet_replies s unbuilt refl
+reply_promise s (call.Interest face id keys wire) = quiet_replies s (hearing face id keys (said_if face wire s)) refl
+reply_promise s (call.InterestFinal face id) = quiet_replies s (unhearing face id) refl
 reply_promise s (call.FinalizeInterest face mark set) = quiet_replies s (finalizing face mark set) refl
 reply_promise s (call.SetNetwork r net) = quiet_replies s (networking r net) refl
 reply_promise s (call.SetNodeIds face ids) = quiet_replies s (tabling face ids) refl

@@ -4,7 +4,7 @@ use Rattle.zq_tables.specs.declared.said.Said.{Said}
 use Rattle.zq_tables.specs.declared.said.Said.TheVariants as said
 use Rattle.zq_machine.specs.Deciding.{refusal_of}
 use Rattle.zq_machine.specs.State.{Core, is_open}
-use Rattle.zq_machine.specs.TextCalls.{TextCall, declaring, announcing, retracting}
+use Rattle.zq_machine.specs.TextCalls.{TextCall, declaring, announcing, retracting, hearing}
 
 -- what cannot be: a call is accepted whose second or third cause holds
 pub second_holds : {X : Type 0} (a : Bool) (x y : X) → cond a (Some x) (Some y) ≡ None → ⊥
@@ -26,6 +26,8 @@ abbrev pub HasText : TextCall → Type 0
 HasText (declaring face id s info node) = IsText s
 HasText (announcing face s info node) = IsText s
 HasText (retracting face s node) = IsText s
+HasText (hearing face id keys None) = Unit {0}
+HasText (hearing face id keys (Some s)) = IsText s
 HasText t = Unit {0}
 
 pub has_text : (c : Core) (t : TextCall) → refusal_of c t ≡ None → HasText t
@@ -38,4 +40,8 @@ has_text c (announcing face (said.Full text) info node) e = tt
 has_text c (retracting face said.Unscoped node) e = absurd (second_holds (not (is_open face.0 c)) _ _ e)
 has_text c (retracting face said.Empty node) e = absurd (second_holds (not (is_open face.0 c)) _ _ e)
 has_text c (retracting face (said.Full text) node) e = tt
+has_text c (hearing face id keys None) e = tt
+has_text c (hearing face id keys (Some said.Unscoped)) e = absurd (second_holds (not (is_open face.0 c)) _ _ e)
+has_text c (hearing face id keys (Some said.Empty)) e = absurd (second_holds (not (is_open face.0 c)) _ _ e)
+has_text c (hearing face id keys (Some (said.Full text))) e = tt
 has_text c t e = tt

@@ -15,7 +15,7 @@ use Rattle.zq_machine.specs.declared.call.Call.{Call}
 use Rattle.zq_machine.specs.Configs.{Settings}
 use Rattle.zq_machine.specs.State.{State, opening_state}
 use Rattle.zq_machine.specs.Selecting.{full_text, select, target_of}
-use Rattle.zq_machine.specs.TextCalls.{TextCall, opening, closing, naming, unnaming, declaring, withdrawing, asking, replying, ending, reporting, passing, listing, finalizing, announcing, retracting, networking, tabling, unbuilt, read}
+use Rattle.zq_machine.specs.TextCalls.{TextCall, opening, closing, naming, unnaming, declaring, withdrawing, asking, replying, ending, reporting, passing, listing, finalizing, announcing, retracting, networking, tabling, hearing, unhearing, read}
 use Rattle.zq_machine.specs.Deciding.{granted, accepted, after_replied, deadline, passing_finals}
 use Rattle.zq_machine.specs.Machine.{after, state_after, step}
 use Rattle.zq_machine.specs.Writing.{write}
@@ -114,7 +114,8 @@ granted_numbers n s (announcing face sd i node) = omega arith
 granted_numbers n s (retracting face sd node) = omega arith
 granted_numbers n s (networking r net) = omega arith
 granted_numbers n s (tabling face ids) = omega arith
-granted_numbers n s unbuilt = omega arith
+granted_numbers n s (hearing face id keys sd) = omega arith
+granted_numbers n s (unhearing face id) = omega arith
 
 call_numbers : (n : ℕ) (s : State) (c : Call) → finals_of n (step s c) + numbers n (after s c).core.queries ≤ numbers n s.core.queries
 call_numbers n s c =

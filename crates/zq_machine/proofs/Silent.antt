@@ -25,7 +25,7 @@ use Rattle.zq_machine.specs.declared.face.OpenFace.{OpenFace}
 use Rattle.zq_machine.specs.Configs.{Settings}
 use Rattle.zq_machine.specs.State.{State, opening_state}
 use Rattle.zq_machine.specs.Selecting.{full_text, select}
-use Rattle.zq_machine.specs.TextCalls.{TextCall, opening, closing, naming, unnaming, declaring, withdrawing, asking, replying, ending, reporting, passing, listing, finalizing, announcing, retracting, networking, tabling, unbuilt, read}
+use Rattle.zq_machine.specs.TextCalls.{TextCall, opening, closing, naming, unnaming, declaring, withdrawing, asking, replying, ending, reporting, passing, listing, finalizing, announcing, retracting, networking, tabling, hearing, unhearing, read}
 use Rattle.zq_machine.specs.Deciding.{timed_out as text_timeout, granted, handed_replies, handed_request, handed_requests, handed_timeouts, passing_finals, replied}
 use Rattle.zq_machine.specs.Machine.{state_after, step, steps_from}
 use Rattle.zq_machine.specs.Messages.{text_final}
@@ -196,7 +196,8 @@ granted_silent n s (announcing face sd i node) none = refl
 granted_silent n s (retracting face sd node) none = refl
 granted_silent n s (networking r net) none = refl
 granted_silent n s (tabling face ids) none = refl
-granted_silent n s unbuilt none = refl
+granted_silent n s (hearing face id keys sd) none = refl
+granted_silent n s (unhearing face id) none = refl
 
 pub silent : (n : ℕ) (s : State) (c : Call) → to_come s.core.queries.closed n s.core.queries ≡ 0 → list_any (is_of n) (step s c).handed ≡ false
 silent n s c none =

@@ -25,7 +25,7 @@ use Rattle.zq_trees.specs.Entries.{staying}
 use Rattle.zq_trees.specs.Nets.{is_listed}
 use Rattle.zq_hat.specs.Routers.{announced, networked, retracted, source_at}
 use Rattle.zq_regions.specs.RegionMap.{value_at}
-use Rattle.zq_tables.specs.Naming.{FaceKeys, FaceNaming, NamingState, change_naming, face_naming, naming_at, no_keys, said_of, with_name, with_queryable, with_told_number, without_name, without_queryable}
+use Rattle.zq_tables.specs.Naming.{FaceKeys, FaceNaming, NamingState, change_naming, face_naming, naming_at, no_keys, said_of, with_name, with_queryable, with_told_number, without_name, without_queryable, with_interest, without_interest}
 use Rattle.zq_machine.specs.declared.call.Call.{Call}
 use Rattle.zq_machine.specs.declared.call.Call.TheVariants as call
 use Rattle.zq_machine.specs.declared.call.Opening.{Opening}
@@ -399,6 +399,15 @@ module _ (config : Settings) (q : ℕ) (s : State) (i : InOrder config s) where
   network_faces strategy.Peer x h same = refl
   network_faces strategy.Router x h same = same
 
+  -- a call that makes nothing of what stands of its face
+  still : (c : Call) (b : Bool) → ((st : Standing) → declaring_at config c st ≡ st) → cond b (option_map (declaring_at config c) (standing_at q s)) (standing_at q s) ≡ standing_at q s
+  still c false same = refl
+  still c true same = by (standing_at q s)
+    where
+      by : (o : Option Standing) → option_map (declaring_at config c) o ≡ o
+      by None = refl
+      by (Some st) = ap Some (same st)
+
   granted_stands : (c : Call) → refusal_of s.core (read s c) ≡ None → standing_at q (accepted_state s (read s c)) ≡ accepted_at config q c (granted s.core (read s c)).outcome (standing_at q s)
   granted_stands (call.Open o) h =
       opened_stands config s.core.faces s.core.hats s.names i.tied i.hats q s.core.next_face o (next_absent s i.sound) (is_there (is_some (hat_at o.region s.core.hats)) (all_passed (causes s.core (opening o)) h).0)
@@ -463,6 +472,13 @@ module _ (config : Settings) (q : ℕ) (s : State) (i : InOrder config s) where
   granted_stands (call.FinalizeInterest f mark set) h =
       let x = opened_face s i.sound i.tied f.0 (all_passed (causes s.core (finalizing f mark set)) h).0 in
       kept_stands f x (call.FinalizeInterest f mark set) (marked mark set) s.names (keys f x) (its_keys s.core.faces s.core.hats s.names i.tied f.0 x.0 x.1).1 (λ e. refl) refl
+  granted_stands (call.Interest f id numbers None) h = refl
+  granted_stands (call.Interest f id numbers (Some w)) h =
+      let x = opened_face s i.sound i.tied f.0 (all_passed (causes s.core (read s (call.Interest f id numbers (Some w)))) h).0 in
+      renamed_stands f x (call.Interest f id numbers (Some w)) (with_interest id (full_text (said f w s))) refl ∙ still (call.Interest f id numbers (Some w)) (f.0 == q) (λ st. refl)
+  granted_stands (call.InterestFinal f id) h =
+      let x = opened_face s i.sound i.tied f.0 (all_passed (causes s.core (read s (call.InterestFinal f id))) h).0 in
+      renamed_stands f x (call.InterestFinal f id) (without_interest id) refl ∙ still (call.InterestFinal f id) (f.0 == q) (λ st. refl)
   granted_stands c h = refl
 
   pub call_stands : (c : Call) → standing_at q (after s c) ≡ standing_after config q c (step s c) (standing_at q s)

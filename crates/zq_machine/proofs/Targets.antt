@@ -35,7 +35,7 @@ use Rattle.zq_machine.specs.Configs.{Settings}
 use Rattle.zq_machine.specs.Deciding.{accepted, after_replied, deadline, opened}
 use Rattle.zq_machine.specs.Selecting.{AskerState, asker_in, full_text, offers_to, passes, route_for, says_key, select, select_for, target_of, with_part}
 use Rattle.zq_machine.specs.State.{Core, at}
-use Rattle.zq_machine.specs.TextCalls.{TextCall, opening, closing, naming, unnaming, declaring, withdrawing, asking, replying, ending, reporting, passing, listing, finalizing, announcing, retracting, networking, tabling, unbuilt}
+use Rattle.zq_machine.specs.TextCalls.{TextCall, opening, closing, naming, unnaming, declaring, withdrawing, asking, replying, ending, reporting, passing, listing, finalizing, announcing, retracting, networking, tabling, hearing, unhearing}
 use Rattle.zq_machine.proofs.Agreeing.{Tied}
 use Rattle.zq_machine.proofs.Changing.{hat_found, number_test}
 use Rattle.zq_machine.proofs.Hats.{AreHatsOf, IsIndex}
@@ -208,4 +208,5 @@ module _ (config : Settings) (c : Core) (names : NamingState) (t : Tied c.faces 
   accepted_aims (retracting face sd node) = aims
   accepted_aims (networking r net) = aims
   accepted_aims (tabling face ids) = aims
-  accepted_aims unbuilt = aims
+  accepted_aims (hearing face id keys sd) = aims
+  accepted_aims (unhearing face id) = aims

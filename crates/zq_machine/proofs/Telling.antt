@@ -95,14 +95,6 @@ module _ (P : Handed → Type 0) (number : (to : FaceId) (text : List ℕ) (id :
       all_append P (tell_body c t t.body names).handed (tell c ts (tell_body c t t.body names).names).handed
       (body_each c t t.body all.0 names) (told_each c ts (tell_body c t t.body names).names all.1)
 
--- what holds of each telling of a hat holds of all that a call tells
-pub due_each : (Q : Telling → Type 0) → ((t : TreeTelling) → Q (from_hat t)) → (before after : Core) (ints : Interests) (t : TextCall) (kept : Ears) → AllByRecursion Q (due_told before after ints t kept)
-due_each Q each before after ints t kept = all (in_order ((tree_told before after t ++ all_own_told before.hats after.hats (touched before t)) ++ kept_told before after ints t kept))
-  where
-    all : (ts : List TreeTelling) → AllByRecursion Q (map from_hat ts)
-    all [] = tt
-    all (x ∷ xs) = (each x, all xs)
-
 -- ---- what stands for keys afterwards
 module _ (P : NamingState → Type 0) (keeps : (face : ℕ) (text : List ℕ) (id : ℕ) (names : NamingState) → P names → P (change_naming face (with_told_number text (Some id)) names)) where
   number_keeps : (to : FaceId) (text : List ℕ) (o : Option ℕ) (names : NamingState) → P names → P (tell_number to text o names).names

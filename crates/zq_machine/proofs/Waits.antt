@@ -25,7 +25,7 @@ use Rattle.zq_machine.specs.declared.call.Call.TheVariants as call
 use Rattle.zq_machine.specs.declared.face.OpenFace.{OpenFace}
 use Rattle.zq_machine.specs.State.{State, Core}
 use Rattle.zq_machine.specs.Selecting.{select, full_text, target_of}
-use Rattle.zq_machine.specs.TextCalls.{TextCall, opening, closing, naming, unnaming, declaring, withdrawing, asking, replying, ending, reporting, passing, listing, finalizing, announcing, retracting, networking, tabling, unbuilt, read, said as said_by, said_or_none}
+use Rattle.zq_machine.specs.TextCalls.{TextCall, opening, closing, naming, unnaming, declaring, withdrawing, asking, replying, ending, reporting, passing, listing, finalizing, announcing, retracting, networking, tabling, hearing, unhearing, read, said as said_by, said_or_none, said_if}
 use Rattle.zq_machine.specs.Deciding.{granted, is_accepted, accepted, after_replied, deadline, handed_reply, timed_out, handed_request, handed_requests, handed_replies, handed_timeouts, passing_finals, replied}
 use Rattle.zq_machine.specs.Machine.{answer, settle, step, after}
 use Rattle.zq_machine.specs.Messages.{text_final}
@@ -55,7 +55,8 @@ ended (announcing face sd i node) e = false
 ended (retracting face sd node) e = false
 ended (networking r net) e = false
 ended (tabling face ids) e = false
-ended unbuilt e = false
+ended (hearing face id keys sd) e = false
+ended (unhearing face id) e = false
 
 landed : TextCall → ℕ → Bool
 landed (reporting reply) k = is_reply reply k
@@ -75,7 +76,8 @@ landed (announcing face sd i node) k = false
 landed (retracting face sd node) k = false
 landed (networking r net) k = false
 landed (tabling face ids) k = false
-landed unbuilt k = false
+landed (hearing face id keys sd) k = false
+landed (unhearing face id) k = false
 
 moment_of : Core → TextCall → ℕ
 moment_of c (asking face s r now) = deadline c r.timeout now
@@ -95,7 +97,8 @@ moment_of c (announcing face sd i node) = 0
 moment_of c (retracting face sd node) = 0
 moment_of c (networking r net) = 0
 moment_of c (tabling face ids) = 0
-moment_of c unbuilt = 0
+moment_of c (hearing face id keys sd) = 0
+moment_of c (unhearing face id) = 0
 
 -- ---- messages that give no entry, or carry no reply
 module _ (n : ℕ) (names : NamingState) where
@@ -256,7 +259,8 @@ granted_waits s (announcing face sd i node) = quiet 0 s.core.queries.records
 granted_waits s (retracting face sd node) = quiet 0 s.core.queries.records
 granted_waits s (networking r net) = quiet 0 s.core.queries.records
 granted_waits s (tabling face ids) = quiet 0 s.core.queries.records
-granted_waits s unbuilt = quiet 0 s.core.queries.records
+granted_waits s (hearing face id keys sd) = quiet 0 s.core.queries.records
+granted_waits s (unhearing face id) = quiet 0 s.core.queries.records
 granted_waits s (closing face) = let_go 0 s (at_face face.0) (closing_finals face.0 s.core.queries)
 granted_waits s (ending face rid) = let_go 0 s (is_entry face.0 rid) (finals_after (is_entry face.0 rid) s.core.queries.closed s.core.queries.records)
 granted_waits s (reporting reply) =
@@ -312,8 +316,8 @@ call_waits s (call.ResponseFinal face rid) = followed s (ending face rid)
 call_waits s (call.Sent reply) = followed s (reporting reply)
 call_waits s (call.Poll now) = followed s (passing now)
 call_waits s (call.SetGateways r table) = followed s (listing r table)
-call_waits s (call.Interest face id keys wire) = followed s unbuilt
-call_waits s (call.InterestFinal face id) = followed s unbuilt
+call_waits s (call.Interest face id keys wire) = followed s (hearing face id keys (said_if face wire s))
+call_waits s (call.InterestFinal face id) = followed s (unhearing face id)
 call_waits s (call.FinalizeInterest face mark set) = followed s (finalizing face mark set)
 call_waits s (call.SetNetwork r net) = followed s (networking r net)
 call_waits s (call.SetNodeIds face ids) = followed s (tabling face ids)

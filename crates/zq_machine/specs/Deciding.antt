@@ -3,6 +3,7 @@ use Rattle.std.specs.Prelude.{codes, ℕ, ◌+◌, ◌-◌, ◌^◌, ◌==◌, m
 use Rattle.std.specs.List.{cons_option, flat_map}
 use Rattle.std.specs.Option.{option_and_then, option_map, option_map_or}
 use Rattle.std.specs.Ordering.{nat_cmp}
+use Rattle.std.specs.Str.{bytes_eq}
 use Rattle.std.specs.BTreeMap.{is_at, insert_entry}
 use Rattle.std.specs.Map.{remove_entry}
 use Rattle.zq_message.specs.declared.message.FaceId.{FaceId}
@@ -21,7 +22,8 @@ use Rattle.zq_hat.specs.Kept.{registered, unregistered, without_face}
 use Rattle.zq_hat.specs.Marks.{finalized}
 use Rattle.zq_hat.specs.Routers.{announced, entry_at, networked, noded, retracted, source_at}
 use Rattle.zq_hat.specs.State.{HatState}
-use Rattle.zq_interests.specs.Interests.{closed_face}
+use Rattle.zq_interests.specs.declared.types.InterestEntry.{InterestEntry}
+use Rattle.zq_interests.specs.Interests.{Interests, closed_face, interest_at, with_interest, without_interest}
 use Rattle.zq_told.specs.Ears.{Ears}
 use Rattle.zq_trees.specs.Nets.{is_zid}
 use Rattle.zq_query.specs.declared.records.Final.{Final}
@@ -32,18 +34,18 @@ use Rattle.zq_query.specs.Closing.{closing_finals, after_close, finals_after, fi
 use Rattle.zq_query.specs.Polling.{is_due, timing_out, timeouts, after_poll, lacks_replies}
 use Rattle.zq_query.specs.Asking.{lacks_number, given_id, after_ask}
 use Rattle.zq_tables.specs.declared.said.Said.{Said}
-use Rattle.zq_tables.specs.Naming.{NamingState, no_keys, remaps, with_name, without_name, with_queryable, without_queryable, change_naming}
+use Rattle.zq_tables.specs.Naming.{NamingState, no_keys, remaps, with_name, without_name, with_queryable, without_queryable, with_interest as holding_interest, without_interest as letting_interest, change_naming}
 use Rattle.zq_machine.specs.declared.call.Opening.{Opening}
 use Rattle.zq_machine.specs.declared.call.Outcome.{Outcome}
 use Rattle.zq_machine.specs.declared.call.Outcome.TheVariants as outcome
 use Rattle.zq_machine.specs.declared.call.Refusal.{Refusal}
 use Rattle.zq_machine.specs.declared.call.Refusal.TheVariants as refusal
 use Rattle.zq_machine.specs.Messages.{Decided, Telling, TextMessage, text_final, text_reply, text_request}
-use Rattle.zq_machine.specs.Neighbours.{due_told, kept_after, kept_lack, with_new}
+use Rattle.zq_machine.specs.Neighbours.{due_told, marked, near_after, near_lack, with_new}
 use Rattle.zq_machine.specs.declared.face.OpenFace.{OpenFace}
 use Rattle.zq_machine.specs.State.{Core, State, is_open, has_hat, is_full_region, hat_of, has_declared_in, clashes_in, joined, change_hat, change_hat_of}
-use Rattle.zq_machine.specs.TextCalls.{TextCall, opening, closing, naming, unnaming, declaring, withdrawing, asking, replying, ending, reporting, passing, listing, finalizing, announcing, retracting, networking, tabling, unbuilt}
-use Rattle.zq_machine.specs.Selecting.{router_by, select, target_of, zid_of, is_unscoped, says_key, says_key_or_nothing, full_text}
+use Rattle.zq_machine.specs.TextCalls.{TextCall, opening, closing, naming, unnaming, declaring, withdrawing, asking, replying, ending, reporting, passing, listing, finalizing, announcing, retracting, networking, tabling, hearing, unhearing}
+use Rattle.zq_machine.specs.Selecting.{asked_by, router_by, select, target_of, zid_of, is_unscoped, says_key, says_key_or_nothing, full_text}
 
 -- ---- words for what may refuse a call
 
@@ -59,6 +61,13 @@ first_of (c ∷ cs) = if c.0 then Some c.1 else first_of cs
 -- the id stands for another key at the face
 abbrev pub clashes : FaceId → ℕ → List ℕ → Core → Bool
 clashes face id key c = clashes_in face.0 id key (hat_of face.0 c)
+
+-- the keys are the same, none counting as a key of its own
+abbrev pub same_key : Option (List ℕ) → Option (List ℕ) → Bool
+same_key None None = true
+same_key None (Some b) = false
+same_key (Some a) None = false
+same_key (Some a) (Some b) = bytes_eq a b
 
 -- the face declared the id
 abbrev pub has_declared : FaceId → ℕ → Core → Bool
@@ -220,6 +229,10 @@ announced_by face node key info h = option_map_or (λ (z : Zid). announced z.0 k
 abbrev pub retracted_by : ℕ → ℕ → List ℕ → HatState → HatState
 retracted_by face node key h = option_map_or (λ (z : Zid). retracted z.0 key h) (source_at face node h) h
 
+-- an interest of the face under the id asks for another key, or for all where this one has a key, or the other way round
+abbrev pub asks_another : FaceId → ℕ → InterestEntry → Core → Bool
+asks_another face id asked c = option_map_or (λ (i : InterestEntry). not (same_key i.key asked.key)) (interest_at face.0 id c.interests) false
+
 -- what decides after a call that was accepted, but for that
 abbrev pub changed : Core → TextCall → Core
 changed c (opening o) = with_face o c
@@ -239,7 +252,8 @@ changed c (announcing face s info node) = change_hat_of face.0 (announced_by fac
 changed c (retracting face s node) = change_hat_of face.0 (retracted_by face.0 node (full_text s)) c
 changed c (networking r net) = record c { hats = change_hat r (networked net) c.hats }
 changed c (tabling face ids) = change_hat_of face.0 (noded face.0 ids) c
-changed c unbuilt = c
+changed c (hearing face id keys s) = record c { interests = with_interest face.0 id (asked_by keys s) c.interests }
+changed c (unhearing face id) = record c { interests = without_interest face.0 id c.interests }
 
 -- ---- what neighbours are told of it
 
@@ -247,13 +261,19 @@ changed c unbuilt = c
 abbrev pub kept : Core → TextCall → Ears
 kept c t = with_new c t c.ears
 
+-- the interests that count: for an interest and for the end of one those after it
+abbrev pub interests_for : Core → TextCall → Interests
+interests_for c (hearing face id keys s) = (changed c (hearing face id keys s)).interests
+interests_for c (unhearing face id) = (changed c (unhearing face id)).interests
+interests_for c t = c.interests
+
 -- some neighbour needs an id for it that there is not
 abbrev pub lacks_told : Core → TextCall → Bool
-lacks_told c t = kept_lack c (changed c t) c.interests t (kept c t)
+lacks_told c t = near_lack c (changed c t) (interests_for c t) t (kept c t)
 
 -- what is kept of faces after it
 abbrev pub ears_of : Core → TextCall → Ears
-ears_of c t = kept_after c (changed c t) c.interests t (kept c t)
+ears_of c t = near_after c (changed c t) (interests_for c t) t (kept c t)
 
 -- the deciding part after a call that was accepted
 abbrev pub accepted : Core → TextCall → Core
@@ -290,7 +310,10 @@ causes c (retracting face s node) =
     ∷ (lacks_router face node c, refusal.UnknownRouter) ∷ (is_none (entry_of face node (full_text s) c), refusal.UnknownId) ∷ []
 causes c (networking r net) = (not (has_hat r c), refusal.UnknownRegion) ∷ []
 causes c (tabling face ids) = unknown_face face c ∷ []
-causes c unbuilt = []
+causes c (hearing face id keys s) =
+    unknown_face face c ∷ (option_map_or is_unscoped s false, refusal.UnknownScope) ∷ (not (option_map_or says_key s true), refusal.InvalidKeyExpr)
+    ∷ (asks_another face id (asked_by keys s) c, refusal.IdInUse) ∷ (lacks_told c (hearing face id keys s), refusal.NoFreeId) ∷ []
+causes c (unhearing face id) = unknown_face face c ∷ (is_none (interest_at face.0 id c.interests), refusal.UnknownId) ∷ []
 
 -- the refusal of a call, if some cause of it holds
 abbrev pub refusal_of : Core → TextCall → Option Refusal
@@ -298,9 +321,9 @@ refusal_of c t = first_of (causes c t)
 
 -- ---- what a call decides
 
--- what faces are told after it
+-- what faces are told after it; an interest is answered by it, and then by the end of what there was to tell
 abbrev pub told_of : Core → TextCall → List Telling
-told_of c t = due_told c (accepted c t) c.interests t (kept c t)
+told_of c t = marked t (due_told c (accepted c t) (interests_for c t) t (kept c t))
 
 -- what a call decides that nothing refuses
 abbrev pub granted : Core → TextCall → Decided
@@ -341,4 +364,7 @@ renamed s (naming face id said standing) = change_naming face.0 (with_name id (f
 renamed s (unnaming face id standing) = change_naming face.0 (without_name id) s.names
 renamed s (declaring face id said info node) = change_naming face.0 (with_queryable id (full_text said)) s.names
 renamed s (withdrawing face id) = change_naming face.0 (without_queryable id) s.names
+renamed s (hearing face id keys None) = s.names
+renamed s (hearing face id keys (Some said)) = change_naming face.0 (holding_interest id (full_text said)) s.names
+renamed s (unhearing face id) = change_naming face.0 (letting_interest id) s.names
 renamed s c = s.names

@@ -36,7 +36,7 @@ use Rattle.zq_machine.specs.Standing.{first_routed, listed_in, routed_at, routed
 use Rattle.zq_machine.specs.Hearing.{hear}
 use Rattle.zq_machine.specs.Direct.{AreDirect}
 use Rattle.zq_machine.specs.Children.{ChildPromise}
-use Rattle.zq_machine.specs.Keeping.{ChangePromise, KeepPromise}
+use Rattle.zq_machine.specs.Keeping.{AnswersInterests, ChangePromise, KeepPromise}
 use Rattle.zq_machine.specs.Machine.{step, steps, after, follow, state_after, refused_step}
 use Rattle.zq_machine.specs.Writing.{leaving, sent_final, write}
 
@@ -185,7 +185,7 @@ ended_by h = if is_final h.message then h.number else None
 abbrev pub ended_in : List Handed → List ℕ
 ended_in hs = filter_map ended_by hs
 
--- what a call may hand: a request, requests or the asker's final; a reply, a reply; a moment that has come, replies and finals; the end of an entry or of a reply, finals; a closing, finals and declarations; an opening, what is declared or withdrawn, and a network, declarations; any other call, nothing
+-- what a call may hand: a request, requests or the asker's final; a reply, a reply; a moment that has come, replies and finals; the end of an entry or of a reply, finals; a closing, finals and declarations; an opening, what is declared or withdrawn, a network and an interest, declarations; any other call, nothing
 abbrev pub may_hand : Call → Message → Bool
 may_hand (call.Request face r now) m = is_request m || is_final m
 may_hand (call.Response face r) m = is_response m
@@ -197,6 +197,7 @@ may_hand (call.Close face) m = is_final m || is_declaration m
 may_hand (call.DeclareQueryable face id wire info node) m = is_declaration m
 may_hand (call.UndeclareQueryable face id wire node) m = is_declaration m
 may_hand (call.SetNetwork r net) m = is_declaration m
+may_hand (call.Interest face id keys wire) m = is_declaration m
 may_hand c m = false
 
 -- what is handed has a reply number exactly where it is a reply, and a request's number exactly where it is no declaration; it leaves as it is (as long as no face has an exit of its own), and is of a kind that the call may hand
@@ -251,7 +252,7 @@ pub record RunPromise (config : Settings) (calls : List Call) : Type 0 where
   pub children : ChildPromise config calls
   pub neighbours : KeepPromise config calls
   pub changes : ChangePromise config calls
-  pub unasked : (state_after (opening_state config) calls).core.interests ≡ []
+  pub answers : AnswersInterests config calls
   pub numbers : AreCounted config.start.requests (map asked_number (asked_in calls (steps config calls)))
   pub faces : AreCounted config.start.faces (opened_in (steps config calls))
   pub next_face : (state_after (opening_state config) calls).core.next_face ≡ config.start.faces + length (opened_in (steps config calls))

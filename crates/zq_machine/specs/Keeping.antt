@@ -1,21 +1,28 @@
--- What a receiver keeps of the declarations that a face is handed over a run, read by their ids alone: outside regions of routers it is, after every call, what is due to the face; and each call hands the face exactly the difference.
-use Rattle.std.specs.Prelude.{◌≡◌, ℕ, ◌==◌, nat_lt, Bool, true, false, List, [], ◌∷◌, ◌++◌, filter, fold, map, Some, None, if◌then◌else◌}
-use Rattle.std.specs.Option.{option_to_list}
-use Rattle.zq_told.specs.declared.types.Way.TheVariants.{Unasked}
+-- What a receiver keeps of the declarations that a face is handed over a run, read by their ids alone: outside regions of routers it is, after every call, what is due to the face; each call tells the face exactly the difference, and an interest is answered by all that is due.
+use Rattle.std.specs.Prelude.{◌≡◌, ℕ, ◌==◌, ◌&&◌, nat_lt, Bool, true, false, List, [], ◌∷◌, ◌++◌, filter, fold, map, Option, Some, None, if◌then◌else◌}
+use Rattle.std.specs.Option.{is_some, option_to_list}
+use Rattle.zq_message.specs.declared.message.FaceId.{FaceId}
+use Rattle.zq_message.specs.declared.message.QueryableInfoType.{QueryableInfoType}
+use Rattle.zq_message.specs.declared.message.WireExpr.{WireExpr}
+use Rattle.zq_interests.specs.declared.types.InterestEntry.{InterestEntry}
+use Rattle.zq_told.specs.declared.types.Way.TheVariants.{Answering, Unasked}
 use Rattle.zq_told.specs.Ears.{Ear, at_face}
 use Rattle.zq_told.specs.Laws.{InOrder, told_in}
 use Rattle.zq_told.specs.Receiver.{Heard, Tied, heard_entry, heard_on, memory_of}
 use Rattle.zq_machine.specs.declared.call.Call.{Call}
+use Rattle.zq_machine.specs.declared.call.Call.TheVariants as call
+use Rattle.zq_machine.specs.declared.call.Step.{Step}
 use Rattle.zq_machine.specs.Configs.{Settings}
 use Rattle.zq_machine.specs.Deciding.{is_accepted}
 use Rattle.zq_machine.specs.Due.{due}
 use Rattle.zq_machine.specs.Hearing.{hear}
 use Rattle.zq_machine.specs.Machine.{after, follow, state_after, step}
-use Rattle.zq_machine.specs.Messages.{Telling, TellingBody, all_told, from_hat, key_ended, key_told}
-use Rattle.zq_machine.specs.Neighbours.{due_on}
+use Rattle.zq_machine.specs.Messages.{Telling, TellingBody, all_told, answered_by, from_hat, key_ended, key_told}
+use Rattle.zq_machine.specs.Neighbours.{asked_dues, due_on}
+use Rattle.zq_machine.specs.Selecting.{asked_by}
 use Rattle.zq_machine.specs.Receivers.{HaveChanges}
 use Rattle.zq_machine.specs.State.{Core, State, is_open, opening_state}
-use Rattle.zq_machine.specs.TextCalls.{by_router, read}
+use Rattle.zq_machine.specs.TextCalls.{by_router, read, said_if}
 
 -- ---- what a receiver keeps
 
@@ -47,22 +54,35 @@ if_told f face kept t = if is_told face t then f kept t.body else kept
 abbrev pub told_by : State → Call → List Telling
 told_by s c = hear (step s c).handed (follow s (read s c)).names
 
--- what is kept at the face once a call is made
-abbrev pub received_after : {K : Type 0} → (K → TellingBody → K) → ℕ → State → Call → K → K
-received_after f face s c kept = fold (if_told f face) kept (told_by s c)
+-- the entry is of a key that is due to the face
+abbrev pub is_due_at : ℕ → Core → ℕ × (List ℕ × QueryableInfoType) → Bool
+is_due_at face c e = is_some (due c c.interests face e.1.0)
 
--- the same once calls are made
-abbrev pub received_in : {K : Type 0} → (K → TellingBody → K) → ℕ → State → List Call → K → K
-received_in f face s [] kept = kept
-received_in f face s (c ∷ cs) kept = received_in f face (after s c) cs (received_after f face s c kept)
+-- where an interest of the face ended, by this answer and with this left, its receiver forgets the keys that are not due any more
+abbrev pub forget_undue : ℕ → Step → Core → Call → Heard → Heard
+forget_undue face t left (call.InterestFinal f id) heard = if (f.0 == face) && is_accepted t.outcome then filter (is_due_at face left) heard else heard
+forget_undue face t left c heard = heard
+
+-- what the face's receiver keeps once a call is made
+abbrev pub heard_after : ℕ → State → Call → Heard → Heard
+heard_after face s c heard = forget_undue face (step s c) (after s c).core c (fold (if_told with_told face) heard (told_by s c))
+
+-- the greatest id that the face was told of once a call is made
+abbrev pub last_after : ℕ → State → Call → ℕ → ℕ
+last_after face s c last = fold (if_told greatest_with face) last (told_by s c)
+
+-- what is kept once calls are made, one after another
+abbrev pub received_in : {K : Type 0} → (State → Call → K → K) → State → List Call → K → K
+received_in f s [] kept = kept
+received_in f s (c ∷ cs) kept = received_in f (after s c) cs (f s c kept)
 
 -- what a run leaves with the face's receiver
 abbrev pub heard_in : ℕ → Settings → List Call → Heard
-heard_in face config calls = received_in with_told face (opening_state config) calls []
+heard_in face config calls = received_in (heard_after face) (opening_state config) calls []
 
 -- the greatest id that the face was told of in it, or the one before the first
 abbrev pub last_in : ℕ → Settings → List Call → ℕ
-last_in face config calls = received_in greatest_with face (opening_state config) calls config.start.told
+last_in face config calls = received_in (last_after face) (opening_state config) calls config.start.told
 
 -- ---- what is promised of it
 
@@ -97,9 +117,30 @@ pub record TellsChanges (c : Core) (face : ℕ) (heard : Heard) (last : ℕ) (to
   pub some : (keys : List (List ℕ)) × HaveChanges c c.interests face ear keys
   pub exactly : (keys : List (List ℕ)) → HaveChanges c c.interests face ear keys → filter (is_told face) told ≡ map from_hat (told_in Unasked face ear (map (due_on c c.interests face) keys))
 
--- so does each accepted call of a run, at each face that is near after it
+-- the call is an interest, or the end of one
+abbrev pub is_asking : Call → Bool
+is_asking (call.Interest face id keys wire) = true
+is_asking (call.InterestFinal face id) = true
+is_asking c = false
+
+-- so does each other accepted call of a run, at each face that is near after it
 abbrev pub ChangePromise : Settings → List Call → Type 0
 ChangePromise config calls =
-    (before rest : List Call) (c : Call) → calls ≡ before ++ c ∷ rest → is_accepted (step (state_after (opening_state config) before) c).outcome ≡ true
+    (before rest : List Call) (c : Call) → calls ≡ before ++ c ∷ rest → is_asking c ≡ false → is_accepted (step (state_after (opening_state config) before) c).outcome ≡ true
     → (face : ℕ) → IsNear face (after (state_after (opening_state config) before) c).core
     → TellsChanges (after (state_after (opening_state config) before) c).core face (heard_in face config before) (last_in face config before) (told_by (state_after (opening_state config) before) c)
+
+-- the asker is told all that is due on the keys which its interest meets, in order, each under the id that it has, or under the next, and then that this was all
+pub record TellsAnswer (c : Core) (face : FaceId) (id : ℕ) (asked : InterestEntry) (heard : Heard) (last : ℕ) (told : List Telling) : Type 0 where
+  pub ear : Ear
+  pub is : IsKept ear heard last
+  pub exactly : told ≡ answered_by face id (map from_hat (told_in Answering face.0 ear (asked_dues c c.interests face.0 asked)))
+
+-- so does each accepted interest of a run whose face is near, and tells no other face anything
+abbrev pub AnswersInterests : Settings → List Call → Type 0
+AnswersInterests config calls =
+    (before rest : List Call) (face : FaceId) (id : ℕ) (keys : Bool) (wire : Option WireExpr) → calls ≡ before ++ call.Interest face id keys wire ∷ rest
+    → is_accepted (step (state_after (opening_state config) before) (call.Interest face id keys wire)).outcome ≡ true
+    → IsNear face.0 (after (state_after (opening_state config) before) (call.Interest face id keys wire)).core
+    → TellsAnswer (after (state_after (opening_state config) before) (call.Interest face id keys wire)).core face id (asked_by keys (said_if face wire (state_after (opening_state config) before)))
+    (heard_in face.0 config before) (last_in face.0 config before) (told_by (state_after (opening_state config) before) (call.Interest face id keys wire))

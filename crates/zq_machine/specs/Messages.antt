@@ -1,5 +1,5 @@
 -- What a call decides to hand, over texts: its outcome, its messages, and what faces are told.
-use Rattle.std.specs.Prelude.{ℕ, ◌==◌, List, Option, Some, None, if◌then◌else◌}
+use Rattle.std.specs.Prelude.{ℕ, ◌==◌, List, [], ◌∷◌, ◌++◌, map, Option, Some, None, if◌then◌else◌}
 use Rattle.zq_message.specs.declared.message.FaceId.{FaceId}
 use Rattle.zq_message.specs.declared.message.QueryTarget.{QueryTarget}
 use Rattle.zq_message.specs.declared.message.QueryableInfoType.{QueryableInfoType}
@@ -63,6 +63,14 @@ told_or_ended id key (Some info) = key_told id key info
 -- what a hat tells a face, in answer to no interest
 abbrev pub from_hat : hat.Telling → Telling
 from_hat t = record { to = t.face; interest = None; node = t.node; body = told_or_ended t.id t.key t.info }
+
+-- it is told in answer to the interest of that id
+abbrev pub answering : ℕ → Telling → Telling
+answering id t = record t { interest = Some id }
+
+-- an interest of the face is answered by these, and then that all was told
+abbrev pub answered_by : FaceId → ℕ → List Telling → List Telling
+answered_by face id ts = map (answering id) ts ++ record { to = face; interest = Some id; node = 0; body = all_told } ∷ []
 
 -- what a call decides: its outcome, the messages of requests, and what faces are told
 pub record Decided : Type 0 where

@@ -9,7 +9,7 @@ use Rattle.zq_tables.specs.declared.said.Said.{Said}
 use Rattle.zq_tables.specs.declared.said.Said.TheVariants as said
 use Rattle.zq_machine.specs.Messages.{Decided, Telling, TellingBody, TextMessage, all_told, key_ended, key_told, text_final, text_reply, text_request}
 use Rattle.zq_machine.specs.State.{Core}
-use Rattle.zq_machine.specs.TextCalls.{TextCall, naming, unnaming, declaring, asking, replying, finalizing, announcing, retracting}
+use Rattle.zq_machine.specs.TextCalls.{TextCall, naming, unnaming, declaring, asking, replying, finalizing, announcing, retracting, hearing}
 use Rattle.zq_machine.specs.Deciding.{decide, accepted, is_accepted}
 
 module _ (φ : List ℕ → List ℕ) where
@@ -29,6 +29,7 @@ module _ (φ : List ℕ → List ℕ) where
   move_text (finalizing face m set) = finalizing face (move_mark φ m) set
   move_text (announcing face s info node) = announcing face (move_said s) info node
   move_text (retracting face s node) = retracting face (move_said s) node
+  move_text (hearing face id keys s) = hearing face id keys (option_map move_said s)
   move_text t = t
 
   -- a region's hat with its texts moved

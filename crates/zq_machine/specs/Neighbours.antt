@@ -8,15 +8,16 @@ use Rattle.zq_index.specs.Texts.{text_cmp}
 use Rattle.zq_trees.specs.declared.types.Telling.{Telling as TreeTelling}
 use Rattle.zq_trees.specs.Tellings.{in_order}
 use Rattle.zq_interests.specs.declared.types.InterestEntry.{InterestEntry}
-use Rattle.zq_interests.specs.Interests.{Interests, meets}
+use Rattle.zq_interests.specs.Interests.{Interests, interest_at, meets}
 use Rattle.zq_told.specs.declared.types.FaceDues.{FaceDues}
 use Rattle.zq_told.specs.declared.types.Way.TheVariants.{Unasked, Answering, Ending}
 use Rattle.zq_told.specs.Ears.{Ear, Ears, at_face, closed, opened}
 use Rattle.zq_told.specs.Telling.{KeyDue, lacks_ids, tell_due, tell_faces}
 use Rattle.zq_machine.specs.Due.{due, due_touched, listens, met_keys}
-use Rattle.zq_machine.specs.Messages.{Telling, from_hat}
+use Rattle.zq_machine.specs.Messages.{Telling, answered_by, from_hat}
+use Rattle.zq_machine.specs.Selecting.{asked_by}
 use Rattle.zq_machine.specs.State.{Core}
-use Rattle.zq_machine.specs.TextCalls.{TextCall, closing, opening}
+use Rattle.zq_machine.specs.TextCalls.{TextCall, closing, hearing, opening, unhearing}
 use Rattle.zq_machine.specs.Trees.{all_own_told, touched, tree_told}
 
 -- ---- what is looked at
@@ -120,8 +121,31 @@ ears_asked c ints ears asker asked = tell_due Answering ears (asked_at c ints as
 abbrev pub ears_ended : Core → Interests → Ears → (asker : ℕ) → InterestEntry → Ears
 ears_ended c ints ears asker asked = tell_due Ending ears (ended_at c ints ears asker asked)
 
+-- ---- by the kind of the call; the interests are those after an interest or the end of one, and else those before the call
+
+-- what a call tells the faces of which something is kept
+abbrev pub near_told : (before after : Core) → Interests → TextCall → Ears → List TreeTelling
+near_told before after ints (hearing face id keys s) kept = answer_told after ints kept face.0 (asked_by keys s)
+near_told before after ints t kept = kept_told before after ints t kept
+
+-- a face needs an id above those of 32 bits for it
+abbrev pub near_lack : (before after : Core) → Interests → TextCall → Ears → Bool
+near_lack before after ints (hearing face id keys s) kept = answer_lacks after ints kept face.0 (asked_by keys s)
+near_lack before after ints t kept = kept_lack before after ints t kept
+
+-- what was told after it
+abbrev pub near_after : (before after : Core) → Interests → TextCall → Ears → Ears
+near_after before after ints (hearing face id keys s) kept = ears_asked after ints kept face.0 (asked_by keys s)
+near_after before after ints (unhearing face id) kept = option_map_or (ears_ended after ints kept face.0) (interest_at face.0 id before.interests) kept
+near_after before after ints t kept = kept_after before after ints t kept
+
 -- ---- all that a call tells
 
 -- what faces are told by a call that is accepted, by what decides before and after it: along the trees of routers and as neighbours, in order, each once
 abbrev pub due_told : (before after : Core) → Interests → TextCall → (kept : Ears) → List Telling
-due_told before after ints t kept = map from_hat (in_order ((tree_told before after t ++ all_own_told before.hats after.hats (touched before t)) ++ kept_told before after ints t kept))
+due_told before after ints t kept = map from_hat (in_order ((tree_told before after t ++ all_own_told before.hats after.hats (touched before t)) ++ near_told before after ints t kept))
+
+-- what is told as it is told: in answer to an interest with its id, and with the end of what there was to tell
+abbrev pub marked : TextCall → List Telling → List Telling
+marked (hearing face id keys s) ts = answered_by face id ts
+marked t ts = ts

@@ -19,6 +19,7 @@ use Rattle.zq_route.specs.declared.filter.InterRegionFilter.{InterRegionFilter}
 use Rattle.zq_route.specs.declared.gateways.Gateways.{Gateways}
 use Rattle.zq_route.specs.Filter.{passes_between}
 use Rattle.zq_route.specs.Selection.{chosen, with_offers}
+use Rattle.zq_interests.specs.declared.types.InterestEntry.{InterestEntry}
 use Rattle.zq_machine.specs.declared.face.OpenFace.{OpenFace}
 use Rattle.zq_machine.specs.State.{Core, at, hat_of, is_region}
 
@@ -45,6 +46,10 @@ abbrev pub full_text : Said → List ℕ
 full_text said.Unscoped = []
 full_text said.Empty = []
 full_text (said.Full text) = text
+
+-- what an interest asks for: all that meets its key, or, with no expression, all; and whether it wants numbers for keys
+abbrev pub asked_by : Bool → Option Said → InterestEntry
+asked_by keys s = record { key = option_map full_text s; keys = keys }
 
 -- the face of an offer
 abbrev pub target_of : QueryTargetQabl → FaceId

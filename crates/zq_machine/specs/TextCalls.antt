@@ -1,6 +1,6 @@
 -- Calls with their expressions read: each is a text, nothing, or of no known number.
 use Rattle.std.specs.Prelude.{ℕ, Bool, false, List, Option, Some, None, if◌then◌else◌}
-use Rattle.std.specs.Option.{option_map_or}
+use Rattle.std.specs.Option.{option_map, option_map_or}
 use Rattle.zq_message.specs.declared.message.FaceId.{FaceId}
 use Rattle.zq_message.specs.declared.message.QueryableInfoType.{QueryableInfoType}
 use Rattle.zq_message.specs.declared.message.Region.{Region}
@@ -19,7 +19,7 @@ use Rattle.zq_machine.specs.declared.call.Call.{Call}
 use Rattle.zq_machine.specs.declared.call.Call.TheVariants as call
 use Rattle.zq_machine.specs.State.{Core, State, hat_of, is_routing}
 
--- a call with texts in place of expressions; a number that is declared or given up comes with the text that it stood for; what routers declare is named by its text and its node
+-- a call with texts in place of expressions; a number that is declared or given up comes with the text that it stood for; what routers declare is named by its text and its node; an interest may have no expression
 pub data TextCall : Type 0 where
   opening : Opening → TextCall
   closing : FaceId → TextCall
@@ -38,7 +38,8 @@ pub data TextCall : Type 0 where
   retracting : FaceId → Said → ℕ → TextCall
   networking : Region → Network → TextCall
   tabling : FaceId → NodeIds → TextCall
-  unbuilt : TextCall
+  hearing : FaceId → ℕ → Bool → Option Said → TextCall
+  unhearing : FaceId → ℕ → TextCall
 
 -- what an expression says that the face sends
 abbrev pub said : FaceId → WireExpr → State → Said
@@ -52,6 +53,10 @@ standing face id s = text_at id (face_naming face.0 s.names).theirs
 abbrev pub said_or_none : FaceId → Option WireExpr → State → Said
 said_or_none face None s = said_word.Empty
 said_or_none face (Some w) s = said face w s
+
+-- what an expression says, if there is one
+abbrev pub said_if : FaceId → Option WireExpr → State → Option Said
+said_if face w s = option_map (λ (x : WireExpr). said face x s) w
 
 -- the face's region is one of routers
 abbrev pub by_router : FaceId → Core → Bool
@@ -72,7 +77,7 @@ read s (call.Sent reply) = reporting reply
 read s (call.Poll now) = passing now
 read s (call.SetGateways r table) = listing r table
 read s (call.FinalizeInterest face mark set) = finalizing face mark set
-read s (call.Interest face id keys wire) = unbuilt
-read s (call.InterestFinal face id) = unbuilt
+read s (call.Interest face id keys wire) = hearing face id keys (said_if face wire s)
+read s (call.InterestFinal face id) = unhearing face id
 read s (call.SetNetwork r net) = networking r net
 read s (call.SetNodeIds face ids) = tabling face ids

@@ -1,5 +1,5 @@
 -- How texts become expressions: messages as they are handed and leave, and what faces are told, with the numbers that are declared for it.
-use Rattle.std.specs.Prelude.{ℕ, Bool, true, false, List, [], ◌∷◌, ◌++◌, map, Option, Some, None}
+use Rattle.std.specs.Prelude.{ℕ, Bool, true, false, ◌||◌, List, [], ◌∷◌, ◌++◌, map, Option, Some, None}
 use Rattle.std.specs.Option.{option_map_or}
 use Rattle.std.specs.List.{list_any}
 use Rattle.zq_message.specs.declared.message.Declare.{Declare}
@@ -12,6 +12,7 @@ use Rattle.zq_message.specs.declared.message.Region.TheVariants as region
 use Rattle.zq_names.specs.Texts.{nonwild}
 use Rattle.zq_ids.specs.FaceTexts.{declared_key}
 use Rattle.zq_ids.specs.declared.decl.DeclKey.{DeclKey}
+use Rattle.zq_interests.specs.Interests.{has_keyed}
 use Rattle.zq_query.specs.declared.records.Final.{Final}
 use Rattle.zq_query.specs.Closing.{finals_after}
 use Rattle.zq_query.specs.Records.{Pending, is_entry, letting_go}
@@ -151,9 +152,9 @@ numbers_region (region.South id mode) = false
 abbrev pub is_local_face : FaceId → Core → Bool
 is_local_face to c = option_map_or (λ (o : OpenFace). is_local_region o.region) (at to.0 c.faces) false
 
--- the face may be declared a number for the part of a text: it is in North, or (once there are interests) one of its interests wants numbers for it
+-- the face may be declared a number for the part of a text: it is in North, or one of its interests wants numbers for it
 abbrev pub may_number : FaceId → List ℕ → Core → Bool
-may_number to part c = option_map_or (λ (o : OpenFace). numbers_region o.region) (at to.0 c.faces) false
+may_number to part c = option_map_or (λ (o : OpenFace). numbers_region o.region) (at to.0 c.faces) false || has_keyed to.0 part c.interests
 
 -- how a text is told to a face
 abbrev pub told_key : Core → FaceId → List ℕ → NamingState → DeclKey
