@@ -1,7 +1,7 @@
--- What faces are told reads the open faces and the numbers of the faces that are told, and nothing else: it is told the same before and after all else is changed.
-use Rattle.std.proofs.Common.{◌≡◌, ◌∙◌, refl, sym, ap, subst, ℕ, Bool, true, false, cond, List, [], ◌∷◌, ◌++◌, Option, Some, None, unwrap_or}
+-- What faces are told reads the open faces, and the numbers and the interests of the faces that are told, and nothing else: it is told the same before and after all else is changed.
+use Rattle.std.proofs.Common.{◌≡◌, ◌∙◌, refl, sym, ap, subst, ℕ, Bool, true, false, cond, ◌||◌, List, [], ◌∷◌, ◌++◌, Option, Some, None, unwrap_or}
 use Rattle.std.specs.BTreeMap.{is_at}
-use Rattle.std.specs.List.{AllByRecursion}
+use Rattle.std.specs.List.{AllByRecursion, list_any}
 use Rattle.std.specs.Map.{remove_entry, set_value}
 use Rattle.std.specs.Option.{option_map_or}
 use Rattle.std.specs.Ordering.{nat_cmp}
@@ -11,9 +11,12 @@ use Rattle.std.proofs.lemmas.Map.Lookups.{exact_unsigned}
 use Rattle.zq_message.specs.declared.message.Declare.{Declare}
 use Rattle.zq_message.specs.declared.message.DeclareBody.TheVariants as body
 use Rattle.zq_message.specs.declared.message.FaceId.{FaceId}
+use Rattle.zq_names.specs.Texts.{nonwild}
 use Rattle.zq_ids.specs.FaceTexts.{declared_key}
 use Rattle.zq_ids.specs.declared.decl.DeclKey.{DeclKey}
 use Rattle.zq_tables.specs.Naming.{FaceKeys, NamingState, change_naming, face_naming, naming_at, no_keys, put_naming, with_told_number, without_queryable}
+use Rattle.zq_interests.specs.declared.types.InterestEntry.{InterestEntry}
+use Rattle.zq_interests.specs.Interests.{closed_face, interests_of, wants_keyed}
 use Rattle.zq_machine.specs.Messages.{Telling, TellingBody, all_told, key_ended, key_told}
 use Rattle.zq_machine.specs.State.{Core, at}
 use Rattle.zq_machine.specs.Writing.{Told, and_then, is_local_region, numbers_region, tell, tell_body, tell_by, tell_declare, tell_number, told_key}
@@ -28,6 +31,7 @@ module _ (c d : Core) (g : NamingState → NamingState) where
   -- a change of faces and of what stands for keys leaves what a face is told by
   pub record IsBeside (to : ℕ) : Type 0 where
     pub face : at to d.faces ≡ at to c.faces
+    pub asks : interests_of to d.interests ≡ interests_of to c.interests
     pub numbers : (names : NamingState) → face_naming to (g names) ≡ face_naming to names
     pub later : (text : List ℕ) (n : Option ℕ) (names : NamingState) → change_naming to (with_told_number text n) (g names) ≡ g (change_naming to (with_told_number text n) names)
 
@@ -39,7 +43,7 @@ module _ (c d : Core) (g : NamingState → NamingState) where
     same_key = λ j. declared_key
         (b.numbers names j)
         (option_map_or (λ (o : OpenFace). is_local_region o.region) (b.face j) false)
-        (option_map_or (λ (o : OpenFace). numbers_region o.region) (b.face j) false)
+        (option_map_or (λ (o : OpenFace). numbers_region o.region) (b.face j) false || list_any (wants_keyed (nonwild text)) (b.asks j))
         text
 
     by_number : (m : Declare) (o : Option ℕ) → and_then (tell_number to text o (g names)) (tell_declare to text m) ≡ changed_after (and_then (tell_number to text o names) (tell_declare to text m))
@@ -136,16 +140,17 @@ changes_beside k q other g f s =
     by (Some m) (Some n) = sets_beside k q other s (g m) (f n)
 
 -- ---- a face goes: the others are told the same
-pub left_beside : (c d : Core) (face to : ℕ) → is_at (nat_cmp face) to ≡ false → d.faces ≡ remove_entry (is_at (nat_cmp face)) c.faces → IsBeside c d (remove_entry (is_at (nat_cmp face))) to
-left_beside c d face to other faces = record {
+pub left_beside : (c d : Core) (face to : ℕ) → is_at (nat_cmp face) to ≡ false → d.faces ≡ remove_entry (is_at (nat_cmp face)) c.faces → d.interests ≡ closed_face face c.interests → IsBeside c d (remove_entry (is_at (nat_cmp face))) to
+left_beside c d face to other faces asked = record {
   face = ap (at to) faces ∙ found_beside face to other c.faces;
+  asks = ap (interests_of to) asked ∙ ap (λ o. option_map_or (λ (es : List (ℕ × InterestEntry)). es) o []) (found_beside face to other c.interests);
   numbers = λ names. ap (λ (o : Option FaceKeys). (unwrap_or o no_keys).numbers) (found_beside face to other names);
   later = λ text n names. left_later face to other names (with_told_number text n);
 }
 
 -- ---- a queryable is withdrawn: each face is told the same
-pub released_beside : (c d : Core) (face id to : ℕ) → d.faces ≡ c.faces → IsBeside c d (change_naming face (without_queryable id)) to
-released_beside c d face id to faces = by (is_at (nat_cmp face) to) refl
+pub released_beside : (c d : Core) (face id to : ℕ) → d.faces ≡ c.faces → d.interests ≡ c.interests → IsBeside c d (change_naming face (without_queryable id)) to
+released_beside c d face id to faces asked = by (is_at (nat_cmp face) to) refl
   where
     g : FaceKeys → FaceKeys
     g = without_queryable id
@@ -160,6 +165,7 @@ released_beside c d face id to faces = by (is_at (nat_cmp face) to) refl
     by : (b : Bool) → is_at (nat_cmp face) to ≡ b → IsBeside c d (change_naming face g) to
     by true here = subst (IsBeside c d (change_naming face g)) (one_number face to here) (record {
       face = ap (at face) faces;
+      asks = ap (interests_of face) asked;
       numbers = numbers_here;
       later = λ text n names.
           changed_twice face g (with_told_number text n) (λ m. with_told_number text n (g m)) (λ m. refl) names
@@ -167,6 +173,7 @@ released_beside c d face id to faces = by (is_at (nat_cmp face) to) refl
     })
     by false other = record {
       face = ap (at to) faces;
+      asks = ap (interests_of to) asked;
       numbers = λ names. ap (λ (o : Option FaceKeys). (unwrap_or o no_keys).numbers) (other_kept face to other names g);
       later = λ text n names. changes_beside face to other g (with_told_number text n) names;
     }

@@ -37,12 +37,12 @@ use Rattle.zq_machine.specs.declared.call.Refusal.{Refusal}
 use Rattle.zq_machine.specs.declared.call.Refusal.TheVariants as refusal
 use Rattle.zq_machine.specs.declared.call.Step.{Step}
 use Rattle.zq_machine.specs.declared.face.OpenFace.{OpenFace}
-use Rattle.zq_machine.specs.Deciding.{accepted, answered, changed, granted, kept, lacks_told, refusal_of, renamed, told_of}
+use Rattle.zq_machine.specs.Deciding.{accepted, answered, changed, granted, interests_for, kept, lacks_told, refusal_of, renamed, told_of}
 use Rattle.zq_machine.specs.Handing.{Handed}
 use Rattle.zq_machine.specs.Hearing.{CanBeTold}
 use Rattle.zq_machine.specs.Machine.{accepted_state, answer, refused_step, settle}
 use Rattle.zq_machine.specs.Messages.{Telling, from_hat}
-use Rattle.zq_machine.specs.Neighbours.{looked_at, looked_over}
+use Rattle.zq_machine.specs.Neighbours.{due_told, looked_at, looked_over}
 use Rattle.zq_machine.specs.State.{Core, State, at, change_hat, change_hat_of, clashes_in, face_region, has_declared_in, hat_at, hat_of, is_open, region_in}
 use Rattle.zq_machine.specs.TextCalls.{TextCall, closing, declaring, withdrawing}
 use Rattle.zq_machine.specs.Trees.{all_own_told, own_told_on, touched, tree_told}
@@ -58,7 +58,7 @@ use Rattle.zq_handing.specs.Telling.{behind}
 use Rattle.zq_handing.specs.Neighbours.{told_with}
 use Rattle.zq_gateway.specs.Making.{IsReached}
 use Rattle.zq_gateway.proofs.Beside.{IsBeside, changed_after, left_beside, released_beside, told_beside}
-use Rattle.zq_machine.proofs.Keeping.{same_looked}
+use Rattle.zq_machine.proofs.Keeping.{is_plain, marks_is, near_is, same_looked}
 use Rattle.zq_gateway.proofs.Hearing.{lacks_looked}
 use Rattle.zq_gateway.proofs.Reached.{reached_in_order}
 
@@ -101,34 +101,41 @@ pub record Gathers (c : Core) (t : TextCall) (ears : Ears) (dues : List FaceDues
   pub is_looked : dues ≡ looked c t
   pub is_told : told ≡ along_trees c t
 
-module _ (c : Core) (t : TextCall) (ears : Ears) (dues : List FaceDues) (told : List TreeTelling) (g : Gathers c t ears dues told) where
+-- what a call tells, where it is no interest nor the end of one
+told_is : (c : Core) (t : TextCall) → is_plain t ≡ true → told_of c t ≡ map from_hat (ordered (due c t))
+told_is c t plain =
+    marks_is t (due_told c (accepted c t) (interests_for c t) t (kept c t)) plain
+    ∙ ap (λ ts. map from_hat (ordered (along_trees c t ++ ts))) (near_is c (accepted c t) t plain)
+
+module _ (c : Core) (t : TextCall) (plain : is_plain t ≡ true) (ears : Ears) (dues : List FaceDues) (told : List TreeTelling) (g : Gathers c t ears dues told) where
   -- so it tells what is due
   pub gathered_due : told_with ears dues told ≡ due c t
   gathered_due = λ j. told_with (g.is_kept j) (g.is_looked j) (g.is_told j)
 
   -- ids lack where they lack to the call
   pub gathered_lacks : lacks_ids Unasked ears dues ≡ lacks_told c t
-  gathered_lacks = (λ j. lacks_ids Unasked (g.is_kept j) (g.is_looked j)) ∙ sym (lacks_looked c t)
+  gathered_lacks = (λ j. lacks_ids Unasked (g.is_kept j) (g.is_looked j)) ∙ sym (lacks_looked c t plain)
 
   -- and it leaves of faces what the call leaves
   pub gathered_left : (plan : List FacePlan) → plan ≡ (tell_faces Unasked ears dues).plan → put_plan plan ears ≡ tell_due Unasked (kept c t) (looked_at c (changed c t) c.interests t)
   gathered_left plan is = ap (λ p. put_plan p ears) is ∙ (λ j. tell_due Unasked (g.is_kept j) (g.is_looked j)) ∙ ap (tell_due Unasked (kept c t)) (same_looked c t)
 
-module _ (s : State) (i : IsReached s) (t : TextCall) (fits : refusal_of s.core t ≡ None) where
+module _ (s : State) (i : IsReached s) (t : TextCall) (plain : is_plain t ≡ true) (fits : refusal_of s.core t ≡ None) where
   later : InOrder i.config (accepted_state s t)
   later = accepted_in_order i.config s t fits (reached_in_order s i)
 
   pub due_of_keys : (ts : List TreeTelling) → ts ≡ due s.core t → All (λ (u : TreeTelling). is_key u.key ≡ true) ts
-  due_of_keys ts same = subst (All (λ (u : TreeTelling). is_key u.key ≡ true)) (sym same) (all_from (λ (u : TreeTelling). is_key u.key ≡ true) (due s.core t) (due_keys i.config s (reached_in_order s i) t fits later))
+  due_of_keys ts same = subst (All (λ (u : TreeTelling). is_key u.key ≡ true)) (sym same) (all_from (λ (u : TreeTelling). is_key u.key ≡ true) (due s.core t)
+      (subst (λ us. AllByRecursion (λ (u : TreeTelling). is_key u.key ≡ true) (along_trees s.core t ++ us)) (near_is s.core (accepted s.core t) t plain) (due_keys i.config s (reached_in_order s i) t fits later)))
 
   due_open : AllByRecursion (CanBeTold (renamed s t)) (told_of s.core t)
   due_open = due_can i.config s (reached_in_order s i) t fits later
 
 -- ---- a call that changes the names before it tells, or not at all
-module _ (s : State) (i : IsReached s) (t : TextCall) (fits : refusal_of s.core t ≡ None) (ts : List TreeTelling) (same : ts ≡ due s.core t) (l : List Handed) (new : NamingState)
+module _ (s : State) (i : IsReached s) (t : TextCall) (plain : is_plain t ≡ true) (fits : refusal_of s.core t ≡ None) (ts : List TreeTelling) (same : ts ≡ due s.core t) (l : List Handed) (new : NamingState)
     (told : behind [] (tell (accepted s.core t) (map from_hat (ordered ts)) (renamed s t)) ≡ record { handed = l; names = new }) where
   its_telling : told_by s t ≡ record { handed = l; names = new }
-  its_telling = ap (λ us. behind [] (tell (accepted s.core t) (map from_hat (ordered us)) (renamed s t))) (sym same) ∙ told
+  its_telling = ap (λ us. tell (accepted s.core t) us (renamed s t)) (told_is s.core t plain) ∙ ap (λ us. behind [] (tell (accepted s.core t) (map from_hat (ordered us)) (renamed s t))) (sym same) ∙ told
 
   pub told_answered : (granted s.core t).messages ≡ [] → ◌≡◌ {A = Step} (record { outcome = (granted s.core t).outcome; handed = l }) (answer s t)
   told_answered none = answers_told s t l fits (ap (λ (w : Told). w.handed) (sym its_telling) ∙ ap (λ ms. write s.names ms ++ (told_by s t).handed) (sym none))
@@ -153,8 +160,8 @@ module _ (s : State) (i : IsReached s) (face : FaceId) (r : Region) (home : face
   told_before : told_by s (closing face) ≡ changed_after s.core (accepted s.core (closing face)) gone (tell s.core (told_of s.core (closing face)) s.names)
   told_before =
       told_beside s.core (accepted s.core (closing face)) gone (told_of s.core (closing face))
-      (all_weaker (CanBeTold (gone s.names)) (λ (t : Telling). IsBeside s.core (accepted s.core (closing face)) gone t.to.0) (λ t can. left_beside s.core (accepted s.core (closing face)) face.0 t.to.0 (spared t.to.0 can.0) refl)
-      (told_of s.core (closing face)) (due_open s i (closing face) fits))
+      (all_weaker (CanBeTold (gone s.names)) (λ (t : Telling). IsBeside s.core (accepted s.core (closing face)) gone t.to.0) (λ t can. left_beside s.core (accepted s.core (closing face)) face.0 t.to.0 (spared t.to.0 can.0) refl refl)
+      (told_of s.core (closing face)) (due_open s i (closing face) refl fits))
       s.names
 
   module _ (ts : List TreeTelling) (same : ts ≡ due s.core (closing face)) (finals l : List Handed) (new : NamingState)
@@ -183,7 +190,7 @@ module _ (s : State) (i : IsReached s) (face : FaceId) (id : ℕ) (fits : refusa
 
   all_beside : (us : List Telling) → AllByRecursion (λ (t : Telling). IsBeside s.core (accepted s.core (withdrawing face id)) let_go t.to.0) us
   all_beside [] = tt
-  all_beside (u ∷ us) = (released_beside s.core (accepted s.core (withdrawing face id)) face.0 id u.to.0 refl, all_beside us)
+  all_beside (u ∷ us) = (released_beside s.core (accepted s.core (withdrawing face id)) face.0 id u.to.0 refl refl, all_beside us)
 
   told_first : told_by s (withdrawing face id) ≡ record { handed = l; names = let_go new }
   told_first =

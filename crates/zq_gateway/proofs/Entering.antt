@@ -47,6 +47,7 @@ use Rattle.zq_handing.specs.Reading.{key_refusal}
 use Rattle.zq_own.specs.Routers.{entered, entry_change, other_router}
 use Rattle.zq_gateway.specs.Making.{IsReached}
 use Rattle.zq_gateway.specs.Routing.{entering}
+use Rattle.zq_machine.proofs.Keeping.{is_plain}
 use Rattle.zq_gateway.proofs.Due.{Gathers, changed_home, due, hat_home, key_along, key_looked, key_refuses, looked, told_answered, told_left}
 
 -- in a region of routers
@@ -76,6 +77,16 @@ source_is own (Some z) router e = by (is_zid own z) e
     by : (b : Bool) → cond b None (Some z) ≡ Some router → Some z ≡ Some router
     by true f = absurd (let gap : None ≡ Some router = f in cc)
     by false f = f
+
+-- it is no interest, nor the end of one
+pub entering_plain : (face : FaceId) (sd : Said) (info : Option QueryableInfoType) (node : ℕ) → is_plain (entering face sd info node) ≡ true
+entering_plain face sd None node = refl
+entering_plain face sd (Some i) node = refl
+
+-- and leaves what faces ask
+pub entering_interests : (c : Core) (face : FaceId) (sd : Said) (info : Option QueryableInfoType) (node : ℕ) → (accepted c (entering face sd info node)).interests ≡ c.interests
+entering_interests c face sd None node = refl
+entering_interests c face sd (Some i) node = refl
 
 module _ (c : Core) (face : FaceId) (sd : Said) (info : Option QueryableInfoType) (node : ℕ) where
   -- a router without an entry has none to retract; a new one may lack an id to a neighbour
@@ -260,10 +271,10 @@ module _ (s : State) (reached : IsReached s) (face : FaceId) (sd : Said) (info :
     its_told = ap (λ n. behind [] (tell (accepted s.core (entering face sd info node)) (map from_hat (in_order ts)) n)) (entering_names s face sd node info) ∙ told
 
     pub entering_answered : ◌≡◌ {A = Step} (record { outcome = outcome.Done; handed = l }) (answer s (entering face sd info node))
-    entering_answered = ap (λ o. record { outcome = o; handed = l }) (sym (entering_done s face sd node info)) ∙ told_answered s reached (entering face sd info node) fits ts are l new its_told (entering_quiet s face sd node info)
+    entering_answered = ap (λ o. record { outcome = o; handed = l }) (sym (entering_done s face sd node info)) ∙ told_answered s reached (entering face sd info node) (entering_plain face sd info node) fits ts are l new its_told (entering_quiet s face sd node info)
 
     pub entering_left : settle s (entering face sd info node) ≡ record { core = record s.core { hats = change_hat r (entered router key info) s.core.hats; ears = (accepted s.core (entering face sd info node)).ears }; names = new }
     entering_left =
-        told_left s reached (entering face sd info node) fits ts are l new its_told
+        told_left s reached (entering face sd info node) (entering_plain face sd info node) fits ts are l new its_told
         ∙ ap (λ (x : Core). record { core = x; names = new }) (entering_core s face sd node info)
         ∙ ap (λ hats. record { core = record s.core { hats = hats; ears = (accepted s.core (entering face sd info node)).ears }; names = new }) (changes s.core face sd info node opens key says valid r home h there router is)

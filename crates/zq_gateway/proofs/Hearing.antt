@@ -16,13 +16,13 @@ use Rattle.zq_machine.specs.TextCalls.{TextCall, announcing, declaring, opening}
 use Rattle.zq_machine.proofs.Agreed.{InOrder}
 use Rattle.zq_machine.proofs.DueLess.{accepted_less, brings, listens_kept}
 use Rattle.zq_machine.proofs.Granted.{settles_told}
-use Rattle.zq_machine.proofs.Keeping.{same_looked}
+use Rattle.zq_machine.proofs.Keeping.{is_plain, lacks_is, same_looked}
 use Rattle.zq_machine.proofs.NeighbourAll.{new_sound}
 use Rattle.zq_machine.proofs.NeighbourIds.{enough, opens}
 
--- whether ids lack, by what is looked at
-pub lacks_looked : (c : Core) (t : TextCall) → lacks_told c t ≡ lacks_ids Unasked (kept c t) (looked_at c (accepted c t) c.interests t)
-lacks_looked c t = ap (lacks_ids Unasked (kept c t)) (sym (same_looked c t))
+-- whether ids lack, by what is looked at, where the call is no interest nor the end of one
+pub lacks_looked : (c : Core) (t : TextCall) → is_plain t ≡ true → lacks_told c t ≡ lacks_ids Unasked (kept c t) (looked_at c (accepted c t) c.interests t)
+lacks_looked c t plain = lacks_is c t plain ∙ ap (lacks_ids Unasked (kept c t)) (sym (same_looked c t))
 
 no_opening : (t : TextCall) → makes_due t ≡ false → opens t ≡ false
 no_opening (opening o) e = absurd (true≢false e)
@@ -44,9 +44,9 @@ module _ (config : Settings) (s : State) (i : InOrder config s) (low : s.core.co
       ∙ listens_kept config s i s.core.interests face key was t (sym (ap (λ (c : Core). is_open face c) left) ∙ seen)
 
   -- ids that a call does not lack which makes nothing due
-  pub enough_told : makes_due t ≡ false → lacks_told s.core t ≡ false
-  enough_told none =
-      lacks_looked s.core t
+  pub enough_told : is_plain t ≡ true → makes_due t ≡ false → lacks_told s.core t ≡ false
+  enough_told plain none =
+      lacks_looked s.core t plain
       ∙ sym (ap (λ (c : Core). neighbours_lack s.core c s.core.interests t s.core.ears) left)
       ∙ enough config s i s.core.interests s.core.ears t hear same (new_sound config s i t s.core.interests s.core.ears t low sound).ids (no_opening t none)
       (λ face key was some. accepted_less config s i s.core.interests face key was t fits (no_bringing t none) (sym (ap (λ (c : Core). is_some (due c s.core.interests face key)) left) ∙ some))

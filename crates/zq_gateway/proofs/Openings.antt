@@ -47,7 +47,7 @@ module _ (s : State) (i : IsReached s) (o : Opening) where
   module _ (fits : refusal_of s.core (opening o) ≡ None) (ts : List TreeTelling) (are : ts ≡ due s.core (opening o)) (l : List Handed) (new : NamingState)
       (told : behind [] (tell (accepted s.core (opening o)) (map from_hat (in_order ts)) (with_numbers s)) ≡ record { handed = l; names = new }) where
     pub opening_answered : ◌≡◌ {A = Step} (record { outcome = outcome.Opened (record { 0 = s.core.next_face }); handed = l }) (answer s (opening o))
-    opening_answered = told_answered s i (opening o) fits ts are l new told refl
+    opening_answered = told_answered s i (opening o) refl fits ts are l new told refl
 
     pub opening_left : settle s (opening o) ≡ record { core = accepted s.core (opening o); names = new }
-    opening_left = told_left s i (opening o) fits ts are l new told
+    opening_left = told_left s i (opening o) refl fits ts are l new told

@@ -24,7 +24,7 @@ use Rattle.zq_machine.proofs.Agreed.{InOrder, next_absent, run_in_order}
 use Rattle.zq_machine.proofs.Agreeing.{some_of}
 use Rattle.zq_machine.proofs.Changing.{itself, number_test}
 use Rattle.zq_machine.proofs.Frame.{run_config}
-use Rattle.zq_machine.proofs.Keeping.{Keeps, run_keeps}
+use Rattle.zq_machine.proofs.Keeping.{Keeps, is_plain, run_keeps}
 use Rattle.zq_machine.specs.Keeping.{heard_in, last_in}
 use Rattle.zq_gateway.specs.Making.{Answers, IsReached, MayPerform}
 use Rattle.zq_gateway.proofs.Hearing.{enough_told}
@@ -102,6 +102,6 @@ reached_seated s face r i e = by (at face s.core.faces) refl e
 reached_low : (s : State) (i : IsReached s) → s.core.config.start.told < 2 ^ 32
 reached_low s i = subst (λ (x : Settings). x.start.told < 2 ^ 32) (sym (ap (λ (z : State). z.core.config) i.here ∙ run_config i.calls (opening_state i.config))) i.low
 
--- no ids lack to a call that opens no face and declares nothing
-pub reached_enough : (s : State) → IsReached s → (t : TextCall) → refusal_of s.core t ≡ None → makes_due t ≡ false → lacks_told s.core t ≡ false
-reached_enough s i t fits none = enough_told i.config s (reached_in_order s i) (reached_low s i) ((reached_keeps s i).ears i.low).sound ((reached_keeps s i).ears i.low).all t fits none
+-- no ids lack to a call that opens no face, declares nothing and asks nothing
+pub reached_enough : (s : State) → IsReached s → (t : TextCall) → refusal_of s.core t ≡ None → is_plain t ≡ true → makes_due t ≡ false → lacks_told s.core t ≡ false
+reached_enough s i t fits plain none = enough_told i.config s (reached_in_order s i) (reached_low s i) ((reached_keeps s i).ears i.low).sound ((reached_keeps s i).ears i.low).all t fits plain none

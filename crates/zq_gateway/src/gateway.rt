@@ -4,6 +4,7 @@
 //! - `faces`: faces that come and go
 //! - `keys`: numbers that faces declare for keys
 //! - `networks`: networks of regions of routers, and what node numbers stand for
+//! - `interests`: what faces ask to hear
 //! - `queryables`: queryables that faces declare and withdraw, and marks of what they have declared
 //! - `routers`: what routers announce and retract
 //! - `requests`: requests, and whom they are handed to
@@ -22,6 +23,7 @@ ghost use Rattle.zq_machine.specs.State.{opening_state};
 ghost use Rattle.zq_gateway.specs.Making.{Performs, MayPerform};
 
 mod faces;
+mod interests;
 mod keys;
 mod networks;
 mod queryables;
@@ -35,7 +37,7 @@ use std::alloc::Global;
 use std::marker::Model;
 use zq_hat::types::{FinalMark, Network, NodeIds};
 use zq_key::memory::OutOfMemory;
-use zq_key::message::{Declare, FaceId, Mode, Region, Request, Response, Zid};
+use zq_key::message::{Declare, FaceId, Interest, Mode, Region, Request, Response, Zid};
 use zq_machine::call::{Call, Opening, Refusal, Step};
 use zq_machine::config::Config;
 use zq_machine::handed::Handed;
@@ -135,6 +137,24 @@ impl Gateway {
         ensures { MayPerform self.old self.new (declared_call face msg.now) result }
     {
         self.tables.send_declare(face, msg)
+    }
+
+    /// A face asks to hear of the queryables on the keys that meet its interest's, or on all keys, from
+    /// now on, and is answered by all that is due there, and by the end of declarations (upstream's
+    /// `Primitives::send_interest`). `IdInUse` where the id stands for an interest in another key; one
+    /// in the same key is replaced, and answered anew.
+    pub fn send_interest(&mut self, face: FaceId, msg: &Interest) -> Result<Step, OutOfMemory>
+        ensures { Performs self.old self.new (call.Interest face msg.now.id msg.now.keys msg.now.wire) result }
+    {
+        self.tables.register_interest(face, msg.id, msg.keys, &msg.wire)
+    }
+
+    /// A face asks no longer under the id; it is handed nothing (upstream's
+    /// `Primitives::send_interest_final`). `UnknownId` where it has no interest of that id.
+    pub fn send_interest_final(&mut self, face: FaceId, id: u32) -> Result<Step, OutOfMemory>
+        ensures { Performs self.old self.new (call.InterestFinal face id) result }
+    {
+        self.tables.unregister_interest(face, id)
     }
 
     /// A mark of a face is set or unset: that all which it had to declare has come, at its opening

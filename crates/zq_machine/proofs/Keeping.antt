@@ -82,22 +82,22 @@ is_plain (hearing face id numbers sd) = false
 is_plain (unhearing face id) = false
 is_plain t = true
 
-near_is : (c d : Core) (t : TextCall) → is_plain t ≡ true → told_near c d (interests_for c t) t (kept c t) ≡ neighbours_told c d c.interests t c.ears
+pub near_is : (c d : Core) (t : TextCall) → is_plain t ≡ true → told_near c d (interests_for c t) t (kept c t) ≡ neighbours_told c d c.interests t c.ears
 near_is c d (hearing face id numbers sd) e = absurd (false≢true e)
 near_is c d (unhearing face id) e = absurd (false≢true e)
 near_is c d t e = refl
 
-lacks_is : (c : Core) (t : TextCall) → is_plain t ≡ true → lacks_told c t ≡ neighbours_lack c (changed c t) c.interests t c.ears
+pub lacks_is : (c : Core) (t : TextCall) → is_plain t ≡ true → lacks_told c t ≡ neighbours_lack c (changed c t) c.interests t c.ears
 lacks_is c (hearing face id numbers sd) e = absurd (false≢true e)
 lacks_is c (unhearing face id) e = absurd (false≢true e)
 lacks_is c t e = refl
 
-kept_is : (c : Core) (t : TextCall) → is_plain t ≡ true → ears_of c t ≡ ears_after c (changed c t) c.interests t c.ears
+pub kept_is : (c : Core) (t : TextCall) → is_plain t ≡ true → ears_of c t ≡ ears_after c (changed c t) c.interests t c.ears
 kept_is c (hearing face id numbers sd) e = absurd (false≢true e)
 kept_is c (unhearing face id) e = absurd (false≢true e)
 kept_is c t e = refl
 
-marks_is : (t : TextCall) (ts : List Telling) → is_plain t ≡ true → marked t ts ≡ ts
+pub marks_is : (t : TextCall) (ts : List Telling) → is_plain t ≡ true → marked t ts ≡ ts
 marks_is (hearing face id numbers sd) ts e = absurd (false≢true e)
 marks_is (unhearing face id) ts e = absurd (false≢true e)
 marks_is t ts e = refl

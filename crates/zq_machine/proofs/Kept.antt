@@ -17,6 +17,7 @@ use Rattle.zq_machine.proofs.Handing.{call_answers, call_behind, call_fits, call
 use Rattle.zq_machine.proofs.LastIds.{run_last}
 use Rattle.zq_machine.proofs.Promises.{request_promise, reply_promise, refusal_promise}
 use Rattle.zq_machine.proofs.Silent.{nothing_after}
+use Rattle.zq_machine.proofs.Interested.{all_asked}
 use Rattle.zq_machine.proofs.Routed.{all_routed}
 use Rattle.zq_machine.proofs.Standing.{all_listed, all_stand}
 use Rattle.zq_machine.proofs.Settled.{final_promise, run_once}
@@ -50,6 +51,7 @@ headline config calls = record {
   settings = run_config calls (opening_state config);
   stands = λ face. all_stand config calls face;
   routed = λ place. all_routed config calls place;
+  asked = λ face. all_asked config calls face;
   listed = all_listed config calls;
   kinds = λ place. kinds_of (at place (state_after (opening_state config) calls).core.hats) (at place (first_hats config)) ((run_in_order config calls).hats.shape place);
   places = (run_in_order config calls).hats.sorted;

@@ -23,6 +23,7 @@ pub mod NeighbourLooks
 pub mod NeighbourDues
 pub mod Changing
 pub mod Agreeing
+pub mod Interested
 pub mod Joining
 pub mod Agreed
 pub mod Numbered

@@ -34,11 +34,9 @@ has_none (x ∷ xs) = false
 abbrev pub is_plain_opening : Opening → Bool
 is_plain_opening o = is_absent o.namespace && has_none o.entry_deny && has_none o.exit_deny
 
--- calls that the gateway answers today: faces are opened without namespace and deny lists, and in regions that the configuration lacks, where they are refused; interests and their finals are yet to come
+-- calls that the gateway answers today: faces are opened without namespace and deny lists, and in regions that the configuration lacks, where they are refused
 abbrev pub is_built : Settings → Call → Bool
 is_built config (call.Open o) = not (has_region config.entries o.region) || is_plain_opening o
-is_built config (call.Interest face id keys wire) = false
-is_built config (call.InterestFinal face id) = false
 is_built config c = true
 
 -- the call that the end of declarations makes, if it answers the interest 0

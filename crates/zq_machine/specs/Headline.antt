@@ -10,6 +10,7 @@ use Rattle.zq_message.specs.declared.message.Message.{Message}
 use Rattle.zq_message.specs.declared.message.Message.TheVariants as message
 use Rattle.zq_message.specs.declared.message.Request.{Request}
 use Rattle.zq_message.specs.declared.message.Response.{Response}
+use Rattle.zq_interests.specs.Interests.{interests_of}
 use Rattle.zq_offers.specs.declared.types.QueryTargetQabl.{QueryTargetQabl}
 use Rattle.zq_query.specs.declared.records.ReplyTo.{ReplyTo}
 use Rattle.zq_query.specs.Records.{QueryState, is_closed, is_pending, any_over, last_given, next_id, next_reply}
@@ -32,7 +33,7 @@ use Rattle.zq_machine.specs.Asked.{AreCounted, IsHandedToAsker, asked_in, asked_
 use Rattle.zq_machine.specs.Deciding.{handed_replies, handed_timeouts, passing_finals, refusal_of, is_accepted, told_of}
 use Rattle.zq_machine.specs.Waiting.{Waits, IsSettled, ends_entry, lands, until, is_of}
 use Rattle.zq_machine.specs.Agreeing.{Agrees}
-use Rattle.zq_machine.specs.Standing.{first_routed, listed_in, routed_at, routed_in, standing_at, standing_in}
+use Rattle.zq_machine.specs.Standing.{asking_in, first_routed, listed_in, routed_at, routed_in, standing_at, standing_in}
 use Rattle.zq_machine.specs.Hearing.{hear}
 use Rattle.zq_machine.specs.Direct.{AreDirect}
 use Rattle.zq_machine.specs.Children.{ChildPromise}
@@ -239,12 +240,13 @@ pub record KeepsPromises (s : State) (c : Call) : Type 0 where
   pub closed : (face : ℕ) → is_closed (after s c).core.queries.closed face ≡ (closes face c (step s c) || is_closed s.core.queries.closed face)
   pub refusals : RefusesBy (refusal_of s.core (read s c)) s c
 
--- what a whole run promises: each of its calls keeps its promises; the configuration stays, and what stands of each face and of the routers of each region, and which lists of gateways there are, is what the calls and their answers made of it; the hats stand by place, and each is of what it was made for; the open faces, the hats and what stands for keys agree; what a child of a root's tree knows of it is what stands of the root; what the receiver of an open face outside regions of routers keeps is what is due to it, and each accepted call hands it the difference; no face asks to hear of a key yet; accepted requests, opened faces and replies are numbered one after another, and the next face by what comes after them; and the id that was last given at a face is that of the last request handed to it; each message that it hands, but for declarations, is of a request, and each reply and final goes to the request's asker, under the asker's id; it hands one final of a request at most, and nothing of the request afterwards
+-- what a whole run promises: each of its calls keeps its promises; the configuration stays, and what stands of each face and of the routers of each region, what each face asks to hear, and which lists of gateways there are, is what the calls and their answers made of it; the hats stand by place, and each is of what it was made for; the open faces, the hats and what stands for keys agree; what a child of a root's tree knows of it is what stands of the root; what the receiver of an open face outside regions of routers keeps is what is due to it, and each accepted call hands it the difference, or answers its interest by all that is due; accepted requests, opened faces and replies are numbered one after another, and the next face by what comes after them; and the id that was last given at a face is that of the last request handed to it; each message that it hands, but for declarations, is of a request, and each reply and final goes to the request's asker, under the asker's id; it hands one final of a request at most, and nothing of the request afterwards
 pub record RunPromise (config : Settings) (calls : List Call) : Type 0 where
   pub each : (before rest : List Call) (c : Call) → calls ≡ before ++ c ∷ rest → KeepsPromises (state_after (opening_state config) before) c
   pub settings : (state_after (opening_state config) calls).core.config ≡ config
   pub stands : (face : ℕ) → standing_at face (state_after (opening_state config) calls) ≡ standing_in config face calls (steps config calls) None
   pub routed : (place : ℕ) → routed_at place (state_after (opening_state config) calls) ≡ routed_in config place calls (steps config calls) (λ face. None) (first_routed config place)
+  pub asked : (face : ℕ) → interests_of face (state_after (opening_state config) calls).core.interests ≡ asking_in config face calls (steps config calls) None []
   pub listed : (state_after (opening_state config) calls).core.tables ≡ listed_in calls (steps config calls) []
   pub kinds : (place : ℕ) → option_map kind_of (at place (state_after (opening_state config) calls).core.hats) ≡ option_map kind_of (at place (first_hats config))
   pub places : IsStrictlySortedBy nat_cmp (keys_of (state_after (opening_state config) calls).core.hats)

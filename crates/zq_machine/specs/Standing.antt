@@ -33,7 +33,9 @@ use Rattle.zq_machine.specs.declared.face.OpenFace.{OpenFace}
 use Rattle.zq_machine.specs.Deciding.{is_accepted, opened, seat}
 use Rattle.zq_machine.specs.Handing.{Handed}
 use Rattle.zq_machine.specs.Hearing.{with_ours}
-use Rattle.zq_machine.specs.Selecting.{full_text}
+use Rattle.zq_interests.specs.declared.types.InterestEntry.{InterestEntry}
+use Rattle.zq_interests.specs.Interests.{Asked}
+use Rattle.zq_machine.specs.Selecting.{asked_by, full_text}
 use Rattle.zq_machine.specs.Configs.{Settings}
 use Rattle.zq_machine.specs.State.{Core, State, at, first_hats, hat_at, hat_of, is_routing}
 
@@ -196,6 +198,27 @@ routed_in config place (c ∷ cs) (t ∷ ts) stands was = routed_in config place
 -- what the first hats have of routers
 abbrev pub first_routed : Settings → ℕ → Option Routed
 first_routed config place = option_map routed (at place (first_hats config))
+
+-- what a face asks to hear by a call: the keys that meet what the expression says there
+abbrev pub asked_at : Bool → Option WireExpr → Standing → InterestEntry
+asked_at keys w s = asked_by keys (option_map (said_of s.numbers) w)
+
+-- what an accepted call makes of what a face asks to hear, by what stands of the face
+abbrev pub asking_by : ℕ → Call → Option Standing → Asked → Asked
+asking_by face (call.Interest f id keys w) stands was = if f.0 == face then option_map_or (λ (s : Standing). insert_entry nat_cmp was id (asked_at keys w s)) stands was else was
+asking_by face (call.InterestFinal f id) stands was = if f.0 == face then remove_entry (is_at (nat_cmp id)) was else was
+asking_by face (call.Close f) stands was = if f.0 == face then [] else was
+asking_by face c stands was = was
+
+-- what the face asks to hear after a call; a refused one changes nothing
+abbrev pub asking_after : ℕ → Call → Step → Option Standing → Asked → Asked
+asking_after face c t stands was = if is_accepted t.outcome then asking_by face c stands was else was
+
+-- what the face asks to hear after calls that are answered by these steps
+abbrev pub asking_in : Settings → ℕ → List Call → List Step → Option Standing → Asked → Asked
+asking_in config face [] ts stands was = was
+asking_in config face (c ∷ cs) [] stands was = was
+asking_in config face (c ∷ cs) (t ∷ ts) stands was = asking_in config face cs ts (standing_after config face c t stands) (asking_after face c t stands was)
 
 -- the lists of gateways after a call
 abbrev pub listed_after : Call → Step → List (ℕ × Gateways) → List (ℕ × Gateways)

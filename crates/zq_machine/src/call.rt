@@ -111,15 +111,12 @@ impl Call {
     }
 
     /// Whether the gateway answers calls of this form today. Faces are opened without namespace and
-    /// deny lists, and in regions that the configuration lacks, where they are refused; interests and
-    /// their finals are yet to come.
+    /// deny lists, and in regions that the configuration lacks, where they are refused.
     pub fn is_built(&self, config: &Config) -> bool
         ensures { result ≡ is_built config.now self.now }
     {
         match self {
             Call::Open(opening) => opening.is_built(config),
-            Call::Interest { .. } => false,
-            Call::InterestFinal { .. } => false,
             _ => true,
         }
     }

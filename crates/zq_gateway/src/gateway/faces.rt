@@ -5,7 +5,6 @@ ghost use Rattle.zq_gateway.specs.Making.{IsReached, Settles};
 
 use crate::gateway::tables::Tables;
 use zq_dues::changes::dues_left;
-use zq_dues::dues::Nobody;
 use zq_dues::over::dues_at_opening;
 use zq_handing::neighbours::{take_back, tell_all};
 use zq_handing::opening::{join_and_tell, take_back_joined};
@@ -35,10 +34,11 @@ impl Tables {
             return Ok(self.refused(Refusal::NoFreeId));
         }
         let face = FaceId(self.next_face);
-        let dues = dues_at_opening(self.alloc, &self.hats, &Nobody, face, opened(asked))?;
+        let dues = dues_at_opening(self.alloc, &self.hats, &self.interests, face, opened(asked))?;
         let all = match join_and_tell(
             self.alloc,
             &mut self.faces,
+            &self.interests,
             &mut self.names,
             &mut self.ears,
             face,
@@ -85,7 +85,7 @@ impl Tables {
             self.alloc,
             &self.faces,
             &self.hats,
-            &Nobody,
+            &self.interests,
             region,
             hat,
             face,
@@ -93,6 +93,7 @@ impl Tables {
         let all = match tell_all(
             self.alloc,
             &self.faces,
+            &self.interests,
             &mut self.names,
             &mut self.ears,
             dues.as_slice(),
@@ -107,6 +108,7 @@ impl Tables {
             Ok(()) => {
                 hats::leave(&mut self.hats, region, face);
                 let _ = self.faces.remove(&face.0);
+                self.interests.close(face);
                 self.names.close(face);
                 self.ears.put(all.plan.as_slice());
                 self.ears.close(face);

@@ -5,7 +5,6 @@ ghost use Rattle.zq_gateway.specs.Making.{IsReached, Settles};
 
 use crate::gateway::tables::Tables;
 use zq_dues::changes::dues_on_all;
-use zq_dues::dues::Nobody;
 use zq_dues::types::HatChange;
 use zq_handing::neighbours::tell_all;
 use zq_hat::types::{Change, Network, NodeIds};
@@ -56,13 +55,14 @@ impl Tables {
             None,
             &self.hats,
             &next,
-            &Nobody,
+            &self.interests,
             keys.as_slice(),
         )?;
         let none = Items::new(self.alloc);
         let all = match tell_all(
             self.alloc,
             &self.faces,
+            &self.interests,
             &mut self.names,
             &mut self.ears,
             dues.as_slice(),

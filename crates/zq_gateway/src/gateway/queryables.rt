@@ -6,7 +6,6 @@ ghost use Rattle.zq_gateway.specs.Making.{IsReached, Performs, Settles};
 
 use crate::gateway::tables::Tables;
 use zq_dues::changes::gather;
-use zq_dues::dues::Nobody;
 use zq_handing::neighbours::{hold_and_tell, take_back, take_back_held, tell_all};
 use zq_handing::read::{key_said, marks_key, said_or_none};
 use zq_hat::types::{Change, FinalMark};
@@ -47,7 +46,7 @@ impl Tables {
             self.alloc,
             &self.faces,
             &self.hats,
-            &Nobody,
+            &self.interests,
             region,
             hat,
             change,
@@ -59,6 +58,7 @@ impl Tables {
         let all = match hold_and_tell(
             self.alloc,
             &self.faces,
+            &self.interests,
             &mut self.names,
             &mut self.ears,
             face,
@@ -105,7 +105,7 @@ impl Tables {
             self.alloc,
             &self.faces,
             &self.hats,
-            &Nobody,
+            &self.interests,
             region,
             hat,
             change,
@@ -117,6 +117,7 @@ impl Tables {
         let all = match tell_all(
             self.alloc,
             &self.faces,
+            &self.interests,
             &mut self.names,
             &mut self.ears,
             dues.as_slice(),

@@ -6,7 +6,6 @@ ghost use Rattle.zq_gateway.specs.Routing.{entering};
 
 use crate::gateway::tables::Tables;
 use zq_dues::changes::dues_on;
-use zq_dues::dues::Nobody;
 use zq_handing::neighbours::{take_back, tell_all};
 use zq_handing::read::key_said;
 use zq_key::items::Items;
@@ -63,7 +62,7 @@ impl Tables {
             self.alloc,
             &self.faces,
             &self.hats,
-            &Nobody,
+            &self.interests,
             region,
             entry_change(router, info),
             key.as_str(),
@@ -71,6 +70,7 @@ impl Tables {
         let all = match tell_all(
             self.alloc,
             &self.faces,
+            &self.interests,
             &mut self.names,
             &mut self.ears,
             dues.as_slice(),

@@ -2,7 +2,7 @@
 ghost use Rattle.std.specs.Prelude.{◌≡◌, ◌<◌, ◌^◌, [], true, Some, IfOk, IfErr, IfSome, OnOk};
 ghost use Rattle.std.specs.List.{cons_option};
 ghost use Rattle.zq_machine.specs.declared.call.Call.TheVariants as call;
-ghost use Rattle.zq_machine.specs.Calls.{declared_call, declaring_call, is_built};
+ghost use Rattle.zq_machine.specs.Calls.{declared_call, declaring_call};
 ghost use Rattle.zq_machine.specs.Machine.{after, done, refused_step, step};
 ghost use Rattle.zq_machine.specs.State.{at, face_region, is_open, opening_state};
 ghost use Rattle.zq_machine.specs.TextCalls.{listing};
@@ -15,6 +15,7 @@ use std::marker::Model;
 use zq_handing::write::written_final;
 use zq_hat::hat::Hat;
 use zq_hat::types::FinalMark;
+use zq_interests::interests::Interests;
 use zq_key::items::Items;
 use zq_key::memory::OutOfMemory;
 use zq_key::message::{Declare, DeclareBody, FaceId, Region, Request, Response};
@@ -30,7 +31,8 @@ use zq_tables::naming::Naming;
 use zq_told::ears::Ears;
 
 /// What a gateway keeps (upstream's `Tables` with its faces): the open faces, a hat for each region,
-/// the gateways that were listed, the open queries, the numbers of keys, and what faces were told.
+/// the gateways that were listed, the open queries, the numbers of keys, what faces ask to hear, and
+/// what they were told.
 #[derive(Drop)]
 pub struct Tables {
     pub(super) alloc: Global,
@@ -41,11 +43,11 @@ pub struct Tables {
     pub(super) tables: RegionMap<Gateways>,
     pub(super) queries: Queries,
     pub(super) names: Naming,
+    pub(super) interests: Interests,
     pub(super) ears: Ears,
 }
 
 impl Model for Tables {
-    ghost use Rattle.std.specs.Prelude.{[]};
     ghost use Rattle.zq_told.specs.Rooms.{ears_of};
     ghost use Rattle.zq_machine.specs.State.{State};
 
@@ -59,7 +61,7 @@ impl Model for Tables {
         hats = t.hats;
         tables = t.tables;
         queries = t.queries;
-        interests = [];
+        interests = t.interests;
         ears = ears_of t.ears;
       };
       names = t.names;
@@ -88,14 +90,14 @@ impl Tables {
                 counters.request_ids,
             ),
             names: Naming::new(alloc)?,
+            interests: Interests::new(alloc),
             ears: Ears::new(alloc),
         })
     }
 
     /// Performs a call.
     pub fn call(&mut self, call: &Call) -> Result<Step, OutOfMemory>
-        requires built { is_built self.old.core.config call.now ≡ true }
-        requires reached { IsReached self.old }
+        requires { IsReached self.old }
         ensures { Performs self.old self.new call.now result }
     {
         match call {
@@ -123,8 +125,13 @@ impl Tables {
             Call::Poll { now } => self.pass(*now),
             Call::SetGateways { region, table } => self.list_gateways(*region, table),
             Call::FinalizeInterest { face, mark, set } => self.finalize(*face, mark, *set),
-            Call::Interest { .. } => unreachable!(),
-            Call::InterestFinal { .. } => unreachable!(),
+            Call::Interest {
+                face,
+                id,
+                keys,
+                wire,
+            } => self.register_interest(*face, *id, *keys, wire),
+            Call::InterestFinal { face, id } => self.unregister_interest(*face, *id),
             Call::SetNetwork { region, net } => self.set_network(*region, net),
             Call::SetNodeIds { face, ids } => self.set_node_ids(*face, ids),
         }

@@ -29,7 +29,7 @@ use Rattle.zq_handing.specs.Reading.{key_refusal}
 use Rattle.zq_own.specs.Routers.{entered, other_router}
 use Rattle.zq_gateway.specs.Routing.{entering}
 use Rattle.zq_gateway.proofs.Due.{Gathers, closed_there, due_of_keys, gathered_due, gathered_lacks, gathered_left, opened_there, refused_answered, refused_left}
-use Rattle.zq_gateway.proofs.Entering.{change_is, entering_answered, entering_changes, entering_ears, entering_faces, entering_gathers, entering_left, entry_fits, entry_lacks, no_entry, no_key, no_router, not_open}
+use Rattle.zq_gateway.proofs.Entering.{change_is, entering_answered, entering_changes, entering_ears, entering_faces, entering_gathers, entering_interests, entering_left, entering_plain, entry_fits, entry_lacks, no_entry, no_key, no_router, not_open}
 use Rattle.zq_gateway.proofs.Reached.{reached_enough}
 use Rattle.zq_gateway.proofs.gateway.tables.Tables.change_entry.Goals as goal
 
@@ -129,15 +129,16 @@ tell_all-requires c enough =
     let lacks : (is_none info && is_none (entry_at router.0 key h)) ≡ false = ap (λ k. is_none info && is_none (entry_at router.0 k h)) (sym c.as_str.ensures.text) ∙ sym c.lacks_entry.ensures ∙ c.if-lacks_entry.false in
     let has : info ≡ None → is_none (entry_at router.0 key h) ≡ false = λ e. ap (λ (o : Option QueryableInfoType). is_none o && is_none (entry_at router.0 key h)) (sym e) ∙ lacks in
     let t = entering face sd info node in
+    let plain = entering_plain face sd info node in
     let told = c.in_ok-told.ensures ∙ ap (λ k. in_routers (strategy_at h) (to_children (Some face.0) router k info h) [] ++ own_told_on i.hats (change_hat r (entered router k info) i.hats) k) c.as_str-2.ensures.text in
     let dues = c.as_slice.result.now in
     let changed = ap (λ (x : Change). change_hat r (changed_by x c.as_str-3.result.now) i.hats) c.entry_change.ensures ∙ change_is r router info c.as_str-3.result.now i.hats ∙ ap (λ (k : List ℕ). change_hat r (entered router k info) i.hats) c.as_str-3.ensures.text ∙ ap (change_hat r (entered router key info)) hats ∙ sym (entering_changes s c.requires.reached face sd info node opens key says valid r home h there router is) in
     let faces = entering_faces s c.requires.reached face sd info node opens key says valid r home h there router is in
-    let dues_are = c.as_slice.ensures ∙ c.in_ok-dues.ensures (accepted s.core t) [] (faces ∙ sym (ap (λ (x : State). x.core.faces) v)) (λ f k. refl) changed ∙ ap (λ (k : List ℕ). looked_over (accepted s.core t) [] (k ∷ [])) c.as_str-3.ensures.text in
+    let dues_are = c.as_slice.ensures ∙ c.in_ok-dues.ensures (accepted s.core t) (faces ∙ sym (ap (λ (x : State). x.core.faces) v)) changed ∙ ap (λ (k : List ℕ). looked_over (accepted s.core t) i.interests (k ∷ [])) c.as_str-3.ensures.text in
     let g : Gathers s.core t (ears_of i.ears) dues c.in_ok-told.told =
-    entering_gathers s c.requires.reached face sd info node opens key says valid r home h there router is c.requires.routing i.hats hats c.in_ok-told.told told (ears_of i.ears) (ap (λ (x : State). x.core.ears) v) [] (ap (λ (x : State). x.core.interests) v) dues dues_are in
-    let fits : refusal_of s.core t ≡ None = entry_fits s.core face sd info node opens key says valid r home h there router is (sym (gathered_lacks s.core t (ears_of i.ears) dues c.in_ok-told.told g) ∙ enough) has in
-    due_of_keys s c.requires.reached t fits (told_with (ears_of i.ears) dues c.in_ok-told.told) (gathered_due s.core t (ears_of i.ears) dues c.in_ok-told.told g)
+    entering_gathers s c.requires.reached face sd info node opens key says valid r home h there router is c.requires.routing i.hats hats c.in_ok-told.told told (ears_of i.ears) (ap (λ (x : State). x.core.ears) v) i.interests (ap (λ (x : State). x.core.interests) v) dues dues_are in
+    let fits : refusal_of s.core t ≡ None = entry_fits s.core face sd info node opens key says valid r home h there router is (sym (gathered_lacks s.core t plain (ears_of i.ears) dues c.in_ok-told.told g) ∙ enough) has in
+    due_of_keys s c.requires.reached t plain fits (told_with (ears_of i.ears) dues c.in_ok-told.told) (gathered_due s.core t plain (ears_of i.ears) dues c.in_ok-told.told g)
 
 pub returns-in-Err-NoFreeId : goal.returns-in-Err-NoFreeId
 returns-in-Err-NoFreeId c =
@@ -162,15 +163,16 @@ returns-in-Err-NoFreeId c =
     let lacks : (is_none info && is_none (entry_at router.0 key h)) ≡ false = ap (λ k. is_none info && is_none (entry_at router.0 k h)) (sym c.as_str.ensures.text) ∙ sym c.lacks_entry.ensures ∙ c.if-lacks_entry.false in
     let has : info ≡ None → is_none (entry_at router.0 key h) ≡ false = λ e. ap (λ (o : Option QueryableInfoType). is_none o && is_none (entry_at router.0 key h)) (sym e) ∙ lacks in
     let t = entering face sd info node in
+    let plain = entering_plain face sd info node in
     let told = c.in_ok-told.ensures ∙ ap (λ k. in_routers (strategy_at h) (to_children (Some face.0) router k info h) [] ++ own_told_on i.hats (change_hat r (entered router k info) i.hats) k) c.as_str-2.ensures.text in
     let dues = c.as_slice.result.now in
     let changed = ap (λ (x : Change). change_hat r (changed_by x c.as_str-3.result.now) i.hats) c.entry_change.ensures ∙ change_is r router info c.as_str-3.result.now i.hats ∙ ap (λ (k : List ℕ). change_hat r (entered router k info) i.hats) c.as_str-3.ensures.text ∙ ap (change_hat r (entered router key info)) hats ∙ sym (entering_changes s c.requires.reached face sd info node opens key says valid r home h there router is) in
     let faces = entering_faces s c.requires.reached face sd info node opens key says valid r home h there router is in
-    let dues_are = c.as_slice.ensures ∙ c.in_ok-dues.ensures (accepted s.core t) [] (faces ∙ sym (ap (λ (x : State). x.core.faces) v)) (λ f k. refl) changed ∙ ap (λ (k : List ℕ). looked_over (accepted s.core t) [] (k ∷ [])) c.as_str-3.ensures.text in
+    let dues_are = c.as_slice.ensures ∙ c.in_ok-dues.ensures (accepted s.core t) (faces ∙ sym (ap (λ (x : State). x.core.faces) v)) changed ∙ ap (λ (k : List ℕ). looked_over (accepted s.core t) i.interests (k ∷ [])) c.as_str-3.ensures.text in
     let g : Gathers s.core t (ears_of i.ears) dues c.in_ok-told.told =
-    entering_gathers s c.requires.reached face sd info node opens key says valid r home h there router is c.requires.routing i.hats hats c.in_ok-told.told told (ears_of i.ears) (ap (λ (x : State). x.core.ears) v) [] (ap (λ (x : State). x.core.interests) v) dues dues_are in
-    let short = sym (gathered_lacks s.core t (ears_of i.ears) dues c.in_ok-told.told g) ∙ c.in-Err-NoFreeId.ensures.no_free (ap (λ e. Err e) c.in-Err-NoFreeId.field-0-is) in
-    let e = entry_lacks s.core face sd info node opens key says valid r home h there router is short (λ fits none. reached_enough s c.requires.reached t fits none) has in
+    entering_gathers s c.requires.reached face sd info node opens key says valid r home h there router is c.requires.routing i.hats hats c.in_ok-told.told told (ears_of i.ears) (ap (λ (x : State). x.core.ears) v) i.interests (ap (λ (x : State). x.core.interests) v) dues dues_are in
+    let short = sym (gathered_lacks s.core t plain (ears_of i.ears) dues c.in_ok-told.told g) ∙ c.in-Err-NoFreeId.ensures.no_free (ap (λ e. Err e) c.in-Err-NoFreeId.field-0-is) in
+    let e = entry_lacks s.core face sd info node opens key says valid r home h there router is short (λ fits none. reached_enough s c.requires.reached t fits plain none) has in
     let names_back = c.in-Err-NoFreeId.ensures.err ∙ ap (λ (x : State). x.names) v in
     let ears_back = c.tell_all.ensures.ears ∙ ap (λ (x : State). x.core.ears) v in
     record {
@@ -210,23 +212,25 @@ returns-in-Ok-put_entry c =
     let lacks : (is_none info && is_none (entry_at router.0 key h)) ≡ false = ap (λ k. is_none info && is_none (entry_at router.0 k h)) (sym c.as_str.ensures.text) ∙ sym c.lacks_entry.ensures ∙ c.if-lacks_entry.false in
     let has : info ≡ None → is_none (entry_at router.0 key h) ≡ false = λ e. ap (λ (o : Option QueryableInfoType). is_none o && is_none (entry_at router.0 key h)) (sym e) ∙ lacks in
     let t = entering face sd info node in
+    let plain = entering_plain face sd info node in
     let told = c.in_ok-told.ensures ∙ ap (λ k. in_routers (strategy_at h) (to_children (Some face.0) router k info h) [] ++ own_told_on i.hats (change_hat r (entered router k info) i.hats) k) c.as_str-2.ensures.text in
     let dues = c.as_slice.result.now in
     let changed = ap (λ (x : Change). change_hat r (changed_by x c.as_str-3.result.now) i.hats) c.entry_change.ensures ∙ change_is r router info c.as_str-3.result.now i.hats ∙ ap (λ (k : List ℕ). change_hat r (entered router k info) i.hats) c.as_str-3.ensures.text ∙ ap (change_hat r (entered router key info)) hats ∙ sym (entering_changes s c.requires.reached face sd info node opens key says valid r home h there router is) in
     let faces = entering_faces s c.requires.reached face sd info node opens key says valid r home h there router is in
-    let dues_are = c.as_slice.ensures ∙ c.in_ok-dues.ensures (accepted s.core t) [] (faces ∙ sym (ap (λ (x : State). x.core.faces) v)) (λ f k. refl) changed ∙ ap (λ (k : List ℕ). looked_over (accepted s.core t) [] (k ∷ [])) c.as_str-3.ensures.text in
+    let dues_are = c.as_slice.ensures ∙ c.in_ok-dues.ensures (accepted s.core t) (faces ∙ sym (ap (λ (x : State). x.core.faces) v)) changed ∙ ap (λ (k : List ℕ). looked_over (accepted s.core t) i.interests (k ∷ [])) c.as_str-3.ensures.text in
     let g : Gathers s.core t (ears_of i.ears) dues c.in_ok-told.told =
-    entering_gathers s c.requires.reached face sd info node opens key says valid r home h there router is c.requires.routing i.hats hats c.in_ok-told.told told (ears_of i.ears) (ap (λ (x : State). x.core.ears) v) [] (ap (λ (x : State). x.core.interests) v) dues dues_are in
-    let fits : refusal_of s.core t ≡ None = entry_fits s.core face sd info node opens key says valid r home h there router is (sym (gathered_lacks s.core t (ears_of i.ears) dues c.in_ok-told.told g) ∙ c.in-Ok-tell_all.ensures.free) has in
+    entering_gathers s c.requires.reached face sd info node opens key says valid r home h there router is c.requires.routing i.hats hats c.in_ok-told.told told (ears_of i.ears) (ap (λ (x : State). x.core.ears) v) i.interests (ap (λ (x : State). x.core.interests) v) dues dues_are in
+    let fits : refusal_of s.core t ≡ None = entry_fits s.core face sd info node opens key says valid r home h there router is (sym (gathered_lacks s.core t plain (ears_of i.ears) dues c.in_ok-told.told g) ∙ c.in-Ok-tell_all.ensures.free) has in
     let ts = told_with (ears_of i.ears) dues c.in_ok-told.told in
-    let are = gathered_due s.core t (ears_of i.ears) dues c.in_ok-told.told g in
+    let asked = entering_interests s.core face sd info node in
+    let are = gathered_due s.core t plain (ears_of i.ears) dues c.in_ok-told.told g in
     let all = c.in-Ok-tell_all.all in
     let handed =
     ap (λ (f : List Handed). behind f (tell (accepted s.core t) (map from_hat (in_order ts)) s.names)) (sym c.new.ensures)
     ∙ ap (λ (n : NamingState). behind c.new.result (tell (accepted s.core t) (map from_hat (in_order ts)) n)) (sym (ap (λ (x : State). x.names) v))
-    ∙ c.in-Ok-tell_all.ensures.ok (accepted s.core t) (faces ∙ sym (ap (λ (x : State). x.core.faces) v)) in
+    ∙ c.in-Ok-tell_all.ensures.ok (accepted s.core t) (faces ∙ sym (ap (λ (x : State). x.core.faces) v)) (λ f k. ap (λ (x : State). has_keyed f k x.core.interests) v ∙ ap (has_keyed f k) (sym asked)) in
     let left = c.in-Ok-put_entry.ensures.ok ∙ ap (change_hat r (entered router key info)) hats in
-    let kept = c.put.ensures.ears ∙ ap (put_plan c.as_slice-in-Ok-put_entry.result.now) c.tell_all.ensures.ears ∙ gathered_left s.core t (ears_of i.ears) dues c.in_ok-told.told g c.as_slice-in-Ok-put_entry.result.now (c.as_slice-in-Ok-put_entry.ensures ∙ c.in-Ok-tell_all.ensures.plan) ∙ entering_ears s face sd node info in
+    let kept = c.put.ensures.ears ∙ ap (put_plan c.as_slice-in-Ok-put_entry.result.now) c.tell_all.ensures.ears ∙ gathered_left s.core t plain (ears_of i.ears) dues c.in_ok-told.told g c.as_slice-in-Ok-put_entry.result.now (c.as_slice-in-Ok-put_entry.ensures ∙ c.in-Ok-tell_all.ensures.plan) ∙ entering_ears s face sd node info in
     record {
       step = c.told-in-Ok-put_entry.ensures ∙ entering_answered s c.requires.reached face sd info node opens key says valid r home h there router is fits ts are all.handed c.tell_all.new.names handed;
       after =

@@ -6,7 +6,7 @@ use Rattle.std.specs.Ordering.{nat_cmp}
 use Rattle.zq_trees.specs.declared.types.Telling.{Telling as TreeTelling}
 use Rattle.zq_trees.specs.Tellings.{in_order}
 use Rattle.zq_hat.specs.Kept.{keys_of_face, without_face}
-use Rattle.zq_interests.specs.Interests.{closed_face}
+use Rattle.zq_interests.specs.Interests.{closed_face, has_keyed}
 use Rattle.zq_query.specs.Closing.{after_close, closing_finals}
 use Rattle.zq_query.specs.Records.{QueryState}
 use Rattle.zq_tables.specs.Naming.{NamingState}
@@ -43,9 +43,9 @@ tell_all-requires c enough =
     let dues = c.as_slice-2.result.now in
     let changed = ap (change_hat r (without_face face.0)) hats ∙ sym (changed_home face.0 r s.core home (without_face face.0)) in
     let g : Gathers s.core t (ears_of i.ears) dues ts =
-    closing_gathers s face r home i.hats hats keys (ap (λ o. option_map_or (keys_of_face face.0) o []) (sym c.home-hat.ensures.hat)) ts told (ears_of i.ears) (ap (λ (x : State). x.core.ears) v) [] (ap (λ (x : State). x.core.interests) v) dues
-    (c.as_slice-2.ensures ∙ c.in_ok-dues.ensures (accepted s.core t) [] (sym (ap (λ (x : State). remove_entry (is_at (nat_cmp face.0)) x.core.faces) v)) (λ f k. refl) changed) in
-    due_of_keys s c.requires t fits (told_with (ears_of i.ears) dues ts) (gathered_due s.core t (ears_of i.ears) dues ts g)
+    closing_gathers s face r home i.hats hats keys (ap (λ o. option_map_or (keys_of_face face.0) o []) (sym c.home-hat.ensures.hat)) ts told (ears_of i.ears) (ap (λ (x : State). x.core.ears) v) i.interests (ap (λ (x : State). x.core.interests) v) dues
+    (c.as_slice-2.ensures ∙ c.in_ok-dues.ensures (accepted s.core t) (sym (ap (λ (x : State). remove_entry (is_at (nat_cmp face.0)) x.core.faces) v)) changed) in
+    due_of_keys s c.requires t refl fits (told_with (ears_of i.ears) dues ts) (gathered_due s.core t refl (ears_of i.ears) dues ts g)
 
 pub unreachable-requires : goal.unreachable-requires
 unreachable-requires c =
@@ -64,10 +64,10 @@ unreachable-requires c =
     let dues = c.as_slice-2.result.now in
     let changed = ap (change_hat r (without_face face.0)) hats ∙ sym (changed_home face.0 r s.core home (without_face face.0)) in
     let g : Gathers s.core t (ears_of i.ears) dues ts =
-    closing_gathers s face r home i.hats hats keys (ap (λ o. option_map_or (keys_of_face face.0) o []) (sym c.home-hat.ensures.hat)) ts told (ears_of i.ears) (ap (λ (x : State). x.core.ears) v) [] (ap (λ (x : State). x.core.interests) v) dues
-    (c.as_slice-2.ensures ∙ c.in_ok-dues.ensures (accepted s.core t) [] (sym (ap (λ (x : State). remove_entry (is_at (nat_cmp face.0)) x.core.faces) v)) (λ f k. refl) changed) in
-    let lacks = sym (gathered_lacks s.core t (ears_of i.ears) dues ts g) ∙ c.in-Err-NoFreeId.ensures.no_free (ap (λ e. Err e) c.in-Err-NoFreeId.field-0-is) in
-    true≢false (sym lacks ∙ reached_enough s c.requires t fits refl)
+    closing_gathers s face r home i.hats hats keys (ap (λ o. option_map_or (keys_of_face face.0) o []) (sym c.home-hat.ensures.hat)) ts told (ears_of i.ears) (ap (λ (x : State). x.core.ears) v) i.interests (ap (λ (x : State). x.core.interests) v) dues
+    (c.as_slice-2.ensures ∙ c.in_ok-dues.ensures (accepted s.core t) (sym (ap (λ (x : State). remove_entry (is_at (nat_cmp face.0)) x.core.faces) v)) changed) in
+    let lacks = sym (gathered_lacks s.core t refl (ears_of i.ears) dues ts g) ∙ c.in-Err-NoFreeId.ensures.no_free (ap (λ e. Err e) c.in-Err-NoFreeId.field-0-is) in
+    true≢false (sym lacks ∙ reached_enough s c.requires t fits refl refl)
 
 pub returns-in-Ok-close_planned : goal.returns-in-Ok-close_planned
 returns-in-Ok-close_planned c =
@@ -86,19 +86,19 @@ returns-in-Ok-close_planned c =
     let dues = c.as_slice-2.result.now in
     let changed = ap (change_hat r (without_face face.0)) hats ∙ sym (changed_home face.0 r s.core home (without_face face.0)) in
     let g : Gathers s.core t (ears_of i.ears) dues ts =
-    closing_gathers s face r home i.hats hats keys (ap (λ o. option_map_or (keys_of_face face.0) o []) (sym c.home-hat.ensures.hat)) ts told (ears_of i.ears) (ap (λ (x : State). x.core.ears) v) [] (ap (λ (x : State). x.core.interests) v) dues
-    (c.as_slice-2.ensures ∙ c.in_ok-dues.ensures (accepted s.core t) [] (sym (ap (λ (x : State). remove_entry (is_at (nat_cmp face.0)) x.core.faces) v)) (λ f k. refl) changed) in
+    closing_gathers s face r home i.hats hats keys (ap (λ o. option_map_or (keys_of_face face.0) o []) (sym c.home-hat.ensures.hat)) ts told (ears_of i.ears) (ap (λ (x : State). x.core.ears) v) i.interests (ap (λ (x : State). x.core.interests) v) dues
+    (c.as_slice-2.ensures ∙ c.in_ok-dues.ensures (accepted s.core t) (sym (ap (λ (x : State). remove_entry (is_at (nat_cmp face.0)) x.core.faces) v)) changed) in
     let queries : i.queries ≡ s.core.queries = ap (λ (x : State). x.core.queries) v in
     let us = told_with (ears_of i.ears) dues ts in
-    let are = gathered_due s.core t (ears_of i.ears) dues ts g in
+    let are = gathered_due s.core t refl (ears_of i.ears) dues ts g in
     let finals = c.in_ok-finals.finals in
     let all = c.in-Ok.all in
-    let handed = ap (λ (n : NamingState). behind finals (tell s.core (map from_hat (in_order us)) n)) (sym (ap (λ (x : State). x.names) v)) ∙ c.in-Ok.ensures.ok s.core (sym (ap (λ (x : State). x.core.faces) v)) in
+    let handed = ap (λ (n : NamingState). behind finals (tell s.core (map from_hat (in_order us)) n)) (sym (ap (λ (x : State). x.names) v)) ∙ c.in-Ok.ensures.ok s.core (sym (ap (λ (x : State). x.core.faces) v)) (λ f k. ap (λ (x : State). has_keyed f k x.core.interests) v) in
     let gone = c.remove.ensures.entries ∙ ap (remove_entry (is_at (nat_cmp face.0))) (ap (λ (x : State). x.core.faces) v) in
     let left = c.leave.ensures ∙ changed in
     let closed = c.in-Ok-close_planned.ensures.after ∙ ap (after_close face.0) queries in
     let asked = ap (λ (x : State). closed_face face.0 x.core.interests) v in
-    let kept = c.close-in-Ok-close_planned.ensures ∙ ap (unheard face.0) (c.put.ensures.ears ∙ ap (put_plan c.as_slice-in-Ok-close_planned.result.now) c.tell_all.ensures.ears ∙ gathered_left s.core t (ears_of i.ears) dues ts g c.as_slice-in-Ok-close_planned.result.now (c.as_slice-in-Ok-close_planned.ensures ∙ c.in-Ok.ensures.plan)) in
+    let kept = c.close-in-Ok-close_planned.ensures ∙ ap (unheard face.0) (c.put.ensures.ears ∙ ap (put_plan c.as_slice-in-Ok-close_planned.result.now) c.tell_all.ensures.ears ∙ gathered_left s.core t refl (ears_of i.ears) dues ts g c.as_slice-in-Ok-close_planned.result.now (c.as_slice-in-Ok-close_planned.ensures ∙ c.in-Ok.ensures.plan)) in
     record {
       step =
           c.told-in-Ok-close_planned.ensures

@@ -5,6 +5,7 @@ use Rattle.zq_trees.specs.Tellings.{in_order}
 use Rattle.zq_hat.specs.Kept.{clashes_at, registered}
 use Rattle.zq_tables.specs.Naming.{NamingState, change_naming, face_queryables, text_at, with_queryable}
 use Rattle.zq_tables.specs.declared.said.Said.TheVariants as said
+use Rattle.zq_interests.specs.Interests.{has_keyed}
 use Rattle.zq_told.specs.Rooms.{ears_of}
 use Rattle.zq_told.specs.Telling.{put_plan}
 use Rattle.zq_machine.specs.declared.call.Refusal.{Refusal}
@@ -75,11 +76,11 @@ hold_and_tell-requires c enough =
     let dues = c.as_slice.result.now in
     let told_is = c.in_ok-found.ensures.told ∙ ap (λ (k : List ℕ). own_told_on i.hats (change_hat r (registered face.0 id k node info) i.hats) k) text in
     let changed = ap (λ (k : List ℕ). change_hat r (registered face.0 id k node info) i.hats) text ∙ ap (change_hat r (registered face.0 id key node info)) hats ∙ sym (changed_home face.0 r s.core home (registered face.0 id key node info)) in
-    let dues_are = c.as_slice.ensures ∙ c.in_ok-found.ensures.dues (accepted s.core t) [] (sym (ap (λ (x : State). x.core.faces) v)) (λ f k. refl) changed ∙ ap (λ (k : List ℕ). looked_over (accepted s.core t) [] (k ∷ [])) text in
+    let dues_are = c.as_slice.ensures ∙ c.in_ok-found.ensures.dues (accepted s.core t) (sym (ap (λ (x : State). x.core.faces) v)) changed ∙ ap (λ (k : List ℕ). looked_over (accepted s.core t) i.interests (k ∷ [])) text in
     let g : Gathers s.core t (ears_of i.ears) dues told =
-    declaration_gathers s c.requires face id r home h there key info node i.hats hats told told_is (ears_of i.ears) (ap (λ (x : State). x.core.ears) v) [] (ap (λ (x : State). x.core.interests) v) dues dues_are in
-    let fits = declaration_fits s c.requires face id r home h there key info node valid free (sym (gathered_lacks s.core t (ears_of i.ears) dues told g) ∙ enough) in
-    due_of_keys s c.requires t fits (told_with (ears_of i.ears) dues told) (gathered_due s.core t (ears_of i.ears) dues told g)
+    declaration_gathers s c.requires face id r home h there key info node i.hats hats told told_is (ears_of i.ears) (ap (λ (x : State). x.core.ears) v) i.interests (ap (λ (x : State). x.core.interests) v) dues dues_are in
+    let fits = declaration_fits s c.requires face id r home h there key info node valid free (sym (gathered_lacks s.core t refl (ears_of i.ears) dues told g) ∙ enough) in
+    due_of_keys s c.requires t refl fits (told_with (ears_of i.ears) dues told) (gathered_due s.core t refl (ears_of i.ears) dues told g)
 
 pub returns-in-Err-NoFreeId : goal.returns-in-Err-NoFreeId
 returns-in-Err-NoFreeId c =
@@ -104,10 +105,10 @@ returns-in-Err-NoFreeId c =
     let dues = c.as_slice.result.now in
     let told_is = c.in_ok-found.ensures.told ∙ ap (λ (k : List ℕ). own_told_on i.hats (change_hat r (registered face.0 id k node info) i.hats) k) text in
     let changed = ap (λ (k : List ℕ). change_hat r (registered face.0 id k node info) i.hats) text ∙ ap (change_hat r (registered face.0 id key node info)) hats ∙ sym (changed_home face.0 r s.core home (registered face.0 id key node info)) in
-    let dues_are = c.as_slice.ensures ∙ c.in_ok-found.ensures.dues (accepted s.core t) [] (sym (ap (λ (x : State). x.core.faces) v)) (λ f k. refl) changed ∙ ap (λ (k : List ℕ). looked_over (accepted s.core t) [] (k ∷ [])) text in
+    let dues_are = c.as_slice.ensures ∙ c.in_ok-found.ensures.dues (accepted s.core t) (sym (ap (λ (x : State). x.core.faces) v)) changed ∙ ap (λ (k : List ℕ). looked_over (accepted s.core t) i.interests (k ∷ [])) text in
     let g : Gathers s.core t (ears_of i.ears) dues told =
-    declaration_gathers s c.requires face id r home h there key info node i.hats hats told told_is (ears_of i.ears) (ap (λ (x : State). x.core.ears) v) [] (ap (λ (x : State). x.core.interests) v) dues dues_are in
-    let lacks = sym (gathered_lacks s.core t (ears_of i.ears) dues told g) ∙ c.in-Err-NoFreeId.ensures.no_free (ap (λ e. Err e) c.in-Err-NoFreeId.field-0-is) in
+    declaration_gathers s c.requires face id r home h there key info node i.hats hats told told_is (ears_of i.ears) (ap (λ (x : State). x.core.ears) v) i.interests (ap (λ (x : State). x.core.interests) v) dues dues_are in
+    let lacks = sym (gathered_lacks s.core t refl (ears_of i.ears) dues told g) ∙ c.in-Err-NoFreeId.ensures.no_free (ap (λ e. Err e) c.in-Err-NoFreeId.field-0-is) in
     let says : c.args.said.now ≡ said.Full key = subst (λ (x : Result (List ℕ) Refusal). IfOk x (λ k. c.args.said.now ≡ said.Full k)) c.in-Ok.is c.in_ok-key.ensures.says in
     let e = ap (λ x. refusal_of s.core (declaring face id x info node)) says ∙ declaration_lacks s c.requires face id r home h there key info node valid free lacks in
     let u = declaring face id c.args.said.now info node in
@@ -147,27 +148,27 @@ returns-in-Ok-register c =
     let dues = c.as_slice.result.now in
     let told_is = c.in_ok-found.ensures.told ∙ ap (λ (k : List ℕ). own_told_on i.hats (change_hat r (registered face.0 id k node info) i.hats) k) text in
     let changed = ap (λ (k : List ℕ). change_hat r (registered face.0 id k node info) i.hats) text ∙ ap (change_hat r (registered face.0 id key node info)) hats ∙ sym (changed_home face.0 r s.core home (registered face.0 id key node info)) in
-    let dues_are = c.as_slice.ensures ∙ c.in_ok-found.ensures.dues (accepted s.core t) [] (sym (ap (λ (x : State). x.core.faces) v)) (λ f k. refl) changed ∙ ap (λ (k : List ℕ). looked_over (accepted s.core t) [] (k ∷ [])) text in
+    let dues_are = c.as_slice.ensures ∙ c.in_ok-found.ensures.dues (accepted s.core t) (sym (ap (λ (x : State). x.core.faces) v)) changed ∙ ap (λ (k : List ℕ). looked_over (accepted s.core t) i.interests (k ∷ [])) text in
     let g : Gathers s.core t (ears_of i.ears) dues told =
-    declaration_gathers s c.requires face id r home h there key info node i.hats hats told told_is (ears_of i.ears) (ap (λ (x : State). x.core.ears) v) [] (ap (λ (x : State). x.core.interests) v) dues dues_are in
-    let fits = declaration_fits s c.requires face id r home h there key info node valid free (sym (gathered_lacks s.core t (ears_of i.ears) dues told g) ∙ c.in-Ok-hold_and_tell.ensures.free) in
+    declaration_gathers s c.requires face id r home h there key info node i.hats hats told told_is (ears_of i.ears) (ap (λ (x : State). x.core.ears) v) i.interests (ap (λ (x : State). x.core.interests) v) dues dues_are in
+    let fits = declaration_fits s c.requires face id r home h there key info node valid free (sym (gathered_lacks s.core t refl (ears_of i.ears) dues told g) ∙ c.in-Ok-hold_and_tell.ensures.free) in
     let ts = told_with (ears_of i.ears) dues told in
-    let are = gathered_due s.core t (ears_of i.ears) dues told g in
+    let are = gathered_due s.core t refl (ears_of i.ears) dues told g in
     let all = c.in-Ok-hold_and_tell.all in
     let handed =
     ap (λ (n : NamingState). behind [] (tell (accepted s.core t) (map from_hat (in_order ts)) (change_naming face.0 (with_queryable id key) n))) (sym (ap (λ (x : State). x.names) v))
-    ∙ c.in-Ok-hold_and_tell.ensures.ok (accepted s.core t) (sym (ap (λ (x : State). x.core.faces) v)) in
+    ∙ c.in-Ok-hold_and_tell.ensures.ok (accepted s.core t) (sym (ap (λ (x : State). x.core.faces) v)) (λ f k. ap (λ (x : State). has_keyed f k x.core.interests) v) in
     let left = c.in-Ok-register.ensures.ok ∙ ap (change_hat r (registered face.0 id key node info)) hats ∙ sym (changed_home face.0 r s.core home (registered face.0 id key node info)) in
-    let kept = c.put.ensures.ears ∙ ap (put_plan c.as_slice-in-Ok-register.result.now) c.hold_and_tell.ensures.ears ∙ gathered_left s.core t (ears_of i.ears) dues told g c.as_slice-in-Ok-register.result.now (c.as_slice-in-Ok-register.ensures ∙ c.in-Ok-hold_and_tell.ensures.plan) in
+    let kept = c.put.ensures.ears ∙ ap (put_plan c.as_slice-in-Ok-register.result.now) c.hold_and_tell.ensures.ears ∙ gathered_left s.core t refl (ears_of i.ears) dues told g c.as_slice-in-Ok-register.result.now (c.as_slice-in-Ok-register.ensures ∙ c.in-Ok-hold_and_tell.ensures.plan) in
     let says : c.args.said.now ≡ said.Full key = subst (λ (x : Result (List ℕ) Refusal). IfOk x (λ k. c.args.said.now ≡ said.Full k)) c.in-Ok.is c.in_ok-key.ensures.says in
     record {
-      step = c.told.ensures ∙ told_answered s c.requires t fits ts are all.handed c.hold_and_tell.new.names handed refl ∙ ap (λ sd. answer s (declaring face id sd info node)) (sym says);
+      step = c.told.ensures ∙ told_answered s c.requires t refl fits ts are all.handed c.hold_and_tell.new.names handed refl ∙ ap (λ sd. answer s (declaring face id sd info node)) (sym says);
       after =
           (λ j. record {
             core = record { config = (v j).core.config; faces = (v j).core.faces; next_face = (v j).core.next_face; hats = left j; tables = (v j).core.tables; queries = (v j).core.queries; interests = (v j).core.interests; ears = kept j };
             names = c.hold_and_tell.new.names;
           })
-          ∙ sym (told_left s c.requires t fits ts are all.handed c.hold_and_tell.new.names handed)
+          ∙ sym (told_left s c.requires t refl fits ts are all.handed c.hold_and_tell.new.names handed)
           ∙ ap (λ sd. settle s (declaring face id sd info node)) (sym says);
       err = tt;
     }

@@ -10,6 +10,7 @@ use Rattle.std.proofs.lemmas.Map.Lookups.{exact_unsigned}
 use Rattle.zq_query.proofs.Owing.{undone}
 use Rattle.zq_trees.specs.Tellings.{in_order}
 use Rattle.zq_tables.specs.Naming.{NamingState, no_keys}
+use Rattle.zq_interests.specs.Interests.{has_keyed}
 use Rattle.zq_told.specs.Ears.{Ears, closed as unheard, opened as heard_opened}
 use Rattle.zq_told.specs.Leaving.{fresh_ear}
 use Rattle.zq_told.specs.Rooms.{ears_of}
@@ -65,9 +66,9 @@ join_and_tell-requires-clause-keys c enough =
       asked = λ key. refl;
       same = ap (λ (x : State). x.core.hats) v;
     }) in
-    let g : Gathers s.core t ears dues [] = opening_gathers s c.requires o ears heard [] (ap (λ (x : State). x.core.interests) v) dues dues_are in
-    let fits = opening_fits s c.requires o there room free (sym (gathered_lacks s.core t ears dues [] g) ∙ enough) in
-    due_of_keys s c.requires t fits (told_with ears dues []) (gathered_due s.core t ears dues [] g)
+    let g : Gathers s.core t ears dues [] = opening_gathers s c.requires o ears heard i.interests (ap (λ (x : State). x.core.interests) v) dues dues_are in
+    let fits = opening_fits s c.requires o there room free (sym (gathered_lacks s.core t refl ears dues [] g) ∙ enough) in
+    due_of_keys s c.requires t refl fits (told_with ears dues []) (gathered_due s.core t refl ears dues [] g)
 
 pub join-requires : goal.join-requires
 join-requires c =
@@ -98,8 +99,8 @@ returns-in-Err-NoFreeId c =
       asked = λ key. refl;
       same = ap (λ (x : State). x.core.hats) v;
     }) in
-    let g : Gathers s.core t ears dues [] = opening_gathers s c.requires o ears heard [] (ap (λ (x : State). x.core.interests) v) dues dues_are in
-    let e = opening_lacks s c.requires o there room free (sym (gathered_lacks s.core t ears dues [] g) ∙ c.in-Err-NoFreeId.ensures.no_free (ap (λ e. Err e) c.in-Err-NoFreeId.field-0-is)) in
+    let g : Gathers s.core t ears dues [] = opening_gathers s c.requires o ears heard i.interests (ap (λ (x : State). x.core.interests) v) dues dues_are in
+    let e = opening_lacks s c.requires o there room free (sym (gathered_lacks s.core t refl ears dues [] g) ∙ c.in-Err-NoFreeId.ensures.no_free (ap (λ e. Err e) c.in-Err-NoFreeId.field-0-is)) in
     let faces_back = c.in-Err-NoFreeId.ensures.no_faces ∙ ap (λ (x : State). x.core.faces) v in
     let names_back = c.in-Err-NoFreeId.ensures.no_names ∙ ap (λ (x : State). x.names) v in
     let ears_back = c.in-Err-NoFreeId.ensures.no_ears ∙ ap (λ (x : State). x.core.ears) v in
@@ -138,18 +139,18 @@ returns-in-Ok-join c =
       asked = λ key. refl;
       same = ap (λ (x : State). x.core.hats) v;
     }) in
-    let g : Gathers s.core t ears dues [] = opening_gathers s c.requires o ears heard [] (ap (λ (x : State). x.core.interests) v) dues dues_are in
-    let fits = opening_fits s c.requires o there room free (sym (gathered_lacks s.core t ears dues [] g) ∙ c.in-Ok.ensures.free) in
+    let g : Gathers s.core t ears dues [] = opening_gathers s c.requires o ears heard i.interests (ap (λ (x : State). x.core.interests) v) dues dues_are in
+    let fits = opening_fits s c.requires o there room free (sym (gathered_lacks s.core t refl ears dues [] g) ∙ c.in-Ok.ensures.free) in
     let ts = told_with ears dues [] in
-    let are = gathered_due s.core t ears dues [] g in
+    let are = gathered_due s.core t refl ears dues [] g in
     let all = c.in-Ok.all in
     let faces : insert_entry nat_cmp i.faces.entries i.next_face c.opened-2.result ≡ (accepted s.core t).faces = λ j. insert_entry nat_cmp (v j).core.faces (v j).core.next_face (c.opened-2.ensures j) in
     let names = ap with_numbers v in
     let handed =
     ap (λ (n : NamingState). behind [] (tell (accepted s.core t) (map from_hat (in_order ts)) n)) (sym names)
-    ∙ c.in-Ok.ensures.ok (accepted s.core t) (sym faces) in
+    ∙ c.in-Ok.ensures.ok (accepted s.core t) (sym faces) (λ f k. ap (λ (x : State). has_keyed f k x.core.interests) v) in
     let hats = c.in-Ok-join.ensures.ok ∙ ap (λ (f : FaceRecord). change_hat o.region (joined f) i.hats) c.seat.ensures ∙ ap (λ (x : State). (with_face o x.core).hats) v in
-    let kept = c.put.ensures.ears ∙ ap (put_plan c.as_slice-in-Ok-join.result.now) c.in-Ok.ensures.ears ∙ gathered_left s.core t ears dues [] g c.as_slice-in-Ok-join.result.now (c.as_slice-in-Ok-join.ensures ∙ c.in-Ok.ensures.plan) in
+    let kept = c.put.ensures.ears ∙ ap (put_plan c.as_slice-in-Ok-join.result.now) c.in-Ok.ensures.ears ∙ gathered_left s.core t refl ears dues [] g c.as_slice-in-Ok-join.result.now (c.as_slice-in-Ok-join.ensures ∙ c.in-Ok.ensures.plan) in
     record {
       step = ap (λ n. record { outcome = outcome.Opened (record { 0 = n }); handed = all.handed }) (ap (λ (x : State). x.core.next_face) v) ∙ opening_answered s c.requires o fits ts are all.handed c.join_and_tell.new.names handed;
       after =

@@ -2,6 +2,7 @@ use Rattle.std.proofs.Common.{◌≡◌, ◌∙◌, refl, sym, ap, Err, List, []
 use Rattle.zq_trees.specs.Tellings.{in_order}
 use Rattle.zq_hat.specs.Kept.{unregistered}
 use Rattle.zq_tables.specs.Naming.{NamingState}
+use Rattle.zq_interests.specs.Interests.{has_keyed}
 use Rattle.zq_told.specs.Rooms.{ears_of}
 use Rattle.zq_told.specs.Telling.{put_plan}
 use Rattle.zq_machine.specs.Deciding.{accepted}
@@ -37,8 +38,8 @@ tell_all-requires c enough =
     let changed = ap (change_hat r (unregistered face.0 id)) hats ∙ sym (changed_home face.0 r s.core home (unregistered face.0 id)) in
     let g =
     withdrawal_gathers s c.requires face id r home h there key c.in-Some-key_at.ensures i.hats hats c.in_ok-found.found.told c.in_ok-found.ensures.told (ears_of i.ears) (ap (λ (x : State). x.core.ears) v)
-    [] (ap (λ (x : State). x.core.interests) v) c.as_slice.result.now (c.as_slice.ensures ∙ c.in_ok-found.ensures.dues (accepted s.core t) [] (sym (ap (λ (x : State). x.core.faces) v)) (λ f k. refl) changed) in
-    due_of_keys s c.requires t fits (told_with (ears_of i.ears) c.as_slice.result.now c.in_ok-found.found.told) (gathered_due s.core t (ears_of i.ears) c.as_slice.result.now c.in_ok-found.found.told g)
+    i.interests (ap (λ (x : State). x.core.interests) v) c.as_slice.result.now (c.as_slice.ensures ∙ c.in_ok-found.ensures.dues (accepted s.core t) (sym (ap (λ (x : State). x.core.faces) v)) changed) in
+    due_of_keys s c.requires t refl fits (told_with (ears_of i.ears) c.as_slice.result.now c.in_ok-found.found.told) (gathered_due s.core t refl (ears_of i.ears) c.as_slice.result.now c.in_ok-found.found.told g)
 
 pub unreachable-requires : goal.unreachable-requires
 unreachable-requires c =
@@ -58,9 +59,9 @@ unreachable-requires c =
     let changed = ap (change_hat r (unregistered face.0 id)) hats ∙ sym (changed_home face.0 r s.core home (unregistered face.0 id)) in
     let g =
     withdrawal_gathers s c.requires face id r home h there key c.in-Some-key_at.ensures i.hats hats c.in_ok-found.found.told c.in_ok-found.ensures.told (ears_of i.ears) (ap (λ (x : State). x.core.ears) v)
-    [] (ap (λ (x : State). x.core.interests) v) c.as_slice.result.now (c.as_slice.ensures ∙ c.in_ok-found.ensures.dues (accepted s.core t) [] (sym (ap (λ (x : State). x.core.faces) v)) (λ f k. refl) changed) in
-    let lacks = sym (gathered_lacks s.core t (ears_of i.ears) c.as_slice.result.now c.in_ok-found.found.told g) ∙ c.in-Err-NoFreeId.ensures.no_free (ap (λ e. Err e) c.in-Err-NoFreeId.field-0-is) in
-    true≢false (sym lacks ∙ reached_enough s c.requires t fits refl)
+    i.interests (ap (λ (x : State). x.core.interests) v) c.as_slice.result.now (c.as_slice.ensures ∙ c.in_ok-found.ensures.dues (accepted s.core t) (sym (ap (λ (x : State). x.core.faces) v)) changed) in
+    let lacks = sym (gathered_lacks s.core t refl (ears_of i.ears) c.as_slice.result.now c.in_ok-found.found.told g) ∙ c.in-Err-NoFreeId.ensures.no_free (ap (λ e. Err e) c.in-Err-NoFreeId.field-0-is) in
+    true≢false (sym lacks ∙ reached_enough s c.requires t fits refl refl)
 
 pub returns-in-Ok-withdraw : goal.returns-in-Ok-withdraw
 returns-in-Ok-withdraw c =
@@ -82,15 +83,15 @@ returns-in-Ok-withdraw c =
     let dues = c.as_slice.result.now in
     let g =
     withdrawal_gathers s c.requires face id r home h there key c.in-Some-key_at.ensures i.hats hats told c.in_ok-found.ensures.told (ears_of i.ears) (ap (λ (x : State). x.core.ears) v)
-    [] (ap (λ (x : State). x.core.interests) v) dues (c.as_slice.ensures ∙ c.in_ok-found.ensures.dues (accepted s.core t) [] (sym (ap (λ (x : State). x.core.faces) v)) (λ f k. refl) changed) in
+    i.interests (ap (λ (x : State). x.core.interests) v) dues (c.as_slice.ensures ∙ c.in_ok-found.ensures.dues (accepted s.core t) (sym (ap (λ (x : State). x.core.faces) v)) changed) in
     let ts = told_with (ears_of i.ears) dues told in
-    let are = gathered_due s.core t (ears_of i.ears) dues told g in
+    let are = gathered_due s.core t refl (ears_of i.ears) dues told g in
     let handed =
     ap (λ (f : List Handed). behind f (tell s.core (map from_hat (in_order ts)) s.names)) (sym c.new-none.ensures)
     ∙ ap (λ (n : NamingState). behind c.new-none.result (tell s.core (map from_hat (in_order ts)) n)) (sym (ap (λ (x : State). x.names) v))
-    ∙ c.in-Ok.ensures.ok s.core (sym (ap (λ (x : State). x.core.faces) v)) in
+    ∙ c.in-Ok.ensures.ok s.core (sym (ap (λ (x : State). x.core.faces) v)) (λ f k. ap (λ (x : State). has_keyed f k x.core.interests) v) in
     let left = c.in-Ok-withdraw.ensures.ok ∙ ap (change_hat r (unregistered face.0 id)) hats ∙ sym (changed_home face.0 r s.core home (unregistered face.0 id)) in
-    let kept = c.put.ensures.ears ∙ ap (put_plan c.as_slice-in-Ok-withdraw.result.now) c.tell_all.ensures.ears ∙ gathered_left s.core t (ears_of i.ears) dues told g c.as_slice-in-Ok-withdraw.result.now (c.as_slice-in-Ok-withdraw.ensures ∙ c.in-Ok.ensures.plan) in
+    let kept = c.put.ensures.ears ∙ ap (put_plan c.as_slice-in-Ok-withdraw.result.now) c.tell_all.ensures.ears ∙ gathered_left s.core t refl (ears_of i.ears) dues told g c.as_slice-in-Ok-withdraw.result.now (c.as_slice-in-Ok-withdraw.ensures ∙ c.in-Ok.ensures.plan) in
     record {
       step = c.told.ensures ∙ withdrawn_answered s c.requires face id fits ts are c.in-Ok.all.handed c.tell_all.new.names handed;
       after =
