@@ -10,7 +10,6 @@ import re
 import sys
 
 import keys
-import reading
 from faces import Face
 from model import Gateway
 from telling import Network
@@ -42,7 +41,7 @@ EDGES = (
 
 # How likely the kinds of calls are; and what a theme has otherwise.
 WEIGHTS = dict(open=2, close=2, key=5, unkey=2, queryable=10, unqueryable=3, ask=14, reply=10, final=7, sent=7,
-               poll=4, finalize=3, gateways=2)
+               poll=4, finalize=3, gateways=2, interest=3, uninterest=1)
 THEMES = {
     'all': {},
     'life': dict(ask=20, reply=18, final=10, sent=12, poll=8, close=4, queryable=6, finalize=1, key=2),
@@ -55,11 +54,6 @@ THEMES = {
     'told': dict(interest=14, uninterest=6, queryable=24, unqueryable=14, open=3, close=3, key=6, unkey=5, ask=5,
                  reply=1, final=1, sent=0.5, poll=0.5, finalize=0.5, gateways=0.5, network=2, nodes=1),
 }
-if reading.ASKS:
-    WEIGHTS.update(interest=3, uninterest=1)
-else:
-    del THEMES['told']['interest'], THEMES['told']['uninterest']
-
 
 def word(rng, content):
     """A text or payload as a word, with some bytes written by `%` that need not be."""

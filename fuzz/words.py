@@ -4,7 +4,6 @@ import re
 from collections import namedtuple
 from dataclasses import dataclass, field
 
-import reading
 
 U8, U16, U32, U64, U128 = (2**bits - 1 for bits in (8, 16, 32, 64, 128))
 MODES = ('router', 'peer', 'client')
@@ -201,7 +200,7 @@ def read_call(words, config):
     kind, values = words[0].decode('latin-1'), words[1:]
     if kind == 'open':
         return kind, read_open(values, config)
-    require((kind, len(values)) in READERS and (reading.ASKS or kind not in ('interest', 'uninterest')))
+    require((kind, len(values)) in READERS)
     return kind, fields(values, *READERS[kind, len(values)])
 
 

@@ -7,7 +7,7 @@ use zq_hat::types::{FinalMark, Network, NodeIds};
 use zq_key::items::Items;
 use zq_key::memory::OutOfMemory;
 use zq_key::message::{
-    Declare, DeclareBody, FaceId, Message, QueryTarget, Region, ReplyBody, Request, Response,
+    Declare, DeclareBody, FaceId, Interest, Message, QueryTarget, Region, ReplyBody, Request, Response,
 };
 use zq_key::text::Bytes;
 use zq_machine::call::{Call, Outcome, Refusal, Step};
@@ -173,6 +173,34 @@ fn withdrawn(alloc: Global) -> Result<[Seen; 3], OutOfMemory> {
 fn withdrawals(rt: HostRuntime) {
     let again = Some((Outcome::Refused(Refusal::UnknownId), 0));
     assert!(rt; withdrawn(rt.alloc()) == Ok([DONE, DONE, again]));
+}
+
+fn listens(gateway: &mut Gateway, id: u32, face: u32) -> Seen {
+    let interest = Interest {
+        id,
+        keys: false,
+        wire: None,
+    };
+    seen(gateway.send_interest(FaceId(face), &interest))
+}
+
+// What a face is answered that asks to hear, twice under one id, and ends that twice.
+fn listened(alloc: Global) -> Result<[Seen; 4], OutOfMemory> {
+    let mut gateway = pair(alloc)?;
+    Ok([
+        listens(&mut gateway, 5, 1),
+        listens(&mut gateway, 5, 0),
+        seen(gateway.send_interest_final(FaceId(1), 5)),
+        seen(gateway.send_interest_final(FaceId(1), 5)),
+    ])
+}
+
+#[test]
+fn interests(rt: HostRuntime) {
+    let told = Some((Outcome::Done, 2));
+    let alone = Some((Outcome::Done, 1));
+    let again = Some((Outcome::Refused(Refusal::UnknownId), 0));
+    assert!(rt; listened(rt.alloc()) == Ok([told, alone, DONE, again]));
 }
 
 // What a request and its reply come to.

@@ -4,7 +4,7 @@ use std::test::Fail;
 use zq_script::run::Status;
 
 /// What a script tells of, its lines, its print, and how its run ends.
-const ROWS: [(&str, &str, &str, Status); 26] = [
+const ROWS: [(&str, &str, &str, Status); 29] = [
     (
         "one query",
         "config 1 10000 north:client local\n\
@@ -502,12 +502,72 @@ const ROWS: [(&str, &str, &str, Status); 26] = [
         Status::Done,
     ),
     (
-        "a form that is not built",
+        "what a face that asks is told",
         "config 1 10000 north:client local\n\
          open local 10 client north -\n\
          open local 11 client north -\n\
-         interest 0 1 - n\n",
-        "bad line 4\n",
+         open local 12 client north -\n\
+         queryable 0 1 0:s:a/b c 2 0\n\
+         interest 1 5 0:s:a/* n\n\
+         queryable 2 1 0:s:a/c p 0 0\n\
+         queryable 1 1 0:s:a/d p 0 0\n\
+         interest 1 5 0:s:x n\n\
+         uninterest 1 5\n\
+         unqueryable 0 1 - 0\n\
+         uninterest 1 5\n",
+        "= opened 0\n\
+         = opened 1\n\
+         = opened 2\n\
+         = done\n\
+         = done\n\
+         > 1 - - queryable 1 0:s:a/b c 2 0 5\n\
+         > 1 - - declfinal 5\n\
+         = done\n\
+         > 1 - - queryable 2 0:s:a/c p 0 0 -\n\
+         = done\n\
+         = refused IdInUse\n\
+         = done\n\
+         = done\n\
+         = refused UnknownId\n",
+        Status::Done,
+    ),
+    (
+        "a face that wants numbers is told a key by one",
+        "config 1 10000 north:client south:0:client south:1:client\n\
+         open south:0:client 20 client north -\n\
+         open south:1:client 21 client north -\n\
+         interest 0 1 0:s:a/* k\n\
+         queryable 1 1 0:s:a/b c 0 0\n",
+        "= opened 0\n\
+         = opened 1\n\
+         = done\n\
+         > 0 - - declfinal 1\n\
+         = done\n\
+         > 0 - - key 1 0:s:a/b\n\
+         > 0 - - queryable 1 1:s:- c 0 0 -\n",
+        Status::Done,
+    ),
+    (
+        "a face that wants none is told it whole",
+        "config 1 10000 north:client south:0:client south:1:client\n\
+         open south:0:client 20 client north -\n\
+         open south:1:client 21 client north -\n\
+         interest 0 1 0:s:a/* n\n\
+         queryable 1 1 0:s:a/b c 0 0\n",
+        "= opened 0\n\
+         = opened 1\n\
+         = done\n\
+         > 0 - - declfinal 1\n\
+         = done\n\
+         > 0 - - queryable 1 0:s:a/b c 0 0 -\n",
+        Status::Done,
+    ),
+    (
+        "a form that is not built",
+        "config 1 10000 north:client local\n\
+         open local 10 client north -\n\
+         open local 11 client north house\n",
+        "bad line 3\n",
         Status::Script,
     ),
 ];
