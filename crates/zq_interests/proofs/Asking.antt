@@ -48,7 +48,7 @@ has_face n ps = list_any (λ (p : Place). is_at (nat_cmp n) p.0) ps
 abbrev has_number : ℕ → List ℕ → Bool
 has_number n ns = list_any (is_at (nat_cmp n)) ns
 
-or_none : (a : Bool) → a ≡ (a || false)
+pub or_none : (a : Bool) → a ≡ (a || false)
 or_none true = refl
 or_none false = refl
 

@@ -16,8 +16,8 @@ use Rattle.zq_key.proofs.Sorted.{sorted_in, sorted_out, sorted_write}
 use Rattle.zq_index.specs.Holders.{Place, place_cmp}
 use Rattle.zq_index.proofs.Orders.{place_exact, place_total, text_exact, text_total}
 use Rattle.zq_interests.specs.declared.types.InterestEntry.{InterestEntry}
-use Rattle.zq_interests.specs.Interests.{Asked, Interests, at, closed_face, interest_at, interests_of, with_interest, without_interest}
-use Rattle.zq_interests.specs.Kept.{AreKept, Shelf, asks_just, is_kept, is_left, is_of, is_spot, same_asked}
+use Rattle.zq_interests.specs.Interests.{Asked, Interests, at, closed_face, interest_at, interests_of, same_asked, with_interest, without_interest}
+use Rattle.zq_interests.specs.Kept.{AreKept, Shelf, asks_just, is_kept, is_left, is_of, is_spot}
 use Rattle.zq_interests.proofs.Writing.{not_written}
 
 abbrev pub Text : Type 0

@@ -1,4 +1,5 @@
 pub mod Asking
+pub mod Besides
 pub mod Keeping
 pub mod Under
 pub mod Walking

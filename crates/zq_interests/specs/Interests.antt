@@ -1,5 +1,5 @@
 -- What faces ask to hear.
-use Rattle.std.specs.Prelude.{ℕ, Bool, true, ◌&&◌, List, [], map, filter, Option}
+use Rattle.std.specs.Prelude.{ℕ, Bool, true, false, not, ◌&&◌, List, [], map, filter, Option, Some, None}
 use Rattle.std.specs.BTreeMap.{insert_entry, is_at}
 use Rattle.std.specs.List.{list_any}
 use Rattle.std.specs.Map.{lookup, remove_entry, set_value}
@@ -7,6 +7,7 @@ use Rattle.std.specs.Option.{option_map_or}
 use Rattle.std.specs.Ordering.{nat_cmp}
 use Rattle.zq_message.specs.declared.message.FaceId.{FaceId}
 use Rattle.zq_key.specs.Key.{intersects}
+use Rattle.zq_index.specs.Texts.{text_cmp}
 use Rattle.zq_interests.specs.declared.types.InterestEntry.{InterestEntry}
 
 -- the interests of one face, by id
@@ -40,6 +41,17 @@ without_interest face id ints = set_value (is_at (nat_cmp face)) ints (remove_en
 -- the face asks nothing at all
 abbrev pub closed_face : ℕ → Interests → Interests
 closed_face face ints = remove_entry (is_at (nat_cmp face)) ints
+
+-- whether the same is asked for
+abbrev pub same_asked : Option (List ℕ) → Option (List ℕ) → Bool
+same_asked None None = true
+same_asked None (Some b) = false
+same_asked (Some a) None = false
+same_asked (Some a) (Some b) = is_at (text_cmp a) b
+
+-- the face asks for something else under the id
+abbrev pub asks_another : ℕ → ℕ → Option (List ℕ) → Interests → Bool
+asks_another face id asked ints = option_map_or (λ (i : InterestEntry). not (same_asked i.key asked)) (interest_at face id ints) false
 
 -- what is asked for has no key, or its key meets the key
 abbrev pub meets : Option (List ℕ) → List ℕ → Bool

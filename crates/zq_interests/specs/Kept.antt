@@ -12,7 +12,7 @@ use Rattle.zq_key.specs.Key.{intersects, is_key}
 use Rattle.zq_index.specs.Holders.{AreListed, Place, place_cmp}
 use Rattle.zq_index.specs.Texts.{Lists, at_text, text_cmp}
 use Rattle.zq_interests.specs.declared.types.InterestEntry.{InterestEntry}
-use Rattle.zq_interests.specs.Interests.{Interests, at, interest_at}
+use Rattle.zq_interests.specs.Interests.{Interests, at, interest_at, same_asked}
 
 -- places by the texts of keys
 abbrev pub Keyed : Type 0
@@ -43,13 +43,6 @@ is_same key p t q = is_at (text_cmp key) t && is_at (place_cmp p) q
 abbrev pub is_kept : Option (List ℕ) → Place → Shelf → Bool
 is_kept None p s = has_place p s.all
 is_kept (Some key) p s = is_under key p s.keyed
-
--- whether the same is asked for
-abbrev pub same_asked : Option (List ℕ) → Option (List ℕ) → Bool
-same_asked None None = true
-same_asked None (Some b) = false
-same_asked (Some a) None = false
-same_asked (Some a) (Some b) = is_at (text_cmp a) b
 
 -- it is the place under what is asked for
 abbrev pub is_spot : Option (List ℕ) → Place → Option (List ℕ) → Place → Bool

@@ -1,7 +1,8 @@
 //! The interests of one face, by id.
 ghost use Rattle.std.specs.Prelude.{◌≡◌, ◌&&◌, [], not, ℕ, List, Option, None, OnOk, OnErr, IfOk, IsTrue};
 ghost use Rattle.std.specs.List.{list_any};
-ghost use Rattle.std.specs.Map.{remove_entry};
+ghost use Rattle.std.specs.List.Sorted.{IsStrictlySortedBy};
+ghost use Rattle.std.specs.Map.{keys_of, remove_entry};
 ghost use Rattle.std.specs.Option.{option_copied};
 ghost use Rattle.std.specs.BTreeMap.{insert_entry, is_at};
 ghost use Rattle.std.specs.Ordering.{nat_cmp};
@@ -43,6 +44,14 @@ pub(crate) fn meets(asked: &Option<Key>, key: &str) -> bool
     }
 }
 
+/// Whether the interest asks for the key, and numbers may be declared for keys.
+pub(crate) fn wants_keyed(entry: &InterestEntry, key: &str) -> bool
+    requires { IsTrue (is_key key.now) }
+    ensures { (id : ℕ) → result ≡ wants_keyed key.now (id, entry.now) }
+{
+    entry.keys && meets(&entry.key, key)
+}
+
 /// Whether one of the interests asks for the key.
 fn any_wants(entries: &BTreeMap<u32, InterestEntry>, key: &str) -> bool
     requires { IsTrue (is_key key.now) }
@@ -63,6 +72,33 @@ fn any_keyed(entries: &BTreeMap<u32, InterestEntry>, key: &str) -> bool
 {
     for (_, entry) in entries {
         if entry.keys && meets(&entry.key, key) {
+            return true;
+        }
+    }
+    false
+}
+
+/// Whether an interest under another id asks for the key.
+fn any_besides(entries: &BTreeMap<u32, InterestEntry>, id: u32, key: &str) -> bool
+    requires { IsTrue (is_key key.now) }
+    ensures { result ≡ list_any (wants key.now) (remove_entry (is_at (nat_cmp id)) entries.now.entries) }
+{
+    for (other, entry) in entries {
+        if *other != id && meets(&entry.key, key) {
+            return true;
+        }
+    }
+    false
+}
+
+/// Whether an interest under another id asks for the key, and numbers may be declared for keys.
+fn any_keyed_besides(entries: &BTreeMap<u32, InterestEntry>, id: u32, key: &str) -> bool
+    requires { IsTrue (is_key key.now) }
+    ensures any { result ≡ list_any (wants_keyed key.now) (remove_entry (is_at (nat_cmp id)) entries.now.entries) }
+    ensures ordered { IsStrictlySortedBy nat_cmp (keys_of entries.now.entries) }
+{
+    for (other, entry) in entries {
+        if *other != id && entry.keys && meets(&entry.key, key) {
             return true;
         }
     }
@@ -148,5 +184,23 @@ impl Asked {
         ensures { result ≡ list_any (wants_keyed key.now) self.now }
     {
         any_keyed(&self.entries, key)
+    }
+
+    /// Whether an interest under another id asks for the key.
+    pub(crate) fn wants_besides(&self, id: u32, key: &str) -> bool
+        requires { IsTrue (is_key key.now) }
+        ensures { result ≡ list_any (wants key.now) (remove_entry (is_at (nat_cmp id)) self.now) }
+    {
+        any_besides(&self.entries, id, key)
+    }
+
+    /// Whether an interest would ask for the key, and numbers might be declared for keys, if this one stood
+    /// under the id.
+    pub(crate) fn wants_keyed_with(&self, id: u32, entry: &InterestEntry, key: &str) -> bool
+        requires { IsTrue (is_key key.now) }
+        ensures { result ≡ list_any (wants_keyed key.now) (insert_entry nat_cmp self.now id entry.now) }
+    {
+        let others = any_keyed_besides(&self.entries, id, key);
+        wants_keyed(entry, key) || others
     }
 }

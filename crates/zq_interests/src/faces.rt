@@ -2,12 +2,14 @@
 ghost use Rattle.std.specs.Prelude.{◌≡◌, None, OnOk, OnErr, IfOk, IsTrue, is_some, true};
 ghost use Rattle.std.specs.Option.{option_copied};
 ghost use Rattle.zq_key.specs.Key.{is_key};
-ghost use Rattle.zq_interests.specs.Interests.{asks_for, at, closed_face, has_keyed, interest_at, with_interest, without_interest};
+ghost use Rattle.zq_interests.specs.Interests.{asks_another, asks_for, at, closed_face, has_keyed, interest_at, with_interest, without_interest};
 
-use crate::asked::Asked;
+use crate::asked::{Asked, wants_keyed};
+use crate::shelf::same_asked;
 use crate::types::InterestEntry;
 use std::alloc::Global;
 use std::collections::BTreeMap;
+use zq_key::Key;
 use zq_key::memory::OutOfMemory;
 
 /// What each face asks, by number.
@@ -127,6 +129,45 @@ pub(crate) fn face_keyed(faces: &AskedMap, face: u32, key: &str) -> bool
 {
     match faces.get(&face) {
         Some(asked) => asked.wants_keyed(key),
+        None => false,
+    }
+}
+
+/// Whether the face asks for the key under another id.
+pub(crate) fn face_asks_besides(faces: &AskedMap, face: u32, id: u32, key: &str) -> bool
+    requires { IsTrue (is_key key.now) }
+    ensures { result ≡ asks_for face key.now (without_interest face id faces.now.entries) }
+{
+    match faces.get(&face) {
+        Some(asked) => asked.wants_besides(id, key),
+        None => false,
+    }
+}
+
+/// Whether the face would ask for the key, and numbers might be declared for keys, if it asked this under
+/// the id.
+pub(crate) fn face_keyed_with(
+    faces: &AskedMap,
+    face: u32,
+    id: u32,
+    entry: &InterestEntry,
+    key: &str,
+) -> bool
+    requires { IsTrue (is_key key.now) }
+    ensures { result ≡ has_keyed face key.now (with_interest face id entry.now faces.now.entries) }
+{
+    match faces.get(&face) {
+        Some(asked) => asked.wants_keyed_with(id, entry, key),
+        None => wants_keyed(entry, key),
+    }
+}
+
+/// Whether the face asks for something else under the id.
+pub(crate) fn face_asks_another(faces: &AskedMap, face: u32, id: u32, asked: Option<&Key>) -> bool
+    ensures { result ≡ asks_another face id (option_copied asked.entry) faces.now.entries }
+{
+    match get_interest(faces, face, id) {
+        Some(entry) => !same_asked(&entry.key, asked),
         None => false,
     }
 }

@@ -2,15 +2,19 @@
 ghost use Rattle.std.specs.Prelude.{◌≡◌, [], OnOk, OnErr, IfOk, IsTrue};
 ghost use Rattle.std.specs.Option.{option_copied, option_map};
 ghost use Rattle.zq_key.specs.Key.{is_key};
-ghost use Rattle.zq_interests.specs.Interests.{asks_for, askers, at, closed_face, has_keyed, interest_at, with_interest, without_interest};
+ghost use Rattle.zq_interests.specs.Interests.{asks_another, asks_for, askers, at, closed_face, has_keyed, interest_at, with_interest, without_interest};
 
-use crate::faces::{AskedMap, face_asks, face_keyed, get_interest};
+use crate::faces::{
+    AskedMap, face_asks, face_asks_another, face_asks_besides, face_keyed, face_keyed_with,
+    get_interest,
+};
 use crate::kept::{close_kept, end_kept, kept_askers, put_kept};
 use crate::shelf::Shelf;
 use crate::types::{FaceList, InterestEntry};
 use std::alloc::Global;
 use std::collections::BTreeMap;
 use std::marker::Model;
+use zq_key::Key;
 use zq_key::memory::OutOfMemory;
 use zq_key::message::FaceId;
 
@@ -101,6 +105,23 @@ impl Interests {
         face_asks(&self.faces, face.0, key)
     }
 
+    /// Whether an interest of the face under another id asks for the key, so that it asks for it once this
+    /// one has ended. It looks at this face's interests alone.
+    pub fn asks_besides(&self, face: FaceId, id: u32, key: &str) -> bool
+        requires { IsTrue (is_key key.now) }
+        ensures { result ≡ asks_for face.0 key.now (without_interest face.0 id self.now) }
+    {
+        face_asks_besides(&self.faces, face.0, id, key)
+    }
+
+    /// Whether the face asks for something else under the id: for another key, or for all where this is a
+    /// key, or the other way round.
+    pub fn asks_another(&self, face: FaceId, id: u32, asked: Option<&Key>) -> bool
+        ensures { result ≡ asks_another face.0 id (option_copied asked.entry) self.now }
+    {
+        face_asks_another(&self.faces, face.0, id, asked)
+    }
+
     /// Whether an interest of the face asks for the key, and numbers may be declared for keys. It looks at
     /// this face's interests alone.
     pub fn has_keyed(&self, face: FaceId, key: &str) -> bool
@@ -108,6 +129,20 @@ impl Interests {
         ensures { result ≡ has_keyed face.0 key.now self.now }
     {
         face_keyed(&self.faces, face.0, key)
+    }
+
+    /// The same once the face asks this under the id.
+    pub(crate) fn has_keyed_with(
+        &self,
+        face: FaceId,
+        id: u32,
+        entry: &InterestEntry,
+        key: &str,
+    ) -> bool
+        requires { IsTrue (is_key key.now) }
+        ensures { result ≡ has_keyed face.0 key.now (with_interest face.0 id entry.now self.now) }
+    {
+        face_keyed_with(&self.faces, face.0, id, entry, key)
     }
 
     /// The faces that ask for the key, in order of their numbers, each once. They are found by the texts of

@@ -36,7 +36,7 @@ fn leave_old(
     ensures { (other : Option (List ℕ)) (q : Place) → is_kept other q shelf.new ≡ (not (is_left before.now asked.now place other q) && is_kept other q shelf.old) }
 {
     if let Some(old) = before {
-        if !same_asked(&old.key, asked) {
+        if !same_asked(&old.key, asked.as_ref()) {
             shelf.take(&old.key, place);
         }
     }

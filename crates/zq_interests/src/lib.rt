@@ -7,6 +7,7 @@
 //! - `walk`: the faces of interests whose keys meet a key
 //! - `kept`: the interests of all faces, and where they are kept
 //! - `interests`: `Interests`, the same as one value
+//! - `numbers`: which faces want numbers for keys, also with an interest that is not put yet
 #![tactic(auto)]
 
 mod asked;
@@ -14,6 +15,7 @@ mod faces;
 pub mod interests;
 mod kept;
 mod keyed;
+pub mod numbers;
 mod places;
 mod shelf;
 pub mod types;

@@ -1,12 +1,13 @@
 //! Where interests are kept by what they ask for.
-ghost use Rattle.std.specs.Prelude.{◌≡◌, ◌||◌, ◌&&◌, [], ◌++◌, not, ℕ, List, Option, OnOk, OnErr, IfOk, IsTrue, fold};
+ghost use Rattle.std.specs.Prelude.{◌≡◌, ◌||◌, ◌&&◌, [], ◌++◌, not, ℕ, List, Option, OnOk, OnErr, IfOk, IsTrue, fold, option_copied};
 ghost use Rattle.std.specs.List.{flat_map};
 ghost use Rattle.std.specs.List.Sorted.{IsStrictlySortedBy};
 ghost use Rattle.std.specs.Map.{keys_of};
 ghost use Rattle.zq_key.specs.Key.{is_key};
 ghost use Rattle.zq_index.specs.Holders.{Place};
 ghost use Rattle.zq_index.specs.Texts.{text_cmp};
-ghost use Rattle.zq_interests.specs.Kept.{is_kept, is_spot, met_faces, same_asked};
+ghost use Rattle.zq_interests.specs.Interests.{same_asked};
+ghost use Rattle.zq_interests.specs.Kept.{is_kept, is_spot, met_faces};
 
 use crate::keyed::{KeyedMap, put_keyed, take_keyed};
 use crate::places::PlaceSet;
@@ -40,8 +41,8 @@ impl Model for Shelf {
 }
 
 /// Whether the same is asked for.
-pub(crate) fn same_asked(a: &Option<Key>, b: &Option<Key>) -> bool
-    ensures { result ≡ same_asked a.now b.now }
+pub(crate) fn same_asked(a: &Option<Key>, b: Option<&Key>) -> bool
+    ensures { result ≡ same_asked a.now (option_copied b.entry) }
 {
     match (a, b) {
         (None, None) => true,

@@ -1,0 +1,30 @@
+use Rattle.std.proofs.Common.{◌∙◌, sym, ap}
+use Rattle.std.specs.Prelude.{not, ◌&&◌, ◌||◌}
+use Rattle.std.specs.Cmp.{nat_cmp_total}
+use Rattle.std.specs.List.{list_any}
+use Rattle.std.proofs.lemmas.Map.Lookups.{exact_unsigned}
+use Rattle.zq_key.proofs.Lookups.{apart}
+use Rattle.zq_interests.specs.Interests.{Asked, meets, wants_keyed}
+use Rattle.zq_interests.proofs.Besides.{any_left, other}
+use Rattle.zq_interests.proofs.asked.any_keyed_besides.Goals as goal
+
+pub returns-then-meets-clause-any : goal.returns-then-meets-clause-any
+returns-then-meets-clause-any c =
+    let id = c.args.id in
+    let key = c.args.key.now in
+    let test = wants_keyed key in
+    let rest : Asked = c.next.new.self in
+    sym (any_left test id c.args.entries.now.entries c.into_iter-other-iterator.ensures.into_iter_gives.5
+    ∙ sym c.loop-other.invariant
+    ∙ ap (list_any (other test id)) c.in-Some.ensures.steps
+    ∙ ap (λ b. (not b && test (c.in-Some.other.now, c.in-Some.entry.now)) || list_any (other test id) rest) (apart nat_cmp_total exact_unsigned id c.in-Some.other.now (λ e. c.if-other-id.true (sym e)))
+    ∙ ap (λ b. (b && meets c.in-Some.entry.now.key key) || list_any (other test id) rest) c.if-entry.true
+    ∙ ap (λ b. b || list_any (other test id) rest) (sym c.meets.ensures ∙ c.if-meets.true))
+
+pub returns-clause-any : goal.returns-clause-any
+returns-clause-any c =
+    let id = c.args.id in
+    let test = wants_keyed c.args.key.now in
+    sym (any_left test id c.args.entries.now.entries c.into_iter-other-iterator.ensures.into_iter_gives.5
+    ∙ sym c.loop-other.invariant
+    ∙ ap (list_any (other test id)) c.in-None.ensures.steps.0)
