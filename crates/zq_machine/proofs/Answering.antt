@@ -17,7 +17,7 @@ use Rattle.zq_index.specs.Texts.{text_cmp}
 use Rattle.zq_trees.specs.declared.types.Telling.{Telling as TreeTelling}
 use Rattle.zq_trees.specs.Tellings.{in_order, telling_cmp}
 use Rattle.zq_interests.specs.declared.types.InterestEntry.{InterestEntry}
-use Rattle.zq_interests.specs.Interests.{Interests, interest_at, interests_of, meets, with_interest, without_interest}
+use Rattle.zq_interests.specs.Interests.{Interests, same_asked, interest_at, interests_of, meets, with_interest, without_interest}
 use Rattle.zq_told.specs.declared.types.FaceDues.{FaceDues}
 use Rattle.zq_told.specs.declared.types.Way.{Way}
 use Rattle.zq_told.specs.declared.types.Way.TheVariants.{Answering, Ending}
@@ -32,11 +32,12 @@ use Rattle.zq_told.proofs.Ordered.{tells_in_order}
 use Rattle.zq_tables.specs.declared.said.Said.{Said}
 use Rattle.zq_told.specs.declared.types.ToldEntry.{ToldEntry}
 use Rattle.zq_message.specs.declared.message.QueryableInfoType.{QueryableInfoType}
-use Rattle.zq_key.proofs.Lookups.{each_entry}
+use Rattle.zq_key.proofs.Lookups.{each_entry, same_key}
+use Rattle.zq_index.proofs.Orders.{text_exact, text_total}
 use Rattle.std.proofs.lemmas.Cmp.{nat_cmp_total}
 use Rattle.std.proofs.lemmas.Map.Lookups.{exact_unsigned}
 use Rattle.zq_machine.specs.Configs.{Settings}
-use Rattle.zq_machine.specs.Deciding.{accepted, causes, refusal_of, same_key, told_of}
+use Rattle.zq_machine.specs.Deciding.{accepted, causes, refusal_of, told_of}
 use Rattle.zq_machine.specs.Due.{due, due_keys, met_keys}
 use Rattle.zq_machine.specs.Keeping.{IsNear, greatest_with, if_told, with_told, is_due_at}
 use Rattle.zq_machine.specs.Messages.{TellingBody, all_told, from_hat, answered_by}
@@ -56,14 +57,14 @@ use Rattle.zq_machine.proofs.NeighbourTold.{left_here, told_here}
 use Rattle.zq_machine.proofs.Sifting.{in_order_stays}
 
 -- ---- keys of interests that are the same
-same_keys : (a b : Option (List ℕ)) → not (same_key a b) ≡ false → a ≡ b
+same_keys : (a b : Option (List ℕ)) → not (same_asked a b) ≡ false → a ≡ b
 same_keys None None e = refl
 same_keys None (Some b) e = absurd (true≢false e)
 same_keys (Some a) None e = absurd (true≢false e)
-same_keys (Some a) (Some b) e = ap Some (by (bytes_eq a b) refl e)
+same_keys (Some a) (Some b) e = ap Some (by (is_at (text_cmp a) b) refl e)
   where
-    by : (x : Bool) → bytes_eq a b ≡ x → not x ≡ false → a ≡ b
-    by true is f = (bytes_eq-Decides a b).0 is
+    by : (x : Bool) → is_at (text_cmp a) b ≡ x → not x ≡ false → a ≡ b
+    by true is f = same_key text_total text_exact a b is
     by false is f = absurd (true≢false f)
 
 -- ---- one face's rows
@@ -109,7 +110,7 @@ module _ (s : State) (face : FaceId) (id : ℕ) (keys : Bool) (sd : Option Said)
   near = answer_told s.core more s.core.ears face.0 asked
 
   same : (old : InterestEntry) → at id (interests_of face.0 s.core.interests) ≡ Some old → old.key ≡ asked.key
-  same old there = same_keys old.key asked.key (sym (ap (λ o. option_map_or (λ (i : InterestEntry). not (same_key i.key asked.key)) o false) there) ∙ (all_passed (causes s.core (hearing face id keys sd)) h).1.1.1.0)
+  same old there = same_keys old.key asked.key (sym (ap (λ o. option_map_or (λ (i : InterestEntry). not (same_asked i.key asked.key)) o false) there) ∙ (all_passed (causes s.core (hearing face id keys sd)) h).1.1.1.0)
 
   law : AskingTold s.core s.core.interests more s.core.ears face.0 asked
   law = asking_keeps s.core s.core.interests s.core.ears face.0 id asked same

@@ -14,9 +14,10 @@ use Rattle.zq_query.specs.Records.{is_pending, lacks_reply}
 use Rattle.zq_machine.specs.declared.call.Refusal.TheVariants as refusal
 use Rattle.zq_machine.specs.State.{Core, hat_of, has_declared_in, clashes_in}
 use Rattle.zq_machine.specs.TextCalls.{TextCall, opening, closing, naming, unnaming, declaring, withdrawing, asking, replying, ending, reporting, passing, listing, finalizing, announcing, retracting, networking, tabling, hearing, unhearing}
-use Rattle.zq_machine.specs.Deciding.{asks_another, clashes, entry_by, entry_of, first_of, has_declared, lacks_face_number, lacks_router, refusal_of, same_key, unknown_face}
+use Rattle.std.specs.Ordering.{is_eq}
+use Rattle.zq_machine.specs.Deciding.{clashes, entry_by, entry_of, first_of, has_declared, lacks_face_number, lacks_router, refusal_of, unknown_face}
 use Rattle.zq_interests.specs.declared.types.InterestEntry.{InterestEntry}
-use Rattle.zq_interests.specs.Interests.{interest_at}
+use Rattle.zq_interests.specs.Interests.{asks_another, interest_at, same_asked}
 use Rattle.zq_machine.specs.Moved.{move_asked, move_core, move_text}
 use Rattle.zq_machine.specs.Selecting.{asked_by}
 use Rattle.zq_machine.proofs.DuesMoved.{interest_there}
@@ -43,16 +44,16 @@ module _ (φ : List ℕ → List ℕ) (keeps : Keeps φ) (c : Core) where
   entry_there : (face : FaceId) (node : ℕ) (text : List ℕ) → entry_of face node (φ text) (move_core φ c) ≡ entry_of face node text c
   entry_there face node text = ap (option_and_then (entry_by face.0 node (φ text))) (own_found φ c face.0) ∙ entry_moved φ keeps face.0 node text (hat_of face.0 c)
 
-  same_still : (a b : Option (List ℕ)) → same_key (option_map φ a) (option_map φ b) ≡ same_key a b
+  same_still : (a b : Option (List ℕ)) → same_asked (option_map φ a) (option_map φ b) ≡ same_asked a b
   same_still None None = refl
   same_still None (Some b) = refl
   same_still (Some a) None = refl
-  same_still (Some a) (Some b) = keeps.same a b
+  same_still (Some a) (Some b) = ap is_eq (keeps.order a b)
 
-  another_moved : (face : FaceId) (id : ℕ) (asked : InterestEntry) → asks_another face id (move_asked φ asked) (move_core φ c) ≡ asks_another face id asked c
-  another_moved face id asked = ap (λ o. option_map_or (λ (i : InterestEntry). not (same_key i.key (option_map φ asked.key))) o false) (interest_there φ keeps face.0 id c.interests) ∙ by (interest_at face.0 id c.interests)
+  another_moved : (face : FaceId) (id : ℕ) (asked : InterestEntry) → asks_another face.0 id (option_map φ asked.key) (move_core φ c).interests ≡ asks_another face.0 id asked.key c.interests
+  another_moved face id asked = ap (λ o. option_map_or (λ (i : InterestEntry). not (same_asked i.key (option_map φ asked.key))) o false) (interest_there φ keeps face.0 id c.interests) ∙ by (interest_at face.0 id c.interests)
     where
-      by : (o : Option InterestEntry) → option_map_or (λ (i : InterestEntry). not (same_key i.key (option_map φ asked.key))) (option_map (move_asked φ) o) false ≡ option_map_or (λ (i : InterestEntry). not (same_key i.key asked.key)) o false
+      by : (o : Option InterestEntry) → option_map_or (λ (i : InterestEntry). not (same_asked i.key (option_map φ asked.key))) (option_map (move_asked φ) o) false ≡ option_map_or (λ (i : InterestEntry). not (same_asked i.key asked.key)) o false
       by None = refl
       by (Some i) = ap not (same_still i.key asked.key)
 

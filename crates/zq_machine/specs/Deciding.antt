@@ -3,7 +3,6 @@ use Rattle.std.specs.Prelude.{codes, ℕ, ◌+◌, ◌-◌, ◌^◌, ◌==◌, m
 use Rattle.std.specs.List.{cons_option, flat_map}
 use Rattle.std.specs.Option.{option_and_then, option_map, option_map_or}
 use Rattle.std.specs.Ordering.{nat_cmp}
-use Rattle.std.specs.Str.{bytes_eq}
 use Rattle.std.specs.BTreeMap.{is_at, insert_entry}
 use Rattle.std.specs.Map.{remove_entry}
 use Rattle.zq_message.specs.declared.message.FaceId.{FaceId}
@@ -22,8 +21,7 @@ use Rattle.zq_hat.specs.Kept.{registered, unregistered, without_face}
 use Rattle.zq_hat.specs.Marks.{finalized}
 use Rattle.zq_hat.specs.Routers.{announced, entry_at, networked, noded, retracted, source_at}
 use Rattle.zq_hat.specs.State.{HatState}
-use Rattle.zq_interests.specs.declared.types.InterestEntry.{InterestEntry}
-use Rattle.zq_interests.specs.Interests.{Interests, closed_face, interest_at, with_interest, without_interest}
+use Rattle.zq_interests.specs.Interests.{Interests, asks_another, closed_face, interest_at, with_interest, without_interest}
 use Rattle.zq_told.specs.Ears.{Ears}
 use Rattle.zq_trees.specs.Nets.{is_zid}
 use Rattle.zq_query.specs.declared.records.Final.{Final}
@@ -61,13 +59,6 @@ first_of (c ∷ cs) = if c.0 then Some c.1 else first_of cs
 -- the id stands for another key at the face
 abbrev pub clashes : FaceId → ℕ → List ℕ → Core → Bool
 clashes face id key c = clashes_in face.0 id key (hat_of face.0 c)
-
--- the keys are the same, none counting as a key of its own
-abbrev pub same_key : Option (List ℕ) → Option (List ℕ) → Bool
-same_key None None = true
-same_key None (Some b) = false
-same_key (Some a) None = false
-same_key (Some a) (Some b) = bytes_eq a b
 
 -- the face declared the id
 abbrev pub has_declared : FaceId → ℕ → Core → Bool
@@ -229,10 +220,6 @@ announced_by face node key info h = option_map_or (λ (z : Zid). announced z.0 k
 abbrev pub retracted_by : ℕ → ℕ → List ℕ → HatState → HatState
 retracted_by face node key h = option_map_or (λ (z : Zid). retracted z.0 key h) (source_at face node h) h
 
--- an interest of the face under the id asks for another key, or for all where this one has a key, or the other way round
-abbrev pub asks_another : FaceId → ℕ → InterestEntry → Core → Bool
-asks_another face id asked c = option_map_or (λ (i : InterestEntry). not (same_key i.key asked.key)) (interest_at face.0 id c.interests) false
-
 -- what decides after a call that was accepted, but for that
 abbrev pub changed : Core → TextCall → Core
 changed c (opening o) = with_face o c
@@ -312,7 +299,7 @@ causes c (networking r net) = (not (has_hat r c), refusal.UnknownRegion) ∷ []
 causes c (tabling face ids) = unknown_face face c ∷ []
 causes c (hearing face id keys s) =
     unknown_face face c ∷ (option_map_or is_unscoped s false, refusal.UnknownScope) ∷ (not (option_map_or says_key s true), refusal.InvalidKeyExpr)
-    ∷ (asks_another face id (asked_by keys s) c, refusal.IdInUse) ∷ (lacks_told c (hearing face id keys s), refusal.NoFreeId) ∷ []
+    ∷ (asks_another face.0 id (asked_by keys s).key c.interests, refusal.IdInUse) ∷ (lacks_told c (hearing face id keys s), refusal.NoFreeId) ∷ []
 causes c (unhearing face id) = unknown_face face c ∷ (is_none (interest_at face.0 id c.interests), refusal.UnknownId) ∷ []
 
 -- the refusal of a call, if some cause of it holds
