@@ -18,7 +18,7 @@ use Rattle.zq_told.specs.declared.plan.Account.{Account}
 use Rattle.zq_told.specs.Ears.{Ear, Ears, Told, at_face}
 use Rattle.zq_told.specs.Telling.{KeyDue, Row, entry_for, is_above, put_row, tell_face, tell_key, tell_keys, tellings_for, with_account}
 use Rattle.zq_told.specs.Laws.{InOrder, takes_id}
-use Rattle.zq_told.specs.Leaving.{AnswersAll, EndsQuietly, HaveIds, LacksExactly, StaysInOrder, ToldAimed, is_too_great, lacks_there, news_of, takes_ids}
+use Rattle.zq_told.specs.Leaving.{AnswersAll, EndsNeedNone, EndsQuietly, HaveIds, LacksExactly, StaysInOrder, ToldAimed, is_too_great, lacks_there, news_of, takes_ids}
 use Rattle.zq_told.proofs.Slotted.{row_sorted}
 use Rattle.zq_told.proofs.Settling.{told_is}
 use Rattle.zq_told.proofs.Differing.{counted}
@@ -127,3 +127,19 @@ module _ (way : Way) (ears : Ears) where
   enough (d ∷ ds) ids none =
       let both = neither (takes_ids way ears d) (list_any (takes_ids way ears) ds) none in
       (λ i. enough_by d (at_face d.face.0 ears) refl ids both.0 i || enough ds ids both.1 i)
+
+-- ---- the end of an interest
+none_taken : (told : Told) (keys : List KeyDue) → list_any (takes_id Ending told) keys ≡ false
+none_taken told [] = refl
+none_taken told (k ∷ ks) = none_taken told ks
+
+none_there : (d : FaceDues) (o : Option Ear) → option_map_or (λ (e : Ear). list_any (takes_id Ending e.told) d.keys) o false ≡ false
+none_there d None = refl
+none_there d (Some e) = none_taken e.told d.keys
+
+none_take : (ears : Ears) (dues : List FaceDues) → list_any (takes_ids Ending ears) dues ≡ false
+none_take ears [] = refl
+none_take ears (d ∷ ds) = λ i. none_there d (at_face d.face.0 ears) i || none_take ears ds i
+
+pub never_lacks : EndsNeedNone
+never_lacks ears dues ids = lacks_exactly Ending ears dues ∙ enough Ending ears dues ids (none_take ears dues)

@@ -1,8 +1,8 @@
 -- What each face was told.
 use Rattle.std.specs.Prelude.{ℕ, List, [], Option}
-use Rattle.std.specs.Option.{option_and_then, option_map}
+use Rattle.std.specs.Option.{option_and_then, option_map, option_map_or}
 use Rattle.std.specs.Ordering.{nat_cmp}
-use Rattle.std.specs.Map.{lookup, remove_entry}
+use Rattle.std.specs.Map.{keys_of, lookup, remove_entry}
 use Rattle.std.specs.BTreeMap.{insert_entry, is_at}
 use Rattle.zq_index.specs.Texts.{at_text}
 use Rattle.zq_told.specs.declared.types.ToldEntry.{ToldEntry}
@@ -27,6 +27,10 @@ at_face n es = lookup (is_at (nat_cmp n)) es
 -- what the face was told of the key
 abbrev pub told_at : ℕ → List ℕ → Ears → Option ToldEntry
 told_at n key ears = option_and_then (λ (e : Ear). at_text key e.told) (at_face n ears)
+
+-- the keys that the face was told, in order
+abbrev pub told_keys : ℕ → Ears → List (List ℕ)
+told_keys n ears = option_map_or (λ (e : Ear). keys_of e.told) (at_face n ears) []
 
 -- the id that the face was given last
 abbrev pub last_at : ℕ → Ears → Option ℕ

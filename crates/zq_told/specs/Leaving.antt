@@ -70,6 +70,10 @@ LessDue =
     (way : Way) (ears : Ears) (dues : List FaceDues) → list_any (takes_ids way ears) dues ≡ false
     → (HaveIds ears → lacks_ids way ears dues ≡ false) × ((n : ℕ) → last_at n (tell_due way ears dues) ≡ last_at n ears)
 
+-- the end of an interest lacks no ids
+abbrev pub EndsNeedNone : Type 0
+EndsNeedNone = (ears : Ears) (dues : List FaceDues) → HaveIds ears → lacks_ids Ending ears dues ≡ false
+
 -- the call looks at the key for the face
 abbrev pub is_looked_at : List FaceDues → ℕ → List ℕ → Bool
 is_looked_at dues n key = list_any (λ (d : FaceDues). (n == d.face.0) && list_any (λ (k : KeyDue). bytes_eq key k.0) d.keys) dues

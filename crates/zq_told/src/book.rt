@@ -1,6 +1,7 @@
 //! What one face was told, and the id that it was given last.
-ghost use Rattle.std.specs.Prelude.{◌≡◌, [], ℕ, List, true, OnOk, fold};
+ghost use Rattle.std.specs.Prelude.{◌≡◌, [], ℕ, List, true, OnOk, IfOk, fold};
 ghost use Rattle.std.specs.List.{All};
+ghost use Rattle.std.specs.Map.{keys_of};
 ghost use Rattle.zq_index.specs.Texts.{at_text};
 ghost use Rattle.zq_told.specs.Rooms.{IsBare, IsRoomy, has_room};
 ghost use Rattle.zq_told.specs.Telling.{put_row};
@@ -10,6 +11,7 @@ use crate::types::ToldEntry;
 use std::alloc::Global;
 use std::marker::Model;
 use zq_key::memory::OutOfMemory;
+use zq_key::message::TextList;
 use zq_key::text::Text;
 
 /// The id given last, and what was told of each key.
@@ -116,6 +118,13 @@ impl Book {
         ensures { result ≡ at_text key.now self.now.shelf.told }
     {
         self.slots.get(key)
+    }
+
+    /// The keys of which something was told, in order.
+    pub(crate) fn told_keys(&self, alloc: Global) -> Result<TextList, OutOfMemory>
+        ensures { IfOk result (λ ks. ks ≡ keys_of self.now.shelf.told) }
+    {
+        self.slots.told_keys(alloc)
     }
 
     /// Room for each row that tells.

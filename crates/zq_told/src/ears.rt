@@ -1,7 +1,7 @@
 //! What all faces were told. A call is planned, room is made for what it tells, and the plan is put:
 //! only the last step changes what was told, and it cannot fail.
 ghost use Rattle.std.specs.Prelude.{◌≡◌, [], true, false, IfOk, OnOk, OnErr, IsErrOf};
-ghost use Rattle.zq_told.specs.Ears.{closed, last_at, opened, told_at};
+ghost use Rattle.zq_told.specs.Ears.{closed, last_at, opened, told_at, told_keys};
 ghost use Rattle.zq_told.specs.Rooms.{AreBare, IsReady, ears_of};
 ghost use Rattle.zq_told.specs.Telling.{lacks_ids, put_plan, tell_faces};
 
@@ -11,8 +11,9 @@ use crate::types::{FaceDues, FacePlan, Planned, TellRefusal, ToldEntry, Way};
 use std::alloc::Global;
 use std::collections::BTreeMap;
 use std::marker::Model;
+use zq_key::items::Items;
 use zq_key::memory::OutOfMemory;
-use zq_key::message::FaceId;
+use zq_key::message::{FaceId, TextList};
 
 /// What each face was told, and the id that it was given last.
 #[derive(Drop)]
@@ -63,6 +64,17 @@ impl Ears {
         match self.books.get(&face.0) {
             Some(book) => book.get(key),
             None => None,
+        }
+    }
+
+    /// The keys that the face was told, in order; none where it is not there. It looks at this face
+    /// alone. Refused only where memory is lacking.
+    pub fn told_keys(&self, alloc: Global, face: FaceId) -> Result<TextList, OutOfMemory>
+        ensures { IfOk result (λ ks. ks ≡ told_keys face.0 (ears_of self.now)) }
+    {
+        match self.books.get(&face.0) {
+            Some(book) => book.told_keys(alloc),
+            None => Ok(Items::new(alloc)),
         }
     }
 

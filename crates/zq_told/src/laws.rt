@@ -1,6 +1,6 @@
 //! The laws of telling, as the contracts of calls.
 ghost use Rattle.zq_told.specs.Laws.{CallKeepsUp, CountsIds, HeardIsDue, IdsAreGiven, KeepsUp, LooksUp, TellsDifference, TellsEach, TellsInOrder};
-ghost use Rattle.zq_told.specs.Leaving.{AnswersAll, Closes, EndsQuietly, KeepsFaces, LacksExactly, LessDue, Opens, StaySound, StaysInOrder, TellsAimed, TellsMeant, TellsNoOther, ToldAimed};
+ghost use Rattle.zq_told.specs.Leaving.{AnswersAll, Closes, EndsNeedNone, EndsQuietly, KeepsFaces, LacksExactly, LessDue, Opens, StaySound, StaysInOrder, TellsAimed, TellsMeant, TellsNoOther, ToldAimed};
 ghost use Rattle.std.specs.Prelude.{ℕ, List};
 ghost use Rattle.zq_told.specs.Moved.{KeepsTexts, TellsAlike};
 
@@ -95,6 +95,11 @@ pub fn lacks_exactly()
 /// Where no key is newly due to a face, no ids lack, and each face keeps the id that it was given last.
 pub fn less_due()
     ensures { LessDue }
+{}
+
+/// The end of an interest lacks no ids.
+pub fn ends_need_none()
+    ensures { EndsNeedNone }
 {}
 
 /// Each telling is to a face that is there, of a key that the call looks at for it, and of no node.

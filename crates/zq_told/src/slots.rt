@@ -1,17 +1,20 @@
 //! What was told of each key, and rooms for more: a key that is about to be told has its place before
 //! anything changes.
-ghost use Rattle.std.specs.Prelude.{◌≡◌, [], ℕ, List, true, None, Some, OnOk, OnErr, is_some};
-ghost use Rattle.std.specs.Map.{remove_entry, set_value};
+ghost use Rattle.std.specs.Prelude.{◌≡◌, [], ℕ, List, true, None, Some, OnOk, OnErr, IfOk, is_some};
+ghost use Rattle.std.specs.Map.{keys_of, remove_entry, set_value};
 ghost use Rattle.std.specs.BTreeMap.{insert_entry, is_at};
 ghost use Rattle.zq_index.specs.Texts.{at_text, text_cmp, texts_of};
-ghost use Rattle.zq_told.specs.Rooms.{IsRoomy, has_room, is_free};
+ghost use Rattle.zq_told.specs.Rooms.{IsRoomy, entries_in, has_room, is_free};
 ghost use Rattle.zq_told.specs.Telling.{put_row};
 
 use crate::types::ToldEntry;
 use std::alloc::Global;
 use std::collections::BTreeMap;
 use std::marker::Model;
+use zq_key::items::Items;
 use zq_key::memory::OutOfMemory;
+use zq_key::message::TextList;
+use zq_key::text::Text;
 
 /// Keys with their entries, or with room for one.
 type SlotMap = BTreeMap<String, Option<ToldEntry>>;
@@ -87,6 +90,19 @@ fn set_slot(slots: &mut SlotMap, key: &str, entry: Option<ToldEntry>)
     }
 }
 
+/// The keys of which something was told, in order.
+fn told_keys(slots: &SlotMap, alloc: Global) -> Result<TextList, OutOfMemory>
+    ensures { IfOk result (λ ks. ks ≡ keys_of (entries_in (texts_of slots.now.entries))) }
+{
+    let mut keys = Items::new(alloc);
+    for (key, slot) in slots {
+        if slot.is_some() {
+            keys.push(Text::new(alloc, key.as_str())?)?;
+        }
+    }
+    Ok(keys)
+}
+
 impl Slots {
     /// Nothing was told.
     pub(crate) fn new(alloc: Global) -> Slots
@@ -105,6 +121,13 @@ impl Slots {
             Some(slot) => slot,
             None => None,
         }
+    }
+
+    /// The keys of which something was told, in order.
+    pub(crate) fn told_keys(&self, alloc: Global) -> Result<TextList, OutOfMemory>
+        ensures { IfOk result (λ ks. ks ≡ keys_of self.now.told) }
+    {
+        told_keys(&self.slots, alloc)
     }
 
     /// Room for what is told of the key.
