@@ -33,7 +33,8 @@ use Rattle.zq_told.proofs.Leaving.{ends_quietly, lacks_exactly}
 use Rattle.zq_told.proofs.Reaching.{below_by}
 use Rattle.zq_machine.specs.Due.{ask_touched, due, due_keys, met_keys}
 use Rattle.zq_interests.specs.Interests.{Interests, interests_of, meets, with_interest, without_interest}
-use Rattle.zq_machine.specs.Neighbours.{answer_lacks, answer_told, asked_dues, due_on, ears_asked, ears_ended, ended_at, ended_dues, told_keys, with_dues}
+use Rattle.zq_machine.specs.Neighbours.{answer_lacks, answer_told, asked_dues, due_on, ears_asked, ears_ended, ended_at, ended_dues, with_dues}
+use Rattle.zq_told.specs.Ears.{told_keys}
 use Rattle.zq_machine.specs.Receivers.{Hears, heard_asked, heard_ended, is_news, lacks_at}
 use Rattle.zq_machine.specs.State.{Core, at}
 use Rattle.zq_machine.proofs.Changing.{number_test}

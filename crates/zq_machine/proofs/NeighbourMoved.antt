@@ -23,7 +23,8 @@ use Rattle.zq_machine.specs.Due.{due_touched, listens, met_keys}
 use Rattle.zq_interests.specs.Interests.{Interests, meets}
 use Rattle.zq_machine.specs.DueAlike.{DueAlike, ToldAlike}
 use Rattle.zq_machine.specs.Moved.{move_asked, move_core, move_interests, move_text}
-use Rattle.zq_machine.specs.Neighbours.{kept_after, kept_lack, kept_told, asked_at, asked_dues, due_on, dues_on, ended_at, ended_dues, looked_at, told_keys, with_dues, with_new, without_closed}
+use Rattle.zq_machine.specs.Neighbours.{kept_after, kept_lack, kept_told, asked_at, asked_dues, due_on, dues_on, ended_at, ended_dues, looked_at, with_dues, with_new, without_closed}
+use Rattle.zq_told.specs.Ears.{told_keys}
 use Rattle.zq_machine.specs.State.{Core}
 use Rattle.zq_machine.specs.TextCalls.{TextCall, opening, closing}
 use Rattle.zq_machine.proofs.NeighbourLooks.{looked_is}

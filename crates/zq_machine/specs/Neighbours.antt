@@ -2,7 +2,6 @@
 use Rattle.std.specs.Prelude.{ℕ, Bool, List, [], ◌∷◌, ◌++◌, filter, fold, map}
 use Rattle.std.specs.BTreeSet.{insert_key}
 use Rattle.std.specs.List.{flat_map}
-use Rattle.std.specs.Map.{keys_of}
 use Rattle.std.specs.Option.{option_map_or}
 use Rattle.zq_index.specs.Texts.{text_cmp}
 use Rattle.zq_trees.specs.declared.types.Telling.{Telling as TreeTelling}
@@ -11,7 +10,7 @@ use Rattle.zq_interests.specs.declared.types.InterestEntry.{InterestEntry}
 use Rattle.zq_interests.specs.Interests.{Interests, interest_at, meets}
 use Rattle.zq_told.specs.declared.types.FaceDues.{FaceDues}
 use Rattle.zq_told.specs.declared.types.Way.TheVariants.{Unasked, Answering, Ending}
-use Rattle.zq_told.specs.Ears.{Ear, Ears, at_face, closed, opened}
+use Rattle.zq_told.specs.Ears.{Ears, closed, opened, told_keys}
 use Rattle.zq_told.specs.Telling.{KeyDue, lacks_ids, tell_due, tell_faces}
 use Rattle.zq_machine.specs.Due.{due, due_touched, listens, met_keys}
 use Rattle.zq_machine.specs.Messages.{Telling, answered_by, from_hat}
@@ -56,10 +55,6 @@ asked_dues c ints asker asked = map (due_on c ints asker) (met_keys asked.key c)
 -- what an interest looks at: those, at the asker
 abbrev pub asked_at : Core → Interests → (asker : ℕ) → InterestEntry → List FaceDues
 asked_at c ints asker asked = with_dues asker (asked_dues c ints asker asked)
-
--- the keys that a face was told
-abbrev pub told_keys : ℕ → Ears → List (List ℕ)
-told_keys face ears = option_map_or (λ (e : Ear). keys_of e.told) (at_face face ears) []
 
 -- the keys that the asker was told and that meet what was asked for, with what is due to it
 abbrev pub ended_dues : Core → Interests → Ears → (asker : ℕ) → InterestEntry → List KeyDue

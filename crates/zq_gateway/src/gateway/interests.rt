@@ -12,7 +12,7 @@ use std::alloc::Global;
 use zq_dues::asked::{dues_asked, dues_ended};
 use zq_handing::answers::{hold_and_answer, plan_end, take_back_answered};
 use zq_handing::read::key_said;
-use zq_interests::keyed::WithInterest;
+use zq_interests::numbers::WithInterest;
 use zq_interests::types::InterestEntry;
 use zq_key::Key;
 use zq_key::memory::OutOfMemory;
@@ -78,13 +78,14 @@ impl Tables {
         }
         let dues = dues_asked(self.alloc, &self.hats, face, opened, key.as_ref())?;
         let entry = InterestEntry { key, keys };
+        let fresh = self.is_fresh(face, id, entry.key.as_ref());
         let asked = WithInterest {
             interests: &self.interests,
             face,
             id,
             entry: &entry,
         };
-        let answered = match hold_and_answer(
+        let all = match hold_and_answer(
             self.alloc,
             &self.faces,
             &asked,
@@ -95,17 +96,17 @@ impl Tables {
             entry.key.as_ref(),
             dues.as_slice(),
         ) {
-            Ok(answered) => answered,
+            Ok(all) => all,
             Err(TellRefusal::NoFreeId) => return Ok(self.refused(Refusal::NoFreeId)),
             Err(TellRefusal::OutOfMemory) => return Err(OutOfMemory),
         };
         match self.interests.put(self.alloc, face, id, entry) {
             Ok(()) => {
-                self.ears.put(answered.told.plan.as_slice());
-                Ok(self.told(answered.told.handed))
+                self.ears.put(all.plan.as_slice());
+                Ok(self.told(all.handed))
             }
             Err(_) => {
-                take_back_answered(&mut self.names, &mut self.ears, &answered, face, id);
+                take_back_answered(&mut self.names, &mut self.ears, &all, face, id, fresh);
                 Err(OutOfMemory)
             }
         }
