@@ -81,7 +81,7 @@ module _ (config : Settings) (s : State) (i : InOrder config s) (rise : AreRisin
       numbers : face_naming f.0 s.names ≡ (before s.core.faces s.core.hats s.names i.tied f.0 x.0 x.1).numbers
       numbers = numbers_are s.core.faces s.core.hats s.names i.tied f.0 x.0 x.1
 
-      abbrev now : ℕ → Asked
+      now : ℕ → Asked
       now m = option_map_or (λ (st : Standing). insert_entry nat_cmp (interests_of m ints) id (asked_at keys w st)) (standing_at m s) (interests_of m ints)
 
       at_face : with_one f.0 id (asked_by keys (said_if f w s)) ints ≡ now f.0
