@@ -192,7 +192,8 @@ impl Hat {
     /// The keys that the face declared, by id, one for each declaration.
     pub fn keys_of(&self, face: FaceId) -> Result<TextList, OutOfMemory>
         requires { has_face face.0 self.now ≡ true }
-        ensures { IfOk result (λ ks. ks ≡ keys_of_face face.0 self.now) }
+        ensures keys { IfOk result (λ ks. ks ≡ keys_of_face face.0 self.now) }
+        ensures valid { IfOk result (AllByRecursion (λ k. is_key k ≡ true)) }
     {
         match self.face(face).keys(self.alloc) {
             Ok(keys) => Ok(keys),
