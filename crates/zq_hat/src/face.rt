@@ -1,6 +1,8 @@
 //! One face of a hat.
-ghost use Rattle.std.specs.Prelude.{◌≡◌, OnOk, OnErr, IfOk, map, None};
+ghost use Rattle.std.specs.Prelude.{◌≡◌, OnOk, OnErr, IfOk, map, None, true};
+ghost use Rattle.std.specs.List.{AllByRecursion};
 ghost use Rattle.std.specs.Option.{option_copied, option_map};
+ghost use Rattle.zq_key.specs.Key.{is_key};
 ghost use Rattle.zq_hat.specs.Kept.{declaration, declare, withdraw, new_face, key_of};
 ghost use Rattle.zq_hat.specs.Marks.{is_finalized, marked};
 ghost use Rattle.zq_hat.specs.Routers.{zid_at};
@@ -51,7 +53,8 @@ impl Model for HatFace {
 
 /// Copies of the keys.
 fn keys(declared: &BTreeMap<u32, Declaration>, alloc: Global) -> Result<TextList, OutOfMemory>
-    ensures { IfOk result (λ ks. ks ≡ map key_of declared.now.entries) }
+    ensures keys { IfOk result (λ ks. ks ≡ map key_of declared.now.entries) }
+    ensures valid { IfOk result (AllByRecursion (λ k. is_key k ≡ true)) }
 {
     let mut keys = Items::new(alloc);
     for (_, declaration) in declared {
@@ -173,7 +176,8 @@ impl HatFace {
 
     /// Copies of the keys that the face declared.
     pub fn keys(&self, alloc: Global) -> Result<TextList, OutOfMemory>
-        ensures { IfOk result (λ ks. ks ≡ map key_of self.now.declared) }
+        ensures keys { IfOk result (λ ks. ks ≡ map key_of self.now.declared) }
+        ensures valid { IfOk result (AllByRecursion (λ k. is_key k ≡ true)) }
     {
         keys(&self.declared, alloc)
     }

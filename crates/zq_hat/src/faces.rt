@@ -1,6 +1,6 @@
 //! The faces of a hat, their seats and their declarations in the index.
 ghost use Rattle.std.specs.Prelude.{◌≡◌, Some, None, true, is_some, OnOk, OnErr, IfOk, fold};
-ghost use Rattle.std.specs.Map.{set_value};
+ghost use Rattle.std.specs.Map.{keys_of, set_value};
 ghost use Rattle.std.specs.BTreeMap.{is_at};
 ghost use Rattle.std.specs.BTreeSet.{insert_key};
 ghost use Rattle.std.specs.Ordering.{nat_cmp};
@@ -14,7 +14,7 @@ ghost use Rattle.zq_hat.specs.Tied.{without_declared};
 use crate::face::HatFace;
 use crate::types::{Declaration, FinalMark, NodeIds, Strategy, UnregisterEntityResult};
 use std::alloc::Global;
-use std::collections::BTreeMap;
+use std::collections::{BTreeMap, BTreeSet};
 use zq_index::holders::{FacePlace, KeyHolders};
 use zq_index::info::same_info;
 use zq_key::Key;
@@ -151,4 +151,17 @@ pub fn copy_faces(
         made.insert(*number, face.copy(alloc)?)?;
     }
     Ok(made)
+}
+
+/// The numbers of the faces join others.
+pub fn add_numbers(
+    found: &mut BTreeSet<u32>,
+    faces: &BTreeMap<u32, HatFace>,
+) -> Result<(), OutOfMemory>
+    ensures { OnOk result (found.new.keys ≡ fold (insert_key nat_cmp) found.old.keys (keys_of faces.now.entries)) }
+{
+    for (number, _) in faces {
+        found.insert(*number)?;
+    }
+    Ok(())
 }

@@ -2,7 +2,7 @@
 ghost use Rattle.std.specs.Prelude.{◌≡◌, ◌↔◌, [], Some, None, true, false, is_some, OnOk, OnErr, IfOk, IsErrOf, option_copied, option_map, IsTrue, fold, map, string_bytes};
 ghost use Rattle.zq_index.specs.Texts.{text_cmp};
 ghost use Rattle.std.specs.List.{AllByRecursion};
-ghost use Rattle.std.specs.Map.{set_value};
+ghost use Rattle.std.specs.Map.{keys_of, set_value};
 ghost use Rattle.std.specs.BTreeMap.{is_at};
 ghost use Rattle.std.specs.Ordering.{nat_cmp};
 ghost use Rattle.zq_key.specs.Key.{is_key};
@@ -26,7 +26,7 @@ ghost use Rattle.zq_hat.specs.Regions.{in_routers, strategy_at};
 
 use crate::face::HatFace;
 use crate::faces::{
-    changed, copy_faces, declare, forget, set_mark, set_nodes, take_seat, withdraw,
+    add_numbers, changed, copy_faces, declare, forget, set_mark, set_nodes, take_seat, withdraw,
 };
 use crate::merges::{add_texts, is_other, merged_but};
 use crate::offers;
@@ -192,7 +192,8 @@ impl Hat {
     /// The keys that the face declared, by id, one for each declaration.
     pub fn keys_of(&self, face: FaceId) -> Result<TextList, OutOfMemory>
         requires { has_face face.0 self.now ≡ true }
-        ensures { IfOk result (λ ks. ks ≡ keys_of_face face.0 self.now) }
+        ensures keys { IfOk result (λ ks. ks ≡ keys_of_face face.0 self.now) }
+        ensures valid { IfOk result (AllByRecursion (λ k. is_key k ≡ true)) }
     {
         match self.face(face).keys(self.alloc) {
             Ok(keys) => Ok(keys),
@@ -714,6 +715,13 @@ impl Hat {
             Strategy::Broker | Strategy::Client | Strategy::Peer => self.add_declared(keys),
             Strategy::Router => add_texts(keys, self.alloc, self.entries.by_key()),
         }
+    }
+
+    /// The numbers of the region's faces join others, in order, each once.
+    pub fn add_faces(&self, found: &mut BTreeSet<u32>) -> Result<(), OutOfMemory>
+        ensures { OnOk result (found.new.keys ≡ fold (insert_key nat_cmp) found.old.keys (keys_of self.now.faces)) }
+    {
+        add_numbers(found, &self.faces)
     }
 
     /// Sets or unsets a mark of the face: that all which it had to declare has come, at its opening
