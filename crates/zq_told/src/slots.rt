@@ -90,7 +90,8 @@ fn set_slot(slots: &mut SlotMap, key: &str, entry: Option<ToldEntry>)
 impl Slots {
     /// Nothing was told.
     pub(crate) fn new(alloc: Global) -> Slots
-        ensures { result.told ≡ [] }
+        ensures told { result.told ≡ [] }
+        ensures rooms { result.rooms ≡ [] }
     {
         Slots {
             slots: BTreeMap::new(alloc),
