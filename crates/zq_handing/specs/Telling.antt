@@ -1,5 +1,5 @@
--- The messages of what a hat tells, and how the numbers that they declare are taken back.
-use Rattle.std.specs.Prelude.{ℕ, ◌==◌, Bool, ◌&&◌, not, List, [], ◌∷◌, ◌++◌, Option, Some, None, is_none}
+-- The messages of what a hat tells, in answer to an interest or to none, and how the numbers that they declare are taken back.
+use Rattle.std.specs.Prelude.{◌≡◌, ℕ, ◌==◌, Bool, ◌&&◌, not, List, [], ◌∷◌, ◌++◌, Option, Some, None, is_none}
 use Rattle.zq_message.specs.declared.message.Declare.{Declare}
 use Rattle.zq_message.specs.declared.message.DeclareBody.{DeclareBody}
 use Rattle.zq_message.specs.declared.message.DeclareBody.TheVariants as body
@@ -10,9 +10,39 @@ use Rattle.zq_message.specs.declared.message.Message.TheVariants as message
 use Rattle.zq_message.specs.declared.message.QueryableInfoType.{QueryableInfoType}
 use Rattle.zq_message.specs.declared.message.WireExpr.{WireExpr}
 use Rattle.zq_hat.specs.declared.types.Telling.{Telling}
+use Rattle.zq_interests.specs.Interests.{Interests, has_keyed}
+use Rattle.zq_told.specs.declared.types.Way.{Way}
+use Rattle.zq_told.specs.declared.types.Way.TheVariants.{Answering, Unasked}
 use Rattle.zq_tables.specs.Naming.{NamingState, change_naming, plain, without_sent}
 use Rattle.zq_machine.specs.Handing.{Handed}
+use Rattle.zq_machine.specs.Messages.{Telling as Said, answered_by, from_hat}
 use Rattle.zq_machine.specs.Writing.{Told}
+use Rattle.zq_handing.specs.declared.tell.InterestId.{InterestId}
+
+-- ---- who wants numbers, and who is answered
+
+-- of faces and keys it says what the interests say: which faces want numbers for which keys
+abbrev pub KeyedAs : (ℕ → List ℕ → Bool) → Interests → Type 0
+KeyedAs keyed ints = (face : ℕ) (key : List ℕ) → keyed face key ≡ has_keyed face key ints
+
+-- the id of the interest, if there is one
+abbrev pub mark_of : Option InterestId → Option ℕ
+mark_of None = None
+mark_of (Some i) = Some i.id
+
+-- how faces are told: in answer to an interest, or unasked
+abbrev pub way_of : Option InterestId → Way
+way_of None = Unasked
+way_of (Some i) = Answering
+
+-- what a hat tells is told in answer to the interest of that id, if of one
+abbrev pub marked_by : Option ℕ → Telling → Said
+marked_by mark t = record (from_hat t) { interest = mark }
+
+-- it is told in answer to the interest, if there is one
+abbrev pub told_to : Option InterestId → List Said → List Said
+told_to None ts = ts
+told_to (Some i) ts = answered_by i.face i.id ts
 
 -- ---- messages
 
@@ -21,17 +51,17 @@ abbrev pub body_of : ℕ → WireExpr → Option QueryableInfoType → DeclareBo
 body_of id w None = body.UndeclareQueryable id (Some w)
 body_of id w (Some info) = body.DeclareQueryable id w info
 
--- what a hat tells, by an expression of its key
-abbrev pub declare_of : Telling → WireExpr → Declare
-declare_of t w = record { interest = None; node = t.node; body = body_of t.id w t.info }
+-- what a hat tells, by an expression of its key, in answer to the interest of that id, if of one
+abbrev pub declare_of : Option ℕ → Telling → WireExpr → Declare
+declare_of mark t w = record { interest = mark; node = t.node; body = body_of t.id w t.info }
 
 -- a hat tells that an id other than 0 ended, which it says by the id alone
 abbrev pub ends_alone : Telling → Bool
 ends_alone t = is_none t.info && not (t.id == 0)
 
 -- the end of its id, with no expression
-abbrev pub end_of : Telling → Declare
-end_of t = record { interest = None; node = t.node; body = body.UndeclareQueryable t.id None }
+abbrev pub end_of : Option ℕ → Telling → Declare
+end_of mark t = record { interest = mark; node = t.node; body = body.UndeclareQueryable t.id None }
 
 -- a number is declared for a text
 abbrev pub number_of : ℕ → List ℕ → Declare
@@ -45,6 +75,15 @@ handed_declare to d = record { to = to; number = None; reply = None; message = m
 abbrev pub handed_number : FaceId → List ℕ → Option ℕ → List Handed
 handed_number to text None = []
 handed_number to text (Some id) = handed_declare to (number_of id text) ∷ []
+
+-- all that the interest asked for was told
+abbrev pub final_of : ℕ → Declare
+final_of id = record { interest = Some id; node = 0; body = body.DeclareFinal }
+
+-- the message of that, if an interest is answered
+abbrev pub handed_final : Option InterestId → List Handed
+handed_final None = []
+handed_final (Some i) = handed_declare i.face (final_of i.id) ∷ []
 
 -- what is told, behind messages that come first
 abbrev pub behind : List Handed → Told → Told

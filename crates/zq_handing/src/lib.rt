@@ -3,11 +3,13 @@
 //! - `read`: what is asked of an expression that was read
 //! - `select`: which offers a request is handed to
 //! - `write`: the messages, written for their receivers
-//! - `tell`: declarations to faces, and the numbers of keys that they need
+//! - `tell`: declarations to faces, marked where they answer an interest, and the numbers of keys that they need
 //! - `opening`: a face that joins the others, and what it is told
 //! - `neighbours`: what is told along trees and to neighbours, with room for what it leaves of them
+//! - `answers`: interests that are answered, and what their ends leave of those who asked
 #![tactic(auto)]
 
+pub mod answers;
 pub mod neighbours;
 pub mod opening;
 pub mod read;

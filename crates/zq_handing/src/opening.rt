@@ -9,17 +9,18 @@ ghost use Rattle.zq_trees.specs.Tellings.{in_order};
 ghost use Rattle.zq_tables.specs.Naming.{no_keys};
 ghost use Rattle.zq_told.specs.declared.types.Way.TheVariants.{Unasked};
 ghost use Rattle.zq_told.specs.Ears.{at_face, closed, opened as heard_opened};
-ghost use Rattle.zq_told.specs.Rooms.{IsReady, ears_of};
+ghost use Rattle.zq_told.specs.Rooms.{AreBare, IsReady, ears_of};
 ghost use Rattle.zq_told.specs.Telling.{lacks_ids, tell_faces};
 ghost use Rattle.zq_machine.specs.Messages.{from_hat};
 ghost use Rattle.zq_machine.specs.State.{Core, at};
 ghost use Rattle.zq_machine.specs.Writing.{tell as tell_of};
 ghost use Rattle.zq_handing.specs.Neighbours.{told_with};
-ghost use Rattle.zq_handing.specs.Telling.{behind, untold};
+ghost use Rattle.zq_handing.specs.Telling.{KeyedAs, behind, untold};
 
 use crate::neighbours::{ToldAll, take_back, tell_all};
 use std::alloc::Global;
 use std::collections::BTreeMap;
+use zq_interests::numbers::Keyed;
 use zq_key::items::Items;
 use zq_key::memory::OutOfMemory;
 use zq_key::message::FaceId;
@@ -60,10 +61,12 @@ fn join(
 }
 
 /// A face joins the open ones, those that have numbers, and those of which something is kept, and is
-/// told what is due to it, as `tell_all` tells it. Where it is refused, all is as it was.
-pub fn join_and_tell(
+/// told what is due to it, as `tell_all` tells it. Where it is refused, all is as it was, and the rooms
+/// are given back.
+pub fn join_and_tell<K: Keyed>(
     alloc: Global,
     faces: &mut BTreeMap<u32, OpenFace>,
+    keyed: &K,
     names: &mut Naming,
     ears: &mut Ears,
     face: FaceId,
@@ -76,7 +79,7 @@ pub fn join_and_tell(
     requires unheard { at_face face.0 (ears_of ears.old) ≡ None }
     requires keys { lacks_ids Unasked (heard_opened face.0 last (ears_of ears.old)) dues.now ≡ false → All (λ t. key_of t.key ≡ true) (told_with (heard_opened face.0 last (ears_of ears.old)) dues.now []) }
     ensures faces { OnOk result (faces.new.entries ≡ insert_entry nat_cmp faces.old.entries face.0 opened) }
-    ensures ok { (c : Core) → c.faces ≡ insert_entry nat_cmp faces.old.entries face.0 opened → IfOk result (λ x. behind [] (tell_of c (map from_hat (in_order (told_with (heard_opened face.0 last (ears_of ears.old)) dues.now []))) (insert_entry nat_cmp names.old face.0 no_keys)) ≡ record { handed = x.handed; names = names.new }) }
+    ensures ok { (c : Core) → c.faces ≡ insert_entry nat_cmp faces.old.entries face.0 opened → KeyedAs (K.keyed keyed.now) c.interests → IfOk result (λ x. behind [] (tell_of c (map from_hat (in_order (told_with (heard_opened face.0 last (ears_of ears.old)) dues.now []))) (insert_entry nat_cmp names.old face.0 no_keys)) ≡ record { handed = x.handed; names = names.new }) }
     ensures taken { IfOk result (λ x. untold x.handed names.new ≡ insert_entry nat_cmp names.old face.0 no_keys) }
     ensures plan { IfOk result (λ x. x.plan ≡ (tell_faces Unasked (heard_opened face.0 last (ears_of ears.old)) dues.now).plan) }
     ensures ready { IfOk result (λ x. IsReady x.plan ears.new) }
@@ -92,7 +95,8 @@ pub fn join_and_tell(
         Err(_) => return Err(TellRefusal::OutOfMemory),
     }
     let none = Items::new(alloc);
-    match tell_all(alloc, faces, names, ears, dues, Items::new(alloc), none) {
+    let told = Items::new(alloc);
+    match tell_all(alloc, faces, keyed, names, ears, dues, told, none) {
         Ok(told) => Ok(told),
         Err(refusal) => {
             leave(names, faces, face);
@@ -102,8 +106,8 @@ pub fn join_and_tell(
     }
 }
 
-/// A face that joined the others and was told leaves them again, and what was told is taken back. It
-/// takes no memory.
+/// A face that joined the others and was told leaves them again; what was told is taken back, and the
+/// rooms are given back. It takes no memory.
 pub fn take_back_joined(
     faces: &mut BTreeMap<u32, OpenFace>,
     names: &mut Naming,
@@ -114,8 +118,9 @@ pub fn take_back_joined(
     ensures names { names.new ≡ remove_entry (is_at (nat_cmp face.0)) (untold told.now.handed names.old) }
     ensures faces { faces.new.entries ≡ remove_entry (is_at (nat_cmp face.0)) faces.old.entries }
     ensures ears { ears_of ears.new ≡ closed face.0 (ears_of ears.old) }
+    ensures rooms { AreBare told.now.plan ears.new }
 {
+    ears.close(face);
     take_back(names, ears, told, 0);
     leave(names, faces, face);
-    ears.close(face);
 }

@@ -1,5 +1,7 @@
-//! What faces are told: declarations, each with the number that it needs declared directly before it.
-ghost use Rattle.std.specs.Prelude.{◌≡◌, ℕ, ◌+◌, ◌<◌, ◌≤◌, ◌∷◌, ◌++◌, [], drop, length, map, true, false, vec_capacity, vec_len, IfOk, OnOk, OnErr};
+//! What faces are told: declarations, each with the number that it needs declared directly before it,
+//! and, where an interest is answered, marked with its id and followed by the end of what there was to
+//! tell.
+ghost use Rattle.std.specs.Prelude.{◌≡◌, ℕ, ◌+◌, ◌<◌, ◌≤◌, ◌∷◌, ◌++◌, ◌==◌, ◌&&◌, ◌||◌, [], drop, length, map, not, true, false, vec_capacity, vec_len, IfOk, OnOk, OnErr};
 ghost use Rattle.std.specs.List.{All};
 ghost use Rattle.std.specs.Option.{option_map_or};
 ghost use Rattle.zq_key.specs.Key.{is_key as key_of};
@@ -8,12 +10,13 @@ ghost use Rattle.zq_trees.specs.Tellings.{in_order};
 ghost use Rattle.zq_machine.specs.Messages.{from_hat};
 ghost use Rattle.zq_machine.specs.State.{Core, at};
 ghost use Rattle.zq_machine.specs.Writing.{is_local_region, numbers_region, tell as tell_of, tell_body};
-ghost use Rattle.zq_handing.specs.Telling.{behind, body_of, declare_of, end_of, ends_alone, handed_declare as handed_declare_of, handed_number, number_of, untold, untold_message};
+ghost use Rattle.zq_handing.specs.Telling.{KeyedAs, behind, body_of, declare_of, end_of, ends_alone, final_of, handed_declare as handed_declare_of, handed_final, handed_number, mark_of, marked_by, number_of, told_to, untold, untold_message};
 
 use crate::write::whole;
 use std::alloc::Global;
 use std::collections::BTreeMap;
 use zq_hat::types::Telling;
+use zq_interests::numbers::Keyed;
 use zq_key::items::Items;
 use zq_key::memory::OutOfMemory;
 use zq_key::message::{
@@ -26,6 +29,13 @@ use zq_names::nonwild;
 use zq_tables::naming::Naming;
 use zq_trees::tellings::in_order;
 
+/// An interest: the face that asks, and the id under which it does.
+#[derive(Clone, Copy, Debug)]
+pub struct InterestId {
+    pub face: FaceId,
+    pub id: u32,
+}
+
 // Whether the face is local.
 fn is_local(faces: &BTreeMap<u32, OpenFace>, to: FaceId) -> bool
     ensures { result ≡ option_map_or (λ o. is_local_region o.region) (at to.0 faces.now.entries) false }
@@ -36,14 +46,23 @@ fn is_local(faces: &BTreeMap<u32, OpenFace>, to: FaceId) -> bool
     }
 }
 
-// Whether the face may be declared a number.
-fn may_number(faces: &BTreeMap<u32, OpenFace>, to: FaceId) -> bool
+// Whether the face may be declared a number for any key.
+fn takes_numbers(faces: &BTreeMap<u32, OpenFace>, to: FaceId) -> bool
     ensures { result ≡ option_map_or (λ o. numbers_region o.region) (at to.0 faces.now.entries) false }
 {
     match faces.get(&to.0) {
         Some(face) => matches!(face.region, Region::North),
         None => false,
     }
+}
+
+// Whether the face may be declared a number for the part of a key. No interest is looked up where the
+// face takes numbers for any key, nor for the empty part, which is no key.
+fn may_number<K: Keyed>(faces: &BTreeMap<u32, OpenFace>, keyed: &K, to: FaceId, part: &str) -> bool
+    requires { 0 < length part.now → key_of part.now ≡ true }
+    ensures { result ≡ (option_map_or (λ o. numbers_region o.region) (at to.0 faces.now.entries) false || (not (length part.now == 0) && K.keyed keyed.now to.0 part.now)) }
+{
+    takes_numbers(faces, to) || (!part.is_empty() && keyed.has_keyed(to, part))
 }
 
 fn handed_declare(to: FaceId, declare: Declare) -> Handed
@@ -77,11 +96,11 @@ fn key_body(id: u32, wire: WireExpr, info: Option<QueryableInfoType>) -> Declare
     }
 }
 
-fn key_declare(telling: &Telling, wire: WireExpr) -> Declare
-    ensures { result ≡ declare_of telling.now wire }
+fn key_declare(telling: &Telling, mark: Option<u32>, wire: WireExpr) -> Declare
+    ensures { result ≡ declare_of mark telling.now wire }
 {
     Declare {
-        interest: None,
+        interest: mark,
         node: telling.node,
         body: key_body(telling.id, wire, telling.info),
     }
@@ -94,11 +113,11 @@ fn ends_alone(telling: &Telling) -> bool
     telling.info.is_none() && telling.id != 0
 }
 
-fn end_declare(telling: &Telling) -> Declare
-    ensures { result ≡ end_of telling.now }
+fn end_declare(telling: &Telling, mark: Option<u32>) -> Declare
+    ensures { result ≡ end_of mark telling.now }
 {
     Declare {
-        interest: None,
+        interest: mark,
         node: telling.node,
         body: DeclareBody::UndeclareQueryable {
             id: telling.id,
@@ -119,26 +138,32 @@ fn push_number(handed: &mut Vec<Handed>, to: FaceId, part: Text, number: Option<
 }
 
 // A face is told that an id ended, by the id alone. It takes no number.
-fn tell_end(telling: &Telling, handed: &mut Vec<Handed>) -> Result<(), OutOfMemory>
-    ensures ok { OnOk result (handed.new.items ≡ handed.old.items ++ handed_declare_of telling.now.face (end_of telling.now) ∷ []) }
+fn tell_end(
+    telling: &Telling,
+    mark: Option<u32>,
+    handed: &mut Vec<Handed>,
+) -> Result<(), OutOfMemory>
+    ensures ok { OnOk result (handed.new.items ≡ handed.old.items ++ handed_declare_of telling.now.face (end_of mark telling.now) ∷ []) }
     ensures kept { OnErr result (handed.new.items ≡ handed.old.items) }
 {
-    handed.push(handed_declare(telling.face, end_declare(telling)))?;
+    handed.push(handed_declare(telling.face, end_declare(telling, mark)))?;
     Ok(())
 }
 
 // A face is told of a key, by an expression of it. A new number stands from then on.
-fn tell_key(
+fn tell_key<K: Keyed>(
     alloc: Global,
     faces: &BTreeMap<u32, OpenFace>,
+    keyed: &K,
     names: &mut Naming,
     telling: &Telling,
+    mark: Option<u32>,
     handed: &mut Vec<Handed>,
 ) -> Result<(), OutOfMemory>
     requires valid { key_of telling.now.key ≡ true }
     requires keyed { ends_alone telling.now ≡ false }
-    ensures messages { (c : Core) → c.faces ≡ faces.now.entries → OnOk result (handed.new.items ≡ handed.old.items ++ (tell_body c (from_hat telling.now) (from_hat telling.now).body names.old).handed) }
-    ensures names { (c : Core) → c.faces ≡ faces.now.entries → OnOk result (names.new ≡ (tell_body c (from_hat telling.now) (from_hat telling.now).body names.old).names) }
+    ensures messages { (c : Core) → c.faces ≡ faces.now.entries → KeyedAs (K.keyed keyed.now) c.interests → OnOk result (handed.new.items ≡ handed.old.items ++ (tell_body c (marked_by mark telling.now) (from_hat telling.now).body names.old).handed) }
+    ensures names { (c : Core) → c.faces ≡ faces.now.entries → KeyedAs (K.keyed keyed.now) c.interests → OnOk result (names.new ≡ (tell_body c (marked_by mark telling.now) (from_hat telling.now).body names.old).names) }
     ensures longer { OnOk result (length handed.old.items ≤ length handed.new.items) }
     ensures back { (first : ℕ) → first ≤ length handed.old.items → OnOk result (untold (drop first handed.new.items) names.new ≡ untold (drop first handed.old.items) names.old) }
     ensures kept { OnErr result (handed.new.items ≡ handed.old.items) }
@@ -148,33 +173,110 @@ fn tell_key(
     let to = telling.face;
     let text = telling.key.as_str();
     let part = Text::new(alloc, nonwild(text))?;
-    let key = names.declared(to, text, is_local(faces, to), may_number(faces, to))?;
+    let local = is_local(faces, to);
+    let may = !local && may_number(faces, keyed, to, part.as_str());
+    let key = names.declared(to, text, local, may)?;
     push_number(handed, to, part, key.declared);
-    handed.push_reserved(handed_declare(to, key_declare(telling, key.wire)));
+    handed.push_reserved(handed_declare(to, key_declare(telling, mark, key.wire)));
     Ok(())
 }
 
 // A face is told one thing: that an id ended, by the id alone, or of a key.
-fn tell_one(
+fn tell_one<K: Keyed>(
     alloc: Global,
     faces: &BTreeMap<u32, OpenFace>,
+    keyed: &K,
     names: &mut Naming,
     telling: &Telling,
+    mark: Option<u32>,
     handed: &mut Vec<Handed>,
 ) -> Result<(), OutOfMemory>
     requires { key_of telling.now.key ≡ true }
-    ensures messages { (c : Core) → c.faces ≡ faces.now.entries → OnOk result (handed.new.items ≡ handed.old.items ++ (tell_body c (from_hat telling.now) (from_hat telling.now).body names.old).handed) }
-    ensures names { (c : Core) → c.faces ≡ faces.now.entries → OnOk result (names.new ≡ (tell_body c (from_hat telling.now) (from_hat telling.now).body names.old).names) }
+    ensures messages { (c : Core) → c.faces ≡ faces.now.entries → KeyedAs (K.keyed keyed.now) c.interests → OnOk result (handed.new.items ≡ handed.old.items ++ (tell_body c (marked_by mark telling.now) (from_hat telling.now).body names.old).handed) }
+    ensures names { (c : Core) → c.faces ≡ faces.now.entries → KeyedAs (K.keyed keyed.now) c.interests → OnOk result (names.new ≡ (tell_body c (marked_by mark telling.now) (from_hat telling.now).body names.old).names) }
     ensures longer { OnOk result (length handed.old.items ≤ length handed.new.items) }
     ensures back { (first : ℕ) → first ≤ length handed.old.items → OnOk result (untold (drop first handed.new.items) names.new ≡ untold (drop first handed.old.items) names.old) }
     ensures kept { OnErr result (handed.new.items ≡ handed.old.items) }
     ensures err { OnErr result (names.new ≡ names.old) }
 {
     if ends_alone(telling) {
-        tell_end(telling, handed)
+        tell_end(telling, mark, handed)
     } else {
-        tell_key(alloc, faces, names, telling, handed)
+        tell_key(alloc, faces, keyed, names, telling, mark, handed)
     }
+}
+
+// Faces are told one thing after another; what a refusal leaves is taken back like the rest.
+fn tell_each<K: Keyed>(
+    alloc: Global,
+    faces: &BTreeMap<u32, OpenFace>,
+    keyed: &K,
+    names: &mut Naming,
+    tellings: &[Telling],
+    mark: Option<u32>,
+    handed: &mut Vec<Handed>,
+) -> Result<(), OutOfMemory>
+    requires { All (λ t. key_of t.key ≡ true) tellings.now }
+    ensures ok { (c : Core) → c.faces ≡ faces.now.entries → KeyedAs (K.keyed keyed.now) c.interests → OnOk result (behind handed.old.items (tell_of c (map (marked_by mark) tellings.now) names.old) ≡ record { handed = handed.new.items; names = names.new }) }
+    ensures longer { length handed.old.items ≤ length handed.new.items }
+    ensures back { (first : ℕ) → first ≤ length handed.old.items → untold (drop first handed.new.items) names.new ≡ untold (drop first handed.old.items) names.old }
+{
+    for telling in tellings {
+        tell_one(alloc, faces, keyed, names, telling, mark, handed)?;
+    }
+    Ok(())
+}
+
+fn final_declare(id: u32) -> Declare
+    ensures { result ≡ final_of id }
+{
+    Declare {
+        interest: Some(id),
+        node: DEFAULT_NODE_ID,
+        body: DeclareBody::DeclareFinal,
+    }
+}
+
+// Where an interest is answered, the end of what there was to tell goes behind the others.
+fn push_final(handed: &mut Vec<Handed>, interest: Option<InterestId>) -> Result<(), OutOfMemory>
+    ensures ok { OnOk result (handed.new.items ≡ handed.old.items ++ handed_final interest) }
+    ensures err { OnErr result (handed.new.items ≡ handed.old.items) }
+{
+    if let Some(interest) = interest {
+        handed.push(handed_declare(interest.face, final_declare(interest.id)))?;
+    }
+    Ok(())
+}
+
+fn mark_of(interest: Option<InterestId>) -> Option<u32>
+    ensures { result ≡ mark_of interest }
+{
+    match interest {
+        Some(interest) => Some(interest.id),
+        None => None,
+    }
+}
+
+// Faces are told all of it, in answer to the interest if there is one; what a refusal leaves is taken
+// back like the rest.
+fn tell_behind<K: Keyed>(
+    alloc: Global,
+    faces: &BTreeMap<u32, OpenFace>,
+    keyed: &K,
+    names: &mut Naming,
+    tellings: &[Telling],
+    interest: Option<InterestId>,
+    handed: &mut Vec<Handed>,
+) -> Result<(), OutOfMemory>
+    requires { All (λ t. key_of t.key ≡ true) tellings.now }
+    ensures ok { (c : Core) → c.faces ≡ faces.now.entries → KeyedAs (K.keyed keyed.now) c.interests → OnOk result (behind handed.old.items (tell_of c (told_to interest (map from_hat tellings.now)) names.old) ≡ record { handed = handed.new.items; names = names.new }) }
+    ensures longer { length handed.old.items ≤ length handed.new.items }
+    ensures back { (first : ℕ) → first ≤ length handed.old.items → untold (drop first handed.new.items) names.new ≡ untold (drop first handed.old.items) names.old }
+{
+    let mark = mark_of(interest);
+    tell_each(alloc, faces, keyed, names, tellings, mark, handed)?;
+    push_final(handed, interest)?;
+    Ok(())
 }
 
 // The number that a message declares is taken back.
@@ -198,17 +300,21 @@ pub fn untell(names: &mut Naming, handed: &[Handed])
 }
 
 /// The messages of what faces are told, by face, key and node, each once, behind messages that
-/// come first. A number that a key needs is declared directly before its first use, and stands
-/// from then on; `untell` of the messages behind the first takes back all that were given.
-pub fn tell(
+/// come first. Where they answer an interest, each is marked with its id, and the end of what there
+/// was to tell comes last. A number that a key needs is declared directly before its first use, marked
+/// with no interest, and stands from then on; `untell` of the messages behind the first takes back all
+/// that were given.
+pub fn tell<K: Keyed>(
     alloc: Global,
     faces: &BTreeMap<u32, OpenFace>,
+    keyed: &K,
     names: &mut Naming,
     tellings: &[Telling],
+    interest: Option<InterestId>,
     first: HandedList,
 ) -> Result<HandedList, OutOfMemory>
     requires { All (λ t. key_of t.key ≡ true) tellings.now }
-    ensures ok { (c : Core) → c.faces ≡ faces.now.entries → IfOk result (λ l. behind first (tell_of c (map from_hat (in_order tellings.now)) names.old) ≡ record { handed = l; names = names.new }) }
+    ensures ok { (c : Core) → c.faces ≡ faces.now.entries → KeyedAs (K.keyed keyed.now) c.interests → IfOk result (λ l. behind first (tell_of c (told_to interest (map from_hat (in_order tellings.now))) names.old) ≡ record { handed = l; names = names.new }) }
     ensures longer { IfOk result (λ l. length first ≤ length l) }
     ensures back { IfOk result (λ l. untold (drop (length first) l) names.new ≡ names.old) }
     ensures err { OnErr result (names.new ≡ names.old) }
@@ -216,11 +322,12 @@ pub fn tell(
     let ordered = in_order(alloc, tellings)?;
     let place = first.len();
     let mut handed = first.into_vec();
-    for telling in ordered.as_slice() {
-        if let Err(refusal) = tell_one(alloc, faces, names, telling, &mut handed) {
+    let each = ordered.as_slice();
+    match tell_behind(alloc, faces, keyed, names, each, interest, &mut handed) {
+        Ok(()) => Ok(Items::from_vec(handed)),
+        Err(refusal) => {
             untell(names, &handed[place..]);
-            return Err(refusal);
+            Err(refusal)
         }
     }
-    Ok(Items::from_vec(handed))
 }

@@ -4,6 +4,7 @@ use Rattle.std.specs.List.{All}
 use Rattle.std.specs.Option.{option_map, option_map_or}
 use Rattle.std.specs.Map.{set_value}
 use Rattle.std.proofs.lemmas.List.Elements.{All-from_get_or, All-get_or}
+use Rattle.std.proofs.lemmas.Bool.{false≢true}
 use Rattle.std.proofs.lemmas.Cmp.{nat_cmp_total}
 use Rattle.std.proofs.lemmas.Map.Lookups.{exact_unsigned}
 use Rattle.std.proofs.lemmas.Map.Made.{lookup-map_values}
@@ -14,9 +15,9 @@ use Rattle.std.specs.Ordering.{nat_cmp}
 use Rattle.zq_key.proofs.Lookups.{at_itself, found_after_write, same_key}
 use Rattle.zq_index.proofs.Mapped.{set-map}
 use Rattle.zq_told.specs.declared.types.FacePlan.{FacePlan}
-use Rattle.zq_index.specs.Texts.{at_text}
+use Rattle.zq_index.specs.Texts.{at_text, has_text}
 use Rattle.zq_told.specs.Ears.{Ear, Told, at_face}
-use Rattle.zq_told.specs.Rooms.{Book, Books, HasRooms, IsBare, IsBareAt, IsRoomy, Shelf, ear_of, ears_of, has_room, room_at}
+use Rattle.zq_told.specs.Rooms.{AreBare, Book, Books, HasRooms, IsBare, IsBareAt, IsRoomy, Shelf, ear_of, ears_of, has_room, room_at}
 use Rattle.zq_told.specs.Telling.{Row, planned_ear, put_face, put_row}
 
 -- what holds of each holds of each in a weaker form
@@ -124,3 +125,23 @@ module _ (n : ℕ) (books : Books) (b : Book) (there : at_face n books ≡ Some 
 
     pub here : (q : List ℕ) → room_at written n q ≡ has_room c.shelf q
     here q = room_written n q ∙ ap (λ x. cond x (has_room c.shelf q) (room_at books n q)) itself
+
+-- ---- a face comes without rooms, or goes
+
+no_plan : FacePlan
+no_plan = record { face = record { 0 = 0 }; last = 0; rows = [] }
+
+-- what is bare at faces stays so where one becomes another book that has no rooms, or none
+module _ (n : ℕ) (old new : Books) (o : Option Book) (empty : (b : Book) → o ≡ Some b → b.shelf.rooms ≡ []) (found : (q : ℕ) → at_face q new ≡ cond (is_at (nat_cmp n) q) o (at_face q old)) where
+  bare_at : (p : FacePlan) → IsBareAt old p → IsBareAt new p
+  bare_at p bare x at = by (is_at (nat_cmp n) p.face.0) (sym (found p.face.0) ∙ at)
+    where
+      none : o ≡ Some x → (r : Row) → IsBare x.shelf r
+      none is r has = absurd (false≢true (ap (has_text r.0) (sym (empty x is)) ∙ has))
+
+      by : (t : Bool) → cond t o (at_face p.face.0 old) ≡ Some x → All (IsBare x.shelf) p.rows
+      by true is = All-from_get_or (IsBare x.shelf) p.rows no_row (λ i lt. none is (get_or p.rows i no_row))
+      by false is = bare x is
+
+  pub bare_changed : (plan : List FacePlan) → AreBare plan old → AreBare plan new
+  bare_changed plan = weaker (IsBareAt old) (IsBareAt new) no_plan plan bare_at

@@ -95,10 +95,11 @@ fn set_all(slots: &mut Slots, rows: &[(Text, Option<ToldEntry>)])
 }
 
 impl Book {
-    /// Nothing was told.
+    /// Nothing was told, and there is room for nothing.
     pub(crate) fn new(alloc: Global, last: u32) -> Book
         ensures last { result.last ≡ last }
         ensures told { result.shelf.told ≡ [] }
+        ensures rooms { result.shelf.rooms ≡ [] }
     {
         Book {
             last,

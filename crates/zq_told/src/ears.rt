@@ -1,6 +1,6 @@
 //! What all faces were told. A call is planned, room is made for what it tells, and the plan is put:
 //! only the last step changes what was told, and it cannot fail.
-ghost use Rattle.std.specs.Prelude.{◌≡◌, [], true, false, IfOk, OnOk, OnErr, IsErrOf};
+ghost use Rattle.std.specs.Prelude.{◌≡◌, List, [], true, false, IfOk, OnOk, OnErr, IsErrOf};
 ghost use Rattle.zq_told.specs.Ears.{closed, last_at, opened, told_at, told_keys};
 ghost use Rattle.zq_told.specs.Rooms.{AreBare, IsReady, ears_of};
 ghost use Rattle.zq_told.specs.Telling.{lacks_ids, put_plan, tell_faces};
@@ -39,10 +39,12 @@ impl Ears {
         }
     }
 
-    /// A face that was told nothing is there; its next id is the one after the last.
+    /// A face that was told nothing is there; its next id is the one after the last. There is no more room
+    /// than before.
     pub fn open(&mut self, alloc: Global, face: FaceId, last: u32) -> Result<(), OutOfMemory>
         ensures ok { OnOk result (ears_of self.new ≡ opened face.0 last (ears_of self.old)) }
         ensures err { OnErr result (ears_of self.new ≡ ears_of self.old) }
+        ensures rooms { (plan : List FacePlan) → AreBare plan self.old → AreBare plan self.new }
     {
         match self.books.insert(face.0, Book::new(alloc, last)) {
             Ok(_) => Ok(()),
@@ -50,9 +52,10 @@ impl Ears {
         }
     }
 
-    /// The face goes, with all that it was told.
+    /// The face goes, with all that it was told and its rooms.
     pub fn close(&mut self, face: FaceId)
-        ensures { ears_of self.new ≡ closed face.0 (ears_of self.old) }
+        ensures ears { ears_of self.new ≡ closed face.0 (ears_of self.old) }
+        ensures rooms { (plan : List FacePlan) → AreBare plan self.old → AreBare plan self.new }
     {
         let _ = self.books.remove(&face.0);
     }

@@ -106,7 +106,8 @@ fn told_keys(slots: &SlotMap, alloc: Global) -> Result<TextList, OutOfMemory>
 impl Slots {
     /// Nothing was told.
     pub(crate) fn new(alloc: Global) -> Slots
-        ensures { result.told ≡ [] }
+        ensures told { result.told ≡ [] }
+        ensures rooms { result.rooms ≡ [] }
     {
         Slots {
             slots: BTreeMap::new(alloc),
