@@ -78,7 +78,7 @@ impl Tables {
         }
         let dues = dues_asked(self.alloc, &self.hats, face, opened, key.as_ref())?;
         let entry = InterestEntry { key, keys };
-        let fresh = self.is_fresh(face, id, entry.key.as_ref());
+        let fresh = entry.key.is_some() && !self.names.holds_interest(face, id);
         let asked = WithInterest {
             interests: &self.interests,
             face,
