@@ -25,7 +25,7 @@ now_there (x ∷ xs) (suc i) v w e = now_there xs i v w e
 
 -- a cut or a join, which changes no number
 pub quiet : (n : ℕ) (s : HoldState) (keeper : ℕ) (view : HoldView) (r : IsKeptBy n s keeper view) (view' : HoldView) (views : List HoldView)
-    → get_elem? views keeper ≡ some view' → view'.role ≡ Keeper → view'.held ≡ view.held → view'.used ≡ view.used
+    → get_elem? views keeper ≡ some view' → view'.role ≡ Keeper → view'.held ≡ view.held → view'.used ≡ view.used → view'.shows ≡ view.shows
     → ((j : ℕ) (v : HoldView) → get_elem? views j ≡ some v → (v.role ≡ Keeper → j ≡ keeper) × ((k : ℕ) → times k v.held ≤ live v.role))
     → ((k : ℕ) → holders k views ≡ holders k s.views)
     → seated views + view'.joined ≤ 1 + view'.made → view'.made ≤ 63
@@ -34,7 +34,7 @@ pub quiet : (n : ℕ) (s : HoldState) (keeper : ℕ) (view : HoldView) (r : IsKe
     → ((k : ℕ) → 0 < stood k view'.pledged → (0 < times k view.held) × (0 < times k view'.lent))
     → ((k : ℕ) → times k view'.lent ≡ 0 → times k view.lent ≡ 0)
     → IsKeptBy n record { words = s.words; homes = s.homes; views = views } keeper view'
-quiet n s keeper view r view' views there leads held used each same seats made stand shown pledged lent =
+quiet n s keeper view r view' views there leads held used unshown each same seats made stand shown pledged lent =
     let held_same : (k : ℕ) → times k view'.held ≡ times k view.held = λ k. ap (times k) held in
     let used_same : (k : ℕ) → times k view'.used ≡ times k view.used = λ k. ap (times k) used in record {
       wide = r.wide;
@@ -48,6 +48,7 @@ quiet n s keeper view r view' views there leads held used each same seats made s
       made = made;
       stands = λ k. let a = stand k in let b = r.stands k in omega arith;
       ended = λ k up. let a = stand k in let q = r.ended k (omega arith) in let b = used_same k in let c = q.0 in (omega arith, same k ∙ q.1);
+      bare = unshown ∙ r.bare;
       shown = shown;
       pledged = λ k up. let q = pledged k up in let a = q.0 in let b = held_same k in (omega arith, q.1);
       unlent = λ k up out. let a = used_same k in same k ∙ (r.unlent k (omega arith) (lent k out) ∙ sym (held_same k));
@@ -85,7 +86,7 @@ makes_seat n id v is room s q at =
       id,
       left,
       quiet n s id v r left views
-          (at_longer (set s.views id left) (new_seat ∷ []) id left (now_there s.views id v left at)) is refl refl
+          (at_longer (set s.views id left) (new_seat ∷ []) id left (now_there s.views id v left at)) is refl refl refl
           (each_split (Sound id) s.views id left new_seat (r.only id v at, r.once id v at) (λ j. ((λ e. absurd (cc)), λ k. omega arith)) (sound n s id v r))
           (λ k. let a = total_split (λ u. times k u.held) s.views id v left new_seat at in omega arith)
           (let a = total_split (λ u. live u.role) s.views id v left new_seat at in let b = r.seats in omega arith)
@@ -107,7 +108,7 @@ pledges n id k v is free has s q at =
       id,
       left,
       quiet n s id v r left views
-          (at_longer (set s.views id left) (right ∷ []) id left (now_there s.views id v left at)) is refl refl
+          (at_longer (set s.views id left) (right ∷ []) id left (now_there s.views id v left at)) is refl refl refl
           (each_split (Sound id) s.views id left right (r.only id v at, r.once id v at) (λ j. ((λ e. absurd (cc)), λ k. omega arith)) (sound n s id v r))
           (λ j. let a = total_split (λ u. times j u.held) s.views id v left right at in omega arith)
           (let a = total_split (λ u. live u.role) s.views id v left right at in let b = r.seats in omega arith)
@@ -130,7 +131,7 @@ takes_back n id other k v w is mine theirs empty idle role s q at apart_from the
       id,
       both,
       quiet n s id v r both views
-          (set_else (set s.views id both) other id nobody (λ e. apart_from (sym e)) ∙ now_there s.views id v both at) is refl refl
+          (set_else (set s.views id both) other id nobody (λ e. apart_from (sym e)) ∙ now_there s.views id v both at) is refl refl refl
           (each_join (Sound id) s.views id other both nobody (r.only id v at, r.once id v at) ((λ e. absurd (cc)), λ k. omega arith) (sound n s id v r))
           (λ j. let a = total_join (λ u. times j u.held) s.views id other v both w nobody at there in let b : times j w.held ≡ 0 = ap (times j) empty in omega arith)
           (let a = total_join (λ u. live u.role) s.views id other v both w nobody at there in let b = r.seats in let c : live w.role ≡ 0 = ap live role in omega arith)
@@ -153,7 +154,7 @@ seat_cuts n s keeper view r id v left right at sits sits' dead not_k same empty 
     let none_held : (k : ℕ) → times k right.held ≡ 0 = λ k. ap (times k) empty in
     let role_same : live left.role ≡ live v.role = ap live (sits' ∙ sym sits) in
     quiet n s keeper view r view views
-    (at_longer (set s.views id left) (right ∷ []) keeper view (set_else s.views id keeper left (apart n s keeper view r id v at not) ∙ r.there)) r.keeps refl refl
+    (at_longer (set s.views id left) (right ∷ []) keeper view (set_else s.views id keeper left (apart n s keeper view r id v at not) ∙ r.there)) r.keeps refl refl refl
     (each_split (Sound keeper) s.views id left right
     ((λ e. absurd (cc)), λ k. let a = r.once id v at k in let b = held_same k in omega arith)
     (λ j. ((λ e. absurd (not_k e)), λ k. let a = none_held k in omega arith)) (sound n s keeper view r))
@@ -180,7 +181,7 @@ keeper_ends n id v is s q at =
       id,
       left,
       quiet n s id v r left views
-          (at_longer (set s.views id left) (right ∷ []) id left (now_there s.views id v left at)) is refl refl
+          (at_longer (set s.views id left) (right ∷ []) id left (now_there s.views id v left at)) is refl refl refl
           (each_split (Sound id) s.views id left right (r.only id v at, r.once id v at) (λ j. ((λ e. absurd (cc)), λ k. omega arith)) (sound n s id v r))
           (λ k. let a = total_split (λ u. times k u.held) s.views id v left right at in omega arith)
           (let a = total_split (λ u. live u.role) s.views id v left right at in let b = r.seats in omega arith)
@@ -206,7 +207,7 @@ takes_pledge n id other v w sits bare role empty idle s q at apart_from there =
       keeper,
       view,
       quiet n s keeper view r view views
-          (set_else (set s.views id both) other keeper nobody (apart n s keeper view r other w was not_w) ∙ (set_else s.views id keeper both (apart n s keeper view r id v at not_v) ∙ r.there)) r.keeps refl refl
+          (set_else (set s.views id both) other keeper nobody (apart n s keeper view r other w was not_w) ∙ (set_else s.views id keeper both (apart n s keeper view r id v at not_v) ∙ r.there)) r.keeps refl refl refl
           (each_join (Sound keeper) s.views id other both nobody (r.only id v at, r.once id v at) ((λ e. absurd (cc)), λ k. omega arith) (sound n s keeper view r))
           (λ j. let a = total_join (λ u. times j u.held) s.views id other v both w nobody at there in let b : times j w.held ≡ 0 = ap (times j) empty in omega arith)
           (let a = total_join (λ u. live u.role) s.views id other v both w nobody at there in let b = r.seats in let c : live w.role ≡ 0 = ap live role in omega arith)
@@ -227,7 +228,7 @@ takes_last n id other v w is idle role empty bare s q at apart_from there =
       id,
       both,
       quiet n s id v r both views
-          (set_else (set s.views id both) other id nobody (λ e. apart_from (sym e)) ∙ now_there s.views id v both at) is refl refl
+          (set_else (set s.views id both) other id nobody (λ e. apart_from (sym e)) ∙ now_there s.views id v both at) is refl refl refl
           (each_join (Sound id) s.views id other both nobody (r.only id v at, r.once id v at) ((λ e. absurd (cc)), λ k. omega arith) (sound n s id v r))
           (λ j. let a = total_join (λ u. times j u.held) s.views id other v both w nobody at there in let b : times j w.held ≡ 0 = ap (times j) empty in omega arith)
           (let a = total_join (λ u. live u.role) s.views id other v both w nobody at there in let b = r.seats in let c : live w.role ≡ 0 = ap live role in omega arith)
@@ -248,7 +249,7 @@ leaves n id other v w is role empty bare idle s q at apart_from there =
       id,
       both,
       quiet n s id v r both views
-          (set_else (set s.views id both) other id nobody (λ e. apart_from (sym e)) ∙ now_there s.views id v both at) is refl refl
+          (set_else (set s.views id both) other id nobody (λ e. apart_from (sym e)) ∙ now_there s.views id v both at) is refl refl refl
           (each_join (Sound id) s.views id other both nobody (r.only id v at, r.once id v at) ((λ e. absurd (cc)), λ k. omega arith) (sound n s id v r))
           (λ j. let a = total_join (λ u. times j u.held) s.views id other v both w nobody at there in let b : times j w.held ≡ 0 = ap (times j) empty in omega arith)
           (let a = total_join (λ u. live u.role) s.views id other v both w nobody at there in let b = r.seats in let c : live w.role ≡ 1 = ap live role in omega arith)

@@ -19,7 +19,7 @@ use Rattle.zq_hold.proofs.Cuts.{keeper_rule, now_there}
 
 -- a step of the keeper
 keeper_steps : (n : ℕ) (s : HoldState) (id : ℕ) (v w : HoldView) (r : IsKeptBy n s id v) (words : List ℕ) → w.role ≡ Keeper
-    → length words ≡ n → w.made ≡ v.made → w.joined ≡ v.joined → ((k : ℕ) → times k w.held ≤ 1)
+    → length words ≡ n → w.made ≡ v.made → w.joined ≡ v.joined → w.shows ≡ v.shows → ((k : ℕ) → times k w.held ≤ 1)
     → ((k : ℕ) → k < n → get_or words k 0 ≡ holders k (set s.views id w))
     → ((k : ℕ) → times k w.used ≡ 0 → holders k (set s.views id w) ≡ 0)
     → ((k : ℕ) → standing k (set s.views id w) ≤ 1)
@@ -28,7 +28,7 @@ keeper_steps : (n : ℕ) (s : HoldState) (id : ℕ) (v w : HoldView) (r : IsKept
     → ((k : ℕ) → 0 < stood k w.pledged → (0 < times k w.held) × (0 < times k w.lent))
     → ((k : ℕ) → 0 < times k w.used → times k w.lent ≡ 0 → holders k (set s.views id w) ≡ times k w.held)
     → IsKept n record { words = words; homes = s.homes; views = set s.views id w }
-keeper_steps n s id v w r words leads wide made joined once number vacated stands ended shown pledged unlent =
+keeper_steps n s id v w r words leads wide made joined unshown once number vacated stands ended shown pledged unlent =
     let seats = seat_set n s id v r id v w r.there in
     let one : live v.role ≡ 1 = ap live r.keeps in
     let one' : live w.role ≡ 1 = ap live leads in
@@ -48,7 +48,8 @@ keeper_steps n s id v w r words leads wide made joined once number vacated stand
         made = omega arith;
         stands = stands;
         ended = ended;
-        shown = shown;
+        bare = unshown ∙ r.bare;
+      shown = shown;
         pledged = pledged;
         unlent = unlent;
       },
@@ -80,7 +81,7 @@ open_allowed n slots id me k inside is free out s q _ at small =
       w,
       keeps,
       tt,
-      keeper_steps n s id v w r (set s.words k next) is (length-set s.words k next ∙ wide) refl refl
+      keeper_steps n s id v w r (set s.words k next) is (length-set s.words k next ∙ wide) refl refl refl
           (λ j. let a = mine j in dite (ℕ_discrete k j)
           (λ (e : k ≡ j). subst (λ (i : ℕ). times i w.held ≤ 1) e (let b = weight_same k in omega arith))
           (λ (ne : k ≢ j). let b = weight_other k j ne in omega arith))
@@ -125,7 +126,7 @@ vacate_allowed n slots id me k is ends free s q _ at small =
       w,
       keeps,
       tt,
-      keeper_steps n s id v w r (set s.words k x) is (length-set s.words k x ∙ wide) refl refl
+      keeper_steps n s id v w r (set s.words k x) is (length-set s.words k x ∙ wide) refl refl refl
           once
           (λ j h. ap (λ (l : List ℕ). get_or l j 0) words_same ∙ (r.number j h ∙ sym (sum j)))
           (λ j none_used. sum j ∙ dite (ℕ_discrete k j)
@@ -169,7 +170,7 @@ release_kept_allowed n slots id me k inside is free bare has s q _ at small =
       w,
       keeps,
       tt,
-      keeper_steps n s id v w r (set s.words k next) is (length-set s.words k next ∙ wide) refl refl
+      keeper_steps n s id v w r (set s.words k next) is (length-set s.words k next ∙ wide) refl refl refl
           (λ j. dite (ℕ_discrete k j)
           (λ (e : k ≡ j). subst (λ (i : ℕ). times i w.held ≤ 1) e (omega arith))
           (λ (ne : k ≢ j). let a = there j ne in let b = mine j in omega arith))
@@ -220,7 +221,8 @@ starts n words wide ones =
         made = omega arith;
         stands = λ k. omega arith;
         ended = λ k up. absurd (omega arith);
-        shown = λ k. omega arith;
+        bare = refl;
+      shown = λ k. omega arith;
         pledged = λ k up. absurd (omega arith);
         unlent = λ k up out. omega arith;
       },

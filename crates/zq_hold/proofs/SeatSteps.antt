@@ -71,6 +71,7 @@ seat_steps n s keeper view r id v w words at sits sits' wide once number vacated
       made = r.made;
       stands = stands;
       ended = ended;
+      bare = r.bare;
       shown = shown;
       pledged = r.pledged;
       unlent = unlent;

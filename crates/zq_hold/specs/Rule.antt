@@ -1,5 +1,5 @@
 -- The rule of counted holds: a fact about the words and all views, between any two steps. Each part is a sum over all views, for each slot.
-use Rattle.std.specs.Prelude.{◌≡◌, ℕ, ◌+◌, ◌<◌, ◌≤◌, List, [], ◌∷◌, length, slice_index}
+use Rattle.std.specs.Prelude.{◌≡◌, ℕ, ◌+◌, ◌<◌, ◌≤◌, List, [], ◌∷◌, length, slice_index, None}
 use mathlib.Core.Option.{some}
 use lib.ListN.{get_elem?}
 use Rattle.atomic_table.specs.Table.{State}
@@ -61,7 +61,8 @@ pub record IsKeptBy (n : ℕ) (s : HoldState) (keeper : ℕ) (view : HoldView) :
   -- at most one view stands for a slot; nobody holds that slot, and it is not vacated
   pub stands : (k : ℕ) → standing k s.views ≤ 1
   pub ended : (k : ℕ) → 0 < standing k s.views → (0 < times k view.used) × (holders k s.views ≡ 0)
-  -- one view shows the pledged slot, none another; the keeper holds the pledged slot, and it is lent
+  -- one view, which is not the keeper's, shows the pledged slot, and none another; the keeper holds the pledged slot, and it is lent
+  pub bare : view.shows ≡ None
   pub shown : (k : ℕ) → showing k s.views ≡ stood k view.pledged
   pub pledged : (k : ℕ) → 0 < stood k view.pledged → (0 < times k view.held) × (0 < times k view.lent)
   -- a slot that is neither vacated nor lent is held by the keeper alone, or by nobody
