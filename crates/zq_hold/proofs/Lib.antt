@@ -1,0 +1,6 @@
+pub mod Totals
+pub mod SeatSteps
+pub mod Cuts
+pub mod KeeperSteps
+pub mod Seats
+pub mod Keepers

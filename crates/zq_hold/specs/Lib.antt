@@ -1,0 +1,6 @@
+pub mod Slots
+pub mod Views
+pub mod Rule
+pub mod Steps
+pub mod Marks
+pub mod Seats

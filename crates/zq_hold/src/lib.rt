@@ -1,0 +1,39 @@
+//! Counted holds: slots that a keeper allots, and that seats in other threads hold until they release them, without a lock.
+//! Whoever lets a slot go last knows it, and gets a `Last`, which the keeper takes back. Each slot has a word in a table that all
+//! share: how many hold it.
+//!
+//! - `slot`: `Slot`, and `Mark`, how a slot stands with the keeper
+//! - `holds`: `Holds::new`, which makes the keeper and the seats
+//! - `seat`: `HoldSeat` with `release`, and `SeatList`
+//! - `keeper`: `Keeper` with `put_back`, `vacate` and `join`; `hold` and `release_kept`
+//! - `allotting`: `allot`, and `NoSlot`, which it alone makes
+//! - `last`: `Last`, which has to be spent, by `vacate`
+//! - `table`: the steps on the table that the keeper and seats make
+//! - `marked`: the steps of the keeper that change a mark
+//! - `steps`: what each step tells the one that makes it, and how views are cut and joined
+//! - `view`: what the keeper, a seat and a `Last` know, which exists in proofs alone
+//!
+//! The rule that holds between any two steps of any threads is `IsKept`, in `specs/Rule.antt`: among others, that the number of a slot is
+//! how many hold it. It is a fact about sums over all views.
+//!
+//! No call waits for another thread, and only `Holds::new` takes memory. Nothing is said of progress: no clause promises that a thread
+//! ever releases what it holds. A seat that is dropped holds what it held.
+#![tactic(auto)]
+
+mod allotting;
+mod holds;
+mod keeper;
+mod last;
+mod marked;
+mod seat;
+mod slot;
+mod steps;
+mod table;
+mod view;
+
+pub use allotting::{NoSlot, allot};
+pub use holds::Holds;
+pub use keeper::{Keeper, hold, release_kept};
+pub use last::Last;
+pub use seat::{HoldSeat, SeatList, release};
+pub use slot::{Mark, Slot};

@@ -1,0 +1,64 @@
+//! Seats, and the list that they are taken from.
+ghost use Rattle.std.specs.Prelude.{◌≡◌, ◌<◌, ◌∷◌, ◌++◌, [], IfNone, IfSome};
+ghost use Rattle.zq_hold.specs.Slots.{times, without};
+
+use crate::last::Last;
+use crate::slot::Slot;
+use crate::table::{CountSeat, CountTable, release_slot};
+use std::alloc::Global;
+use std::marker::Model;
+use std::sync::Arc;
+
+/// A seat, which a thread holds slots with. A seat that is dropped holds what it held, for good.
+#[derive(Drop)]
+pub struct HoldSeat {
+    pub(crate) table: Arc<CountTable, Global>,
+    pub(crate) seat: CountSeat,
+}
+
+impl Model for HoldSeat {
+    ghost use Rattle.std.specs.Arc.{arc_value};
+    ghost use Rattle.zq_hold.specs.Seats.{Holder, IsSeat};
+
+    ghost Value = { Holder };
+
+    ghost view = { λ s. record { home = s.seat.table_id; held = s.seat.me.0.held; left = s.seat.me.0.left } };
+
+    ghost invariant = { λ s. IsSeat s.seat (arc_value s.table).shared };
+}
+
+/// The seat lets the slot go, by one step. `Last` exactly where nobody holds it afterwards.
+pub fn release(seat: &mut HoldSeat, slot: Slot) -> Option<Last>
+    requires { 0 < times slot.0 seat.old.held }
+    ensures seat { seat.new ≡ record seat.old { held = without slot.0 seat.old.held; left = seat.new.left } }
+    ensures last { IfSome result (λ l. (l ≡ record { home = seat.old.home; slot = slot.0 }) × (seat.new.left ≡ 0)) }
+    ensures none { IfNone result (0 < seat.new.left) }
+{
+    let HoldSeat { table, seat } = seat;
+    release_slot(&**table, seat, slot)
+}
+
+/// The seats that are still to be taken.
+#[derive(Drop)]
+pub struct SeatList {
+    pub(crate) seats: Vec<HoldSeat>,
+}
+
+impl Model for SeatList {
+    ghost use Rattle.std.specs.Prelude.{List};
+    ghost use Rattle.zq_hold.specs.Seats.{Holder};
+
+    ghost Value = { List Holder };
+
+    ghost view = { λ l. l.seats.items };
+}
+
+impl SeatList {
+    /// The last of the seats; none exactly where there is none.
+    pub fn take(&mut self) -> Option<HoldSeat>
+        ensures some { IfSome result (λ s. self.old ≡ self.new ++ s ∷ []) }
+        ensures none { IfNone result ((self.old ≡ []) × (self.new ≡ [])) }
+    {
+        self.seats.pop()
+    }
+}
