@@ -1,5 +1,6 @@
 pub mod Hearing
 pub mod Reached
+pub mod Seated
 pub mod Beside
 pub mod Asking
 pub mod Due

@@ -34,7 +34,7 @@ impl Tables {
             return Ok(self.refused(Refusal::NoFreeId));
         }
         let face = FaceId(self.next_face);
-        let dues = dues_at_opening(self.alloc, &self.hats, &self.interests, face, opened(asked))?;
+        let dues = dues_at_opening(self.alloc, &self.hats, face, opened(asked))?;
         let all = match join_and_tell(
             self.alloc,
             &mut self.faces,
