@@ -1,15 +1,5 @@
 //! The gateway: each call is one event.
-//!
-//! - `tables`: what a gateway keeps, and a call by its kind
-//! - `faces`: faces that come and go
-//! - `keys`: numbers that faces declare for keys
-//! - `networks`: networks of regions of routers, and what node numbers stand for
-//! - `interests`: what faces ask to hear
-//! - `queryables`: queryables that faces declare and withdraw, and marks of what they have declared
-//! - `routers`: what routers announce and retract
-//! - `requests`: requests, and whom they are handed to
-//! - `replies`: replies, finals, reports that a reply was sent, and moments that have come
-#![tactic(auto, using(crate::proofs::Reached::reached_given))]
+#![tactic(auto, using(zq_calls::proofs::Reached::reached_given))]
 
 ghost use Rattle.std.specs.Prelude.{List, IfErr, ◌≡◌, [], true, IfOk};
 ghost use Rattle.std.specs.List.{cons_option};
@@ -20,21 +10,11 @@ ghost use Rattle.zq_machine.specs.declared.call.Call.{Call};
 ghost use Rattle.zq_machine.specs.Headline.{RunPromise};
 ghost use Rattle.zq_machine.specs.Machine.{after, done, refused_step, step};
 ghost use Rattle.zq_machine.specs.State.{opening_state};
-ghost use Rattle.zq_gateway.specs.Making.{Performs, MayPerform};
+ghost use Rattle.zq_calls.specs.Making.{Performs, MayPerform};
 
-mod faces;
-mod interests;
-mod keys;
-mod networks;
-mod queryables;
-mod replies;
-mod requests;
-mod routers;
-mod tables;
-
-use crate::gateway::tables::Tables;
 use std::alloc::Global;
 use std::marker::Model;
+use zq_calls::tables::Tables;
 use zq_hat::types::{FinalMark, Network, NodeIds};
 use zq_key::memory::OutOfMemory;
 use zq_key::message::{Declare, FaceId, Interest, Mode, Region, Request, Response, Zid};
@@ -52,7 +32,7 @@ pub struct Gateway {
 
 impl Model for Gateway {
     ghost use Rattle.zq_machine.specs.State.{State};
-    ghost use Rattle.zq_gateway.specs.Making.{IsReached};
+    ghost use Rattle.zq_calls.specs.Making.{IsReached};
 
     ghost Value = { State };
 
@@ -225,20 +205,20 @@ impl Gateway {
     pub fn config(&self) -> &Config
         ensures { result.now ≡ self.now.core.config }
     {
-        &self.tables.config
+        self.tables.config()
     }
 
     /// The gateway's own id.
     pub fn zid(&self) -> Zid
         ensures { result ≡ self.now.core.config.zid }
     {
-        self.tables.config.zid()
+        self.tables.config().zid()
     }
 
     /// The mode of the entry North.
     pub fn north(&self) -> Mode
         ensures { result ≡ north_of self.now.core.config.entries }
     {
-        self.tables.config.north()
+        self.tables.config().north()
     }
 }

@@ -102,7 +102,7 @@ seat_home c names tied r h face its has = by (at face c.faces) refl (sym (tied.s
         ∙ (region_there r c.hats h its).1
 
 -- ---- keys that are looked at
-keys_texts : (ks : List (List ℕ)) (hats : List (ℕ × HatState)) → AreTexts ks → Each Any IsWorded hats → AreTexts (fold with_region_keys ks hats)
+pub keys_texts : (ks : List (List ℕ)) (hats : List (ℕ × HatState)) → AreTexts ks → Each Any IsWorded hats → AreTexts (fold with_region_keys ks hats)
 keys_texts ks [] all w = all
 keys_texts ks (h ∷ hats) all w = keys_texts (with_region_keys ks h) hats (texts_put ks (region_keys h.1) all (region_texts h.1 w.0.1)) w.1
 

@@ -1,0 +1,53 @@
+-- What refuses an opening, what it is told, and what it leaves.
+use Rattle.std.proofs.Common.{◌≡◌, ◌∙◌, refl, sym, ap, true, false, not, cond, List, [], ◌∷◌, map, Some, None}
+use Rattle.zq_trees.specs.declared.types.Telling.{Telling as TreeTelling}
+use Rattle.zq_trees.specs.Tellings.{in_order}
+use Rattle.zq_tables.specs.Naming.{NamingState}
+use Rattle.zq_told.specs.declared.types.FaceDues.{FaceDues}
+use Rattle.zq_told.specs.Ears.{Ears, opened}
+use Rattle.zq_interests.specs.Interests.{Interests}
+use Rattle.zq_machine.specs.declared.call.Opening.{Opening}
+use Rattle.zq_machine.specs.declared.call.Outcome.TheVariants as outcome
+use Rattle.zq_machine.specs.declared.call.Refusal.TheVariants as refusal
+use Rattle.zq_machine.specs.declared.call.Step.{Step}
+use Rattle.zq_machine.specs.Deciding.{accepted, first_of, lacks_face_number, lacks_told, refusal_of, with_face, with_numbers}
+use Rattle.zq_machine.specs.Handing.{Handed}
+use Rattle.zq_machine.specs.Machine.{answer, settle}
+use Rattle.zq_machine.specs.Messages.{from_hat}
+use Rattle.zq_machine.specs.Neighbours.{looked_at}
+use Rattle.zq_machine.specs.State.{State, has_hat, is_full_region}
+use Rattle.zq_machine.specs.TextCalls.{opening}
+use Rattle.zq_machine.specs.Writing.{tell}
+use Rattle.zq_handing.specs.Telling.{behind}
+use Rattle.zq_calls.specs.Making.{IsReached}
+use Rattle.zq_calls.proofs.Due.{Gathers, due, told_answered, told_left}
+use Rattle.zq_machine.proofs.Keeping.{same_looked}
+
+module _ (s : State) (i : IsReached s) (o : Opening) where
+  module _ (there : has_hat o.region s.core ≡ true) (room : is_full_region o.region s.core ≡ false) (free : lacks_face_number s.core ≡ false) where
+    past_number : refusal_of s.core (opening o) ≡ cond (lacks_told s.core (opening o)) (Some refusal.NoFreeId) None
+    past_number =
+        λ j. first_of ((not (there j), refusal.UnknownRegion) ∷ (room j, refusal.UpstreamInUse) ∷ (free j, refusal.NoFreeId) ∷ (lacks_told s.core (opening o), refusal.NoFreeId) ∷ [])
+
+    pub opening_fits : lacks_told s.core (opening o) ≡ false → refusal_of s.core (opening o) ≡ None
+    opening_fits enough = past_number ∙ ap (λ b. cond b (Some refusal.NoFreeId) None) enough
+
+    pub opening_lacks : lacks_told s.core (opening o) ≡ true → refusal_of s.core (opening o) ≡ Some refusal.NoFreeId
+    opening_lacks lacks = past_number ∙ ap (λ b. cond b (Some refusal.NoFreeId) None) lacks
+
+  -- what its body gathers: nothing is told along trees
+  pub opening_gathers : (ears : Ears) → ears ≡ opened s.core.next_face s.core.config.start.told s.core.ears → (ints : Interests) → ints ≡ s.core.interests
+      → (dues : List FaceDues) → dues ≡ looked_at s.core (with_face o s.core) ints (opening o) → Gathers s.core (opening o) ears dues []
+  opening_gathers ears kept_is ints asked dues are = record {
+    is_kept = kept_is;
+    is_looked = are ∙ ap (λ (x : Interests). looked_at s.core (with_face o s.core) x (opening o)) asked ∙ sym (same_looked s.core (opening o));
+    is_told = refl;
+  }
+
+  module _ (fits : refusal_of s.core (opening o) ≡ None) (ts : List TreeTelling) (are : ts ≡ due s.core (opening o)) (l : List Handed) (new : NamingState)
+      (told : behind [] (tell (accepted s.core (opening o)) (map from_hat (in_order ts)) (with_numbers s)) ≡ record { handed = l; names = new }) where
+    pub opening_answered : ◌≡◌ {A = Step} (record { outcome = outcome.Opened (record { 0 = s.core.next_face }); handed = l }) (answer s (opening o))
+    opening_answered = told_answered s i (opening o) refl fits ts are l new told refl
+
+    pub opening_left : settle s (opening o) ≡ record { core = accepted s.core (opening o); names = new }
+    opening_left = told_left s i (opening o) refl fits ts are l new told

@@ -1,0 +1,114 @@
+use Rattle.std.proofs.Common.{◌≡◌, ◌∙◌, refl, sym, ap, Err, List, [], ◌++◌, map, Some, true≢false}
+use Rattle.std.specs.BTreeMap.{is_at}
+use Rattle.std.specs.Map.{remove_entry}
+use Rattle.std.specs.Option.{option_map_or}
+use Rattle.std.specs.Ordering.{nat_cmp}
+use Rattle.zq_trees.specs.declared.types.Telling.{Telling as TreeTelling}
+use Rattle.zq_trees.specs.Tellings.{in_order}
+use Rattle.zq_hat.specs.Kept.{keys_of_face, without_face}
+use Rattle.zq_interests.specs.Interests.{closed_face, has_keyed}
+use Rattle.zq_query.specs.Closing.{after_close, closing_finals}
+use Rattle.zq_query.specs.Records.{QueryState}
+use Rattle.zq_tables.specs.Naming.{NamingState}
+use Rattle.zq_told.specs.Ears.{closed as unheard}
+use Rattle.zq_told.specs.Rooms.{ears_of}
+use Rattle.zq_told.specs.Telling.{put_plan}
+use Rattle.zq_machine.specs.Deciding.{accepted}
+use Rattle.zq_machine.specs.Messages.{from_hat}
+use Rattle.zq_machine.specs.State.{State, change_hat, face_region}
+use Rattle.zq_machine.specs.TextCalls.{closing}
+use Rattle.zq_machine.specs.Trees.{all_own_told}
+use Rattle.zq_machine.specs.Writing.{sent_final, tell}
+use Rattle.zq_machine.proofs.Writing.{close_fits}
+use Rattle.zq_handing.specs.Neighbours.{told_with}
+use Rattle.zq_handing.specs.Telling.{behind}
+use Rattle.zq_calls.proofs.Due.{Gathers, changed_home, closed_answered, closed_left, closing_gathers, due_of_keys, gathered_due, gathered_lacks, gathered_left}
+use Rattle.zq_calls.proofs.Reached.{reached_enough}
+use Rattle.zq_calls.proofs.tables.Tables.close.Goals as goal
+
+pub tell_all-requires : goal.tell_all-requires
+tell_all-requires c enough =
+    let s : State = c.args.self.now in
+    let i = c.self.inside in
+    let v = c.self.view_is in
+    let face = c.args.face in
+    let r = c.in-Some.region in
+    let home : face_region face.0 s.core ≡ Some r = sym c.in-Some.ensures.region in
+    let fits = close_fits s face r home in
+    let t = closing face in
+    let hats = ap (λ (x : State). x.core.hats) v in
+    let keys = keys_of_face face.0 c.home-hat.result.now in
+    let told = c.in_ok-tell_left.ensures ∙ ap (λ (l : List TreeTelling). l ++ all_own_told i.hats (change_hat r (without_face face.0) i.hats) keys) c.new-told.ensures in
+    let ts = c.tell_left.new.told in
+    let dues = c.as_slice-2.result.now in
+    let changed = ap (change_hat r (without_face face.0)) hats ∙ sym (changed_home face.0 r s.core home (without_face face.0)) in
+    let g : Gathers s.core t (ears_of i.ears) dues ts =
+    closing_gathers s face r home i.hats hats keys (ap (λ o. option_map_or (keys_of_face face.0) o []) (sym c.home-hat.ensures.hat)) ts told (ears_of i.ears) (ap (λ (x : State). x.core.ears) v) i.interests (ap (λ (x : State). x.core.interests) v) dues
+    (c.as_slice-2.ensures ∙ c.in_ok-dues.ensures (accepted s.core t) (sym (ap (λ (x : State). remove_entry (is_at (nat_cmp face.0)) x.core.faces) v)) changed) in
+    due_of_keys s c.requires t refl fits (told_with (ears_of i.ears) dues ts) (gathered_due s.core t refl (ears_of i.ears) dues ts g)
+
+pub unreachable-requires : goal.unreachable-requires
+unreachable-requires c =
+    let s : State = c.args.self.now in
+    let i = c.self.inside in
+    let v = c.self.view_is in
+    let face = c.args.face in
+    let r = c.in-Some.region in
+    let home : face_region face.0 s.core ≡ Some r = sym c.in-Some.ensures.region in
+    let fits = close_fits s face r home in
+    let t = closing face in
+    let hats = ap (λ (x : State). x.core.hats) v in
+    let keys = keys_of_face face.0 c.home-hat.result.now in
+    let told = c.in_ok-tell_left.ensures ∙ ap (λ (l : List TreeTelling). l ++ all_own_told i.hats (change_hat r (without_face face.0) i.hats) keys) c.new-told.ensures in
+    let ts = c.tell_left.new.told in
+    let dues = c.as_slice-2.result.now in
+    let changed = ap (change_hat r (without_face face.0)) hats ∙ sym (changed_home face.0 r s.core home (without_face face.0)) in
+    let g : Gathers s.core t (ears_of i.ears) dues ts =
+    closing_gathers s face r home i.hats hats keys (ap (λ o. option_map_or (keys_of_face face.0) o []) (sym c.home-hat.ensures.hat)) ts told (ears_of i.ears) (ap (λ (x : State). x.core.ears) v) i.interests (ap (λ (x : State). x.core.interests) v) dues
+    (c.as_slice-2.ensures ∙ c.in_ok-dues.ensures (accepted s.core t) (sym (ap (λ (x : State). remove_entry (is_at (nat_cmp face.0)) x.core.faces) v)) changed) in
+    let lacks = sym (gathered_lacks s.core t refl (ears_of i.ears) dues ts g) ∙ c.in-Err-NoFreeId.ensures.no_free (ap (λ e. Err e) c.in-Err-NoFreeId.field-0-is) in
+    true≢false (sym lacks ∙ reached_enough s c.requires t fits refl refl)
+
+pub returns-in-Ok-close_planned : goal.returns-in-Ok-close_planned
+returns-in-Ok-close_planned c =
+    let s : State = c.args.self.now in
+    let i = c.self.inside in
+    let v = c.self.view_is in
+    let face = c.args.face in
+    let r = c.in-Some.region in
+    let home : face_region face.0 s.core ≡ Some r = sym c.in-Some.ensures.region in
+    let fits = close_fits s face r home in
+    let t = closing face in
+    let hats = ap (λ (x : State). x.core.hats) v in
+    let keys = keys_of_face face.0 c.home-hat.result.now in
+    let told = c.in_ok-tell_left.ensures ∙ ap (λ (l : List TreeTelling). l ++ all_own_told i.hats (change_hat r (without_face face.0) i.hats) keys) c.new-told.ensures in
+    let ts = c.tell_left.new.told in
+    let dues = c.as_slice-2.result.now in
+    let changed = ap (change_hat r (without_face face.0)) hats ∙ sym (changed_home face.0 r s.core home (without_face face.0)) in
+    let g : Gathers s.core t (ears_of i.ears) dues ts =
+    closing_gathers s face r home i.hats hats keys (ap (λ o. option_map_or (keys_of_face face.0) o []) (sym c.home-hat.ensures.hat)) ts told (ears_of i.ears) (ap (λ (x : State). x.core.ears) v) i.interests (ap (λ (x : State). x.core.interests) v) dues
+    (c.as_slice-2.ensures ∙ c.in_ok-dues.ensures (accepted s.core t) (sym (ap (λ (x : State). remove_entry (is_at (nat_cmp face.0)) x.core.faces) v)) changed) in
+    let queries : i.queries ≡ s.core.queries = ap (λ (x : State). x.core.queries) v in
+    let us = told_with (ears_of i.ears) dues ts in
+    let are = gathered_due s.core t refl (ears_of i.ears) dues ts g in
+    let finals = c.in_ok-finals.finals in
+    let all = c.in-Ok.all in
+    let handed = ap (λ (n : NamingState). behind finals (tell s.core (map from_hat (in_order us)) n)) (sym (ap (λ (x : State). x.names) v)) ∙ c.in-Ok.ensures.ok s.core (sym (ap (λ (x : State). x.core.faces) v)) (λ f k. ap (λ (x : State). has_keyed f k x.core.interests) v) in
+    let gone = c.remove.ensures.entries ∙ ap (remove_entry (is_at (nat_cmp face.0))) (ap (λ (x : State). x.core.faces) v) in
+    let left = c.leave.ensures ∙ changed in
+    let closed = c.in-Ok-close_planned.ensures.after ∙ ap (after_close face.0) queries in
+    let asked = ap (λ (x : State). closed_face face.0 x.core.interests) v in
+    let kept = c.close-in-Ok-close_planned.ensures ∙ ap (unheard face.0) (c.put.ensures.ears ∙ ap (put_plan c.as_slice-in-Ok-close_planned.result.now) c.tell_all.ensures.ears ∙ gathered_left s.core t refl (ears_of i.ears) dues ts g c.as_slice-in-Ok-close_planned.result.now (c.as_slice-in-Ok-close_planned.ensures ∙ c.in-Ok.ensures.plan)) in
+    record {
+      step =
+          c.told-in-Ok-close_planned.ensures
+          ∙ closed_answered s c.requires face r home fits us are finals all.handed c.tell_all.new.names handed
+          (c.in_ok-finals.ensures ∙ ap (map sent_final) (c.as_slice.ensures ∙ c.in_ok-last.ensures ∙ ap (λ (q : QueryState). closing_finals face.0 q) queries));
+      after =
+          (λ j. record {
+            core = record { config = (v j).core.config; faces = gone j; next_face = (v j).core.next_face; hats = left j; tables = (v j).core.tables; queries = closed j; interests = asked j; ears = kept j };
+            names = c.close.ensures j;
+          })
+          ∙ sym (closed_left s c.requires face r home fits us are finals all.handed c.tell_all.new.names handed);
+      err = tt;
+    }

@@ -1,0 +1,104 @@
+use Rattle.std.proofs.Common.{◌≡◌, ◌∙◌, refl, sym, ap, Err, List, [], map, Some, true≢false}
+use Rattle.zq_trees.specs.Tellings.{in_order}
+use Rattle.zq_hat.specs.Kept.{unregistered}
+use Rattle.zq_tables.specs.Naming.{NamingState}
+use Rattle.zq_interests.specs.Interests.{has_keyed}
+use Rattle.zq_told.specs.Rooms.{ears_of}
+use Rattle.zq_told.specs.Telling.{put_plan}
+use Rattle.zq_machine.specs.Deciding.{accepted}
+use Rattle.zq_machine.specs.Handing.{Handed}
+use Rattle.zq_machine.specs.Messages.{from_hat}
+use Rattle.zq_machine.specs.State.{State, change_hat, face_region, hat_at}
+use Rattle.zq_machine.specs.TextCalls.{withdrawing}
+use Rattle.zq_machine.specs.Writing.{tell}
+use Rattle.zq_handing.specs.Neighbours.{told_with}
+use Rattle.zq_handing.specs.Telling.{behind}
+use Rattle.zq_calls.proofs.Due.{changed_home, due_of_keys, gathered_due, gathered_lacks, gathered_left, withdrawal_fits, withdrawal_gathers, withdrawn_answered, withdrawn_left}
+use Rattle.zq_calls.proofs.Reached.{reached_enough}
+use Rattle.zq_calls.proofs.tables.Tables.undeclare_queryable.Goals as goal
+
+pub gather-requires : goal.gather-requires
+gather-requires c = c.home-hat.ensures.hat
+
+pub tell_all-requires : goal.tell_all-requires
+tell_all-requires c enough =
+    let s : State = c.args.self.now in
+    let i = c.self.inside in
+    let v = c.self.view_is in
+    let face = c.args.face in
+    let id = c.args.id in
+    let r = c.in-Some.region in
+    let h = c.home-hat.result.now in
+    let key = c.in-Some-key_at.key.now in
+    let t = withdrawing face id in
+    let home : face_region face.0 s.core ≡ Some r = sym c.in-Some.ensures.region in
+    let hats = ap (λ (x : State). x.core.hats) v in
+    let there : hat_at r s.core.hats ≡ Some h = ap (hat_at r) (sym hats) ∙ c.home-hat.ensures.hat in
+    let fits = withdrawal_fits s c.requires face id r home h there key c.in-Some-key_at.ensures in
+    let changed = ap (change_hat r (unregistered face.0 id)) hats ∙ sym (changed_home face.0 r s.core home (unregistered face.0 id)) in
+    let g =
+    withdrawal_gathers s c.requires face id r home h there key c.in-Some-key_at.ensures i.hats hats c.in_ok-found.found.told c.in_ok-found.ensures.told (ears_of i.ears) (ap (λ (x : State). x.core.ears) v)
+    i.interests (ap (λ (x : State). x.core.interests) v) c.as_slice.result.now (c.as_slice.ensures ∙ c.in_ok-found.ensures.dues (accepted s.core t) (sym (ap (λ (x : State). x.core.faces) v)) changed) in
+    due_of_keys s c.requires t refl fits (told_with (ears_of i.ears) c.as_slice.result.now c.in_ok-found.found.told) (gathered_due s.core t refl (ears_of i.ears) c.as_slice.result.now c.in_ok-found.found.told g)
+
+pub unreachable-requires : goal.unreachable-requires
+unreachable-requires c =
+    let s : State = c.args.self.now in
+    let i = c.self.inside in
+    let v = c.self.view_is in
+    let face = c.args.face in
+    let id = c.args.id in
+    let r = c.in-Some.region in
+    let h = c.home-hat.result.now in
+    let key = c.in-Some-key_at.key.now in
+    let t = withdrawing face id in
+    let home : face_region face.0 s.core ≡ Some r = sym c.in-Some.ensures.region in
+    let hats = ap (λ (x : State). x.core.hats) v in
+    let there : hat_at r s.core.hats ≡ Some h = ap (hat_at r) (sym hats) ∙ c.home-hat.ensures.hat in
+    let fits = withdrawal_fits s c.requires face id r home h there key c.in-Some-key_at.ensures in
+    let changed = ap (change_hat r (unregistered face.0 id)) hats ∙ sym (changed_home face.0 r s.core home (unregistered face.0 id)) in
+    let g =
+    withdrawal_gathers s c.requires face id r home h there key c.in-Some-key_at.ensures i.hats hats c.in_ok-found.found.told c.in_ok-found.ensures.told (ears_of i.ears) (ap (λ (x : State). x.core.ears) v)
+    i.interests (ap (λ (x : State). x.core.interests) v) c.as_slice.result.now (c.as_slice.ensures ∙ c.in_ok-found.ensures.dues (accepted s.core t) (sym (ap (λ (x : State). x.core.faces) v)) changed) in
+    let lacks = sym (gathered_lacks s.core t refl (ears_of i.ears) c.as_slice.result.now c.in_ok-found.found.told g) ∙ c.in-Err-NoFreeId.ensures.no_free (ap (λ e. Err e) c.in-Err-NoFreeId.field-0-is) in
+    true≢false (sym lacks ∙ reached_enough s c.requires t fits refl refl)
+
+pub returns-in-Ok-withdraw : goal.returns-in-Ok-withdraw
+returns-in-Ok-withdraw c =
+    let s : State = c.args.self.now in
+    let i = c.self.inside in
+    let v = c.self.view_is in
+    let face = c.args.face in
+    let id = c.args.id in
+    let r = c.in-Some.region in
+    let h = c.home-hat.result.now in
+    let key = c.in-Some-key_at.key.now in
+    let t = withdrawing face id in
+    let home : face_region face.0 s.core ≡ Some r = sym c.in-Some.ensures.region in
+    let hats = ap (λ (x : State). x.core.hats) v in
+    let there : hat_at r s.core.hats ≡ Some h = ap (hat_at r) (sym hats) ∙ c.home-hat.ensures.hat in
+    let fits = withdrawal_fits s c.requires face id r home h there key c.in-Some-key_at.ensures in
+    let changed = ap (change_hat r (unregistered face.0 id)) hats ∙ sym (changed_home face.0 r s.core home (unregistered face.0 id)) in
+    let told = c.in_ok-found.found.told in
+    let dues = c.as_slice.result.now in
+    let g =
+    withdrawal_gathers s c.requires face id r home h there key c.in-Some-key_at.ensures i.hats hats told c.in_ok-found.ensures.told (ears_of i.ears) (ap (λ (x : State). x.core.ears) v)
+    i.interests (ap (λ (x : State). x.core.interests) v) dues (c.as_slice.ensures ∙ c.in_ok-found.ensures.dues (accepted s.core t) (sym (ap (λ (x : State). x.core.faces) v)) changed) in
+    let ts = told_with (ears_of i.ears) dues told in
+    let are = gathered_due s.core t refl (ears_of i.ears) dues told g in
+    let handed =
+    ap (λ (f : List Handed). behind f (tell s.core (map from_hat (in_order ts)) s.names)) (sym c.new-none.ensures)
+    ∙ ap (λ (n : NamingState). behind c.new-none.result (tell s.core (map from_hat (in_order ts)) n)) (sym (ap (λ (x : State). x.names) v))
+    ∙ c.in-Ok.ensures.ok s.core (sym (ap (λ (x : State). x.core.faces) v)) (λ f k. ap (λ (x : State). has_keyed f k x.core.interests) v) in
+    let left = c.in-Ok-withdraw.ensures.ok ∙ ap (change_hat r (unregistered face.0 id)) hats ∙ sym (changed_home face.0 r s.core home (unregistered face.0 id)) in
+    let kept = c.put.ensures.ears ∙ ap (put_plan c.as_slice-in-Ok-withdraw.result.now) c.tell_all.ensures.ears ∙ gathered_left s.core t refl (ears_of i.ears) dues told g c.as_slice-in-Ok-withdraw.result.now (c.as_slice-in-Ok-withdraw.ensures ∙ c.in-Ok.ensures.plan) in
+    record {
+      step = c.told.ensures ∙ withdrawn_answered s c.requires face id fits ts are c.in-Ok.all.handed c.tell_all.new.names handed;
+      after =
+          (λ j. record {
+            core = record { config = (v j).core.config; faces = (v j).core.faces; next_face = (v j).core.next_face; hats = left j; tables = (v j).core.tables; queries = (v j).core.queries; interests = (v j).core.interests; ears = kept j };
+            names = c.release_queryable.ensures j;
+          })
+          ∙ sym (withdrawn_left s c.requires face id fits ts are c.in-Ok.all.handed c.tell_all.new.names handed);
+      err = tt;
+    }

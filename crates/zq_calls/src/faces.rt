@@ -1,0 +1,123 @@
+//! Faces that come and go.
+ghost use Rattle.std.specs.Prelude.{◌≡◌};
+ghost use Rattle.zq_machine.specs.TextCalls.{closing, opening};
+ghost use Rattle.zq_calls.specs.Making.{IsReached, Settles};
+
+use crate::tables::Tables;
+use zq_dues::changes::dues_left;
+use zq_dues::over::dues_at_opening;
+use zq_handing::neighbours::{take_back, tell_all};
+use zq_handing::opening::{join_and_tell, take_back_joined};
+use zq_handing::write::written_finals;
+use zq_key::items::Items;
+use zq_key::memory::OutOfMemory;
+use zq_key::message::FaceId;
+use zq_machine::call::{Opening, Outcome, Refusal, Step};
+use zq_own::hats;
+use zq_own::seating::{opened, seat};
+use zq_own::telling::tell_left;
+use zq_told::types::TellRefusal;
+
+impl Tables {
+    /// A face is opened.
+    pub fn open(&mut self, asked: &Opening) -> Result<Step, OutOfMemory>
+        requires { IsReached self.old }
+        ensures { Settles self.old self.new (opening asked.now) result }
+    {
+        if hats::hat_at(&self.hats, asked.region).is_none() {
+            return Ok(self.refused(Refusal::UnknownRegion));
+        }
+        if hats::is_full(&self.hats, asked.region) {
+            return Ok(self.refused(Refusal::UpstreamInUse));
+        }
+        if self.next_face == u32::MAX {
+            return Ok(self.refused(Refusal::NoFreeId));
+        }
+        let face = FaceId(self.next_face);
+        let dues = dues_at_opening(self.alloc, &self.hats, face, opened(asked))?;
+        let all = match join_and_tell(
+            self.alloc,
+            &mut self.faces,
+            &self.interests,
+            &mut self.names,
+            &mut self.ears,
+            face,
+            opened(asked),
+            self.config.counters().told,
+            dues.as_slice(),
+        ) {
+            Ok(all) => all,
+            Err(TellRefusal::NoFreeId) => return Ok(self.refused(Refusal::NoFreeId)),
+            Err(TellRefusal::OutOfMemory) => return Err(OutOfMemory),
+        };
+        match hats::join(&mut self.hats, asked.region, seat(face, asked)) {
+            Ok(()) => {
+                self.ears.put(all.plan.as_slice());
+                self.next_face += 1;
+                Ok(Step {
+                    outcome: Outcome::Opened(face),
+                    handed: all.handed,
+                })
+            }
+            Err(_) => {
+                take_back_joined(&mut self.faces, &mut self.names, &mut self.ears, &all, face);
+                Err(OutOfMemory)
+            }
+        }
+    }
+
+    /// A face is closed: its entries are let go, it gives up its numbers, and own entries that it
+    /// changes are told.
+    pub fn close(&mut self, face: FaceId) -> Result<Step, OutOfMemory>
+        requires { IsReached self.old }
+        ensures { Settles self.old self.new (closing face) result }
+    {
+        let Some(region) = self.region_of(face) else {
+            return Ok(self.refused(Refusal::UnknownFace));
+        };
+        let last = self.queries.would_close(face)?;
+        let finals = written_finals(self.alloc, last.as_slice())?;
+        let count = finals.len();
+        let hat = hats::home(&self.hats, region, face);
+        let mut told = Items::new(self.alloc);
+        tell_left(&self.hats, region, hat, face, &mut told)?;
+        let dues = dues_left(
+            self.alloc,
+            &self.faces,
+            &self.hats,
+            &self.interests,
+            region,
+            hat,
+            face,
+        )?;
+        let all = match tell_all(
+            self.alloc,
+            &self.faces,
+            &self.interests,
+            &mut self.names,
+            &mut self.ears,
+            dues.as_slice(),
+            told,
+            finals,
+        ) {
+            Ok(all) => all,
+            Err(TellRefusal::NoFreeId) => unreachable!(),
+            Err(TellRefusal::OutOfMemory) => return Err(OutOfMemory),
+        };
+        match self.queries.close_planned(face) {
+            Ok(()) => {
+                hats::leave(&mut self.hats, region, face);
+                let _ = self.faces.remove(&face.0);
+                self.interests.close(face);
+                self.names.close(face);
+                self.ears.put(all.plan.as_slice());
+                self.ears.close(face);
+                Ok(self.told(all.handed))
+            }
+            Err(_) => {
+                take_back(&mut self.names, &mut self.ears, &all, count);
+                Err(OutOfMemory)
+            }
+        }
+    }
+}

@@ -1,0 +1,165 @@
+//! What faces ask to hear.
+ghost use Rattle.std.specs.Prelude.{◌≡◌, None, Some, IfErr, IfOk};
+ghost use Rattle.std.specs.Option.{option_map};
+ghost use Rattle.zq_machine.specs.declared.call.Call.TheVariants as call;
+ghost use Rattle.zq_machine.specs.Selecting.{full_text};
+ghost use Rattle.zq_machine.specs.TextCalls.{hearing, said_if, unhearing};
+ghost use Rattle.zq_calls.specs.Asking.{asking_refusal};
+ghost use Rattle.zq_calls.specs.Making.{IsReached, Performs, Settles};
+
+use crate::tables::Tables;
+use std::alloc::Global;
+use zq_dues::asked::{dues_asked, dues_ended};
+use zq_handing::answers::{hold_and_answer, plan_end, take_back_answered};
+use zq_handing::read::key_said;
+use zq_interests::numbers::WithInterest;
+use zq_interests::types::InterestEntry;
+use zq_key::Key;
+use zq_key::memory::OutOfMemory;
+use zq_key::message::{FaceId, WireExpr};
+use zq_machine::call::{Refusal, Step};
+use zq_tables::said::Said;
+use zq_told::types::TellRefusal;
+
+// The key that an interest asks for, none where it has no expression; or what refuses it.
+fn key_asked(
+    alloc: Global,
+    said: &Option<Said>,
+) -> Result<Result<Option<Key>, Refusal>, OutOfMemory>
+    ensures key { IfOk result (λ r. IfOk r (λ k. k ≡ option_map full_text said.now)) }
+    ensures valid { IfOk result (λ r. IfOk r (λ k. asking_refusal said.now ≡ None)) }
+    ensures refused { IfOk result (λ r. IfErr r (λ x. asking_refusal said.now ≡ Some x)) }
+{
+    let Some(said) = said else {
+        return Ok(Ok(None));
+    };
+    match key_said(alloc, said)? {
+        Ok(key) => Ok(Ok(Some(key))),
+        Err(refusal) => Ok(Err(refusal)),
+    }
+}
+
+impl Tables {
+    // What an expression says, if there is one.
+    fn said_if(
+        &self,
+        face: FaceId,
+        wire: &Option<WireExpr>,
+    ) -> Result<Option<Said>, OutOfMemory>
+        ensures { IfOk result (λ s. s ≡ said_if face wire.now self.now) }
+    {
+        match wire {
+            Some(wire) => Ok(Some(self.names.said(face, wire)?)),
+            None => Ok(None),
+        }
+    }
+
+    // A face asks to hear of the keys that meet an expression's key, or of all; it is answered by all
+    // that is due there.
+    fn ask_to_hear(
+        &mut self,
+        face: FaceId,
+        id: u32,
+        keys: bool,
+        said: &Option<Said>,
+    ) -> Result<Step, OutOfMemory>
+        requires { IsReached self.old }
+        ensures { Settles self.old self.new (hearing face id keys said.now) result }
+    {
+        let Some(opened) = self.opened(face) else {
+            return Ok(self.refused(Refusal::UnknownFace));
+        };
+        let key = match key_asked(self.alloc, said)? {
+            Ok(key) => key,
+            Err(refusal) => return Ok(self.refused(refusal)),
+        };
+        if self.interests.asks_another(face, id, key.as_ref()) {
+            return Ok(self.refused(Refusal::IdInUse));
+        }
+        let dues = dues_asked(self.alloc, &self.hats, face, opened, key.as_ref())?;
+        let entry = InterestEntry { key, keys };
+        let fresh = entry.key.is_some() && !self.names.holds_interest(face, id);
+        let asked = WithInterest {
+            interests: &self.interests,
+            face,
+            id,
+            entry: &entry,
+        };
+        let all = match hold_and_answer(
+            self.alloc,
+            &self.faces,
+            &asked,
+            &mut self.names,
+            &mut self.ears,
+            face,
+            id,
+            entry.key.as_ref(),
+            dues.as_slice(),
+        ) {
+            Ok(all) => all,
+            Err(TellRefusal::NoFreeId) => return Ok(self.refused(Refusal::NoFreeId)),
+            Err(TellRefusal::OutOfMemory) => return Err(OutOfMemory),
+        };
+        match self.interests.put(self.alloc, face, id, entry) {
+            Ok(()) => {
+                self.ears.put(all.plan.as_slice());
+                Ok(self.told(all.handed))
+            }
+            Err(_) => {
+                take_back_answered(&mut self.names, &mut self.ears, &all, face, id, fresh);
+                Err(OutOfMemory)
+            }
+        }
+    }
+
+    /// A face asks to hear, with its expression read.
+    pub fn register_interest(
+        &mut self,
+        face: FaceId,
+        id: u32,
+        keys: bool,
+        wire: &Option<WireExpr>,
+    ) -> Result<Step, OutOfMemory>
+        requires { IsReached self.old }
+        ensures { Performs self.old self.new (call.Interest face id keys wire.now) result }
+    {
+        let said = self.said_if(face, wire)?;
+        self.ask_to_hear(face, id, keys, &said)
+    }
+
+    /// A face asks no longer. It is told nothing; of what it was told only what is still due is kept.
+    pub fn unregister_interest(
+        &mut self,
+        face: FaceId,
+        id: u32,
+    ) -> Result<Step, OutOfMemory>
+        requires { IsReached self.old }
+        ensures { Settles self.old self.new (unhearing face id) result }
+    {
+        let Some(opened) = self.opened(face) else {
+            return Ok(self.refused(Refusal::UnknownFace));
+        };
+        let Some(entry) = self.interests.get(face, id) else {
+            return Ok(self.refused(Refusal::UnknownId));
+        };
+        let dues = dues_ended(
+            self.alloc,
+            &self.hats,
+            &self.interests,
+            &self.ears,
+            face,
+            id,
+            opened,
+            entry.key.as_ref(),
+        )?;
+        let plan = match plan_end(self.alloc, &mut self.ears, dues.as_slice()) {
+            Ok(plan) => plan,
+            Err(TellRefusal::NoFreeId) => unreachable!(),
+            Err(TellRefusal::OutOfMemory) => return Err(OutOfMemory),
+        };
+        self.interests.end(face, id);
+        self.names.release_interest(face, id);
+        self.ears.put(plan.as_slice());
+        Ok(self.done())
+    }
+}

@@ -1,0 +1,93 @@
+//! Requests, and whom they are handed to.
+ghost use Rattle.std.specs.Prelude.{◌≡◌, Some, true, IfOk, map};
+ghost use Rattle.zq_query.specs.Asking.{are_distinct, face_numbers};
+ghost use Rattle.zq_machine.specs.Deciding.{opened};
+ghost use Rattle.zq_machine.specs.Selecting.{select_for, target_of};
+ghost use Rattle.zq_machine.specs.State.{at};
+ghost use Rattle.zq_machine.specs.TextCalls.{asking};
+ghost use Rattle.zq_calls.specs.Making.{IsReached, Settles};
+ghost use Rattle.zq_own.specs.Seats.{seats};
+
+use crate::tables::Tables;
+use zq_handing::read::{full_text, into_text, says_key};
+use zq_handing::select::{Asker, targets_of};
+use zq_handing::write::written_requests;
+use zq_hat::types::QueryTargetQabl;
+use zq_key::memory::OutOfMemory;
+use zq_key::message::{FaceId, Request};
+use zq_machine::call::{Outcome, Refusal, Step};
+use zq_machine::face::OpenFace;
+use zq_own::hats;
+use zq_query::records::AskRefusal;
+use zq_tables::said::Said;
+
+impl Tables {
+    // The offers that a request is handed to, of each face one.
+    fn select(
+        &self,
+        face: FaceId,
+        opened: OpenFace,
+        said: &Said,
+        request: &Request,
+    ) -> Result<Vec<QueryTargetQabl>, OutOfMemory>
+        requires open { at face.0 self.now.core.faces ≡ Some opened }
+        requires seated { seats opened.region face.0 self.now.core.hats ≡ Some true }
+        ensures offers { IfOk result (λ v. v.items ≡ select_for self.now.core face said.now request.now (Some opened)) }
+        ensures distinct { IfOk result (λ v. are_distinct (face_numbers (map target_of v.items)) ≡ true) }
+    {
+        if !says_key(said) {
+            return Ok(Vec::new(self.alloc));
+        }
+        let asker = Asker {
+            faces: &self.faces,
+            tables: &self.tables,
+            own: self.config.zid(),
+            face,
+            opened,
+            source: hats::router_by(&self.hats, opened.region, face, request.node),
+            context: hats::place_by(&self.hats, opened.region, face, request.node),
+        };
+        asker.select(self.alloc, &self.hats, full_text(said), request.target)
+    }
+
+    // A request of a face.
+    pub(crate) fn request(
+        &mut self,
+        face: FaceId,
+        said: Said,
+        request: &Request,
+        now: u64,
+    ) -> Result<Step, OutOfMemory>
+        requires { IsReached self.old }
+        ensures { Settles self.old self.new (asking face said request.now now) result }
+    {
+        let Some(opened) = self.opened(face) else {
+            return Ok(self.refused(Refusal::UnknownFace));
+        };
+        let offers = self.select(face, opened, &said, request)?;
+        let targets = targets_of(self.alloc, offers.as_slice())?;
+        let places = match self.queries.plan(targets.as_slice()) {
+            Ok(places) => places,
+            Err(AskRefusal::NoFreeId) => return Ok(self.refused(Refusal::NoFreeId)),
+            Err(AskRefusal::OutOfMemory) => return Err(OutOfMemory),
+        };
+        let handed = written_requests(
+            self.alloc,
+            &self.queries,
+            &self.names,
+            face,
+            into_text(self.alloc, said),
+            request,
+            offers.as_slice(),
+            places.as_slice(),
+        )?;
+        let number = self.queries.next_number();
+        let deadline = now.saturating_add(request.timeout.unwrap_or(self.config.timeout()));
+        self.queries
+            .ask_planned(face, request.id, request.qos, places.as_slice(), deadline)?;
+        Ok(Step {
+            outcome: Outcome::Asked(number),
+            handed,
+        })
+    }
+}

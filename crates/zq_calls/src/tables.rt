@@ -1,0 +1,305 @@
+//! What a gateway keeps, and a call by its kind.
+ghost use Rattle.std.specs.Prelude.{◌≡◌, ◌<◌, ◌^◌, [], true, Some, IfOk, IfErr, IfSome, OnOk};
+ghost use Rattle.std.specs.List.{cons_option};
+ghost use Rattle.zq_machine.specs.declared.call.Call.TheVariants as call;
+ghost use Rattle.zq_machine.specs.Calls.{declared_call, declaring_call};
+ghost use Rattle.zq_machine.specs.Machine.{after, done, refused_step, step};
+ghost use Rattle.zq_machine.specs.State.{at, face_region, is_open, opening_state};
+ghost use Rattle.zq_machine.specs.TextCalls.{listing};
+ghost use Rattle.zq_calls.specs.Making.{IsReached, Performs, MayPerform, Settles};
+ghost use Rattle.zq_own.specs.Seats.{seats};
+
+use std::alloc::Global;
+use std::collections::BTreeMap;
+use std::marker::Model;
+use zq_handing::write::written_final;
+use zq_hat::hat::Hat;
+use zq_hat::types::FinalMark;
+use zq_interests::interests::Interests;
+use zq_key::items::Items;
+use zq_key::memory::OutOfMemory;
+use zq_key::message::{Declare, DeclareBody, FaceId, Region, Request, Response};
+use zq_machine::call::{Call, Outcome, Refusal, Step};
+use zq_machine::config::Config;
+use zq_machine::face::OpenFace;
+use zq_machine::handed::{Handed, HandedList};
+use zq_own::hats;
+use zq_query::queries::Queries;
+use zq_route::gateways::Gateways;
+use zq_tables::RegionMap;
+use zq_tables::naming::Naming;
+use zq_told::ears::Ears;
+
+/// What a gateway keeps (upstream's `Tables` with its faces): the open faces, a hat for each region,
+/// the gateways that were listed, the open queries, the numbers of keys, what faces ask to hear, and
+/// what they were told.
+#[derive(Drop)]
+pub struct Tables {
+    pub(crate) alloc: Global,
+    pub(crate) config: Config,
+    pub(crate) faces: BTreeMap<u32, OpenFace>,
+    pub(crate) next_face: u32,
+    pub(crate) hats: RegionMap<Hat>,
+    pub(crate) tables: RegionMap<Gateways>,
+    pub(crate) queries: Queries,
+    pub(crate) names: Naming,
+    pub(crate) interests: Interests,
+    pub(crate) ears: Ears,
+}
+
+impl Model for Tables {
+    ghost use Rattle.zq_told.specs.Rooms.{ears_of};
+    ghost use Rattle.zq_machine.specs.State.{State};
+
+    ghost Value = { State };
+
+    ghost view = { λ t. record {
+      core = record {
+        config = t.config;
+        faces = t.faces.entries;
+        next_face = t.next_face;
+        hats = t.hats;
+        tables = t.tables;
+        queries = t.queries;
+        interests = t.interests;
+        ears = ears_of t.ears;
+      };
+      names = t.names;
+    } };
+}
+
+impl Tables {
+    /// A new gateway's.
+    pub fn new(alloc: Global, config: &Config) -> Result<Tables, OutOfMemory>
+        ensures opening { IfOk result (λ t. t ≡ opening_state config.now) }
+        ensures low { OnOk result (config.now.start.told < 2 ^ 32) }
+    {
+        let counters = *config.counters();
+        let _told = counters.told;
+        Ok(Tables {
+            alloc,
+            config: config.copy(alloc)?,
+            faces: BTreeMap::new(alloc),
+            next_face: counters.faces,
+            hats: hats::first_hats(alloc, config)?,
+            tables: RegionMap::new(alloc),
+            queries: Queries::new(
+                alloc,
+                counters.requests,
+                counters.replies,
+                counters.request_ids,
+            ),
+            names: Naming::new(alloc)?,
+            interests: Interests::new(alloc),
+            ears: Ears::new(alloc),
+        })
+    }
+
+    /// What the gateway was made with.
+    pub fn config(&self) -> &Config
+        ensures { result.now ≡ self.now.core.config }
+    {
+        &self.config
+    }
+
+    /// Performs a call: one event, which is answered by a step. The first cause that holds refuses it,
+    /// and then nothing changes; a call that finds no memory changes nothing either.
+    pub fn call(&mut self, call: &Call) -> Result<Step, OutOfMemory>
+        requires { IsReached self.old }
+        ensures { Performs self.old self.new call.now result }
+    {
+        match call {
+            Call::Open(asked) => self.open(asked),
+            Call::Close { face } => self.close(*face),
+            Call::DeclareKeyExpr { face, id, wire } => self.name_key(*face, *id, wire),
+            Call::UndeclareKeyExpr { face, id } => self.undeclare_key(*face, *id),
+            Call::DeclareQueryable {
+                face,
+                id,
+                wire,
+                info,
+                node,
+            } => self.register(*face, *id, wire, *info, *node),
+            Call::UndeclareQueryable {
+                face,
+                id,
+                wire,
+                node,
+            } => self.unregister(*face, *id, wire, *node),
+            Call::Request { face, request, now } => self.send_request(*face, request, *now),
+            Call::Response { face, response } => self.send_response(*face, response),
+            Call::ResponseFinal { face, rid } => self.response_final(*face, *rid),
+            Call::Sent { reply } => self.report(*reply),
+            Call::Poll { now } => self.pass(*now),
+            Call::SetGateways { region, table } => self.list_gateways(*region, table),
+            Call::FinalizeInterest { face, mark, set } => self.finalize(*face, mark, *set),
+            Call::Interest {
+                face,
+                id,
+                keys,
+                wire,
+            } => self.register_interest(*face, *id, *keys, wire),
+            Call::InterestFinal { face, id } => self.unregister_interest(*face, *id),
+            Call::SetNetwork { region, net } => self.set_network(*region, net),
+            Call::SetNodeIds { face, ids } => self.set_node_ids(*face, ids),
+        }
+    }
+
+    /// A request of a face, with its expression read.
+    pub fn send_request(
+        &mut self,
+        face: FaceId,
+        msg: &Request,
+        now: u64,
+    ) -> Result<Step, OutOfMemory>
+        requires { IsReached self.old }
+        ensures { Performs self.old self.new (call.Request face msg.now now) result }
+    {
+        let said = self.names.said(face, &msg.wire)?;
+        self.request(face, said, msg, now)
+    }
+
+    /// A reply of a target, with its expression read.
+    pub fn send_response(&mut self, face: FaceId, msg: &Response) -> Result<Step, OutOfMemory>
+        ensures { Performs self.old self.new (call.Response face msg.now) result }
+    {
+        let said = self.names.said(face, &msg.wire)?;
+        self.reply(face, said, msg)
+    }
+
+    /// A declaration of a face.
+    pub fn send_declare(&mut self, face: FaceId, msg: &Declare) -> Result<Step, OutOfMemory>
+        requires reached { IsReached self.old }
+        ensures { MayPerform self.old self.new (declared_call face msg.now) result }
+    {
+        self.declare(face, msg.node, msg.interest, &msg.body)
+    }
+
+    /// A target ends a query. It takes no memory.
+    #[tactic(auto, using(zq_machine::proofs::Writing::finals_written))]
+    pub fn send_response_final(&mut self, face: FaceId, rid: u32) -> Result<Option<Handed>, Refusal>
+        ensures handed { IfOk result (λ o. step self.old (call.ResponseFinal face rid) ≡ done (cons_option o [])) }
+        ensures refused { IfErr result (λ r. step self.old (call.ResponseFinal face rid) ≡ refused_step r) }
+        ensures after { self.new ≡ after self.old (call.ResponseFinal face rid) }
+    {
+        if !self.is_open(face) {
+            return Err(Refusal::UnknownFace);
+        }
+        match self.queries.last(face, rid) {
+            Ok(Some(last)) => Ok(Some(written_final(last))),
+            Ok(None) => Ok(None),
+            Err(_) => Err(Refusal::QueryNotFound),
+        }
+    }
+
+    /// A reply was sent. It takes no memory.
+    #[tactic(auto, using(zq_machine::proofs::Writing::finals_written))]
+    pub fn sent(&mut self, reply: u64) -> Result<Option<Handed>, Refusal>
+        ensures handed { IfOk result (λ o. step self.old (call.Sent reply) ≡ done (cons_option o [])) }
+        ensures refused { IfErr result (λ r. step self.old (call.Sent reply) ≡ refused_step r) }
+        ensures after { self.new ≡ after self.old (call.Sent reply) }
+    {
+        match self.queries.sent(reply) {
+            Ok(Some(last)) => Ok(Some(written_final(last))),
+            Ok(None) => Ok(None),
+            Err(_) => Err(Refusal::NotInFlight),
+        }
+    }
+
+    pub(crate) fn refused(&self, refusal: Refusal) -> Step
+        ensures { result ≡ refused_step refusal }
+    {
+        Step {
+            outcome: Outcome::Refused(refusal),
+            handed: Items::new(self.alloc),
+        }
+    }
+
+    pub(crate) fn done(&self) -> Step
+        ensures { result ≡ done [] }
+    {
+        self.told(Items::new(self.alloc))
+    }
+
+    pub(crate) fn told(&self, handed: HandedList) -> Step
+        ensures { result ≡ done handed }
+    {
+        Step {
+            outcome: Outcome::Done,
+            handed,
+        }
+    }
+
+    pub(crate) fn is_open(&self, face: FaceId) -> bool
+        ensures { result ≡ is_open face.0 self.now.core }
+    {
+        self.faces.contains_key(&face.0)
+    }
+
+    /// The region of an open face. Its hat has the face.
+    #[tactic(auto, using(crate::proofs::Reached::reached_seated))]
+    pub(crate) fn region_of(&self, face: FaceId) -> Option<Region>
+        requires { IsReached self.now }
+        ensures region { result ≡ face_region face.0 self.now.core }
+        ensures seated { IfSome result (λ r. seats r face.0 self.now.core.hats ≡ Some true) }
+    {
+        match self.faces.get(&face.0) {
+            Some(open) => Some(open.region),
+            None => None,
+        }
+    }
+
+    /// An open face. The hat of its region has it.
+    #[tactic(auto, using(crate::proofs::Reached::reached_seated))]
+    pub(crate) fn opened(&self, face: FaceId) -> Option<OpenFace>
+        requires { IsReached self.now }
+        ensures found { result ≡ at face.0 self.now.core.faces }
+        ensures seated { IfSome result (λ o. seats o.region face.0 self.now.core.hats ≡ Some true) }
+    {
+        match self.faces.get(&face.0) {
+            Some(opened) => Some(*opened),
+            None => None,
+        }
+    }
+
+    // A declaration, by its kind.
+    pub(crate) fn declare(
+        &mut self,
+        face: FaceId,
+        node: u16,
+        interest: Option<u32>,
+        body: &DeclareBody,
+    ) -> Result<Step, OutOfMemory>
+        requires reached { IsReached self.old }
+        ensures { MayPerform self.old self.new (declaring_call face node interest body.now) result }
+    {
+        match body {
+            DeclareBody::DeclareKeyExpr { id, wire } => self.name_key(face, *id, wire),
+            DeclareBody::UndeclareKeyExpr { id } => self.undeclare_key(face, *id),
+            DeclareBody::DeclareQueryable { id, wire, info } => {
+                self.register(face, *id, wire, *info, node)
+            }
+            DeclareBody::UndeclareQueryable { id, wire } => self.unregister(face, *id, wire, node),
+            DeclareBody::DeclareFinal => match interest {
+                Some(0) => self.finalize(face, &FinalMark::Initial, true),
+                _ => Ok(self.done()),
+            },
+        }
+    }
+
+    /// The gateways of a region are listed.
+    pub fn list_gateways(
+        &mut self,
+        region: Region,
+        table: &Gateways,
+    ) -> Result<Step, OutOfMemory>
+        ensures { Settles self.old self.new (listing region table.now) result }
+    {
+        if hats::hat_at(&self.hats, region).is_none() {
+            return Ok(self.refused(Refusal::UnknownRegion));
+        }
+        let copy = table.copy(self.alloc)?;
+        hats::put_table(&mut self.tables, region, copy)?;
+        Ok(self.done())
+    }
+}
