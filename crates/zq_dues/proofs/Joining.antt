@@ -34,16 +34,28 @@ use Rattle.zq_machine.specs.TextCalls.{opening}
 use Rattle.zq_machine.specs.Trees.{own_entry, with_other}
 use Rattle.zq_machine.proofs.Changing.{hat_here, number_test, region_there}
 use Rattle.zq_machine.proofs.Folding.{fold_put, fold_set}
-use Rattle.zq_dues.specs.Dues.{all_keys, dues_as, hears_as, listens_as, will_be_due, will_listen}
-use Rattle.zq_dues.specs.Over.{IsOpening, looked_as}
+use Rattle.zq_dues.specs.Dues.{all_dues_as, all_keys, dues_as, hears_as, listens_as, will_be_due, will_listen}
+use Rattle.zq_dues.specs.Over.{IsOpening}
 use Rattle.zq_dues.proofs.Nexts.{dues_are}
 
--- ---- a face that listens on nothing unasked, and asks for nothing
-pub none_listening : (asks : List ℕ → Bool) (face : ℕ) (o : OpenFace) (hats : List (ℕ × HatState)) → ((key : List ℕ) → asks key ≡ false) → listens_as false hats o ≡ false → (keys : List (List ℕ)) → dues_as asks None face o hats keys ≡ []
-none_listening asks face o hats unasked deaf [] = refl
-none_listening asks face o hats unasked deaf (k ∷ ks) =
-    ap (λ b. map (will_be_due asks None face o hats) (cond b (k ∷ filter (will_listen asks None o hats) ks) (filter (will_listen asks None o hats) ks))) (ap (λ b. listens_as b hats o) (unasked k) ∙ deaf)
-    ∙ none_listening asks face o hats unasked deaf ks
+-- ---- a face that asks for nothing
+abbrev pub nothing : List ℕ → Bool
+nothing key = false
+
+module _ (face : ℕ) (o : OpenFace) (hats : List (ℕ × HatState)) where
+  -- it listens on no key
+  pub none_listening : listens_as false hats o ≡ false → (keys : List (List ℕ)) → dues_as nothing None face o hats keys ≡ []
+  none_listening deaf [] = refl
+  none_listening deaf (k ∷ ks) =
+      ap (λ b. map (will_be_due nothing None face o hats) (cond b (k ∷ filter (will_listen nothing None o hats) ks) (filter (will_listen nothing None o hats) ks))) deaf
+      ∙ none_listening deaf ks
+
+  -- or on each
+  pub each_listening : listens_as false hats o ≡ true → (keys : List (List ℕ)) → all_dues_as nothing face o hats keys ≡ dues_as nothing None face o hats keys
+  each_listening heard [] = refl
+  each_listening heard (k ∷ ks) =
+      ap (λ l. will_be_due nothing None face o hats k ∷ l) (each_listening heard ks)
+      ∙ ap (λ b. map (will_be_due nothing None face o hats) (cond b (k ∷ filter (will_listen nothing None o hats) ks) (filter (will_listen nothing None o hats) ks))) (sym heard)
 
 -- ---- a hat that a face joins
 module _ (r : FaceRecord) where
@@ -188,19 +200,18 @@ module _ (c : Core) (ints : Interests) (o : Opening) (free : at c.next_face c.fa
   all_same [] = tt
   all_same (k ∷ ks) = (refl, all_same ks)
 
-  opening_looks : (asks : List ℕ → Bool) → ((key : List ℕ) → asks key ≡ asks_for c.next_face key ints)
-      → with_dues c.next_face (dues_as asks None c.next_face (opened o) c.hats (due_keys c)) ≡ looked_at c after ints (opening o)
-  opening_looks asks asked =
+  opening_looks : ((key : List ℕ) → asks_for c.next_face key ints ≡ false) → with_dues c.next_face (dues_as nothing None c.next_face (opened o) c.hats (due_keys c)) ≡ looked_at c after ints (opening o)
+  opening_looks unasked =
       ap (with_dues c.next_face)
-      (dues_seated (seat c.next_face o) (opened o) c.hats asks c.next_face (due_keys c)
-      ∙ dues_are after ints asks None c.next_face (opened o) after.hats (due_keys c) (record { opened = found_new; asked = asked; after = all_same (due_keys c) }))
+      (dues_seated (seat c.next_face o) (opened o) c.hats nothing c.next_face (due_keys c)
+      ∙ dues_are after ints nothing None c.next_face (opened o) after.hats (due_keys c) (λ key. sym (unasked key)) (record { opened = found_new; after = all_same (due_keys c) }))
       ∙ sym opening_alone
 
-pub opening_is : (c : Core) (ints : Interests) (asks : List ℕ → Bool) (face : ℕ) (p : OpenFace) (o : Opening) (hats : List (ℕ × HatState)) → IsOpening c ints asks face p o hats
-    → with_dues face (dues_as asks None face p hats (all_keys hats)) ≡ looked_at c (with_face o c) ints (opening o)
-opening_is c ints asks face p o hats is =
-    (λ j. with_dues (sym is.next j) (dues_as asks None (sym is.next j) (sym is.opens j) (is.same j) (all_keys (is.same j))))
-    ∙ opening_looks c ints o (ap (λ n. at n c.faces) is.next ∙ is.free) asks (λ key. is.asked key ∙ ap (λ n. asks_for n key ints) (sym is.next))
+pub opening_is : (c : Core) (ints : Interests) (face : ℕ) (p : OpenFace) (o : Opening) (hats : List (ℕ × HatState)) → IsOpening c ints face p o hats
+    → with_dues face (dues_as nothing None face p hats (all_keys hats)) ≡ looked_at c (with_face o c) ints (opening o)
+opening_is c ints face p o hats is =
+    (λ j. with_dues (sym is.next j) (dues_as nothing None (sym is.next j) (sym is.opens j) (is.same j) (all_keys (is.same j))))
+    ∙ opening_looks c ints o (ap (λ n. at n c.faces) is.next ∙ is.free) (λ key. ap (λ n. asks_for n key ints) is.next ∙ is.unasked key)
 
 -- ---- where nothing is asked for all keys are met
 all_met : (keys : List (List ℕ)) → filter (meets None) keys ≡ keys
@@ -208,9 +219,10 @@ all_met [] = refl
 all_met (k ∷ ks) = ap (λ l. k ∷ l) (all_met ks)
 
 -- so that a list of the one face has its dues on all of them
-pub one_listed : (asks : ℕ → List ℕ → Bool) (face : ℕ) (p : OpenFace) (hats : List (ℕ × HatState)) (keys : List (List ℕ)) (dues : List KeyDue) (before list : List FaceDues)
-    → keys ≡ filter (meets None) (all_keys hats) → dues ≡ dues_as (asks face) None face p hats keys → before ≡ [] → list ≡ before ++ with_dues face dues → list ≡ looked_as asks None hats (all_keys hats) (face, p)
-one_listed asks face p hats keys dues before list met are none is =
+pub one_listed : (face : ℕ) (p : OpenFace) (hats : List (ℕ × HatState)) (keys : List (List ℕ)) (dues : List KeyDue) (before list : List FaceDues)
+    → listens_as false hats p ≡ true → keys ≡ filter (meets None) (all_keys hats) → dues ≡ all_dues_as nothing face p hats keys → before ≡ [] → list ≡ before ++ with_dues face dues → list ≡ with_dues face (dues_as nothing None face p hats (all_keys hats))
+one_listed face p hats keys dues before list heard met are none is =
     is
     ∙ (λ j. none j ++ with_dues face (are j))
-    ∙ ap (λ ks. with_dues face (dues_as (asks face) None face p hats ks)) (met ∙ all_met (all_keys hats))
+    ∙ ap (λ ks. with_dues face (all_dues_as nothing face p hats ks)) (met ∙ all_met (all_keys hats))
+    ∙ ap (with_dues face) (each_listening face p hats heard (all_keys hats))

@@ -1,4 +1,6 @@
 pub mod Nexts
 pub mod KeysGathered
 pub mod Overs
+pub mod Listening
 pub mod Joining
+pub mod AskedDues

@@ -230,5 +230,6 @@ module _ (c : Core) (ints : Interests) (asks : List ℕ → Bool) (next : Option
       all_by key keys (will_listen asks next o hats key) (ap (λ i. (key, i)) (due_is c ints face o opened key (asks key) (asked key) (hats_after next key hats) all.0)) (all_dues keys all.1)
       ∙ ap (λ b. map (due_on c ints face) (cond b (key ∷ filter (λ k. listens c ints face k) keys) (filter (λ k. listens c ints face k) keys))) (listens_is c ints face o opened key (asks key) (asked key) (hats_after next key hats) all.0)
 
-pub dues_are : (c : Core) (ints : Interests) (asks : List ℕ → Bool) (next : Option HatChange) (face : ℕ) (o : OpenFace) (hats : List (ℕ × HatState)) (keys : List (List ℕ)) → IsAfter c ints asks next face o hats keys → dues_as asks next face o hats keys ≡ dues_on c ints keys face
-dues_are c ints asks next face o hats keys is = all_dues c ints asks next face o hats is.opened is.asked keys is.after
+pub dues_are : (c : Core) (ints : Interests) (asks : List ℕ → Bool) (next : Option HatChange) (face : ℕ) (o : OpenFace) (hats : List (ℕ × HatState)) (keys : List (List ℕ)) → ((key : List ℕ) → asks key ≡ asks_for face key ints)
+    → IsAfter c next face o hats keys → dues_as asks next face o hats keys ≡ dues_on c ints keys face
+dues_are c ints asks next face o hats keys asked is = all_dues c ints asks next face o hats is.opened asked keys is.after

@@ -1,8 +1,9 @@
 -- What is due to an open face, by the hats of the regions as they are or as a change of one of them will make them.
-use Rattle.std.specs.Prelude.{◌≡◌, ℕ, Bool, false, List, [], ◌∷◌, filter, fold, map, Option, Some, None, if◌then◌else◌}
+use Rattle.std.specs.Prelude.{◌≡◌, ℕ, Bool, true, false, List, [], ◌∷◌, filter, fold, map, Option, Some, None, if◌then◌else◌}
 use Rattle.std.specs.Option.{option_map, option_map_or}
 use Rattle.std.specs.List.{AllByRecursion}
 use Rattle.zq_message.specs.declared.message.QueryableInfoType.{QueryableInfoType}
+use Rattle.zq_key.specs.Key.{is_key}
 use Rattle.zq_hat.specs.Changes.{changed_by}
 use Rattle.zq_hat.specs.Kept.{region_info}
 use Rattle.zq_hat.specs.Regions.{is_north, strategy_at}
@@ -59,10 +60,21 @@ listed_due asks next face o hats key = if listens_as asks (hats_after next key h
 abbrev pub all_keys : List (ℕ × HatState) → List (List ℕ)
 all_keys hats = fold with_region_keys [] hats
 
+-- each is a key
+abbrev pub AreKeys : List (List ℕ) → Type 0
+AreKeys keys = AllByRecursion (λ key. is_key key ≡ true) keys
+
+-- the keys for which a face asks
+abbrev pub asks_in : Interests → ℕ → List ℕ → Bool
+asks_in ints face key = asks_for face key ints
+
+-- what is due to an open face on the keys, whether it listens or not, where it asks for just these
+abbrev pub all_dues_as : (List ℕ → Bool) → ℕ → OpenFace → List (ℕ × HatState) → List (List ℕ) → List KeyDue
+all_dues_as asks face o hats keys = map (λ key. (key, due_as (asks key) face key hats o)) keys
+
 -- ---- the same of what decides after a call
 
--- the face is open so, it asks for just these keys, and on each of the keys the hats are those after the change
-pub record IsAfter (c : Core) (ints : Interests) (asks : List ℕ → Bool) (next : Option HatChange) (face : ℕ) (o : OpenFace) (hats : List (ℕ × HatState)) (keys : List (List ℕ)) : Type 0 where
+-- the face is open so, and on each of the keys the hats are those after the change
+pub record IsAfter (c : Core) (next : Option HatChange) (face : ℕ) (o : OpenFace) (hats : List (ℕ × HatState)) (keys : List (List ℕ)) : Type 0 where
   pub opened : at face c.faces ≡ Some o
-  pub asked : (key : List ℕ) → asks key ≡ asks_for face key ints
   pub after : AllByRecursion (λ key. hats_after next key hats ≡ c.hats) keys

@@ -1,20 +1,20 @@
 //! What a call looks at that changes a region's hat, and what it tells own trees.
-ghost use Rattle.std.specs.Prelude.{◌≡◌, [], ◌∷◌, ℕ, List, Some, IfOk, fold, true};
+ghost use Rattle.std.specs.Prelude.{◌≡◌, [], ◌∷◌, ℕ, List, Some, IfOk, IsTrue, fold, true};
 ghost use Rattle.std.specs.BTreeMap.{is_at};
 ghost use Rattle.std.specs.BTreeSet.{insert_key};
+ghost use Rattle.std.specs.List.{AllByRecursion};
 ghost use Rattle.std.specs.Map.{remove_entry};
 ghost use Rattle.std.specs.Ordering.{nat_cmp};
 ghost use Rattle.zq_index.specs.Texts.{text_cmp};
+ghost use Rattle.zq_key.specs.Key.{is_key};
 ghost use Rattle.zq_hat.specs.Changes.{changed_by};
 ghost use Rattle.zq_hat.specs.Kept.{has_face, keys_of_face, without_face};
-ghost use Rattle.zq_interests.specs.Interests.{Interests};
 ghost use Rattle.zq_machine.specs.Neighbours.{looked_over};
 ghost use Rattle.zq_machine.specs.State.{Core, change_hat, hat_at};
 ghost use Rattle.zq_own.specs.Own.{change_told};
-ghost use Rattle.zq_dues.specs.Dues.{hats_next};
-ghost use Rattle.zq_dues.specs.Over.{AskFor, faces_but};
+ghost use Rattle.zq_dues.specs.Dues.{AreKeys, hats_next};
+ghost use Rattle.zq_dues.specs.Over.{AreSeated, faces_but};
 
-use crate::dues::Asking;
 use crate::over::dues_over;
 use crate::sorted::sorted;
 use crate::types::{DuesList, HatChange};
@@ -22,6 +22,7 @@ use std::alloc::Global;
 use std::collections::BTreeMap;
 use zq_hat::hat::Hat;
 use zq_hat::types::{Change, TellingList};
+use zq_interests::interests::Interests;
 use zq_key::items::Items;
 use zq_key::memory::OutOfMemory;
 use zq_key::message::{FaceId, Region};
@@ -41,16 +42,18 @@ pub struct Gathered {
 
 /// What will be due to each open face on a key, once the region's hat has changed. Refused only where
 /// memory is lacking, and then nothing is changed.
-pub fn dues_on<A: Asking>(
+pub fn dues_on(
     alloc: Global,
     faces: &BTreeMap<u32, OpenFace>,
     hats: &RegionMap<Hat>,
-    asking: &A,
+    interests: &Interests,
     region: Region,
     change: Change,
     key: &str,
 ) -> Result<DuesList, OutOfMemory>
-    ensures { (c : Core) (ints : Interests) → c.faces ≡ faces.now.entries → AskFor (A.asks asking.now) ints → change_hat region (changed_by change key.now) hats.now ≡ c.hats → IfOk result (λ ds. ds ≡ looked_over c ints (key.now ∷ [])) }
+    requires key { IsTrue (is_key key.now) }
+    requires seated { AreSeated faces.now.entries hats.now }
+    ensures { (c : Core) → c.faces ≡ faces.now.entries → change_hat region (changed_by change key.now) hats.now ≡ c.hats → IfOk result (λ ds. ds ≡ looked_over c interests.now (key.now ∷ [])) }
 {
     let next = HatChange { region, change };
     let mut keys = Items::new(alloc);
@@ -61,42 +64,54 @@ pub fn dues_on<A: Asking>(
         None,
         hats,
         Some(&next),
-        asking,
+        interests,
         keys.as_slice(),
     )
 }
 
-/// The same on keys in any order, where the hats are the same after the change whichever the key is,
-/// and but for a face that is closed. Refused only where memory is lacking, and then nothing is
+/// The same on keys in any order, where the hats are the same after the change whichever of the keys it
+/// is, and but for a face that is closed. Refused only where memory is lacking, and then nothing is
 /// changed.
-pub fn dues_on_all<A: Asking>(
+pub fn dues_on_all(
     alloc: Global,
     faces: &BTreeMap<u32, OpenFace>,
     but: Option<FaceId>,
     hats: &RegionMap<Hat>,
     next: &HatChange,
-    asking: &A,
+    interests: &Interests,
     keys: &[Text],
 ) -> Result<DuesList, OutOfMemory>
-    ensures { (c : Core) (ints : Interests) → c.faces ≡ faces_but but faces.now.entries → AskFor (A.asks asking.now) ints → ((key : List ℕ) → hats_next next.now key hats.now ≡ c.hats) → IfOk result (λ ds. ds ≡ looked_over c ints (fold (insert_key text_cmp) [] keys.now)) }
+    requires keys { AreKeys keys.now }
+    requires seated { AreSeated faces.now.entries hats.now }
+    ensures { (c : Core) → c.faces ≡ faces_but but faces.now.entries → AllByRecursion (λ key. hats_next next.now key hats.now ≡ c.hats) keys.now → IfOk result (λ ds. ds ≡ looked_over c interests.now (fold (insert_key text_cmp) [] keys.now)) }
 {
     let keys = sorted(alloc, keys)?;
-    dues_over(alloc, faces, but, hats, Some(next), asking, keys.as_slice())
+    dues_over(
+        alloc,
+        faces,
+        but,
+        hats,
+        Some(next),
+        interests,
+        keys.as_slice(),
+    )
 }
 
 /// What will be due to the other faces, on the keys that a face declared, where it leaves its hat.
 /// Refused only where memory is lacking, and then nothing is changed.
-pub fn dues_left<A: Asking>(
+pub fn dues_left(
     alloc: Global,
     faces: &BTreeMap<u32, OpenFace>,
     hats: &RegionMap<Hat>,
-    asking: &A,
+    interests: &Interests,
     region: Region,
     hat: &Hat,
     face: FaceId,
 ) -> Result<DuesList, OutOfMemory>
-    requires { has_face face.0 hat.now ≡ true }
-    ensures { (c : Core) (ints : Interests) → c.faces ≡ remove_entry (is_at (nat_cmp face.0)) faces.now.entries → AskFor (A.asks asking.now) ints → change_hat region (without_face face.0) hats.now ≡ c.hats → IfOk result (λ ds. ds ≡ looked_over c ints (fold (insert_key text_cmp) [] (keys_of_face face.0 hat.now))) }
+    requires there { hat_at region hats.now ≡ Some hat.now }
+    requires face { has_face face.0 hat.now ≡ true }
+    requires seated { AreSeated faces.now.entries hats.now }
+    ensures { (c : Core) → c.faces ≡ remove_entry (is_at (nat_cmp face.0)) faces.now.entries → change_hat region (without_face face.0) hats.now ≡ c.hats → IfOk result (λ ds. ds ≡ looked_over c interests.now (fold (insert_key text_cmp) [] (keys_of_face face.0 hat.now))) }
 {
     let keys = hat.keys_of(face)?;
     let next = HatChange {
@@ -109,29 +124,31 @@ pub fn dues_left<A: Asking>(
         Some(face),
         hats,
         &next,
-        asking,
+        interests,
         keys.as_slice(),
     )
 }
 
 /// What own trees are told of a key, and what will be due there, once the region's hat has changed.
 /// Refused only where memory is lacking, and then nothing is changed.
-pub fn gather<A: Asking>(
+pub fn gather(
     alloc: Global,
     faces: &BTreeMap<u32, OpenFace>,
     hats: &RegionMap<Hat>,
-    asking: &A,
+    interests: &Interests,
     region: Region,
     hat: &Hat,
     change: Change,
     key: &str,
 ) -> Result<Gathered, OutOfMemory>
-    requires { hat_at region hats.now ≡ Some hat.now }
+    requires there { hat_at region hats.now ≡ Some hat.now }
+    requires key { IsTrue (is_key key.now) }
+    requires seated { AreSeated faces.now.entries hats.now }
     ensures told { IfOk result (λ g. g.told ≡ change_told hats.now region change key.now) }
-    ensures dues { (c : Core) (ints : Interests) → c.faces ≡ faces.now.entries → AskFor (A.asks asking.now) ints → change_hat region (changed_by change key.now) hats.now ≡ c.hats → IfOk result (λ g. g.dues ≡ looked_over c ints (key.now ∷ [])) }
+    ensures dues { (c : Core) → c.faces ≡ faces.now.entries → change_hat region (changed_by change key.now) hats.now ≡ c.hats → IfOk result (λ g. g.dues ≡ looked_over c interests.now (key.now ∷ [])) }
 {
     let mut told = Items::new(alloc);
     tell_change(hats, region, hat, &change, key, &mut told)?;
-    let dues = dues_on(alloc, faces, hats, asking, region, change, key)?;
+    let dues = dues_on(alloc, faces, hats, interests, region, change, key)?;
     Ok(Gathered { told, dues })
 }

@@ -21,9 +21,9 @@ use zq_own::entries::{NewInfo, own_entry, own_entry_as};
 use zq_own::hats::hat_at;
 use zq_tables::RegionMap;
 
-// Whether a face of the hat, which asks for a key or not, listens on it: a broker's if it asks, an
-// upstream always, a peer in North always and elsewhere if it asks, and a router's never.
-fn listens_by(hat: &Hat, asks: bool) -> bool
+/// Whether a face of the hat, which asks for a key or not, listens on it: a broker's if it asks, an
+/// upstream always, a peer in North always and elsewhere if it asks, and a router's never.
+pub fn listens_by(hat: &Hat, asks: bool) -> bool
     ensures { result ≡ listens_by (strategy_at hat.now) (is_north hat.now.region) asks }
 {
     match hat.strategy() {

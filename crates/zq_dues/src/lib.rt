@@ -4,16 +4,20 @@
 //! - `types`: the change of a hat
 //! - `due`: whether a face listens on a key, and what will be due to it there
 //! - `dues`: the same of some keys
+//! - `asked`: what an interest of a face looks at, and what its end looks at
+//! - `listeners`: which faces can listen on some of the keys
 //! - `keys`: the keys on which regions have information
 //! - `sorted`: keys in order, each once
 //! - `over`: what a whole call looks at
 //! - `changes`: the same of a call that changes a hat
 #![tactic(auto)]
 
+pub mod asked;
 pub mod changes;
 pub mod due;
 pub mod dues;
 pub mod keys;
+pub mod listeners;
 pub mod over;
 pub mod sorted;
 pub mod types;

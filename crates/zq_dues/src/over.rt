@@ -1,22 +1,25 @@
 //! What a whole call looks at: at each face that is open after it those of its keys on which the
 //! face listens; at a new face those of all keys.
-ghost use Rattle.std.specs.Prelude.{◌≡◌, ◌++◌, ℕ, List, false, IfOk, OnOk, None, option_copied};
+ghost use Rattle.std.specs.Prelude.{◌≡◌, ◌++◌, [], ℕ, List, false, IfOk, OnOk, None, option_copied};
+ghost use Rattle.std.specs.List.{flat_map};
 ghost use Rattle.zq_interests.specs.Interests.{Interests};
 ghost use Rattle.zq_machine.specs.declared.call.Opening.{Opening};
 ghost use Rattle.zq_machine.specs.Deciding.{with_face};
 ghost use Rattle.zq_machine.specs.Neighbours.{looked_at, looked_over, with_dues};
 ghost use Rattle.zq_machine.specs.State.{Core};
 ghost use Rattle.zq_machine.specs.TextCalls.{opening};
-ghost use Rattle.zq_dues.specs.Dues.{all_keys};
-ghost use Rattle.zq_dues.specs.Over.{AreAfter, IsOpening, faces_but, is_gone, looked_as, looked_over_as};
+ghost use Rattle.zq_dues.specs.Dues.{AreKeys, all_keys, asks_in};
+ghost use Rattle.zq_dues.specs.Over.{AreAfter, AreSeated, IsOpening, faces_but, is_gone, looked_as, looked_over_as, looked_there, open_but};
 
 use crate::due::listens;
-use crate::dues::{Asking, dues_of_face};
+use crate::dues::{dues_of_face, dues_on_each};
 use crate::keys::met_keys;
+use crate::listeners::listeners;
 use crate::types::{DuesList, HatChange};
 use std::alloc::Global;
-use std::collections::BTreeMap;
+use std::collections::{BTreeMap, BTreeSet};
 use zq_hat::hat::Hat;
+use zq_interests::interests::Interests;
 use zq_key::items::Items;
 use zq_key::memory::OutOfMemory;
 use zq_key::message::FaceId;
@@ -35,8 +38,19 @@ fn is_gone(but: Option<FaceId>, face: FaceId) -> bool
     }
 }
 
-// The face joins the list with its dues, if it has any.
-fn list_face(list: &mut DuesList, face: FaceId, dues: KeyDues) -> Result<(), OutOfMemory>
+// The open face, but for the one that a closing takes away.
+fn open_but(faces: &BTreeMap<u32, OpenFace>, but: Option<FaceId>, face: FaceId) -> Option<OpenFace>
+    ensures { result ≡ open_but but faces.now.entries face.0 }
+{
+    if is_gone(but, face) {
+        None
+    } else {
+        faces.get(&face.0).copied()
+    }
+}
+
+// A list of one face with its dues, if it has any.
+pub(crate) fn list_face(list: &mut DuesList, face: FaceId, dues: KeyDues) -> Result<(), OutOfMemory>
     ensures { OnOk result (list.new ≡ list.old ++ with_dues face.0 dues) }
 {
     if dues.is_empty() {
@@ -46,56 +60,99 @@ fn list_face(list: &mut DuesList, face: FaceId, dues: KeyDues) -> Result<(), Out
     Ok(())
 }
 
-/// What will be due to each open face on those of the keys on which it listens, once a hat has
-/// changed, in order of their numbers: to all faces but one that a closing takes away. A face that
-/// listens on none is left out, and where there are no keys, no face is looked at. Refused only where
-/// memory is lacking, and then nothing is changed.
-pub fn dues_over<A: Asking>(
+// The face joins the list with what will be due to it, if it is open after the call and anything is.
+fn look_there(
+    list: &mut DuesList,
     alloc: Global,
     faces: &BTreeMap<u32, OpenFace>,
     but: Option<FaceId>,
     hats: &RegionMap<Hat>,
     next: Option<&HatChange>,
-    asking: &A,
+    interests: &Interests,
+    face: FaceId,
+    keys: &[Text],
+) -> Result<(), OutOfMemory>
+    requires { AreKeys keys.now }
+    ensures { OnOk result (list.new ≡ list.old ++ looked_there (asks_in interests.now) (option_copied next.entry) hats.now keys.now but faces.now.entries face.0) }
+{
+    let Some(opened) = open_but(faces, but, face) else {
+        return Ok(());
+    };
+    let dues = dues_of_face(alloc, hats, next, interests, face, opened, keys)?;
+    list_face(list, face, dues)
+}
+
+// The same of all those that can listen, in order of their numbers.
+fn look_at(
+    alloc: Global,
+    faces: &BTreeMap<u32, OpenFace>,
+    but: Option<FaceId>,
+    hats: &RegionMap<Hat>,
+    next: Option<&HatChange>,
+    interests: &Interests,
+    listeners: &BTreeSet<u32>,
     keys: &[Text],
 ) -> Result<DuesList, OutOfMemory>
-    ensures dues { IfOk result (λ ds. ds ≡ looked_over_as (A.asks asking.now) (option_copied next.entry) hats.now keys.now (faces_but but faces.now.entries)) }
-    ensures same { (c : Core) (ints : Interests) → AreAfter c ints (A.asks asking.now) (option_copied next.entry) (faces_but but faces.now.entries) hats.now keys.now → IfOk result (λ ds. ds ≡ looked_over c ints keys.now) }
+    requires { AreKeys keys.now }
+    ensures { IfOk result (λ ds. ds ≡ flat_map (looked_there (asks_in interests.now) (option_copied next.entry) hats.now keys.now but faces.now.entries) listeners.now.keys) }
 {
     let mut list = Items::new(alloc);
-    if keys.is_empty() {
-        return Ok(list);
-    }
-    for (number, opened) in faces {
+    for number in listeners {
         let face = FaceId(*number);
-        if !is_gone(but, face) {
-            let dues = dues_of_face(alloc, hats, next, asking, face, *opened, keys)?;
-            list_face(&mut list, face, dues)?;
-        }
+        look_there(
+            &mut list, alloc, faces, but, hats, next, interests, face, keys,
+        )?;
     }
     Ok(list)
+}
+
+/// What will be due to each open face on those of the keys on which it listens, once a hat has
+/// changed, in order of their numbers: to all faces but one that a closing takes away. A face that
+/// listens on none is left out. Only those are looked at that can listen: the faces of regions whose
+/// faces listen unasked, and those that ask for one of the keys. Refused only where memory is lacking,
+/// and then nothing is changed.
+pub fn dues_over(
+    alloc: Global,
+    faces: &BTreeMap<u32, OpenFace>,
+    but: Option<FaceId>,
+    hats: &RegionMap<Hat>,
+    next: Option<&HatChange>,
+    interests: &Interests,
+    keys: &[Text],
+) -> Result<DuesList, OutOfMemory>
+    requires keys { AreKeys keys.now }
+    requires seated { AreSeated faces.now.entries hats.now }
+    ensures dues { IfOk result (λ ds. ds ≡ looked_over_as (asks_in interests.now) (option_copied next.entry) hats.now keys.now (faces_but but faces.now.entries)) }
+    ensures same { (c : Core) → AreAfter c (option_copied next.entry) (faces_but but faces.now.entries) hats.now keys.now → IfOk result (λ ds. ds ≡ looked_over c interests.now keys.now) }
+{
+    if keys.is_empty() {
+        return Ok(Items::new(alloc));
+    }
+    if faces.len() == 0 {
+        return Ok(Items::new(alloc));
+    }
+    let listeners = listeners(alloc, hats, interests, keys)?;
+    look_at(alloc, faces, but, hats, next, interests, &listeners, keys)
 }
 
 /// What will be due to a face that is about to be opened and asks for nothing yet, on those of all
 /// keys with information on which it listens, by the hats as they are before it joins its region: one
 /// entry, or none. Keys are gathered only for a face that listens unasked. Refused only where memory
 /// is lacking, and then nothing is changed.
-pub fn dues_at_opening<A: Asking>(
+pub fn dues_at_opening(
     alloc: Global,
     hats: &RegionMap<Hat>,
-    asking: &A,
     face: FaceId,
     opened: OpenFace,
 ) -> Result<DuesList, OutOfMemory>
-    requires unasked { (key : List ℕ) → A.asks asking.now face.0 key ≡ false }
-    ensures dues { IfOk result (λ ds. ds ≡ looked_as (A.asks asking.now) None hats.now (all_keys hats.now) (face.0, opened)) }
-    ensures same { (c : Core) (ints : Interests) (o : Opening) → IsOpening c ints (A.asks asking.now face.0) face.0 opened o hats.now → IfOk result (λ ds. ds ≡ looked_at c (with_face o c) ints (opening o)) }
+    ensures dues { IfOk result (λ ds. ds ≡ looked_as (λ n key. false) None hats.now (all_keys hats.now) (face.0, opened)) }
+    ensures same { (c : Core) (ints : Interests) (o : Opening) → IsOpening c ints face.0 opened o hats.now → IfOk result (λ ds. ds ≡ looked_at c (with_face o c) ints (opening o)) }
 {
     if !listens(hats, opened, false) {
         return Ok(Items::new(alloc));
     }
     let keys = met_keys(alloc, hats, None)?;
-    let dues = dues_of_face(alloc, hats, None, asking, face, opened, keys.as_slice())?;
+    let dues = dues_on_each(alloc, hats, face, opened, false, keys.as_slice())?;
     let mut list = Items::new(alloc);
     list_face(&mut list, face, dues)?;
     Ok(list)

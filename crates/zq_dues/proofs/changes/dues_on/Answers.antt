@@ -2,16 +2,20 @@ use Rattle.std.proofs.Common.{◌≡◌, sym, subst, rules, ℕ, List, [], ◌�
 use Rattle.std.specs.List.{AllByRecursion}
 use Rattle.zq_told.specs.declared.types.FaceDues.{FaceDues}
 use Rattle.zq_machine.specs.Neighbours.{looked_over}
-use Rattle.zq_dues.specs.Dues.{hats_after}
+use Rattle.zq_dues.specs.Dues.{AreKeys, hats_after}
 use Rattle.zq_dues.proofs.changes.dues_on.Goals as goal
 
-pub returns : goal.returns
-returns g c core ints faces asked hats =
+pub dues_over-requires-clause-keys : goal.dues_over-requires-clause-keys
+dues_over-requires-clause-keys c =
     let is : c.as_slice.result.now ≡ c.args.key.now ∷ [] = search rules in
-    subst (λ (ks : List (List ℕ)). IfOk c.dues_over.result (λ (ds : List FaceDues). ds ≡ looked_over core ints ks)) is
-    (c.dues_over.ensures.same core ints (record {
+    subst AreKeys (sym is) (c.requires.key, tt)
+
+pub returns : goal.returns
+returns c core faces hats =
+    let is : c.as_slice.result.now ≡ c.args.key.now ∷ [] = search rules in
+    subst (λ (ks : List (List ℕ)). IfOk c.dues_over.result (λ (ds : List FaceDues). ds ≡ looked_over core c.args.interests.now ks)) is
+    (c.dues_over.ensures.same core (record {
       left = faces;
-      asked = asked;
       after =
           subst (AllByRecursion (λ (key : List ℕ). hats_after (Some (record { region = c.args.region; change = c.args.change })) key c.args.hats.now ≡ core.hats)) (sym is)
           (hats, tt);
