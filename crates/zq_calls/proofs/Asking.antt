@@ -1,16 +1,18 @@
 -- An interest and the end of one: what refuses them, what they are answered, and what they leave.
 use Rattle.std.proofs.Common.{◌≡◌, ◌∙◌, refl, sym, ap, subst, ℕ, Bool, true, false, cond, not, List, [], ◌∷◌, ◌++◌, map, Option, Some, None}
 use Rattle.std.specs.List.{All, AllByRecursion, list_any}
-use Rattle.std.specs.Map.{keys_of}
+use Rattle.std.specs.BTreeMap.{insert_entry}
+use Rattle.std.specs.Ordering.{match_ordering, nat_cmp}
+use Rattle.std.specs.declared.cmp.Ordering.{Ordering}
+use Rattle.std.specs.declared.cmp.Ordering.TheVariants.{Less, Equal, Greater}
+use Rattle.std.specs.Prelude.{◌||◌}
 use Rattle.std.specs.Option.{is_none, is_some, option_map, option_map_or}
-use Rattle.std.specs.Str.{bytes_eq}
-use Rattle.std.proofs.lemmas.Bool.{false≢true}
 use Rattle.zq_message.specs.declared.message.FaceId.{FaceId}
 use Rattle.zq_key.specs.Key.{is_key}
 use Rattle.zq_trees.specs.declared.types.Telling.{Telling as TreeTelling}
 use Rattle.zq_trees.specs.Tellings.{in_order as ordered}
 use Rattle.zq_interests.specs.declared.types.InterestEntry.{InterestEntry}
-use Rattle.zq_interests.specs.Interests.{Interests, asks_another, interest_at, with_interest, without_interest}
+use Rattle.zq_interests.specs.Interests.{Interests, asks_another, asks_for, interest_at, interests_of, meets, wants, with_interest, without_interest}
 use Rattle.zq_tables.specs.declared.said.Said.{Said}
 use Rattle.zq_tables.specs.Naming.{NamingState, change_naming, without_interest as letting_interest}
 use Rattle.zq_told.specs.declared.types.FaceDues.{FaceDues}
@@ -31,6 +33,8 @@ use Rattle.zq_machine.specs.Selecting.{asked_by, full_text, is_unscoped, says_ke
 use Rattle.zq_machine.specs.State.{Core, State, is_open}
 use Rattle.zq_machine.specs.TextCalls.{TextCall, hearing, unhearing}
 use Rattle.zq_machine.specs.Writing.{Told, tell}
+use Rattle.zq_machine.proofs.Changing.{itself}
+use Rattle.zq_machine.proofs.DueAsked.{listed, listed_at, with_one}
 use Rattle.zq_machine.proofs.Agreed.{InOrder, accepted_in_order}
 use Rattle.zq_machine.proofs.Granted.{answers_told, settles_told, told_by}
 use Rattle.zq_machine.proofs.NeighbourLaws.{ending_keeps}
@@ -41,6 +45,26 @@ use Rattle.zq_calls.specs.Asking.{asking_refusal}
 use Rattle.zq_calls.specs.Making.{IsReached}
 use Rattle.zq_calls.proofs.Due.{all_from, key_refuses}
 use Rattle.zq_calls.proofs.Reached.{reached_in_order, reached_keeps}
+
+-- ---- an interest asks for the keys that meet it
+put_asks : (key : List ℕ) (id : ℕ) (v : InterestEntry) → meets v.key key ≡ true → (es : List (ℕ × InterestEntry)) → list_any (wants key) (insert_entry nat_cmp es id v) ≡ true
+put_asks key id v on [] = ap (λ b. b || false) on
+put_asks key id v on (e ∷ es) = by (nat_cmp id e.0) (put_asks key id v on es)
+  where
+    right : (a b : Bool) → b ≡ true → (a || b) ≡ true
+    right true b h = refl
+    right false b h = h
+
+    by : (r : Ordering) → list_any (wants key) (insert_entry nat_cmp es id v) ≡ true → list_any (wants key) (match_ordering r ((id, v) ∷ e ∷ es) ((e.0, v) ∷ es) (e ∷ insert_entry nat_cmp es id v)) ≡ true
+    by Less more = ap (λ b. b || list_any (wants key) (e ∷ es)) on
+    by Equal more = ap (λ b. b || list_any (wants key) es) on
+    by Greater more = right (wants key e) (list_any (wants key) (insert_entry nat_cmp es id v)) more
+
+pub asked_asks : (face id : ℕ) (v : InterestEntry) (ints : Interests) (key : List ℕ) → meets v.key key ≡ true → asks_for face key (with_interest face id v ints) ≡ true
+asked_asks face id v ints key on =
+    ap (list_any (wants key)) (listed_at ints face (with_one face id v ints) face)
+    ∙ ap (λ b. list_any (wants key) (listed ints face (with_one face id v ints) face b)) (itself face)
+    ∙ put_asks key id v on (interests_of face ints)
 
 -- ---- what refuses an interest
 module _ (c : Core) (face : FaceId) (id : ℕ) (keys : Bool) (sd : Option Said) where

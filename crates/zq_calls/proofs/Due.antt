@@ -48,6 +48,7 @@ use Rattle.zq_machine.specs.TextCalls.{TextCall, closing, declaring, withdrawing
 use Rattle.zq_machine.specs.Trees.{all_own_told, own_told_on, touched, tree_told}
 use Rattle.zq_machine.specs.Writing.{Told, sent_final, tell, write}
 use Rattle.zq_machine.proofs.Agreed.{InOrder, accepted_in_order}
+use Rattle.zq_machine.proofs.DueHeard.{AreTexts, touched_texts}
 use Rattle.zq_machine.proofs.Granted.{answers_told, closed_after, closed_step, settles_told, told_by}
 use Rattle.zq_machine.proofs.Lists.{all_weaker}
 use Rattle.zq_machine.proofs.NeighboursTold.{due_can, due_keys}
@@ -79,7 +80,7 @@ module _ (face : ℕ) (r : Region) (c : Core) (home : face_region face c ≡ Som
       by (Some o) e = ap (λ q. change_hat q f c.hats) (same_Some _ _ e)
 
 -- ---- what is due
-all_from : {X : Type 0} (P : X → Type 0) (xs : List X) → AllByRecursion P xs → All P xs
+pub all_from : {X : Type 0} (P : X → Type 0) (xs : List X) → AllByRecursion P xs → All P xs
 all_from P [] all = All-nil P
 all_from P (x ∷ xs) all = All-cons P x xs all.0 (all_from P xs all.1)
 
@@ -308,6 +309,9 @@ module _ (s : State) (i : IsReached s) (face : FaceId) (id : ℕ) (r : Region) (
 
     withdrawal_touches : touched s.core (withdrawing face id) ≡ key ∷ []
     withdrawal_touches = ap (λ x. option_to_list (option_map (λ (d : Declaration). d.key) (option_and_then (declaration_at face.0 id) x))) hat_there ∙ ap option_to_list (sym declared)
+
+    pub withdrawal_key : is_key key ≡ true
+    withdrawal_key = (subst AreTexts withdrawal_touches (touched_texts s.core (reached_in_order s i).worded (withdrawing face id) withdrawal_fits)).0
 
     -- what its body gathers
     pub withdrawal_gathers : (hats : List (ℕ × HatState)) → hats ≡ s.core.hats → (ts : List TreeTelling) → ts ≡ own_told_on hats (change_hat r (unregistered face.0 id) hats) key

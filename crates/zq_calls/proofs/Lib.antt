@@ -1,9 +1,9 @@
-pub mod Hearing
-pub mod Reached
-pub mod Seated
-pub mod Beside
 pub mod Asking
+pub mod Beside
 pub mod Due
 pub mod Entering
-pub mod Networks
+pub mod Hearing
+pub mod Networked
 pub mod Openings
+pub mod Reached
+pub mod Seated

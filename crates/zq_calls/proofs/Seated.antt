@@ -36,14 +36,19 @@ reached_in_place s i n o there = reached_seated s n o.region i (ap (option_map r
 pub reached_unasked : (s : State) → IsReached s → (key : List ℕ) → asks_for s.core.next_face key s.core.interests ≡ false
 reached_unasked s i key = ap (list_any (wants key)) (subst AskWhereOpen (sym i.here) (all_closed i.config i.calls) s.core.next_face (ap is_some (reached_absent s i)))
 
+-- what holds of everything holds of each element
+pub each_of : {X : Type 0} {P : X → Type 0} → ((x : X) → P x) → (xs : List X) → AllByRecursion P xs
+each_of all [] = tt
+each_of all (x ∷ xs) = (all x, each_of all xs)
+
 -- a text that is the same as one of some keys is a key
 key_among : (key : List ℕ) (ks : List (List ℕ)) → AreTexts ks → list_any (λ k. bytes_eq k key) ks ≡ true → IsKey key
 key_among key [] all on = absurd (false≢true on)
-key_among key (k ∷ ks) all on = by (bytes_eq k key) refl on
+key_among key (k ∷ ks) all on = by (bytes_eq k key) refl on (key_among key ks all.1)
   where
-    by : (b : Bool) → bytes_eq k key ≡ b → (b || list_any (λ x. bytes_eq x key) ks) ≡ true → IsKey key
-    by true is f = subst IsKey ((bytes_eq-Decides k key).0 is) all.0
-    by false is f = key_among key ks all.1 f
+    by : (b : Bool) → bytes_eq k key ≡ b → (b || list_any (λ x. bytes_eq x key) ks) ≡ true → (list_any (λ x. bytes_eq x key) ks ≡ true → IsKey key) → IsKey key
+    by true is f rest = subst IsKey ((bytes_eq-Decides k key).0 is) all.0
+    by false is f rest = rest f
 
 -- what holds of each text that stands among some holds of all
 each_among : (P : List ℕ → Type 0) (ks : List (List ℕ)) → ((key : List ℕ) → is_among key ks ≡ true → P key) → AllByRecursion P ks

@@ -1,9 +1,10 @@
 //! What faces ask to hear.
 ghost use Rattle.std.specs.Prelude.{◌≡◌, None, Some, IfErr, IfOk};
-ghost use Rattle.std.specs.Option.{option_map};
+ghost use Rattle.std.specs.Option.{option_copied, option_map};
 ghost use Rattle.zq_machine.specs.declared.call.Call.TheVariants as call;
 ghost use Rattle.zq_machine.specs.Selecting.{full_text};
 ghost use Rattle.zq_machine.specs.TextCalls.{hearing, said_if, unhearing};
+ghost use Rattle.zq_handing.specs.Neighbours.{is_fresh};
 ghost use Rattle.zq_calls.specs.Asking.{asking_refusal};
 ghost use Rattle.zq_calls.specs.Making.{IsReached, Performs, Settles};
 
@@ -54,6 +55,16 @@ impl Tables {
         }
     }
 
+    // Whether an interest with the key, if it has one, would hold a node afresh.
+    fn is_fresh(&self, face: FaceId, id: u32, key: Option<&Key>) -> bool
+        ensures { result ≡ is_fresh face.0 id (option_copied key.entry) self.now.names }
+    {
+        match key {
+            Some(_) => !self.names.holds_interest(face, id),
+            None => false,
+        }
+    }
+
     // A face asks to hear of the keys that meet an expression's key, or of all; it is answered by all
     // that is due there.
     fn ask_to_hear(
@@ -78,7 +89,8 @@ impl Tables {
         }
         let dues = dues_asked(self.alloc, &self.hats, face, opened, key.as_ref())?;
         let entry = InterestEntry { key, keys };
-        let fresh = entry.key.is_some() && !self.names.holds_interest(face, id);
+        let held = entry.key.as_ref();
+        let fresh = self.is_fresh(face, id, held);
         let asked = WithInterest {
             interests: &self.interests,
             face,
@@ -93,7 +105,7 @@ impl Tables {
             &mut self.ears,
             face,
             id,
-            entry.key.as_ref(),
+            held,
             dues.as_slice(),
         ) {
             Ok(all) => all,

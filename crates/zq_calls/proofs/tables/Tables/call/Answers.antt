@@ -26,3 +26,9 @@ returns-in-Response c = rw c.in-Response.is c.send_response.ensures
 
 pub returns-in-ResponseFinal : goal.returns-in-ResponseFinal
 returns-in-ResponseFinal c = rw c.in-ResponseFinal.is c.response_final.ensures
+
+pub returns-in-Interest : goal.returns-in-Interest
+returns-in-Interest c = subst (λ (x : Call). Performs c.args.self.now c.register_interest.new.self x c.register_interest.result) (sym c.in-Interest.is) c.register_interest.ensures
+
+pub returns-in-InterestFinal : goal.returns-in-InterestFinal
+returns-in-InterestFinal c = subst (λ (x : Call). Performs c.args.self.now c.unregister_interest.new.self x c.unregister_interest.result) (sym c.in-InterestFinal.is) c.unregister_interest.ensures

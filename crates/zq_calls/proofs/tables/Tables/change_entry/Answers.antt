@@ -12,6 +12,7 @@ use Rattle.zq_hat.specs.Routers.{entry_at, source_at}
 use Rattle.zq_hat.specs.Trees.{to_children}
 use Rattle.zq_tables.specs.Naming.{NamingState}
 use Rattle.zq_tables.specs.declared.said.Said.TheVariants as said
+use Rattle.zq_interests.specs.Interests.{has_keyed}
 use Rattle.zq_told.specs.Rooms.{ears_of}
 use Rattle.zq_told.specs.Telling.{put_plan}
 use Rattle.zq_machine.specs.declared.call.Refusal.{Refusal}
@@ -27,6 +28,8 @@ use Rattle.zq_handing.specs.Neighbours.{told_with}
 use Rattle.zq_handing.specs.Telling.{behind, untold}
 use Rattle.zq_handing.specs.Reading.{key_refusal}
 use Rattle.zq_own.specs.Routers.{entered, other_router}
+use Rattle.zq_calls.proofs.Seated.{reached_in_place}
+use Rattle.zq_calls.specs.Making.{IsReached}
 use Rattle.zq_calls.specs.Routing.{entering}
 use Rattle.zq_calls.proofs.Due.{Gathers, closed_there, due_of_keys, gathered_due, gathered_lacks, gathered_left, opened_there, refused_answered, refused_left}
 use Rattle.zq_calls.proofs.Entering.{change_is, entering_answered, entering_changes, entering_ears, entering_faces, entering_gathers, entering_interests, entering_left, entering_plain, entry_fits, entry_lacks, no_entry, no_key, no_router, not_open}
@@ -105,6 +108,12 @@ returns-then-lacks_entry c =
     let t = entering face sd info node in
     let e = no_entry s.core face sd info node opens key says valid r home h there router is (none_of info both.0) (none_of (entry_at router.0 key h) both.1) in
     record { step = c.refused-then-lacks_entry.ensures ∙ refused_answered s t refusal.UnknownId e; after = sym (refused_left s t refusal.UnknownId e); err = tt }
+
+pub dues_on-requires-clause-key : goal.dues_on-requires-clause-key
+dues_on-requires-clause-key c = ap is_key c.as_str-3.ensures.text ∙ subst (λ (x : Result (List ℕ) Refusal). IfOk x (λ k. is_key k ≡ true)) c.in-Ok.is c.in_ok-key.ensures.key
+
+pub dues_on-requires-clause-seated : goal.dues_on-requires-clause-seated
+dues_on-requires-clause-seated c = reached_in_place _ (subst IsReached (sym c.self.view_is) c.requires.reached)
 
 pub tell_all-requires : goal.tell_all-requires
 tell_all-requires c enough =

@@ -1,4 +1,4 @@
-use Rattle.std.proofs.Common.{◌≡◌, ◌∙◌, refl, sym, ap, Err, List, [], ◌++◌, map, Some, true≢false}
+use Rattle.std.proofs.Common.{◌≡◌, ◌∙◌, refl, sym, ap, subst, Err, List, [], ◌++◌, map, Some, true≢false}
 use Rattle.std.specs.BTreeMap.{is_at}
 use Rattle.std.specs.Map.{remove_entry}
 use Rattle.std.specs.Option.{option_map_or}
@@ -22,9 +22,14 @@ use Rattle.zq_machine.specs.Writing.{sent_final, tell}
 use Rattle.zq_machine.proofs.Writing.{close_fits}
 use Rattle.zq_handing.specs.Neighbours.{told_with}
 use Rattle.zq_handing.specs.Telling.{behind}
+use Rattle.zq_calls.proofs.Seated.{reached_in_place}
+use Rattle.zq_calls.specs.Making.{IsReached}
 use Rattle.zq_calls.proofs.Due.{Gathers, changed_home, closed_answered, closed_left, closing_gathers, due_of_keys, gathered_due, gathered_lacks, gathered_left}
 use Rattle.zq_calls.proofs.Reached.{reached_enough}
 use Rattle.zq_calls.proofs.tables.Tables.close.Goals as goal
+
+pub dues_left-requires-clause-seated : goal.dues_left-requires-clause-seated
+dues_left-requires-clause-seated c = reached_in_place _ (subst IsReached (sym c.self.view_is) c.requires)
 
 pub tell_all-requires : goal.tell_all-requires
 tell_all-requires c enough =
@@ -97,8 +102,8 @@ returns-in-Ok-close_planned c =
     let gone = c.remove.ensures.entries ∙ ap (remove_entry (is_at (nat_cmp face.0))) (ap (λ (x : State). x.core.faces) v) in
     let left = c.leave.ensures ∙ changed in
     let closed = c.in-Ok-close_planned.ensures.after ∙ ap (after_close face.0) queries in
-    let asked = ap (λ (x : State). closed_face face.0 x.core.interests) v in
-    let kept = c.close-in-Ok-close_planned.ensures.ears ∙ ap (unheard face.0) (c.put.ensures.ears ∙ ap (put_plan c.as_slice-in-Ok-close_planned.result.now) c.tell_all.ensures.ears ∙ gathered_left s.core t refl (ears_of i.ears) dues ts g c.as_slice-in-Ok-close_planned.result.now (c.as_slice-in-Ok-close_planned.ensures ∙ c.in-Ok.ensures.plan)) in
+    let asked = c.close.ensures ∙ ap (λ (x : State). closed_face face.0 x.core.interests) v in
+    let kept = c.close-in-Ok-close_planned-2.ensures.ears ∙ ap (unheard face.0) (c.put.ensures.ears ∙ ap (put_plan c.as_slice-in-Ok-close_planned.result.now) c.tell_all.ensures.ears ∙ gathered_left s.core t refl (ears_of i.ears) dues ts g c.as_slice-in-Ok-close_planned.result.now (c.as_slice-in-Ok-close_planned.ensures ∙ c.in-Ok.ensures.plan)) in
     record {
       step =
           c.told-in-Ok-close_planned.ensures
@@ -107,7 +112,7 @@ returns-in-Ok-close_planned c =
       after =
           (λ j. record {
             core = record { config = (v j).core.config; faces = gone j; next_face = (v j).core.next_face; hats = left j; tables = (v j).core.tables; queries = closed j; interests = asked j; ears = kept j };
-            names = c.close.ensures j;
+            names = c.close-in-Ok-close_planned.ensures j;
           })
           ∙ sym (closed_left s c.requires face r home fits us are finals all.handed c.tell_all.new.names handed);
       err = tt;

@@ -22,6 +22,8 @@ use Rattle.zq_handing.specs.Neighbours.{taken_back, told_with}
 use Rattle.zq_handing.specs.Reading.{key_refusal}
 use Rattle.zq_handing.specs.Telling.{behind}
 use Rattle.zq_handing.proofs.Held.{put_back}
+use Rattle.zq_calls.proofs.Seated.{reached_in_place}
+use Rattle.zq_calls.specs.Making.{IsReached}
 use Rattle.zq_calls.proofs.Due.{Gathers, changed_home, declaration_clashes, declaration_fits, declaration_gathers, declaration_lacks, declaration_no_key, due_of_keys, gathered_due, gathered_lacks, gathered_left, opened_there, refused_answered, refused_left, told_answered, told_left}
 use Rattle.zq_calls.proofs.tables.Tables.declare_queryable.Goals as goal
 
@@ -50,8 +52,14 @@ returns-then-clashes c =
     let e = ap (λ x. refusal_of s.core (declaring face id x c.args.info c.args.node)) says ∙ declaration_clashes s c.requires face id r home h there key c.args.info c.args.node valid used in
     record { step = c.refused-then-clashes.ensures ∙ refused_answered s t refusal.IdInUse e; after = sym (refused_left s t refusal.IdInUse e); err = tt }
 
-pub gather-requires : goal.gather-requires
-gather-requires c = c.home-hat.ensures.hat
+pub gather-requires-clause-there : goal.gather-requires-clause-there
+gather-requires-clause-there c = c.home-hat.ensures.hat
+
+pub gather-requires-clause-key : goal.gather-requires-clause-key
+gather-requires-clause-key c = ap is_key c.as_str-2.ensures.text ∙ subst (λ (x : Result (List ℕ) Refusal). IfOk x (λ k. is_key k ≡ true)) c.in-Ok.is c.in_ok-key.ensures.key
+
+pub gather-requires-clause-seated : goal.gather-requires-clause-seated
+gather-requires-clause-seated c = reached_in_place _ (subst IsReached (sym c.self.view_is) c.requires)
 
 pub hold_and_tell-requires : goal.hold_and_tell-requires
 hold_and_tell-requires c enough =

@@ -10,7 +10,7 @@ use Rattle.std.proofs.lemmas.Map.Lookups.{exact_unsigned}
 use Rattle.zq_query.proofs.Owing.{undone}
 use Rattle.zq_trees.specs.Tellings.{in_order}
 use Rattle.zq_tables.specs.Naming.{NamingState, no_keys}
-use Rattle.zq_interests.specs.Interests.{has_keyed}
+use Rattle.zq_interests.specs.Interests.{asks_for, has_keyed}
 use Rattle.zq_told.specs.Ears.{Ears, closed as unheard, opened as heard_opened}
 use Rattle.zq_told.specs.Leaving.{fresh_ear}
 use Rattle.zq_told.specs.Rooms.{ears_of}
@@ -27,6 +27,7 @@ use Rattle.zq_machine.specs.TextCalls.{opening}
 use Rattle.zq_machine.specs.Writing.{tell}
 use Rattle.zq_handing.specs.Neighbours.{told_with}
 use Rattle.zq_handing.specs.Telling.{behind}
+use Rattle.zq_calls.proofs.Seated.{reached_unasked}
 use Rattle.zq_calls.specs.Making.{IsReached}
 use Rattle.zq_calls.proofs.Due.{Gathers, due_of_keys, gathered_due, gathered_lacks, gathered_left, refused_answered, refused_left}
 use Rattle.zq_calls.proofs.Openings.{opening_answered, opening_fits, opening_gathers, opening_lacks, opening_left}
@@ -59,14 +60,14 @@ join_and_tell-requires-clause-keys c enough =
     let heard : ears ≡ heard_opened s.core.next_face s.core.config.start.told s.core.ears = λ j. heard_opened (v j).core.next_face (start j).told (v j).core.ears in
     let dues = c.as_slice.result.now in
     let dues_are =
-    c.as_slice.ensures ∙ c.in_ok-dues.ensures.same s.core [] o (record {
+    c.as_slice.ensures ∙ c.in_ok-dues.ensures.same s.core s.core.interests o (record {
       next = ap (λ (x : State). x.core.next_face) (sym v);
       free = ap (λ n. at n s.core.faces) (ap (λ (x : State). x.core.next_face) v) ∙ reached_absent s c.requires;
       opens = sym c.opened.ensures;
-      asked = λ key. refl;
+      unasked = λ key. ap (λ n. asks_for n key s.core.interests) (ap (λ (x : State). x.core.next_face) v) ∙ reached_unasked s c.requires key;
       same = ap (λ (x : State). x.core.hats) v;
     }) in
-    let g : Gathers s.core t ears dues [] = opening_gathers s c.requires o ears heard i.interests (ap (λ (x : State). x.core.interests) v) dues dues_are in
+    let g : Gathers s.core t ears dues [] = opening_gathers s c.requires o ears heard s.core.interests refl dues dues_are in
     let fits = opening_fits s c.requires o there room free (sym (gathered_lacks s.core t refl ears dues [] g) ∙ enough) in
     due_of_keys s c.requires t refl fits (told_with ears dues []) (gathered_due s.core t refl ears dues [] g)
 
@@ -92,14 +93,14 @@ returns-in-Err-NoFreeId c =
     let heard : ears ≡ heard_opened s.core.next_face s.core.config.start.told s.core.ears = λ j. heard_opened (v j).core.next_face (start j).told (v j).core.ears in
     let dues = c.as_slice.result.now in
     let dues_are =
-    c.as_slice.ensures ∙ c.in_ok-dues.ensures.same s.core [] o (record {
+    c.as_slice.ensures ∙ c.in_ok-dues.ensures.same s.core s.core.interests o (record {
       next = ap (λ (x : State). x.core.next_face) (sym v);
       free = ap (λ n. at n s.core.faces) (ap (λ (x : State). x.core.next_face) v) ∙ reached_absent s c.requires;
       opens = sym c.opened.ensures;
-      asked = λ key. refl;
+      unasked = λ key. ap (λ n. asks_for n key s.core.interests) (ap (λ (x : State). x.core.next_face) v) ∙ reached_unasked s c.requires key;
       same = ap (λ (x : State). x.core.hats) v;
     }) in
-    let g : Gathers s.core t ears dues [] = opening_gathers s c.requires o ears heard i.interests (ap (λ (x : State). x.core.interests) v) dues dues_are in
+    let g : Gathers s.core t ears dues [] = opening_gathers s c.requires o ears heard s.core.interests refl dues dues_are in
     let e = opening_lacks s c.requires o there room free (sym (gathered_lacks s.core t refl ears dues [] g) ∙ c.in-Err-NoFreeId.ensures.no_free (ap (λ e. Err e) c.in-Err-NoFreeId.field-0-is)) in
     let faces_back = c.in-Err-NoFreeId.ensures.no_faces ∙ ap (λ (x : State). x.core.faces) v in
     let names_back = c.in-Err-NoFreeId.ensures.no_names ∙ ap (λ (x : State). x.names) v in
@@ -132,14 +133,14 @@ returns-in-Ok-join c =
     let heard : ears ≡ heard_opened s.core.next_face s.core.config.start.told s.core.ears = λ j. heard_opened (v j).core.next_face (start j).told (v j).core.ears in
     let dues = c.as_slice.result.now in
     let dues_are =
-    c.as_slice.ensures ∙ c.in_ok-dues.ensures.same s.core [] o (record {
+    c.as_slice.ensures ∙ c.in_ok-dues.ensures.same s.core s.core.interests o (record {
       next = ap (λ (x : State). x.core.next_face) (sym v);
       free = ap (λ n. at n s.core.faces) (ap (λ (x : State). x.core.next_face) v) ∙ reached_absent s c.requires;
       opens = sym c.opened.ensures;
-      asked = λ key. refl;
+      unasked = λ key. ap (λ n. asks_for n key s.core.interests) (ap (λ (x : State). x.core.next_face) v) ∙ reached_unasked s c.requires key;
       same = ap (λ (x : State). x.core.hats) v;
     }) in
-    let g : Gathers s.core t ears dues [] = opening_gathers s c.requires o ears heard i.interests (ap (λ (x : State). x.core.interests) v) dues dues_are in
+    let g : Gathers s.core t ears dues [] = opening_gathers s c.requires o ears heard s.core.interests refl dues dues_are in
     let fits = opening_fits s c.requires o there room free (sym (gathered_lacks s.core t refl ears dues [] g) ∙ c.in-Ok.ensures.free) in
     let ts = told_with ears dues [] in
     let are = gathered_due s.core t refl ears dues [] g in

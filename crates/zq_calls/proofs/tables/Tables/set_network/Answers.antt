@@ -23,10 +23,27 @@ use Rattle.zq_machine.specs.TextCalls.{networking}
 use Rattle.zq_machine.specs.Writing.{tell}
 use Rattle.zq_handing.specs.Neighbours.{told_with}
 use Rattle.zq_handing.specs.Telling.{behind}
+use Rattle.zq_calls.proofs.Seated.{each_of, reached_in_place}
+use Rattle.zq_calls.specs.Making.{IsReached}
 use Rattle.zq_calls.proofs.Due.{Gathers, due_of_keys, gathered_due, gathered_lacks, gathered_left, told_answered, told_left}
-use Rattle.zq_calls.proofs.Networks.{network_fits, network_gathers}
+use Rattle.zq_calls.proofs.Networked.{network_fits, network_gathers, network_keys}
 use Rattle.zq_calls.proofs.Reached.{reached_enough}
 use Rattle.zq_calls.proofs.tables.Tables.set_network.Goals as goal
+
+pub dues_on_all-requires-clause-keys : goal.dues_on_all-requires-clause-keys
+dues_on_all-requires-clause-keys c =
+    let s : State = c.args.self.now in
+    let i = c.self.inside in
+    let r = c.args.region in
+    let net : Network = c.in_ok-net.net in
+    let hat : HatState = c.in-Some.hat.now in
+    let same : i.hats ≡ s.core.hats = ap (λ (x : State). x.core.hats) c.self.view_is in
+    let there : hat_at r i.hats ≡ Some hat = sym c.hat_at.ensures ∙ ap option_copied c.in-Some.is in
+    let lost : c.in_ok-keys.keys ≡ losing net hat = c.in_ok-keys.ensures ∙ ap (λ (ids : List Zid). keys_by (is_one_of ids) hat.entries) c.as_slice-2.ensures ∙ c.in_ok-gone.ensures.losing in
+    network_keys s c.requires r net hat (ap (hat_at r) (sym same) ∙ there) c.as_slice-3.result.now (c.as_slice-3.ensures ∙ lost)
+
+pub dues_on_all-requires-clause-seated : goal.dues_on_all-requires-clause-seated
+dues_on_all-requires-clause-seated c = reached_in_place _ (subst IsReached (sym c.self.view_is) c.requires)
 
 pub tell_all-requires : goal.tell_all-requires
 tell_all-requires c enough =
@@ -48,7 +65,7 @@ tell_all-requires c enough =
     let dues = c.as_slice-4.result.now in
     let changed = λ (key : List ℕ). ap (λ (n : Network). change_hat r (networked n) i.hats) c.in_ok-net-2.ensures.net ∙ ap (change_hat r (networked net)) same in
     let dues_are =
-    c.as_slice-4.ensures ∙ c.in_ok-dues.ensures (accepted s.core (networking r net)) (sym (ap (λ (x : State). x.core.faces) v)) changed
+    c.as_slice-4.ensures ∙ c.in_ok-dues.ensures (accepted s.core (networking r net)) (sym (ap (λ (x : State). x.core.faces) v)) (each_of changed c.as_slice-3.result.now)
     ∙ ap (λ (ks : List (List ℕ)). looked_over (accepted s.core (networking r net)) i.interests (fold (insert_key text_cmp) [] ks)) (c.as_slice-3.ensures ∙ lost) in
     let g : Gathers s.core t (ears_of i.ears) dues told =
     subst (λ (n : Network). Gathers s.core (networking r n) (ears_of i.ears) dues told) is_net
@@ -75,7 +92,7 @@ unreachable-requires c =
     let dues = c.as_slice-4.result.now in
     let changed = λ (key : List ℕ). ap (λ (n : Network). change_hat r (networked n) i.hats) c.in_ok-net-2.ensures.net ∙ ap (change_hat r (networked net)) same in
     let dues_are =
-    c.as_slice-4.ensures ∙ c.in_ok-dues.ensures (accepted s.core (networking r net)) (sym (ap (λ (x : State). x.core.faces) v)) changed
+    c.as_slice-4.ensures ∙ c.in_ok-dues.ensures (accepted s.core (networking r net)) (sym (ap (λ (x : State). x.core.faces) v)) (each_of changed c.as_slice-3.result.now)
     ∙ ap (λ (ks : List (List ℕ)). looked_over (accepted s.core (networking r net)) i.interests (fold (insert_key text_cmp) [] ks)) (c.as_slice-3.ensures ∙ lost) in
     let g : Gathers s.core t (ears_of i.ears) dues told =
     subst (λ (n : Network). Gathers s.core (networking r n) (ears_of i.ears) dues told) is_net
@@ -103,7 +120,7 @@ returns c =
     let dues = c.as_slice-4.result.now in
     let changed = λ (key : List ℕ). ap (λ (n : Network). change_hat r (networked n) i.hats) c.in_ok-net-2.ensures.net ∙ ap (change_hat r (networked net)) same in
     let dues_are =
-    c.as_slice-4.ensures ∙ c.in_ok-dues.ensures (accepted s.core (networking r net)) (sym (ap (λ (x : State). x.core.faces) v)) changed
+    c.as_slice-4.ensures ∙ c.in_ok-dues.ensures (accepted s.core (networking r net)) (sym (ap (λ (x : State). x.core.faces) v)) (each_of changed c.as_slice-3.result.now)
     ∙ ap (λ (ks : List (List ℕ)). looked_over (accepted s.core (networking r net)) i.interests (fold (insert_key text_cmp) [] ks)) (c.as_slice-3.ensures ∙ lost) in
     let g : Gathers s.core t (ears_of i.ears) dues told =
     subst (λ (n : Network). Gathers s.core (networking r n) (ears_of i.ears) dues told) is_net

@@ -1,4 +1,4 @@
-use Rattle.std.proofs.Common.{◌≡◌, ◌∙◌, refl, sym, ap, Err, List, [], map, Some, true≢false}
+use Rattle.std.proofs.Common.{◌≡◌, ◌∙◌, refl, sym, ap, subst, Err, List, [], map, Some, true≢false}
 use Rattle.zq_trees.specs.Tellings.{in_order}
 use Rattle.zq_hat.specs.Kept.{unregistered}
 use Rattle.zq_tables.specs.Naming.{NamingState}
@@ -13,12 +13,25 @@ use Rattle.zq_machine.specs.TextCalls.{withdrawing}
 use Rattle.zq_machine.specs.Writing.{tell}
 use Rattle.zq_handing.specs.Neighbours.{told_with}
 use Rattle.zq_handing.specs.Telling.{behind}
-use Rattle.zq_calls.proofs.Due.{changed_home, due_of_keys, gathered_due, gathered_lacks, gathered_left, withdrawal_fits, withdrawal_gathers, withdrawn_answered, withdrawn_left}
+use Rattle.zq_calls.proofs.Seated.{reached_in_place}
+use Rattle.zq_calls.specs.Making.{IsReached}
+use Rattle.zq_calls.proofs.Due.{changed_home, due_of_keys, gathered_due, gathered_lacks, gathered_left, withdrawal_fits, withdrawal_gathers, withdrawal_key, withdrawn_answered, withdrawn_left}
 use Rattle.zq_calls.proofs.Reached.{reached_enough}
 use Rattle.zq_calls.proofs.tables.Tables.undeclare_queryable.Goals as goal
 
-pub gather-requires : goal.gather-requires
-gather-requires c = c.home-hat.ensures.hat
+pub gather-requires-clause-there : goal.gather-requires-clause-there
+gather-requires-clause-there c = c.home-hat.ensures.hat
+
+pub gather-requires-clause-key : goal.gather-requires-clause-key
+gather-requires-clause-key c =
+    let s : State = c.args.self.now in
+    let r = c.in-Some.region in
+    let home : face_region c.args.face.0 s.core ≡ Some r = sym c.in-Some.ensures.region in
+    let there : hat_at r s.core.hats ≡ Some c.home-hat.result.now = ap (hat_at r) (sym (ap (λ (x : State). x.core.hats) c.self.view_is)) ∙ c.home-hat.ensures.hat in
+    withdrawal_key s c.requires c.args.face c.args.id r home c.home-hat.result.now there c.in-Some-key_at.key.now c.in-Some-key_at.ensures
+
+pub gather-requires-clause-seated : goal.gather-requires-clause-seated
+gather-requires-clause-seated c = reached_in_place _ (subst IsReached (sym c.self.view_is) c.requires)
 
 pub tell_all-requires : goal.tell_all-requires
 tell_all-requires c enough =

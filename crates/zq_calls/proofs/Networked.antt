@@ -1,5 +1,5 @@
 -- What a network that is put in place hands, as the body gathers it.
-use Rattle.std.proofs.Common.{◌≡◌, ◌∙◌, sym, ap, ℕ, cond, not, List, [], ◌++◌, fold, Option, Some, None}
+use Rattle.std.proofs.Common.{◌≡◌, ◌∙◌, sym, ap, subst, ℕ, cond, not, List, [], ◌++◌, fold, Option, Some, None}
 use Rattle.std.specs.Option.{is_some, option_map_or}
 use Rattle.zq_message.specs.declared.message.Region.{Region}
 use Rattle.std.specs.BTreeSet.{insert_key}
@@ -17,6 +17,9 @@ use Rattle.zq_machine.specs.Deciding.{accepted, refusal_of}
 use Rattle.zq_machine.specs.State.{State, change_hat, hat_at}
 use Rattle.zq_machine.specs.TextCalls.{networking}
 use Rattle.zq_machine.specs.Trees.{all_own_told, networked_told}
+use Rattle.zq_machine.proofs.DueHeard.{AreTexts, touched_texts}
+use Rattle.zq_calls.specs.Making.{IsReached}
+use Rattle.zq_calls.proofs.Reached.{reached_in_order}
 use Rattle.zq_calls.proofs.Due.{Gathers}
 
 -- the region has a hat: nothing refuses
@@ -41,3 +44,8 @@ network_gathers s r net hats same first there tree ts is_tree is ears kept_is in
       ∙ ap (λ o. networked_told r hats (change_hat r (networked net) hats) ++ all_own_told hats (change_hat r (networked net) hats) (option_map_or (losing net) o [])) (sym there)
       ∙ (λ j. networked_told r (same j) (change_hat r (networked net) (same j)) ++ all_own_told (same j) (change_hat r (networked net) (same j)) (option_map_or (losing net) (hat_at r (same j)) []));
 }
+
+-- the keys that it looks at are keys
+pub network_keys : (s : State) → IsReached s → (r : Region) (net : Network) (first : HatState) → hat_at r s.core.hats ≡ Some first → (keys : List (List ℕ)) → keys ≡ losing net first → AreTexts keys
+network_keys s i r net first there keys are =
+    subst AreTexts (ap (λ (o : Option HatState). option_map_or (losing net) o []) there ∙ sym are) (touched_texts s.core (reached_in_order s i).worded (networking r net) (network_fits s r net first there))

@@ -1,0 +1,162 @@
+use Rattle.std.proofs.Common.{◌≡◌, ◌∙◌, refl, sym, ap, subst, ℕ, Bool, false, true, true≢false, List, [], map, Option, Some, None, Result, Err}
+use Rattle.std.specs.Prelude.{IfOk, option_copied}
+use Rattle.std.specs.Option.{is_some, option_map}
+use Rattle.zq_tables.specs.Naming.{NamingState, change_naming, without_interest as letting_interest}
+use Rattle.zq_tables.specs.declared.said.Said.{Said}
+use Rattle.zq_interests.specs.declared.types.InterestEntry.{InterestEntry}
+use Rattle.zq_interests.specs.Interests.{Interests, asks_another, has_keyed, meets, with_interest}
+use Rattle.zq_told.specs.Ears.{Ears}
+use Rattle.zq_told.specs.Rooms.{ears_of}
+use Rattle.zq_told.specs.Telling.{lacks_ids, put_plan}
+use Rattle.zq_machine.specs.declared.call.Refusal.{Refusal}
+use Rattle.zq_machine.specs.declared.call.Refusal.TheVariants as refusal
+use Rattle.zq_machine.specs.declared.face.OpenFace.{OpenFace}
+use Rattle.zq_machine.specs.Deciding.{accepted}
+use Rattle.zq_machine.specs.Selecting.{asked_by, full_text}
+use Rattle.zq_machine.specs.State.{State, at, is_open}
+use Rattle.zq_machine.specs.TextCalls.{hearing}
+use Rattle.zq_handing.specs.Neighbours.{asked_back, asking}
+use Rattle.zq_handing.proofs.Held.{asked_out}
+use Rattle.zq_calls.specs.Asking.{asking_refusal}
+use Rattle.zq_calls.proofs.Asking.{asked_answered, asked_asks, asked_keys, asked_lacks, asked_left, asked_settled, hearing_fits, hearing_lacks, hearing_no_key, hearing_unknown, hearing_used, looked}
+use Rattle.zq_calls.proofs.Due.{refused_answered, refused_left}
+use Rattle.zq_calls.proofs.tables.Tables.ask_to_hear.Goals as goal
+
+pub hold_and_answer-requires : goal.hold_and_answer-requires
+hold_and_answer-requires c enough =
+    let s : State = c.args.self.now in
+    let i = c.self.inside in
+    let v = c.self.view_is in
+    let face = c.args.face in
+    let id = c.args.id in
+    let keys = c.args.keys in
+    let sd : Option Said = c.args.said.now in
+    let t = hearing face id keys sd in
+    let home : at face.0 s.core.faces ≡ Some c.in-Some.opened = sym c.in-Some.ensures.found in
+    let opens : is_open face.0 s.core ≡ true = ap is_some home in
+    let key : Option (List ℕ) = c.in-Ok.key in
+    let is : key ≡ option_map full_text sd = subst (λ (x : Result (Option (List ℕ)) Refusal). IfOk x (λ k. k ≡ option_map full_text sd)) c.in-Ok.is c.in_ok-key.ensures.key in
+    let valid : asking_refusal sd ≡ None = subst (λ (x : Result (Option (List ℕ)) Refusal). IfOk x (λ k. asking_refusal sd ≡ None)) c.in-Ok.is c.in_ok-key.ensures.valid in
+    let held = ap (λ (x : State). x.core.interests) v in
+    let free : asks_another face.0 id (asked_by keys sd).key s.core.interests ≡ false =
+    (λ j. asks_another face.0 id (sym (c.as_ref.ensures.value ∙ is) j) (sym held j)) ∙ sym c.asks_another.ensures ∙ c.if-asks_another.false in
+    let dues = c.as_slice.result.now in
+    let are : dues ≡ looked s c.requires face id keys sd =
+    c.as_slice.ensures
+    ∙ c.in_ok-dues.ensures (accepted s.core t) (accepted s.core t).interests (asked_by keys sd) home (ap (λ (x : State). x.core.hats) v) (sym (c.as_ref-2.ensures.value ∙ is))
+    (λ k on. asked_asks face.0 id (asked_by keys sd) s.core.interests k (ap (λ o. meets o k) (sym (c.as_ref-2.ensures.value ∙ is)) ∙ on)) in
+    let heard : ears_of i.ears ≡ s.core.ears = ap (λ (x : State). x.core.ears) v in
+    let lacks = asked_lacks s c.requires face id keys sd (ears_of i.ears) heard dues are in
+    asked_keys s c.requires face id keys sd (ears_of i.ears) heard dues are (hearing_fits s.core face id keys sd opens valid free (sym lacks ∙ enough))
+
+pub returns-in-Err-NoFreeId : goal.returns-in-Err-NoFreeId
+returns-in-Err-NoFreeId c =
+    let s : State = c.args.self.now in
+    let i = c.self.inside in
+    let v = c.self.view_is in
+    let face = c.args.face in
+    let id = c.args.id in
+    let keys = c.args.keys in
+    let sd : Option Said = c.args.said.now in
+    let t = hearing face id keys sd in
+    let home : at face.0 s.core.faces ≡ Some c.in-Some.opened = sym c.in-Some.ensures.found in
+    let opens : is_open face.0 s.core ≡ true = ap is_some home in
+    let key : Option (List ℕ) = c.in-Ok.key in
+    let is : key ≡ option_map full_text sd = subst (λ (x : Result (Option (List ℕ)) Refusal). IfOk x (λ k. k ≡ option_map full_text sd)) c.in-Ok.is c.in_ok-key.ensures.key in
+    let valid : asking_refusal sd ≡ None = subst (λ (x : Result (Option (List ℕ)) Refusal). IfOk x (λ k. asking_refusal sd ≡ None)) c.in-Ok.is c.in_ok-key.ensures.valid in
+    let held = ap (λ (x : State). x.core.interests) v in
+    let free : asks_another face.0 id (asked_by keys sd).key s.core.interests ≡ false =
+    (λ j. asks_another face.0 id (sym (c.as_ref.ensures.value ∙ is) j) (sym held j)) ∙ sym c.asks_another.ensures ∙ c.if-asks_another.false in
+    let dues = c.as_slice.result.now in
+    let are : dues ≡ looked s c.requires face id keys sd =
+    c.as_slice.ensures
+    ∙ c.in_ok-dues.ensures (accepted s.core t) (accepted s.core t).interests (asked_by keys sd) home (ap (λ (x : State). x.core.hats) v) (sym (c.as_ref-2.ensures.value ∙ is))
+    (λ k on. asked_asks face.0 id (asked_by keys sd) s.core.interests k (ap (λ o. meets o k) (sym (c.as_ref-2.ensures.value ∙ is)) ∙ on)) in
+    let heard : ears_of i.ears ≡ s.core.ears = ap (λ (x : State). x.core.ears) v in
+    let lacks = asked_lacks s c.requires face id keys sd (ears_of i.ears) heard dues are in
+    let e = hearing_lacks s.core face id keys sd opens valid free (sym lacks ∙ c.in-Err-NoFreeId.ensures.no_free (ap (λ e. Err e) c.in-Err-NoFreeId.field-0-is)) in
+    let names_back = c.in-Err-NoFreeId.ensures.err ∙ ap (λ (x : State). x.names) v in
+    let ears_back = c.hold_and_answer.ensures.ears ∙ heard in
+    record {
+      step = c.refused-in-Err-NoFreeId.ensures ∙ refused_answered s t refusal.NoFreeId e;
+      after =
+          (λ j. record {
+            core = record { config = (v j).core.config; faces = (v j).core.faces; next_face = (v j).core.next_face; hats = (v j).core.hats; tables = (v j).core.tables; queries = (v j).core.queries; interests = (v j).core.interests; ears = ears_back j };
+            names = names_back j;
+          })
+          ∙ sym (refused_left s t refusal.NoFreeId e);
+      err = tt;
+    }
+
+pub returns-in-Ok-put : goal.returns-in-Ok-put
+returns-in-Ok-put c =
+    let s : State = c.args.self.now in
+    let i = c.self.inside in
+    let v = c.self.view_is in
+    let face = c.args.face in
+    let id = c.args.id in
+    let keys = c.args.keys in
+    let sd : Option Said = c.args.said.now in
+    let t = hearing face id keys sd in
+    let home : at face.0 s.core.faces ≡ Some c.in-Some.opened = sym c.in-Some.ensures.found in
+    let opens : is_open face.0 s.core ≡ true = ap is_some home in
+    let key : Option (List ℕ) = c.in-Ok.key in
+    let is : key ≡ option_map full_text sd = subst (λ (x : Result (Option (List ℕ)) Refusal). IfOk x (λ k. k ≡ option_map full_text sd)) c.in-Ok.is c.in_ok-key.ensures.key in
+    let valid : asking_refusal sd ≡ None = subst (λ (x : Result (Option (List ℕ)) Refusal). IfOk x (λ k. asking_refusal sd ≡ None)) c.in-Ok.is c.in_ok-key.ensures.valid in
+    let held = ap (λ (x : State). x.core.interests) v in
+    let free : asks_another face.0 id (asked_by keys sd).key s.core.interests ≡ false =
+    (λ j. asks_another face.0 id (sym (c.as_ref.ensures.value ∙ is) j) (sym held j)) ∙ sym c.asks_another.ensures ∙ c.if-asks_another.false in
+    let dues = c.as_slice.result.now in
+    let are : dues ≡ looked s c.requires face id keys sd =
+    c.as_slice.ensures
+    ∙ c.in_ok-dues.ensures (accepted s.core t) (accepted s.core t).interests (asked_by keys sd) home (ap (λ (x : State). x.core.hats) v) (sym (c.as_ref-2.ensures.value ∙ is))
+    (λ k on. asked_asks face.0 id (asked_by keys sd) s.core.interests k (ap (λ o. meets o k) (sym (c.as_ref-2.ensures.value ∙ is)) ∙ on)) in
+    let heard : ears_of i.ears ≡ s.core.ears = ap (λ (x : State). x.core.ears) v in
+    let lacks = asked_lacks s c.requires face id keys sd (ears_of i.ears) heard dues are in
+    let fits = hearing_fits s.core face id keys sd opens valid free (sym lacks ∙ c.in-Ok-hold_and_answer.ensures.free) in
+    let all = c.in-Ok-hold_and_answer.all in
+    let names = ap (λ (x : State). x.names) v in
+    let told =
+    c.in-Ok-hold_and_answer.ensures.ok (accepted s.core t) (sym (ap (λ (x : State). x.core.faces) v))
+    (λ f k. λ j. has_keyed f k (with_interest face.0 id (record { key = is j; keys = keys }) (held j))) in
+    let more = c.in-Ok-put.ensures.ok ∙ (λ j. with_interest face.0 id (record { key = is j; keys = keys }) (held j)) in
+    let kept =
+    c.put-in-Ok-put.ensures.ears ∙ ap (put_plan c.as_slice-in-Ok-put.result.now) c.hold_and_answer.ensures.ears
+    ∙ asked_left s c.requires face id keys sd (ears_of i.ears) heard dues are c.as_slice-in-Ok-put.result.now (c.as_slice-in-Ok-put.ensures ∙ c.in-Ok-hold_and_answer.ensures.plan) in
+    let its_key = c.as_ref-held.ensures.value ∙ is in
+    let held_by = option_copied c.as_ref-held.result in
+    record {
+      step = c.told.ensures ∙ asked_answered s c.requires face id keys sd (ears_of i.ears) heard dues are fits i.names names held_by its_key all.handed c.hold_and_answer.new.names told;
+      after =
+          (λ j. record {
+            core = record { config = (v j).core.config; faces = (v j).core.faces; next_face = (v j).core.next_face; hats = (v j).core.hats; tables = (v j).core.tables; queries = (v j).core.queries; interests = more j; ears = kept j };
+            names = c.hold_and_answer.new.names;
+          })
+          ∙ sym (asked_settled s c.requires face id keys sd (ears_of i.ears) heard dues are fits i.names names held_by its_key all.handed c.hold_and_answer.new.names told);
+      err = tt;
+    }
+
+pub returns : goal.returns
+returns c =
+    let s : State = c.args.self.now in
+    let i = c.self.inside in
+    let v = c.self.view_is in
+    let face = c.args.face in
+    let id = c.args.id in
+    let names = ap (λ (x : State). x.names) v in
+    let held_by = option_copied c.as_ref-held.result in
+    let fresh = c.is_fresh-fresh.result in
+    let back =
+    c.take_back_answered.ensures.names
+    ∙ ap (asked_back face.0 id fresh) (c.in-Ok-hold_and_answer.ensures.back ∙ ap (asking face.0 id held_by) names)
+    ∙ asked_out face.0 id held_by fresh s.names c.is_fresh-fresh.ensures in
+    let held = c.in-Err-put.ensures.err ∙ ap (λ (x : State). x.core.interests) v in
+    let kept = c.take_back_answered.ensures.ears ∙ c.hold_and_answer.ensures.ears ∙ ap (λ (x : State). x.core.ears) v in
+    record {
+      step = tt;
+      after = tt;
+      err = λ j. record {
+        core = record { config = (v j).core.config; faces = (v j).core.faces; next_face = (v j).core.next_face; hats = (v j).core.hats; tables = (v j).core.tables; queries = (v j).core.queries; interests = held j; ears = kept j };
+        names = back j;
+      };
+    }
