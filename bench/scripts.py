@@ -205,6 +205,57 @@ def networks(routers=1_000, keys=10_000, times=10):
         yield f'network north {nodes} {";".join([tree] * 19 + [f"{i % 10 + 1}/x"])} {far}'
 
 
+# The same where neighbours are told, which the baseline does not do
+
+def under_upstream(count):
+    """A gateway's face to its router, and an application that has so many keys, each of which the router is told."""
+    yield CONFIG
+    yield 'open north 99 router south -'
+    yield 'open local 10 client north -'
+    for n in range(count):
+        yield f'queryable 1 {n} 0:s:{key(n)} c 0 0'
+
+
+def under_upstream_and_withdrawn(count):
+    yield from under_upstream(count)
+    for n in range(count, count + CALLS):
+        yield f'queryable 1 {n} 0:s:{key(n)} c 0 0'
+        yield f'unqueryable 1 {n} - 0'
+
+
+def asked(count, declared=0):
+    """So many faces, each of which asks for one key that nobody has, and one that then declares keys."""
+    yield from faces(count + 1)
+    for face in range(count):
+        yield f'interest {face} 1 0:s:asked/{face} n'
+    for n in range(declared):
+        yield f'queryable {count} {n} 0:s:{key(n)} c 0 0'
+
+
+def asked_and_withdrawn(count):
+    """What is declared is asked for by nobody."""
+    yield from asked(count)
+    for n in range(CALLS):
+        yield f'queryable {count} {n} 0:s:{key(n)} c 0 0'
+        yield f'unqueryable {count} {n} - 0'
+
+
+def heard_and_withdrawn(count):
+    """What is declared is asked for by one of them."""
+    yield from asked(count)
+    for n in range(CALLS):
+        yield f'queryable {count} {n} 0:s:asked/{n * 7919 % count} c 0 0'
+        yield f'unqueryable {count} {n} - 0'
+
+
+def declared_and_answered(count):
+    """So many keys, and a face that asks for one of them, a hundredth as often as elsewhere."""
+    yield from declared(count)
+    for i in range(CALLS // 100):
+        yield f'interest 1 1 0:s:{key(i * 7919 % count)} n'
+        yield 'uninterest 1 1'
+
+
 # Scripts that are made to be slow, or to take much memory
 
 def long_key(size=65_536):
