@@ -1,5 +1,5 @@
 -- The messages of what a hat tells, in answer to an interest or to none, and how the numbers that they declare are taken back.
-use Rattle.std.specs.Prelude.{◌≡◌, ℕ, ◌==◌, Bool, ◌&&◌, not, List, [], ◌∷◌, ◌++◌, Option, Some, None, is_none}
+use Rattle.std.specs.Prelude.{◌≡◌, ℕ, ◌==◌, Bool, ◌&&◌, ◌||◌, not, length, List, [], ◌∷◌, ◌++◌, Option, Some, None, is_none}
 use Rattle.zq_message.specs.declared.message.Declare.{Declare}
 use Rattle.zq_message.specs.declared.message.DeclareBody.{DeclareBody}
 use Rattle.zq_message.specs.declared.message.DeclareBody.TheVariants as body
@@ -24,6 +24,10 @@ use Rattle.zq_handing.specs.declared.tell.InterestId.{InterestId}
 -- of faces and keys it says what the interests say: which faces want numbers for which keys
 abbrev pub KeyedAs : (ℕ → List ℕ → Bool) → Interests → Type 0
 KeyedAs keyed ints = (face : ℕ) (key : List ℕ) → keyed face key ≡ has_keyed face key ints
+
+-- a face may be declared a number for the part of a key: its region takes numbers, or the part is not empty and an interest wants it
+abbrev pub asked_number : Bool → List ℕ → Bool → Bool
+asked_number takes part wanted = takes || (not (length part == 0) && wanted)
 
 -- the id of the interest, if there is one
 abbrev pub mark_of : Option InterestId → Option ℕ

@@ -63,8 +63,8 @@ pub fn answer_all<K: Keyed>(
 
 // An interest with a key holds the key's node. Answers whether it held none before.
 fn hold(names: &mut Naming, face: FaceId, id: u32, key: Option<&Key>) -> Result<bool, OutOfMemory>
-    ensures fresh { IfOk result (λ b. b ≡ is_fresh face.0 id (option_copied key) names.old) }
-    ensures ok { OnOk result (names.new ≡ asking face.0 id (option_copied key) names.old) }
+    ensures fresh { IfOk result (λ b. b ≡ is_fresh face.0 id (option_copied key.entry) names.old) }
+    ensures ok { OnOk result (names.new ≡ asking face.0 id (option_copied key.entry) names.old) }
     ensures err { OnErr result (names.new ≡ names.old) }
 {
     match key {
@@ -99,8 +99,8 @@ pub fn hold_and_answer<K: Keyed>(
     dues: &[FaceDues],
 ) -> Result<ToldAll, TellRefusal>
     requires { lacks_ids Answering (ears_of ears.old) dues.now ≡ false → All (λ t. key_of t.key ≡ true) (tell_faces Answering (ears_of ears.old) dues.now).tellings }
-    ensures ok { (c : Core) → c.faces ≡ faces.now.entries → KeyedAs (K.keyed keyed.now) c.interests → IfOk result (λ x. tell_of c (answered_by face id (map from_hat (in_order (tell_faces Answering (ears_of ears.old) dues.now).tellings))) (asking face.0 id (option_copied key) names.old) ≡ record { handed = x.handed; names = names.new }) }
-    ensures back { IfOk result (λ x. untold x.handed names.new ≡ asking face.0 id (option_copied key) names.old) }
+    ensures ok { (c : Core) → c.faces ≡ faces.now.entries → KeyedAs (K.keyed keyed.now) c.interests → IfOk result (λ x. tell_of c (answered_by face id (map from_hat (in_order (tell_faces Answering (ears_of ears.old) dues.now).tellings))) (asking face.0 id (option_copied key.entry) names.old) ≡ record { handed = x.handed; names = names.new }) }
+    ensures back { IfOk result (λ x. untold x.handed names.new ≡ asking face.0 id (option_copied key.entry) names.old) }
     ensures plan { IfOk result (λ x. x.plan ≡ (tell_faces Answering (ears_of ears.old) dues.now).plan) }
     ensures ready { IfOk result (λ x. IsReady x.plan ears.new) }
     ensures ears { ears_of ears.new ≡ ears_of ears.old }

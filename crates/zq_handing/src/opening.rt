@@ -1,5 +1,5 @@
 //! A face that is opened joins the others, and is told what is due to it.
-ghost use Rattle.std.specs.Prelude.{◌≡◌, [], map, true, false, None, IfOk, OnOk, OnErr, IsErrOf};
+ghost use Rattle.std.specs.Prelude.{◌≡◌, List, [], map, true, false, None, IfOk, OnOk, OnErr, IsErrOf};
 ghost use Rattle.std.specs.BTreeMap.{insert_entry, is_at};
 ghost use Rattle.std.specs.List.{All};
 ghost use Rattle.std.specs.Map.{remove_entry};
@@ -7,6 +7,7 @@ ghost use Rattle.std.specs.Ordering.{nat_cmp};
 ghost use Rattle.zq_key.specs.Key.{is_key as key_of};
 ghost use Rattle.zq_trees.specs.Tellings.{in_order};
 ghost use Rattle.zq_tables.specs.Naming.{no_keys};
+ghost use Rattle.zq_told.specs.declared.types.FacePlan.{FacePlan};
 ghost use Rattle.zq_told.specs.declared.types.Way.TheVariants.{Unasked};
 ghost use Rattle.zq_told.specs.Ears.{at_face, closed, opened as heard_opened};
 ghost use Rattle.zq_told.specs.Rooms.{AreBare, IsReady, ears_of};
@@ -30,7 +31,8 @@ use zq_tables::naming::Naming;
 use zq_told::ears::Ears;
 use zq_told::types::{FaceDues, TellRefusal};
 
-// The face joins the open ones, those that have numbers, and those of which something is kept.
+// The face joins the open ones, those that have numbers, and those of which something is kept. There is no
+// more room than before.
 fn join(
     alloc: Global,
     faces: &mut BTreeMap<u32, OpenFace>,
@@ -49,6 +51,7 @@ fn join(
     ensures no_names { OnErr result (names.new ≡ names.old) }
     ensures no_faces { OnErr result (faces.new.entries ≡ faces.old.entries) }
     ensures no_ears { OnErr result (ears_of ears.new ≡ ears_of ears.old) }
+    ensures rooms { (plan : List FacePlan) → AreBare plan ears.old → AreBare plan ears.new }
 {
     ears.open(alloc, face, last)?;
     match enter(names, faces, face, opened) {
@@ -87,6 +90,7 @@ pub fn join_and_tell<K: Keyed>(
     ensures no_names { OnErr result (names.new ≡ names.old) }
     ensures no_faces { OnErr result (faces.new.entries ≡ faces.old.entries) }
     ensures no_ears { OnErr result (ears_of ears.new ≡ ears_of ears.old) }
+    ensures rooms { AreBare (tell_faces Unasked (heard_opened face.0 last (ears_of ears.old)) dues.now).plan ears.old → OnErr result (AreBare (tell_faces Unasked (heard_opened face.0 last (ears_of ears.old)) dues.now).plan ears.new) }
     ensures free { OnOk result (lacks_ids Unasked (heard_opened face.0 last (ears_of ears.old)) dues.now ≡ false) }
     ensures no_free { IsErrOf result TellRefusal.NoFreeId → lacks_ids Unasked (heard_opened face.0 last (ears_of ears.old)) dues.now ≡ true }
 {

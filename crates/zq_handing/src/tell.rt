@@ -1,7 +1,7 @@
 //! What faces are told: declarations, each with the number that it needs declared directly before it,
 //! and, where an interest is answered, marked with its id and followed by the end of what there was to
 //! tell.
-ghost use Rattle.std.specs.Prelude.{◌≡◌, ℕ, ◌+◌, ◌<◌, ◌≤◌, ◌∷◌, ◌++◌, ◌==◌, ◌&&◌, ◌||◌, [], drop, length, map, not, true, false, vec_capacity, vec_len, IfOk, OnOk, OnErr};
+ghost use Rattle.std.specs.Prelude.{◌≡◌, ℕ, ◌+◌, ◌<◌, ◌≤◌, ◌∷◌, ◌++◌, ◌&&◌, [], drop, length, map, not, true, false, vec_capacity, vec_len, IfOk, OnOk, OnErr};
 ghost use Rattle.std.specs.List.{All};
 ghost use Rattle.std.specs.Option.{option_map_or};
 ghost use Rattle.zq_key.specs.Key.{is_key as key_of};
@@ -10,7 +10,7 @@ ghost use Rattle.zq_trees.specs.Tellings.{in_order};
 ghost use Rattle.zq_machine.specs.Messages.{from_hat};
 ghost use Rattle.zq_machine.specs.State.{Core, at};
 ghost use Rattle.zq_machine.specs.Writing.{is_local_region, numbers_region, tell as tell_of, tell_body};
-ghost use Rattle.zq_handing.specs.Telling.{KeyedAs, behind, body_of, declare_of, end_of, ends_alone, final_of, handed_declare as handed_declare_of, handed_final, handed_number, mark_of, marked_by, number_of, told_to, untold, untold_message};
+ghost use Rattle.zq_handing.specs.Telling.{KeyedAs, asked_number, behind, body_of, declare_of, end_of, ends_alone, final_of, handed_declare as handed_declare_of, handed_final, handed_number, mark_of, marked_by, number_of, told_to, untold, untold_message};
 
 use crate::write::whole;
 use std::alloc::Global;
@@ -56,13 +56,19 @@ fn takes_numbers(faces: &BTreeMap<u32, OpenFace>, to: FaceId) -> bool
     }
 }
 
-// Whether the face may be declared a number for the part of a key. No interest is looked up where the
-// face takes numbers for any key, nor for the empty part, which is no key.
-fn may_number<K: Keyed>(faces: &BTreeMap<u32, OpenFace>, keyed: &K, to: FaceId, part: &str) -> bool
+// Whether the face may be declared a number for the part of a key; a local face takes none. No interest
+// is looked up where the face takes numbers for any key, nor for the empty part, which is no key.
+fn may_number<K: Keyed>(
+    faces: &BTreeMap<u32, OpenFace>,
+    keyed: &K,
+    to: FaceId,
+    local: bool,
+    part: &str,
+) -> bool
     requires { 0 < length part.now → key_of part.now ≡ true }
-    ensures { result ≡ (option_map_or (λ o. numbers_region o.region) (at to.0 faces.now.entries) false || (not (length part.now == 0) && K.keyed keyed.now to.0 part.now)) }
+    ensures { result ≡ (not local && asked_number (option_map_or (λ o. numbers_region o.region) (at to.0 faces.now.entries) false) part.now (K.keyed keyed.now to.0 part.now)) }
 {
-    takes_numbers(faces, to) || (!part.is_empty() && keyed.has_keyed(to, part))
+    !local && (takes_numbers(faces, to) || (!part.is_empty() && keyed.has_keyed(to, part)))
 }
 
 fn handed_declare(to: FaceId, declare: Declare) -> Handed
@@ -174,7 +180,7 @@ fn tell_key<K: Keyed>(
     let text = telling.key.as_str();
     let part = Text::new(alloc, nonwild(text))?;
     let local = is_local(faces, to);
-    let may = !local && may_number(faces, keyed, to, part.as_str());
+    let may = may_number(faces, keyed, to, local, part.as_str());
     let key = names.declared(to, text, local, may)?;
     push_number(handed, to, part, key.declared);
     handed.push_reserved(handed_declare(to, key_declare(telling, mark, key.wire)));

@@ -9,5 +9,5 @@ use Rattle.zq_handing.proofs.opening.join.Goals as goal
 
 pub returns-in-Err-clause-no_ears : goal.returns-in-Err-clause-no_ears
 returns-in-Err-clause-no_ears c =
-    c.close.ensures ∙ ap (closed c.args.face.0) c.in_ok-open.ensures.ok
+    c.close.ensures.ears ∙ ap (closed c.args.face.0) c.in_ok-open.ensures.ok
     ∙ undone nat_cmp_total exact_unsigned (ears_of c.args.ears.now) c.args.face.0 (fresh_ear c.args.last) c.requires.unheard

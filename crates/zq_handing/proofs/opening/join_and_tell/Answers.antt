@@ -24,40 +24,40 @@ use Rattle.zq_told.specs.Rooms.{ears_of}
 use Rattle.zq_handing.proofs.opening.join_and_tell.Goals as goal
 
 pub tell_all-requires : goal.tell_all-requires
-tell_all-requires c enough =
+tell_all-requires g c enough =
     let dues = c.args.dues.now in
     let kept = c.in-Ok.ensures.ears in
     let before : Ears = opened c.args.face.0 c.args.last (ears_of c.args.ears.now) in
-    let same = ap (λ (e : Ears). told_with e dues c.new.result) kept ∙ ap (told_with before dues) c.new.ensures in
+    let same = ap (λ (e : Ears). told_with e dues c.new-told.result) kept ∙ ap (told_with before dues) c.new-told.ensures in
     subst (All (λ (t : Telling). is_key t.key ≡ true)) (sym same) (c.requires.keys (sym (ap (λ (e : Ears). lacks_ids Unasked e dues) kept) ∙ enough))
 
 pub returns-in-Ok-tell_all-clause-ok : goal.returns-in-Ok-tell_all-clause-ok
-returns-in-Ok-tell_all-clause-ok c m same =
+returns-in-Ok-tell_all-clause-ok g c m same alike =
     let dues = c.args.dues.now in
     let kept = sym c.in-Ok.ensures.ears in
     let none = sym c.new-none.ensures in
-    let empty = sym c.new.ensures in
+    let empty = sym c.new-told.ensures in
     let names = sym c.in-Ok.ensures.names in
-    (λ j. behind (none j) (tell m (map from_hat (in_order (told_with (kept j) dues (empty j)))) (names j))) ∙ c.in-Ok-tell_all.ensures.ok m (same ∙ sym c.in-Ok.ensures.faces)
+    (λ j. behind (none j) (tell m (map from_hat (in_order (told_with (kept j) dues (empty j)))) (names j))) ∙ c.in-Ok-tell_all.ensures.ok m (same ∙ sym c.in-Ok.ensures.faces) alike
 
 pub returns-in-Ok-tell_all-clause-taken : goal.returns-in-Ok-tell_all-clause-taken
-returns-in-Ok-tell_all-clause-taken c =
+returns-in-Ok-tell_all-clause-taken g c =
     ap (λ (f : List Handed). untold (drop (length f) c.in-Ok-tell_all.told.handed) c.tell_all.new.names) (sym c.new-none.ensures) ∙ c.in-Ok-tell_all.ensures.back ∙ c.in-Ok.ensures.names
 
 pub returns-in-Ok-tell_all-clause-plan : goal.returns-in-Ok-tell_all-clause-plan
-returns-in-Ok-tell_all-clause-plan c = c.in-Ok-tell_all.ensures.plan ∙ ap (λ (e : Ears). (tell_faces Unasked e c.args.dues.now).plan) c.in-Ok.ensures.ears
+returns-in-Ok-tell_all-clause-plan g c = c.in-Ok-tell_all.ensures.plan ∙ ap (λ (e : Ears). (tell_faces Unasked e c.args.dues.now).plan) c.in-Ok.ensures.ears
 
 pub returns-in-Err-tell_all-clause-no_names : goal.returns-in-Err-tell_all-clause-no_names
-returns-in-Err-tell_all-clause-no_names c =
+returns-in-Err-tell_all-clause-no_names g c =
     c.leave.ensures.names ∙ ap (remove_entry (is_at (nat_cmp c.args.face.0))) (c.in-Err-tell_all.ensures.err ∙ c.in-Ok.ensures.names)
     ∙ undone nat_cmp_total exact_unsigned c.args.names.now c.args.face.0 no_keys c.requires.named
 
 pub returns-in-Err-tell_all-clause-no_faces : goal.returns-in-Err-tell_all-clause-no_faces
-returns-in-Err-tell_all-clause-no_faces c =
+returns-in-Err-tell_all-clause-no_faces g c =
     c.leave.ensures.faces ∙ ap (remove_entry (is_at (nat_cmp c.args.face.0))) c.in-Ok.ensures.faces
     ∙ undone nat_cmp_total exact_unsigned c.args.faces.now.entries c.args.face.0 c.args.opened c.requires.absent
 
 pub returns-in-Err-tell_all-clause-no_ears : goal.returns-in-Err-tell_all-clause-no_ears
-returns-in-Err-tell_all-clause-no_ears c =
-    c.close.ensures ∙ ap (closed c.args.face.0) (c.tell_all.ensures.ears ∙ c.in-Ok.ensures.ears)
+returns-in-Err-tell_all-clause-no_ears g c =
+    c.close.ensures.ears ∙ ap (closed c.args.face.0) (c.tell_all.ensures.ears ∙ c.in-Ok.ensures.ears)
     ∙ undone nat_cmp_total exact_unsigned (ears_of c.args.ears.now) c.args.face.0 (fresh_ear c.args.last) c.requires.unheard

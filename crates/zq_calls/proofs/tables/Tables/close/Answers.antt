@@ -98,7 +98,7 @@ returns-in-Ok-close_planned c =
     let left = c.leave.ensures ∙ changed in
     let closed = c.in-Ok-close_planned.ensures.after ∙ ap (after_close face.0) queries in
     let asked = ap (λ (x : State). closed_face face.0 x.core.interests) v in
-    let kept = c.close-in-Ok-close_planned.ensures ∙ ap (unheard face.0) (c.put.ensures.ears ∙ ap (put_plan c.as_slice-in-Ok-close_planned.result.now) c.tell_all.ensures.ears ∙ gathered_left s.core t refl (ears_of i.ears) dues ts g c.as_slice-in-Ok-close_planned.result.now (c.as_slice-in-Ok-close_planned.ensures ∙ c.in-Ok.ensures.plan)) in
+    let kept = c.close-in-Ok-close_planned.ensures.ears ∙ ap (unheard face.0) (c.put.ensures.ears ∙ ap (put_plan c.as_slice-in-Ok-close_planned.result.now) c.tell_all.ensures.ears ∙ gathered_left s.core t refl (ears_of i.ears) dues ts g c.as_slice-in-Ok-close_planned.result.now (c.as_slice-in-Ok-close_planned.ensures ∙ c.in-Ok.ensures.plan)) in
     record {
       step =
           c.told-in-Ok-close_planned.ensures
