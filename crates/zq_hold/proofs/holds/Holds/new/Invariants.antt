@@ -1,4 +1,4 @@
-use Rattle.std.proofs.Common.{◌≡◌, vec_len, vec_capacity, All, []}
+use Rattle.std.proofs.Common.{◌≡◌, vec_len, vec_capacity, All}
 use Rattle.std.specs.Arc.{arc_value}
 use Rattle.zq_hold.specs.Views.{first_keeper}
 use Rattle.zq_hold.specs.Seats.{Holder, IsKeeperSeat, unused_seat}
