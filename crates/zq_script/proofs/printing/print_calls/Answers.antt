@@ -1,10 +1,10 @@
-use Rattle.std.proofs.Common.{◌≡◌, ◌∙◌, ap, arith, true, false, rules}
+use Rattle.std.proofs.Common.{◌≡◌, ◌∙◌, ap, arith, true, false, None, rules}
 use Rattle.std.proofs.lemmas.Bool.Decides.{nat_tests}
 use Rattle.std.proofs.lemmas.Grind.{common_steps}
 use Rattle.zq_lines.specs.Split.{lines_of}
 use Rattle.zq_script.specs.Printing.{Prints}
 use Rattle.zq_script.specs.Script.{script_call}
-use Rattle.zq_script.proofs.Printed.{next_fits, next_told}
+use Rattle.zq_script.proofs.Printed.{line_bad, next_fits, next_told}
 use Rattle.zq_script.proofs.printing.print_calls.Goals as goal
 
 pub lines-preserved : goal.lines-preserved
@@ -17,3 +17,10 @@ lines-preserved c =
       same = prints.same ∙ c.lines.invariant.same;
       counted = omega (arith, c.in-Some.ensures.shorter, c.lines.invariant.counted);
     }
+
+-- src/printing.rt:83:13
+pub returns-then-not-branch-clause-print : goal.returns-then-not-branch-clause-print
+returns-then-not-branch-clause-print c =
+    let bad : c.in_ok-print_line.field-0 ≡ false = first_of ((cc), (search rules), (grind (arith, nat_tests, common_steps))) in
+    let none : script_call c.args.config.now false c.in-Some.line.now ≡ None = c.in_ok-print_line.ensures.bad (first_of ((cc), (search rules), (grind (arith, common_steps)))) in
+    line_bad c.args.config.now c.lines.number c.in-Some.line.now (lines_of c.in-Some.after.now) (lines_of c.lines.rest.now) c.lines.gateway c.lines.print.items _ c.in-Some.ensures.value none c.lines.invariant.told
