@@ -42,11 +42,7 @@ fn key_asked(
 
 impl Tables {
     // What an expression says, if there is one.
-    fn said_if(
-        &self,
-        face: FaceId,
-        wire: &Option<WireExpr>,
-    ) -> Result<Option<Said>, OutOfMemory>
+    fn said_if(&self, face: FaceId, wire: &Option<WireExpr>) -> Result<Option<Said>, OutOfMemory>
         ensures { IfOk result (λ s. s ≡ said_if face wire.now self.now) }
     {
         match wire {
@@ -140,11 +136,7 @@ impl Tables {
     }
 
     /// A face asks no longer. It is told nothing; of what it was told only what is still due is kept.
-    pub fn unregister_interest(
-        &mut self,
-        face: FaceId,
-        id: u32,
-    ) -> Result<Step, OutOfMemory>
+    pub fn unregister_interest(&mut self, face: FaceId, id: u32) -> Result<Step, OutOfMemory>
         requires { IsReached self.old }
         ensures { Settles self.old self.new (unhearing face id) result }
     {

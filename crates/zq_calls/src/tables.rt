@@ -288,11 +288,7 @@ impl Tables {
     }
 
     /// The gateways of a region are listed.
-    pub fn list_gateways(
-        &mut self,
-        region: Region,
-        table: &Gateways,
-    ) -> Result<Step, OutOfMemory>
+    pub fn list_gateways(&mut self, region: Region, table: &Gateways) -> Result<Step, OutOfMemory>
         ensures { Settles self.old self.new (listing region table.now) result }
     {
         if hats::hat_at(&self.hats, region).is_none() {

@@ -49,7 +49,7 @@ fn open_but(faces: &BTreeMap<u32, OpenFace>, but: Option<FaceId>, face: FaceId) 
     }
 }
 
-// A list of one face with its dues, if it has any.
+/// The face joins the list with its dues, if it has any.
 pub(crate) fn list_face(list: &mut DuesList, face: FaceId, dues: KeyDues) -> Result<(), OutOfMemory>
     ensures { OnOk result (list.new ≡ list.old ++ with_dues face.0 dues) }
 {

@@ -126,7 +126,8 @@ impl Gateway {
     pub fn send_interest(&mut self, face: FaceId, msg: &Interest) -> Result<Step, OutOfMemory>
         ensures { Performs self.old self.new (call.Interest face msg.now.id msg.now.keys msg.now.wire) result }
     {
-        self.tables.register_interest(face, msg.id, msg.keys, &msg.wire)
+        self.tables
+            .register_interest(face, msg.id, msg.keys, &msg.wire)
     }
 
     /// A face asks no longer under the id; it is handed nothing (upstream's

@@ -49,7 +49,7 @@ keeper_steps n s id v w r words leads wide made joined unshown once number vacat
         stands = stands;
         ended = ended;
         bare = unshown ∙ r.bare;
-      shown = shown;
+        shown = shown;
         pledged = pledged;
         unlent = unlent;
       },
@@ -222,7 +222,7 @@ starts n words wide ones =
         stands = λ k. omega arith;
         ended = λ k up. absurd (omega arith);
         bare = refl;
-      shown = λ k. omega arith;
+        shown = λ k. omega arith;
         pledged = λ k up. absurd (omega arith);
         unlent = λ k up out. omega arith;
       },

@@ -17,6 +17,15 @@ pub record Holder : Type 0 where
   pub held : List ℕ
   pub left : ℕ
 
+-- a seat that has not held anything yet
+abbrev pub unused_seat : TableId → Holder
+unused_seat h = record { home = h; held = []; left = 0 }
+
+-- seats that are still to be taken: of which holds they are, and how many
+pub record Untaken : Type 0 where
+  pub home : TableId
+  pub count : ℕ
+
 -- a `Last`: of which holds it is, and the slot that nobody holds
 pub record Ended : Type 0 where
   pub home : TableId

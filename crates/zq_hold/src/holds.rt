@@ -1,5 +1,5 @@
 //! How a keeper and its seats are made.
-ghost use Rattle.std.specs.Prelude.{◌≡◌, ◌<◌, ◌≤◌, [], All, IfOk, length, replicate};
+ghost use Rattle.std.specs.Prelude.{◌≡◌, ◌<◌, ◌≤◌, [], IfOk, replicate};
 ghost use Rattle.zq_hold.specs.declared.slot.Mark.TheVariants.{Spare};
 
 use crate::keeper::Keeper;
@@ -19,7 +19,7 @@ impl Holds {
         requires slots { (0 < slots) × (slots ≤ 1024) }
         requires seats { (0 < seats) × (seats ≤ 63) }
         ensures keeper { IfOk result (λ r. r.0 ≡ record { home = r.0.home; marks = replicate slots Spare; lent = []; left = 0; joined = 0 }) }
-        ensures seats { IfOk result (λ r. (length r.1 ≡ seats) × All (λ s. s ≡ record { home = r.0.home; held = []; left = 0 }) r.1) }
+        ensures seats { IfOk result (λ r. r.1 ≡ record { home = r.0.home; count = seats }) }
     {
         let words = Vec::from_elem(alloc, 1u64, slots as usize)?;
         let marks = Vec::from_elem(alloc, Mark::Spare, slots as usize)?;
@@ -39,6 +39,11 @@ impl Holds {
                 seat: made,
             });
         }
-        Ok((Keeper { table, seat, marks }, SeatList { seats: list }))
+        let shared = Arc::try_clone(&table)?;
+        let untaken = SeatList {
+            table: shared,
+            seats: list,
+        };
+        Ok((Keeper { table, seat, marks }, untaken))
     }
 }

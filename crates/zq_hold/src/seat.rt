@@ -1,6 +1,7 @@
 //! Seats, and the list that they are taken from.
-ghost use Rattle.std.specs.Prelude.{◌≡◌, ◌<◌, ◌∷◌, ◌++◌, [], IfNone, IfSome};
+ghost use Rattle.std.specs.Prelude.{◌≡◌, ◌<◌, ◌+◌, IfNone, IfSome, OnSome};
 ghost use Rattle.zq_hold.specs.Slots.{times, without};
+ghost use Rattle.zq_hold.specs.Seats.{unused_seat};
 
 use crate::last::Last;
 use crate::slot::Slot;
@@ -38,26 +39,31 @@ pub fn release(seat: &mut HoldSeat, slot: Slot) -> Option<Last>
     release_slot(&**table, seat, slot)
 }
 
-/// The seats that are still to be taken.
+/// The seats that are still to be taken, each of which holds nothing.
 #[derive(Drop)]
 pub struct SeatList {
+    pub(crate) table: Arc<CountTable, Global>,
     pub(crate) seats: Vec<HoldSeat>,
 }
 
 impl Model for SeatList {
-    ghost use Rattle.std.specs.Prelude.{List};
-    ghost use Rattle.zq_hold.specs.Seats.{Holder};
+    ghost use Rattle.std.specs.Prelude.{◌≡◌, All, length};
+    ghost use Rattle.std.specs.Arc.{arc_value};
+    ghost use Rattle.zq_hold.specs.Seats.{Untaken, unused_seat};
 
-    ghost Value = { List Holder };
+    ghost Value = { Untaken };
 
-    ghost view = { λ l. l.seats.items };
+    ghost view = { λ l. record { home = (arc_value l.table).shared.table_id; count = length l.seats.items } };
+
+    ghost invariant = { λ l. All (λ s. s ≡ unused_seat (arc_value l.table).shared.table_id) l.seats.items };
 }
 
 impl SeatList {
-    /// The last of the seats; none exactly where there is none.
+    /// A seat that holds nothing; none exactly where no seat is left.
     pub fn take(&mut self) -> Option<HoldSeat>
-        ensures some { IfSome result (λ s. self.old ≡ self.new ++ s ∷ []) }
-        ensures none { IfNone result ((self.old ≡ []) × (self.new ≡ [])) }
+        ensures seat { IfSome result (λ s. s ≡ unused_seat self.old.home) }
+        ensures some { OnSome result (self.old ≡ record self.new { count = self.new.count + 1 }) }
+        ensures none { IfNone result ((self.old.count ≡ 0) × (self.new ≡ self.old)) }
     {
         self.seats.pop()
     }

@@ -1,5 +1,5 @@
 //! The steps on the table that the keeper and seats make.
-ghost use Rattle.std.specs.Prelude.{◌≡◌, ◌<◌, ◌-◌, ◌∷◌, [], IfNone, IfSome};
+ghost use Rattle.std.specs.Prelude.{◌≡◌, ◌<◌, ◌∷◌, [], IfNone, IfSome};
 ghost use Rattle.zq_hold.specs.Slots.{times, without};
 ghost use Rattle.zq_hold.specs.Views.{joined_one, lends, made_one};
 ghost use Rattle.zq_hold.specs.Seats.{IsKeeperSeat, IsSeat};

@@ -1,5 +1,5 @@
 -- Where a place is after one text's places are others, and which texts are keys.
-use Rattle.std.proofs.Common.{◌≡◌, ◌∙◌, sym, ap, refl, ℕ, Bool, true, false, cond, List, [], ◌∷◌, Some, None, Option, arith, eqb-true, length, subst}
+use Rattle.std.proofs.Common.{◌≡◌, ◌∙◌, true≢false, sym, ap, refl, ℕ, Bool, true, false, cond, List, [], ◌∷◌, Some, None, Option, arith, eqb-true, length, subst}
 use Rattle.std.specs.Prelude.{not, ◌&&◌, ◌||◌, ◌==◌}
 use Rattle.std.specs.List.{list_any}
 use Rattle.std.specs.BTreeMap.{insert_entry, is_at}
@@ -9,12 +9,12 @@ use Rattle.std.proofs.lemmas.Bool.{false≢true}
 use Rattle.std.proofs.lemmas.Map.{keys-set_value}
 use Rattle.std.proofs.lemmas.Map.Made.{is_some-lookup}
 use Rattle.zq_key.specs.Key.{is_key}
-use Rattle.zq_key.proofs.Lookups.{found_after_insertion, found_after_write, same_key}
+use Rattle.zq_key.proofs.Lookups.{at_itself, found_after_insertion, found_after_write, same_key}
 use Rattle.zq_index.specs.Holders.{AreListed, Place, place_cmp}
 use Rattle.zq_index.specs.Texts.{IsListed, Lists, at_text, lists_without, text_cmp}
 use Rattle.zq_index.proofs.Listed.{listed_out}
-use Rattle.zq_index.proofs.Orders.{text_exact, text_total}
-use Rattle.zq_interests.specs.Kept.{AreFit, Keyed, has_place, is_same, is_under, places_at}
+use Rattle.zq_index.proofs.Orders.{place_exact, place_total, text_exact, text_total}
+use Rattle.zq_interests.specs.Kept.{AreFit, AreFitBut, HasPlace, Keyed, has_place, is_same, is_under, places_at}
 
 pub joins : (b x : Bool) → cond b true x ≡ (b || x)
 joins true x = refl
@@ -43,14 +43,73 @@ one_more key t w index some = by (is_at (text_cmp key) t) (sym (ap is_some (foun
     by true e = refl
     by false e = e
 
+-- ---- each text keeps a place
+or_right : (a b : Bool) → b ≡ true → (a || b) ≡ true
+or_right true b e = refl
+or_right false b e = e
+
+some_place : (w : List Place) → (length w == 0) ≡ false → (q : Place) × (has_place q w ≡ true)
+some_place [] e = absurd (true≢false e)
+some_place (p ∷ w) e = (p, ap (λ b. b || has_place p w) (at_itself place_total place_exact p))
+
+-- a place came to a text
+abbrev Came : List ℕ → Place → Keyed → Keyed → Type 0
+Came key p index new = (t : List ℕ) (q : Place) → is_under t q new ≡ (is_same key p t q || is_under t q index)
+
+-- a place left a text
+abbrev Went : List ℕ → Place → Keyed → Keyed → Type 0
+Went key p index new = (t : List ℕ) (q : Place) → is_under t q new ≡ (not (is_same key p t q) && is_under t q index)
+
+-- the same texts are there
+abbrev SameTexts : Keyed → Keyed → Type 0
+SameTexts index new = (t : List ℕ) → is_some (at_text t new) ≡ is_some (at_text t index)
+
+module _ (key : List ℕ) (p : Place) (index new : Keyed) (lists : Lists) (fit : AreFit index lists) (texts : SameTexts index new) where
+  pub fit_beside : Came key p index new → AreFit new lists
+  fit_beside came = record {
+    keys = λ t some. fit.keys t (sym (texts t) ∙ some);
+    listed = λ t some. fit.listed t (sym (texts t) ∙ some);
+    placed = λ t some. let h = fit.placed t (sym (texts t) ∙ some) in (h.0, came t h.0 ∙ or_right (is_same key p t h.0) (is_under t h.0 index) h.1);
+  }
+
+  pub fit_but : Went key p index new → AreFitBut key new lists
+  fit_but went = record {
+    keys = λ t some. fit.keys t (sym (texts t) ∙ some);
+    listed = λ t some. fit.listed t (sym (texts t) ∙ some);
+    placed = λ t other some.
+        let h = fit.placed t (sym (texts t) ∙ some) in
+        (h.0, went t h.0 ∙ ap (λ b. not (b && is_at (place_cmp p) h.0) && is_under t h.0 index) other ∙ h.1);
+  }
+
+  -- and the text has another
+  pub fit_still : Went key p index new → (is_some (at_text key index) && (length (places_at key new) == 0)) ≡ false → AreFit new lists
+  fit_still went left = record {
+    keys = (fit_but went).keys;
+    listed = (fit_but went).listed;
+    placed = λ t some. by t (is_at (text_cmp key) t) refl some;
+  }
+    where
+      by : (t : List ℕ) (b : Bool) → is_at (text_cmp key) t ≡ b → is_some (at_text t new) ≡ true → HasPlace t new
+      by t true is some =
+          let same : key ≡ t = same_key text_total text_exact key t is in
+          let there : is_some (at_text key index) ≡ true = ap (λ k. is_some (at_text k index)) same ∙ sym (texts t) ∙ some in
+          subst (λ k. HasPlace k new) same (some_place (places_at key new) (sym (ap (λ b. b && (length (places_at key new) == 0)) there) ∙ left))
+      by t false is some = (fit_but went).placed t is some
+
 -- a key came
-pub fit_more : (key : List ℕ) (index new : Keyed) (lists more : Lists) → AreFit index lists → is_key key ≡ true → ((t : List ℕ) → is_some (at_text t new) ≡ true → (is_at (text_cmp key) t || is_some (at_text t index)) ≡ true)
-    → ((t : List ℕ) → IsListed lists t → IsListed more t) → IsListed more key → AreFit new more
-fit_more key index new lists more fit it came wider is = record {
+pub fit_more : (key : List ℕ) (p : Place) (index new : Keyed) (lists more : Lists) → AreFit index lists → is_key key ≡ true → ((t : List ℕ) → is_some (at_text t new) ≡ true → (is_at (text_cmp key) t || is_some (at_text t index)) ≡ true)
+    → Came key p index new → ((t : List ℕ) → IsListed lists t → IsListed more t) → IsListed more key → AreFit new more
+fit_more key p index new lists more fit it came under wider is = record {
   keys = λ t some. key_by t (is_at (text_cmp key) t) refl (came t some);
   listed = λ t some. listed_by t (is_at (text_cmp key) t) refl (came t some);
+  placed = λ t some. placed_by t (is_at (text_cmp key) t) refl (came t some);
 }
   where
+    placed_by : (t : List ℕ) (b : Bool) → is_at (text_cmp key) t ≡ b → (b || is_some (at_text t index)) ≡ true → HasPlace t new
+    placed_by t true same e =
+        (p, under t p ∙ ap (λ b. (b && is_at (place_cmp p) p) || is_under t p index) same ∙ ap (λ b. b || is_under t p index) (at_itself place_total place_exact p))
+    placed_by t false same e = let h = fit.placed t e in (h.0, under t h.0 ∙ or_right (is_same key p t h.0) (is_under t h.0 index) h.1)
+
     key_by : (t : List ℕ) (b : Bool) → is_at (text_cmp key) t ≡ b → (b || is_some (at_text t index)) ≡ true → is_key t ≡ true
     key_by t true same e = ap is_key (sym (same_key text_total text_exact key t same)) ∙ it
     key_by t false same e = fit.keys t e
@@ -133,14 +192,22 @@ module _ (key : List ℕ) (index : Keyed) where
       by false e = ap (places_at t) is ∙ ap (λ o. option_map_or (λ (ps : List Place). ps) o []) (others_stay t e index)
 
 -- a text went
-pub fit_less : (key : List ℕ) (index new : Keyed) (lists : Lists) → new ≡ remove_entry (is_at (text_cmp key)) index → at_text key new ≡ None → AreFit index lists → AreFit new (lists_without key lists)
-fit_less key index new lists is gone fit = record {
-  keys = λ t some. fit.keys t (was t (is_at (text_cmp key) t) refl some);
+pub fit_less : (key : List ℕ) (index new : Keyed) (lists : Lists) → new ≡ remove_entry (is_at (text_cmp key)) index → at_text key new ≡ None → places_at key index ≡ [] → AreFitBut key index lists → AreFit new (lists_without key lists)
+fit_less key index new lists is gone none fit = record {
+  keys = λ t some. fit.keys t (was t (is_at (text_cmp key) t) refl some).1;
   listed = subst (λ es. AreListed es (lists_without key lists)) (sym is) (listed_out key index lists fit.listed (ap (at_text key) (sym is) ∙ gone));
+  placed = λ t some.
+      let stood = was t (is_at (text_cmp key) t) refl some in
+      let h = fit.placed t stood.0 stood.1 in
+      (h.0, ap (has_place h.0) (dropped key index new is gone none t) ∙ h.1);
 }
   where
-    was : (t : List ℕ) (b : Bool) → is_at (text_cmp key) t ≡ b → is_some (at_text t new) ≡ true → is_some (at_text t index) ≡ true
+    was : (t : List ℕ) (b : Bool) → is_at (text_cmp key) t ≡ b → is_some (at_text t new) ≡ true → (is_at (text_cmp key) t ≡ false) × (is_some (at_text t index) ≡ true)
     was t true e some =
         let same : key ≡ t = same_key text_total text_exact key t e in
         absurd (false≢true (sym (ap is_some gone) ∙ ap (λ k. is_some (at_text k new)) same ∙ some))
-    was t false e some = sym (ap is_some (ap (at_text t) is ∙ others_stay key index t e index)) ∙ some
+    was t false e some = (e, sym (ap is_some (ap (at_text t) is ∙ others_stay key index t e index)) ∙ some)
+
+pub both_true : (a b : Bool) → (a && b) ≡ true → (a ≡ true) × (b ≡ true)
+both_true true b e = (refl, e)
+both_true false b e = absurd (false≢true e)

@@ -64,10 +64,21 @@ asks_just asked o = option_map_or (λ i. same_asked i.key asked) o false
 abbrev pub AreKeys : Keyed → Type 0
 AreKeys index = (t : List ℕ) → is_some (at_text t index) ≡ true → is_key t ≡ true
 
--- each text is a key, and listed where it has to be
+-- the text has a place
+abbrev pub HasPlace : List ℕ → Keyed → Type 0
+HasPlace t index = (q : Place) × (is_under t q index ≡ true)
+
+-- each text is a key, listed where it has to be, and has a place
 pub record AreFit (index : Keyed) (lists : Lists) : Type 0 where
   pub keys : AreKeys index
   pub listed : AreListed index lists
+  pub placed : (t : List ℕ) → is_some (at_text t index) ≡ true → HasPlace t index
+
+-- so it is, but for the one text, which may have lost its last place
+pub record AreFitBut (key : List ℕ) (index : Keyed) (lists : Lists) : Type 0 where
+  pub keys : AreKeys index
+  pub listed : AreListed index lists
+  pub placed : (t : List ℕ) → is_at (text_cmp key) t ≡ false → is_some (at_text t index) ≡ true → HasPlace t index
 
 -- numbers and ids are in order, and just the interests are kept, each under what it asks for
 pub record AreKept (ints : Interests) (shelf : Shelf) : Type 0 where

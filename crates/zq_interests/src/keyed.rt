@@ -1,11 +1,11 @@
 //! Places of interests by the texts of their keys.
-ghost use Rattle.std.specs.Prelude.{◌≡◌, ◌||◌, ◌&&◌, [], not, true, ℕ, List, None, OnOk, OnErr, IsTrue, is_some};
+ghost use Rattle.std.specs.Prelude.{◌≡◌, ◌==◌, ◌||◌, ◌&&◌, [], not, true, length, ℕ, List, None, OnOk, OnErr, IsTrue, is_some};
 ghost use Rattle.zq_key.specs.Key.{is_key};
 ghost use Rattle.zq_index.specs.Holders.{Place};
 ghost use Rattle.std.specs.BTreeMap.{insert_entry, is_at};
 ghost use Rattle.std.specs.Map.{remove_entry};
 ghost use Rattle.zq_index.specs.Texts.{at_text, text_cmp, texts_of};
-ghost use Rattle.zq_interests.specs.Kept.{AreFit, is_same, is_under, places_at};
+ghost use Rattle.zq_interests.specs.Kept.{AreFit, AreFitBut, is_same, is_under, places_at};
 
 use crate::places::PlaceSet;
 use std::alloc::Global;
@@ -126,10 +126,10 @@ pub(crate) fn put_keyed(
     put_new(keys, lists, alloc, key, place)
 }
 
-/// The place leaves those under a text; answers whether there were some, and none is left.
+/// The place leaves those under a text; answers whether the text is there, and none is left.
 fn take_from(keys: &mut KeyedMap, key: &str, place: FacePlace) -> bool
     ensures after { (t : List ℕ) (q : Place) → is_under t q (texts_of keys.new.entries) ≡ (not (is_same key.now place t q) && is_under t q (texts_of keys.old.entries)) }
-    ensures empty { result ≡ true → places_at key.now (texts_of keys.new.entries) ≡ [] }
+    ensures empty { result ≡ (is_some (at_text key.now (texts_of keys.old.entries)) && (length (places_at key.now (texts_of keys.new.entries)) == 0)) }
     ensures texts { (t : List ℕ) → is_some (at_text t (texts_of keys.new.entries)) ≡ is_some (at_text t (texts_of keys.old.entries)) }
 {
     match keys.get_mut(key) {
@@ -152,7 +152,7 @@ fn drop_text(keys: &mut KeyedMap, key: &str)
 /// The text goes from the lists, too.
 fn drop_last(keys: &mut KeyedMap, lists: &mut KeyLists, key: &str)
     requires empty { places_at key.now (texts_of keys.old.entries) ≡ [] }
-    requires fit { AreFit (texts_of keys.old.entries) lists.old }
+    requires fit { AreFitBut key.now (texts_of keys.old.entries) lists.old }
     ensures after { (t : List ℕ) → places_at t (texts_of keys.new.entries) ≡ places_at t (texts_of keys.old.entries) }
     ensures fit { AreFit (texts_of keys.new.entries) lists.new }
 {

@@ -21,7 +21,7 @@ unfolding covers_by
 covers-drop w f e x a [] h k = rw (h, k) refl
 covers-drop w f e x a (y ∷ b) h k = rw (h, k) refl
 
-covers-self : {A : Type 0} (w f : A → Bool) (e : A → A → Bool) (wf : (x : A) → w x ≡ true → f x ≡ false) (same : (x : A) → w x ≡ false → e x x ≡ true) (a : List A) → covers_by w f e a a ≡ true
+pub covers-self : {A : Type 0} (w f : A → Bool) (e : A → A → Bool) (wf : (x : A) → w x ≡ true → f x ≡ false) (same : (x : A) → w x ≡ false → e x x ≡ true) (a : List A) → covers_by w f e a a ≡ true
 unfolding covers_by
 covers-self w f e wf same [] = refl
 covers-self w f e wf same (x ∷ a) = at (w x) refl (covers-self w f e wf same a)

@@ -14,6 +14,7 @@ pub mod Characters
 pub mod Plain
 pub mod Strips
 pub mod Behind
+pub mod Within
 pub mod ChangeLemmas
 pub mod Naturals
 pub mod Truth

@@ -79,6 +79,21 @@ module _ {K X : Type 0} {R : K → K → Ordering} (o : IsTotalOrder R) (exact :
   found_after_insertion k q v [] = ap (λ b. cond b (Some v) None) (either_way o exact q k)
   found_after_insertion k q v (e ∷ es) = inserted_by k q v e es (R k e.0) refl (found_after_insertion k q v es)
 
+  -- ---- an entry that is put in and taken out again
+  undone_by : (k : K) (v : X) (e : K × X) (es : List (K × X)) (r : Ordering) → R k e.0 ≡ r → is_at (R k) e.0 ≡ false → remove_entry (is_at (R k)) (insert_entry R es k v) ≡ es
+      → remove_entry (is_at (R k)) (match_ordering r ((k, v) ∷ e ∷ es) ((e.0, v) ∷ es) (e ∷ insert_entry R es k v)) ≡ e ∷ es
+  undone_by k v e es Less h miss ih = rw (at_itself o exact k) refl
+  undone_by k v e es Equal h miss ih = absurd (true≢false (sym (ap is_eq h) ∙ miss))
+  undone_by k v e es Greater h miss ih = rw miss (ap (λ l. e ∷ l) ih)
+
+  missing_by : (k : K) (e : K × X) (es : List (K × X)) (b : Bool) → is_at (R k) e.0 ≡ b → cond b (Some e.1) (lookup (is_at (R k)) es) ≡ None → (b ≡ false) × (lookup (is_at (R k)) es ≡ None)
+  missing_by k e es true t is = absurd (let gap : Some e.1 ≡ None = is in cc)
+  missing_by k e es false t is = (refl, is)
+
+  pub undone : (k : K) (v : X) (es : List (K × X)) → lookup (is_at (R k)) es ≡ None → remove_entry (is_at (R k)) (insert_entry R es k v) ≡ es
+  undone k v [] is = rw (at_itself o exact k) refl
+  undone k v (e ∷ es) is = let m = missing_by k e es (is_at (R k) e.0) refl is in undone_by k v e es (R k e.0) refl m.0 (undone k v es m.1)
+
   -- ---- keys above a key
   pub none_above : (k : K) (es : List (K × X)) → AllByRecursion (λ q. R k q ≡ Less) (keys_of es) → lookup (is_at (R k)) es ≡ None
   none_above k [] all = refl

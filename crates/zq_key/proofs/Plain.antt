@@ -28,7 +28,7 @@ abbrev pub has_wild : List ℕ → Bool
 has_wild x = list_any (λ c. c == 42 || c == 36) x
 
 -- a plain chunk is a list of characters
-plain-parts : (x : List ℕ) → has_wild x ≡ false → parts x ≡ somes x
+pub plain-parts : (x : List ℕ) → has_wild x ≡ false → parts x ≡ somes x
 plain-parts [] h = refl
 plain-parts (c ∷ []) h = refl
 plain-parts (c ∷ d ∷ x) h =
@@ -36,7 +36,7 @@ plain-parts (c ∷ d ∷ x) h =
     let q = or_parts (c == 42) (c == 36) p.0 in
     rw (q.1, plain-parts (d ∷ x) p.1) refl
 
-somes-none : (x : List ℕ) → has_none is_none (somes x) ≡ true
+pub somes-none : (x : List ℕ) → has_none is_none (somes x) ≡ true
 somes-none [] = refl
 somes-none (c ∷ x) = somes-none x
 
@@ -49,7 +49,7 @@ somes-pointwise (c ∷ x) (d ∷ y) = rw (somes-pointwise x y) refl
 somes-cover : (x y : List ℕ) → parts_cover (somes x) (somes y) ≡ bytes_eq x y
 somes-cover x y = plain-covers is_none never same_part (somes x) (somes y) (somes-none x) (somes-none y) ∙ somes-pointwise x y
 
-plain-star : (x : List ℕ) → has_wild x ≡ false → is_star x ≡ false
+pub plain-star : (x : List ℕ) → has_wild x ≡ false → is_star x ≡ false
 plain-star x h = false_from_ne_true (is_star x) (λ k. let e = (bytes_eq-Decides x (42 ∷ [])).0 k in false≢true (sym (rw e at h)))
 
 pub plain-stars : (x : List ℕ) → has_wild x ≡ false → is_stars x ≡ false

@@ -1,6 +1,7 @@
-//! Laws of keys, each as a call that answers true.
+//! Laws of keys, each as the contract of a call.
 ghost use Rattle.std.specs.Prelude.{◌≡◌, true, IsTrue};
 ghost use Rattle.zq_key.specs.Key.{is_key as key_of};
+ghost use Rattle.zq_key.specs.Space.{PlainIsTransparent};
 
 use crate::{includes, intersects};
 
@@ -44,3 +45,9 @@ pub fn intersects_what_it_includes(a: &str, b: &str) -> bool
     }
     true
 }
+
+/// Behind a plain prefix keys are keys, intersect and include each other, and stand in order, as they do
+/// without it.
+pub fn plain_is_transparent()
+    ensures { PlainIsTransparent }
+{}

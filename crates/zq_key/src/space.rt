@@ -1,9 +1,9 @@
 //! Texts behind a namespace.
-ghost use Rattle.std.specs.Prelude.{◌≡◌, ◌==◌, ◌<◌, ◌++◌, ◌∷◌, [], true, length, IsTrue, IfOk, Option, MatchOption};
+ghost use Rattle.std.specs.Prelude.{◌≡◌, ◌==◌, ◌<◌, ◌++◌, ◌∷◌, [], true, length, IsTrue, IfOk, IfSome, Option, MatchOption};
 ghost use Rattle.std.specs.Option.{option_map};
 ghost use Rattle.std.specs.List.{position};
-ghost use Rattle.zq_key.specs.Key.{chunks, is_key as key_of, is_plain as plain_of};
-ghost use Rattle.zq_key.specs.Space.{prefixed, is_slash, strip as strip_of, first_chunk as first_chunk_of};
+ghost use Rattle.zq_key.specs.Key.{chunks, includes as includes_of, is_key as key_of, is_plain as plain_of};
+ghost use Rattle.zq_key.specs.Space.{behind, prefixed, is_slash, strip as strip_of, first_chunk as first_chunk_of};
 
 use crate::chunk::{chunks_meet, is_stars};
 use crate::key::cut;
@@ -58,11 +58,9 @@ fn cut_text(text: &str) -> Option<(&str, &str)>
     text.split_once('/')
 }
 
-/// What is left of a key behind a namespace.
+/// What is left of a key behind a namespace, by the recursion on their chunks.
 #[tactic(auto, using(crate::proofs::Strips::strips))]
-pub fn strip<'a>(ns: &str, key: &'a str) -> Option<&'a str>
-    requires plain { IsTrue (plain_of ns.now) }
-    requires key { IsTrue (key_of key.now) }
+fn strip_by_chunks<'a>(ns: &str, key: &'a str) -> Option<&'a str>
     ensures { option_map (λ r. r.now) result ≡ strip_of ns.now key.now }
 {
     let mut head = ns.as_bytes();
@@ -97,4 +95,18 @@ pub fn strip<'a>(ns: &str, key: &'a str) -> Option<&'a str>
             }
         }
     }
+}
+
+/// What is left of a key behind a namespace (upstream's `strip_nonwild_prefix`), None where nothing
+/// is: a key that, put behind the namespace again, is within the key. Of a plain key it is all that
+/// follows the namespace. It takes no memory.
+pub fn strip<'a>(ns: &str, key: &'a str) -> Option<&'a str>
+    requires plain { IsTrue (plain_of ns.now) }
+    requires key { IsTrue (key_of key.now) }
+    ensures left { option_map (λ r. r.now) result ≡ strip_of ns.now key.now }
+    ensures key { IfSome result (λ r. key_of r.now ≡ true) }
+    ensures within { IfSome result (λ r. includes_of key.now (behind ns.now r.now) ≡ true) }
+    ensures whole { plain_of key.now ≡ true → IfSome result (λ r. key.now ≡ behind ns.now r.now) }
+{
+    strip_by_chunks(ns, key)
 }

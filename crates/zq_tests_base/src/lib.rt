@@ -1,6 +1,8 @@
-//! Tests of what stands on messages and keys alone: each file tests the crate of its name.
+//! Tests of counted holds, and of what stands on messages and keys alone: each file tests the crate of its name.
 #![tactic(auto)]
 
+#[cfg(test)]
+mod hold;
 #[cfg(test)]
 mod key;
 #[cfg(test)]

@@ -7,7 +7,8 @@ use zq_hat::types::{FinalMark, Network, NodeIds};
 use zq_key::items::Items;
 use zq_key::memory::OutOfMemory;
 use zq_key::message::{
-    Declare, DeclareBody, FaceId, Interest, Message, QueryTarget, Region, ReplyBody, Request, Response,
+    Declare, DeclareBody, FaceId, Interest, Message, QueryTarget, Region, ReplyBody, Request,
+    Response,
 };
 use zq_key::text::Bytes;
 use zq_machine::call::{Call, Outcome, Refusal, Step};

@@ -1,10 +1,22 @@
 use std::alloc::Global;
 use std::test::Fail;
 use zq_interests::interests::Interests;
+use zq_interests::numbers::{Keyed, WithInterest};
 use zq_interests::types::InterestEntry;
 use zq_key::memory::OutOfMemory;
 use zq_key::message::FaceId;
 use zq_key::{Key, is_key};
+
+/// The key of the text, if there is one.
+fn key_of(alloc: Global, text: Option<&str>) -> Result<Option<Key>, OutOfMemory> {
+    match text {
+        Some(text) => match Key::new(alloc, text) {
+            Ok(key) => Ok(Some(key)),
+            Err(_) => Err(OutOfMemory),
+        },
+        None => Ok(None),
+    }
+}
 
 /// A face asks for a key, or for all.
 fn ask(
@@ -15,13 +27,7 @@ fn ask(
     text: Option<&str>,
     keys: bool,
 ) -> Result<(), OutOfMemory> {
-    let key = match text {
-        Some(text) => match Key::new(alloc, text) {
-            Ok(key) => Some(key),
-            Err(_) => return Err(OutOfMemory),
-        },
-        None => None,
-    };
+    let key = key_of(alloc, text)?;
     match asked.put(alloc, FaceId(face), id, InterestEntry { key, keys }) {
         Ok(()) => Ok(()),
         Err(error) => Err(error),
@@ -119,4 +125,94 @@ fn interests_end(rt: HostRuntime) -> Result<(), Fail> {
     asked.close(FaceId(3));
     assert_eq!(rt; askers(&asked, alloc, "a/b")?.as_slice(), [5, 9].as_slice());
     Ok(())
+}
+
+/// Whether the face asks for the key by other interests; none where the text is no key.
+fn besides(asked: &Interests, face: u32, id: u32, text: &str) -> Option<bool> {
+    if !is_key(text) {
+        return None;
+    }
+    Some(asked.asks_besides(FaceId(face), id, text))
+}
+
+#[test]
+fn an_interest_is_left_out(rt: HostRuntime) -> Result<(), Fail> {
+    let asked = three_ask(rt.alloc())?;
+    assert_eq!(rt; besides(&asked, 3, 1, "a/b"), Some(true));
+    assert_eq!(rt; besides(&asked, 3, 2, "a/c"), Some(false));
+    assert_eq!(rt; besides(&asked, 3, 8, "a/c"), Some(true));
+    assert_eq!(rt; besides(&asked, 8, 1, "a/c"), Some(false));
+    Ok(())
+}
+
+/// Whether the face asks for something else under the id.
+fn another(
+    asked: &Interests,
+    alloc: Global,
+    face: u32,
+    id: u32,
+    text: Option<&str>,
+) -> Result<bool, OutOfMemory> {
+    let key = key_of(alloc, text)?;
+    Ok(asked.asks_another(FaceId(face), id, key.as_ref()))
+}
+
+#[test]
+fn an_id_asks_for_another_key(rt: HostRuntime) -> Result<(), Fail> {
+    let alloc = rt.alloc();
+    let asked = three_ask(alloc)?;
+    assert_eq!(rt; another(&asked, alloc, 3, 1, Some("a/b")), Ok(false));
+    assert_eq!(rt; another(&asked, alloc, 3, 1, Some("a/*")), Ok(true));
+    assert_eq!(rt; another(&asked, alloc, 5, 7, None), Ok(false));
+    assert_eq!(rt; another(&asked, alloc, 5, 7, Some("a")), Ok(true));
+    assert_eq!(rt; another(&asked, alloc, 5, 8, Some("a")), Ok(false));
+    Ok(())
+}
+
+/// Whether the face wants numbers for the key; none where the text is no key.
+fn numbers<K: Keyed>(keyed: &K, face: u32, text: &str) -> Option<bool> {
+    if !is_key(text) {
+        return None;
+    }
+    Some(keyed.has_keyed(FaceId(face), text))
+}
+
+/// Whether faces 3 and 9 want numbers for `a/c`, as they ask, and with an interest of a face under id 1.
+fn numbers_with(
+    alloc: Global,
+    face: u32,
+    text: Option<&str>,
+    keys: bool,
+) -> Result<[Option<bool>; 4], OutOfMemory> {
+    let interests = three_ask(alloc)?;
+    let key = key_of(alloc, text)?;
+    let entry = InterestEntry { key, keys };
+    let with = WithInterest {
+        interests: &interests,
+        face: FaceId(face),
+        id: 1,
+        entry: &entry,
+    };
+    Ok([
+        numbers(&interests, 3, "a/c"),
+        numbers(&interests, 9, "a/c"),
+        numbers(&with, 3, "a/c"),
+        numbers(&with, 9, "a/c"),
+    ])
+}
+
+#[test]
+fn one_interest_more(rt: HostRuntime) {
+    assert_eq!(rt;
+        numbers_with(rt.alloc(), 3, Some("a/*"), true),
+        Ok([Some(false), Some(true), Some(true), Some(true)])
+    );
+}
+
+#[test]
+fn an_interest_takes_the_place_of_another(rt: HostRuntime) {
+    assert_eq!(rt;
+        numbers_with(rt.alloc(), 9, None, false),
+        Ok([Some(false), Some(true), Some(false), Some(false)])
+    );
 }

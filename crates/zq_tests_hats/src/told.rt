@@ -90,11 +90,19 @@ fn is_known(ears: &Ears) -> bool {
         && ears.told_of(FACE, "b").is_none()
 }
 
+/// Whether the text is the one key that the face was told.
+fn is_one(ears: &Ears, alloc: Global, text: &str) -> Result<bool, OutOfMemory> {
+    match ears.told_keys(alloc, FACE)?.as_slice() {
+        [key] => Ok(key.as_str() == text),
+        _ => Ok(false),
+    }
+}
+
 /// Whether the face is told the differences, and none of it is kept once it closed.
 fn tells_differences(alloc: Global) -> Result<bool, OutOfMemory> {
     let mut ears = Ears::new(alloc);
     ears.open(alloc, FACE, 0)?;
-    let told = is_told_all(&mut ears, alloc) && is_known(&ears);
+    let told = is_told_all(&mut ears, alloc) && is_known(&ears) && is_one(&ears, alloc, "a")?;
     ears.close(FACE);
     Ok(told && ears.last(FACE).is_none())
 }

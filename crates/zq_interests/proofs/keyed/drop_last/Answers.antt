@@ -7,4 +7,4 @@ use Rattle.zq_interests.proofs.keyed.drop_last.Goals as goal
 pub returns-clause-fit : goal.returns-clause-fit
 returns-clause-fit c =
     subst (AreFit (texts_of c.drop_text.new.keys.entries)) (sym c.take.ensures)
-    (fit_less c.args.key.now (texts_of c.args.keys.now.entries) (texts_of c.drop_text.new.keys.entries) c.args.lists.now c.drop_text.ensures.entries c.drop_text.ensures.gone c.requires.fit)
+    (fit_less c.args.key.now (texts_of c.args.keys.now.entries) (texts_of c.drop_text.new.keys.entries) c.args.lists.now c.drop_text.ensures.entries c.drop_text.ensures.gone c.requires.empty c.requires.fit)

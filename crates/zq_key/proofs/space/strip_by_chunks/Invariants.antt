@@ -1,7 +1,7 @@
 use Rattle.std.proofs.Common.{◌≡◌, length}
 use Rattle.std.specs.Str.{IsUtf8}
 use Rattle.zq_key.specs.Space.{strip}
-use Rattle.zq_key.proofs.space.strip.Given as goal
+use Rattle.zq_key.proofs.space.strip_by_chunks.Given as goal
 
 abbrev pub invariant-chunks : goal.invariant-chunks
 invariant-chunks l = (strip l.ns l.key ≡ strip l.head l.rest) × IsUtf8 l.rest

@@ -1,0 +1,6 @@
+pub mod Out
+pub mod Entry
+pub mod Exit
+pub mod Leaves
+pub mod Denied
+pub mod Laws
