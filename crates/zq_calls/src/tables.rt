@@ -102,6 +102,25 @@ impl Tables {
         &self.config
     }
 
+    /// The allocator that all of it is kept in.
+    pub fn alloc(&self) -> Global {
+        self.alloc
+    }
+
+    /// The hat of each region.
+    pub fn hats(&self) -> &RegionMap<Hat>
+        ensures { result.now ≡ self.now.core.hats }
+    {
+        &self.hats
+    }
+
+    /// What faces ask to hear.
+    pub fn interests(&self) -> &Interests
+        ensures { result.now ≡ self.now.core.interests }
+    {
+        &self.interests
+    }
+
     /// Performs a call: one event, which is answered by a step. The first cause that holds refuses it,
     /// and then nothing changes; a call that finds no memory changes nothing either.
     pub fn call(&mut self, call: &Call) -> Result<Step, OutOfMemory>

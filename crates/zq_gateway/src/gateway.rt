@@ -11,6 +11,7 @@ ghost use Rattle.zq_machine.specs.Headline.{RunPromise};
 ghost use Rattle.zq_machine.specs.Machine.{after, done, refused_step, step};
 ghost use Rattle.zq_machine.specs.State.{opening_state};
 ghost use Rattle.zq_calls.specs.Making.{Performs, MayPerform};
+ghost use Rattle.zq_sources.specs.Sourced.{all_queriers, all_queryables};
 
 use std::alloc::Global;
 use std::marker::Model;
@@ -22,6 +23,9 @@ use zq_machine::call::{Call, Opening, Refusal, Step};
 use zq_machine::config::Config;
 use zq_machine::handed::Handed;
 use zq_route::gateways::Gateways;
+use zq_sources::queriers::all_queriers;
+use zq_sources::queryables::all_queryables;
+use zq_sources::sources::{Source, SourceList};
 
 /// What carries queries between faces. Whatever it keeps, calls made it of a new gateway's, so that
 /// all that holds of every run holds of it.
@@ -200,6 +204,31 @@ impl Gateway {
         ensures after { self.new ≡ after self.old (call.Sent reply) }
     {
         self.tables.sent(reply)
+    }
+
+    /// Who declared each key, by text: the ids of those who did, region by region in the order of their
+    /// places, and behind those of each south-bound region that has the key the gateway's own id, under
+    /// the mode of North (upstream's `Tables::sourced_queryables`).
+    pub fn sourced_queryables(&self) -> Result<SourceList, OutOfMemory>
+        ensures { IfOk result (λ l. l ≡ all_queryables (record { zid = self.now.core.config.zid; mode = north_of self.now.core.config.entries }) self.now.core.hats) }
+    {
+        let own = Source {
+            zid: self.zid(),
+            mode: self.north(),
+        };
+        all_queryables(self.tables.alloc(), self.tables.hats(), own)
+    }
+
+    /// Who asks to hear of each key, by text: the ids of those who do, region by region in the order of
+    /// their places (upstream's `Tables::sourced_queriers`).
+    pub fn sourced_queriers(&self) -> Result<SourceList, OutOfMemory>
+        ensures { IfOk result (λ l. l ≡ all_queriers self.now.core.interests self.now.core.hats) }
+    {
+        all_queriers(
+            self.tables.alloc(),
+            self.tables.hats(),
+            self.tables.interests(),
+        )
     }
 
     /// What it was made with.

@@ -118,6 +118,13 @@ impl HatFace {
         self.zid
     }
 
+    /// The mode with which the face was opened.
+    pub fn mode(&self) -> Mode
+        ensures { result ≡ self.now.mode }
+    {
+        self.mode
+    }
+
     /// The id that a node number of the face stands for.
     pub fn zid_at(&self, node: NodeId) -> Option<Zid>
         ensures { result ≡ zid_at node self.now }

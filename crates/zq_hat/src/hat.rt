@@ -765,4 +765,25 @@ impl Hat {
         self.forget_face(face);
         Ok(keys)
     }
+
+    /// The gateway's own id.
+    pub fn own(&self) -> Zid
+        ensures { result ≡ self.now.own }
+    {
+        self.own
+    }
+
+    /// The faces with what they declared, by number.
+    pub fn faces(&self) -> &BTreeMap<u32, HatFace>
+        ensures { result.now.entries ≡ self.now.faces }
+    {
+        &self.faces
+    }
+
+    /// What routers announced.
+    pub fn entries(&self) -> &Entries
+        ensures { result.now ≡ self.now.entries }
+    {
+        &self.entries
+    }
 }

@@ -11,7 +11,7 @@
 //! `info`, the merge of informations, is `zq_index`'s; offers and their order are `zq_offers`'s.
 #![tactic(auto)]
 
-mod face;
+pub mod face;
 mod faces;
 pub mod hat;
 mod merges;

@@ -204,6 +204,23 @@ fn interests(rt: HostRuntime) {
     assert!(rt; listened(rt.alloc()) == Ok([told, alone, DONE, again]));
 }
 
+// How many ids count as clients on the first declared key, and how many keys are asked for.
+fn sourced(alloc: Global) -> Result<(Option<usize>, usize), OutOfMemory> {
+    let mut gateway = pair(alloc)?;
+    let _ = listens(&mut gateway, 5, 1);
+    let declared = gateway.sourced_queryables()?;
+    let asked = gateway.sourced_queriers()?;
+    match declared.get(0) {
+        Some(on) => Ok((Some(on.1.clients.len()), asked.len())),
+        None => Ok((None, asked.len())),
+    }
+}
+
+#[test]
+fn sources(rt: HostRuntime) {
+    assert!(rt; sourced(rt.alloc()) == Ok((Some(2), 0)));
+}
+
 // What a request and its reply come to.
 fn answered(alloc: Global) -> Result<[Seen; 2], OutOfMemory> {
     let mut gateway = pair(alloc)?;

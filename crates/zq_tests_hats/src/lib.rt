@@ -10,6 +10,8 @@ mod interests;
 #[cfg(test)]
 mod route;
 #[cfg(test)]
+mod sources;
+#[cfg(test)]
 mod told;
 #[cfg(test)]
 mod trees;

@@ -1,0 +1,5 @@
+pub mod Writing
+pub mod Gathering
+pub mod Listing
+pub mod Parts
+pub mod Regions
