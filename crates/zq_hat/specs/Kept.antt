@@ -129,11 +129,11 @@ unregister_result old new d = changed d.key (region_info d.key old) (region_info
 
 -- a face that has declared nothing and was told nothing
 abbrev pub new_face : FaceRecord → ℕ → FaceState
-new_face opened told_start = record { zid = opened.zid; mode = opened.mode; remote_bound = opened.remote_bound; declared = []; interests = []; last_told = told_start; initial = false; finalized = []; nodes = record { ids = [] } }
+new_face opened told_start = record { zid = opened.zid; mode = opened.mode; remote_bound = opened.remote_bound; declared = []; last_told = told_start; initial = false; finalized = []; nodes = record { ids = [] } }
 
 -- a hat without faces
 abbrev pub new_hat : Region → Mode → Zid → ℕ → HatState
-new_hat region north_mode own told_start = record { region = region; north_mode = north_mode; own = own; told_start = told_start; faces = []; told = []; entries = []; network = record { nodes = []; trees = []; distances = [] } }
+new_hat region north_mode own told_start = record { region = region; north_mode = north_mode; own = own; told_start = told_start; faces = []; entries = []; network = record { nodes = []; trees = []; distances = [] } }
 
 -- a client region has its face, and takes no other
 abbrev pub is_full : HatState → Bool

@@ -1,9 +1,8 @@
 -- Hats whose texts are all moved by one map of texts.
-use Rattle.std.specs.Prelude.{ℕ, ◌≡◌, List, map, option_map}
+use Rattle.std.specs.Prelude.{ℕ, ◌≡◌, List, map}
 use Rattle.std.specs.Str.{bytes_eq}
 use Rattle.zq_key.specs.Key.{is_key, intersects, includes}
 use Rattle.zq_hat.specs.declared.types.Declaration.{Declaration}
-use Rattle.zq_hat.specs.declared.types.InterestEntry.{InterestEntry}
 use Rattle.zq_hat.specs.declared.types.FinalMark.{FinalMark}
 use Rattle.zq_hat.specs.declared.types.FinalMark.TheVariants as mark
 use Rattle.zq_offers.specs.declared.types.QueryTargetQabl.{QueryTargetQabl}
@@ -23,10 +22,6 @@ module _ (φ : List ℕ → List ℕ) where
   abbrev pub move_declared : ℕ × Declaration → ℕ × Declaration
   move_declared d = (d.0, record d.1 { key = φ d.1.key })
 
-  -- an interest with its key moved
-  abbrev pub move_interest : ℕ × InterestEntry → ℕ × InterestEntry
-  move_interest i = (i.0, record i.1 { key = option_map φ i.1.key })
-
   -- a mark with its key moved
   abbrev pub move_mark : FinalMark → FinalMark
   move_mark mark.Initial = mark.Initial
@@ -34,7 +29,7 @@ module _ (φ : List ℕ → List ℕ) where
 
   -- a face with its texts moved
   abbrev pub move_face : ℕ × FaceState → ℕ × FaceState
-  move_face f = (f.0, record f.1 { declared = map move_declared f.1.declared; interests = map move_interest f.1.interests; finalized = map φ f.1.finalized })
+  move_face f = (f.0, record f.1 { declared = map move_declared f.1.declared; finalized = map φ f.1.finalized })
 
   -- an entry by text, moved
   abbrev pub move_entry : {X : Type 0} → List ℕ × X → List ℕ × X
@@ -42,7 +37,7 @@ module _ (φ : List ℕ → List ℕ) where
 
   -- a hat with all its texts moved
   abbrev pub move_hat : HatState → HatState
-  move_hat s = record s { faces = map move_face s.faces; told = map move_entry s.told; entries = map move_entry s.entries }
+  move_hat s = record s { faces = map move_face s.faces; entries = map move_entry s.entries }
 
   -- an offer with its key moved
   abbrev pub move_offer : QueryTargetQabl → QueryTargetQabl

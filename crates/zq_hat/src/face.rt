@@ -32,7 +32,7 @@ pub struct HatFace {
 }
 
 impl Model for HatFace {
-    ghost use Rattle.std.specs.Prelude.{[], map};
+    ghost use Rattle.std.specs.Prelude.{map};
     ghost use Rattle.std.specs.String.{string_bytes};
     ghost use Rattle.zq_hat.specs.State.{FaceState};
 
@@ -43,7 +43,6 @@ impl Model for HatFace {
       mode = f.mode;
       remote_bound = f.remote_bound;
       declared = f.declared.entries;
-      interests = [];
       last_told = f.last_told;
       initial = f.initial;
       finalized = map string_bytes f.finalized.keys;

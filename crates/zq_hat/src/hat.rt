@@ -1,11 +1,11 @@
 //! The hat of one region.
-ghost use Rattle.std.specs.Prelude.{◌≡◌, ◌↔◌, [], Some, None, true, false, is_some, OnOk, OnErr, IfOk, IsErrOf, option_copied, option_map, IsTrue, fold, map, string_bytes};
+ghost use Rattle.std.specs.Prelude.{◌≡◌, ◌↔◌, [], Some, None, true, false, is_some, OnOk, OnErr, IfOk, IsErrOf, option_copied, option_map, IsTrue, filter, fold, map, string_bytes};
 ghost use Rattle.zq_index.specs.Texts.{text_cmp};
 ghost use Rattle.std.specs.List.{AllByRecursion};
 ghost use Rattle.std.specs.Map.{keys_of, set_value};
 ghost use Rattle.std.specs.BTreeMap.{is_at};
 ghost use Rattle.std.specs.Ordering.{nat_cmp};
-ghost use Rattle.zq_key.specs.Key.{is_key};
+ghost use Rattle.zq_key.specs.Key.{intersects, is_key};
 ghost use Rattle.zq_hat.specs.Kept.{declared_keys, new_hat, with_face_opened, without_face, keys_of_face, has_face, clashes_at, declaration_at, has_any, is_full, change_face, registered, unregistered, unregister_result, faces_info, region_info, routers_info, changed, at_id, face_at, declare, withdraw, declaration};
 ghost use Rattle.zq_hat.specs.Tied.{without_declared};
 ghost use Rattle.zq_hat.specs.State.{FaceState};
@@ -49,6 +49,7 @@ use zq_key::message::{
 use zq_key::text::Text;
 use zq_offers::groups::FaceOffers;
 use zq_offers::routers::RouterOffers;
+use zq_offers::texts::add_met_texts;
 use zq_offers::walk::offers_for;
 use zq_trees::children::tell_children;
 use zq_trees::entries::{Entries, StandingList};
@@ -73,7 +74,6 @@ pub struct Hat {
 }
 
 impl Model for Hat {
-    ghost use Rattle.std.specs.Prelude.{[]};
     ghost use Rattle.zq_hat.specs.State.{HatState};
     ghost use Rattle.zq_hat.specs.Regions.{strategy_of};
     ghost use Rattle.zq_hat.specs.Tied.{IsWhole};
@@ -86,7 +86,6 @@ impl Model for Hat {
       own = h.own;
       told_start = h.told_start;
       faces = h.faces.entries;
-      told = [];
       entries = h.entries;
       network = h.net;
     } };
@@ -714,6 +713,30 @@ impl Hat {
         match strategy_of(self.region, self.north_mode) {
             Strategy::Broker | Strategy::Client | Strategy::Peer => self.add_declared(keys),
             Strategy::Router => add_texts(keys, self.alloc, self.entries.by_key()),
+        }
+    }
+
+    /// The keys that the faces declared and that meet the one that is asked for join the texts.
+    fn add_met_declared(&self, keys: &mut BTreeSet<String>, asked: &str) -> Result<(), OutOfMemory>
+        requires { IsTrue (is_key asked.now) }
+        ensures joined { OnOk result (map string_bytes keys.new.keys ≡ fold (insert_key text_cmp) (map string_bytes keys.old.keys) (filter (λ k. intersects k asked.now) (declared_keys self.now.faces))) }
+        ensures valid { AllByRecursion (λ k. is_key k ≡ true) (declared_keys self.now.faces) }
+    {
+        add_met_texts(keys, self.alloc, &self.index, asked)
+    }
+
+    /// The keys on which the region has information and that meet the one that is asked for join the
+    /// texts. Keys of which the first bytes show that they do not meet it are passed over by one search.
+    pub fn add_met_keys(&self, keys: &mut BTreeSet<String>, asked: &str) -> Result<(), OutOfMemory>
+        requires { IsTrue (is_key asked.now) }
+        ensures joined { OnOk result (map string_bytes keys.new.keys ≡ fold (insert_key text_cmp) (map string_bytes keys.old.keys) (filter (λ k. intersects k asked.now) (region_keys self.now))) }
+        ensures valid { AllByRecursion (λ k. is_key k ≡ true) (region_keys self.now) }
+    {
+        match strategy_of(self.region, self.north_mode) {
+            Strategy::Broker | Strategy::Client | Strategy::Peer => {
+                self.add_met_declared(keys, asked)
+            }
+            Strategy::Router => add_met_texts(keys, self.alloc, self.entries.by_key(), asked),
         }
     }
 

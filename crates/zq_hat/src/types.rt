@@ -1,4 +1,4 @@
-//! What hats keep, offer and tell; networks and tellings are `zq_trees`'s.
+//! What hats keep and offer; networks and tellings are `zq_trees`'s.
 ghost use Rattle.std.specs.Prelude.{◌≡◌, IfOk};
 
 use std::alloc::Global;
@@ -48,20 +48,6 @@ impl Declaration {
             info: self.info,
         })
     }
-}
-
-/// An interest of a face in the queryables of others: all, or those that meet a key.
-#[derive(Drop)]
-pub struct InterestEntry {
-    pub key: Option<Key>,
-    pub keys: bool,
-}
-
-/// What a face was told of a key, and under which id.
-#[derive(Clone, Copy)]
-pub struct ToldEntry {
-    pub id: u32,
-    pub info: QueryableInfoType,
 }
 
 /// Why a hat refused a declaration or a withdrawal.

@@ -1,5 +1,5 @@
 //! What faces ask to hear.
-ghost use Rattle.std.specs.Prelude.{◌≡◌, ℕ, Bool, List, [], OnOk, OnErr, IfOk, IsTrue};
+ghost use Rattle.std.specs.Prelude.{◌≡◌, [], OnOk, OnErr, IfOk, IsTrue};
 ghost use Rattle.std.specs.Option.{option_copied, option_map};
 ghost use Rattle.zq_key.specs.Key.{is_key};
 ghost use Rattle.zq_interests.specs.Interests.{asks_another, asks_for, askers, at, closed_face, has_keyed, interest_at, with_interest, without_interest};
@@ -17,16 +17,6 @@ use std::marker::Model;
 use zq_key::Key;
 use zq_key::memory::OutOfMemory;
 use zq_key::message::FaceId;
-
-/// Which faces want numbers for keys.
-pub trait Keyed {
-    ghost keyed: { Self → ℕ → List ℕ → Bool };
-
-    /// Whether an interest of the face asks for the key, and numbers may be declared for keys.
-    fn has_keyed(&self, face: FaceId, key: &str) -> bool
-        requires { IsTrue (is_key key.now) }
-        ensures { result ≡ keyed self.now face.0 key.now };
-}
 
 /// What each face asks, under which ids; and once more by the texts of keys, so that those who ask for
 /// a key are found without a look at the others.
@@ -162,13 +152,5 @@ impl Interests {
         ensures { IfOk result (λ l. l ≡ askers key.now self.now) }
     {
         kept_askers(&self.faces, &self.shelf, alloc, key)
-    }
-}
-
-impl Keyed for Interests {
-    ghost keyed = { λ s face key. has_keyed face key s };
-
-    fn has_keyed(&self, face: FaceId, key: &str) -> bool {
-        face_keyed(&self.faces, face.0, key)
     }
 }

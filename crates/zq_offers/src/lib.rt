@@ -2,13 +2,17 @@
 //!
 //! - `types`: offers of faces
 //! - `order`: offers in order
-//! - `walk`: offers over the declared keys that meet a request's
+//! - `met`: a search for the declared keys that meet one that is asked for
+//! - `texts`: the texts of those
+//! - `walk`: offers over those of a request
 //! - `groups`: what faces offer by their declarations
 //! - `routers`: what routers offer by their entries
 #![tactic(auto)]
 
 pub mod groups;
+pub mod met;
 pub mod order;
 pub mod routers;
+pub mod texts;
 pub mod types;
 pub mod walk;
