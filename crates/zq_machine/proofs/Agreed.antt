@@ -32,7 +32,7 @@ use Rattle.zq_machine.specs.declared.face.OpenFace.{OpenFace}
 use Rattle.zq_machine.specs.Agreeing.{Agrees, id_and_key, keys_in, stands_in}
 use Rattle.zq_machine.specs.Configs.{Settings, region_of, north_of}
 use Rattle.zq_machine.specs.Deciding.{accepted, after_replied, announced_by, causes, deadline, refusal_of, regated, retracted_by, targets}
-use Rattle.zq_machine.specs.Gates.{gate_for}
+use Rattle.zq_machine.specs.Gates.{gate_for, leave_all}
 use Rattle.zq_machine.specs.Writing.{is_unsent}
 use Rattle.zq_machine.specs.Machine.{accepted_state, state_after}
 use Rattle.zq_machine.specs.Selecting.{full_text}
@@ -41,7 +41,8 @@ use Rattle.zq_machine.specs.TextCalls.{TextCall, opening, closing, naming, unnam
 use Rattle.zq_machine.proofs.Agreeing.{Tied, declared_tied, marked_tied, named_tied, noded_tied, renamed_tied, same_faces_tied, some_of, unnamed_tied, withdrawn_tied}
 use Rattle.zq_machine.proofs.Changing.{hat_found, itself, number_test, region_there}
 use Rattle.zq_machine.proofs.Finals.{IsSound, granted_sound, is_there, none_sorted, opening_sound, unsent_sound}
-use Rattle.zq_machine.proofs.Gates.{Gated, gated_gone, gated_joined, gated_same}
+use Rattle.zq_machine.proofs.Gates.{Gated, gated_gone, gated_joined, gated_same, left_keys}
+use Rattle.zq_machine.proofs.Spaces.{ArePlain, accepted_plain, left_plain}
 use Rattle.zq_machine.proofs.Hats.{AreHatsOf, accepted_hats, opening_hats}
 use Rattle.zq_machine.proofs.Foreign.{AreForeign, accepted_foreign, opening_foreign}
 use Rattle.zq_machine.proofs.Frame.{accepted_config}
@@ -141,6 +142,7 @@ pub record InOrder (config : Settings) (s : State) : Type 0 where
   pub worded : AreWorded s.core.hats
   pub foreign : AreForeign s.core.config.zid s.core.hats
   pub gated : Gated s.gates s.core.next_face
+  pub spaces : ArePlain s.gates
 
 replied_numbers : (q : QueryState) (o : Option ReplyTo) → InNumbers q → InNumbers (after_replied o q)
 replied_numbers q None i = i
@@ -185,12 +187,13 @@ accepted_in_order config s x h i = record {
   worded = accepted_worded s.core x h i.worded;
   foreign = subst (λ (z : Settings). AreForeign z.zid (accepted s.core x).hats) (sym (accepted_config s.core x)) (accepted_foreign s.core i.worded i.foreign x h);
   gated = granted_gated s x i.gated;
+  spaces = accepted_plain s x h i.gated i.spaces;
 }
 
 pub granted_in_order : (config : Settings) (s : State) (c : Call) → refusal_of s.core (read s c) ≡ None → InOrder config s → InOrder config (accepted_state s (read s c))
 granted_in_order config s c = accepted_in_order config s (read s c)
 
--- and it stays with each number that a face is told, with gates of the same faces, and without requests that are let go
+-- and it stays with each number that a face is told, with what gates keep of what is handed, and without requests that are let go
 pub stays_in_order : (config : Settings) → Stays (InOrder config)
 stays_in_order config = record {
   numbers = λ core face text id names gates i. record {
@@ -202,8 +205,9 @@ stays_in_order config = record {
     worded = i.worded;
     foreign = i.foreign;
     gated = i.gated;
+    spaces = i.spaces;
   };
-  gates = λ core names gates more same i. record {
+  gates = λ text hs core names gates i. record {
     sound = i.sound;
     tied = i.tied;
     hats = i.hats;
@@ -211,7 +215,8 @@ stays_in_order config = record {
     aims = i.aims;
     worded = i.worded;
     foreign = i.foreign;
-    gated = gated_same gates more core.next_face same i.gated;
+    gated = gated_same gates (leave_all text hs gates).gates core.next_face (left_keys text hs gates) i.gated;
+    spaces = left_plain text hs gates i.spaces;
   };
   unsent = λ places core names gates i. record {
     sound = unsent_sound places core i.sound;
@@ -222,6 +227,7 @@ stays_in_order config = record {
     worded = i.worded;
     foreign = i.foreign;
     gated = i.gated;
+    spaces = i.spaces;
   };
 }
 
@@ -272,6 +278,7 @@ opening_in_order config = record {
   worded = opening_worded config;
   foreign = opening_foreign config;
   gated = record { sorted = none_sorted; below = λ f h. absurd (false≢true h) };
+  spaces = λ q. tt;
 }
 
 -- at every point of a run

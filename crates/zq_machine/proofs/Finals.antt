@@ -163,7 +163,7 @@ pub unsent_sound : (places : List Place) (c : Core) → Sound c.faces c.next_fac
 unsent_sound places c i = same_closed c.faces c.next_face c.queries _ i refl (letting_none_over (is_unsent places) c.queries.records)
 
 stays_sound : Stays IsSound
-stays_sound = record { numbers = λ core face text id names gates i. i; gates = λ core names gates more same i. i; unsent = λ places core names gates i. unsent_sound places core i }
+stays_sound = record { numbers = λ core face text id names gates i. i; gates = λ text hs core names gates i. i; unsent = λ places core names gates i. unsent_sound places core i }
 
 pub after_sound : (s : State) (c : Call) → IsSound s → IsSound (after s c)
 after_sound = after_kept IsSound (λ s c. granted_sound s.core (read s c)) stays_sound

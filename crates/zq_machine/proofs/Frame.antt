@@ -1,5 +1,5 @@
 -- What no call changes.
-use Rattle.std.proofs.Common.{◌≡◌, ◌∙◌, refl, ap, Bool, true, false, cond, List, [], ◌∷◌}
+use Rattle.std.proofs.Common.{◌≡◌, ◌∙◌, refl, Bool, true, false, cond, List, [], ◌∷◌}
 use Rattle.zq_machine.specs.declared.call.Call.{Call}
 use Rattle.zq_machine.specs.Deciding.{accepted, decide, is_accepted}
 use Rattle.zq_machine.specs.Machine.{accepted_state, after, state_after}

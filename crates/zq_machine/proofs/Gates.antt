@@ -179,13 +179,22 @@ module _ (q : ℕ) where
   space_kept e (message.Response r) = refl
   space_kept e (message.ResponseFinal f) = refl
 
+  same_space : (m : Message) (g : Gate) → space_of (Some (kept_by m g)) ≡ space_of (Some g)
+  same_space m g = by g.exit.space
+    where
+      by : (o : Option ExitState) → option_map (λ (e : ExitState). e.ns) (option_map (λ e. kept e m) o) ≡ option_map (λ (e : ExitState). e.ns) o
+      by None = refl
+      by (Some e) = ap Some (space_kept e m)
+
   -- its namespace
   pub space_left : (text : List ℕ) (hs : List Handed) (gates : Gates) → space_of (gate_at q (leave_all text hs gates).gates) ≡ space_of (gate_at q gates)
-  space_left = left_view space_of (λ m g. by m g.exit.space)
-    where
-      by : (m : Message) (o : Option ExitState) → option_map (λ (e : ExitState). e.ns) (option_map (λ e. kept e m) o) ≡ option_map (λ (e : ExitState). e.ns) o
-      by m None = refl
-      by m (Some e) = ap Some (space_kept e m)
+  space_left = left_view space_of same_space
+
+  -- a message that gives something changes it neither
+  pub space_given : (h : Handed) (gates : Gates) → space_of (gate_at q (with_given h gates)) ≡ space_of (gate_at q gates)
+  space_given h gates =
+      ap space_of (gate_where h gates (is_none h.leaves && gives h.message))
+      ∙ view_where space_of same_space h (is_none h.leaves && gives h.message) (gate_at q gates)
 
   -- and the keys that it may not ask for
   pub denied_left : (text : List ℕ) (hs : List Handed) (gates : Gates) → denied_by (gate_at q (leave_all text hs gates).gates) ≡ denied_by (gate_at q gates)

@@ -36,7 +36,7 @@ use Rattle.zq_machine.specs.Messages.{TextMessage, text_final, text_reply, text_
 use Rattle.zq_machine.specs.Selecting.{full_text, select}
 use Rattle.zq_machine.specs.State.{Core, State}
 use Rattle.zq_machine.specs.TextCalls.{TextCall, opening, closing, declaring, withdrawing, asking, replying, ending, reporting, passing, announcing, retracting, networking, read, hearing}
-use Rattle.zq_machine.specs.Writing.{Place, finish, is_unsent, sent_final, unsent, write, written}
+use Rattle.zq_machine.specs.Writing.{Place, finish, is_unsent, sent_final, unsent, write}
 use Rattle.zq_machine.specs.Configs.{Settings}
 use Rattle.zq_machine.specs.Gates.{Gates, let_out, through, with_given}
 use Rattle.zq_machine.proofs.Agreed.{InOrder, accepted_in_order}

@@ -1,21 +1,19 @@
 -- What each face asks to hear is what the calls of the run and their answers make of it; and a face that is not open asks for nothing.
-use Rattle.std.proofs.Common.{◌≡◌, ◌∙◌, refl, sym, ap, subst, ℕ, Bool, true, false, cond, not, List, [], ◌∷◌, Option, Some, None, true≢false}
+use Rattle.std.proofs.Common.{◌≡◌, ◌∙◌, refl, sym, ap, ℕ, Bool, true, false, cond, not, List, [], ◌∷◌, Option, Some, None, true≢false}
 use Rattle.std.specs.Prelude.{◌==◌}
 use Rattle.std.specs.BTreeMap.{insert_entry, is_at}
 use Rattle.std.specs.List.Sorted.{IsStrictlySortedBy}
 use Rattle.std.specs.Map.{keys_of, remove_entry}
 use Rattle.std.specs.Option.{is_some, option_map, option_map_or}
 use Rattle.std.specs.Ordering.{nat_cmp}
-use Rattle.std.proofs.lemmas.Bool.{false≢true}
 use Rattle.std.proofs.lemmas.Cmp.{nat_cmp_total}
 use Rattle.std.proofs.lemmas.Map.Lookups.{exact_unsigned}
 use Rattle.zq_message.specs.declared.message.FaceId.{FaceId}
 use Rattle.zq_message.specs.declared.message.WireExpr.{WireExpr}
 use Rattle.zq_key.proofs.Lookups.{found_after_insertion, found_after_removal}
 use Rattle.zq_key.proofs.Sorted.{sorted_in, sorted_out, sorted_write}
-use Rattle.zq_interests.specs.declared.types.InterestEntry.{InterestEntry}
-use Rattle.zq_interests.specs.Interests.{Asked, Interests, closed_face, interests_of, with_interest, without_interest}
-use Rattle.zq_tables.specs.Naming.{FaceNaming, face_naming, said_of}
+use Rattle.zq_interests.specs.Interests.{Asked, Interests, interests_of}
+use Rattle.zq_tables.specs.Naming.{face_naming, said_of}
 use Rattle.zq_machine.specs.declared.call.Call.{Call}
 use Rattle.zq_machine.specs.declared.call.Call.TheVariants as call
 use Rattle.zq_machine.specs.declared.face.OpenFace.{OpenFace}
@@ -25,8 +23,8 @@ use Rattle.zq_machine.specs.Deciding.{accepted, causes, opened, refusal_of}
 use Rattle.zq_machine.specs.Machine.{after, state_after, step, steps_from}
 use Rattle.zq_machine.specs.Selecting.{asked_by}
 use Rattle.zq_machine.specs.Standing.{Standing, asked_at, asking_after, asking_by, asking_in, standing_at}
-use Rattle.zq_machine.specs.State.{Core, State, at, is_open, opening_state}
-use Rattle.zq_machine.specs.TextCalls.{TextCall, closing, hearing, opening, read, said_if, unhearing}
+use Rattle.zq_machine.specs.State.{State, at, is_open, opening_state}
+use Rattle.zq_machine.specs.TextCalls.{TextCall, closing, hearing, read, said_if, unhearing}
 use Rattle.zq_machine.proofs.Agreed.{InOrder, granted_in_order, stays_in_order, opened_face, opening_in_order}
 use Rattle.zq_machine.proofs.Always.{after_kept}
 use Rattle.zq_machine.proofs.Changing.{number_test, one_number}

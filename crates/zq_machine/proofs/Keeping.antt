@@ -1,31 +1,21 @@
 -- What receivers of neighbours keep over a run is, after every call, what is due to them.
-use Rattle.std.proofs.Common.{◌≡◌, ◌∙◌, refl, sym, ap, subst, ℕ, ◌+◌, ◌^◌, ◌<◌, ◌≤◌, Bool, true, false, cond, List, [], ◌∷◌, ◌++◌, append_assoc, append-nil, filter, fold, map, Option, Some, None, arith, true≢false}
+use Rattle.std.proofs.Common.{◌≡◌, ◌∙◌, refl, sym, ap, subst, ℕ, ◌^◌, ◌<◌, ◌≤◌, Bool, true, false, cond, List, [], ◌∷◌, ◌++◌, append_assoc, append-nil, filter, fold, map, Option, Some, None, arith, true≢false}
 use Rattle.std.specs.Prelude.{◌==◌, ◌&&◌}
 use Rattle.std.specs.BTreeMap.{is_at}
-use Rattle.std.specs.BTreeSet.{insert_key}
-use Rattle.std.specs.Cmp.{IsTotalOrder, nat_cmp_total, on_total, then_total}
-use Rattle.std.specs.List.{AllByRecursion}
+use Rattle.std.specs.Cmp.{nat_cmp_total}
 use Rattle.std.specs.List.Sorted.{IsStrictlySortedBy}
-use Rattle.std.specs.Option.{is_some, option_and_then, option_map, option_map_or}
-use Rattle.std.proofs.lemmas.Option.{same_Some}
-use Rattle.std.specs.Ordering.{nat_cmp, ordering_then}
-use Rattle.std.specs.declared.cmp.Ordering.{Ordering}
-use Rattle.std.specs.declared.cmp.Ordering.TheVariants.{Less, Equal, Greater}
+use Rattle.std.specs.Option.{is_some, option_and_then, option_map_or}
+use Rattle.std.specs.Ordering.{nat_cmp}
 use Rattle.std.proofs.lemmas.Bool.{false≢true}
-use Rattle.std.proofs.lemmas.List.Elements.{filter-append}
-use Rattle.std.proofs.lemmas.List.Kept.{IsStrictlySortedBy-filter}
 use Rattle.std.proofs.lemmas.Map.Lookups.{exact_unsigned}
-use Rattle.zq_message.specs.declared.message.QueryableInfoType.{QueryableInfoType}
 use Rattle.zq_key.proofs.Lookups.{found_after_insertion, found_after_removal}
-use Rattle.zq_index.specs.Texts.{text_cmp}
-use Rattle.zq_index.proofs.Orders.{text_total}
 use Rattle.zq_trees.specs.declared.types.Telling.{Telling as TreeTelling}
 use Rattle.zq_trees.specs.Tellings.{in_order, telling_cmp}
 use Rattle.zq_interests.specs.Interests.{Interests, closed_face}
 use Rattle.zq_told.specs.declared.types.Way.TheVariants.{Unasked}
 use Rattle.zq_told.specs.declared.types.ToldEntry.{ToldEntry}
 use Rattle.zq_told.specs.Ears.{Ear, Ears, last_at}
-use Rattle.zq_told.specs.Receiver.{Heard, heard_entry, receive}
+use Rattle.zq_told.specs.Receiver.{Heard, receive}
 use Rattle.zq_told.specs.Telling.{lacks_ids, tell_due}
 use Rattle.zq_told.specs.Laws.{is_to, last_given, told_in, differs}
 use Rattle.zq_told.specs.Leaving.{AreSound, fresh_ear}
@@ -36,7 +26,6 @@ use Rattle.zq_tables.specs.declared.said.Said.{Said}
 use Rattle.std.specs.Map.{keys_of}
 use Rattle.zq_machine.specs.Writing.{Place, finish, without_unsent}
 use Rattle.zq_machine.proofs.Writing.{fully}
-use Rattle.zq_machine.specs.declared.call.Refusal.{Refusal}
 use Rattle.zq_machine.specs.declared.call.Step.{Step}
 use Rattle.zq_machine.proofs.DueAlone.{interests_alone}
 use Rattle.zq_machine.proofs.Reading.{declare_read, withdraw_read}
@@ -50,10 +39,10 @@ use Rattle.zq_machine.specs.Configs.{Settings}
 use Rattle.zq_machine.specs.Deciding.{accepted, changed, causes, is_accepted, lacks_told, opened, refusal_of, renamed, told_of, ears_of, interests_for, kept, granted}
 use Rattle.zq_machine.specs.Due.{listens, due}
 use Rattle.zq_machine.specs.Hearing.{CanBeTold, hear}
-use Rattle.zq_machine.specs.Keeping.{ChangePromise, IsKept, IsNear, KeepPromise, TellsChanges, greater, heard_in, is_told, received_in, last_in, told_by, if_told, greatest_with, with_told, AnswersInterests, TellsAnswer, forget_undue, heard_after, is_asking, is_due_at, last_after}
+use Rattle.zq_machine.specs.Keeping.{ChangePromise, IsKept, IsNear, KeepPromise, TellsChanges, heard_in, is_told, received_in, last_in, told_by, if_told, greatest_with, with_told, AnswersInterests, TellsAnswer, forget_undue, heard_after, is_asking, is_due_at, last_after}
 use Rattle.zq_machine.specs.Machine.{accepted_state, after, follow, state_after, step, refused_step}
-use Rattle.zq_machine.specs.Messages.{Telling, TellingBody, from_hat, told_or_ended}
-use Rattle.zq_machine.specs.Neighbours.{due_on, ears_after, looked_at, neighbours_lack, neighbours_told, with_new, without_closed, marked, near_told as told_near}
+use Rattle.zq_machine.specs.Messages.{Telling, TellingBody, from_hat}
+use Rattle.zq_machine.specs.Neighbours.{ears_after, looked_at, neighbours_lack, neighbours_told, with_new, without_closed, marked, near_told as told_near}
 use Rattle.zq_machine.specs.Receivers.{AllHear, AllTold, AreOfOpen, FaceTold, HaveChanges, Hears, makes_due}
 use Rattle.zq_machine.specs.State.{Core, State, at, hat_at, hat_of, is_open, opening_state}
 use Rattle.zq_machine.specs.TextCalls.{TextCall, opening, closing, declaring, withdrawing, asking, replying, ending, reporting, passing, listing, finalizing, announcing, retracting, networking, tabling, read, hearing, unhearing, said_if}
@@ -73,8 +62,6 @@ use Rattle.zq_machine.proofs.NeighbourLooks.{looked_is}
 use Rattle.zq_machine.proofs.NeighbourTold.{told_due, found_beside}
 use Rattle.zq_machine.proofs.NeighboursTold.{due_can, neighbours}
 use Rattle.zq_machine.proofs.RoutersAlone.{asks_all, hears_near, is_read, near_hears, none_to, trees_deaf}
-use Rattle.zq_machine.proofs.Sifting.{in_order_stays, sifted}
-use Rattle.zq_machine.proofs.Telling.{none_filtered}
 use Rattle.zq_machine.proofs.Tells.{granted_heard}
 
 -- ---- what a call leaves

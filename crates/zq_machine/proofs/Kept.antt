@@ -16,6 +16,7 @@ use Rattle.zq_machine.proofs.Hats.{kinds_of}
 use Rattle.zq_machine.proofs.Handing.{call_answers, call_behind, call_fits, call_ordered}
 use Rattle.zq_machine.proofs.LastIds.{run_last}
 use Rattle.zq_machine.proofs.Leaving.{all_gates, call_leaves}
+use Rattle.zq_machine.proofs.Within.{call_within}
 use Rattle.zq_machine.proofs.Promises.{request_promise, reply_promise, refusal_promise}
 use Rattle.zq_machine.proofs.Silent.{nothing_after}
 use Rattle.zq_machine.proofs.Interested.{all_asked}
@@ -40,6 +41,7 @@ kept config before c =
       answer = call_answers s c;
       fit = call_fits s c;
       leaves = call_leaves s c;
+      within = call_within config s c (run_in_order config before);
       ordered = call_ordered config s c (run_in_order config before);
       behind = call_behind s c;
       finals = λ n. final_promise n s c (run_sound before (opening_state config) (opening_sound config)) (run_once n config before);

@@ -19,6 +19,8 @@ pub mod Waiting
 pub mod Waits
 pub mod Settled
 pub mod Leaving
+pub mod Spaces
+pub mod Within
 pub mod Kept
 pub mod EntriesMoved
 pub mod HatsMoved

@@ -28,7 +28,6 @@ use Rattle.zq_told.specs.Receiver.{Heard, Tied, heard_after, heard_on, memory_of
 use Rattle.zq_told.specs.Laws.{InOrder, aim, aim_on, ear_after, is_to, keys_for, last_given, told_alone, told_in}
 use Rattle.zq_told.proofs.Differing.{looks_up, tells_each}
 use Rattle.zq_told.proofs.Numbers.{ids_are_given}
-use Rattle.zq_told.proofs.Faces.{opens}
 use Rattle.zq_told.proofs.Hearing.{heard_is_told}
 use Rattle.zq_told.proofs.Leaving.{stays_in_order, told_aimed}
 use Rattle.zq_told.proofs.Settling.{keeps_up}

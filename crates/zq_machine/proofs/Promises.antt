@@ -1,8 +1,8 @@
 -- What each call of a run promises of requests, replies and refusals.
 use Rattle.std.proofs.Common.{◌≡◌, ℕ, ◌+◌, ◌<◌, ◌^◌, Bool, true, false, cond, not, List, [], ◌∷◌, ◌++◌, map, length, Option, Some, None, refl, ap, ◌∙◌, arith, true≢false}
-use Rattle.std.specs.List.{cons_option, list_any}
+use Rattle.std.specs.List.{list_any}
 use Rattle.std.specs.Prelude.{◌||◌, ◌==◌, unwrap_or}
-use Rattle.std.specs.Option.{is_some, option_map}
+use Rattle.std.specs.Option.{is_some}
 use Rattle.std.proofs.lemmas.Bool.{false≢true, or_parts}
 use Rattle.std.proofs.lemmas.List.{map-append}
 use Rattle.zq_key.specs.Key.{is_key, is_chunk}
@@ -12,7 +12,6 @@ use Rattle.zq_message.specs.declared.message.Response.{Response}
 use Rattle.zq_offers.specs.declared.types.QueryTargetQabl.{QueryTargetQabl}
 use Rattle.zq_query.specs.declared.records.Final.{Final}
 use Rattle.zq_query.specs.declared.records.ReplyTo.{ReplyTo}
-use Rattle.zq_query.specs.declared.records.Timeout.{Timeout}
 use Rattle.zq_query.specs.Closing.{closing_finals, finals_after, finals_landed}
 use Rattle.zq_query.specs.Records.{QueryState, any_over, is_closed, is_entry, is_pending, next_reply, next_id}
 use Rattle.zq_query.specs.Asking.{asked_records, given_id, given_place, is_full}
@@ -32,7 +31,7 @@ use Rattle.zq_machine.specs.declared.face.OpenFace.{OpenFace}
 use Rattle.zq_machine.specs.State.{State, Core, at, is_open}
 use Rattle.zq_machine.specs.Selecting.{select, select_for, full_text, target_of}
 use Rattle.zq_machine.specs.TextCalls.{TextCall, opening, closing, naming, unnaming, declaring, withdrawing, asking, replying, ending, reporting, passing, listing, finalizing, announcing, retracting, networking, tabling, hearing, unhearing, asked_said, read, said_by_reply, said_if}
-use Rattle.zq_machine.specs.Deciding.{replied_outcome, passing_finals, causes, deadline, refusal_of, accepted, granted, answered, is_accepted, targets, handed_reply, timed_out, handed_request, handed_requests, handed_replies, handed_timeouts, replied}
+use Rattle.zq_machine.specs.Deciding.{replied_outcome, passing_finals, causes, deadline, refusal_of, accepted, granted, answered, is_accepted, targets, handed_request, handed_requests, handed_timeouts, replied}
 use Rattle.zq_machine.specs.Machine.{answer, asked_text, step}
 use Rattle.zq_machine.specs.Gates.{Gates, through}
 use Rattle.zq_machine.specs.Messages.{Decided, text_final}

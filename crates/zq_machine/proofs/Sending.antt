@@ -248,7 +248,7 @@ module _ (names : NamingState) (gates : Gates) (text : List ℕ) (q : QueryState
   places_there d (x ∷ xs) = (
     (λ j. (itself_too x.face.0 j && itself_too (given_id q x.face) j) || list_any (at_place (entry_at d (given_place q x.face))) xs),
     all_weaker (λ (o : QueryTargetQabl). list_any (at_place (entry_at d (given_place q o.face))) xs ≡ true) (λ (o : QueryTargetQabl). list_any (at_place (entry_at d (given_place q o.face))) (x ∷ xs) ≡ true)
-    (λ o is. ap (λ b. at_place (entry_at d (given_place q o.face)) x || b) is ∙ or-true (at_place (entry_at d (given_place q o.face)) x)) xs (places_there d xs),
+        (λ o is. ap (λ b. at_place (entry_at d (given_place q o.face)) x || b) is ∙ or-true (at_place (entry_at d (given_place q o.face)) x)) xs (places_there d xs),
   )
 
   module _ (d : ℕ) (all : List QueryTargetQabl) where

@@ -212,15 +212,17 @@ silent n s c i none =
     (λ p places z w it.
     let fs = (finish w.core (p ∷ places)).finals in
     let kept = finish_balance n w.core (p ∷ places) in
-    let owed = it.0 in
-    (omega (arith, kept, owed),
-    list_any-append (is_of n) z.handed (map sent_final fs)
-    ∙ (λ j. it.1 j || (ap (list_any (is_of n)) (sym (finals_written w.names fs)) ∙ no_finals n w.names fs (omega (arith, kept, owed))) j)))
+    let owed = it.0 in (
+      omega (arith, kept, owed),
+      list_any-append (is_of n) z.handed (map sent_final fs)
+          ∙ (λ j. it.1 j || (ap (list_any (is_of n)) (sym (finals_written w.names fs)) ∙ no_finals n w.names fs (omega (arith, kept, owed))) j),
+    ))
     (λ h.
     let balance = granted_balance n s t h i in
-    let less = owed_less s.core.queries.closed (accepted s.core t).queries.closed n (granted_grows s.core t) s.core.queries.records in
-    (omega (arith, balance, less, none),
-    any_beside s t (write s.names (granted s.core t).messages) (is_of n) (λ to d. refl) ∙ granted_silent n s t none))
+    let less = owed_less s.core.queries.closed (accepted s.core t).queries.closed n (granted_grows s.core t) s.core.queries.records in (
+      omega (arith, balance, less, none),
+      any_beside s t (write s.names (granted s.core t).messages) (is_of n) (λ to d. refl) ∙ granted_silent n s t none,
+    ))
     (λ r. (none, refl)) in
     both.1
 

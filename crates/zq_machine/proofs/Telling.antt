@@ -1,5 +1,5 @@
 -- What faces are told is declarations, and it changes numbers of keys alone.
-use Rattle.std.proofs.Common.{◌≡◌, ◌∙◌, ap, refl, ℕ, Bool, false, cond, List, [], ◌∷◌, ◌++◌, map, Option, Some, None}
+use Rattle.std.proofs.Common.{◌≡◌, ◌∙◌, ap, refl, ℕ, Bool, false, cond, List, [], ◌∷◌, Option, Some, None}
 use Rattle.std.specs.Prelude.{◌||◌}
 use Rattle.std.specs.List.{AllByRecursion, cons_option, filter, filter_map, list_any}
 use Rattle.zq_message.specs.declared.message.Declare.{Declare}
@@ -7,19 +7,12 @@ use Rattle.zq_message.specs.declared.message.DeclareBody.TheVariants as body
 use Rattle.zq_message.specs.declared.message.FaceId.{FaceId}
 use Rattle.zq_message.specs.declared.message.Message.TheVariants as message
 use Rattle.zq_message.specs.declared.message.WireExpr.{WireExpr}
-use Rattle.zq_trees.specs.declared.types.Telling.{Telling as TreeTelling}
-use Rattle.zq_trees.specs.Tellings.{in_order}
 use Rattle.zq_names.specs.Texts.{nonwild}
 use Rattle.zq_ids.specs.declared.decl.DeclKey.{DeclKey}
 use Rattle.zq_tables.specs.Naming.{NamingState, change_naming, plain, with_told_number}
-use Rattle.zq_interests.specs.Interests.{Interests}
-use Rattle.zq_told.specs.Ears.{Ears}
 use Rattle.zq_machine.specs.Handing.{Handed}
-use Rattle.zq_machine.specs.Messages.{Telling, TellingBody, all_told, from_hat, key_ended, key_told}
-use Rattle.zq_machine.specs.Neighbours.{due_told, kept_told}
+use Rattle.zq_machine.specs.Messages.{Telling, TellingBody, all_told, key_ended, key_told}
 use Rattle.zq_machine.specs.State.{Core}
-use Rattle.zq_machine.specs.TextCalls.{TextCall}
-use Rattle.zq_machine.specs.Trees.{all_own_told, touched, tree_told}
 use Rattle.zq_machine.specs.Writing.{and_then, tell, tell_body, tell_by, tell_declare, tell_number, told_key}
 use Rattle.zq_machine.proofs.Lists.{all_append}
 

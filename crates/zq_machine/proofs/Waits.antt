@@ -386,16 +386,17 @@ quiet_waits s t quiet =
     let both : P (answer s t) (settle s t) =
     by_told P s t quiet
     (λ text z w it.
-    let none : list_any asks (let_out text z.handed w.gates).handed ≡ false = any_out text asks (λ h left. refl) z.handed w.gates ∙ it.0 in
-    (none,
-    λ a. record {
-      entries = λ n e.
-          (it.1 a).entries n e
-          ∙ ap (λ b. (owes n e s.core.queries.records && not (ended t e)) || b) (none_gives (moment_of s.core t) n e z.handed it.0 ∙ sym (none_gives (moment_of s.core t) n e (let_out text z.handed w.gates).handed none));
-      replies = λ n k.
-          (it.1 a).replies n k
-          ∙ ap (λ b. (flies n k s.core.queries.records && not (landed t k)) || b) (sym (any_out text (hands_reply n k) (λ h left. refl) z.handed w.gates));
-    }))
+    let none : list_any asks (let_out text z.handed w.gates).handed ≡ false = any_out text asks (λ h left. refl) z.handed w.gates ∙ it.0 in (
+      none,
+      λ a. record {
+        entries = λ n e.
+            (it.1 a).entries n e
+            ∙ ap (λ b. (owes n e s.core.queries.records && not (ended t e)) || b) (none_gives (moment_of s.core t) n e z.handed it.0 ∙ sym (none_gives (moment_of s.core t) n e (let_out text z.handed w.gates).handed none));
+        replies = λ n k.
+            (it.1 a).replies n k
+            ∙ ap (λ b. (flies n k s.core.queries.records && not (landed t k)) || b) (sym (any_out text (hands_reply n k) (λ h left. refl) z.handed w.gates));
+      },
+    ))
     (λ h. (any_beside s t (write s.names (granted s.core t).messages) asks (λ to d. refl) ∙ granted_asks s.names s.core t quiet, λ a. waits_beside s t (granted_waits s t quiet)))
     (λ r. (refl, λ a. absurd (false≢true a))) in
     both.1

@@ -1,5 +1,5 @@
 -- Gates: a face that was opened with a namespace or with deny lists has one. By it what the face says is read, it may not ask for some keys, and not all that it is handed leaves as it is.
-use Rattle.std.specs.Prelude.{ℕ, Bool, true, false, not, ◌&&◌, List, [], ◌∷◌, fold, Option, Some, None, if◌then◌else◌, is_none}
+use Rattle.std.specs.Prelude.{ℕ, Bool, true, false, ◌&&◌, List, [], ◌∷◌, fold, Option, Some, None, if◌then◌else◌, is_none}
 use Rattle.std.specs.BTreeMap.{insert_entry, is_at}
 use Rattle.std.specs.List.{list_all}
 use Rattle.std.specs.Map.{lookup, set_value}

@@ -37,6 +37,7 @@ use Rattle.zq_machine.specs.Agreeing.{Agrees}
 use Rattle.zq_machine.specs.Standing.{asking_in, first_routed, listed_in, routed_at, routed_in, standing_at, standing_in}
 use Rattle.zq_machine.specs.Hearing.{hear}
 use Rattle.zq_machine.specs.Leaving.{gate_in}
+use Rattle.zq_machine.specs.Within.{AllStay}
 use Rattle.zq_machine.specs.Direct.{AreDirect}
 use Rattle.zq_machine.specs.Children.{ChildPromise}
 use Rattle.zq_machine.specs.Keeping.{AnswersInterests, ChangePromise, KeepPromise}
@@ -228,6 +229,10 @@ is_of_request h = not (declares h)
 abbrev pub LeavePromise : State → Call → Type 0
 LeavePromise s c = leave_all (asked_text (read s c)) (step s c).handed (follow s (read s c)).gates ≡ record { handed = (step s c).handed; gates = (after s c).gates }
 
+-- what leaves to a face in a namespace says nothing outside it, and to no face leaves a request on a key that its exit denies
+abbrev pub WithinPromise : State → Call → Type 0
+WithinPromise s c = AllStay (asked_text (read s c)) (step s c).handed (follow s (read s c)).gates
+
 -- ---- refusals
 
 -- the first cause that holds refuses a call, which then hands and changes nothing; with none the call is accepted
@@ -248,6 +253,7 @@ pub record KeepsPromises (s : State) (c : Call) : Type 0 where
   pub answer : is_accepted (step s c).outcome ≡ true → AnswerPromise s c (step s c).outcome
   pub fit : AllByRecursion (IsFit (may_hand c)) (step s c).handed
   pub leaves : LeavePromise s c
+  pub within : WithinPromise s c
   pub ordered : IsStrictlySortedBy nat_cmp (ended_in (step s c).handed)
   pub behind : filter is_of_request (step s c).handed ++ filter declares (step s c).handed ≡ (step s c).handed
   pub closed : (face : ℕ) → is_closed (after s c).core.queries.closed face ≡ (closes face c (step s c) || is_closed s.core.queries.closed face)

@@ -1,5 +1,5 @@
 -- The gates of faces, by the calls of a run and what they handed alone.
-use Rattle.std.specs.Prelude.{ℕ, ◌==◌, ◌&&◌, List, [], ◌∷◌, fold, Option, Some, None, if◌then◌else◌, is_none}
+use Rattle.std.specs.Prelude.{ℕ, ◌==◌, ◌&&◌, List, [], ◌∷◌, fold, Option, None, if◌then◌else◌, is_none}
 use Rattle.std.specs.Option.{option_map}
 use Rattle.zq_namespace.specs.Leaves.{gives}
 use Rattle.zq_machine.specs.declared.call.Call.{Call}
