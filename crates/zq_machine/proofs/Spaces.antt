@@ -1,14 +1,13 @@
 -- At every point of every run the namespaces of faces are plain.
-use Rattle.std.proofs.Common.{◌≡◌, ◌∙◌, refl, sym, ap, subst, ℕ, Bool, true, false, cond, not, List, Option, Some, None, true≢false}
-use Rattle.std.specs.Prelude.{◌&&◌, ◌==◌, is_none}
+use Rattle.std.proofs.Common.{◌≡◌, sym, subst, ℕ, Bool, true, false, cond, List, Option, Some, None}
+use Rattle.std.specs.Prelude.{◌&&◌, ◌==◌}
 use Rattle.std.specs.List.{list_all}
 use Rattle.std.proofs.lemmas.Bool.{and_parts}
 use Rattle.zq_key.specs.Key.{is_key}
 use Rattle.zq_namespace.specs.Denied.{IsPlainSpace}
-use Rattle.zq_namespace.specs.Leaves.{gives}
 use Rattle.zq_machine.specs.declared.call.Opening.{Opening}
 use Rattle.zq_machine.specs.Deciding.{causes, refusal_of, regated}
-use Rattle.zq_machine.specs.Gates.{Gate, Gates, gate_at, gate_for, is_sound, is_space, keeping, leave_all, space_of, with_given}
+use Rattle.zq_machine.specs.Gates.{Gate, Gates, gate_at, gate_for, is_sound, is_space, leave_all, space_of, with_given}
 use Rattle.zq_machine.specs.Handing.{Handed}
 use Rattle.zq_machine.specs.State.{State}
 use Rattle.zq_machine.specs.TextCalls.{TextCall, closing, opening}
