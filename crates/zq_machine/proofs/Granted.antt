@@ -102,7 +102,7 @@ by_decided P s t given stays = by (refusal_of s.core t) refl
     by (Some r) e = stays r
     by None e = taken (is_accepted (granted s.core t).outcome) (granted_is_accepted s.core t e) e
 
-none_asked : (s : State) (t : TextCall) → is_asking t ≡ false → list_any asks (plain_answer s t).handed ≡ false
+pub none_asked : (s : State) (t : TextCall) → is_asking t ≡ false → list_any asks (plain_answer s t).handed ≡ false
 none_asked s t quiet =
     by_decided (λ z w. list_any asks z.handed ≡ false) s t
     (λ h. any_both asks (write s.names (granted s.core t).messages) (told_by s t).handed (granted_asks s.names s.core t quiet) (none_told s t))

@@ -18,6 +18,7 @@ pub mod Silent
 pub mod Waiting
 pub mod Waits
 pub mod Settled
+pub mod Ungated
 pub mod Leaving
 pub mod Spaces
 pub mod Within
