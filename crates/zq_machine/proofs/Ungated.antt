@@ -1,4 +1,4 @@
--- For the bodies: a call that is no request is answered as its gates let out what it hands; and where no face that is handed something has a gate, every call is answered as before the gates.
+-- For the bodies, how a call goes through the gates: one that is no request is answered as they let out what it hands; where no face that is handed something has one, every call is answered as before them; and of a call that tells nothing each message goes by itself.
 use Rattle.std.proofs.Common.{◌≡◌, ◌∙◌, refl, sym, ap, ℕ, Bool, true, false, cond, List, [], ◌∷◌, ◌++◌, map, fold, Option, Some, None, append-nil}
 use Rattle.std.specs.Prelude.{◌&&◌, is_none}
 use Rattle.std.specs.List.{AllByRecursion}
