@@ -19,6 +19,7 @@ pub mod Waiting
 pub mod Waits
 pub mod Settled
 pub mod Ungated
+pub mod LettingGo
 pub mod Leaving
 pub mod Spaces
 pub mod Within

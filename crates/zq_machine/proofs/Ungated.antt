@@ -1,25 +1,26 @@
--- For the bodies: a call that is no request is answered as its gates let out what it hands; and where no face that is handed something has a gate, every call is answered as before the gates.
+-- For the bodies, how a call goes through the gates: one that is no request is answered as they let out what it hands; where no face that is handed something has one, every call is answered as before them; and of a call that tells nothing each message goes by itself.
 use Rattle.std.proofs.Common.{◌≡◌, ◌∙◌, refl, sym, ap, ℕ, Bool, true, false, cond, List, [], ◌∷◌, ◌++◌, map, fold, Option, Some, None, append-nil}
 use Rattle.std.specs.Prelude.{◌&&◌, is_none}
 use Rattle.std.specs.List.{AllByRecursion}
 use Rattle.zq_message.specs.declared.message.Message.{Message}
 use Rattle.zq_namespace.specs.Leaves.{gives}
 use Rattle.zq_tables.specs.Naming.{NamingState}
-use Rattle.zq_machine.specs.Deciding.{accepted, granted, renamed, told_of}
-use Rattle.zq_machine.specs.Gates.{Gates, end_kept, ends_given, gate_at, keeping, leave_all, leaves_by, let_out, put_kept, through, without_ended}
+use Rattle.zq_machine.specs.Deciding.{accepted, granted, refusal_of, regated, renamed, told_of}
+use Rattle.zq_machine.specs.Gates.{Gates, Out, end_kept, ends_given, gate_at, keeping, leave_all, leaves_by, let_out, put_kept, through, without_ended}
 use Rattle.zq_machine.specs.Handing.{Handed}
 use Rattle.zq_machine.specs.Headline.{asks}
-use Rattle.zq_machine.specs.Machine.{answer, asked_text, follow, going_out, handing, settle}
+use Rattle.zq_machine.specs.Machine.{accepted_state, answer, asked_text, follow, going_out, handing, settle}
+use Rattle.zq_machine.specs.declared.call.Step.{Step}
 use Rattle.zq_machine.specs.Messages.{TextMessage, text_final, text_reply, text_request}
 use Rattle.zq_machine.specs.State.{State}
 use Rattle.zq_machine.specs.TextCalls.{TextCall}
 use Rattle.zq_machine.specs.Writing.{finish, sent_final, unsent, unsent_at, write}
 use Rattle.zq_machine.proofs.Asks.{is_asking}
-use Rattle.zq_machine.proofs.GoingOut.{any_out, none_unsent}
-use Rattle.zq_machine.proofs.Granted.{by_decided, none_asked, told_by}
+use Rattle.zq_machine.proofs.GoingOut.{any_out, none_unsent, plain_out, written_plain}
+use Rattle.zq_machine.proofs.Granted.{by_decided, granted_is_accepted, none_asked, plainly, told_by}
 use Rattle.zq_machine.proofs.Lists.{all_append}
 use Rattle.zq_machine.proofs.Telling.{told_all}
-use Rattle.zq_machine.proofs.Writing.{gated, gone_out, let_go, plain_answer, plain_settle, with_finals}
+use Rattle.zq_machine.proofs.Writing.{answered_by, answers_granted, gated, gone_out, let_go, plain_answer, plain_settle, settled_by, settles_granted, with_finals}
 
 -- ---- a call that is no request
 module _ (s : State) (t : TextCall) (quiet : is_asking t ≡ false) where
@@ -98,3 +99,33 @@ module _ (s : State) (t : TextCall) (free : AreUngated (follow s t).gates (handi
   ungated_settle =
       (λ j. record (plain_settle s t) { core = (finish (follow s t).core (unsent (all_goes j).handed)).core; gates = (all_goes j).gates })
       ∙ (λ j. record (plain_settle s t) { core = (finish (follow s t).core (unsent_whole (handing s t) (handing_whole s t) j)).core })
+
+-- ---- a call that nothing refuses and that tells nothing: its messages go through the gates, each by itself
+module _ (s : State) (t : TextCall) (none : told_of s.core t ≡ []) (fits : refusal_of s.core t ≡ None) where
+  abbrev messages_out : Step
+  messages_out = plainly s.names (granted s.core t) (asked_text t) (regated s t)
+
+  abbrev as_step : Out → Step
+  as_step o = record { outcome = (granted s.core t).outcome; handed = o.handed }
+
+  abbrev as_state : Out → State
+  as_state o = record (accepted_state s t) { gates = o.gates }
+
+  goes_plainly : leave_all (asked_text t) (write s.names (granted s.core t).messages) (regated s t) ≡ record { handed = messages_out.handed; gates = regated s t }
+  goes_plainly = plain_out (asked_text t) (regated s t) (write s.names (granted s.core t).messages) (written_plain s.names (granted s.core t).messages)
+
+  before : ◌≡◌ {A = Step} (record { outcome = (granted s.core t).outcome; handed = write s.names (granted s.core t).messages }) (plain_answer s t)
+  before = answers_granted s t (write s.names (granted s.core t).messages) none fits refl
+
+  left : plain_settle s t ≡ accepted_state s t
+  left = settles_granted s t none fits (granted_is_accepted s.core t fits)
+
+  pub plain_goes : answer s t ≡ with_finals (unsent messages_out.handed) messages_out (accepted_state s t)
+  plain_goes =
+      (λ j. answered_by (asked_text t) (sym before j) (left j))
+      ∙ ap (λ (o : Out). with_finals (unsent o.handed) (as_step o) (as_state o)) goes_plainly
+
+  pub plain_leaves : settle s t ≡ let_go (unsent messages_out.handed) (accepted_state s t)
+  plain_leaves =
+      (λ j. settled_by (asked_text t) (sym before j) (left j))
+      ∙ ap (λ (o : Out). let_go (unsent o.handed) (as_state o)) goes_plainly
