@@ -158,8 +158,7 @@ impl Tables {
         )?;
         let plan = match plan_end(self.alloc, &mut self.ears, dues.as_slice()) {
             Ok(plan) => plan,
-            Err(TellRefusal::NoFreeId) => unreachable!(),
-            Err(TellRefusal::OutOfMemory) => return Err(OutOfMemory),
+            Err(error) => return Err(error),
         };
         self.interests.end(face, id);
         self.names.release_interest(face, id);

@@ -1,13 +1,16 @@
 -- What is due to an open face, by the hats of the regions as they are or as a change of one of them will make them.
 use Rattle.std.specs.Prelude.{◌≡◌, ℕ, Bool, true, false, List, [], ◌∷◌, filter, fold, map, Option, Some, None, if◌then◌else◌}
-use Rattle.std.specs.Option.{option_map, option_map_or}
+use Rattle.std.specs.Option.{is_some, option_map, option_map_or}
 use Rattle.std.specs.List.{AllByRecursion}
+use Rattle.std.specs.List.Sorted.{IsStrictlySortedBy}
 use Rattle.zq_message.specs.declared.message.QueryableInfoType.{QueryableInfoType}
 use Rattle.zq_key.specs.Key.{is_key}
+use Rattle.zq_index.specs.Texts.{has_text, text_cmp}
 use Rattle.zq_hat.specs.Changes.{changed_by}
 use Rattle.zq_hat.specs.Kept.{region_info}
 use Rattle.zq_hat.specs.Regions.{is_north, strategy_at}
 use Rattle.zq_hat.specs.State.{HatState}
+use Rattle.zq_told.specs.Ears.{Ears, told_at}
 use Rattle.zq_told.specs.Telling.{KeyDue}
 use Rattle.zq_machine.specs.declared.face.OpenFace.{OpenFace}
 use Rattle.zq_machine.specs.Due.{heard_as, listens_by, with_region_keys}
@@ -63,6 +66,15 @@ all_keys hats = fold with_region_keys [] hats
 -- each is a key
 abbrev pub AreKeys : List (List ℕ) → Type 0
 AreKeys keys = AllByRecursion (λ key. is_key key ≡ true) keys
+
+-- the keys stand in order, and on each of them some region has information
+pub record AreInformed (keys : List (List ℕ)) (hats : List (ℕ × HatState)) : Type 0 where
+  pub rise : IsStrictlySortedBy text_cmp keys
+  pub found : (key : List ℕ) → has_text key keys ≡ true → has_text key (all_keys hats) ≡ true
+
+-- the face was told of the key
+abbrev pub was_told : ℕ → Ears → List ℕ → Bool
+was_told face ears key = is_some (told_at face key ears)
 
 -- the keys for which a face asks
 abbrev pub asks_in : Interests → ℕ → List ℕ → Bool

@@ -6,10 +6,10 @@ ghost use Rattle.zq_told.specs.Ears.{told_keys};
 ghost use Rattle.zq_told.specs.Rooms.{ears_of};
 ghost use Rattle.zq_machine.specs.Neighbours.{asked_at, ended_at, with_dues};
 ghost use Rattle.zq_machine.specs.State.{Core, at};
-ghost use Rattle.zq_dues.specs.Dues.{AreKeys, all_dues_as, asks_in};
+ghost use Rattle.zq_dues.specs.Dues.{AreInformed, AreKeys, all_dues_as, asks_in, was_told};
 
 use crate::dues::{dues_on_each, put_due};
-use crate::keys::{meets, met_keys};
+use crate::keys::met_keys;
 use crate::over::list_face;
 use crate::types::DuesList;
 use std::alloc::Global;
@@ -51,25 +51,31 @@ pub fn dues_asked(
     one_face(alloc, face, dues)
 }
 
-// Those of the keys that meet what was asked for, with what is due to the face there by its other
-// interests.
+// Whether the face was told of the key.
+fn was_told(ears: &Ears, face: FaceId, key: &str) -> bool
+    ensures { result ≡ was_told face.0 (ears_of ears.now) key.now }
+{
+    ears.told_of(face, key).is_some()
+}
+
+// Those of the keys that the face was told, with what is due to it there by its other interests.
 fn dues_besides(
     alloc: Global,
     hats: &RegionMap<Hat>,
     interests: &Interests,
+    ears: &Ears,
     face: FaceId,
     id: u32,
     opened: OpenFace,
-    asked: Option<&Key>,
     keys: &[Text],
 ) -> Result<KeyDues, OutOfMemory>
     requires { AreKeys keys.now }
-    ensures { IfOk result (λ ds. ds ≡ all_dues_as (asks_in (without_interest face.0 id interests.now) face.0) face.0 opened hats.now (filter (meets (option_copied asked.entry)) keys.now)) }
+    ensures { IfOk result (λ ds. ds ≡ all_dues_as (asks_in (without_interest face.0 id interests.now) face.0) face.0 opened hats.now (filter (was_told face.0 (ears_of ears.now)) keys.now)) }
 {
     let mut dues = Items::new(alloc);
     for key in keys {
         let text = key.as_str();
-        if meets(asked, text) {
+        if was_told(ears, face, text) {
             let asks = interests.asks_besides(face, id, text);
             put_due(&mut dues, alloc, hats, face, opened, asks, text)?;
         }
@@ -78,8 +84,9 @@ fn dues_besides(
 }
 
 /// What the end of an interest of an open face looks at: the keys that the face was told and that meet
-/// what was asked for, with what is due to it there by its other interests. Refused only where memory is
-/// lacking.
+/// what was asked for, with what is due to it there by its other interests. They are found among the
+/// regions' keys by what was asked for; of each that the face was told some region has information.
+/// Refused only where memory is lacking.
 pub fn dues_ended(
     alloc: Global,
     hats: &RegionMap<Hat>,
@@ -90,19 +97,19 @@ pub fn dues_ended(
     opened: OpenFace,
     asked: Option<&Key>,
 ) -> Result<DuesList, OutOfMemory>
-    requires { AreKeys (told_keys face.0 (ears_of ears.now)) }
+    requires { AreInformed (told_keys face.0 (ears_of ears.now)) hats.now }
     ensures { (c : Core) (e : InterestEntry) → at face.0 c.faces ≡ Some opened → hats.now ≡ c.hats → e.key ≡ option_copied asked.entry → IfOk result (λ ds. ds ≡ ended_at c (without_interest face.0 id interests.now) (ears_of ears.now) face.0 e) }
 {
-    let told = ears.told_keys(alloc, face)?;
+    let keys = met_keys(alloc, hats, asked)?;
     let dues = dues_besides(
         alloc,
         hats,
         interests,
+        ears,
         face,
         id,
         opened,
-        asked,
-        told.as_slice(),
+        keys.as_slice(),
     )?;
     one_face(alloc, face, dues)
 }

@@ -21,8 +21,8 @@ fn put_texts(texts: &mut BTreeSet<String>, alloc: Global, keys: &[Text]) -> Resu
     Ok(())
 }
 
-// The texts, in order.
-fn list_of(alloc: Global, texts: &BTreeSet<String>) -> Result<TextList, OutOfMemory>
+/// The texts, in order.
+pub fn list_of(alloc: Global, texts: &BTreeSet<String>) -> Result<TextList, OutOfMemory>
     ensures { IfOk result (λ list. list ≡ map string_bytes texts.now.keys) }
 {
     let mut list = Items::new(alloc);

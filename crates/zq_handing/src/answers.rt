@@ -141,18 +141,18 @@ pub fn take_back_answered(
 }
 
 /// What the end of an interest leaves of the face that asked: what is due to it no more is forgotten.
-/// It is told nothing. There is room for the plan, so that it can be put. `NoFreeId` where an id would be
-/// above those of 32 bits. Where it is refused, all is as it was, and the rooms are given back.
-pub fn plan_end(alloc: Global, ears: &mut Ears, dues: &[FaceDues]) -> Result<Plan, TellRefusal>
+/// It is told nothing, and no id lacks. There is room for the plan, so that it can be put. Refused only
+/// where memory is lacking; then all is as it was, and the rooms are given back.
+pub fn plan_end(alloc: Global, ears: &mut Ears, dues: &[FaceDues]) -> Result<Plan, OutOfMemory>
+    requires { lacks_ids Ending (ears_of ears.old) dues.now ≡ false }
     ensures ears { ears_of ears.new ≡ ears_of ears.old }
     ensures plan { IfOk result (λ p. p ≡ (tell_faces Ending (ears_of ears.old) dues.now).plan) }
     ensures ready { IfOk result (λ p. IsReady p ears.new) }
     ensures rooms { AreBare (tell_faces Ending (ears_of ears.old) dues.now).plan ears.old → OnErr result (AreBare (tell_faces Ending (ears_of ears.old) dues.now).plan ears.new) }
-    ensures free { OnOk result (lacks_ids Ending (ears_of ears.old) dues.now ≡ false) }
-    ensures no_free { IsErrOf result TellRefusal.NoFreeId → lacks_ids Ending (ears_of ears.old) dues.now ≡ true }
 {
     match plan_room(alloc, ears, Way::Ending, dues, Items::new(alloc)) {
         Ok(planned) => Ok(planned.plan),
-        Err(refusal) => Err(refusal),
+        Err(TellRefusal::OutOfMemory) => Err(OutOfMemory),
+        Err(TellRefusal::NoFreeId) => unreachable!(),
     }
 }

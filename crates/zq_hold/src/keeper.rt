@@ -1,5 +1,5 @@
 //! The keeper of all slots, and what it does with slots that it allotted.
-ghost use Rattle.std.specs.Prelude.{◌≡◌, ◌<◌, ◌+◌, ◌∷◌, [], IfNone, IfSome, slice_set};
+ghost use Rattle.std.specs.Prelude.{◌≡◌, ◌<◌, ◌+◌, ◌∷◌, [], true, false, IfNone, IfSome, slice_set};
 ghost use Rattle.zq_hold.specs.declared.slot.Mark.TheVariants.{Gone, Kept, Spare, Vacant};
 ghost use Rattle.zq_hold.specs.Slots.{times, without};
 ghost use Rattle.zq_hold.specs.Marks.{AllAllotted, HasMark, IsNext};
@@ -47,6 +47,15 @@ impl Keeper {
         let Keeper { table, seat, marks } = self;
         open_slot(&**table, seat, marks.as_mut_slice(), at);
         Some(Slot(at as u16))
+    }
+
+    /// Whether the slot is allotted and the keeper holds it.
+    pub fn keeps(&self, slot: Slot) -> bool
+        ensures kept { result ≡ true → HasMark Kept self.now.marks slot.0 }
+        ensures other { result ≡ false → HasMark Kept self.now.marks slot.0 → ⊥ }
+    {
+        let at = slot.0 as usize;
+        at < self.marks.len() && self.marks[at] == Mark::Kept
     }
 
     /// The slot is spare, and no longer allotted. No step is made.

@@ -1,10 +1,10 @@
-use Rattle.std.proofs.Common.{◌≡◌, ◌∙◌, refl, sym, ap, subst, ℕ, Bool, false, true, true≢false, List, [], map, Option, Some, None, Result, Err}
+use Rattle.std.proofs.Common.{◌≡◌, ◌∙◌, refl, sym, ap, subst, ℕ, Bool, false, true, List, [], map, Option, Some, None, Result}
 use Rattle.std.specs.Prelude.{option_copied}
 use Rattle.std.specs.Option.{is_some, option_map}
 use Rattle.zq_tables.specs.Naming.{NamingState, change_naming, without_interest as letting_interest}
 use Rattle.zq_interests.specs.declared.types.InterestEntry.{InterestEntry}
 use Rattle.zq_interests.specs.Interests.{Interests, interest_at, without_interest}
-use Rattle.zq_told.specs.Ears.{Ears, told_keys}
+use Rattle.zq_told.specs.Ears.{told_keys}
 use Rattle.zq_told.specs.Rooms.{ears_of}
 use Rattle.zq_told.specs.Telling.{lacks_ids, put_plan}
 use Rattle.zq_machine.specs.declared.face.OpenFace.{OpenFace}
@@ -12,21 +12,20 @@ use Rattle.zq_machine.specs.Deciding.{accepted}
 use Rattle.zq_machine.specs.Neighbours.{ended_at}
 use Rattle.zq_machine.specs.State.{State, at, is_open}
 use Rattle.zq_machine.specs.TextCalls.{unhearing}
-use Rattle.std.specs.List.{AllByRecursion}
-use Rattle.zq_key.specs.Key.{is_key}
+use Rattle.zq_dues.specs.Dues.{AreInformed}
 use Rattle.zq_told.specs.declared.types.Way.TheVariants.{Ending}
 use Rattle.zq_calls.proofs.Asking.{ending_answered, ending_enough, ending_left, ending_settled, looked_last}
-use Rattle.zq_calls.proofs.Seated.{reached_told_keys}
+use Rattle.zq_calls.proofs.Seated.{reached_informed}
 use Rattle.zq_calls.proofs.tables.Tables.unregister_interest.Goals as goal
 
 pub dues_ended-requires : goal.dues_ended-requires
 dues_ended-requires c =
     let s : State = c.args.self.now in
     let opens : is_open c.args.face.0 s.core ≡ true = ap is_some (sym c.in-Some.ensures.found) in
-    subst (λ (e : Ears). AllByRecursion (λ key. is_key key ≡ true) (told_keys c.args.face.0 e)) (sym (ap (λ (x : State). x.core.ears) c.self.view_is)) (reached_told_keys s c.requires c.args.face.0 opens)
+    subst (λ (x : State). AreInformed (told_keys c.args.face.0 x.core.ears) x.core.hats) (sym c.self.view_is) (reached_informed s c.requires c.args.face.0 opens)
 
-pub unreachable-requires : goal.unreachable-requires
-unreachable-requires c =
+pub plan_end-requires : goal.plan_end-requires
+plan_end-requires c =
     let s : State = c.args.self.now in
     let i = c.self.inside in
     let v = c.self.view_is in
@@ -44,8 +43,7 @@ unreachable-requires c =
     c.as_slice.ensures
     ∙ c.in_ok-dues.ensures (accepted s.core e) asked home (ap (λ (x : State). x.core.hats) v) (sym c.as_ref.ensures.value)
     ∙ (λ j. ended_at (accepted s.core e) (without_interest face.0 id (held j)) (heard j) face.0 asked) in
-    let lacks = c.in-Err-NoFreeId.ensures.no_free (ap (λ e. Err e) c.in-Err-NoFreeId.field-0-is) in
-    true≢false (sym lacks ∙ (λ j. lacks_ids Ending (heard j) (are j)) ∙ ending_enough s c.requires face id opens asked there)
+    (λ j. lacks_ids Ending (heard j) (are j)) ∙ ending_enough s c.requires face id opens asked there
 
 pub returns : goal.returns
 returns c =
