@@ -24,6 +24,8 @@ ghost use Rattle.zq_trees.specs.Tellings.{same_infos};
 ghost use Rattle.zq_hat.specs.Trees.{gives_own, network_told, own_told, region_keys, to_children};
 ghost use Rattle.zq_hat.specs.Regions.{in_routers, strategy_at};
 
+mod shown;
+
 use crate::face::HatFace;
 use crate::faces::{
     add_numbers, changed, copy_faces, declare, forget, set_mark, set_nodes, take_seat, withdraw,
@@ -787,26 +789,5 @@ impl Hat {
         let keys = self.keys_of(face)?;
         self.forget_face(face);
         Ok(keys)
-    }
-
-    /// The gateway's own id.
-    pub fn own(&self) -> Zid
-        ensures { result ≡ self.now.own }
-    {
-        self.own
-    }
-
-    /// The faces with what they declared, by number.
-    pub fn faces(&self) -> &BTreeMap<u32, HatFace>
-        ensures { result.now.entries ≡ self.now.faces }
-    {
-        &self.faces
-    }
-
-    /// What routers announced.
-    pub fn entries(&self) -> &Entries
-        ensures { result.now ≡ self.now.entries }
-    {
-        &self.entries
     }
 }

@@ -1,3 +1,3 @@
-pub mod Kept
+pub mod Keeping
 pub mod Within
 pub mod Following

@@ -5,7 +5,7 @@ use Rattle.std.specs.Option.{option_map}
 use Rattle.zq_key.specs.Key.{includes, is_key, is_plain}
 use Rattle.zq_message.specs.declared.message.Message.{Message}
 use Rattle.zq_message.specs.declared.message.Message.TheVariants as message
-use Rattle.zq_namespace.specs.Leaves.{ExitState, new_exit, leaves, kept, taken_back}
+use Rattle.zq_namespace.specs.Leaves.{ExitState, new_exit, leaves, kept}
 
 -- whether a key is denied: a key of the list includes it
 abbrev pub is_denied : List (List ℕ) → List ℕ → Bool
@@ -50,10 +50,6 @@ after_mux_out None s t = t
 -- the exit after a message
 abbrev pub after_mux : MuxState → List ℕ → Message → MuxState
 after_mux s key m = after_mux_out (mux_leaves s key m) s (mux_kept s m)
-
--- without what is kept of a message
-abbrev pub mux_taken_back : MuxState → Message → MuxState
-mux_taken_back s m = record s { space = option_map (λ e. taken_back e m) s.space }
 
 -- a request comes with its whole text, which is a key
 abbrev pub HasKey : List ℕ → Message → Type 0

@@ -115,7 +115,7 @@ after_out None s t = t
 abbrev pub after_leaving : ExitState → Message → ExitState
 after_leaving s m = after_out (leaves s m) s (kept s m)
 
--- ---- what is kept, taken back
+-- ---- what is given
 
 -- whether the number or the id that a declaration gives is kept
 abbrev pub has_body : ExitState → DeclareBody → Bool
@@ -150,20 +150,3 @@ gives (message.Declare d) = body_gives d.body
 gives (message.Request r) = false
 gives (message.Response r) = false
 gives (message.ResponseFinal f) = false
-
--- without what is kept of a declaration
-abbrev pub body_taken_back : ExitState → DeclareBody → ExitState
-body_taken_back s (declare.DeclareKeyExpr id w) = record s { heads = without_head id s.heads }
-body_taken_back s (declare.UndeclareKeyExpr id) = s
-body_taken_back s (declare.DeclareQueryable id w info) = record s { queryables = without_id id s.queryables }
-body_taken_back s (declare.UndeclareQueryable id w) = s
-body_taken_back s declare.DeclareFinal = s
-
--- without what is kept of a message
-abbrev pub taken_back : ExitState → Message → ExitState
-taken_back s (message.Interest i) = record s { interests = without_id i.id s.interests }
-taken_back s (message.InterestFinal id) = s
-taken_back s (message.Declare d) = body_taken_back s d.body
-taken_back s (message.Request r) = s
-taken_back s (message.Response r) = s
-taken_back s (message.ResponseFinal f) = s

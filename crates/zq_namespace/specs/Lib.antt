@@ -4,3 +4,4 @@ pub mod Exit
 pub mod Leaves
 pub mod Denied
 pub mod Laws
+pub mod Undone

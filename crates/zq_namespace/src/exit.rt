@@ -1,15 +1,17 @@
 //! The exit of a namespace.
-ghost use Rattle.std.specs.Prelude.{◌≡◌, true, false, IfOk, IsOk, OnOk, OnErr, Some, None, if◌then◌else◌};
+ghost use Rattle.std.specs.Prelude.{◌≡◌, true, false, IfOk, OnOk, OnErr, Some, None, if◌then◌else◌};
 ghost use Rattle.zq_key.specs.Key.{is_plain as plain_of};
 ghost use Rattle.zq_message.specs.declared.message.Message.TheVariants as message_of;
 ghost use Rattle.zq_message.specs.declared.message.DeclareBody.TheVariants as body_of;
 ghost use Rattle.zq_namespace.specs.Exit.{option_out as option_out_of, wire_out as wire_out_of};
 ghost use Rattle.zq_namespace.specs.Laws.{StaysWithin};
-ghost use Rattle.zq_namespace.specs.Leaves.{after_leaving, body_gives, body_kept, body_leaves, body_taken_back, gives, has as has_of, has_body, kept, leaves, new_exit, taken_back};
+ghost use Rattle.zq_namespace.specs.Leaves.{after_leaving, body_gives, body_kept, body_leaves, kept, leaves, new_exit};
 ghost use Rattle.zq_namespace.specs.Out.{left};
+ghost use Rattle.zq_namespace.specs.Undone.{body_given, body_undone, ended, given, undone};
 
 use crate::entry::is_bare_error;
 use crate::expr::{HeadMap, option_out, wire_out};
+use crate::kept::{Kept, put_head, put_id, undo_head, undo_id};
 use crate::out::Out;
 use std::alloc::Global;
 use std::collections::{BTreeMap, BTreeSet};
@@ -205,84 +207,102 @@ impl ENamespace {
         self.message_out(message)
     }
 
-    fn keep_body(&mut self, body: &DeclareBody) -> Result<(), OutOfMemory>
-        ensures ok { OnOk result (self.new ≡ body_kept self.old body.now) }
-        ensures sure { body_gives body.now ≡ false → IsOk result }
+    fn keep_body(&mut self, body: &DeclareBody) -> Result<Kept, OutOfMemory>
+        ensures ok { OnOk result (self.new ≡ body_given self.old body.now) }
+        ensures back { IfOk result (λ k. body_undone k body.now self.new ≡ self.old) }
         ensures err { OnErr result (self.new ≡ self.old) }
     {
         match body {
             DeclareBody::DeclareKeyExpr { id, wire } => {
-                let _ = self.heads.insert(*id, wire.suffix.copy(self.alloc)?)?;
+                put_head(&mut self.heads, *id, wire.suffix.copy(self.alloc)?)
             }
+            DeclareBody::DeclareQueryable { id, .. } => put_id(&mut self.queryables, *id),
+            DeclareBody::UndeclareKeyExpr { .. }
+            | DeclareBody::UndeclareQueryable { .. }
+            | DeclareBody::DeclareFinal => Ok(Kept::Already),
+        }
+    }
+
+    /// Keeps what is to be known of a message that did not leave and that gives a number or an id:
+    /// the text of a key's number, the id of a queryable or an interest. Of other messages it keeps
+    /// nothing. By what it answers `undo` leaves what was.
+    pub fn keep_given(&mut self, message: &Message) -> Result<Kept, OutOfMemory>
+        ensures ok { OnOk result (self.new ≡ given self.old message.now) }
+        ensures back { IfOk result (λ k. undone k message.now self.new ≡ self.old) }
+        ensures err { OnErr result (self.new ≡ self.old) }
+    {
+        match message {
+            Message::Interest(interest) => put_id(&mut self.interests, interest.id),
+            Message::Declare(declare) => self.keep_body(&declare.body),
+            Message::InterestFinal(_)
+            | Message::Request(_)
+            | Message::Response(_)
+            | Message::ResponseFinal(_) => Ok(Kept::Already),
+        }
+    }
+
+    fn end_body(&mut self, body: &DeclareBody)
+        ensures { self.new ≡ if body_gives body.now then self.old else body_kept self.old body.now }
+    {
+        match body {
             DeclareBody::UndeclareKeyExpr { id } => {
                 let _ = self.heads.remove(id);
-            }
-            DeclareBody::DeclareQueryable { id, .. } => {
-                let _ = self.queryables.insert(*id)?;
             }
             DeclareBody::UndeclareQueryable { id, wire: None } => {
                 let _ = self.queryables.remove(id);
             }
-            DeclareBody::UndeclareQueryable { wire: Some(_), .. } | DeclareBody::DeclareFinal => {}
+            DeclareBody::DeclareKeyExpr { .. }
+            | DeclareBody::DeclareQueryable { .. }
+            | DeclareBody::UndeclareQueryable { wire: Some(_), .. }
+            | DeclareBody::DeclareFinal => {}
         }
-        Ok(())
     }
 
-    fn keep_message(&mut self, message: &Message) -> Result<(), OutOfMemory>
-        ensures ok { OnOk result (self.new ≡ kept self.old message.now) }
-        ensures sure { gives message.now ≡ false → IsOk result }
-        ensures err { OnErr result (self.new ≡ self.old) }
+    /// Drops the number or the id that a message ends, which did not leave. Other messages change
+    /// nothing. It takes no memory.
+    pub fn end(&mut self, message: &Message)
+        ensures { self.new ≡ ended self.old message.now }
     {
         match message {
-            Message::Interest(interest) => {
-                let _ = self.interests.insert(interest.id)?;
-            }
             Message::InterestFinal(id) => {
                 let _ = self.interests.remove(id);
             }
-            Message::Declare(declare) => self.keep_body(&declare.body)?,
-            Message::Request(_) | Message::Response(_) | Message::ResponseFinal(_) => {}
+            Message::Declare(declare) => self.end_body(&declare.body),
+            Message::Interest(_)
+            | Message::Request(_)
+            | Message::Response(_)
+            | Message::ResponseFinal(_) => {}
         }
+    }
+
+    fn keep(&mut self, message: &Message) -> Result<(), OutOfMemory>
+        ensures ok { OnOk result (self.new ≡ kept self.old message.now) }
+        ensures err { OnErr result (self.new ≡ self.old) }
+    {
+        let _ = self.keep_given(message)?;
+        self.end(message);
         Ok(())
     }
 
-    /// Keeps what is to be known of a message that did not leave: the text of a key's number, the
-    /// id of a queryable or an interest; an end drops it. Only what gives a number or an id can
-    /// lack memory, and where it was not kept before `take_back` leaves what was.
-    pub fn keep(&mut self, message: &Message) -> Result<(), OutOfMemory>
-        ensures ok { OnOk result (self.new ≡ kept self.old message.now) }
-        ensures sure { gives message.now ≡ false → IsOk result }
-        ensures back { gives message.now ≡ true → has_of self.old message.now ≡ false → OnOk result (taken_back self.new message.now ≡ self.old) }
-        ensures err { OnErr result (self.new ≡ self.old) }
-    {
-        self.keep_message(message)
-    }
-
-    fn take_back_body(&mut self, body: &DeclareBody)
-        ensures { self.new ≡ body_taken_back self.old body.now }
+    fn undo_body(&mut self, body: &DeclareBody, kept: Kept)
+        ensures { self.new ≡ body_undone kept body.now self.old }
     {
         match body {
-            DeclareBody::DeclareKeyExpr { id, .. } => {
-                let _ = self.heads.remove(id);
-            }
-            DeclareBody::DeclareQueryable { id, .. } => {
-                let _ = self.queryables.remove(id);
-            }
+            DeclareBody::DeclareKeyExpr { id, .. } => undo_head(&mut self.heads, *id, kept),
+            DeclareBody::DeclareQueryable { id, .. } => undo_id(&mut self.queryables, *id, kept),
             DeclareBody::UndeclareKeyExpr { .. }
             | DeclareBody::UndeclareQueryable { .. }
             | DeclareBody::DeclareFinal => {}
         }
     }
 
-    /// Drops what `keep` kept of a message that gives a number or an id. It takes no memory.
-    pub fn take_back(&mut self, message: &Message)
-        ensures { self.new ≡ taken_back self.old message.now }
+    /// Undoes what `keep_given` kept of a message, by what it answered. It takes no memory.
+    pub fn undo(&mut self, message: &Message, kept: Kept)
+        ensures { self.new ≡ undone kept message.now self.old }
     {
         match message {
-            Message::Interest(interest) => {
-                let _ = self.interests.remove(&interest.id);
-            }
-            Message::Declare(declare) => self.take_back_body(&declare.body),
+            Message::Interest(interest) => undo_id(&mut self.interests, interest.id, kept),
+            Message::Declare(declare) => self.undo_body(&declare.body, kept),
             Message::InterestFinal(_)
             | Message::Request(_)
             | Message::Response(_)
@@ -299,7 +319,7 @@ impl ENamespace {
             Out::Same => Ok(Some(message.copy(self.alloc)?)),
             Out::Other(other) => Ok(Some(other)),
             Out::Nothing => {
-                self.keep_message(message)?;
+                self.keep(message)?;
                 Ok(None)
             }
         }

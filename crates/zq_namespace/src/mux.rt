@@ -1,13 +1,14 @@
 //! A face's exit: its deny list, and then its namespace.
-ghost use Rattle.std.specs.Prelude.{◌≡◌, true, false, if◌then◌else◌, IfNone, IfOk, IsOk, OnOk, OnErr, List, ℕ, Some, None};
+ghost use Rattle.std.specs.Prelude.{◌≡◌, true, false, if◌then◌else◌, IfNone, IfOk, OnOk, OnErr, List, ℕ, Some, None};
 ghost use Rattle.zq_message.specs.declared.message.Message.{Message as AnyMessage};
-ghost use Rattle.zq_namespace.specs.Denied.{after_mux, denies as denies_of, is_open, mux_kept, mux_leaves, mux_taken_back, new_mux, space_leaves, HasKey, IsPlainSpace};
+ghost use Rattle.zq_namespace.specs.Denied.{after_mux, denies as denies_of, is_open, mux_kept, mux_leaves, new_mux, space_leaves, HasKey, IsPlainSpace};
 ghost use Rattle.zq_namespace.specs.Laws.{StaysIn};
-ghost use Rattle.zq_namespace.specs.Leaves.{gives};
 ghost use Rattle.zq_namespace.specs.Out.{left};
+ghost use Rattle.zq_namespace.specs.Undone.{mux_ended, mux_given, mux_undone};
 
 use crate::deny::{KeyList, is_denied};
 use crate::exit::ENamespace;
+use crate::kept::Kept;
 use crate::out::Out;
 use std::alloc::Global;
 use std::marker::Model;
@@ -104,25 +105,44 @@ impl Mux {
         self.message_out(key, message)
     }
 
-    /// Keeps what is to be known of a message that did not leave, as `ENamespace::keep` does.
-    pub fn keep(&mut self, message: &Message) -> Result<(), OutOfMemory>
-        ensures ok { OnOk result (self.new ≡ mux_kept self.old message.now) }
-        ensures sure { gives message.now ≡ false → IsOk result }
+    /// Keeps what is to be known of a message that did not leave and that gives a number or an id,
+    /// as `ENamespace::keep_given` does.
+    pub fn keep_given(&mut self, message: &Message) -> Result<Kept, OutOfMemory>
+        ensures ok { OnOk result (self.new ≡ mux_given self.old message.now) }
+        ensures back { IfOk result (λ k. mux_undone k message.now self.new ≡ self.old) }
         ensures err { OnErr result (self.new ≡ self.old) }
     {
-        match &mut self.space {
-            Some(space) => space.keep(message),
-            None => Ok(()),
+        let Some(space) = &mut self.space else {
+            return Ok(Kept::Already);
+        };
+        space.keep_given(message)
+    }
+
+    /// Undoes what `keep_given` kept of a message, by what it answered. It takes no memory.
+    pub fn undo(&mut self, message: &Message, kept: Kept)
+        ensures { self.new ≡ mux_undone kept message.now self.old }
+    {
+        if let Some(space) = &mut self.space {
+            space.undo(message, kept);
         }
     }
 
-    /// Drops what `keep` kept of a message that gives a number or an id. It takes no memory.
-    pub fn take_back(&mut self, message: &Message)
-        ensures { self.new ≡ mux_taken_back self.old message.now }
+    /// Drops the number or the id that a message ends, which did not leave. It takes no memory.
+    pub fn end(&mut self, message: &Message)
+        ensures { self.new ≡ mux_ended self.old message.now }
     {
         if let Some(space) = &mut self.space {
-            space.take_back(message);
+            space.end(message);
         }
+    }
+
+    fn keep(&mut self, message: &Message) -> Result<(), OutOfMemory>
+        ensures ok { OnOk result (self.new ≡ mux_kept self.old message.now) }
+        ensures err { OnErr result (self.new ≡ self.old) }
+    {
+        let _ = self.keep_given(message)?;
+        self.end(message);
+        Ok(())
     }
 
     fn pass(&mut self, key: &str, message: &Message) -> Result<Option<Message>, OutOfMemory>
