@@ -5,5 +5,6 @@ pub mod Entering
 pub mod Hearing
 pub mod Networked
 pub mod Openings
+pub mod Passing
 pub mod Reached
 pub mod Seated

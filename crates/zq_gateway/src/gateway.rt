@@ -1,8 +1,10 @@
 //! The gateway: each call is one event.
 #![tactic(auto, using(zq_calls::proofs::Reached::reached_given))]
 
-ghost use Rattle.std.specs.Prelude.{List, IfErr, ◌≡◌, [], true, IfOk};
+ghost use Rattle.std.specs.Prelude.{ℕ, List, length, IfErr, IfNone, IfSome, ◌≡◌, ◌<◌, ◌≤◌, [], true, false, IfOk};
 ghost use Rattle.std.specs.List.{cons_option};
+ghost use Rattle.zq_query.specs.Records.{flies, pending_count};
+ghost use Rattle.zq_machine.specs.Asked.{replies_of};
 ghost use Rattle.zq_machine.specs.Configs.{north_of};
 ghost use Rattle.zq_machine.specs.declared.call.Call.TheVariants as call;
 ghost use Rattle.zq_machine.specs.Calls.{declared_call, is_built};
@@ -229,6 +231,30 @@ impl Gateway {
             self.tables.hats(),
             self.tables.interests(),
         )
+    }
+
+    /// How many entries of the request are pending; 0 where it is not open. It takes no memory.
+    pub fn pending_of(&self, number: u64) -> u64
+        ensures { result ≡ pending_count number self.now.core.queries.records }
+    {
+        self.tables.pending_of(number)
+    }
+
+    /// The least of the request's replies in flight, and None exactly where there is none. It takes no
+    /// memory.
+    pub fn first_in_flight(&self, number: u64) -> Option<u64>
+        ensures there { IfSome result (λ reply. flies number reply self.now.core.queries.records ≡ true) }
+        ensures least { IfSome result (λ reply. (earlier : ℕ) → earlier < reply → flies number earlier self.now.core.queries.records ≡ false) }
+        ensures none { IfNone result ((reply : ℕ) → flies number reply self.now.core.queries.records ≡ false) }
+    {
+        self.tables.first_in_flight(number)
+    }
+
+    /// At most how many replies the call would hand, and so put in flight.
+    pub fn most_replies(&self, call: &Call) -> Result<usize, OutOfMemory>
+        ensures { IfOk result (λ n. length (replies_of (step self.now call.now)) ≤ n) }
+    {
+        self.tables.most_replies(call)
     }
 
     /// What it was made with.

@@ -1,0 +1,4 @@
+pub mod Distinct
+pub mod Flights
+pub mod Journals
+pub mod Sends
