@@ -10,7 +10,7 @@ use zq_message::items::Items;
 pub type KeyList = Items<Key>;
 
 /// Whether a key of the list includes the key.
-pub(crate) fn is_denied(denied: &[Key], key: &str) -> bool
+pub fn is_denied(denied: &[Key], key: &str) -> bool
     requires { IsTrue (key_of key.now) }
     ensures { result ≡ is_denied_of denied.now key.now }
 {

@@ -1,5 +1,5 @@
 //! The entry of a namespace.
-ghost use Rattle.std.specs.Prelude.{◌≡◌, ◌<◌, length, true, IfOk, Some};
+ghost use Rattle.std.specs.Prelude.{◌≡◌, ◌<◌, length, true, IfOk, Some, unwrap_or};
 ghost use Rattle.zq_key.specs.Key.{is_key as key_of, is_plain as plain_of};
 ghost use Rattle.zq_key.specs.Space.{behind};
 ghost use Rattle.zq_namespace.specs.Entry.{entered, entered_body, entered_message, entered_option, entered_response, is_bare as is_bare_of, is_bare_error as is_bare_error_of};
@@ -27,6 +27,39 @@ pub(crate) fn is_bare_error(response: &Response) -> bool
         ReplyBody::Reply(_) => false,
         ReplyBody::Err(_) => is_bare(&response.wire),
     }
+}
+
+/// An expression behind a namespace; None where it has a number, and is read as it is.
+pub fn wire_behind(
+    alloc: Global,
+    ns: &str,
+    wire: &WireExpr,
+) -> Result<Option<WireExpr>, OutOfMemory>
+    ensures { IfOk result (λ o. unwrap_or o wire.now ≡ entered ns.now wire.now) }
+{
+    if wire.scope != 0 {
+        return Ok(None);
+    }
+    Ok(Some(WireExpr {
+        scope: 0,
+        mapping: wire.mapping,
+        suffix: prefix(alloc, ns, wire.suffix.as_str())?,
+    }))
+}
+
+/// The expression of a reply behind a namespace; None where it is read as it is, as an error's empty
+/// one is, which says no key.
+pub fn reply_behind(
+    alloc: Global,
+    ns: &str,
+    response: &Response,
+) -> Result<Option<WireExpr>, OutOfMemory>
+    ensures { IfOk result (λ o. unwrap_or o response.now.wire ≡ (entered_response ns.now response.now).wire) }
+{
+    if is_bare_error(response) {
+        return Ok(None);
+    }
+    wire_behind(alloc, ns, &response.wire)
 }
 
 /// Puts what a face sends behind its namespace (upstream's `Namespace`).
@@ -59,14 +92,10 @@ impl Namespace {
     fn put_behind(&self, wire: &WireExpr) -> Result<WireExpr, OutOfMemory>
         ensures { IfOk result (λ w. w ≡ entered self.now wire.now) }
     {
-        if wire.scope != 0 {
-            return wire.copy(self.alloc);
+        match wire_behind(self.alloc, self.ns.as_str(), wire)? {
+            Some(wire) => Ok(wire),
+            None => wire.copy(self.alloc),
         }
-        Ok(WireExpr {
-            scope: 0,
-            mapping: wire.mapping,
-            suffix: prefix(self.alloc, self.ns.as_str(), wire.suffix.as_str())?,
-        })
     }
 
     /// An expression as it is read inside: behind the namespace, where it has no number. A key that

@@ -63,6 +63,13 @@ impl ENamespace {
         }
     }
 
+    /// The namespace.
+    pub fn namespace(&self) -> &str
+        ensures { result.now ≡ self.now.ns }
+    {
+        self.ns.as_str()
+    }
+
     fn wire_out(&self, wire: &WireExpr) -> Result<Out<WireExpr>, OutOfMemory>
         ensures { IfOk result (λ o. left wire.now o ≡ wire_out_of self.now.ns self.now.heads wire.now) }
     {

@@ -1,8 +1,9 @@
 //! A face's exit: its deny list, and then its namespace.
-ghost use Rattle.std.specs.Prelude.{◌≡◌, true, false, if◌then◌else◌, IfNone, IfOk, OnOk, OnErr, List, ℕ, Some, None};
+ghost use Rattle.std.specs.Prelude.{◌≡◌, true, false, if◌then◌else◌, IfNone, IfOk, OnOk, OnErr, List, ℕ, Some, None, option_copied, option_map};
 ghost use Rattle.zq_message.specs.declared.message.Message.{Message as AnyMessage};
 ghost use Rattle.zq_namespace.specs.Denied.{after_mux, denies as denies_of, is_open, mux_kept, mux_leaves, new_mux, space_leaves, HasKey, IsPlainSpace};
 ghost use Rattle.zq_namespace.specs.Laws.{StaysIn};
+ghost use Rattle.zq_namespace.specs.Leaves.{ExitState};
 ghost use Rattle.zq_namespace.specs.Out.{left};
 ghost use Rattle.zq_namespace.specs.Undone.{mux_ended, mux_given, mux_undone};
 
@@ -82,6 +83,16 @@ impl Mux {
             return None;
         }
         Some(Mux::new(alloc, namespace, exit))
+    }
+
+    /// The namespace, if there is one.
+    pub fn namespace(&self) -> Option<&str>
+        ensures { option_copied result ≡ option_map (λ (e : ExitState). e.ns) self.now.space }
+    {
+        match &self.space {
+            Some(space) => Some(space.namespace()),
+            None => None,
+        }
     }
 
     fn message_out(&self, key: &str, message: &Message) -> Result<Out<Message>, OutOfMemory>
