@@ -5,6 +5,7 @@ use Rattle.std.specs.Ordering.{nat_cmp}
 use Rattle.std.specs.List.Sorted.{IsStrictlySortedBy}
 use Rattle.std.specs.Map.{keys_of}
 use Rattle.std.specs.BTreeMap.{is_at}
+use Rattle.std.proofs.lemmas.Bool.{false≢true}
 use Rattle.std.proofs.lemmas.Cmp.{nat_cmp_total}
 use Rattle.std.proofs.lemmas.Map.Lookups.{exact_unsigned}
 use Rattle.std.proofs.lemmas.Option.{option_and_then_some, same_Some}
@@ -30,14 +31,18 @@ use Rattle.zq_machine.specs.declared.config.Entry.{Entry}
 use Rattle.zq_machine.specs.declared.face.OpenFace.{OpenFace}
 use Rattle.zq_machine.specs.Agreeing.{Agrees, id_and_key, keys_in, stands_in}
 use Rattle.zq_machine.specs.Configs.{Settings, region_of, north_of}
-use Rattle.zq_machine.specs.Deciding.{accepted, after_replied, announced_by, causes, deadline, refusal_of, retracted_by, targets}
+use Rattle.zq_machine.specs.Deciding.{accepted, after_replied, announced_by, causes, deadline, refusal_of, regated, retracted_by, targets}
+use Rattle.zq_machine.specs.Gates.{gate_for, leave_all}
+use Rattle.zq_machine.specs.Writing.{is_unsent}
 use Rattle.zq_machine.specs.Machine.{accepted_state, state_after}
 use Rattle.zq_machine.specs.Selecting.{full_text}
 use Rattle.zq_machine.specs.State.{State, at, change_hat, clashes_in, first_hats, hat_at, hat_of, is_open, is_region, opening_state, with_hat}
 use Rattle.zq_machine.specs.TextCalls.{TextCall, opening, closing, naming, unnaming, declaring, withdrawing, asking, replying, ending, reporting, passing, listing, finalizing, announcing, retracting, networking, tabling, hearing, unhearing, read}
 use Rattle.zq_machine.proofs.Agreeing.{Tied, declared_tied, marked_tied, named_tied, noded_tied, renamed_tied, same_faces_tied, some_of, unnamed_tied, withdrawn_tied}
 use Rattle.zq_machine.proofs.Changing.{hat_found, itself, number_test, region_there}
-use Rattle.zq_machine.proofs.Finals.{IsSound, granted_sound, is_there, none_sorted, opening_sound}
+use Rattle.zq_machine.proofs.Finals.{IsSound, granted_sound, is_there, none_sorted, opening_sound, unsent_sound}
+use Rattle.zq_machine.proofs.Gates.{Gated, gated_gone, gated_joined, gated_same, left_keys}
+use Rattle.zq_machine.proofs.Spaces.{ArePlain, accepted_plain, left_plain}
 use Rattle.zq_machine.proofs.Hats.{AreHatsOf, accepted_hats, opening_hats}
 use Rattle.zq_machine.proofs.Foreign.{AreForeign, accepted_foreign, opening_foreign}
 use Rattle.zq_machine.proofs.Frame.{accepted_config}
@@ -47,8 +52,8 @@ use Rattle.zq_machine.proofs.NewEntries.{numbered_asked}
 use Rattle.zq_machine.proofs.Numbered.{InNumbers, numbered_if_put, numbered_landed, numbered_let_go, numbered_timing}
 use Rattle.zq_machine.proofs.Granted.{all_passed}
 use Rattle.zq_machine.proofs.Promises.{no_full}
-use Rattle.zq_machine.proofs.Targets.{AllAim, accepted_aims, targets_distinct}
-use Rattle.zq_machine.proofs.Always.{KeptByNumbers, always}
+use Rattle.zq_machine.proofs.Targets.{AllAim, accepted_aims, let_go_aims, targets_distinct}
+use Rattle.zq_machine.proofs.Always.{Stays, always}
 use Rattle.zq_key.proofs.Lookups.{found_after_insertion}
 
 abbrev IsTied : State → Type 0
@@ -136,6 +141,8 @@ pub record InOrder (config : Settings) (s : State) : Type 0 where
   pub aims : AllAim s.core.faces s.core.queries.records
   pub worded : AreWorded s.core.hats
   pub foreign : AreForeign s.core.config.zid s.core.hats
+  pub gated : Gated s.gates s.core.next_face
+  pub spaces : ArePlain s.gates
 
 replied_numbers : (q : QueryState) (o : Option ReplyTo) → InNumbers q → InNumbers (after_replied o q)
 replied_numbers q None i = i
@@ -165,6 +172,11 @@ granted_numbers s (tabling face ids) h i = i
 granted_numbers s (hearing face id keys sd) h i = i
 granted_numbers s (unhearing face id) h i = i
 
+granted_gated : (s : State) (x : TextCall) → Gated s.gates s.core.next_face → Gated (regated s x) (accepted s.core x).next_face
+granted_gated s (opening o) i = gated_joined s.gates s.core.next_face i (gate_for o)
+granted_gated s (closing face) i = gated_gone s.gates s.core.next_face i face.0
+granted_gated s x i = i
+
 pub accepted_in_order : (config : Settings) (s : State) (x : TextCall) → refusal_of s.core x ≡ None → InOrder config s → InOrder config (accepted_state s x)
 accepted_in_order config s x h i = record {
   sound = granted_sound s.core x h i.sound;
@@ -174,21 +186,49 @@ accepted_in_order config s x h i = record {
   aims = accepted_aims config s.core s.names i.tied i.hats i.sound.sorted i.aims x;
   worded = accepted_worded s.core x h i.worded;
   foreign = subst (λ (z : Settings). AreForeign z.zid (accepted s.core x).hats) (sym (accepted_config s.core x)) (accepted_foreign s.core i.worded i.foreign x h);
+  gated = granted_gated s x i.gated;
+  spaces = accepted_plain s x h i.gated i.spaces;
 }
 
 pub granted_in_order : (config : Settings) (s : State) (c : Call) → refusal_of s.core (read s c) ≡ None → InOrder config s → InOrder config (accepted_state s (read s c))
 granted_in_order config s c = accepted_in_order config s (read s c)
 
--- and it is kept by each number that a face is told
-pub numbered_in_order : (config : Settings) → KeptByNumbers (InOrder config)
-numbered_in_order config core face text id names i = record {
-  sound = i.sound;
-  tied = renamed_tied core.faces core.hats names i.tied face (with_told_number text (Some id)) (λ n. refl);
-  hats = i.hats;
-  numbered = i.numbered;
-  aims = i.aims;
-  worded = i.worded;
-  foreign = i.foreign;
+-- and it stays with each number that a face is told, with what gates keep of what is handed, and without requests that are let go
+pub stays_in_order : (config : Settings) → Stays (InOrder config)
+stays_in_order config = record {
+  numbers = λ core face text id names gates i. record {
+    sound = i.sound;
+    tied = renamed_tied core.faces core.hats names i.tied face (with_told_number text (Some id)) (λ n. refl);
+    hats = i.hats;
+    numbered = i.numbered;
+    aims = i.aims;
+    worded = i.worded;
+    foreign = i.foreign;
+    gated = i.gated;
+    spaces = i.spaces;
+  };
+  gates = λ text hs core names gates i. record {
+    sound = i.sound;
+    tied = i.tied;
+    hats = i.hats;
+    numbered = i.numbered;
+    aims = i.aims;
+    worded = i.worded;
+    foreign = i.foreign;
+    gated = gated_same gates (leave_all text hs gates).gates core.next_face (left_keys text hs gates) i.gated;
+    spaces = left_plain text hs gates i.spaces;
+  };
+  unsent = λ places core names gates i. record {
+    sound = unsent_sound places core i.sound;
+    tied = i.tied;
+    hats = i.hats;
+    numbered = numbered_let_go core.queries.records core.queries.requests core.queries.replies i.numbered (is_unsent places);
+    aims = let_go_aims core.faces core.queries.records i.aims (is_unsent places);
+    worded = i.worded;
+    foreign = i.foreign;
+    gated = i.gated;
+    spaces = i.spaces;
+  };
 }
 
 -- ---- before any call no hat has a face
@@ -237,11 +277,13 @@ opening_in_order config = record {
   aims = tt;
   worded = opening_worded config;
   foreign = opening_foreign config;
+  gated = record { sorted = none_sorted; below = λ f h. absurd (false≢true h) };
+  spaces = λ q. tt;
 }
 
 -- at every point of a run
 pub run_in_order : (config : Settings) (calls : List Call) → InOrder config (state_after (opening_state config) calls)
-run_in_order config calls = always (InOrder config) (granted_in_order config) (numbered_in_order config) calls (opening_state config) (opening_in_order config)
+run_in_order config calls = always (InOrder config) (granted_in_order config) (stays_in_order config) calls (opening_state config) (opening_in_order config)
 
 -- ---- in the words of the promise
 agrees : (config : Settings) (s : State) → InOrder config s → Agrees s

@@ -1,13 +1,10 @@
 -- An interest, and the end of one: what receivers keep is due then.
-use Rattle.std.proofs.Common.{◌≡◌, ◌∙◌, refl, sym, ap, subst, ℕ, ◌^◌, ◌<◌, Bool, true, false, cond, not, List, [], ◌∷◌, ◌++◌, filter, fold, map, Option, Some, None, true≢false}
+use Rattle.std.proofs.Common.{◌≡◌, ◌∙◌, refl, sym, ap, subst, ℕ, Bool, true, false, cond, not, List, [], ◌∷◌, filter, fold, map, Option, Some, None, true≢false}
 use Rattle.std.specs.Prelude.{◌==◌, ◌≢◌, ◌&&◌, ◌||◌, is_none}
 use Rattle.std.specs.BTreeMap.{is_at}
 use Rattle.std.specs.List.{AllByRecursion, list_any}
-use Rattle.std.specs.List.Sorted.{IsStrictlySortedBy}
 use Rattle.std.specs.Option.{is_some, option_map, option_map_or}
 use Rattle.std.specs.Ordering.{nat_cmp}
-use Rattle.std.specs.Str.{bytes_eq}
-use Rattle.std.proofs.lemmas.Bool.{false≢true}
 use Rattle.std.proofs.lemmas.List.Kept.{IsStrictlySortedBy-filter}
 use Rattle.std.proofs.lemmas.Map.Made.{is_some-lookup}
 use Rattle.std.proofs.lemmas.Option.{same_Some}
@@ -15,14 +12,14 @@ use Rattle.std.proofs.lemmas.Slice.Eq.{bytes_eq-Decides}
 use Rattle.zq_message.specs.declared.message.FaceId.{FaceId}
 use Rattle.zq_index.specs.Texts.{text_cmp}
 use Rattle.zq_trees.specs.declared.types.Telling.{Telling as TreeTelling}
-use Rattle.zq_trees.specs.Tellings.{in_order, telling_cmp}
+use Rattle.zq_trees.specs.Tellings.{in_order}
 use Rattle.zq_interests.specs.declared.types.InterestEntry.{InterestEntry}
 use Rattle.zq_interests.specs.Interests.{Interests, same_asked, interest_at, interests_of, meets, with_interest, without_interest}
 use Rattle.zq_told.specs.declared.types.FaceDues.{FaceDues}
 use Rattle.zq_told.specs.declared.types.Way.{Way}
 use Rattle.zq_told.specs.declared.types.Way.TheVariants.{Answering, Ending}
 use Rattle.zq_told.specs.Ears.{Ear, Ears, at_face, last_at}
-use Rattle.zq_told.specs.Laws.{InOrder as RowsInOrder, ear_after, is_to, last_given, told_in}
+use Rattle.zq_told.specs.Laws.{InOrder as RowsInOrder, is_to, last_given, told_in}
 use Rattle.zq_told.specs.Leaving.{AreSound}
 use Rattle.zq_told.specs.Receiver.{Heard, Tied, memory_of, receive, is_left, is_over}
 use Rattle.zq_told.specs.Telling.{KeyDue, tell_due, tell_faces, tell_keys, with_account}
@@ -36,19 +33,18 @@ use Rattle.zq_key.proofs.Lookups.{each_entry, same_key}
 use Rattle.zq_index.proofs.Orders.{text_exact, text_total}
 use Rattle.std.proofs.lemmas.Cmp.{nat_cmp_total}
 use Rattle.std.proofs.lemmas.Map.Lookups.{exact_unsigned}
-use Rattle.zq_machine.specs.Configs.{Settings}
 use Rattle.zq_machine.specs.Deciding.{accepted, causes, refusal_of, told_of}
 use Rattle.zq_machine.specs.Due.{due, due_keys, met_keys}
 use Rattle.zq_machine.specs.Keeping.{IsNear, greatest_with, if_told, with_told, is_due_at}
 use Rattle.zq_machine.specs.Messages.{TellingBody, all_told, from_hat, answered_by}
 use Rattle.zq_machine.specs.Neighbours.{answer_told, asked_at, asked_dues, due_on, ears_asked, with_dues, ears_ended, ended_at, ended_dues}
-use Rattle.zq_machine.specs.Receivers.{AllHear, AreOfOpen, AskingTold, Hears, heard_asked, EndingTold, heard_ended}
+use Rattle.zq_machine.specs.Receivers.{AllHear, AskingTold, Hears, heard_asked, EndingTold, heard_ended}
 use Rattle.zq_machine.specs.Selecting.{asked_by}
-use Rattle.zq_machine.specs.State.{Core, State, at, is_open}
-use Rattle.zq_machine.specs.TextCalls.{TextCall, hearing, unhearing}
-use Rattle.zq_machine.proofs.Changing.{is_other, itself, number_test, one_number}
+use Rattle.zq_machine.specs.State.{Core, State, at}
+use Rattle.zq_machine.specs.TextCalls.{hearing, unhearing}
+use Rattle.zq_machine.proofs.Changing.{itself, number_test, one_number}
 use Rattle.zq_machine.proofs.DueKeys.{keys_rise, either_test, is_among}
-use Rattle.zq_machine.proofs.Following.{AreKept, Follows, Steps, all_heard, by_ids, kept_of, marks_kept, telling_total, the_greatest, onto}
+use Rattle.zq_machine.proofs.Following.{Follows, Steps, all_heard, by_ids, marks_kept, telling_total, the_greatest, onto}
 use Rattle.zq_machine.proofs.Granted.{all_passed}
 use Rattle.zq_machine.proofs.NeighbourAsked.{left_beside, ended, ended_rise, stays_by}
 use Rattle.zq_machine.proofs.NeighbourDues.{alone_rises, keys_alone, keys_at, rows_rise}

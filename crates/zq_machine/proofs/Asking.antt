@@ -32,14 +32,15 @@ use Rattle.zq_machine.specs.Configs.{Settings}
 use Rattle.zq_machine.specs.Deciding.{accepted, after_replied, granted, handed_reply, handed_request, handed_requests, handed_timeouts, passing_finals, replied, timed_out as text_timeout}
 use Rattle.zq_machine.specs.Machine.{after, answer, settle, state_after, step, steps_from}
 use Rattle.zq_machine.specs.Messages.{TextMessage, text_final}
-use Rattle.zq_machine.specs.Writing.{write}
+use Rattle.zq_machine.specs.Writing.{finish, is_unsent, write}
 use Rattle.zq_machine.specs.Selecting.{full_text, select, target_of}
 use Rattle.zq_machine.specs.State.{Core, State, opening_state}
-use Rattle.zq_machine.specs.TextCalls.{TextCall, opening, closing, naming, unnaming, declaring, withdrawing, asking, replying, ending, reporting, passing, listing, finalizing, announcing, retracting, networking, tabling, hearing, unhearing, read, said as said_by_face, said_if}
+use Rattle.zq_machine.specs.TextCalls.{TextCall, opening, closing, naming, unnaming, declaring, withdrawing, asking, replying, ending, reporting, passing, listing, finalizing, announcing, retracting, networking, tabling, hearing, unhearing, read, asked_said, said_if}
 use Rattle.zq_machine.proofs.Lists.{all_append, all_filter, all_weaker}
-use Rattle.zq_machine.proofs.Granted.{all_beside, by_granted}
+use Rattle.zq_machine.proofs.Granted.{all_beside, by_granted, by_told}
+use Rattle.zq_machine.proofs.GoingOut.{all_ended, all_out}
 use Rattle.zq_machine.proofs.Reading.{declare_read, withdraw_read}
-use Rattle.zq_machine.proofs.Promises.{is_asking}
+use Rattle.zq_machine.proofs.Asks.{is_asking}
 
 -- ---- what holds of each record's number, asker, id and quality byte
 module _ (P : ℕ → FaceId → ℕ → ℕ → Type 0) where
@@ -271,17 +272,18 @@ module _ (asked : List Final) (s : State) (all : Asks asked s) where
 
   quiet : (t : TextCall) → is_asking t ≡ false → Tells asked [] s (settle s t) (answer s t)
   quiet t h =
-      by_granted (λ z w. Tells asked [] s w z) s t
+      by_told (λ z w. Tells asked [] s w z) s t h
+      (λ text z w it. record { records = it.records; handed = all_out text (IsHandedToAsker (asked ++ [])) (λ x left to. to) z.handed w.gates it.handed; counted = it.counted })
       (λ passed. record {
         records = each_kept (IsAsked (asked ++ [])) s.core t h no_more;
-        handed = all_beside s t (write s.names (granted s.core t).messages) (IsHandedToAsker (asked ++ [])) (λ to text d n. refl) (all_handed (asked ++ []) s.names s.core t h no_more);
+        handed = all_beside s t (write s.names (granted s.core t).messages) (IsHandedToAsker (asked ++ [])) (λ to d. refl) (all_handed (asked ++ []) s.names s.core t h no_more);
         counted = λ rest are. subst (λ n. AreCounted n rest) (same_count s.core t h) are;
       })
       (λ r. record { records = no_more; handed = tt; counted = λ rest are. are })
 
   module _ (face : FaceId) (r : Request) (now : ℕ) where
     abbrev said : Said
-    said = said_by_face face r.wire s
+    said = asked_said face r s
 
     abbrev offers : List QueryTargetQabl
     offers = select s.core face said r
@@ -306,9 +308,17 @@ module _ (asked : List Final) (s : State) (all : Asks asked s) where
     request_tells : Tells asked (asked_by (call.Request face r now) (step s (call.Request face r now))) s (after s (call.Request face r now)) (step s (call.Request face r now))
     request_tells =
         by_granted (λ z w. Tells asked (asked_by (call.Request face r now) z) s w z) s asking_call
+        (λ text z w it. record { records = it.records; handed = all_out text (IsHandedToAsker (asked ++ asked_by (call.Request face r now) z)) (λ x left to. to) z.handed w.gates it.handed; counted = it.counted })
+        (λ p places z w it.
+        let each = IsAsked (asked ++ asked_by (call.Request face r now) z) in
+        record {
+          records = each_let_go each (is_unsent (p ∷ places)) w.core.queries.records it.records;
+          handed = all_ended (IsHandedToAsker (asked ++ asked_by (call.Request face r now) z)) z.handed (finish w.core (p ∷ places)).finals it.handed (finals_let_go each (is_unsent (p ∷ places)) w.core.queries.closed w.core.queries.records it.records);
+          counted = it.counted;
+        })
         (λ passed. record {
           records = all_append _ s.core.queries.records _ (more_asked asked new s all) (records_by (is_none_left (map (given_place s.core.queries) (map target_of offers))) _ its_own);
-          handed = all_beside s asking_call (write s.names (granted s.core asking_call).messages) (IsHandedToAsker (asked ++ new)) (λ to text d n. refl) (requests_by offers);
+          handed = all_beside s asking_call (write s.names (granted s.core asking_call).messages) (IsHandedToAsker (asked ++ new)) (λ to d. refl) (requests_by offers);
           counted = λ rest are. (refl, are);
         })
         (λ x. record { records = no_more; handed = tt; counted = λ rest are. are })

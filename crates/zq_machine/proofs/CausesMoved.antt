@@ -12,6 +12,7 @@ use Rattle.zq_tables.specs.Naming.{remaps}
 use Rattle.zq_query.specs.Asking.{lacks_number}
 use Rattle.zq_query.specs.Records.{is_pending, lacks_reply}
 use Rattle.zq_machine.specs.declared.call.Refusal.TheVariants as refusal
+use Rattle.zq_machine.specs.Gates.{is_sound}
 use Rattle.zq_machine.specs.State.{Core, hat_of, has_declared_in, clashes_in}
 use Rattle.zq_machine.specs.TextCalls.{TextCall, opening, closing, naming, unnaming, declaring, withdrawing, asking, replying, ending, reporting, passing, listing, finalizing, announcing, retracting, networking, tabling, hearing, unhearing}
 use Rattle.std.specs.Ordering.{is_eq}
@@ -62,7 +63,7 @@ module _ (φ : List ℕ → List ℕ) (keeps : Keeps φ) (c : Core) where
   none_still (Some i) = refl
 
   pub refused_alike : (t : TextCall) → refusal_of (move_core φ c) (move_text φ t) ≡ refusal_of c t
-  refused_alike (opening o) = λ j. first_of ((not (has_moved φ c o.region j), refusal.UnknownRegion) ∷ (full_moved φ c o.region j, refusal.UpstreamInUse) ∷ (lacks_face_number c, refusal.NoFreeId) ∷ (lacks_moved φ keeps c (opening o) tt j, refusal.NoFreeId) ∷ [])
+  refused_alike (opening o) = λ j. first_of ((not (has_moved φ c o.region j), refusal.UnknownRegion) ∷ (not (is_sound o), refusal.InvalidKeyExpr) ∷ (full_moved φ c o.region j, refusal.UpstreamInUse) ∷ (lacks_face_number c, refusal.NoFreeId) ∷ (lacks_moved φ keeps c (opening o) tt j, refusal.NoFreeId) ∷ [])
   refused_alike (closing face) = refl
   refused_alike (naming face id said.Unscoped standing) = refl
   refused_alike (naming face id said.Empty standing) = refl

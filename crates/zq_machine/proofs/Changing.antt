@@ -40,7 +40,7 @@ number_test k q = by (is_at (nat_cmp k) q) (eqb k q) refl refl
 
 -- ---- one entry is changed, where it is there
 module _ {X : Type 0} (k : ℕ) (g : X → X) (es : List (ℕ × X)) where
-  abbrev put_changed : Option X → List (ℕ × X)
+  abbrev pub put_changed : Option X → List (ℕ × X)
   put_changed o = option_map_or (λ x. set_value (is_at (nat_cmp k)) es (g x)) o es
 
   abbrev pub changed : List (ℕ × X)

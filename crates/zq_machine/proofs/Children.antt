@@ -35,14 +35,15 @@ use Rattle.zq_machine.specs.Selecting.{full_text}
 use Rattle.zq_machine.specs.State.{Core, State, at, hat_at, hat_of, opening_state}
 use Rattle.zq_machine.specs.TextCalls.{TextCall, announcing, retracting, networking, read}
 use Rattle.zq_machine.specs.Trees.{all_own_told, own_entry, touched, tree_told}
-use Rattle.zq_machine.proofs.Agreed.{InOrder, granted_in_order, numbered_in_order, run_in_order}
+use Rattle.zq_machine.proofs.Agreed.{InOrder, granted_in_order, stays_in_order, run_in_order}
 use Rattle.zq_machine.proofs.Agreeing.{some_of}
 use Rattle.zq_machine.proofs.Always.{after_kept}
 use Rattle.zq_machine.proofs.Changing.{hat_here, region_there}
 use Rattle.zq_machine.proofs.Finals.{is_there}
 use Rattle.zq_machine.proofs.Foreign.{entries_kept, entry_put, entry_taken, listed, of_routers}
 use Rattle.zq_machine.proofs.Frame.{accepted_config, config_kept, run_config}
-use Rattle.zq_machine.specs.Writing.{write}
+use Rattle.zq_machine.specs.Writing.{finish, write}
+use Rattle.zq_machine.proofs.GoingOut.{hear_ended, hear_out}
 use Rattle.zq_machine.proofs.Granted.{all_passed, by_granted, granted_is_accepted, told_by}
 use Rattle.zq_machine.proofs.DueHeard.{AlongTree, IsOpen, trees_due}
 use Rattle.zq_machine.proofs.Learning.{Says, is_news, order_heard, marks_heard}
@@ -255,6 +256,8 @@ module _ (config : Settings) (s : State) (i : InOrder config s) (same_config : s
       (λ x w. is_child r face root w ≡ true
       → cond (is_accepted x.outcome) (fold (with_heard_of face (root_place r root w) key) (fold (with_news key) (stands_of r root key s) (said_for face root s.core (read s c))) (hear x.handed (follow s (read s c)).names)) (stands_of r root key s) ≡ stands_of r root key w)
       s (read s c)
+      (λ text z w it now. ap (λ l. cond (is_accepted z.outcome) (fold (with_heard_of face (root_place r root w) key) (fold (with_news key) (stands_of r root key s) (said_for face root s.core (read s c))) l) (stands_of r root key s)) (hear_out text z.handed w.gates (follow s (read s c)).names) ∙ it now)
+      (λ p places z w it now. ap (λ l. cond (is_accepted z.outcome) (fold (with_heard_of face (root_place r root w) key) (fold (with_news key) (stands_of r root key s) (said_for face root s.core (read s c))) l) (stands_of r root key s)) (hear_ended (finish w.core (p ∷ places)).finals z.handed (follow s (read s c)).names) ∙ it now)
       (λ fits now.
       let t = read s c in
       let a = child_of r face root s.core.hats was in
@@ -274,6 +277,8 @@ module _ (config : Settings) (s : State) (i : InOrder config s) (same_config : s
       (λ x w. is_child r face root w ≡ true
       → cond (is_accepted x.outcome) (fold (with_heard_of face (root_place r root w) key) None (hear x.handed (follow s (networking r net)).names)) None ≡ stands_of r root key w)
       s (networking r net)
+      (λ text z w it now. ap (λ l. cond (is_accepted z.outcome) (fold (with_heard_of face (root_place r root w) key) None l) None) (hear_out text z.handed w.gates (follow s (networking r net)).names) ∙ it now)
+      (λ p places z w it now. ap (λ l. cond (is_accepted z.outcome) (fold (with_heard_of face (root_place r root w) key) None l) None) (hear_ended (finish w.core (p ∷ places)).finals z.handed (follow s (networking r net)).names) ∙ it now)
       (λ fits now.
       let t = networking r net in
       let b = child_of r face root (accepted s.core t).hats now in
@@ -304,7 +309,7 @@ module _ (config : Settings) (r : Region) (face : ℕ) (root : Zid) (key : List 
   stays_known [] s i same was stays = refl
   stays_known (c ∷ cs) s i same was stays =
       ap (known_in r face root key (after s c) cs) (call_keeps config s i same r face root key c was stays.0)
-      ∙ stays_known cs (after s c) (after_kept (InOrder config) (granted_in_order config) (numbered_in_order config) s c i) (config_kept s c ∙ same) stays.0 stays.1
+      ∙ stays_known cs (after s c) (after_kept (InOrder config) (granted_in_order config) (stays_in_order config) s c i) (config_kept s c ∙ same) stays.0 stays.1
 
 pub after_both : (before later : List Call) (s : State) → state_after s (before ++ later) ≡ state_after (state_after s before) later
 after_both [] later s = refl
@@ -317,6 +322,6 @@ child_promise config calls before later r net face root key split apart stays =
     let i : InOrder config s = run_in_order config before in
     let same : s.core.config ≡ config = run_config before (opening_state config) in
     ap (known_in r face root key (after s c) later) (network_makes config s i same r face root key net apart stays.0)
-    ∙ stays_known config r face root key later (after s c) (after_kept (InOrder config) (granted_in_order config) (numbered_in_order config) s c i) (config_kept s c ∙ same) stays.0 stays.1
+    ∙ stays_known config r face root key later (after s c) (after_kept (InOrder config) (granted_in_order config) (stays_in_order config) s c i) (config_kept s c ∙ same) stays.0 stays.1
     ∙ ap (stands_of r root key) (sym (after_both before (c ∷ later) (opening_state config)))
     ∙ ap (λ l. stands_of r root key (state_after (opening_state config) l)) (sym split)

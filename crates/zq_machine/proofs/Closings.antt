@@ -18,7 +18,7 @@ use Rattle.zq_machine.proofs.Changing.{number_test}
 use Rattle.zq_machine.proofs.Finals.{put_closed, timing_closed}
 use Rattle.zq_machine.proofs.Granted.{by_granted}
 use Rattle.zq_machine.proofs.Reading.{declare_read, withdraw_read}
-use Rattle.zq_machine.proofs.Writing.{settles_core}
+use Rattle.zq_machine.proofs.Writing.{settles_view}
 use Rattle.zq_key.proofs.Sorted.{has_put}
 
 is_closing : TextCall → Bool
@@ -70,7 +70,7 @@ same_closed c (unhearing face id) h = refl
 
 module _ (s : State) (face : ℕ) where
   quiet : (t : TextCall) → is_closing t ≡ false → is_closed (settle s t).core.queries.closed face ≡ is_closed s.core.queries.closed face
-  quiet t h = ap (λ (z : Core). is_closed z.queries.closed face) (settles_core s t) ∙ by (is_accepted (decide s.core t).outcome)
+  quiet t h = settles_view (λ (z : Core). is_closed z.queries.closed face) (λ places c. refl) s t ∙ by (is_accepted (decide s.core t).outcome)
     where
       by : (b : Bool) → is_closed (cond b (accepted_state s t) s).core.queries.closed face ≡ is_closed s.core.queries.closed face
       by true = ap (λ l. is_closed l face) (same_closed s.core t h)
@@ -79,7 +79,7 @@ module _ (s : State) (face : ℕ) where
   pub call_closed : (c : Call) → is_closed (after s c).core.queries.closed face ≡ (closes face c (step s c) || is_closed s.core.queries.closed face)
   unfolding is_closing
   call_closed (call.Close f) =
-      by_granted (λ t z. is_closed z.core.queries.closed face ≡ (closes face (call.Close f) t || is_closed s.core.queries.closed face)) s (closing f)
+      by_granted (λ t z. is_closed z.core.queries.closed face ≡ (closes face (call.Close f) t || is_closed s.core.queries.closed face)) s (closing f) (λ text z w it. it) (λ p places z w it. it)
       (λ h. has_put nat_cmp_total exact_unsigned face f.0 s.core.queries.closed ∙ ap (λ b. b || is_closed s.core.queries.closed face) (number_test face f.0))
       (λ r. refl)
   call_closed (call.Request f r now) = quiet (read s (call.Request f r now)) refl

@@ -28,7 +28,8 @@ use Rattle.zq_machine.specs.Messages.{text_final}
 use Rattle.zq_machine.specs.Selecting.{full_text, select}
 use Rattle.zq_machine.specs.State.{State, opening_state}
 use Rattle.zq_machine.specs.TextCalls.{TextCall, opening, closing, asking, replying, ending, reporting, passing, read}
-use Rattle.zq_machine.specs.Writing.{write}
+use Rattle.zq_machine.specs.Writing.{finish, write}
+use Rattle.zq_machine.proofs.GoingOut.{mapped_ended, mapped_out}
 use Rattle.zq_machine.proofs.Granted.{by_granted, mapped_beside}
 
 -- ---- what each call counts on from there, a run counts
@@ -50,7 +51,7 @@ opens_next s t rest are = are
 pub faces_counted : (config : Settings) (calls : List Call) → AreCounted config.start.faces (opened_in (steps_from (opening_state config) calls))
 faces_counted config calls =
     counted_run (λ s. s.core.next_face) (λ t. opened_by t.outcome)
-    (λ s c rest. by_granted (λ t z. AreCounted z.core.next_face rest → AreCounted s.core.next_face (opened_by t.outcome ++ rest)) s (read s c) (λ h. opens_next s (read s c) rest) (λ r are. are))
+    (λ s c rest. by_granted (λ t z. AreCounted z.core.next_face rest → AreCounted s.core.next_face (opened_by t.outcome ++ rest)) s (read s c) (λ text z w it. it) (λ p places z w it. it) (λ h. opens_next s (read s c) rest) (λ r are. are))
     calls (opening_state config)
 
 -- the next number is the one after those
@@ -65,7 +66,7 @@ pub faces_next : (cs : List Call) (s : State) → (state_after s cs).core.next_f
 faces_next [] s = let e : s.core.next_face ≡ s.core.next_face + 0 = omega arith in e
 faces_next (c ∷ cs) s =
     let one : (after s c).core.next_face ≡ s.core.next_face + length (opened_by (step s c).outcome) =
-    by_granted (λ t z. z.core.next_face ≡ s.core.next_face + length (opened_by t.outcome)) s (read s c) (λ h. many_opened s (read s c)) (λ r. (let e : s.core.next_face ≡ s.core.next_face + 0 = omega arith in e)) in
+    by_granted (λ t z. z.core.next_face ≡ s.core.next_face + length (opened_by t.outcome)) s (read s c) (λ text z w it. it) (λ p places z w it. it) (λ h. many_opened s (read s c)) (λ r. (let e : s.core.next_face ≡ s.core.next_face + 0 = omega arith in e)) in
     let all = faces_next cs (after s c) in
     let both : length (opened_by (step s c).outcome ++ opened_in (steps_from (after s c) cs)) ≡ length (opened_by (step s c).outcome) + length (opened_in (steps_from (after s c) cs)) = length-append (opened_by (step s c).outcome) (opened_in (steps_from (after s c) cs)) in
     omega (arith, one, all, both)
@@ -171,8 +172,10 @@ pub replies_counted : (config : Settings) (calls : List Call) → AreCounted con
 replies_counted config calls =
     counted_run (λ s. s.core.queries.replies) replies_of
     (λ s c rest. by_granted (λ t z. AreCounted z.core.queries.replies rest → AreCounted s.core.queries.replies (replies_of t ++ rest)) s (read s c)
+    (λ text z w it are. subst (λ l. AreCounted s.core.queries.replies (l ++ rest)) (sym (mapped_out text reply_number (λ h left. refl) z.handed w.gates)) (it are))
+    (λ p places z w it are. subst (λ l. AreCounted s.core.queries.replies (l ++ rest)) (sym (mapped_ended reply_number (λ f. refl) z.handed (finish w.core (p ∷ places)).finals)) (it are))
     (λ h are.
-    subst (λ l. AreCounted s.core.queries.replies (l ++ rest)) (sym (mapped_beside s (read s c) (write s.names (granted s.core (read s c)).messages) reply_number (λ to text d n. refl)))
+    subst (λ l. AreCounted s.core.queries.replies (l ++ rest)) (sym (mapped_beside s (read s c) (write s.names (granted s.core (read s c)).messages) reply_number (λ to d. refl)))
     (replies_next s (read s c) rest are))
     (λ r are. are))
     calls (opening_state config)

@@ -17,6 +17,7 @@ use Rattle.zq_machine.specs.declared.call.Call.{Call}
 use Rattle.zq_machine.specs.declared.face.OpenFace.{OpenFace}
 use Rattle.zq_machine.specs.Agreeing.{stands_in}
 use Rattle.zq_machine.specs.Configs.{Settings}
+use Rattle.zq_machine.specs.Gates.{gate_at}
 use Rattle.zq_machine.specs.Machine.{state_after}
 use Rattle.zq_machine.specs.Selecting.{select}
 use Rattle.zq_machine.specs.Standing.{StandAlike, Standing, kept_at, routed, standing_at, standing_of}
@@ -46,8 +47,8 @@ module _ (config : Settings) (s : State) (i : InOrder config s) where
   face_stands q = by (at q s.core.faces) refl
     where
       by : (x : Option OpenFace) → at q s.core.faces ≡ x → at q s.core.faces ≡ option_map opened_as (standing_at q s)
-      by None e = e ∙ sym (ap (λ x. option_map opened_as (standing_of x (naming_at q s.names) (kept_at q s.core))) e)
-      by (Some o) e = e ∙ sym (ap (option_map opened_as) (stands_so s.core.faces s.core.hats s.names i.tied q o e))
+      by None e = e ∙ sym (ap (λ x. option_map opened_as (standing_of (gate_at q s.gates) x (naming_at q s.names) (kept_at q s.core))) e)
+      by (Some o) e = e ∙ sym (ap (option_map opened_as) (stands_so s.gates s.core.faces s.core.hats s.names i.tied q o e))
 
   hat_stands : (r : Region) (h : HatState) → hat_at r s.core.hats ≡ Some h → (q : ℕ) → face_at q h ≡ kept_in r (standing_at q s)
   hat_stands r h h_at q = by (at q s.core.faces) refl
@@ -56,26 +57,26 @@ module _ (config : Settings) (s : State) (i : InOrder config s) where
       seat x e = i.tied.seats r h q h_at ∙ ap (λ y. option_map_or (stands_in r) y false) e
 
       by : (x : Option OpenFace) → at q s.core.faces ≡ x → face_at q h ≡ kept_in r (standing_at q s)
-      by None e = none_of (face_at q h) (seat None e) ∙ sym (ap (λ x. kept_in r (standing_of x (naming_at q s.names) (kept_at q s.core))) e)
-      by (Some o) e = here (stands_in r o) refl ∙ sym (ap (kept_in r) (stands_so s.core.faces s.core.hats s.names i.tied q o e))
+      by None e = none_of (face_at q h) (seat None e) ∙ sym (ap (λ x. kept_in r (standing_of (gate_at q s.gates) x (naming_at q s.names) (kept_at q s.core))) e)
+      by (Some o) e = here (stands_in r o) refl ∙ sym (ap (kept_in r) (stands_so s.gates s.core.faces s.core.hats s.names i.tied q o e))
         where
           hat : (x : HatState) × (hat_at o.region s.core.hats ≡ Some x)
-          hat = its_hat s.core.faces s.core.hats s.names i.tied q o e
+          hat = its_hat s.gates s.core.faces s.core.hats s.names i.tied q o e
 
-          kept : (f : FaceState) × (face_at q (its_hat s.core.faces s.core.hats s.names i.tied q o e).0 ≡ Some f)
-          kept = its_kept s.core.faces s.core.hats s.names i.tied q o e
+          kept : (f : FaceState) × (face_at q (its_hat s.gates s.core.faces s.core.hats s.names i.tied q o e).0 ≡ Some f)
+          kept = its_kept s.gates s.core.faces s.core.hats s.names i.tied q o e
 
           same : region_index o.region ≡ region_index r → hat.0 ≡ h
           same index =
               same_Some _ _
               (sym (region_there o.region s.core.hats hat.0 hat.1).1 ∙ ap (λ k. at k s.core.hats) index ∙ (region_there r s.core.hats h h_at).1)
 
-          here : (b : Bool) → stands_in r o ≡ b → face_at q h ≡ cond (stands_in r o) (Some (its_kept s.core.faces s.core.hats s.names i.tied q o e).0) None
+          here : (b : Bool) → stands_in r o ≡ b → face_at q h ≡ cond (stands_in r o) (Some (its_kept s.gates s.core.faces s.core.hats s.names i.tied q o e).0) None
           here true is =
               ap (face_at q) (sym (same (eqb-true (region_index o.region) (region_index r) is)))
               ∙ kept.1
-              ∙ ap (λ b. cond b (Some (its_kept s.core.faces s.core.hats s.names i.tied q o e).0) None) (sym is)
-          here false is = none_of (face_at q h) (seat (Some o) e ∙ is) ∙ ap (λ b. cond b (Some (its_kept s.core.faces s.core.hats s.names i.tied q o e).0) None) (sym is)
+              ∙ ap (λ b. cond b (Some (its_kept s.gates s.core.faces s.core.hats s.names i.tied q o e).0) None) (sym is)
+          here false is = none_of (face_at q h) (seat (Some o) e ∙ is) ∙ ap (λ b. cond b (Some (its_kept s.gates s.core.faces s.core.hats s.names i.tied q o e).0) None) (sym is)
 
 -- ---- two gateways of which the same stands
 module _ (config : Settings) (s z : State) (i : InOrder config s) (l : InOrder config z) (alike : StandAlike s z) where

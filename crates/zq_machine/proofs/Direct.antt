@@ -27,8 +27,9 @@ use Rattle.zq_machine.specs.Machine.{accepted_state, follow}
 use Rattle.zq_machine.specs.Messages.{Telling, TellingBody, TextMessage, all_told, key_ended, key_told, text_final, text_reply, text_request}
 use Rattle.zq_machine.specs.State.{Core, State}
 use Rattle.zq_machine.specs.TextCalls.{read}
-use Rattle.zq_machine.specs.Writing.{and_then, is_local_face, may_number, tell, tell_body, tell_declare, tell_number, told_key, write}
+use Rattle.zq_machine.specs.Writing.{and_then, is_local_face, may_number, tell, tell_body, tell_declare, tell_number, told_key, write, finish}
 use Rattle.zq_machine.proofs.Agreed.{InOrder, granted_in_order}
+use Rattle.zq_machine.proofs.GoingOut.{direct_ended, direct_out}
 use Rattle.zq_machine.proofs.Granted.{by_granted, told_by}
 use Rattle.zq_machine.proofs.NeighboursTold.{due_can}
 use Rattle.zq_machine.proofs.Hearing.{Stands, all_open, found_there, known_stands, positive}
@@ -83,7 +84,7 @@ module _ (to : FaceId) (text : List ℕ) (make : DeclKey → Declare) (names : N
     (quiet : (d : DeclKey) (z : NamingState) → heard_body to (make d).body z ≡ z)
     (there_is : is_some (naming_at to.0 names) ≡ true) where
   one_by : (d : DeclKey) (o : Option ℕ) → Fits (face_naming to.0 names) (nonwild text) o d.wire → AreDirect (rest (tell_number to text o names).names) (tell_number to text o names).names
-      → AreDirect ((and_then (tell_number to text o names) (tell_declare to text (make d))).handed ++ rest (tell_number to text o names).names) names
+      → AreDirect ((and_then (tell_number to text o names) (tell_declare to (make d))).handed ++ rest (tell_number to text o names).names) names
   one_by d None fits more = (tells d names (rest names) fits, subst (AreDirect (rest names)) (sym (quiet d names)) more)
   one_by d (Some id) fits more =
       let after = change_naming to.0 (with_told_number text (Some id)) names in
@@ -125,6 +126,8 @@ pub number_promise : (config : Settings) (s : State) (c : Call) → InOrder conf
 number_promise config s c i =
     let t = read s c in
     by_granted (λ z w. AreDirect z.handed (follow s t).names) s t
+    (λ text z w it. direct_out text z.handed w.gates (follow s t).names it)
+    (λ p places z w it. direct_ended (finish w.core (p ∷ places)).finals z.handed (follow s t).names it)
     (λ h.
     subst (λ (z : State). AreDirect (write s.names (granted s.core t).messages ++ (told_by s t).handed) z.names) (sym (followed s t h))
     (written_direct s.names (granted s.core t).messages (told_by s t).handed (renamed s t)

@@ -435,7 +435,7 @@ pub listens_stay : (config : Settings) (calls : List Call) (c : Call) (ints : In
     → listens (after (state_after (opening_state config) calls) c).core ints face key ≡ listens (state_after (opening_state config) calls).core ints face key
 listens_stay config calls c ints face key opens =
     let s = state_after (opening_state config) calls in
-    by_granted (λ z w. is_open face w.core ≡ true → listens w.core ints face key ≡ listens s.core ints face key) s (read s c)
+    by_granted (λ z w. is_open face w.core ≡ true → listens w.core ints face key ≡ listens s.core ints face key) s (read s c) (λ text z w it. it) (λ p places z w it. it)
     (λ h still. listens_kept config s (run_in_order config calls) ints face key opens (read s c) still)
     (λ r still. refl)
 
@@ -444,6 +444,6 @@ pub less_due : (config : Settings) (calls : List Call) (c : Call) (ints : Intere
     → is_some (due (after (state_after (opening_state config) calls) c).core ints face key) ≡ true → is_some (due (state_after (opening_state config) calls).core ints face key) ≡ true
 less_due config calls c ints face key none opens =
     let s = state_after (opening_state config) calls in
-    by_granted (λ z w. is_some (due w.core ints face key) ≡ true → is_some (due s.core ints face key) ≡ true) s (read s c)
+    by_granted (λ z w. is_some (due w.core ints face key) ≡ true → is_some (due s.core ints face key) ≡ true) s (read s c) (λ text z w it. it) (λ p places z w it. it)
     (λ h some. accepted_less config s (run_in_order config calls) ints face key opens (read s c) h (read_brings s c none) some)
     (λ r some. some)

@@ -231,7 +231,7 @@ dues_stay config calls c ints face key =
     let s = state_after (opening_state config) calls in
     by_granted
     (λ z w. is_open face w.core ≡ true → is_due_touched s.core (read s c) face key ≡ false → due w.core ints face key ≡ due s.core ints face key)
-    s (read s c)
+    s (read s c) (λ text z w it. it) (λ p places z w it. it)
     (λ h. due_kept config s (run_in_order config calls) ints face key (read s c) h)
     (λ r seen_after off. refl)
 

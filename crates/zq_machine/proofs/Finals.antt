@@ -38,10 +38,12 @@ use Rattle.zq_machine.specs.TextCalls.{TextCall, opening, closing, naming, unnam
 use Rattle.zq_machine.specs.Deciding.{timed_out, causes, refusal_of, granted, accepted, after_replied, deadline, handed_reply, handed_request, handed_requests, handed_replies, handed_timeouts, opened, passing_finals, replied}
 use Rattle.zq_machine.specs.Machine.{after, state_after, step}
 use Rattle.zq_machine.specs.Messages.{text_final}
-use Rattle.zq_machine.specs.Writing.{sent_final, write, written}
+use Rattle.zq_machine.specs.Writing.{Place, finish, is_unsent, sent_final, without_unsent, write, written}
 use Rattle.zq_machine.specs.Headline.{ends, finals_of, to_come}
-use Rattle.zq_machine.proofs.Always.{after_kept, always}
+use Rattle.zq_machine.proofs.Always.{Stays, after_kept, always}
 use Rattle.zq_machine.proofs.Granted.{all_passed, by_granted, filter_beside}
+use Rattle.zq_machine.proofs.GoingOut.{count_out}
+use Rattle.zq_machine.proofs.Writing.{finish_balance}
 use Rattle.zq_key.proofs.Lookups.{same_key}
 use Rattle.zq_key.proofs.Sorted.{sorted_out, sorted_in, has_put}
 
@@ -156,8 +158,15 @@ granted_sound c (unhearing face id) h s = s
 abbrev pub IsSound : State → Type 0
 IsSound s = Sound s.core.faces s.core.next_face s.core.queries
 
+-- requests that are let go leave no record over
+pub unsent_sound : (places : List Place) (c : Core) → Sound c.faces c.next_face c.queries → Sound c.faces c.next_face (without_unsent places c).queries
+unsent_sound places c i = same_closed c.faces c.next_face c.queries _ i refl (letting_none_over (is_unsent places) c.queries.records)
+
+stays_sound : Stays IsSound
+stays_sound = record { numbers = λ core face text id names gates i. i; gates = λ text hs core names gates i. i; unsent = λ places core names gates i. unsent_sound places core i }
+
 pub after_sound : (s : State) (c : Call) → IsSound s → IsSound (after s c)
-after_sound = after_kept IsSound (λ s c. granted_sound s.core (read s c)) (λ core face text id names i. i)
+after_sound = after_kept IsSound (λ s c. granted_sound s.core (read s c)) stays_sound
 
 pub none_sorted : IsStrictlySortedBy nat_cmp []
 unfolding IsStrictlySortedBy
@@ -173,7 +182,7 @@ opening_sound config = record {
 }
 
 pub run_sound : (cs : List Call) (s : State) → IsSound s → IsSound (state_after s cs)
-run_sound = always IsSound (λ s c. granted_sound s.core (read s c)) (λ core face text id names i. i)
+run_sound = always IsSound (λ s c. granted_sound s.core (read s c)) stays_sound
 
 -- ---- how many finals messages are
 module _ (n : ℕ) (names : NamingState) where
@@ -238,7 +247,7 @@ replied_balance : (n : ℕ) (q : QueryState) (o : Option ReplyTo) → to_come (a
 replied_balance n q None = refl
 replied_balance n q (Some to) = reply_balance n to q ∙ ap (λ l. to_come l n q) (sym (put_closed to.number q (is_some to.reply)))
 
-granted_balance : (n : ℕ) (s : State) (t : TextCall) → refusal_of s.core t ≡ None → IsSound s → Balanced n s t
+pub granted_balance : (n : ℕ) (s : State) (t : TextCall) → refusal_of s.core t ≡ None → IsSound s → Balanced n s t
 granted_balance n s (opening o) h i = omega arith
 granted_balance n s (closing face) h i =
     let q = s.core.queries in
@@ -284,11 +293,29 @@ granted_balance n s (tabling face ids) h i = omega arith
 granted_balance n s (hearing face id keys sd) h i = omega arith
 granted_balance n s (unhearing face id) h i = omega arith
 
+-- finals of requests that did not leave stand behind
+pub count_ended : (n : ℕ) (hs : List Handed) (fs : List Final) → length (filter (ends n) (hs ++ map sent_final fs)) ≡ length (filter (ends n) hs) + finals_under n fs
+count_ended n hs fs = ap length (filter-append (ends n) hs (map sent_final fs)) ∙ length-append (filter (ends n) hs) (filter (ends n) (map sent_final fs)) ∙ ap (λ k. length (filter (ends n) hs) + k) (all_counted fs)
+  where
+    all_counted : (gs : List Final) → length (filter (ends n) (map sent_final gs)) ≡ finals_under n gs
+    all_counted [] = refl
+    all_counted (f ∷ gs) = by (f.number == n) (all_counted gs)
+      where
+        by : (b : Bool) → length (filter (ends n) (map sent_final gs)) ≡ finals_under n gs
+            → length (cond b (sent_final f ∷ filter (ends n) (map sent_final gs)) (filter (ends n) (map sent_final gs))) ≡ length (cond b (f ∷ filter (λ (g : Final). g.number == n) gs) (filter (λ (g : Final). g.number == n) gs))
+        by true e = omega (arith, e)
+        by false e = e
+
 pub call_balance : (n : ℕ) (s : State) (c : Call) → IsSound s → finals_of n (step s c) + to_come (after s c).core.queries.closed n (after s c).core.queries ≡ to_come (after s c).core.queries.closed n s.core.queries
 call_balance n s c i =
     let t = read s c in
     by_granted (λ z w. finals_of n z + to_come w.core.queries.closed n w.core.queries ≡ to_come w.core.queries.closed n s.core.queries) s t
-    (λ h. ap (λ l. length l + to_come (accepted s.core t).queries.closed n (accepted s.core t).queries) (filter_beside s t (write s.names (granted s.core t).messages) (ends n) (λ to text d k. refl)) ∙ granted_balance n s t h i)
+    (λ text z w e. ap (λ k. k + to_come w.core.queries.closed n w.core.queries) (count_out text (ends n) (λ h left. refl) z.handed w.gates) ∙ e)
+    (λ p places z w e.
+    let told = count_ended n z.handed (finish w.core (p ∷ places)).finals in
+    let kept = finish_balance n w.core (p ∷ places) in
+    omega (arith, told, kept, e))
+    (λ h. ap (λ l. length l + to_come (accepted s.core t).queries.closed n (accepted s.core t).queries) (filter_beside s t (write s.names (granted s.core t).messages) (ends n) (λ to d. refl)) ∙ granted_balance n s t h i)
     (λ r. omega arith)
 
 pub call_standing : (s : State) (c : Call) → IsSound s → any_over (after s c).core.queries.records ≡ false

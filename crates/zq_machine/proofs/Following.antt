@@ -1,52 +1,38 @@
 -- What a receiver keeps of what is told, and what holds of faces at a point of a run.
-use Rattle.std.proofs.Common.{◌≡◌, ◌∙◌, refl, sym, ap, subst, ℕ, ◌+◌, ◌^◌, ◌<◌, ◌≤◌, Bool, true, false, cond, List, [], ◌∷◌, ◌++◌, append_assoc, append-nil, filter, fold, map, Option, Some, None, arith, true≢false}
+use Rattle.std.proofs.Common.{◌≡◌, ◌∙◌, refl, sym, ap, ℕ, ◌^◌, ◌<◌, Bool, true, false, cond, List, [], ◌∷◌, ◌++◌, filter, fold, map, Option, Some, None}
 use Rattle.std.specs.Prelude.{◌==◌}
-use Rattle.std.specs.BTreeMap.{is_at}
 use Rattle.std.specs.BTreeSet.{insert_key}
 use Rattle.std.specs.Cmp.{IsTotalOrder, nat_cmp_total, on_total, then_total}
 use Rattle.std.specs.List.{AllByRecursion}
 use Rattle.std.specs.List.Sorted.{IsStrictlySortedBy}
-use Rattle.std.specs.Option.{is_some, option_and_then, option_map}
+use Rattle.std.specs.Option.{option_map}
 use Rattle.std.proofs.lemmas.Option.{same_Some}
 use Rattle.std.specs.Ordering.{nat_cmp, ordering_then}
 use Rattle.std.specs.declared.cmp.Ordering.{Ordering}
 use Rattle.std.specs.declared.cmp.Ordering.TheVariants.{Less, Equal, Greater}
-use Rattle.std.proofs.lemmas.Bool.{false≢true}
 use Rattle.std.proofs.lemmas.List.Elements.{filter-append}
 use Rattle.std.proofs.lemmas.List.Kept.{IsStrictlySortedBy-filter}
 use Rattle.std.proofs.lemmas.Map.Lookups.{exact_unsigned}
 use Rattle.zq_message.specs.declared.message.QueryableInfoType.{QueryableInfoType}
-use Rattle.zq_key.proofs.Lookups.{found_after_insertion, found_after_removal}
 use Rattle.zq_index.specs.Texts.{text_cmp}
 use Rattle.zq_index.proofs.Orders.{text_total}
 use Rattle.zq_trees.specs.declared.types.Telling.{Telling as TreeTelling}
 use Rattle.zq_trees.specs.Tellings.{in_order, telling_cmp}
-use Rattle.zq_interests.specs.Interests.{Interests, closed_face}
-use Rattle.zq_told.specs.declared.types.Way.TheVariants.{Unasked}
-use Rattle.zq_told.specs.declared.types.ToldEntry.{ToldEntry}
+use Rattle.zq_interests.specs.Interests.{Interests}
 use Rattle.zq_told.specs.Ears.{Ear, Ears, last_at}
 use Rattle.zq_told.specs.Receiver.{Heard, heard_entry, receive}
-use Rattle.zq_told.specs.Telling.{lacks_ids, tell_due}
-use Rattle.zq_told.specs.Laws.{is_to, last_given, told_in}
-use Rattle.zq_told.specs.Leaving.{AreSound, fresh_ear}
-use Rattle.zq_told.proofs.Faces.{opens, stay_sound}
-use Rattle.zq_told.proofs.Slotted.{none_sorted}
+use Rattle.zq_told.specs.Laws.{is_to, last_given}
+use Rattle.zq_told.specs.Leaving.{AreSound}
 use Rattle.zq_message.specs.declared.message.FaceId.{FaceId}
-use Rattle.zq_machine.specs.declared.call.Call.{Call}
-use Rattle.zq_machine.specs.declared.face.OpenFace.{OpenFace}
-use Rattle.zq_machine.specs.Configs.{Settings}
-use Rattle.zq_machine.specs.Deciding.{accepted, changed, causes, is_accepted, lacks_told, opened, refusal_of, renamed, told_of}
-use Rattle.zq_machine.specs.Due.{listens, due}
-use Rattle.zq_machine.specs.Hearing.{CanBeTold, hear}
-use Rattle.zq_machine.specs.Keeping.{ChangePromise, IsKept, IsNear, KeepPromise, TellsChanges, greater, heard_in, is_told, received_in, last_in, told_by, if_told, greatest_with, with_told, is_due_at}
-use Rattle.zq_machine.specs.Machine.{accepted_state, after, follow, state_after, step}
+use Rattle.zq_machine.specs.Deciding.{told_of}
+use Rattle.zq_machine.specs.Due.{due}
+use Rattle.zq_machine.specs.Keeping.{IsKept, IsNear, greater, is_told, if_told, greatest_with, with_told, is_due_at}
 use Rattle.zq_machine.specs.Messages.{Telling, TellingBody, from_hat, told_or_ended, all_told, answered_by}
-use Rattle.zq_machine.specs.Neighbours.{due_on, ears_after, looked_at, neighbours_lack, neighbours_told, with_new, without_closed, marked}
-use Rattle.zq_machine.specs.Receivers.{AllHear, AllTold, AreOfOpen, FaceTold, HaveChanges, Hears, makes_due}
-use Rattle.zq_machine.specs.State.{Core, State, at, hat_at, hat_of, is_open, opening_state}
-use Rattle.zq_machine.specs.TextCalls.{TextCall, opening, closing, declaring, withdrawing, asking, replying, ending, reporting, passing, listing, finalizing, announcing, retracting, networking, tabling, read, hearing, unhearing}
+use Rattle.zq_machine.specs.Neighbours.{marked}
+use Rattle.zq_machine.specs.Receivers.{AllHear, AreOfOpen, Hears}
+use Rattle.zq_machine.specs.State.{Core, State}
+use Rattle.zq_machine.specs.TextCalls.{TextCall, hearing, unhearing}
 use Rattle.zq_machine.proofs.Telling.{none_filtered}
-use Rattle.zq_machine.proofs.Lists.{all_weaker}
 use Rattle.zq_machine.proofs.Sifting.{in_order_stays, sifted}
 
 -- ---- what is told in order, of it what is told to a face

@@ -1,6 +1,6 @@
--- A call that is refused hands and changes nothing; one that nothing refuses is answered its messages, with what faces are told behind them, and changes no more than itself and numbers of keys.
+-- A call that is refused hands and changes nothing; one that nothing refuses is answered its messages, with what faces are told behind them, as the gates of faces let them out, and finals of requests that did not leave; and it changes no more than itself, numbers of keys, what gates keep, and the records of those requests.
 use Rattle.std.proofs.Common.{◌≡◌, ◌∙◌, refl, sym, ap, subst, Bool, true, false, cond, not, List, [], ◌∷◌, ◌++◌, map, append-nil, Option, Some, None, true≢false}
-use Rattle.std.specs.Prelude.{◌||◌}
+use Rattle.std.specs.Prelude.{ℕ, ◌||◌}
 use Rattle.std.specs.List.{AllByRecursion, filter, filter_map, list_any}
 use Rattle.std.specs.Option.{is_some}
 use Rattle.std.proofs.Math.Bool.{or-false}
@@ -12,20 +12,25 @@ use Rattle.zq_query.specs.Records.{is_pending, next_reply}
 use Rattle.zq_message.specs.declared.message.FaceId.{FaceId}
 use Rattle.zq_message.specs.declared.message.Region.{Region}
 use Rattle.zq_query.specs.Closing.{closing_finals}
+use Rattle.zq_tables.specs.Naming.{NamingState}
 use Rattle.zq_machine.specs.Handing.{Handed}
 use Rattle.zq_machine.specs.declared.call.Outcome.TheVariants as outcome
 use Rattle.zq_machine.specs.declared.call.Refusal.{Refusal}
 use Rattle.zq_machine.specs.declared.call.Step.{Step}
-use Rattle.zq_machine.specs.Deciding.{Cause, accepted, answered, causes, first_of, granted, is_accepted, refusal_of, renamed, replied_outcome, told_of}
-use Rattle.zq_machine.specs.Machine.{accepted_state, answer, refused_step, settle}
+use Rattle.zq_machine.specs.Deciding.{Cause, accepted, answered, causes, first_of, granted, is_accepted, refusal_of, regated, renamed, replied_outcome, told_of}
+use Rattle.zq_machine.specs.Gates.{Gates, Out, leave_all, through}
+use Rattle.zq_machine.specs.Headline.{asks}
+use Rattle.zq_machine.specs.Machine.{accepted_state, answer, asked_text, follow, going_out, refused_step, settle}
 use Rattle.zq_machine.specs.Messages.{Decided}
 use Rattle.zq_machine.specs.State.{Core, State, face_region}
 use Rattle.zq_machine.specs.TextCalls.{TextCall, opening, closing, naming, unnaming, declaring, withdrawing, asking, replying, ending, reporting, passing, listing, finalizing, announcing, retracting, networking, tabling, hearing, unhearing}
-use Rattle.zq_machine.specs.Writing.{Told, sent_final, tell, write}
+use Rattle.zq_machine.specs.Writing.{Place, Told, finish, sent_final, tell, unsent, without_unsent, write}
+use Rattle.zq_machine.proofs.Asks.{any_both, granted_asks, is_asking}
+use Rattle.zq_machine.proofs.GoingOut.{any_out, any_through, none_unsent, plain_out, written_plain}
 use Rattle.zq_machine.proofs.Lists.{all_append}
 use Rattle.zq_machine.proofs.Replies.{next-pending}
 use Rattle.zq_machine.proofs.Telling.{OfDeclared, none_any, none_filtered, none_mapped, told_all}
-use Rattle.zq_machine.proofs.Writing.{after_decided, answers_fully, close_fits, finals_written, fully, plainly, settles_fully, told_after, with_told}
+use Rattle.zq_machine.proofs.Writing.{after_decided, answered_by, close_fits, finals_written, fully, gated, gone_out, let_go, plain_answer, plain_settle, settled_by, told_after, with_finals, with_told}
 
 -- ---- causes
 pub passed : (c : Cause) (cs : List Cause) → first_of (c ∷ cs) ≡ None → (c.0 ≡ false) × (first_of cs ≡ None)
@@ -75,12 +80,16 @@ granted_is_accepted c (unhearing face id) h = refl
 abbrev pub told_by : State → TextCall → Told
 told_by s t = tell (accepted s.core t) (told_of s.core t) (renamed s t)
 
--- what holds of what is granted, with what is told, where nothing refuses, and of a refusal holds of each call
-pub by_granted : (P : Step → State → Type 0) (s : State) (t : TextCall)
+-- a call that is no request hands none
+none_told : (s : State) (t : TextCall) → list_any asks (told_by s t).handed ≡ false
+none_told s t = none_any asks (told_by s t).handed (told_all (λ h. asks h ≡ false) (λ to d. refl) (accepted s.core t) (told_of s.core t) (renamed s t))
+
+-- what holds of what is granted, with what is told, where nothing refuses, and of a refusal holds of each call before the gates
+pub by_decided : (P : Step → State → Type 0) (s : State) (t : TextCall)
     → (refusal_of s.core t ≡ None → P (fully s.names (told_by s t) (granted s.core t)) (with_told (accepted_state s t) (told_by s t)))
     → ((r : Refusal) → P (refused_step r) s)
-    → P (answer s t) (settle s t)
-by_granted P s t given stays = subst (λ (x : Step × State). P x.0 x.1) (λ j. (sym (answers_fully s t) j, sym (settles_fully s t) j)) (by (refusal_of s.core t) refl)
+    → P (plain_answer s t) (plain_settle s t)
+by_decided P s t given stays = by (refusal_of s.core t) refl
   where
     Holds : Decided → State → Type 0
     Holds d z = P (fully s.names (told_after d z) d) (with_told z (told_after d z))
@@ -93,43 +102,139 @@ by_granted P s t given stays = subst (λ (x : Step × State). P x.0 x.1) (λ j. 
     by (Some r) e = stays r
     by None e = taken (is_accepted (granted s.core t).outcome) (granted_is_accepted s.core t e) e
 
--- the same of a call that tells nothing
-pub by_plain : (P : Step → State → Type 0) (s : State) (t : TextCall) → told_of s.core t ≡ []
-    → (refusal_of s.core t ≡ None → P (plainly s.names (granted s.core t)) (accepted_state s t))
+pub none_asked : (s : State) (t : TextCall) → is_asking t ≡ false → list_any asks (plain_answer s t).handed ≡ false
+none_asked s t quiet =
+    by_decided (λ z w. list_any asks z.handed ≡ false) s t
+    (λ h. any_both asks (write s.names (granted s.core t).messages) (told_by s t).handed (granted_asks s.names s.core t quiet) (none_told s t))
+    (λ r. refl)
+
+-- the same of a call as it is answered
+pub by_out : (P : Step → State → Type 0) (s : State) (t : TextCall)
+    → (refusal_of s.core t ≡ None → P (answered_by (asked_text t) (fully s.names (told_by s t) (granted s.core t)) (with_told (accepted_state s t) (told_by s t))) (settled_by (asked_text t) (fully s.names (told_by s t) (granted s.core t)) (with_told (accepted_state s t) (told_by s t))))
     → ((r : Refusal) → P (refused_step r) s)
     → P (answer s t) (settle s t)
-by_plain P s t none given stays = by_granted P s t (λ h. subst (λ (x : Step × State). P x.0 x.1) (λ j. (answered_plainly j, sym left_plainly j)) (given h)) stays
+by_out P s t given stays = by_decided (λ z w. P (answered_by (asked_text t) z w) (settled_by (asked_text t) z w)) s t given stays
+
+-- what the gates keep of a step, and what the end of requests that did not leave keeps
+abbrev pub KeptOut : (Step → State → Type 0) → Type 0
+KeptOut P = (text : List ℕ) (z : Step) (w : State) → P z w → P (gone_out text z w) (gated text z w)
+
+abbrev pub KeptEnding : (Step → State → Type 0) → Type 0
+KeptEnding P = (p : Place) (places : List Place) (z : Step) (w : State) → P z w → P (with_finals (p ∷ places) z w) (let_go (p ∷ places) w)
+
+module _ (P : Step → State → Type 0) where
+  none_ends : (z : Step) (w : State) → P z w → P (with_finals [] z w) (let_go [] w)
+  none_ends z w p = subst (λ hs. P (record z { handed = hs }) w) (sym (append-nil z.handed)) p
+
+  ending_by : KeptEnding P → (places : List Place) (z : Step) (w : State) → P z w → P (with_finals places z w) (let_go places w)
+  ending_by ends [] z w p = none_ends z w p
+  ending_by ends (x ∷ places) z w p = ends x places z w p
+
+  -- what both keep holds of each call, if it holds of what is granted and of a refusal
+  pub by_granted : (s : State) (t : TextCall) → KeptOut P → KeptEnding P
+      → (refusal_of s.core t ≡ None → P (fully s.names (told_by s t) (granted s.core t)) (with_told (accepted_state s t) (told_by s t)))
+      → ((r : Refusal) → P (refused_step r) s)
+      → P (answer s t) (settle s t)
+  by_granted s t out ends given stays =
+      let z = plain_answer s t in
+      let w = plain_settle s t in
+      ending_by ends (unsent (gone_out (asked_text t) z w).handed) (gone_out (asked_text t) z w) (gated (asked_text t) z w) (out (asked_text t) z w (by_decided P s t given stays))
+
+  -- of a call that is no request all requests leave, for it hands none
+  pub by_told : (s : State) (t : TextCall) → is_asking t ≡ false → KeptOut P
+      → (refusal_of s.core t ≡ None → P (fully s.names (told_by s t) (granted s.core t)) (with_told (accepted_state s t) (told_by s t)))
+      → ((r : Refusal) → P (refused_step r) s)
+      → P (answer s t) (settle s t)
+  by_told s t quiet out given stays =
+      let z = plain_answer s t in
+      let w = plain_settle s t in
+      subst (λ places. P (with_finals places (gone_out (asked_text t) z w) (gated (asked_text t) z w)) (let_go places (gated (asked_text t) z w)))
+      (sym (none_unsent (gone_out (asked_text t) z w).handed (any_out (asked_text t) asks (λ h left. refl) z.handed w.gates ∙ none_asked s t quiet)))
+      (none_ends (gone_out (asked_text t) z w) (gated (asked_text t) z w) (out (asked_text t) z w (by_decided P s t given stays)))
+
+-- ---- a call that tells nothing
+-- its messages through the gates, each by itself
+abbrev pub plainly : NamingState → Decided → List ℕ → Gates → Step
+plainly names d text gates = record { outcome = d.outcome; handed = map (through text gates) (write names d.messages) }
+
+pub by_plain : (P : Step → State → Type 0) (s : State) (t : TextCall) → told_of s.core t ≡ []
+    → (refusal_of s.core t ≡ None
+    → P (with_finals (unsent (plainly s.names (granted s.core t) (asked_text t) (regated s t)).handed) (plainly s.names (granted s.core t) (asked_text t) (regated s t)) (accepted_state s t))
+    (let_go (unsent (plainly s.names (granted s.core t) (asked_text t) (regated s t)).handed) (accepted_state s t)))
+    → ((r : Refusal) → P (refused_step r) s)
+    → P (answer s t) (settle s t)
+by_plain P s t none given stays = by_out P s t (λ h. subst Ends (sym (out_plainly)) (given h)) stays
   where
-    answered_plainly : plainly s.names (granted s.core t) ≡ fully s.names (told_by s t) (granted s.core t)
-    answered_plainly =
-        ap (λ (l : List Handed). record { outcome = (granted s.core t).outcome; handed = l }) (sym (append-nil (write s.names (granted s.core t).messages)))
-        ∙ (λ j. fully s.names (tell (accepted s.core t) (sym none j) (renamed s t)) (granted s.core t))
+    -- by what goes out, with the names
+    Ends : Out × NamingState → Type 0
+    Ends x =
+        let z : Step = record { outcome = (granted s.core t).outcome; handed = x.0.handed } in
+        let w : State = record { core = accepted s.core t; names = x.1; gates = x.0.gates } in
+        P (with_finals (unsent x.0.handed) z w) (let_go (unsent x.0.handed) w)
 
-    left_plainly : with_told (accepted_state s t) (told_by s t) ≡ accepted_state s t
-    left_plainly = λ j. with_told (accepted_state s t) (tell (accepted s.core t) (none j) (renamed s t))
+    handed_plainly : write s.names (granted s.core t).messages ++ (told_by s t).handed ≡ write s.names (granted s.core t).messages
+    handed_plainly = (λ j. write s.names (granted s.core t).messages ++ (tell (accepted s.core t) (none j) (renamed s t)).handed) ∙ append-nil (write s.names (granted s.core t).messages)
 
--- for the bodies: what is answered and left where nothing refuses a call
+    out_plainly : ◌≡◌ {A = Out × NamingState} (leave_all (asked_text t) (write s.names (granted s.core t).messages ++ (told_by s t).handed) (regated s t), (told_by s t).names)
+        (record { handed = map (through (asked_text t) (regated s t)) (write s.names (granted s.core t).messages); gates = regated s t }, renamed s t)
+    out_plainly = λ j. (
+      (ap (λ hs. leave_all (asked_text t) hs (regated s t)) handed_plainly ∙ plain_out (asked_text t) (regated s t) (write s.names (granted s.core t).messages) (written_plain s.names (granted s.core t).messages)) j,
+      (tell (accepted s.core t) (none j) (renamed s t)).names,
+    )
+
+-- and is no request: all of its messages leave that are requests, for there are none
+pub by_quiet : (P : Step → State → Type 0) (s : State) (t : TextCall) → told_of s.core t ≡ [] → is_asking t ≡ false
+    → (refusal_of s.core t ≡ None → P (plainly s.names (granted s.core t) (asked_text t) (regated s t)) (accepted_state s t))
+    → ((r : Refusal) → P (refused_step r) s)
+    → P (answer s t) (settle s t)
+by_quiet P s t none quiet given stays =
+    let z = plainly s.names (granted s.core t) (asked_text t) (regated s t) in
+    by_plain P s t none
+    (λ h.
+    subst (λ places. P (with_finals places z (accepted_state s t)) (let_go places (accepted_state s t)))
+    (sym (none_unsent z.handed (any_through (asked_text t) (regated s t) asks (λ h left. refl) (write s.names (granted s.core t).messages) ∙ granted_asks s.names s.core t quiet)))
+    (none_ends P z (accepted_state s t) (given h)))
+    stays
+
+-- ---- for the bodies: what is answered and left before the gates where nothing refuses a call
 pub answers_told : (s : State) (t : TextCall) (handed : List Handed) → refusal_of s.core t ≡ None → handed ≡ write s.names (granted s.core t).messages ++ (told_by s t).handed
-    → ◌≡◌ {A = Step} (record { outcome = (granted s.core t).outcome; handed = handed }) (answer s t)
+    → ◌≡◌ {A = Step} (record { outcome = (granted s.core t).outcome; handed = handed }) (plain_answer s t)
 answers_told s t handed fits told =
     ap (λ (l : List Handed). record { outcome = (granted s.core t).outcome; handed = l }) told
     ∙ (λ j. fully s.names (told_after (granted s.core t) (cond (sym (granted_is_accepted s.core t fits) j) (accepted_state s t) s)) (granted s.core t))
     ∙ ap (λ o. fully s.names (told_after (answered o (granted s.core t)) (after_decided s t (answered o (granted s.core t)))) (answered o (granted s.core t))) (sym fits)
-    ∙ sym (answers_fully s t)
 
-pub settles_told : (s : State) (t : TextCall) → refusal_of s.core t ≡ None → settle s t ≡ with_told (accepted_state s t) (told_by s t)
+pub settles_told : (s : State) (t : TextCall) → refusal_of s.core t ≡ None → plain_settle s t ≡ with_told (accepted_state s t) (told_by s t)
 settles_told s t fits =
-    settles_fully s t
-    ∙ ap (λ o. with_told (after_decided s t (answered o (granted s.core t))) (told_after (answered o (granted s.core t)) (after_decided s t (answered o (granted s.core t))))) fits
+    ap (λ o. with_told (after_decided s t (answered o (granted s.core t))) (told_after (answered o (granted s.core t)) (after_decided s t (answered o (granted s.core t))))) fits
     ∙ (λ j. let z = cond (granted_is_accepted s.core t fits j) (accepted_state s t) s in with_told z (told_after (granted s.core t) z))
+
+-- ---- what decides after a call that nothing refuses is what it changes, but for the records of requests that did not leave
+module _ (P : Core → Type 0) (s : State) (t : TextCall) (fits : refusal_of s.core t ≡ None) where
+  pub settled_of : ((places : List Place) (c : Core) → P c → P (without_unsent places c)) → P (accepted s.core t) → P (settle s t).core
+  settled_of stays p = by (unsent (going_out s t).handed)
+    where
+      now : P (follow s t).core
+      now = subst (λ (w : State). P w.core) (sym (settles_told s t fits)) p
+
+      by : (places : List Place) → P (finish (follow s t).core places).core
+      by [] = now
+      by (x ∷ places) = stays (x ∷ places) (follow s t).core now
+
+  pub settled_to : ((places : List Place) (c : Core) → P (without_unsent places c) → P c) → P (settle s t).core → P (accepted s.core t)
+  settled_to back p = subst (λ (w : State). P w.core) (settles_told s t fits) (by (unsent (going_out s t).handed) p)
+    where
+      by : (places : List Place) → P (finish (follow s t).core places).core → P (follow s t).core
+      by [] p = p
+      by (x ∷ places) p = back (x ∷ places) (follow s t).core p
 
 -- an open face is closed
 pub closed_step : (s : State) (face : FaceId) (r : Region) (handed : List Handed) → face_region face.0 s.core ≡ Some r → handed ≡ map sent_final (closing_finals face.0 s.core.queries) ++ (told_by s (closing face)).handed
-    → ◌≡◌ {A = Step} (record { outcome = outcome.Done; handed = handed }) (answer s (closing face))
+    → ◌≡◌ {A = Step} (record { outcome = outcome.Done; handed = handed }) (plain_answer s (closing face))
 closed_step s face r handed there told =
     answers_told s (closing face) handed (close_fits s face r there) (told ∙ ap (λ l. l ++ (told_by s (closing face)).handed) (sym (finals_written s.names (closing_finals face.0 s.core.queries))))
 
-pub closed_after : (s : State) (face : FaceId) (r : Region) → face_region face.0 s.core ≡ Some r → settle s (closing face) ≡ with_told (accepted_state s (closing face)) (told_by s (closing face))
+pub closed_after : (s : State) (face : FaceId) (r : Region) → face_region face.0 s.core ≡ Some r → plain_settle s (closing face) ≡ with_told (accepted_state s (closing face)) (told_by s (closing face))
 closed_after s face r there = settles_told s (closing face) (close_fits s face r there)
 
 -- ---- messages with what is told behind them

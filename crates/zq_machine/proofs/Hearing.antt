@@ -175,7 +175,7 @@ module _ (to : FaceId) (text : List ℕ) (make : DeclKey → Declare) (tells : L
     (quiet : (d : DeclKey) (s : NamingState) → heard_body to (make d).body s ≡ s)
     (there_is : is_some (naming_at to.0 names) ≡ true) where
   one_by : (d : DeclKey) (o : Option ℕ) → read_by (with_declared (face_naming to.0 names) text o) d.wire ≡ said.Full text
-      → hear ((and_then (tell_number to text o names) (tell_declare to text (make d))).handed ++ rest (tell_number to text o names).names) names ≡ tells text ++ hear (rest (tell_number to text o names).names) (tell_number to text o names).names
+      → hear ((and_then (tell_number to text o names) (tell_declare to (make d))).handed ++ rest (tell_number to text o names).names) names ≡ tells text ++ hear (rest (tell_number to text o names).names) (tell_number to text o names).names
   one_by d None reads = (λ j. (says (face_naming to.0 names) d ∙ ap (λ s. tells (full_text s)) reads) j ++ hear (rest names) (quiet d names j))
   one_by d (Some id) reads =
       let after = change_naming to.0 (with_told_number text (Some id)) names in

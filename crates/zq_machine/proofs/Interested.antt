@@ -1,32 +1,31 @@
 -- What each face asks to hear is what the calls of the run and their answers make of it; and a face that is not open asks for nothing.
-use Rattle.std.proofs.Common.{◌≡◌, ◌∙◌, refl, sym, ap, subst, ℕ, Bool, true, false, cond, not, List, [], ◌∷◌, Option, Some, None, true≢false}
+use Rattle.std.proofs.Common.{◌≡◌, ◌∙◌, refl, sym, ap, ℕ, Bool, true, false, cond, not, List, [], ◌∷◌, Option, Some, None, true≢false}
 use Rattle.std.specs.Prelude.{◌==◌}
 use Rattle.std.specs.BTreeMap.{insert_entry, is_at}
 use Rattle.std.specs.List.Sorted.{IsStrictlySortedBy}
 use Rattle.std.specs.Map.{keys_of, remove_entry}
 use Rattle.std.specs.Option.{is_some, option_map, option_map_or}
 use Rattle.std.specs.Ordering.{nat_cmp}
-use Rattle.std.proofs.lemmas.Bool.{false≢true}
 use Rattle.std.proofs.lemmas.Cmp.{nat_cmp_total}
 use Rattle.std.proofs.lemmas.Map.Lookups.{exact_unsigned}
 use Rattle.zq_message.specs.declared.message.FaceId.{FaceId}
 use Rattle.zq_message.specs.declared.message.WireExpr.{WireExpr}
 use Rattle.zq_key.proofs.Lookups.{found_after_insertion, found_after_removal}
 use Rattle.zq_key.proofs.Sorted.{sorted_in, sorted_out, sorted_write}
-use Rattle.zq_interests.specs.declared.types.InterestEntry.{InterestEntry}
-use Rattle.zq_interests.specs.Interests.{Asked, Interests, closed_face, interests_of, with_interest, without_interest}
-use Rattle.zq_tables.specs.Naming.{FaceNaming, face_naming, said_of}
+use Rattle.zq_interests.specs.Interests.{Asked, Interests, interests_of}
+use Rattle.zq_tables.specs.Naming.{face_naming, said_of}
 use Rattle.zq_machine.specs.declared.call.Call.{Call}
 use Rattle.zq_machine.specs.declared.call.Call.TheVariants as call
 use Rattle.zq_machine.specs.declared.face.OpenFace.{OpenFace}
 use Rattle.zq_machine.specs.Configs.{Settings}
+use Rattle.zq_machine.specs.Gates.{entered_by, gate_at, space_of}
 use Rattle.zq_machine.specs.Deciding.{accepted, causes, opened, refusal_of}
 use Rattle.zq_machine.specs.Machine.{after, state_after, step, steps_from}
 use Rattle.zq_machine.specs.Selecting.{asked_by}
 use Rattle.zq_machine.specs.Standing.{Standing, asked_at, asking_after, asking_by, asking_in, standing_at}
-use Rattle.zq_machine.specs.State.{Core, State, at, is_open, opening_state}
-use Rattle.zq_machine.specs.TextCalls.{TextCall, closing, hearing, opening, read, said_if, unhearing}
-use Rattle.zq_machine.proofs.Agreed.{InOrder, granted_in_order, numbered_in_order, opened_face, opening_in_order}
+use Rattle.zq_machine.specs.State.{State, at, is_open, opening_state}
+use Rattle.zq_machine.specs.TextCalls.{TextCall, closing, hearing, read, said_if, unhearing}
+use Rattle.zq_machine.proofs.Agreed.{InOrder, granted_in_order, stays_in_order, opened_face, opening_in_order}
 use Rattle.zq_machine.proofs.Always.{after_kept}
 use Rattle.zq_machine.proofs.Changing.{number_test, one_number}
 use Rattle.zq_machine.proofs.DueAsked.{listed, listed_at, none_without, with_one, without_one, written_at}
@@ -40,7 +39,7 @@ abbrev AreRising : State → Type 0
 AreRising s = IsStrictlySortedBy nat_cmp (keys_of s.core.interests)
 
 rising_after : (s : State) (c : Call) → AreRising s → AreRising (after s c)
-rising_after s c rise = by_granted (λ t z. AreRising z) s (read s c) (λ h. by (read s c)) (λ r. rise)
+rising_after s c rise = by_granted (λ t z. AreRising z) s (read s c) (λ text z w it. it) (λ p places z w it. it) (λ h. by (read s c)) (λ r. rise)
   where
     by : (t : TextCall) → IsStrictlySortedBy nat_cmp (keys_of (accepted s.core t).interests)
     by (hearing face id keys sd) = sorted_in nat_cmp_total s.core.interests face.0 (with_one face.0 id (asked_by keys sd) s.core.interests) rise
@@ -78,16 +77,16 @@ module _ (config : Settings) (s : State) (i : InOrder config s) (rise : AreRisin
       x : (o : OpenFace) × (at f.0 s.core.faces ≡ Some o)
       x = opened_face s i.sound i.tied f.0 (all_passed (causes s.core (read s (call.Interest f id keys w))) h).0
 
-      numbers : face_naming f.0 s.names ≡ (before s.core.faces s.core.hats s.names i.tied f.0 x.0 x.1).numbers
-      numbers = numbers_are s.core.faces s.core.hats s.names i.tied f.0 x.0 x.1
+      numbers : face_naming f.0 s.names ≡ (before s.gates s.core.faces s.core.hats s.names i.tied f.0 x.0 x.1).numbers
+      numbers = numbers_are s.gates s.core.faces s.core.hats s.names i.tied f.0 x.0 x.1
 
       now : ℕ → Asked
       now m = option_map_or (λ (st : Standing). insert_entry nat_cmp (interests_of m ints) id (asked_at keys w st)) (standing_at m s) (interests_of m ints)
 
       at_face : with_one f.0 id (asked_by keys (said_if f w s)) ints ≡ now f.0
       at_face =
-          (λ j. insert_entry nat_cmp (interests_of f.0 ints) id (asked_by keys (option_map (said_of (numbers j)) w)))
-          ∙ sym (ap (λ o. option_map_or (λ (st : Standing). insert_entry nat_cmp (interests_of f.0 ints) id (asked_at keys w st)) o (interests_of f.0 ints)) (stands_so s.core.faces s.core.hats s.names i.tied f.0 x.0 x.1))
+          (λ j. insert_entry nat_cmp (interests_of f.0 ints) id (asked_by keys (option_map (λ (x : WireExpr). said_of (numbers j) (entered_by (space_of (gate_at f.0 s.gates)) x)) w)))
+          ∙ sym (ap (λ o. option_map_or (λ (st : Standing). insert_entry nat_cmp (interests_of f.0 ints) id (asked_at keys w st)) o (interests_of f.0 ints)) (stands_so s.gates s.core.faces s.core.hats s.names i.tied f.0 x.0 x.1))
 
       here : f.0 ≡ q → with_one f.0 id (asked_by keys (said_if f w s)) ints ≡ now q
       here e = at_face ∙ ap now e
@@ -109,7 +108,7 @@ module _ (config : Settings) (s : State) (i : InOrder config s) (rise : AreRisin
 
   pub call_asks : (c : Call) → interests_of q (after s c).core.interests ≡ asking_after q c (step s c) (standing_at q s) (interests_of q ints)
   call_asks c =
-      by_granted (λ t z. interests_of q z.core.interests ≡ asking_after q c t (standing_at q s) (interests_of q ints)) s (read s c)
+      by_granted (λ t z. interests_of q z.core.interests ≡ asking_after q c t (standing_at q s) (interests_of q ints)) s (read s c) (λ text z w it. it) (λ p places z w it. it)
       (λ h. granted_asks c h ∙ ap (λ b. cond b (asking_by q c (standing_at q s) (interests_of q ints)) (interests_of q ints)) (sym (granted_is_accepted s.core (read s c) h)))
       (λ r. refl)
 
@@ -118,7 +117,7 @@ run_asks : (config : Settings) (q : ℕ) (cs : List Call) (s : State) → InOrde
     → interests_of q (state_after s cs).core.interests ≡ asking_in config q cs (steps_from s cs) (standing_at q s) (interests_of q s.core.interests)
 run_asks config q [] s i rise = refl
 run_asks config q (c ∷ cs) s i rise =
-    run_asks config q cs (after s c) (after_kept (InOrder config) (granted_in_order config) (numbered_in_order config) s c i) (rising_after s c rise)
+    run_asks config q cs (after s c) (after_kept (InOrder config) (granted_in_order config) (stays_in_order config) s c i) (rising_after s c rise)
     ∙ (λ j. asking_in config q cs (steps_from (after s c) cs) (call_stands config q s i c j) (call_asks config s i rise q c j))
 
 pub all_asked : (config : Settings) (calls : List Call) (face : ℕ) → interests_of face (state_after (opening_state config) calls).core.interests ≡ asking_in config face calls (steps_from (opening_state config) calls) None []
@@ -171,14 +170,14 @@ module _ (config : Settings) (s : State) (i : InOrder config s) (rise : AreRisin
 
 closed_after : (config : Settings) (s : State) → InOrder config s → AreRising s → AskWhereOpen s → (c : Call) → AskWhereOpen (after s c)
 closed_after config s i rise was c =
-    by_granted (λ t z. AskWhereOpen z) s (read s c)
+    by_granted (λ t z. AskWhereOpen z) s (read s c) (λ text z w it. it) (λ p places z w it. it)
     (λ h q shut. granted_asks config s i rise q c h ∙ granted_closed config s i rise was q c h shut)
     (λ r. was)
 
 run_closed : (config : Settings) (cs : List Call) (s : State) → InOrder config s → AreRising s → AskWhereOpen s → AskWhereOpen (state_after s cs)
 run_closed config [] s i rise was = was
 run_closed config (c ∷ cs) s i rise was =
-    run_closed config cs (after s c) (after_kept (InOrder config) (granted_in_order config) (numbered_in_order config) s c i) (rising_after s c rise) (closed_after config s i rise was c)
+    run_closed config cs (after s c) (after_kept (InOrder config) (granted_in_order config) (stays_in_order config) s c i) (rising_after s c rise) (closed_after config s i rise was c)
 
 pub all_closed : (config : Settings) (calls : List Call) → AskWhereOpen (state_after (opening_state config) calls)
 all_closed config calls = run_closed config calls (opening_state config) (opening_in_order config) none_sorted (λ q shut. refl)

@@ -1,31 +1,21 @@
 -- What receivers of neighbours keep over a run is, after every call, what is due to them.
-use Rattle.std.proofs.Common.{◌≡◌, ◌∙◌, refl, sym, ap, subst, ℕ, ◌+◌, ◌^◌, ◌<◌, ◌≤◌, Bool, true, false, cond, List, [], ◌∷◌, ◌++◌, append_assoc, append-nil, filter, fold, map, Option, Some, None, arith, true≢false}
+use Rattle.std.proofs.Common.{◌≡◌, ◌∙◌, refl, sym, ap, subst, ℕ, ◌^◌, ◌<◌, ◌≤◌, Bool, true, false, cond, List, [], ◌∷◌, ◌++◌, append_assoc, append-nil, filter, fold, map, Option, Some, None, arith, true≢false}
 use Rattle.std.specs.Prelude.{◌==◌, ◌&&◌}
 use Rattle.std.specs.BTreeMap.{is_at}
-use Rattle.std.specs.BTreeSet.{insert_key}
-use Rattle.std.specs.Cmp.{IsTotalOrder, nat_cmp_total, on_total, then_total}
-use Rattle.std.specs.List.{AllByRecursion}
+use Rattle.std.specs.Cmp.{nat_cmp_total}
 use Rattle.std.specs.List.Sorted.{IsStrictlySortedBy}
-use Rattle.std.specs.Option.{is_some, option_and_then, option_map, option_map_or}
-use Rattle.std.proofs.lemmas.Option.{same_Some}
-use Rattle.std.specs.Ordering.{nat_cmp, ordering_then}
-use Rattle.std.specs.declared.cmp.Ordering.{Ordering}
-use Rattle.std.specs.declared.cmp.Ordering.TheVariants.{Less, Equal, Greater}
+use Rattle.std.specs.Option.{is_some, option_and_then, option_map_or}
+use Rattle.std.specs.Ordering.{nat_cmp}
 use Rattle.std.proofs.lemmas.Bool.{false≢true}
-use Rattle.std.proofs.lemmas.List.Elements.{filter-append}
-use Rattle.std.proofs.lemmas.List.Kept.{IsStrictlySortedBy-filter}
 use Rattle.std.proofs.lemmas.Map.Lookups.{exact_unsigned}
-use Rattle.zq_message.specs.declared.message.QueryableInfoType.{QueryableInfoType}
 use Rattle.zq_key.proofs.Lookups.{found_after_insertion, found_after_removal}
-use Rattle.zq_index.specs.Texts.{text_cmp}
-use Rattle.zq_index.proofs.Orders.{text_total}
 use Rattle.zq_trees.specs.declared.types.Telling.{Telling as TreeTelling}
 use Rattle.zq_trees.specs.Tellings.{in_order, telling_cmp}
 use Rattle.zq_interests.specs.Interests.{Interests, closed_face}
 use Rattle.zq_told.specs.declared.types.Way.TheVariants.{Unasked}
 use Rattle.zq_told.specs.declared.types.ToldEntry.{ToldEntry}
 use Rattle.zq_told.specs.Ears.{Ear, Ears, last_at}
-use Rattle.zq_told.specs.Receiver.{Heard, heard_entry, receive}
+use Rattle.zq_told.specs.Receiver.{Heard, receive}
 use Rattle.zq_told.specs.Telling.{lacks_ids, tell_due}
 use Rattle.zq_told.specs.Laws.{is_to, last_given, told_in, differs}
 use Rattle.zq_told.specs.Leaving.{AreSound, fresh_ear}
@@ -34,13 +24,13 @@ use Rattle.zq_told.proofs.Slotted.{none_sorted}
 use Rattle.zq_interests.specs.declared.types.InterestEntry.{InterestEntry}
 use Rattle.zq_tables.specs.declared.said.Said.{Said}
 use Rattle.std.specs.Map.{keys_of}
+use Rattle.zq_machine.specs.Writing.{Place, finish, without_unsent}
 use Rattle.zq_machine.proofs.Writing.{fully}
-use Rattle.zq_machine.specs.declared.call.Refusal.{Refusal}
 use Rattle.zq_machine.specs.declared.call.Step.{Step}
 use Rattle.zq_machine.proofs.DueAlone.{interests_alone}
 use Rattle.zq_machine.proofs.Reading.{declare_read, withdraw_read}
 use Rattle.zq_machine.proofs.Answering.{answer_exactly, hearing_steps, unhearing_steps}
-use Rattle.zq_machine.proofs.Following.{AreKept, Follows, Steps, all_heard, behind_trees, by_ids, forget_at, kept_of, none_heard, the_greatest, told_only}
+use Rattle.zq_machine.proofs.Following.{AreKept, Follows, Steps, all_heard, behind_trees, by_ids, forget_at, kept_of, none_heard, onto, the_greatest, told_only}
 use Rattle.zq_machine.specs.Selecting.{asked_by}
 use Rattle.zq_machine.specs.declared.call.Call.{Call}
 use Rattle.zq_machine.specs.declared.call.Call.TheVariants as call
@@ -49,10 +39,10 @@ use Rattle.zq_machine.specs.Configs.{Settings}
 use Rattle.zq_machine.specs.Deciding.{accepted, changed, causes, is_accepted, lacks_told, opened, refusal_of, renamed, told_of, ears_of, interests_for, kept, granted}
 use Rattle.zq_machine.specs.Due.{listens, due}
 use Rattle.zq_machine.specs.Hearing.{CanBeTold, hear}
-use Rattle.zq_machine.specs.Keeping.{ChangePromise, IsKept, IsNear, KeepPromise, TellsChanges, greater, heard_in, is_told, received_in, last_in, told_by, if_told, greatest_with, with_told, AnswersInterests, TellsAnswer, forget_undue, heard_after, is_asking, is_due_at, last_after}
+use Rattle.zq_machine.specs.Keeping.{ChangePromise, IsKept, IsNear, KeepPromise, TellsChanges, heard_in, is_told, received_in, last_in, told_by, if_told, greatest_with, with_told, AnswersInterests, TellsAnswer, forget_undue, heard_after, is_asking, is_due_at, last_after}
 use Rattle.zq_machine.specs.Machine.{accepted_state, after, follow, state_after, step, refused_step}
-use Rattle.zq_machine.specs.Messages.{Telling, TellingBody, from_hat, told_or_ended}
-use Rattle.zq_machine.specs.Neighbours.{due_on, ears_after, looked_at, neighbours_lack, neighbours_told, with_new, without_closed, marked, near_told as told_near}
+use Rattle.zq_machine.specs.Messages.{Telling, TellingBody, from_hat}
+use Rattle.zq_machine.specs.Neighbours.{ears_after, looked_at, neighbours_lack, neighbours_told, with_new, without_closed, marked, near_told as told_near}
 use Rattle.zq_machine.specs.Receivers.{AllHear, AllTold, AreOfOpen, FaceTold, HaveChanges, Hears, makes_due}
 use Rattle.zq_machine.specs.State.{Core, State, at, hat_at, hat_of, is_open, opening_state}
 use Rattle.zq_machine.specs.TextCalls.{TextCall, opening, closing, declaring, withdrawing, asking, replying, ending, reporting, passing, listing, finalizing, announcing, retracting, networking, tabling, read, hearing, unhearing, said_if}
@@ -63,7 +53,8 @@ use Rattle.zq_machine.proofs.Children.{after_both}
 use Rattle.zq_machine.proofs.DueHeard.{due_trees}
 use Rattle.zq_machine.proofs.DueLess.{listens_kept}
 use Rattle.zq_machine.proofs.Frame.{run_config}
-use Rattle.zq_machine.proofs.Granted.{all_passed, by_granted, settles_told, granted_is_accepted, told_by as told_by_hats}
+use Rattle.zq_machine.proofs.Granted.{all_passed, by_granted, settled_to, granted_is_accepted, told_by as told_by_hats}
+use Rattle.zq_machine.proofs.GoingOut.{hear_ended, hear_out}
 use Rattle.zq_machine.proofs.Lists.{all_weaker}
 use Rattle.zq_machine.proofs.NeighbourAll.{new_sound}
 use Rattle.zq_machine.proofs.NeighbourLaws.{all_told, comes_told, face_told}
@@ -71,8 +62,6 @@ use Rattle.zq_machine.proofs.NeighbourLooks.{looked_is}
 use Rattle.zq_machine.proofs.NeighbourTold.{told_due, found_beside}
 use Rattle.zq_machine.proofs.NeighboursTold.{due_can, neighbours}
 use Rattle.zq_machine.proofs.RoutersAlone.{asks_all, hears_near, is_read, near_hears, none_to, trees_deaf}
-use Rattle.zq_machine.proofs.Sifting.{in_order_stays, sifted}
-use Rattle.zq_machine.proofs.Telling.{none_filtered}
 use Rattle.zq_machine.proofs.Tells.{granted_heard}
 
 -- ---- what a call leaves
@@ -144,7 +133,7 @@ same_looked c t = looked_is c (accepted c t) c.interests t ∙ sym (looked_is c 
 
 -- a call that may make something due lacks no id where nothing refuses it
 lacks_none : (c : Core) (t : TextCall) → refusal_of c t ≡ None → makes_due t ≡ true → lacks_told c t ≡ false
-lacks_none c (opening o) h e = (all_passed (causes c (opening o)) h).1.1.1.0
+lacks_none c (opening o) h e = (all_passed (causes c (opening o)) h).1.1.1.1.0
 lacks_none c (declaring f id s i n) h e = (all_passed (causes c (declaring f id s i n)) h).1.1.1.1.0
 lacks_none c (announcing f s i n) h e = (all_passed (causes c (announcing f s i n)) h).1.1.1.1.0
 lacks_none c t h e = absurd (false≢true e)
@@ -172,6 +161,58 @@ record Told (s : State) (t : TextCall) (d : Core) : Type 0 where
       → FaceTold s.core d s.core.interests t s.core.ears face h.ear heard
   comes : (face : ℕ) → is_open face s.core ≡ false → is_open face d ≡ true → FaceTold s.core d s.core.interests t s.core.ears face (fresh_ear s.core.config.start.told) []
 
+-- ---- requests that are let go change nothing of it
+module _ (places : List Place) (c : Core) where
+  hears_on : (ints : Interests) (ears : Ears) (face : ℕ) (heard : Heard) → Hears c ints ears face heard → Hears (without_unsent places c) ints ears face heard
+  hears_on ints ears face heard x = onto c (without_unsent places c) ints ears face heard (λ key. refl) x
+
+  hears_back : (ints : Interests) (ears : Ears) (face : ℕ) (heard : Heard) → Hears (without_unsent places c) ints ears face heard → Hears c ints ears face heard
+  hears_back ints ears face heard x = onto (without_unsent places c) c ints ears face heard (λ key. refl) x
+
+  changes_on : (ints : Interests) (face : ℕ) (ear : Ear) (keys : List (List ℕ)) → HaveChanges c ints face ear keys → HaveChanges (without_unsent places c) ints face ear keys
+  changes_on ints face ear keys x = record { rise = x.rise; all = x.all }
+
+  changes_back : (ints : Interests) (face : ℕ) (ear : Ear) (keys : List (List ℕ)) → HaveChanges (without_unsent places c) ints face ear keys → HaveChanges c ints face ear keys
+  changes_back ints face ear keys x = record { rise = x.rise; all = x.all }
+
+  near_back : (face : ℕ) → IsNear face (without_unsent places c) → IsNear face c
+  near_back face n = record { opened = n.opened; near = n.near }
+
+  keeps_on : (first : ℕ) (heards : ℕ → Heard) (lasts : ℕ → ℕ) → Keeps first c heards lasts → Keeps first (without_unsent places c) heards lasts
+  keeps_on first heards lasts k = record {
+    ears = λ low. let e = k.ears low in record { sound = e.sound; faces = e.faces; all = λ face seen. let x = e.all face seen in (x.0, hears_on c.interests c.ears face x.0 x.1) };
+    kept = λ face n. let f = k.kept face (near_back face n) in record { hears = hears_on c.interests c.ears face (heards face) f.hears; greatest = f.greatest };
+    unborn = k.unborn;
+  }
+
+  tells_on : (face : ℕ) (heard : Heard) (last : ℕ) (told : List Telling) → TellsChanges c face heard last told → TellsChanges (without_unsent places c) face heard last told
+  tells_on face heard last told x = record {
+    ear = x.ear;
+    is = x.is;
+    some = (x.some.0, changes_on c.interests face x.ear x.some.0 x.some.1);
+    exactly = λ keys have. x.exactly keys (changes_back c.interests face x.ear keys have);
+  }
+
+  module _ (s : State) (t : TextCall) where
+    face_back : (face : ℕ) (ear : Ear) (heard : Heard) → FaceTold s.core (without_unsent places c) s.core.interests t s.core.ears face ear heard → FaceTold s.core c s.core.interests t s.core.ears face ear heard
+    face_back face ear heard x = record {
+      keeps = hears_back s.core.interests (ears_after s.core c s.core.interests t s.core.ears) face _ x.keeps;
+      some = (x.some.0, changes_back s.core.interests face ear x.some.0 x.some.1);
+      exactly = λ keys have. x.exactly keys (changes_on s.core.interests face ear keys have);
+      last = x.last;
+    }
+
+told_back : (s : State) (t : TextCall) (places : List Place) (c : Core) → Told s t (without_unsent places c) → Told s t c
+told_back s t places c x = record {
+  sound = x.sound;
+  enough = x.enough;
+  faces = x.faces;
+  hear = λ e face seen. let y = x.hear e face seen in (y.0, hears_back places c s.core.interests (ears_after s.core c s.core.interests t s.core.ears) face y.0 y.1);
+  ordered = x.ordered;
+  stays = λ face heard was seen h. face_back places c s t face h.ear heard (x.stays face heard was seen h);
+  comes = λ face was seen. face_back places c s t face (fresh_ear s.core.config.start.told) [] (x.comes face was seen);
+}
+
 module _ (config : Settings) (calls : List Call) (c : Call) (heards : ℕ → Heard) (lasts : ℕ → ℕ) where
   abbrev s : State
   s = state_after (opening_state config) calls
@@ -193,7 +234,7 @@ module _ (config : Settings) (calls : List Call) (c : Call) (heards : ℕ → He
     low_here low = subst (λ (x : Settings). x.start.told < 2 ^ 32) (sym (run_config calls (opening_state config))) low
 
     told_so : Told s t d
-    told_so = subst (λ (x : State). Told s t x.core) (settles_told s t h) by_laws
+    told_so = settled_to (Told s t) s t h (told_back s t) by_laws
       where
         by_laws : Told s t (after s c).core
         by_laws =
@@ -392,10 +433,18 @@ module _ (config : Settings) (calls : List Call) (c : Call) (heards : ℕ → He
   refused_forgets (call.InterestFinal f id) face z given d heard = ap (λ b. cond b (filter (is_due_at face d) heard) heard) (ap (λ b. (f.0 == face) && b) given ∙ both_false (f.0 == face))
   refused_forgets x face z given d heard = refl
 
+  -- what is kept once this was heard
+  abbrev KeepsBy : Step → Core → List Telling → Type 0
+  KeepsBy z left told = Keeps config.start.told left (λ face. forget_undue face z left c (fold (if_told with_told face) (heards face) told)) (λ face. fold (if_told greatest_with face) (lasts face) told)
+
   step_keeps : Keeps config.start.told s.core heards lasts → Keeps config.start.told (after s c).core (λ face. heard_after face s c (heards face)) (λ face. last_after face s c (lasts face))
   step_keeps k =
       by_granted
       (λ z w. Keeps config.start.told w.core (λ face. forget_undue face z w.core c (fold (if_told with_told face) (heards face) (hear z.handed (follow s t).names))) (λ face. fold (if_told greatest_with face) (lasts face) (hear z.handed (follow s t).names))) s t
+      (λ text z w it. subst (KeepsBy z w.core) (sym (hear_out text z.handed w.gates (follow s t).names)) it)
+      (λ p places z w it.
+      subst (KeepsBy z (without_unsent (p ∷ places) w.core)) (sym (hear_ended (finish w.core (p ∷ places)).finals z.handed (follow s t).names))
+      (keeps_on (p ∷ places) w.core config.start.told _ _ it))
       (λ h.
       subst (λ (x : (ℕ → Heard) × (ℕ → ℕ)). Keeps config.start.told (accepted s.core t) x.0 x.1)
       (λ m. (
@@ -411,6 +460,10 @@ module _ (config : Settings) (calls : List Call) (c : Call) (heards : ℕ → He
       → TellsChanges (after s c).core face (heards face) (lasts face) (told_by s c)
   step_changes k plain =
       by_granted (λ z w. is_accepted z.outcome ≡ true → (face : ℕ) → IsNear face w.core → TellsChanges w.core face (heards face) (lasts face) (hear z.handed (follow s t).names)) s t
+      (λ text z w it given face n. subst (TellsChanges w.core face (heards face) (lasts face)) (sym (hear_out text z.handed w.gates (follow s t).names)) (it given face n))
+      (λ p places z w it given face n.
+      subst (TellsChanges (without_unsent (p ∷ places) w.core) face (heards face) (lasts face)) (sym (hear_ended (finish w.core (p ∷ places)).finals z.handed (follow s t).names))
+      (tells_on (p ∷ places) w.core face (heards face) (lasts face) _ (it given face (near_back (p ∷ places) w.core face n))))
       (λ h given face n. subst (TellsChanges (accepted s.core t) face (heards face) (lasts face)) (sym (granted_heard config s c i h)) (changes k h plain face n))
       (λ r given. absurd (false≢true given))
 
@@ -480,6 +533,10 @@ answers_interests config calls before rest face id keys wire is =
     by_granted
     (λ z w. is_accepted z.outcome ≡ true → IsNear face.0 w.core → TellsAnswer w.core face id (asked_by keys sd) (heard_in face.0 config before) (last_in face.0 config before) (hear z.handed (follow s (hearing face id keys sd)).names))
     s (hearing face id keys sd)
+    (λ text z w it given n. let x = it given n in record { ear = x.ear; is = x.is; exactly = hear_out text z.handed w.gates (follow s (hearing face id keys sd)).names ∙ x.exactly })
+    (λ p places z w it given n.
+    let x = it given (near_back (p ∷ places) w.core face.0 n) in
+    record { ear = x.ear; is = x.is; exactly = hear_ended (finish w.core (p ∷ places)).finals z.handed (follow s (hearing face id keys sd)).names ∙ x.exactly })
     (λ h given n.
     let f : Follows s.core face.0 (heard_in face.0 config before) (last_in face.0 config before) = kept face.0 (record { opened = n.opened; near = n.near }) in
     record {

@@ -15,6 +15,8 @@ use Rattle.zq_machine.proofs.Frame.{run_config}
 use Rattle.zq_machine.proofs.Hats.{kinds_of}
 use Rattle.zq_machine.proofs.Handing.{call_answers, call_behind, call_fits, call_ordered}
 use Rattle.zq_machine.proofs.LastIds.{run_last}
+use Rattle.zq_machine.proofs.Leaving.{all_gates, call_leaves}
+use Rattle.zq_machine.proofs.Within.{call_within}
 use Rattle.zq_machine.proofs.Promises.{request_promise, reply_promise, refusal_promise}
 use Rattle.zq_machine.proofs.Silent.{nothing_after}
 use Rattle.zq_machine.proofs.Interested.{all_asked}
@@ -31,14 +33,16 @@ kept : (config : Settings) (before : List Call) (c : Call) → KeepsPromises (st
 kept config before c =
     let s : State = state_after (opening_state config) before in
     record {
-      requests = request_promise s c;
+      requests = request_promise s c (run_sound before (opening_state config) (opening_sound config));
       replies = reply_promise s c;
-      waits = call_waits s c;
+      waits = call_waits s c (run_sound before (opening_state config) (opening_sound config));
       tells = tell_promise config s c (run_in_order config before);
       direct = number_promise config s c (run_in_order config before);
       answer = call_answers s c;
       fit = call_fits s c;
-      ordered = call_ordered s c (run_in_order config before).numbered;
+      leaves = call_leaves s c;
+      within = call_within config s c (run_in_order config before);
+      ordered = call_ordered config s c (run_in_order config before);
       behind = call_behind s c;
       finals = λ n. final_promise n s c (run_sound before (opening_state config) (opening_sound config)) (run_once n config before);
       closed = λ face. call_closed s face c;
@@ -53,6 +57,7 @@ headline config calls = record {
   routed = λ place. all_routed config calls place;
   asked = λ face. all_asked config calls face;
   listed = all_listed config calls;
+  gates = λ face. all_gates config calls face;
   kinds = λ place. kinds_of (at place (state_after (opening_state config) calls).core.hats) (at place (first_hats config)) ((run_in_order config calls).hats.shape place);
   places = (run_in_order config calls).hats.sorted;
   agrees = agree_always config calls;

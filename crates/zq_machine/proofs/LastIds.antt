@@ -1,5 +1,5 @@
 -- The id that was last given at a face is that of the last request that was handed to it.
-use Rattle.std.proofs.Common.{◌≡◌, ◌∙◌, refl, sym, ap, ℕ, Bool, true, false, cond, List, [], ◌∷◌, ◌++◌, fold, map, Option, Some, None, unwrap_or}
+use Rattle.std.proofs.Common.{append-nil, ◌≡◌, ◌∙◌, refl, sym, ap, ℕ, Bool, true, false, cond, List, [], ◌∷◌, ◌++◌, fold, map, Option, Some, None, unwrap_or}
 use Rattle.std.specs.Prelude.{◌==◌}
 use Rattle.std.specs.List.{list_any}
 use Rattle.std.specs.Map.{lookup}
@@ -29,12 +29,13 @@ use Rattle.zq_machine.specs.Headline.{asks, is_request}
 use Rattle.zq_machine.specs.Machine.{after, answer, settle, state_after, steps_from}
 use Rattle.zq_machine.specs.Selecting.{full_text, select, target_of}
 use Rattle.zq_machine.specs.State.{Core, State}
-use Rattle.zq_machine.specs.TextCalls.{TextCall, asking, replying, passing, read, said as said_by_face}
-use Rattle.zq_machine.specs.Writing.{write}
-use Rattle.zq_machine.proofs.Granted.{any_beside, by_granted, by_plain, told_by}
+use Rattle.zq_machine.specs.TextCalls.{TextCall, asked_said, asking, replying, passing, read}
+use Rattle.zq_machine.specs.Writing.{finish, sent_final, write}
+use Rattle.zq_machine.proofs.Granted.{KeptEnding, KeptOut, any_beside, by_granted, told_by}
+use Rattle.zq_machine.proofs.GoingOut.{fold_ended, fold_out}
 use Rattle.zq_machine.proofs.Changing.{number_test}
 use Rattle.zq_machine.proofs.Reading.{declare_read, withdraw_read}
-use Rattle.zq_machine.proofs.Promises.{granted_asks, is_asking}
+use Rattle.zq_machine.proofs.Asks.{granted_asks, is_asking}
 use Rattle.zq_key.proofs.Lookups.{found_after_insertion}
 
 -- ---- only requests give ids
@@ -101,21 +102,31 @@ module _ (face : ℕ) where
   abbrev KeepsLast : State → TextCall → Type 0
   KeepsLast s t = last_given (settle s t).core.queries face ≡ last_after face (last_given s.core.queries face) (answer s t)
 
+  -- gates and finals give none
+  out_last : (id : ℕ) → KeptOut (λ z w. last_given w.core.queries face ≡ last_after face id z)
+  out_last id text z w it = it ∙ sym (fold_out text (last_with face) (λ x h left. refl) z.handed w.gates id)
+
+  ended_last : (id : ℕ) → KeptEnding (λ z w. last_given w.core.queries face ≡ last_after face id z)
+  ended_last id p places z w it = it ∙ sym (fold_ended (last_with face) (λ x f. same_with x (sent_final f) refl) z.handed (finish w.core (p ∷ places)).finals id)
+
   quiet : (s : State) (t : TextCall) → is_asking t ≡ false → KeepsLast s t
   quiet s t h =
-      by_granted (λ z w. last_given w.core.queries face ≡ last_after face (last_given s.core.queries face) z) s t
+      by_granted (λ z w. last_given w.core.queries face ≡ last_after face (last_given s.core.queries face) z) s t (out_last (last_given s.core.queries face)) (ended_last (last_given s.core.queries face))
       (λ passed.
       same_last s.core t h
       ∙ sym (none_last (write s.names (granted s.core t).messages ++ (told_by s t).handed) (last_given s.core.queries face)
-      (any_beside s t (write s.names (granted s.core t).messages) asks (λ to text d n. refl) ∙ granted_asks s.names s.core t h)))
+      (any_beside s t (write s.names (granted s.core t).messages) asks (λ to d. refl) ∙ granted_asks s.names s.core t h)))
       (λ r. refl)
 
   call_last : (s : State) (c : Call) → KeepsLast s (read s c)
   unfolding is_asking
   call_last s (call.Request asker r now) =
       let t = read s (call.Request asker r now) in
-      by_plain (λ z w. last_given w.core.queries face ≡ last_after face (last_given s.core.queries face) z) s t refl
-      (λ passed. asked_last s.names s.core.queries asker (full_text (said_by_face asker r.wire s)) r (select s.core asker (said_by_face asker r.wire s) r))
+      let sd = asked_said asker r s in
+      by_granted (λ z w. last_given w.core.queries face ≡ last_after face (last_given s.core.queries face) z) s t (out_last (last_given s.core.queries face)) (ended_last (last_given s.core.queries face))
+      (λ passed.
+      asked_last s.names s.core.queries asker (full_text sd) r (select s.core asker sd r)
+      ∙ ap (fold (last_with face) (last_given s.core.queries face)) (sym (append-nil (write s.names (handed_requests s.core.queries asker (full_text sd) r (select s.core asker sd r))))))
       (λ x. refl)
   call_last s (call.DeclareQueryable f id wire info node) = quiet s (read s (call.DeclareQueryable f id wire info node)) (declare_read (λ t. is_asking t ≡ false) s f id wire info node refl refl)
   call_last s (call.UndeclareQueryable f id wire node) = quiet s (read s (call.UndeclareQueryable f id wire node)) (withdraw_read (λ t. is_asking t ≡ false) s f id wire node refl refl)

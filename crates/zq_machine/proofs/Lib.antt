@@ -2,7 +2,11 @@ pub mod Lists
 pub mod Writing
 pub mod Telling
 pub mod Reading
+pub mod GoingOut
+pub mod Asks
 pub mod Granted
+pub mod Sending
+pub mod Gates
 pub mod Hearing
 pub mod Frame
 pub mod Replies
@@ -14,6 +18,11 @@ pub mod Silent
 pub mod Waiting
 pub mod Waits
 pub mod Settled
+pub mod Ungated
+pub mod LettingGo
+pub mod Leaving
+pub mod Spaces
+pub mod Within
 pub mod Kept
 pub mod EntriesMoved
 pub mod HatsMoved

@@ -36,7 +36,7 @@ use Rattle.zq_machine.specs.TextCalls.{TextCall, opening, closing}
 use Rattle.zq_machine.proofs.Agreed.{InOrder as Kept}
 use Rattle.zq_machine.proofs.Changing.{number_test}
 use Rattle.zq_machine.proofs.DueEnds.{closed_undue}
-use Rattle.zq_machine.proofs.Granted.{settles_told}
+use Rattle.zq_machine.proofs.Granted.{settled_of}
 use Rattle.zq_machine.proofs.NeighbourDues.{all_keys, dues_of, rows_rise}
 use Rattle.zq_machine.proofs.NeighbourLooks.{looked_is}
 use Rattle.zq_machine.proofs.NeighbourIds.{fresh, new_face, opens}
@@ -120,7 +120,7 @@ module _ (config : Settings) (s : State) (i : Kept config s) (t : TextCall) (int
   granted_faces x a of n = there_still (accepted s.core x) x n ∙ of n
 
   pub faces_kept : refusal_of s.core t ≡ None → AreSound ears → AreOfOpen s.core ears → AreOfOpen w (ears_after s.core w ints t ears)
-  faces_kept fits a of = subst (λ (x : State). AreOfOpen x.core (ears_after s.core x.core ints t ears)) (sym (settles_told s t fits)) (granted_faces t a of)
+  faces_kept fits a of = settled_of (λ (x : Core). AreOfOpen x (ears_after s.core x ints t ears)) s t fits (λ places c it. it) (granted_faces t a of)
 
   -- ---- each open face's receiver
   still_there : (x : TextCall) (others : Ears) → opens x ≡ true → without_closed x others ≡ others

@@ -69,7 +69,7 @@ module _ (config : Settings) (s : State) (i : Kept config s) (ints : Interests) 
 
   pub new_face : (t : TextCall) (face : ℕ) → is_open face (settle s t).core ≡ true → is_open face s.core ≡ false → IsNew t face
   new_face t face =
-      by_granted (λ z x. is_open face x.core ≡ true → is_open face s.core ≡ false → IsNew t face) s t
+      by_granted (λ z x. is_open face x.core ≡ true → is_open face s.core ≡ false → IsNew t face) s t (λ text z w it. it) (λ p places z w it. it)
       (λ h. is_new t face) (λ r seen was. absurd (true≢false (sym seen ∙ was)))
 
   module _ (t : TextCall) (all : AllHear s.core ints ears)

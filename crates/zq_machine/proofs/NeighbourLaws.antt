@@ -77,7 +77,7 @@ module _ (config : Settings) (calls : List Call) where
 
   settled_less : (t : TextCall) (ints : Interests) (face : ℕ) (key : List ℕ) → makes_due t ≡ false → is_open face s.core ≡ true → is_some (due (settle s t).core ints face key) ≡ true → is_some (due s.core ints face key) ≡ true
   settled_less t ints face key none was =
-      by_granted (λ z x. is_some (due x.core ints face key) ≡ true → is_some (due s.core ints face key) ≡ true) s t
+      by_granted (λ z x. is_some (due x.core ints face key) ≡ true → is_some (due s.core ints face key) ≡ true) s t (λ text z w it. it) (λ p places z w it. it)
       (λ h. accepted_less config s i ints face key was t h (no_bringing t none)) (λ r some. some)
 
   pub all_told : (c : Call) (ints : Interests) (ears : Ears) → AllTold s.core (after s c).core ints (read s c) ears

@@ -28,7 +28,6 @@ use Rattle.zq_told.specs.Receiver.{Heard, Tied, heard_after, heard_on, memory_of
 use Rattle.zq_told.specs.Laws.{InOrder, aim, aim_on, ear_after, is_to, keys_for, last_given, told_alone, told_in}
 use Rattle.zq_told.proofs.Differing.{looks_up, tells_each}
 use Rattle.zq_told.proofs.Numbers.{ids_are_given}
-use Rattle.zq_told.proofs.Faces.{opens}
 use Rattle.zq_told.proofs.Hearing.{heard_is_told}
 use Rattle.zq_told.proofs.Leaving.{stays_in_order, told_aimed}
 use Rattle.zq_told.proofs.Settling.{keeps_up}
@@ -48,6 +47,7 @@ use Rattle.zq_machine.proofs.Agreeing.{some_of}
 use Rattle.zq_machine.proofs.Changing.{is_other, itself, number_test, one_number}
 use Rattle.zq_machine.proofs.DueKeys.{among, is_among, keys_rise}
 use Rattle.zq_machine.proofs.Dues.{due_kept}
+use Rattle.zq_machine.proofs.Writing.{settles_view}
 use Rattle.zq_machine.proofs.Granted.{by_granted, closed_after}
 use Rattle.zq_machine.proofs.NeighbourLooks.{looked_is}
 use Rattle.zq_machine.proofs.NeighbourDues.{Sorted, aims_at, among_filter, dues_rise, keys_at, keys_of_face, numbers, rows_rise}
@@ -145,7 +145,7 @@ module _ (config : Settings) (s : State) (i : Kept config s) (t : TextCall) (int
   looked_rise face = IsStrictlySortedBy-filter text_cmp (λ key. listens w ints face key) (due_touched s.core t face) ((keys_rise s.core).touched t face)
 
   pub faces_rise : IsStrictlySortedBy nat_cmp (keys_of w.faces)
-  faces_rise = by_granted (λ z x. IsStrictlySortedBy nat_cmp (keys_of x.core.faces)) s t (λ h. (accepted_in_order config s t h i).sound.sorted) (λ r. i.sound.sorted)
+  faces_rise = by_granted (λ z x. IsStrictlySortedBy nat_cmp (keys_of x.core.faces)) s t (λ text z w it. it) (λ p places z w it. it) (λ h. (accepted_in_order config s t h i).sound.sorted) (λ r. i.sound.sorted)
 
   pub all_rise : Sorted dues
   all_rise = subst Sorted (sym (looked_is s.core w ints t)) (dues_rise (λ n. dues_on w ints (due_touched s.core t n) n) w.faces faces_rise)
@@ -159,7 +159,7 @@ module _ (config : Settings) (s : State) (i : Kept config s) (t : TextCall) (int
 
     stays : (key : List ℕ) → is_due_touched s.core t face key ≡ false → due w ints face key ≡ due s.core ints face key
     stays key off =
-        by_granted (λ z x. is_open face x.core ≡ true → is_due_touched s.core t face key ≡ false → due x.core ints face key ≡ due s.core ints face key) s t
+        by_granted (λ z x. is_open face x.core ≡ true → is_due_touched s.core t face key ≡ false → due x.core ints face key ≡ due s.core ints face key) s t (λ text z w it. it) (λ p places z w it. it)
         (λ h. due_kept config s i ints face key t h) (λ r a b. refl) seen off
 
     -- on keys that are not looked at the same is due, if it was nothing where the face does not listen
@@ -202,7 +202,7 @@ module _ (config : Settings) (s : State) (i : Kept config s) (t : TextCall) (int
               let o : (o : OpenFace) × (at face s.core.faces ≡ Some o) = some_of (at face s.core.faces) was in
               let there = ap (λ n. option_map region_in (at n s.core.faces)) (one_number g.0 face e) ∙ ap (option_map region_in) o.1 in
               let gone = found_after_removal nat_cmp_total exact_unsigned g.0 face s.core.faces i.sound.sorted ∙ ap (λ b. cond b None (at face s.core.faces)) e in
-              absurd (false≢true (sym (ap is_some gone) ∙ sym (ap (λ (x : State). is_open face x.core) (closed_after s g (region_in o.0) there)) ∙ after))
+              absurd (false≢true (sym (ap is_some gone) ∙ sym (ap (λ (x : State). is_open face x.core) (closed_after s g (region_in o.0) there)) ∙ sym (settles_view (λ (x : Core). is_open face x) (λ places x. refl) s (closing g)) ∙ after))
           by false e = refl
 
       closed_beside : (ears : Ears) (x : TextCall) → is_open face (settle s x).core ≡ true → at_face face (without_closed x ears) ≡ at_face face ears
@@ -227,6 +227,6 @@ module _ (config : Settings) (s : State) (i : Kept config s) (t : TextCall) (int
 module _ (s : State) (o : Opening) where
   pub open_after : is_accepted (answer s (opening o)).outcome ≡ true → is_open s.core.next_face (settle s (opening o)).core ≡ true
   open_after =
-      by_granted (λ z x. is_accepted z.outcome ≡ true → is_open s.core.next_face x.core ≡ true) s (opening o)
+      by_granted (λ z x. is_accepted z.outcome ≡ true → is_open s.core.next_face x.core ≡ true) s (opening o) (λ text z w it. it) (λ p places z w it. it)
       (λ h given. ap is_some (found_after_insertion nat_cmp_total exact_unsigned s.core.next_face s.core.next_face (as_opened o) s.core.faces ∙ ap (λ b. cond b (Some (as_opened o)) (at s.core.next_face s.core.faces)) (itself s.core.next_face)))
       (λ r given. absurd (false≢true given))

@@ -18,13 +18,12 @@ use Rattle.zq_hat.specs.Trees.{region_keys}
 use Rattle.zq_interests.specs.Interests.{Interests, meets}
 use Rattle.zq_told.specs.declared.types.FaceDues.{FaceDues}
 use Rattle.zq_told.specs.declared.types.Way.TheVariants.{Unasked, Answering}
-use Rattle.zq_told.specs.Ears.{Ears, Ear, Told, at_face}
+use Rattle.zq_told.specs.Ears.{Ears, Ear, at_face}
 use Rattle.zq_told.specs.Leaving.{IsMeant, is_looked_at, news_of}
-use Rattle.zq_told.specs.Telling.{KeyDue, tell_faces, tell_key, tell_keys, tellings_for, entry_for, id_for, told_under, with_account}
+use Rattle.zq_told.specs.Telling.{KeyDue, tell_faces, tell_keys, with_account}
 use Rattle.zq_told.proofs.Meant.{tells_meant}
 use Rattle.zq_tables.specs.Naming.{NamingState}
 use Rattle.zq_interests.specs.declared.types.InterestEntry.{InterestEntry}
-use Rattle.zq_index.specs.Texts.{at_text}
 use Rattle.zq_tables.specs.declared.said.Said.{Said}
 use Rattle.zq_message.specs.declared.message.FaceId.{FaceId}
 use Rattle.zq_message.specs.declared.message.QueryableInfoType.{QueryableInfoType}

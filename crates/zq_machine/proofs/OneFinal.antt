@@ -17,7 +17,7 @@ use Rattle.zq_machine.specs.Deciding.{decide, is_accepted, accepted, after_repli
 use Rattle.zq_machine.specs.Machine.{follow, accepted_state, after, steps_from, state_after}
 use Rattle.zq_machine.specs.Headline.{finals_over, to_come}
 use Rattle.zq_machine.proofs.Finals.{IsSound, put_closed, timing_closed, call_balance, after_sound, opening_sound}
-use Rattle.zq_machine.proofs.Writing.{settles_core}
+use Rattle.zq_machine.proofs.Writing.{settles_view}
 use Rattle.zq_key.proofs.Sorted.{has_put}
 
 -- ---- a face that was closed stays so
@@ -54,7 +54,7 @@ follow_grows s t f h = by (is_accepted (decide s.core t).outcome) h
     by false g = g
 
 after_grows : (s : State) (c : Call) (f : ℕ) → is_closed (after s c).core.queries.closed f ≡ false → is_closed s.core.queries.closed f ≡ false
-after_grows s c f h = follow_grows s (read s c) f (ap (λ (z : Core). is_closed z.queries.closed f) (sym (settles_core s (read s c))) ∙ h)
+after_grows s c f h = follow_grows s (read s c) f (sym (settles_view (λ (z : Core). is_closed z.queries.closed f) (λ places c. refl) s (read s c)) ∙ h)
 
 -- ---- with more faces closed fewer finals are owed
 pub owed_less : (old new : List ℕ) (n : ℕ) → ((f : ℕ) → is_closed new f ≡ false → is_closed old f ≡ false) → (rs : List Record) → owed_by new n rs ≤ owed_by old n rs

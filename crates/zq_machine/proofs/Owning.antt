@@ -335,6 +335,6 @@ pub own_stays : (config : Settings) (calls : List Call) (c : Call) (place : ℕ)
 own_stays config calls c place key off =
     let s = state_after (opening_state config) calls in
     let i : InOrder config s = run_in_order config calls in
-    by_granted (λ z w. own_entry place key w.core.hats ≡ own_entry place key s.core.hats) s (read s c)
+    by_granted (λ z w. own_entry place key w.core.hats ≡ own_entry place key s.core.hats) s (read s c) (λ text z w it. it) (λ p places z w it. it)
     (λ h. own_kept config s (read s c) h i (granted_in_order config s c h i) place key off)
     (λ r. refl)

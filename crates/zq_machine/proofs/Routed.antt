@@ -29,13 +29,14 @@ use Rattle.zq_machine.specs.declared.call.Call.{Call}
 use Rattle.zq_machine.specs.declared.call.Call.TheVariants as call
 use Rattle.zq_machine.specs.declared.face.OpenFace.{OpenFace}
 use Rattle.zq_machine.specs.Configs.{Settings}
+use Rattle.zq_machine.specs.Gates.{entered_by, gate_at, space_of}
 use Rattle.zq_machine.specs.Deciding.{accepted, announced_by, causes, refusal_of, retracted_by, seat}
 use Rattle.zq_machine.specs.Machine.{after, state_after, step, steps_from}
 use Rattle.zq_machine.specs.Selecting.{full_text}
 use Rattle.zq_machine.specs.Standing.{Routed, Standing, announced_at, first_routed, retracted_at, routed, routed_after, routed_at, routed_by, routed_in, routes_in, standing_at, text_or_none, text_said, with_network, with_routed, without_routed}
 use Rattle.zq_machine.specs.State.{State, at, change_hat, hat_at, is_routing, joined, opening_state, put_hat}
 use Rattle.zq_machine.specs.TextCalls.{TextCall, opening, closing, declaring, withdrawing, finalizing, announcing, retracting, networking, tabling, by_router, read, said, said_or_none}
-use Rattle.zq_machine.proofs.Agreed.{InOrder, granted_in_order, numbered_in_order, opened_face, opening_in_order}
+use Rattle.zq_machine.proofs.Agreed.{InOrder, granted_in_order, stays_in_order, opened_face, opening_in_order}
 use Rattle.zq_machine.proofs.Always.{after_kept}
 use Rattle.zq_machine.proofs.Changing.{number_test, one_number, region_there}
 use Rattle.zq_machine.proofs.Finals.{is_there}
@@ -95,11 +96,11 @@ module _ (config : Settings) (s : State) (i : InOrder config s) (place : ℕ) wh
 
   module _ (f : FaceId) (x : (o : OpenFace) × (at f.0 s.core.faces ≡ Some o)) where
     abbrev st : Standing
-    st = before s.core.faces s.core.hats s.names i.tied f.0 x.0 x.1
+    st = before s.gates s.core.faces s.core.hats s.names i.tied f.0 x.0 x.1
 
     -- by what stands of the face
     by_face : (k : Routed → Standing → Routed) → option_map (λ (r : Routed). option_map_or (k r) (stands f.0) r) was ≡ option_map (λ (r : Routed). k r st) was
-    by_face k = λ j. option_map (λ (r : Routed). option_map_or (k r) (stands_so s.core.faces s.core.hats s.names i.tied f.0 x.0 x.1 j) r) was
+    by_face k = λ j. option_map (λ (r : Routed). option_map_or (k r) (stands_so s.gates s.core.faces s.core.hats s.names i.tied f.0 x.0 x.1 j) r) was
 
     -- the face's hat is changed
     its_routed : (g : HatState → HatState) (k : Routed → Routed) → ((h : HatState) → hat_at x.0.region s.core.hats ≡ Some h → routed (g h) ≡ k (routed h))
@@ -113,13 +114,13 @@ module _ (config : Settings) (s : State) (i : InOrder config s) (place : ℕ) wh
     source_is node h there routes = ap (option_and_then (λ (y : FaceState). in_routers (strategy_at h) (zid_at node y) (Some y.zid))) kept ∙ by (strategy_at h) routing
       where
         hat : (y : HatState) × (hat_at x.0.region s.core.hats ≡ Some y)
-        hat = its_hat s.core.faces s.core.hats s.names i.tied f.0 x.0 x.1
+        hat = its_hat s.gates s.core.faces s.core.hats s.names i.tied f.0 x.0 x.1
 
         same : hat.0 ≡ h
         same = let e : Some hat.0 ≡ Some h = sym hat.1 ∙ there in cc
 
         kept : face_at f.0 h ≡ Some st.kept
-        kept = ap (face_at f.0) (sym same) ∙ (its_kept s.core.faces s.core.hats s.names i.tied f.0 x.0 x.1).1
+        kept = ap (face_at f.0) (sym same) ∙ (its_kept s.gates s.core.faces s.core.hats s.names i.tied f.0 x.0 x.1).1
 
         routing : in_routers (strategy_at h) true false ≡ true
         routing =
@@ -133,13 +134,13 @@ module _ (config : Settings) (s : State) (i : InOrder config s) (place : ℕ) wh
         by strategy.Peer e = absurd (let gap : false ≡ true = e in cc)
 
     numbers : face_naming f.0 s.names ≡ st.numbers
-    numbers = numbers_are s.core.faces s.core.hats s.names i.tied f.0 x.0 x.1
+    numbers = numbers_are s.gates s.core.faces s.core.hats s.names i.tied f.0 x.0 x.1
 
     announced_makes : (id : ℕ) (w : WireExpr) (info : QueryableInfoType) (node : ℕ) → by_router f s.core ≡ true → Makes (call.DeclareQueryable f id w info node) (announcing f (said f w s) info node)
     announced_makes id w info node routes =
         its_routed (announced_by f.0 node (full_text (said f w s)) info) (λ r. option_map_or (with_routed (full_text (said f w s)) info r) (zid_at node st.kept) r)
         (λ h there. ap (λ o. routed (option_map_or (λ (z : Zid). announced z.0 (full_text (said f w s)) info h) o h)) (source_is node h there routes) ∙ by h (zid_at node st.kept))
-        ∙ (λ j. option_map (λ (r : Routed). cond (sym (region_says config 0 s i f x true routes) j && (region_index x.0.region == place)) (option_map_or (with_routed (full_text (said_of (numbers j) w)) info r) (zid_at node st.kept) r) r) was)
+        ∙ (λ j. option_map (λ (r : Routed). cond (sym (region_says config 0 s i f x true routes) j && (region_index x.0.region == place)) (option_map_or (with_routed (full_text (said_of (numbers j) (entered_by (space_of (gate_at f.0 s.gates)) w))) info r) (zid_at node st.kept) r) r) was)
         ∙ sym (by_face (announced_at config place w info node))
       where
         by : (h : HatState) (o : Option Zid) → routed (option_map_or (λ (z : Zid). announced z.0 (full_text (said f w s)) info h) o h) ≡ option_map_or (with_routed (full_text (said f w s)) info (routed h)) o (routed h)
@@ -155,7 +156,7 @@ module _ (config : Settings) (s : State) (i : InOrder config s) (place : ℕ) wh
 
     text_same : (w : Option WireExpr) → full_text (said_or_none f w s) ≡ text_or_none st w
     text_same None = refl
-    text_same (Some w) = ap (λ n. full_text (said_of n w)) numbers
+    text_same (Some w) = ap (λ n. full_text (said_of n (entered_by (space_of (gate_at f.0 s.gates)) w))) numbers
 
     retracted_makes : (id : ℕ) (w : Option WireExpr) (node : ℕ) → by_router f s.core ≡ true → Makes (call.UndeclareQueryable f id w node) (retracting f (said_or_none f w s) node)
     retracted_makes id w node routes =
@@ -217,7 +218,7 @@ module _ (config : Settings) (s : State) (i : InOrder config s) (place : ℕ) wh
 
   call_routed : (c : Call) → routed_at place (after s c) ≡ routed_after config place c (step s c) stands was
   call_routed c =
-      by_granted (λ t z. routed_at place z ≡ routed_after config place c t stands was) s (read s c)
+      by_granted (λ t z. routed_at place z ≡ routed_after config place c t stands was) s (read s c) (λ text z w it. it) (λ p places z w it. it)
       (λ h. granted_routed c h ∙ ap (λ b. cond b (option_map (routed_by config place c stands) was) was) (sym (granted_is_accepted s.core (read s c) h)))
       (λ r. refl)
 
@@ -226,7 +227,7 @@ run_routed : (config : Settings) (place : ℕ) (cs : List Call) (s : State) → 
     → routed_at place (state_after s cs) ≡ routed_in config place cs (steps_from s cs) (λ face. standing_at face s) (routed_at place s)
 run_routed config place [] s i = refl
 run_routed config place (c ∷ cs) s i =
-    run_routed config place cs (after s c) (after_kept (InOrder config) (granted_in_order config) (numbered_in_order config) s c i)
+    run_routed config place cs (after s c) (after_kept (InOrder config) (granted_in_order config) (stays_in_order config) s c i)
     ∙ (λ j. routed_in config place cs (steps_from (after s c) cs) (λ face. call_stands config face s i c j) (call_routed config s i place c j))
 
 pub all_routed : (config : Settings) (calls : List Call) (place : ℕ)

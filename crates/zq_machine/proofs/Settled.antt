@@ -18,10 +18,11 @@ use Rattle.zq_machine.specs.Selecting.{full_text, select, target_of}
 use Rattle.zq_machine.specs.TextCalls.{TextCall, opening, closing, naming, unnaming, declaring, withdrawing, asking, replying, ending, reporting, passing, listing, finalizing, announcing, retracting, networking, tabling, hearing, unhearing, read}
 use Rattle.zq_machine.specs.Deciding.{granted, accepted, after_replied, deadline, passing_finals}
 use Rattle.zq_machine.specs.Machine.{after, state_after, step}
-use Rattle.zq_machine.specs.Writing.{write}
+use Rattle.zq_machine.specs.Writing.{finish, is_unsent, write}
 use Rattle.zq_machine.specs.Waiting.{IsSettled, is_same, waits}
 use Rattle.zq_machine.specs.Headline.{FinalPromise, ends, finals_of, to_come}
-use Rattle.zq_machine.proofs.Finals.{IsSound, asked_count, call_balance, call_standing, finals_counted, none_replied, passed_count}
+use Rattle.zq_machine.proofs.Finals.{IsSound, asked_count, call_balance, call_standing, count_ended, finals_counted, none_replied, passed_count}
+use Rattle.zq_machine.proofs.GoingOut.{count_out}
 use Rattle.zq_machine.proofs.Granted.{by_granted, filter_beside}
 use Rattle.zq_machine.proofs.OneFinal.{one_at_first}
 use Rattle.zq_machine.proofs.Silent.{silent}
@@ -121,8 +122,13 @@ call_numbers : (n : ℕ) (s : State) (c : Call) → finals_of n (step s c) + num
 call_numbers n s c =
     let t = read s c in
     by_granted (λ z w. finals_of n z + numbers n w.core.queries ≤ numbers n s.core.queries) s t
+    (λ text z w less. subst (λ k. k + numbers n w.core.queries ≤ numbers n s.core.queries) (sym (count_out text (ends n) (λ h left. refl) z.handed w.gates)) less)
+    (λ p places z w less.
+    let told = count_ended n z.handed (finish w.core (p ∷ places)).finals in
+    let kept = let_numbers w.core.queries.closed n (is_unsent (p ∷ places)) w.core.queries.records in
+    omega (arith, told, kept, less))
     (λ h.
-    subst (λ l. length l + numbers n (accepted s.core t).queries ≤ numbers n s.core.queries) (sym (filter_beside s t (write s.names (granted s.core t).messages) (ends n) (λ to text d k. refl)))
+    subst (λ l. length l + numbers n (accepted s.core t).queries ≤ numbers n s.core.queries) (sym (filter_beside s t (write s.names (granted s.core t).messages) (ends n) (λ to d. refl)))
     (granted_numbers n s t))
     (λ r. omega arith)
 
@@ -151,4 +157,4 @@ settled n s c once some =
     (λ e. none_of n (waits n e) (λ r off. ap (λ b. b && list_any (is_same e) r.pending) off) (after s c).core.queries.records none, λ k. none_of n (λ (r : Record). (r.number == n) && has_reply k r) (λ r off. ap (λ b. b && has_reply k r) off) (after s c).core.queries.records none)
 
 pub final_promise : (n : ℕ) (s : State) (c : Call) → IsSound s → numbers n s.core.queries ≤ 1 → FinalPromise n s c
-final_promise n s c i once = record { balance = call_balance n s c i; settled = settled n s c once; silent = silent n s c; standing = call_standing s c i }
+final_promise n s c i once = record { balance = call_balance n s c i; settled = settled n s c once; silent = silent n s c i; standing = call_standing s c i }

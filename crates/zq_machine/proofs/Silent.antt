@@ -26,14 +26,17 @@ use Rattle.zq_machine.specs.Configs.{Settings}
 use Rattle.zq_machine.specs.State.{State, opening_state}
 use Rattle.zq_machine.specs.Selecting.{full_text, select}
 use Rattle.zq_machine.specs.TextCalls.{TextCall, opening, closing, naming, unnaming, declaring, withdrawing, asking, replying, ending, reporting, passing, listing, finalizing, announcing, retracting, networking, tabling, hearing, unhearing, read}
-use Rattle.zq_machine.specs.Deciding.{timed_out as text_timeout, granted, handed_replies, handed_request, handed_requests, handed_timeouts, passing_finals, replied}
-use Rattle.zq_machine.specs.Machine.{state_after, step, steps_from}
+use Rattle.zq_machine.specs.Deciding.{timed_out as text_timeout, accepted, granted, handed_replies, handed_request, handed_requests, handed_timeouts, passing_finals, replied}
+use Rattle.zq_machine.specs.Machine.{after, state_after, step, steps_from}
+use Rattle.zq_machine.specs.declared.call.Step.{Step}
 use Rattle.zq_machine.specs.Messages.{text_final}
-use Rattle.zq_machine.specs.Writing.{write, written}
+use Rattle.zq_machine.specs.Writing.{finish, sent_final, write, written}
 use Rattle.zq_machine.specs.Waiting.{is_of}
 use Rattle.zq_machine.specs.Headline.{finals_over, to_come}
 use Rattle.zq_machine.proofs.Granted.{any_beside, by_granted}
-use Rattle.zq_machine.proofs.Finals.{opening_sound}
+use Rattle.zq_machine.proofs.Finals.{IsSound, granted_balance, opening_sound, run_sound}
+use Rattle.zq_machine.proofs.GoingOut.{any_out}
+use Rattle.zq_machine.proofs.Writing.{finals_written, finish_balance}
 use Rattle.zq_machine.proofs.OneFinal.{granted_grows, one_at_first, owed_less, run_balance}
 
 -- ---- a request that is found, and whose asker is open, is owed a final
@@ -199,16 +202,33 @@ granted_silent n s (tabling face ids) none = refl
 granted_silent n s (hearing face id keys sd) none = refl
 granted_silent n s (unhearing face id) none = refl
 
-pub silent : (n : ℕ) (s : State) (c : Call) → to_come s.core.queries.closed n s.core.queries ≡ 0 → list_any (is_of n) (step s c).handed ≡ false
-silent n s c none =
+pub silent : (n : ℕ) (s : State) (c : Call) → IsSound s → to_come s.core.queries.closed n s.core.queries ≡ 0 → list_any (is_of n) (step s c).handed ≡ false
+silent n s c i none =
     let t = read s c in
-    by_granted (λ z w. list_any (is_of n) z.handed ≡ false) s t
-    (λ h. any_beside s t (write s.names (granted s.core t).messages) (is_of n) (λ to text d k. refl) ∙ granted_silent n s t none)
-    (λ r. refl)
+    let P : Step → State → Type 0 = λ z w. (to_come w.core.queries.closed n w.core.queries ≡ 0) × (list_any (is_of n) z.handed ≡ false) in
+    let both : P (step s c) (after s c) =
+    by_granted P s t
+    (λ text z w it. (it.0, any_out text (is_of n) (λ h left. refl) z.handed w.gates ∙ it.1))
+    (λ p places z w it.
+    let fs = (finish w.core (p ∷ places)).finals in
+    let kept = finish_balance n w.core (p ∷ places) in
+    let owed = it.0 in (
+      omega (arith, kept, owed),
+      list_any-append (is_of n) z.handed (map sent_final fs)
+          ∙ (λ j. it.1 j || (ap (list_any (is_of n)) (sym (finals_written w.names fs)) ∙ no_finals n w.names fs (omega (arith, kept, owed))) j),
+    ))
+    (λ h.
+    let balance = granted_balance n s t h i in
+    let less = owed_less s.core.queries.closed (accepted s.core t).queries.closed n (granted_grows s.core t) s.core.queries.records in (
+      omega (arith, balance, less, none),
+      any_beside s t (write s.names (granted s.core t).messages) (is_of n) (λ to d. refl) ∙ granted_silent n s t none,
+    ))
+    (λ r. (none, refl)) in
+    both.1
 
 -- and after its final it is handed nothing
 pub nothing_after : (config : Settings) (before : List Call) (c : Call) (n : ℕ) → finals_over n (steps_from (opening_state config) before) ≡ 1 → list_any (is_of n) (step (state_after (opening_state config) before) c).handed ≡ false
 nothing_after config before c n ended =
     let all = run_balance n before (opening_state config) (opening_sound config) in
     let first = one_at_first config n in
-    silent n (state_after (opening_state config) before) c (omega (arith, all, first, ended))
+    silent n (state_after (opening_state config) before) c (run_sound before (opening_state config) (opening_sound config)) (omega (arith, all, first, ended))

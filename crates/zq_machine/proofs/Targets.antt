@@ -143,7 +143,7 @@ module _ (faces : List (ℕ × OpenFace)) (rs : List Record) (aims : AllAim face
           let apart : is_at (nat_cmp face) e.face ≡ false = number_test face e.face ∙ nat_eq_equiv.symm face e.face ∙ not-true (e.face == face) other in
           ap is_some (found_after_removal nat_cmp_total exact_unsigned face e.face faces sorted ∙ ap (λ b. cond b None (at e.face faces)) apart) ∙ it
 
-  let_go_aims : (p : Pending → Bool) → AllAim faces (filter is_left (map (without p) rs))
+  pub let_go_aims : (p : Pending → Bool) → AllAim faces (filter is_left (map (without p) rs))
   let_go_aims p = all_still is_left (without p) pending_of (AimAt faces) (AimAt faces) (λ r. all_passing (AimAt faces) (AimAt faces) (λ e. not (p e)) (λ e passed it. it) r.pending) rs aims
 
   landed_aims : (k : ℕ) → AllAim faces (filter is_left (map (without_reply k) rs))

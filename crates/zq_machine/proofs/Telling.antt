@@ -1,5 +1,5 @@
 -- What faces are told is declarations, and it changes numbers of keys alone.
-use Rattle.std.proofs.Common.{◌≡◌, ◌∙◌, ap, refl, ℕ, Bool, false, cond, List, [], ◌∷◌, ◌++◌, map, Option, Some, None}
+use Rattle.std.proofs.Common.{◌≡◌, ◌∙◌, ap, refl, ℕ, Bool, false, cond, List, [], ◌∷◌, Option, Some, None}
 use Rattle.std.specs.Prelude.{◌||◌}
 use Rattle.std.specs.List.{AllByRecursion, cons_option, filter, filter_map, list_any}
 use Rattle.zq_message.specs.declared.message.Declare.{Declare}
@@ -7,53 +7,44 @@ use Rattle.zq_message.specs.declared.message.DeclareBody.TheVariants as body
 use Rattle.zq_message.specs.declared.message.FaceId.{FaceId}
 use Rattle.zq_message.specs.declared.message.Message.TheVariants as message
 use Rattle.zq_message.specs.declared.message.WireExpr.{WireExpr}
-use Rattle.zq_trees.specs.declared.types.Telling.{Telling as TreeTelling}
-use Rattle.zq_trees.specs.Tellings.{in_order}
 use Rattle.zq_names.specs.Texts.{nonwild}
 use Rattle.zq_ids.specs.declared.decl.DeclKey.{DeclKey}
-use Rattle.zq_tables.specs.Naming.{FaceKeys, NamingState, change_naming, face_keys, plain, with_told_number}
-use Rattle.zq_interests.specs.Interests.{Interests}
-use Rattle.zq_told.specs.Ears.{Ears}
+use Rattle.zq_tables.specs.Naming.{NamingState, change_naming, plain, with_told_number}
 use Rattle.zq_machine.specs.Handing.{Handed}
-use Rattle.zq_machine.specs.Messages.{Telling, TellingBody, all_told, from_hat, key_ended, key_told}
-use Rattle.zq_machine.specs.Neighbours.{due_told, kept_told}
+use Rattle.zq_machine.specs.Messages.{Telling, TellingBody, all_told, key_ended, key_told}
 use Rattle.zq_machine.specs.State.{Core}
-use Rattle.zq_machine.specs.TextCalls.{TextCall}
-use Rattle.zq_machine.specs.Trees.{all_own_told, touched, tree_told}
-use Rattle.zq_machine.specs.Writing.{and_then, leaving, tell, tell_body, tell_by, tell_declare, tell_number, told_key}
+use Rattle.zq_machine.specs.Writing.{and_then, tell, tell_body, tell_by, tell_declare, tell_number, told_key}
 use Rattle.zq_machine.proofs.Lists.{all_append}
 
 -- ---- what is handed
--- a declaration on a text as a face with these keys is handed it
-abbrev pub declared : FaceId → List ℕ → Declare → FaceKeys → Handed
-declared to text d n = record { to = to; number = None; reply = None; message = message.Declare d; leaves = leaving n text (message.Declare d) }
+-- a declaration as a face is handed it, before its gate says what leaves of it
+abbrev pub declared : FaceId → Declare → Handed
+declared to d = record { to = to; number = None; reply = None; message = message.Declare d; leaves = Some (message.Declare d) }
 
 -- it holds of every declaration
 abbrev pub OfDeclared : (Handed → Type 0) → Type 0
-OfDeclared P = (to : FaceId) (text : List ℕ) (d : Declare) (n : FaceKeys) → P (declared to text d n)
+OfDeclared P = (to : FaceId) (d : Declare) → P (declared to d)
 
 -- a number is declared
 abbrev pub number_declare : List ℕ → ℕ → Declare
 number_declare text id = record { interest = None; node = 0; body = body.DeclareKeyExpr id (plain (nonwild text)) }
 
 module _ (P : Handed → Type 0) (each : OfDeclared P) where
-  one_all : (to : FaceId) (text : List ℕ) (d : Declare) (names : NamingState) → AllByRecursion P (tell_declare to text d names).handed
-  one_all to text d names = (each to text d (face_keys to.0 names), tt)
+  one_all : (to : FaceId) (d : Declare) (names : NamingState) → AllByRecursion P (tell_declare to d names).handed
+  one_all to d names = (each to d, tt)
 
   key_all : (c : Core) (to : FaceId) (text : List ℕ) (make : DeclKey → Declare) (names : NamingState) → AllByRecursion P (tell_by c to text make names).handed
   key_all c to text make names = by (told_key c to text names).declared
     where
-      by : (o : Option ℕ) → AllByRecursion P (and_then (tell_number to text o names) (tell_declare to text (make (told_key c to text names)))).handed
-      by None = one_all to text (make (told_key c to text names)) names
-      by (Some id) =
-          let numbered = change_naming to.0 (with_told_number text (Some id)) names in
-          (each to (nonwild text) (number_declare text id) (face_keys to.0 numbered), one_all to text (make (told_key c to text names)) numbered)
+      by : (o : Option ℕ) → AllByRecursion P (and_then (tell_number to text o names) (tell_declare to (make (told_key c to text names)))).handed
+      by None = one_all to (make (told_key c to text names)) names
+      by (Some id) = (each to (number_declare text id), one_all to (make (told_key c to text names)) names)
 
   body_all : (c : Core) (t : Telling) (b : TellingBody) (names : NamingState) → AllByRecursion P (tell_body c t b names).handed
   body_all c t (key_told id text info) names = key_all c t.to text (λ k. record { interest = t.interest; node = t.node; body = body.DeclareQueryable id k.wire info }) names
-  body_all c t (key_ended id None) names = one_all t.to [] (record { interest = t.interest; node = t.node; body = body.UndeclareQueryable id None }) names
+  body_all c t (key_ended id None) names = one_all t.to (record { interest = t.interest; node = t.node; body = body.UndeclareQueryable id None }) names
   body_all c t (key_ended id (Some text)) names = key_all c t.to text (λ k. record { interest = t.interest; node = t.node; body = body.UndeclareQueryable id (Some k.wire) }) names
-  body_all c t all_told names = one_all t.to [] (record { interest = t.interest; node = t.node; body = body.DeclareFinal }) names
+  body_all c t all_told names = one_all t.to (record { interest = t.interest; node = t.node; body = body.DeclareFinal }) names
 
   -- what holds of every declaration holds of all that is told
   pub told_all : (c : Core) (ts : List Telling) (names : NamingState) → AllByRecursion P (tell c ts names).handed
@@ -70,24 +61,22 @@ declare_of t (key_ended id (Some text)) w = record { interest = t.interest; node
 declare_of t all_told w = record { interest = t.interest; node = t.node; body = body.DeclareFinal }
 
 -- what holds of each declared number, and of the declaration of each thing that is told, holds of all that is told
-module _ (P : Handed → Type 0) (number : (to : FaceId) (text : List ℕ) (id : ℕ) (n : FaceKeys) → P (declared to (nonwild text) (number_declare text id) n)) where
+module _ (P : Handed → Type 0) (number : (to : FaceId) (text : List ℕ) (id : ℕ) → P (declared to (number_declare text id))) where
   abbrev pub IsTold : Telling → Type 0
-  IsTold t = (text : List ℕ) (w : WireExpr) (n : FaceKeys) → P (declared t.to text (declare_of t t.body w) n)
+  IsTold t = (w : WireExpr) → P (declared t.to (declare_of t t.body w))
 
-  key_each : (c : Core) (to : FaceId) (text : List ℕ) (make : WireExpr → Declare) → ((w : WireExpr) (n : FaceKeys) → P (declared to text (make w) n)) → (names : NamingState) → AllByRecursion P (tell_by c to text (λ k. make k.wire) names).handed
+  key_each : (c : Core) (to : FaceId) (text : List ℕ) (make : WireExpr → Declare) → ((w : WireExpr) → P (declared to (make w))) → (names : NamingState) → AllByRecursion P (tell_by c to text (λ k. make k.wire) names).handed
   key_each c to text make each names = by (told_key c to text names).declared
     where
-      by : (o : Option ℕ) → AllByRecursion P (and_then (tell_number to text o names) (tell_declare to text (make (told_key c to text names).wire))).handed
-      by None = (each (told_key c to text names).wire (face_keys to.0 names), tt)
-      by (Some id) =
-          let numbered = change_naming to.0 (with_told_number text (Some id)) names in
-          (number to text id (face_keys to.0 numbered), (each (told_key c to text names).wire (face_keys to.0 numbered), tt))
+      by : (o : Option ℕ) → AllByRecursion P (and_then (tell_number to text o names) (tell_declare to (make (told_key c to text names).wire))).handed
+      by None = (each (told_key c to text names).wire, tt)
+      by (Some id) = (number to text id, (each (told_key c to text names).wire, tt))
 
-  body_each : (c : Core) (t : Telling) (b : TellingBody) → ((text : List ℕ) (w : WireExpr) (n : FaceKeys) → P (declared t.to text (declare_of t b w) n)) → (names : NamingState) → AllByRecursion P (tell_body c t b names).handed
-  body_each c t (key_told id text info) each names = key_each c t.to text (declare_of t (key_told id text info)) (each text) names
-  body_each c t (key_ended id None) each names = (each [] (plain []) (face_keys t.to.0 names), tt)
-  body_each c t (key_ended id (Some text)) each names = key_each c t.to text (declare_of t (key_ended id (Some text))) (each text) names
-  body_each c t all_told each names = (each [] (plain []) (face_keys t.to.0 names), tt)
+  body_each : (c : Core) (t : Telling) (b : TellingBody) → ((w : WireExpr) → P (declared t.to (declare_of t b w))) → (names : NamingState) → AllByRecursion P (tell_body c t b names).handed
+  body_each c t (key_told id text info) each names = key_each c t.to text (declare_of t (key_told id text info)) each names
+  body_each c t (key_ended id None) each names = (each (plain []), tt)
+  body_each c t (key_ended id (Some text)) each names = key_each c t.to text (declare_of t (key_ended id (Some text))) each names
+  body_each c t all_told each names = (each (plain []), tt)
 
   pub told_each : (c : Core) (ts : List Telling) (names : NamingState) → AllByRecursion IsTold ts → AllByRecursion P (tell c ts names).handed
   told_each c [] names all = tt

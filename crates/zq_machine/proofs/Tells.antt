@@ -1,5 +1,5 @@
 -- What the receivers of a call's messages hear is what faces are told.
-use Rattle.std.proofs.Common.{◌≡◌, ◌∙◌, ap, true, cond, ◌++◌, None}
+use Rattle.std.proofs.Common.{◌≡◌, ◌∙◌, ap, true, cond, ◌∷◌, ◌++◌, None}
 use Rattle.std.proofs.lemmas.Bool.{false≢true}
 use Rattle.zq_machine.specs.declared.call.Call.{Call}
 use Rattle.zq_machine.specs.Configs.{Settings}
@@ -9,9 +9,10 @@ use Rattle.zq_machine.specs.Hearing.{hear}
 use Rattle.zq_machine.specs.Machine.{accepted_state, follow}
 use Rattle.zq_machine.specs.State.{State}
 use Rattle.zq_machine.specs.TextCalls.{TextCall, read}
-use Rattle.zq_machine.specs.Writing.{write}
+use Rattle.zq_machine.specs.Writing.{finish, write}
 use Rattle.zq_machine.proofs.Agreed.{InOrder, granted_in_order}
 use Rattle.zq_machine.proofs.DueHeard.{written_unheard}
+use Rattle.zq_machine.proofs.GoingOut.{hear_ended, hear_out}
 use Rattle.zq_machine.proofs.Granted.{by_granted, granted_is_accepted, told_by}
 use Rattle.zq_machine.proofs.NeighboursTold.{due_heard}
 
@@ -34,5 +35,7 @@ pub tell_promise : (config : Settings) (s : State) (c : Call) → InOrder config
 tell_promise config s c i =
     let t = read s c in
     by_granted (λ z w. is_accepted z.outcome ≡ true → hear z.handed (follow s t).names ≡ told_of s.core t) s t
+    (λ text z w it a. hear_out text z.handed w.gates (follow s t).names ∙ it a)
+    (λ p places z w it a. hear_ended (finish w.core (p ∷ places)).finals z.handed (follow s t).names ∙ it a)
     (λ h a. granted_heard config s c i h)
     (λ r a. absurd (false≢true a))

@@ -110,23 +110,24 @@ module _ (n : ℕ) (e : Pending) where
   owes_timing (t ∷ ts) s = owes_timing ts (after_timeout s t) ∙ owes_after_put t.number s (is_some t.reply)
 
 -- ---- the entries of a new request
-module _ (e : Pending) (moment : ℕ) where
-  abbrev pub asked : ℕ × ℕ → Bool
-  asked p = is_same e (entry_at moment p)
+-- a test of the entries that wait up to one moment
+module _ (test : Pending → Bool) (moment : ℕ) where
+  abbrev at_moment : ℕ × ℕ → Bool
+  at_moment p = test (entry_at moment p)
 
-  insert_by : (p x : Pending) (xs : List Pending) (o : Ordering) → ordering_then (nat_cmp p.face x.face) (nat_cmp p.id x.id) ≡ o → p.deadline ≡ x.deadline → list_any (is_same e) (insert_pending xs p) ≡ (is_same e p || list_any (is_same e) xs)
-      → list_any (is_same e) (match_ordering o (p ∷ x ∷ xs) (p ∷ xs) (x ∷ insert_pending xs p)) ≡ (is_same e p || (is_same e x || list_any (is_same e) xs))
+  insert_by : (p x : Pending) (xs : List Pending) (o : Ordering) → ordering_then (nat_cmp p.face x.face) (nat_cmp p.id x.id) ≡ o → p.deadline ≡ x.deadline → list_any test (insert_pending xs p) ≡ (test p || list_any test xs)
+      → list_any test (match_ordering o (p ∷ x ∷ xs) (p ∷ xs) (x ∷ insert_pending xs p)) ≡ (test p || (test x || list_any test xs))
   insert_by p x xs Less g d ih = refl
   insert_by p x xs Equal g d ih =
       let place : ◌≡◌ {A = ℕ × ℕ} (p.face, p.id) (x.face, x.id) = place_exact (p.face, p.id) (x.face, x.id) g in
       let same : p ≡ x = λ j. record { face = (place j).0; id = (place j).1; deadline = d j } in
-      sym (or_self_left (is_same e p) (list_any (is_same e) xs)) ∙ ap (λ y. is_same e p || (is_same e y || list_any (is_same e) xs)) same
-  insert_by p x xs Greater g d ih = ap (λ b. is_same e x || b) ih ∙ or_swap (is_same e x) (is_same e p) (list_any (is_same e) xs)
+      sym (or_self_left (test p) (list_any test xs)) ∙ ap (λ y. test p || (test y || list_any test xs)) same
+  insert_by p x xs Greater g d ih = ap (λ b. test x || b) ih ∙ or_swap (test x) (test p) (list_any test xs)
 
   abbrev AllUntil : List Pending → Type 0
   AllUntil xs = AllByRecursion (λ (x : Pending). moment ≡ x.deadline) xs
 
-  inserted : (p : ℕ × ℕ) (xs : List Pending) → AllUntil xs → list_any (is_same e) (insert_pending xs (entry_at moment p)) ≡ (asked p || list_any (is_same e) xs)
+  inserted : (p : ℕ × ℕ) (xs : List Pending) → AllUntil xs → list_any test (insert_pending xs (entry_at moment p)) ≡ (at_moment p || list_any test xs)
   inserted p [] all = refl
   inserted p (x ∷ xs) all = insert_by (entry_at moment p) x xs _ refl all.0 (inserted p xs all.1)
 
@@ -139,20 +140,24 @@ module _ (e : Pending) (moment : ℕ) where
   still_until p [] all = (refl, tt)
   still_until p (x ∷ xs) all = until_by (entry_at moment p) x xs (ordering_then (nat_cmp p.0 x.face) (nat_cmp p.1 x.id)) refl all.0 all.1 (still_until p xs all.1)
 
-  entries_by : (places : List (ℕ × ℕ)) (xs : List Pending) → AllUntil xs → list_any (is_same e) (fold (λ l p. insert_pending l (entry_at moment p)) xs places) ≡ (list_any asked places || list_any (is_same e) xs)
+  entries_by : (places : List (ℕ × ℕ)) (xs : List Pending) → AllUntil xs → list_any test (fold (λ l p. insert_pending l (entry_at moment p)) xs places) ≡ (list_any at_moment places || list_any test xs)
   entries_by [] xs all = refl
   entries_by (p ∷ places) xs all =
       entries_by places (insert_pending xs (entry_at moment p)) (still_until p xs all)
-      ∙ ap (λ b. list_any asked places || b) (inserted p xs all)
-      ∙ or_swap (list_any asked places) (asked p) (list_any (is_same e) xs)
-      ∙ sym (or_assoc (asked p) (list_any asked places) (list_any (is_same e) xs))
+      ∙ ap (λ b. list_any at_moment places || b) (inserted p xs all)
+      ∙ or_swap (list_any at_moment places) (at_moment p) (list_any test xs)
+      ∙ sym (or_assoc (at_moment p) (list_any at_moment places) (list_any test xs))
 
-  entries_are : (places : List (ℕ × ℕ)) → list_any (is_same e) (entries_at moment places) ≡ list_any asked places
-  entries_are places = entries_by places [] tt ∙ or-false (list_any asked places)
+  pub entries_are : (places : List (ℕ × ℕ)) → list_any test (entries_at moment places) ≡ list_any at_moment places
+  entries_are places = entries_by places [] tt ∙ or-false (list_any at_moment places)
+
+module _ (e : Pending) (moment : ℕ) where
+  abbrev pub asked : ℕ × ℕ → Bool
+  asked p = is_same e (entry_at moment p)
 
   pub owes_asked : (n number : ℕ) (asker : FaceId) (id qos : ℕ) (places : List (ℕ × ℕ)) → owes n e (asked_records number asker id qos places moment) ≡ ((number == n) && list_any asked places)
   owes_asked n number asker id qos [] = sym (and-false (number == n))
-  owes_asked n number asker id qos (p ∷ places) = or-false _ ∙ ap (λ b. (number == n) && b) (entries_are (p ∷ places))
+  owes_asked n number asker id qos (p ∷ places) = or-false _ ∙ ap (λ b. (number == n) && b) (entries_are (is_same e) moment (p ∷ places))
 
 -- ---- replies in flight
 module _ (n k : ℕ) where

@@ -1,4 +1,4 @@
--- A call of which all leaves is answered its messages one by one, with what faces are told behind them, and leaves what it changes itself, with the numbers that were told.
+-- A call before the gates of faces is answered its messages one by one, with what faces are told behind them, and leaves what it changes itself, with the numbers that were told; and so it goes through the gates.
 use Rattle.std.proofs.Common.{◌≡◌, ℕ, true, false, cond, List, [], ◌∷◌, ◌++◌, map, Option, Some, None, refl, sym, ap, ◌∙◌, append-nil, arith}
 use Rattle.std.specs.Prelude.{not, ◌+◌}
 use Rattle.zq_query.specs.Balance.{finals_under, owed_by}
@@ -20,24 +20,13 @@ use Rattle.zq_machine.specs.Handing.{Handed}
 use Rattle.zq_machine.specs.declared.call.Outcome.TheVariants as outcome
 use Rattle.zq_machine.specs.declared.call.Refusal.TheVariants as refusal
 use Rattle.zq_machine.specs.declared.call.Step.{Step}
-use Rattle.zq_machine.specs.Messages.{Decided, TextMessage, text_final, text_reply, text_request}
+use Rattle.zq_machine.specs.Messages.{Decided, text_final}
 use Rattle.zq_machine.specs.State.{Core, State, at, face_region, region_in}
 use Rattle.zq_machine.specs.TextCalls.{TextCall, asking, closing, passing}
 use Rattle.zq_machine.specs.Deciding.{answered, deadline, decide, granted, handed_requests, handed_timeouts, is_accepted, passing_finals, refusal_of, told_of, with_queries}
-use Rattle.zq_machine.specs.Machine.{accepted_state, answer, finishing, follow, sending, settle}
-use Rattle.zq_machine.specs.Writing.{Place, Told, finish, is_unsent, sent_final, tell, unsent, write, written}
-
--- ---- the one lemma
-
--- every message leaves
-pub all_leave : (names : NamingState) (ms : List TextMessage) → unsent (write names ms) ≡ []
-all_leave names [] = refl
-all_leave names (text_request r ∷ ms) = all_leave names ms
-all_leave names (text_reply r ∷ ms) = all_leave names ms
-all_leave names (text_final f ∷ ms) = all_leave names ms
-
-pub nothing_let_go : (s : State) (t : TextCall) → finishing s t ≡ record { core = (follow s t).core; finals = [] }
-nothing_let_go s t = ap (finish (follow s t).core) (all_leave s.names (decide s.core t).messages)
+use Rattle.zq_machine.specs.Machine.{accepted_state, answer, asked_text, follow, going_out, handing, settle, telling}
+use Rattle.zq_machine.specs.Writing.{Place, Told, finish, is_unsent, sent_final, tell, unsent, without_unsent, write, written}
+use Rattle.zq_machine.specs.Gates.{leave_all, let_out}
 
 -- ---- what is decided, with what is told
 -- the messages of a step one by one, by the old numbers, and what is told behind them
@@ -56,18 +45,53 @@ after_decided s t d = cond (is_accepted d.outcome) (accepted_state s t) s
 abbrev pub told_after : Decided → State → Told
 told_after d z = tell z.core d.told z.names
 
-pub answers_fully : (s : State) (t : TextCall) → answer s t ≡ fully s.names (told_after (decide s.core t) (follow s t)) (decide s.core t)
-answers_fully s t = λ j. record {
-  outcome = (decide s.core t).outcome;
-  handed = sending s t ++ (map sent_final (nothing_let_go s t j).finals ++ (tell (nothing_let_go s t j).core (decide s.core t).told (follow s t).names).handed);
-}
+-- ---- a call before the gates of faces
+-- its step: all that it hands, as if all of it left
+abbrev pub plain_answer : State → TextCall → Step
+plain_answer s t = record { outcome = (decide s.core t).outcome; handed = handing s t }
 
-pub settles_fully : (s : State) (t : TextCall) → settle s t ≡ with_told (follow s t) (told_after (decide s.core t) (follow s t))
-settles_fully s t = λ j. record { core = (nothing_let_go s t j).core; names = (tell (nothing_let_go s t j).core (decide s.core t).told (follow s t).names).names }
+-- the state then: what it changes itself, with the numbers that were told
+abbrev pub plain_settle : State → TextCall → State
+plain_settle s t = record { core = (follow s t).core; names = (telling s t).names; gates = (follow s t).gates }
 
--- what decides is changed by the call itself alone
-pub settles_core : (s : State) (t : TextCall) → (settle s t).core ≡ (follow s t).core
-settles_core s t = ap (λ (z : State). z.core) (settles_fully s t)
+-- ---- through the gates
+-- a step with what the gates let out
+abbrev pub gone_out : List ℕ → Step → State → Step
+gone_out text z w = record z { handed = (let_out text z.handed w.gates).handed }
+
+-- the state with what the gates keep of it
+abbrev pub gated : List ℕ → Step → State → State
+gated text z w = record w { gates = (leave_all text z.handed w.gates).gates }
+
+-- a step with the finals of requests that did not leave
+abbrev pub with_finals : List Place → Step → State → Step
+with_finals places z w = record z { handed = z.handed ++ map sent_final (finish w.core places).finals }
+
+-- the state without these
+abbrev pub let_go : List Place → State → State
+let_go places w = record w { core = (finish w.core places).core }
+
+-- both, of a plain step and its state
+abbrev pub answered_by : List ℕ → Step → State → Step
+answered_by text z w = with_finals (unsent (gone_out text z w).handed) (gone_out text z w) (gated text z w)
+
+abbrev pub settled_by : List ℕ → Step → State → State
+settled_by text z w = let_go (unsent (gone_out text z w).handed) (gated text z w)
+
+-- so a call is answered, and this is the state then
+pub answers_out : (s : State) (t : TextCall) → answer s t ≡ answered_by (asked_text t) (plain_answer s t) (plain_settle s t)
+answers_out s t = refl
+
+pub settles_out : (s : State) (t : TextCall) → settle s t ≡ settled_by (asked_text t) (plain_answer s t) (plain_settle s t)
+settles_out s t = refl
+
+-- what does not look at records of requests is changed by the call itself alone
+pub finished_view : {X : Type 0} (view : Core → X) → ((places : List Place) (c : Core) → view (without_unsent places c) ≡ view c) → (c : Core) (places : List Place) → view (finish c places).core ≡ view c
+finished_view view same c [] = refl
+finished_view view same c (p ∷ places) = same (p ∷ places) c
+
+pub settles_view : {X : Type 0} (view : Core → X) → ((places : List Place) (c : Core) → view (without_unsent places c) ≡ view c) → (s : State) (t : TextCall) → view (settle s t).core ≡ view (follow s t).core
+settles_view view same s t = finished_view view same (follow s t).core (unsent (going_out s t).handed)
 
 -- ---- what does not leave keeps the balance
 -- the finals of what did not leave, and those that are still to come, are those that were to come
@@ -84,23 +108,21 @@ finish_standing c (p ∷ ps) standing = letting_none_over (is_unsent (p ∷ ps))
 pub finals_written : (names : NamingState) (fs : List Final) → write names (map text_final fs) ≡ map sent_final fs
 finals_written names fs = map-map text_final (written names) sent_final (λ f. refl) fs
 
--- ---- for the bodies: what is answered and left where nothing refuses a call that tells nothing
+-- ---- for the bodies: what is answered and left before the gates where nothing refuses a call that tells nothing
 -- the messages of a step one by one
 abbrev pub plainly : NamingState → Decided → Step
 plainly names d = record { outcome = d.outcome; handed = write names d.messages }
 
 pub answers_granted : (s : State) (t : TextCall) (handed : List Handed) → told_of s.core t ≡ [] → refusal_of s.core t ≡ None → handed ≡ write s.names (granted s.core t).messages
-    → ◌≡◌ {A = Step} (record { outcome = (granted s.core t).outcome; handed = handed }) (answer s t)
+    → ◌≡◌ {A = Step} (record { outcome = (granted s.core t).outcome; handed = handed }) (plain_answer s t)
 answers_granted s t handed none fits told =
     ap (λ (l : List Handed). record { outcome = (granted s.core t).outcome; handed = l }) (told ∙ sym (append-nil (write s.names (granted s.core t).messages)))
     ∙ (λ j. fully s.names (tell (after_decided s t (granted s.core t)).core (sym none j) (after_decided s t (granted s.core t)).names) (granted s.core t))
     ∙ ap (λ d. fully s.names (told_after d (after_decided s t d)) d) (ap (λ o. answered o (granted s.core t)) (sym fits))
-    ∙ sym (answers_fully s t)
 
-pub settles_granted : (s : State) (t : TextCall) → told_of s.core t ≡ [] → refusal_of s.core t ≡ None → is_accepted (granted s.core t).outcome ≡ true → settle s t ≡ accepted_state s t
+pub settles_granted : (s : State) (t : TextCall) → told_of s.core t ≡ [] → refusal_of s.core t ≡ None → is_accepted (granted s.core t).outcome ≡ true → plain_settle s t ≡ accepted_state s t
 settles_granted s t none fits accepts =
-    settles_fully s t
-    ∙ ap (λ d. with_told (after_decided s t d) (told_after d (after_decided s t d))) (ap (λ o. answered o (granted s.core t)) fits)
+    ap (λ d. with_told (after_decided s t d) (told_after d (after_decided s t d))) (ap (λ o. answered o (granted s.core t)) fits)
     ∙ (λ j. with_told (after_decided s t (granted s.core t)) (tell (after_decided s t (granted s.core t)).core (none j) (after_decided s t (granted s.core t)).names))
     ∙ ap (λ b. cond b (accepted_state s t) s) accepts
 
@@ -110,14 +132,14 @@ poll_fits s now fits = ap (λ b. cond b (Some refusal.NoFreeId) None) fits
 
 pub polled : (s : State) (now : ℕ) (handed : List Handed) → lacks_replies (timeouts now s.core.queries) s.core.queries ≡ false → passing_finals now s.core.queries ≡ []
     → handed ≡ write s.names (handed_timeouts s.core.faces (timeouts now s.core.queries))
-    → ◌≡◌ {A = Step} (record { outcome = outcome.Done; handed = handed }) (answer s (passing now))
+    → ◌≡◌ {A = Step} (record { outcome = outcome.Done; handed = handed }) (plain_answer s (passing now))
 polled s now handed fits none told =
     answers_granted s (passing now) handed refl (poll_fits s now fits)
     (told
     ∙ ap (write s.names) (sym (append-nil (handed_timeouts s.core.faces (timeouts now s.core.queries))))
     ∙ ap (λ fs. write s.names (handed_timeouts s.core.faces (timeouts now s.core.queries) ++ map text_final fs)) (sym none))
 
-pub polled_after : (s : State) (now : ℕ) → lacks_replies (timeouts now s.core.queries) s.core.queries ≡ false → settle s (passing now) ≡ accepted_state s (passing now)
+pub polled_after : (s : State) (now : ℕ) → lacks_replies (timeouts now s.core.queries) s.core.queries ≡ false → plain_settle s (passing now) ≡ accepted_state s (passing now)
 polled_after s now fits = settles_granted s (passing now) refl (poll_fits s now fits) refl
 
 -- an open face is closed
@@ -136,12 +158,12 @@ module _ (s : State) (face : FaceId) (sd : Said) (r : Request) (now : ℕ) (open
       ∙ ap (λ b. cond b (Some refusal.NoFreeId) None) fits
 
   pub asked_step : (handed : List Handed) → handed ≡ write s.names (handed_requests s.core.queries face (full_text sd) r (select_for s.core face sd r (Some opened)))
-      → ◌≡◌ {A = Step} (record { outcome = outcome.Asked s.core.queries.requests; handed = handed }) (answer s (asking face sd r now))
+      → ◌≡◌ {A = Step} (record { outcome = outcome.Asked s.core.queries.requests; handed = handed }) (plain_answer s (asking face sd r now))
   asked_step handed told =
       answers_granted s (asking face sd r now) handed refl ask_fits
       (told ∙ ap (λ o. write s.names (handed_requests s.core.queries face (full_text sd) r (select_for s.core face sd r o))) (sym there))
 
-  pub asked_after : settle s (asking face sd r now) ≡ record { core = with_queries s.core (after_ask face r.id r.qos (map target_of (select_for s.core face sd r (Some opened))) (deadline s.core r.timeout now) s.core.queries); names = s.names }
+  pub asked_after : plain_settle s (asking face sd r now) ≡ record { core = with_queries s.core (after_ask face r.id r.qos (map target_of (select_for s.core face sd r (Some opened))) (deadline s.core r.timeout now) s.core.queries); names = s.names; gates = s.gates }
   asked_after =
       settles_granted s (asking face sd r now) refl ask_fits refl
-      ∙ ap (λ o. record { core = with_queries s.core (after_ask face r.id r.qos (map target_of (select_for s.core face sd r o)) (deadline s.core r.timeout now) s.core.queries); names = s.names }) there
+      ∙ ap (λ o. record { core = with_queries s.core (after_ask face r.id r.qos (map target_of (select_for s.core face sd r o)) (deadline s.core r.timeout now) s.core.queries); names = s.names; gates = s.gates }) there

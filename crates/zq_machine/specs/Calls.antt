@@ -1,14 +1,15 @@
 -- Kinds of calls.
-use Rattle.std.specs.Prelude.{ℕ, Bool, true, false, not, ◌&&◌, ◌||◌, ◌==◌, if◌then◌else◌, List, [], ◌∷◌, Option, Some, None}
+use Rattle.std.specs.Prelude.{ℕ, Bool, true, false, ◌&&◌, ◌==◌, if◌then◌else◌, List, [], ◌∷◌, Option, Some, None}
 use Rattle.zq_message.specs.declared.message.Declare.{Declare}
 use Rattle.zq_message.specs.declared.message.DeclareBody.{DeclareBody}
 use Rattle.zq_message.specs.declared.message.DeclareBody.TheVariants as body
 use Rattle.zq_message.specs.declared.message.FaceId.{FaceId}
+use Rattle.zq_message.specs.declared.message.Message.{Message}
+use Rattle.zq_message.specs.declared.message.Message.TheVariants as message
 use Rattle.zq_hat.specs.declared.types.FinalMark.TheVariants as mark
 use Rattle.zq_machine.specs.declared.call.Opening.{Opening}
 use Rattle.zq_machine.specs.declared.call.Call.{Call}
 use Rattle.zq_machine.specs.declared.call.Call.TheVariants as call
-use Rattle.zq_machine.specs.Configs.{Settings, has_region}
 
 -- the call reports a reply as sent
 abbrev pub is_sent : Call → Bool
@@ -34,11 +35,6 @@ has_none (x ∷ xs) = false
 abbrev pub is_plain_opening : Opening → Bool
 is_plain_opening o = is_absent o.namespace && has_none o.entry_deny && has_none o.exit_deny
 
--- calls that the gateway answers today: faces are opened without namespace and deny lists, and in regions that the configuration lacks, where they are refused
-abbrev pub is_built : Settings → Call → Bool
-is_built config (call.Open o) = not (has_region config.entries o.region) || is_plain_opening o
-is_built config c = true
-
 -- the call that the end of declarations makes, if it answers the interest 0
 abbrev pub ending_call : FaceId → Option ℕ → Option Call
 ending_call face None = None
@@ -55,3 +51,12 @@ declaring_call face node interest body.DeclareFinal = ending_call face interest
 -- the call that a face's declaration makes; the end of declarations makes one where they answer the interest 0, which every face has from its opening
 abbrev pub declared_call : FaceId → Declare → Option Call
 declared_call face d = declaring_call face d.node d.interest d.body
+
+-- the call that a message of a face makes at a moment; the end of declarations makes one where it answers the interest 0
+abbrev pub message_call : FaceId → Message → ℕ → Option Call
+message_call face (message.Interest i) now = Some (call.Interest face i.id i.keys i.wire)
+message_call face (message.InterestFinal id) now = Some (call.InterestFinal face id)
+message_call face (message.Declare d) now = declared_call face d
+message_call face (message.Request r) now = Some (call.Request face r now)
+message_call face (message.Response r) now = Some (call.Response face r)
+message_call face (message.ResponseFinal f) now = Some (call.ResponseFinal face f.rid)

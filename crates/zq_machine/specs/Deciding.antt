@@ -41,6 +41,7 @@ use Rattle.zq_machine.specs.declared.call.Refusal.TheVariants as refusal
 use Rattle.zq_machine.specs.Messages.{Decided, Telling, TextMessage, text_final, text_reply, text_request}
 use Rattle.zq_machine.specs.Neighbours.{due_told, marked, near_after, near_lack, with_new}
 use Rattle.zq_machine.specs.declared.face.OpenFace.{OpenFace}
+use Rattle.zq_machine.specs.Gates.{Gates, gate_for, is_sound, with_gate}
 use Rattle.zq_machine.specs.State.{Core, State, is_open, has_hat, is_full_region, hat_of, has_declared_in, clashes_in, joined, change_hat, change_hat_of}
 use Rattle.zq_machine.specs.TextCalls.{TextCall, opening, closing, naming, unnaming, declaring, withdrawing, asking, replying, ending, reporting, passing, listing, finalizing, announcing, retracting, networking, tabling, hearing, unhearing}
 use Rattle.zq_machine.specs.Selecting.{asked_by, router_by, select, target_of, zid_of, is_unscoped, says_key, says_key_or_nothing, full_text}
@@ -270,7 +271,7 @@ accepted c t = record (changed c t) { ears = ears_of c t }
 
 -- what may refuse a call, in order
 abbrev pub causes : Core → TextCall → List Cause
-causes c (opening o) = (not (has_hat o.region c), refusal.UnknownRegion) ∷ (is_full_region o.region c, refusal.UpstreamInUse) ∷ (lacks_face_number c, refusal.NoFreeId) ∷ (lacks_told c (opening o), refusal.NoFreeId) ∷ []
+causes c (opening o) = (not (has_hat o.region c), refusal.UnknownRegion) ∷ (not (is_sound o), refusal.InvalidKeyExpr) ∷ (is_full_region o.region c, refusal.UpstreamInUse) ∷ (lacks_face_number c, refusal.NoFreeId) ∷ (lacks_told c (opening o), refusal.NoFreeId) ∷ []
 causes c (closing face) = unknown_face face c ∷ []
 causes c (naming face id s standing) =
     unknown_face face c ∷ (is_unscoped s, refusal.UnknownScope) ∷ (not (says_key s), refusal.InvalidKeyExpr)
@@ -341,7 +342,7 @@ with_numbers s = insert_entry nat_cmp s.names s.core.next_face no_keys
 
 -- a face joins the open ones, with nothing that stands for a key yet
 abbrev pub seated : Opening → State → State
-seated o s = record { core = with_open o s.core; names = with_numbers s }
+seated o s = record s { core = with_open o s.core; names = with_numbers s }
 
 -- what stands for keys after a call that was accepted
 abbrev pub renamed : State → TextCall → NamingState
@@ -355,3 +356,11 @@ renamed s (hearing face id keys None) = s.names
 renamed s (hearing face id keys (Some said)) = change_naming face.0 (holding_interest id (full_text said)) s.names
 renamed s (unhearing face id) = change_naming face.0 (letting_interest id) s.names
 renamed s c = s.names
+
+-- ---- the gates of faces after it
+
+-- the gates after a call that was accepted, but for what is kept of what did not leave
+abbrev pub regated : State → TextCall → Gates
+regated s (opening o) = with_gate s.core.next_face (gate_for o) s.gates
+regated s (closing face) = remove_entry (is_at (nat_cmp face.0)) s.gates
+regated s t = s.gates

@@ -1,6 +1,6 @@
 -- What each call of a run promises: of requests, of replies, of finals and of refusals. It is said of the step that answers a call and of the lists before and after it.
-use Rattle.std.specs.Prelude.{◌≡◌, ℕ, ◌+◌, ◌<◌, ◌≤◌, Bool, true, false, not, ◌&&◌, ◌||◌, List, [], ◌∷◌, ◌++◌, map, length, Option, Some, None, if◌then◌else◌, nat_lt}
-use Rattle.std.specs.List.{AllByRecursion, filter, filter_map, list_any}
+use Rattle.std.specs.Prelude.{◌≡◌, ℕ, ◌+◌, ◌<◌, ◌≤◌, Bool, true, false, not, ◌&&◌, ◌||◌, List, [], ◌∷◌, ◌++◌, map, length, Option, Some, None, if◌then◌else◌, nat_lt, is_none}
+use Rattle.std.specs.List.{AllByRecursion, filter, filter_map, list_all, list_any}
 use Rattle.std.specs.List.Sorted.{IsStrictlySortedBy}
 use Rattle.std.specs.Map.{keys_of}
 use Rattle.std.specs.Option.{is_some, option_map}
@@ -17,7 +17,7 @@ use Rattle.zq_query.specs.Records.{QueryState, is_closed, is_pending, any_over, 
 use Rattle.zq_query.specs.Balance.{owed_by}
 use Rattle.zq_query.specs.Polling.{timeouts}
 use Rattle.zq_tables.specs.declared.said.Said.TheVariants as said
-use Rattle.zq_tables.specs.Naming.{read_by, face_keys, face_naming}
+use Rattle.zq_tables.specs.Naming.{read_by, face_naming}
 use Rattle.zq_machine.specs.declared.call.Call.{Call}
 use Rattle.zq_machine.specs.declared.call.Call.TheVariants as call
 use Rattle.zq_machine.specs.Handing.{Handed}
@@ -28,18 +28,21 @@ use Rattle.zq_machine.specs.declared.call.Step.{Step}
 use Rattle.zq_machine.specs.Configs.{Settings}
 use Rattle.zq_machine.specs.State.{State, at, first_hats, kind_of, opening_state}
 use Rattle.zq_machine.specs.Selecting.{select, full_text}
-use Rattle.zq_machine.specs.TextCalls.{read, said as said_by_face}
+use Rattle.zq_machine.specs.Gates.{gate_at, leave_all, leaves_by, through}
+use Rattle.zq_machine.specs.TextCalls.{asked_said, read, said_by_reply}
 use Rattle.zq_machine.specs.Asked.{AreCounted, IsHandedToAsker, asked_in, asked_number, closes, is_declaration, is_own, last_asked, opened_in, replies_in}
 use Rattle.zq_machine.specs.Deciding.{handed_replies, handed_timeouts, passing_finals, refusal_of, is_accepted, told_of}
 use Rattle.zq_machine.specs.Waiting.{Waits, IsSettled, ends_entry, lands, until, is_of}
 use Rattle.zq_machine.specs.Agreeing.{Agrees}
 use Rattle.zq_machine.specs.Standing.{asking_in, first_routed, listed_in, routed_at, routed_in, standing_at, standing_in}
 use Rattle.zq_machine.specs.Hearing.{hear}
+use Rattle.zq_machine.specs.Leaving.{gate_in}
+use Rattle.zq_machine.specs.Within.{AllStay}
 use Rattle.zq_machine.specs.Direct.{AreDirect}
 use Rattle.zq_machine.specs.Children.{ChildPromise}
 use Rattle.zq_machine.specs.Keeping.{AnswersInterests, ChangePromise, KeepPromise}
-use Rattle.zq_machine.specs.Machine.{step, steps, after, follow, state_after, refused_step}
-use Rattle.zq_machine.specs.Writing.{leaving, sent_final, write}
+use Rattle.zq_machine.specs.Machine.{asked_text, step, steps, after, follow, state_after, refused_step}
+use Rattle.zq_machine.specs.Writing.{sent_final, write}
 
 -- ---- requests
 
@@ -54,12 +57,12 @@ pub record IsHandedOn (s : State) (text : List ℕ) (r : Request) (o : QueryTarg
   pub qos : m.qos ≡ r.qos
   pub node : m.node ≡ o.node
 
--- the request is handed to the face of an offer, under its number and none of a reply, and what leaves of it is what the face's exit lets out
+-- the request is handed to the face of an offer, under its number and none of a reply, and what leaves of it is what the face's gate lets out
 pub record HandsOn (s : State) (text : List ℕ) (r : Request) (o : QueryTargetQabl) (h : Handed) : Type 0 where
   pub to : h.to ≡ o.face
   pub number : h.number ≡ Some s.core.queries.requests
   pub reply : h.reply ≡ None
-  pub leaves : h.leaves ≡ leaving (face_keys o.face.0 s.names) text h.message
+  pub leaves : h.leaves ≡ leaves_by (gate_at o.face.0 s.gates) text h.message
   pub copy : (m : Request) × (h.message ≡ message.Request m) × IsHandedOn s text r o m
 
 -- one message for each offer, in their order, and no other
@@ -69,10 +72,15 @@ HandsEach s text r [] (h ∷ hs) = ⊥
 HandsEach s text r (o ∷ os) [] = ⊥
 HandsEach s text r (o ∷ os) (h ∷ hs) = HandsOn s text r o h × HandsEach s text r os hs
 
--- with no offer the request is answered by its final
-abbrev pub HandsRequest : State → FaceId → List ℕ → Request → List QueryTargetQabl → List Handed → Type 0
-HandsRequest s face text r [] handed = handed ≡ sent_final (record { number = s.core.queries.requests; asker = face; id = r.id; qos = r.qos }) ∷ []
-HandsRequest s face text r (o ∷ os) handed = HandsEach s text r (o ∷ os) handed
+-- none of the messages leaves
+abbrev pub none_leaves : List Handed → Bool
+none_leaves hs = list_all (λ (h : Handed). is_none h.leaves) hs
+
+-- one request for each offer, in their order; and where none of them leaves, as where there is no offer, the asker's final behind them
+pub record HandsRequest (s : State) (face : FaceId) (text : List ℕ) (r : Request) (os : List QueryTargetQabl) (handed : List Handed) : Type 0 where
+  pub requests : List Handed
+  pub each : HandsEach s text r os requests
+  pub all : handed ≡ requests ++ (if none_leaves requests then sent_final (record { number = s.core.queries.requests; asker = face; id = r.id; qos = r.qos }) ∷ [] else [])
 
 -- the message is a request
 abbrev pub is_request : Message → Bool
@@ -87,13 +95,13 @@ is_request (message.Declare d) = false
 abbrev pub asks : Handed → Bool
 asks h = is_request h.message
 
--- an accepted request has the next number and is handed once to each face that the selection picks, which never picks the asker; no other call hands a request
+-- an accepted request has the next number and is handed once to each face that the selection picks for what the face may ask for, which never picks the asker; no other call hands a request
 abbrev pub RequestPromise : State → Call → Step → Type 0
 RequestPromise s (call.Request face r now) t =
     is_accepted t.outcome ≡ true →
     (t.outcome ≡ outcome.Asked s.core.queries.requests)
-    × HandsRequest s face (full_text (said_by_face face r.wire s)) r (select s.core face (said_by_face face r.wire s) r) t.handed
-    × (list_any (is_own face) (select s.core face (said_by_face face r.wire s) r) ≡ false)
+    × HandsRequest s face (full_text (asked_said face r s)) r (select s.core face (asked_said face r s) r) t.handed
+    × (list_any (is_own face) (select s.core face (asked_said face r s) r) ≡ false)
 RequestPromise s c t = list_any asks t.handed ≡ false
 
 -- ---- replies
@@ -116,12 +124,12 @@ pub record HandsReply (s : State) (face : FaceId) (r : Response) (t : Step) : Ty
   pub goes : ReplyTo
   pub there : next_reply face.0 r.rid s.core.queries ≡ Some goes
   pub outcome : t.outcome ≡ outcome.Replied goes.reply
-  pub handed : t.handed ≡ write s.names (handed_replies (full_text (said_by_face face r.wire s)) r goes)
+  pub handed : t.handed ≡ map (through [] s.gates) (write s.names (handed_replies (full_text (said_by_reply face r s)) r goes))
 
 -- an accepted reply is handed to its asker alone; a moment that has come hands an error reply for each entry that was too late and whose asker is open; no other call hands a reply
 abbrev pub ReplyPromise : State → Call → Step → Type 0
 ReplyPromise s (call.Response face r) t = is_accepted t.outcome ≡ true → HandsReply s face r t
-ReplyPromise s (call.Poll now) t = is_accepted t.outcome ≡ true → t.handed ≡ write s.names (handed_timeouts s.core.faces (timeouts now s.core.queries)) ++ map sent_final (passing_finals now s.core.queries)
+ReplyPromise s (call.Poll now) t = is_accepted t.outcome ≡ true → t.handed ≡ map (through [] s.gates) (write s.names (handed_timeouts s.core.faces (timeouts now s.core.queries))) ++ map sent_final (passing_finals now s.core.queries)
 ReplyPromise s c t = list_any replies_to t.handed ≡ false
 
 -- ---- finals
@@ -201,11 +209,10 @@ may_hand (call.SetNetwork r net) m = is_declaration m
 may_hand (call.Interest face id keys wire) m = is_declaration m
 may_hand c m = false
 
--- what is handed has a reply number exactly where it is a reply, and a request's number exactly where it is no declaration; it leaves as it is (as long as no face has an exit of its own), and is of a kind that the call may hand
+-- what is handed has a reply number exactly where it is a reply, and a request's number exactly where it is no declaration, and is of a kind that the call may hand
 pub record IsFit (may : Message → Bool) (h : Handed) : Type 0 where
   pub number : is_some h.number ≡ not (is_declaration h.message)
   pub flying : is_some h.reply ≡ replies_to h
-  pub out : h.leaves ≡ Some h.message
   pub kind : may h.message ≡ true
 
 -- what is handed is a declaration
@@ -215,6 +222,16 @@ declares h = is_declaration h.message
 -- what is handed is of a request
 abbrev pub is_of_request : Handed → Bool
 is_of_request h = not (declares h)
+
+-- ---- what leaves
+
+-- what leaves of what a call hands is what the gates of its faces let out, one message after another, by what they keep of those before it; and this is what they keep once the call is made
+abbrev pub LeavePromise : State → Call → Type 0
+LeavePromise s c = leave_all (asked_text (read s c)) (step s c).handed (follow s (read s c)).gates ≡ record { handed = (step s c).handed; gates = (after s c).gates }
+
+-- what leaves to a face in a namespace says nothing outside it, and to no face leaves a request on a key that its exit denies
+abbrev pub WithinPromise : State → Call → Type 0
+WithinPromise s c = AllStay (asked_text (read s c)) (step s c).handed (follow s (read s c)).gates
 
 -- ---- refusals
 
@@ -235,12 +252,14 @@ pub record KeepsPromises (s : State) (c : Call) : Type 0 where
   pub direct : NumberPromise s c
   pub answer : is_accepted (step s c).outcome ≡ true → AnswerPromise s c (step s c).outcome
   pub fit : AllByRecursion (IsFit (may_hand c)) (step s c).handed
+  pub leaves : LeavePromise s c
+  pub within : WithinPromise s c
   pub ordered : IsStrictlySortedBy nat_cmp (ended_in (step s c).handed)
   pub behind : filter is_of_request (step s c).handed ++ filter declares (step s c).handed ≡ (step s c).handed
   pub closed : (face : ℕ) → is_closed (after s c).core.queries.closed face ≡ (closes face c (step s c) || is_closed s.core.queries.closed face)
   pub refusals : RefusesBy (refusal_of s.core (read s c)) s c
 
--- what a whole run promises: each of its calls keeps its promises; the configuration stays, and what stands of each face and of the routers of each region, what each face asks to hear, and which lists of gateways there are, is what the calls and their answers made of it; the hats stand by place, and each is of what it was made for; the open faces, the hats and what stands for keys agree; what a child of a root's tree knows of it is what stands of the root; what the receiver of an open face outside regions of routers keeps is what is due to it, and each accepted call hands it the difference, or answers its interest by all that is due; accepted requests, opened faces and replies are numbered one after another, and the next face by what comes after them; and the id that was last given at a face is that of the last request handed to it; each message that it hands, but for declarations, is of a request, and each reply and final goes to the request's asker, under the asker's id; it hands one final of a request at most, and nothing of the request afterwards
+-- what a whole run promises: each of its calls keeps its promises; the configuration stays, and what stands of each face and of the routers of each region, what each face asks to hear, which lists of gateways there are, and which gates the faces have, is what the calls and their answers made of it; the hats stand by place, and each is of what it was made for; the open faces, the hats and what stands for keys agree; what a child of a root's tree knows of it is what stands of the root; what the receiver of an open face outside regions of routers keeps is what is due to it, and each accepted call hands it the difference, or answers its interest by all that is due; accepted requests, opened faces and replies are numbered one after another, and the next face by what comes after them; and the id that was last given at a face is that of the last request handed to it; each message that it hands, but for declarations, is of a request, and each reply and final goes to the request's asker, under the asker's id; it hands one final of a request at most, and nothing of the request afterwards
 pub record RunPromise (config : Settings) (calls : List Call) : Type 0 where
   pub each : (before rest : List Call) (c : Call) → calls ≡ before ++ c ∷ rest → KeepsPromises (state_after (opening_state config) before) c
   pub settings : (state_after (opening_state config) calls).core.config ≡ config
@@ -248,6 +267,7 @@ pub record RunPromise (config : Settings) (calls : List Call) : Type 0 where
   pub routed : (place : ℕ) → routed_at place (state_after (opening_state config) calls) ≡ routed_in config place calls (steps config calls) (λ face. None) (first_routed config place)
   pub asked : (face : ℕ) → interests_of face (state_after (opening_state config) calls).core.interests ≡ asking_in config face calls (steps config calls) None []
   pub listed : (state_after (opening_state config) calls).core.tables ≡ listed_in calls (steps config calls) []
+  pub gates : (face : ℕ) → gate_at face (state_after (opening_state config) calls).gates ≡ gate_in face calls (steps config calls) None
   pub kinds : (place : ℕ) → option_map kind_of (at place (state_after (opening_state config) calls).core.hats) ≡ option_map kind_of (at place (first_hats config))
   pub places : IsStrictlySortedBy nat_cmp (keys_of (state_after (opening_state config) calls).core.hats)
   pub agrees : Agrees (state_after (opening_state config) calls)

@@ -1,9 +1,10 @@
 pub mod Handing
 pub mod Calls
 pub mod Configs
+pub mod Gates
 pub mod State
-pub mod TextCalls
 pub mod Selecting
+pub mod TextCalls
 pub mod Messages
 pub mod Trees
 pub mod Due
@@ -17,6 +18,8 @@ pub mod Machine
 pub mod Waiting
 pub mod Asked
 pub mod Standing
+pub mod Leaving
+pub mod Within
 pub mod Children
 pub mod Keeping
 pub mod Headline

@@ -37,11 +37,14 @@ use Rattle.zq_interests.specs.declared.types.InterestEntry.{InterestEntry}
 use Rattle.zq_interests.specs.Interests.{Asked}
 use Rattle.zq_machine.specs.Selecting.{asked_by, full_text}
 use Rattle.zq_machine.specs.Configs.{Settings}
+use Rattle.zq_machine.specs.Gates.{Gate, denied_by, entered_by, gate_at, space_of}
 use Rattle.zq_machine.specs.State.{Core, State, at, first_hats, hat_at, hat_of, is_routing}
 
--- what stands of an open face: how it was opened, the numbers that stand for keys there, and what its region's hat keeps of it
+-- what stands of an open face: how it was opened, with its namespace if it has one and the keys that it may not ask for, the numbers that stand for keys there, and what its region's hat keeps of it
 pub record Standing : Type 0 where
   pub opened : OpenFace
+  pub space : Option (List ℕ)
+  pub denied : List (List ℕ)
   pub numbers : FaceNaming
   pub kept : FaceState
 
@@ -49,7 +52,7 @@ pub record Standing : Type 0 where
 
 -- a face that was just opened: it has no numbers, and has declared nothing
 abbrev pub newly_opened : (told face : ℕ) → Opening → Standing
-newly_opened told face o = record { opened = opened o; numbers = no_names; kept = new_face (seat face o) told }
+newly_opened told face o = record { opened = opened o; space = o.namespace; denied = o.entry_deny; numbers = no_names; kept = new_face (seat face o) told }
 
 -- the answer opens the face
 abbrev pub opens : ℕ → Outcome → Bool
@@ -69,7 +72,7 @@ with_kept s f = record s { kept = f }
 
 -- the text that the face says
 abbrev pub text_said : Standing → WireExpr → List ℕ
-text_said s w = full_text (said_of s.numbers w)
+text_said s w = full_text (said_of s.numbers (entered_by s.space w))
 
 -- a region of the configuration is one of routers
 abbrev pub routes_in : Settings → Region → Bool
@@ -201,7 +204,7 @@ first_routed config place = option_map routed (at place (first_hats config))
 
 -- what a face asks to hear by a call: the keys that meet what the expression says there
 abbrev pub asked_at : Bool → Option WireExpr → Standing → InterestEntry
-asked_at keys w s = asked_by keys (option_map (said_of s.numbers) w)
+asked_at keys w s = asked_by keys (option_map (λ (x : WireExpr). said_of s.numbers (entered_by s.space x)) w)
 
 -- what an accepted call makes of what a face asks to hear, by what stands of the face
 abbrev pub asking_by : ℕ → Call → Option Standing → Asked → Asked
@@ -237,14 +240,14 @@ listed_in (c ∷ cs) (t ∷ ts) was = listed_in cs ts (listed_after c t was)
 abbrev pub kept_at : ℕ → Core → Option FaceState
 kept_at face c = option_and_then (face_at face) (hat_of face c)
 
--- what stands of a face by its three parts, where all are there
-abbrev pub standing_of : Option OpenFace → Option FaceKeys → Option FaceState → Option Standing
-standing_of (Some o) (Some n) (Some f) = Some (record { opened = o; numbers = n.numbers; kept = f })
-standing_of o n f = None
+-- what stands of a face by its gate, if it has one, and its three parts, where all are there
+abbrev pub standing_of : Option Gate → Option OpenFace → Option FaceKeys → Option FaceState → Option Standing
+standing_of g (Some o) (Some n) (Some f) = Some (record { opened = o; space = space_of g; denied = denied_by g; numbers = n.numbers; kept = f })
+standing_of g o n f = None
 
 -- what the gateway has of the face
 abbrev pub standing_at : ℕ → State → Option Standing
-standing_at face s = standing_of (at face s.core.faces) (naming_at face s.names) (kept_at face s.core)
+standing_at face s = standing_of (gate_at face s.gates) (at face s.core.faces) (naming_at face s.names) (kept_at face s.core)
 
 -- what the gateway has of the routers of the region at a place
 abbrev pub routed_at : ℕ → State → Option Routed

@@ -23,6 +23,7 @@ use Rattle.zq_route.specs.declared.gateways.Gateways.{Gateways}
 use Rattle.zq_machine.specs.declared.config.Entry.{Entry}
 use Rattle.zq_machine.specs.declared.face.OpenFace.{OpenFace}
 use Rattle.zq_machine.specs.Configs.{Settings, region_of, north_of}
+use Rattle.zq_machine.specs.Gates.{Gates}
 
 -- what decides: it holds texts, and no number that stands for one; what faces ask to hear and what is kept of what they were told stand with it
 pub record Core : Type 0 where
@@ -35,10 +36,11 @@ pub record Core : Type 0 where
   pub interests : Interests
   pub ears : Ears
 
--- a gateway: what decides, and what stands for keys at each face
+-- a gateway: what decides, what stands for keys at each face, and the gates of faces
 pub record State : Type 0 where
   pub core : Core
   pub names : NamingState
+  pub gates : Gates
 
 -- a region's hat joins the others
 abbrev pub with_hat : Settings → List (ℕ × HatState) → Entry → List (ℕ × HatState)
@@ -61,6 +63,7 @@ abbrev pub opening_state : Settings → State
 opening_state config = record {
   core = record { config = config; faces = []; next_face = config.start.faces; hats = first_hats config; tables = []; queries = no_queries config; interests = []; ears = [] };
   names = [];
+  gates = [];
 }
 
 -- what stands at a number

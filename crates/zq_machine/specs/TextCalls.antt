@@ -1,5 +1,5 @@
 -- Calls with their expressions read: each is a text, nothing, or of no known number.
-use Rattle.std.specs.Prelude.{ℕ, Bool, false, List, Option, Some, None, if◌then◌else◌}
+use Rattle.std.specs.Prelude.{ℕ, Bool, false, ◌&&◌, List, Option, Some, None, if◌then◌else◌}
 use Rattle.std.specs.Option.{option_map, option_map_or}
 use Rattle.zq_message.specs.declared.message.FaceId.{FaceId}
 use Rattle.zq_message.specs.declared.message.QueryableInfoType.{QueryableInfoType}
@@ -13,10 +13,13 @@ use Rattle.zq_trees.specs.declared.types.NodeIds.{NodeIds}
 use Rattle.zq_tables.specs.declared.said.Said.{Said}
 use Rattle.zq_tables.specs.declared.said.Said.TheVariants as said_word
 use Rattle.zq_tables.specs.Naming.{said_of, text_at, face_naming}
+use Rattle.zq_namespace.specs.Denied.{is_denied}
 use Rattle.zq_route.specs.declared.gateways.Gateways.{Gateways}
 use Rattle.zq_machine.specs.declared.call.Opening.{Opening}
 use Rattle.zq_machine.specs.declared.call.Call.{Call}
 use Rattle.zq_machine.specs.declared.call.Call.TheVariants as call
+use Rattle.zq_machine.specs.Gates.{denied_by, entered_by, gate_at, reply_by, space_of}
+use Rattle.zq_machine.specs.Selecting.{full_text, says_key}
 use Rattle.zq_machine.specs.State.{Core, State, hat_of, is_routing}
 
 -- a call with texts in place of expressions; a number that is declared or given up comes with the text that it stood for; what routers declare is named by its text and its node; an interest may have no expression
@@ -41,9 +44,21 @@ pub data TextCall : Type 0 where
   hearing : FaceId → ℕ → Bool → Option Said → TextCall
   unhearing : FaceId → ℕ → TextCall
 
--- what an expression says that the face sends
+-- what an expression says that the face sends, behind its namespace
 abbrev pub said : FaceId → WireExpr → State → Said
-said face w s = said_of (face_naming face.0 s.names) w
+said face w s = said_of (face_naming face.0 s.names) (entered_by (space_of (gate_at face.0 s.gates)) w)
+
+-- what the expression of a reply says
+abbrev pub said_by_reply : FaceId → Response → State → Said
+said_by_reply face r s = said_of (face_naming face.0 s.names) (reply_by (space_of (gate_at face.0 s.gates)) r)
+
+-- what is asked for: what is said, but nothing on a key that a denied one includes
+abbrev pub allowed : List (List ℕ) → Said → Said
+allowed denied s = if says_key s && is_denied denied (full_text s) then said_word.Empty else s
+
+-- what a request of the face asks for
+abbrev pub asked_said : FaceId → Request → State → Said
+asked_said face r s = allowed (denied_by (gate_at face.0 s.gates)) (said face r.wire s)
 
 -- what a number of the face stands for
 abbrev pub standing : FaceId → ℕ → State → Option (List ℕ)
@@ -70,8 +85,8 @@ read s (call.DeclareKeyExpr face id wire) = naming face id (said face wire s) (s
 read s (call.UndeclareKeyExpr face id) = unnaming face id (standing face id s)
 read s (call.DeclareQueryable face id wire info node) = if by_router face s.core then announcing face (said face wire s) info node else declaring face id (said face wire s) info node
 read s (call.UndeclareQueryable face id wire node) = if by_router face s.core then retracting face (said_or_none face wire s) node else withdrawing face id
-read s (call.Request face r now) = asking face (said face r.wire s) r now
-read s (call.Response face r) = replying face (said face r.wire s) r
+read s (call.Request face r now) = asking face (asked_said face r s) r now
+read s (call.Response face r) = replying face (said_by_reply face r s) r
 read s (call.ResponseFinal face rid) = ending face rid
 read s (call.Sent reply) = reporting reply
 read s (call.Poll now) = passing now

@@ -1,7 +1,7 @@
 -- What requests wait for: each call takes out what it ends, and puts in what it hands.
 use Rattle.std.specs.Prelude.{◌≡◌, ℕ, ◌==◌, Bool, false, not, ◌&&◌, ◌||◌, List}
 use Rattle.std.specs.List.{list_any}
-use Rattle.std.specs.Option.{option_map_or}
+use Rattle.std.specs.Option.{is_some, option_map_or}
 use Rattle.zq_message.specs.declared.message.Message.{Message}
 use Rattle.zq_message.specs.declared.message.Message.TheVariants as message
 use Rattle.zq_query.specs.Records.{Record, Pending, QueryState, is_entry, is_reply, flies}
@@ -55,15 +55,15 @@ asks_entry moment face e (message.Interest i) = false
 asks_entry moment face e (message.InterestFinal i) = false
 asks_entry moment face e (message.Declare d) = false
 
--- the message is a request of that number, to the entry's face under its id, which waits up to the entry's deadline
+-- the message is a request of that number, to the entry's face under its id, which waits up to the entry's deadline; one of which nothing leaves gives none
 abbrev pub gives : ℕ → ℕ → Pending → Handed → Bool
-gives moment n e h = is_of n h && asks_entry moment h.to.0 e h.message
+gives moment n e h = is_of n h && (is_some h.leaves && asks_entry moment h.to.0 e h.message)
 
 -- the message is the reply of that number, of that request
 abbrev pub hands_reply : ℕ → ℕ → Handed → Bool
 hands_reply n k h = is_of n h && option_map_or (is_reply k) h.reply false
 
--- the entries that are pending are those that were and that the call does not end, and one for each request that it hands; the replies in flight are those that were and whose sending it does not report, and those that it hands
+-- the entries that are pending are those that were and that the call does not end, and one for each request that it hands and that leaves; the replies in flight are those that were and whose sending it does not report, and those that it hands
 pub record Waits (ended : Pending → Bool) (landed : ℕ → Bool) (moment : ℕ) (before after : List Record) (handed : List Handed) : Type 0 where
   pub entries : (n : ℕ) (e : Pending) → owes n e after ≡ ((owes n e before && not (ended e)) || list_any (gives moment n e) handed)
   pub replies : (n k : ℕ) → flies n k after ≡ ((flies n k before && not (landed k)) || list_any (hands_reply n k) handed)

@@ -1,4 +1,4 @@
--- How texts become expressions: messages as they are handed and leave, and what faces are told, with the numbers that are declared for it.
+-- How texts become expressions: messages as they are handed, and what faces are told, with the numbers that are declared for it.
 use Rattle.std.specs.Prelude.{ℕ, Bool, true, false, ◌||◌, List, [], ◌∷◌, ◌++◌, map, Option, Some, None}
 use Rattle.std.specs.Option.{option_map_or}
 use Rattle.std.specs.List.{list_any}
@@ -22,17 +22,7 @@ use Rattle.zq_machine.specs.declared.face.OpenFace.{OpenFace}
 use Rattle.zq_machine.specs.Messages.{Telling, TellingBody, TextMessage, TextReply, TextRequest, all_told, key_ended, key_told, text_final, text_reply, text_request}
 use Rattle.zq_machine.specs.State.{Core, at}
 
--- ---- exits
-
--- what leaves of a message on a text that a face's exit is given: all of it, for no face has an exit of its own yet
-abbrev pub leaving : FaceKeys → List ℕ → Message → Option Message
-leaving n text m = Some m
-
--- what stands for keys once the exit of a face was given a declaration on a text: as before, for the same reason; later the heads and ids that the exit keeps at that face
-abbrev pub after_exit : FaceId → List ℕ → Message → NamingState → NamingState
-after_exit to text m names = names
-
--- ---- messages of requests: each is written by itself, for none of them declares a number, and no exit keeps anything of them
+-- ---- messages of requests: each is written by itself, for none of them declares a number
 
 -- a request is handed by the best number that its receiver knows
 abbrev pub request_message : FaceKeys → TextRequest → Message
@@ -46,22 +36,22 @@ reply_message r = message.Response (record { rid = r.id; wire = plain r.text; qo
 abbrev pub final_message : Final → Message
 final_message f = message.ResponseFinal (record { rid = f.id; qos = f.qos })
 
--- a request as it is handed, and what leaves of it
+-- a request as it is handed
 abbrev pub sent_request : FaceKeys → TextRequest → Handed
-sent_request n r = record { to = r.to; number = Some r.number; reply = None; message = request_message n r; leaves = leaving n r.text (request_message n r) }
+sent_request n r = record { to = r.to; number = Some r.number; reply = None; message = request_message n r; leaves = Some (request_message n r) }
 
--- a reply as it is handed, and what leaves of it
-abbrev pub sent_reply : FaceKeys → TextReply → Handed
-sent_reply n r = record { to = r.to; number = Some r.number; reply = Some r.reply; message = reply_message r; leaves = leaving n r.text (reply_message r) }
+-- a reply as it is handed
+abbrev pub sent_reply : TextReply → Handed
+sent_reply r = record { to = r.to; number = Some r.number; reply = Some r.reply; message = reply_message r; leaves = Some (reply_message r) }
 
--- a final as it is handed; each exit lets it out
+-- a final as it is handed
 abbrev pub sent_final : Final → Handed
 sent_final f = record { to = f.asker; number = Some f.number; reply = None; message = final_message f; leaves = Some (final_message f) }
 
--- a message of a request as its receiver is handed it, and what leaves of it
+-- a message of a request as its receiver is handed it, before its face's gate says what leaves of it
 abbrev pub written : NamingState → TextMessage → Handed
 written names (text_request r) = sent_request (face_keys r.to.0 names) r
-written names (text_reply r) = sent_reply (face_keys r.to.0 names) r
+written names (text_reply r) = sent_reply r
 written names (text_final f) = sent_final f
 
 -- the messages of a call, in order
@@ -107,7 +97,7 @@ abbrev pub finish : Core → List Place → Finished
 finish c [] = record { core = c; finals = [] }
 finish c (p ∷ ps) = record { core = without_unsent (p ∷ ps) c; finals = finals_after (is_unsent (p ∷ ps)) c.queries.closed c.queries.records }
 
--- ---- what faces are told: a number that is declared stands from then on, and so does what an exit keeps
+-- ---- what faces are told: a number that is declared stands from then on
 
 -- what is handed, and what stands for keys afterwards
 pub record Told : Type 0 where
@@ -122,18 +112,18 @@ nothing_told names = record { handed = []; names = names }
 abbrev pub and_then : Told → (NamingState → Told) → Told
 and_then w next = record { handed = w.handed ++ (next w.names).handed; names = (next w.names).names }
 
--- a declaration on a text is given to a face's exit
-abbrev pub tell_declare : FaceId → List ℕ → Declare → NamingState → Told
-tell_declare to text d names = record {
-  handed = record { to = to; number = None; reply = None; message = message.Declare d; leaves = leaving (face_keys to.0 names) text (message.Declare d) } ∷ [];
-  names = after_exit to text (message.Declare d) names;
+-- a declaration is handed to a face
+abbrev pub tell_declare : FaceId → Declare → NamingState → Told
+tell_declare to d names = record {
+  handed = record { to = to; number = None; reply = None; message = message.Declare d; leaves = Some (message.Declare d) } ∷ [];
+  names = names;
 }
 
 -- a number is declared to a face, if one is new
 abbrev pub tell_number : FaceId → List ℕ → Option ℕ → NamingState → Told
 tell_number to text None names = nothing_told names
 tell_number to text (Some id) names =
-    tell_declare to (nonwild text) (record { interest = None; node = 0; body = body.DeclareKeyExpr id (plain (nonwild text)) })
+    tell_declare to (record { interest = None; node = 0; body = body.DeclareKeyExpr id (plain (nonwild text)) })
     (change_naming to.0 (with_told_number text (Some id)) names)
 
 -- the face is in the region Local
@@ -162,14 +152,14 @@ told_key c to text names = declared_key (face_naming to.0 names) (is_local_face 
 
 -- a face is told a key by a message of the key's expression; a new number is declared directly before it
 abbrev pub tell_by : Core → FaceId → List ℕ → (DeclKey → Declare) → NamingState → Told
-tell_by c to text make names = and_then (tell_number to text (told_key c to text names).declared names) (tell_declare to text (make (told_key c to text names)))
+tell_by c to text make names = and_then (tell_number to text (told_key c to text names).declared names) (tell_declare to (make (told_key c to text names)))
 
 -- one thing that a face is told
 abbrev pub tell_body : Core → Telling → TellingBody → NamingState → Told
 tell_body c t (key_told id text info) names = tell_by c t.to text (λ k. record { interest = t.interest; node = t.node; body = body.DeclareQueryable id k.wire info }) names
-tell_body c t (key_ended id None) names = tell_declare t.to [] (record { interest = t.interest; node = t.node; body = body.UndeclareQueryable id None }) names
+tell_body c t (key_ended id None) names = tell_declare t.to (record { interest = t.interest; node = t.node; body = body.UndeclareQueryable id None }) names
 tell_body c t (key_ended id (Some text)) names = tell_by c t.to text (λ k. record { interest = t.interest; node = t.node; body = body.UndeclareQueryable id (Some k.wire) }) names
-tell_body c t all_told names = tell_declare t.to [] (record { interest = t.interest; node = t.node; body = body.DeclareFinal }) names
+tell_body c t all_told names = tell_declare t.to (record { interest = t.interest; node = t.node; body = body.DeclareFinal }) names
 
 -- all that faces are told, in order
 abbrev pub tell : Core → List Telling → NamingState → Told

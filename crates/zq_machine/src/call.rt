@@ -1,9 +1,7 @@
 //! What a gateway is asked, and what it answers.
 ghost use Rattle.std.specs.Prelude.{◌≡◌};
-ghost use Rattle.zq_machine.specs.declared.call.Call.TheVariants as call;
-ghost use Rattle.zq_machine.specs.Calls.{has_none, is_absent, is_built, is_plain_opening, is_sent};
+ghost use Rattle.zq_machine.specs.Calls.{has_none, is_absent, is_plain_opening, is_sent};
 
-use crate::config::Config;
 use crate::handed::HandedList;
 use zq_hat::types::{FinalMark, Network, NodeIds};
 use zq_key::items::Items;
@@ -109,29 +107,11 @@ impl Call {
     {
         matches!(self, Call::Sent { .. })
     }
-
-    /// Whether the gateway answers calls of this form today. Faces are opened without namespace and
-    /// deny lists, and in regions that the configuration lacks, where they are refused.
-    pub fn is_built(&self, config: &Config) -> bool
-        ensures { result ≡ is_built config.now self.now }
-    {
-        match self {
-            Call::Open(opening) => opening.is_built(config),
-            _ => true,
-        }
-    }
 }
 
 impl Opening {
-    /// Whether the gateway opens faces in this way today: without a namespace and deny lists; in a
-    /// region that the configuration lacks it is refused.
-    pub fn is_built(&self, config: &Config) -> bool
-        ensures { result ≡ is_built config.now (call.Open self.now) }
-    {
-        !config.has_region(self.region) || self.is_plain()
-    }
-
-    fn is_plain(&self) -> bool
+    /// Whether the face has neither a namespace nor deny lists.
+    pub fn is_plain(&self) -> bool
         ensures { result ≡ is_plain_opening self.now }
     {
         self.namespace.is_none() && self.entry_deny.is_empty() && self.exit_deny.is_empty()

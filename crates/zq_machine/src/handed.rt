@@ -102,6 +102,13 @@ impl Handed {
         }
     }
 
+    /// From now on this leaves in the place of the message.
+    pub fn set_leaves(&mut self, leaves: Leaves)
+        ensures { self.new ≡ record self.old { leaves = left self.old.message leaves } }
+    {
+        self.leaves = leaves;
+    }
+
     /// What leaves in the place of the message.
     pub fn leaving(&self) -> &Leaves
         ensures { self.now.leaves ≡ left self.now.message result.now }
