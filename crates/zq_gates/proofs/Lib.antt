@@ -1,0 +1,4 @@
+pub mod Denied
+pub mod Keeping
+pub mod Each
+pub mod Going
