@@ -1,12 +1,12 @@
 -- An interest and the end of one: what refuses them, what they are answered, and what they leave.
-use Rattle.std.proofs.Common.{◌≡◌, ◌∙◌, refl, sym, ap, subst, ℕ, Bool, true, false, cond, not, List, [], ◌∷◌, ◌++◌, map, Option, Some, None}
-use Rattle.std.specs.List.{All, AllByRecursion, list_any}
+use Rattle.std.proofs.Common.{◌≡◌, ◌∙◌, refl, sym, ap, subst, ℕ, Bool, true, false, cond, not, List, [], ◌∷◌, map, Option, Some, None}
+use Rattle.std.specs.List.{All, list_any}
 use Rattle.std.specs.BTreeMap.{insert_entry}
 use Rattle.std.specs.Ordering.{match_ordering, nat_cmp}
 use Rattle.std.specs.declared.cmp.Ordering.{Ordering}
 use Rattle.std.specs.declared.cmp.Ordering.TheVariants.{Less, Equal, Greater}
 use Rattle.std.specs.Prelude.{◌||◌}
-use Rattle.std.specs.Option.{is_none, is_some, option_map, option_map_or}
+use Rattle.std.specs.Option.{is_none, option_map, option_map_or}
 use Rattle.zq_message.specs.declared.message.FaceId.{FaceId}
 use Rattle.zq_key.specs.Key.{is_key}
 use Rattle.zq_trees.specs.declared.types.Telling.{Telling as TreeTelling}
@@ -35,15 +35,17 @@ use Rattle.zq_machine.specs.TextCalls.{TextCall, hearing, unhearing}
 use Rattle.zq_machine.specs.Writing.{Told, tell}
 use Rattle.zq_machine.proofs.Changing.{itself}
 use Rattle.zq_machine.proofs.DueAsked.{listed, listed_at, with_one}
-use Rattle.zq_machine.proofs.Agreed.{InOrder, accepted_in_order}
+use Rattle.zq_machine.proofs.Agreed.{accepted_in_order}
 use Rattle.zq_machine.proofs.Granted.{answers_told, settles_told, told_by}
 use Rattle.zq_machine.proofs.NeighbourLaws.{ending_keeps}
 use Rattle.zq_machine.proofs.NeighboursTold.{due_keys}
-use Rattle.zq_machine.proofs.Writing.{with_told}
+use Rattle.zq_machine.proofs.Asks.{is_asking}
+use Rattle.zq_machine.proofs.Writing.{plain_answer, plain_settle, with_told}
 use Rattle.zq_handing.specs.Neighbours.{asking}
 use Rattle.zq_calls.specs.Asking.{asking_refusal}
 use Rattle.zq_calls.specs.Making.{IsReached}
 use Rattle.zq_calls.proofs.Due.{all_from, key_refuses}
+use Rattle.zq_calls.proofs.GoneOut.{nothing_goes, nothing_stays}
 use Rattle.zq_calls.proofs.Reached.{reached_in_order, reached_keeps}
 
 -- ---- an interest asks for the keys that meet it
@@ -157,10 +159,10 @@ module _ (s : State) (i : IsReached s) (face : FaceId) (id : ℕ) (keys : Bool) 
       its_telling : told_by s t ≡ record { handed = l; names = new }
       its_telling = (λ j. tell (accepted s.core t) (answered_by face id (map from_hat (ordered (tell_faces Answering (sym heard j) (sym are j)).tellings))) (sym (held names same key is) j)) ∙ told
 
-      pub asked_answered : ◌≡◌ {A = Step} (record { outcome = outcome.Done; handed = l }) (answer s t)
+      pub asked_answered : ◌≡◌ {A = Step} (record { outcome = outcome.Done; handed = l }) (plain_answer s t)
       asked_answered = answers_told s t l fits (ap (λ (w : Told). w.handed) (sym its_telling))
 
-      pub asked_settled : settle s t ≡ record { core = accepted s.core t; names = new }
+      pub asked_settled : plain_settle s t ≡ record { core = accepted s.core t; names = new; gates = s.gates }
       asked_settled = settles_told s t fits ∙ ap (with_told (accepted_state s t)) its_telling
 
 -- ---- the end of an interest
@@ -198,8 +200,19 @@ module _ (s : State) (i : IsReached s) (face : FaceId) (id : ℕ) where
           ∙ (λ j. put_plan (tell_faces Ending (heard j) (are j)).plan (heard j))
           ∙ ap (λ (o : Option InterestEntry). option_map_or (λ (a : InterestEntry). put_plan (tell_faces Ending s.core.ears (ended_at (accepted s.core e) less s.core.ears face.0 a)).plan s.core.ears) o s.core.ears) (sym there)
 
-      pub ending_answered : done [] ≡ answer s e
-      ending_answered = answers_told s e [] ending_fits refl
+      abbrev left_last : State
+      left_last = record { core = accepted s.core e; names = change_naming face.0 (letting_interest id) s.names; gates = s.gates }
 
-      pub ending_settled : settle s e ≡ record { core = accepted s.core e; names = change_naming face.0 (letting_interest id) s.names }
-      ending_settled = settles_told s e ending_fits
+      answered_nothing : done [] ≡ plain_answer s e
+      answered_nothing = answers_told s e [] ending_fits refl
+
+      settled_nothing : plain_settle s e ≡ left_last
+      settled_nothing = settles_told s e ending_fits
+
+      pub ending_answered : done [] ≡ answer s e
+      unfolding is_asking
+      ending_answered = nothing_goes s e refl outcome.Done left_last answered_nothing settled_nothing
+
+      pub ending_settled : settle s e ≡ left_last
+      unfolding is_asking
+      ending_settled = nothing_stays s e refl outcome.Done left_last answered_nothing settled_nothing

@@ -46,13 +46,13 @@ module _ (c d : Core) (g : NamingState → NamingState) where
         (option_map_or (λ (o : OpenFace). numbers_region o.region) (b.face j) false || list_any (wants_keyed (nonwild text)) (b.asks j))
         text
 
-    by_number : (m : Declare) (o : Option ℕ) → and_then (tell_number to text o (g names)) (tell_declare to text m) ≡ changed_after (and_then (tell_number to text o names) (tell_declare to text m))
+    by_number : (m : Declare) (o : Option ℕ) → and_then (tell_number to text o (g names)) (tell_declare to m) ≡ changed_after (and_then (tell_number to text o names) (tell_declare to m))
     by_number m None = refl
-    by_number m (Some id) = ap (λ z. record { handed = (and_then (tell_number to text (Some id) names) (tell_declare to text m)).handed; names = z }) (b.later text (Some id) names)
+    by_number m (Some id) = ap (λ z. record { handed = (and_then (tell_number to text (Some id) names) (tell_declare to m)).handed; names = z }) (b.later text (Some id) names)
 
     by_key : (make : DeclKey → Declare) → tell_by d to text make (g names) ≡ changed_after (tell_by c to text make names)
     by_key make =
-        ap (λ k. and_then (tell_number to text k.declared (g names)) (tell_declare to text (make k))) same_key
+        ap (λ k. and_then (tell_number to text k.declared (g names)) (tell_declare to (make k))) same_key
         ∙ by_number (make (told_key c to text names)) (told_key c to text names).declared
 
   one_beside : (t : Telling) → IsBeside t.to.0 → (names : NamingState) (body : TellingBody) → tell_body d t body (g names) ≡ changed_after (tell_body c t body names)
@@ -86,7 +86,7 @@ module _ (k q : ℕ) (other : is_at (nat_cmp k) q ≡ false) where
       by true there ih = missed (is_at (nat_cmp q) e.0) refl there
       by false there ih = ap (cond (is_at (nat_cmp q) e.0) (Some e.1)) ih
 
-  written_beside : {X : Type 0} (es : List (ℕ × X)) (x : X) → set_value (is_at (nat_cmp q)) (remove_entry (is_at (nat_cmp k)) es) x ≡ remove_entry (is_at (nat_cmp k)) (set_value (is_at (nat_cmp q)) es x)
+  pub written_beside : {X : Type 0} (es : List (ℕ × X)) (x : X) → set_value (is_at (nat_cmp q)) (remove_entry (is_at (nat_cmp k)) es) x ≡ remove_entry (is_at (nat_cmp k)) (set_value (is_at (nat_cmp q)) es x)
   written_beside [] x = refl
   written_beside (e ∷ es) x = by (is_at (nat_cmp k) e.0) (is_at (nat_cmp q) e.0) refl refl (written_beside es x)
     where

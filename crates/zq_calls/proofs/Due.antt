@@ -37,27 +37,32 @@ use Rattle.zq_machine.specs.declared.call.Refusal.{Refusal}
 use Rattle.zq_machine.specs.declared.call.Refusal.TheVariants as refusal
 use Rattle.zq_machine.specs.declared.call.Step.{Step}
 use Rattle.zq_machine.specs.declared.face.OpenFace.{OpenFace}
-use Rattle.zq_machine.specs.Deciding.{accepted, answered, changed, granted, interests_for, kept, lacks_told, refusal_of, renamed, told_of}
+use Rattle.zq_machine.specs.Deciding.{accepted, answered, changed, granted, interests_for, kept, lacks_told, refusal_of, regated, renamed, told_of}
 use Rattle.zq_machine.specs.Handing.{Handed}
 use Rattle.zq_machine.specs.Hearing.{CanBeTold}
-use Rattle.zq_machine.specs.Machine.{accepted_state, answer, refused_step, settle}
+use Rattle.zq_machine.specs.Machine.{accepted_state, answer, asked_text, refused_step, settle}
 use Rattle.zq_machine.specs.Messages.{Telling, from_hat}
 use Rattle.zq_machine.specs.Neighbours.{due_told, looked_at, looked_over}
 use Rattle.zq_machine.specs.State.{Core, State, at, change_hat, change_hat_of, clashes_in, face_region, has_declared_in, hat_at, hat_of, is_open, region_in}
 use Rattle.zq_machine.specs.TextCalls.{TextCall, closing, declaring, withdrawing}
 use Rattle.zq_machine.specs.Trees.{all_own_told, own_told_on, touched, tree_told}
+use Rattle.zq_machine.specs.Gates.{Gates, Out, let_out}
 use Rattle.zq_machine.specs.Writing.{Told, sent_final, tell, write}
+use Rattle.zq_gates.specs.Exits.{without_gate}
+use Rattle.zq_gates.specs.declared.exits.Exit.{Exit}
 use Rattle.zq_machine.proofs.Agreed.{InOrder, accepted_in_order}
 use Rattle.zq_machine.proofs.DueHeard.{AreTexts, touched_texts}
 use Rattle.zq_machine.proofs.Granted.{answers_told, closed_after, closed_step, settles_told, told_by}
 use Rattle.zq_machine.proofs.Lists.{all_weaker}
 use Rattle.zq_machine.proofs.NeighboursTold.{due_can, due_keys}
-use Rattle.zq_machine.proofs.Writing.{after_decided, answers_fully, fully, settles_fully, told_after, with_told}
+use Rattle.zq_machine.proofs.Writing.{after_decided, answered_by, fully, plain_answer, plain_settle, settled_by, told_after, with_told}
 use Rattle.zq_machine.specs.Selecting.{full_text, is_unscoped, says_key}
 use Rattle.zq_handing.specs.Reading.{key_refusal}
 use Rattle.zq_handing.specs.Telling.{behind}
 use Rattle.zq_handing.specs.Neighbours.{told_with}
+use Rattle.zq_calls.specs.Gone.{AreOut}
 use Rattle.zq_calls.specs.Making.{IsReached}
+use Rattle.zq_calls.proofs.GoneOut.{IsAway, finals_away, told_to_faces}
 use Rattle.zq_calls.proofs.Beside.{IsBeside, changed_after, left_beside, released_beside, told_beside}
 use Rattle.zq_machine.proofs.Keeping.{is_plain, marks_is, near_is, same_looked}
 use Rattle.zq_calls.proofs.Hearing.{lacks_looked}
@@ -138,10 +143,10 @@ module _ (s : State) (i : IsReached s) (t : TextCall) (plain : is_plain t ≡ tr
   its_telling : told_by s t ≡ record { handed = l; names = new }
   its_telling = ap (λ us. tell (accepted s.core t) us (renamed s t)) (told_is s.core t plain) ∙ ap (λ us. behind [] (tell (accepted s.core t) (map from_hat (ordered us)) (renamed s t))) (sym same) ∙ told
 
-  pub told_answered : (granted s.core t).messages ≡ [] → ◌≡◌ {A = Step} (record { outcome = (granted s.core t).outcome; handed = l }) (answer s t)
+  pub told_answered : (granted s.core t).messages ≡ [] → ◌≡◌ {A = Step} (record { outcome = (granted s.core t).outcome; handed = l }) (plain_answer s t)
   told_answered none = answers_told s t l fits (ap (λ (w : Told). w.handed) (sym its_telling) ∙ ap (λ ms. write s.names ms ++ (told_by s t).handed) (sym none))
 
-  pub told_left : settle s t ≡ record { core = accepted s.core t; names = new }
+  pub told_left : plain_settle s t ≡ record { core = accepted s.core t; names = new; gates = regated s t }
   told_left = settles_told s t fits ∙ ap (with_told (accepted_state s t)) its_telling
 
 -- ---- a closing tells before the face goes
@@ -158,11 +163,22 @@ module _ (s : State) (i : IsReached s) (face : FaceId) (r : Region) (home : face
           let none = found_after_removal nat_cmp_total exact_unsigned face.0 to s.names (reached_in_order s i).tied.names_sorted ∙ ap (λ b. cond b None (naming_at to s.names)) e in
           absurd (false≢true (sym (ap is_some none) ∙ heard))
 
+  tells_others : AllByRecursion (λ (t : Telling). is_at (nat_cmp face.0) t.to.0 ≡ false) (told_of s.core (closing face))
+  tells_others =
+      all_weaker (CanBeTold (gone s.names)) (λ (t : Telling). is_at (nat_cmp face.0) t.to.0 ≡ false) (λ t can. spared t.to.0 can.0)
+      (told_of s.core (closing face)) (due_open s i (closing face) refl fits)
+
+  told_away : AllByRecursion (IsAway face.0) (tell s.core (told_of s.core (closing face)) s.names).handed
+  told_away = told_to_faces (λ to. is_at (nat_cmp face.0) to.0 ≡ false) s.core (told_of s.core (closing face)) s.names tells_others
+
+  abbrev shut_out : Out → Out
+  shut_out o = record o { gates = without_gate face.0 o.gates }
+
   told_before : told_by s (closing face) ≡ changed_after s.core (accepted s.core (closing face)) gone (tell s.core (told_of s.core (closing face)) s.names)
   told_before =
       told_beside s.core (accepted s.core (closing face)) gone (told_of s.core (closing face))
-      (all_weaker (CanBeTold (gone s.names)) (λ (t : Telling). IsBeside s.core (accepted s.core (closing face)) gone t.to.0) (λ t can. left_beside s.core (accepted s.core (closing face)) face.0 t.to.0 (spared t.to.0 can.0) refl refl)
-      (told_of s.core (closing face)) (due_open s i (closing face) refl fits))
+      (all_weaker (λ (t : Telling). is_at (nat_cmp face.0) t.to.0 ≡ false) (λ (t : Telling). IsBeside s.core (accepted s.core (closing face)) gone t.to.0) (λ t other. left_beside s.core (accepted s.core (closing face)) face.0 t.to.0 other refl refl)
+      (told_of s.core (closing face)) tells_others)
       s.names
 
   module _ (ts : List TreeTelling) (same : ts ≡ due s.core (closing face)) (finals l : List Handed) (new : NamingState)
@@ -170,18 +186,29 @@ module _ (s : State) (i : IsReached s) (face : FaceId) (r : Region) (home : face
     its_told : behind finals (tell s.core (told_of s.core (closing face)) s.names) ≡ record { handed = l; names = new }
     its_told = ap (λ us. behind finals (tell s.core (map from_hat (ordered us)) s.names)) (sym same) ∙ told
 
-    pub closed_answered : finals ≡ map sent_final (closing_finals face.0 s.core.queries) → ◌≡◌ {A = Step} (record { outcome = outcome.Done; handed = l }) (answer s (closing face))
+    pub closed_answered : finals ≡ map sent_final (closing_finals face.0 s.core.queries) → ◌≡◌ {A = Step} (record { outcome = outcome.Done; handed = l }) (plain_answer s (closing face))
     closed_answered are =
         closed_step s face r l home
         (ap (λ (w : Told). w.handed) (sym its_told)
         ∙ ap (λ fs. fs ++ (tell s.core (told_of s.core (closing face)) s.names).handed) are
         ∙ ap (λ (w : Told). map sent_final (closing_finals face.0 s.core.queries) ++ w.handed) (sym told_before))
 
-    pub closed_left : settle s (closing face) ≡ record { core = accepted s.core (closing face); names = gone new }
+    pub closed_left : plain_settle s (closing face) ≡ record { core = accepted s.core (closing face); names = gone new; gates = without_gate face.0 s.gates }
     closed_left =
         closed_after s face r home
         ∙ ap (with_told (accepted_state s (closing face))) told_before
-        ∙ ap (λ (w : Told). record { core = accepted s.core (closing face); names = gone w.names }) its_told
+        ∙ ap (λ (w : Told). record { core = accepted s.core (closing face); names = gone w.names; gates = without_gate face.0 s.gates }) its_told
+
+    -- what it hands goes out alike with the gate of the face and without it
+    pub closed_out : finals ≡ map sent_final (closing_finals face.0 s.core.queries) → (was : Gates) → was ≡ s.gates → (es : List Exit) (after : Gates) → AreOut was l after es → AreOut (without_gate face.0 s.gates) l (without_gate face.0 after) es
+    closed_out are was same es after out =
+        let fs = closing_finals face.0 s.core.queries in
+        let ts = (tell s.core (told_of s.core (closing face)) s.names).handed in
+        let parts : map sent_final fs ++ ts ≡ l = ap (λ hs. hs ++ ts) (sym are) ∙ ap (λ (w : Told). w.handed) its_told in
+        ap (λ hs. let_out [] hs (without_gate face.0 s.gates)) (sym parts)
+        ∙ finals_away face.0 [] fs ts told_away s.gates
+        ∙ (λ j. shut_out (let_out [] (parts j) (sym same j)))
+        ∙ ap shut_out out
 
 -- ---- a withdrawal tells before the queryable is let go
 module _ (s : State) (i : IsReached s) (face : FaceId) (id : ℕ) (fits : refusal_of s.core (withdrawing face id) ≡ None) (ts : List TreeTelling) (same : ts ≡ due s.core (withdrawing face id)) (l : List Handed) (new : NamingState)
@@ -199,10 +226,10 @@ module _ (s : State) (i : IsReached s) (face : FaceId) (id : ℕ) (fits : refusa
       ∙ ap (λ us. changed_after s.core (accepted s.core (withdrawing face id)) let_go (tell s.core (map from_hat (ordered us)) s.names)) (sym same)
       ∙ ap (changed_after s.core (accepted s.core (withdrawing face id)) let_go) told
 
-  pub withdrawn_answered : ◌≡◌ {A = Step} (record { outcome = outcome.Done; handed = l }) (answer s (withdrawing face id))
+  pub withdrawn_answered : ◌≡◌ {A = Step} (record { outcome = outcome.Done; handed = l }) (plain_answer s (withdrawing face id))
   withdrawn_answered = answers_told s (withdrawing face id) l fits (ap (λ (w : Told). w.handed) (sym told_first))
 
-  pub withdrawn_left : settle s (withdrawing face id) ≡ record { core = accepted s.core (withdrawing face id); names = let_go new }
+  pub withdrawn_left : plain_settle s (withdrawing face id) ≡ record { core = accepted s.core (withdrawing face id); names = let_go new; gates = s.gates }
   withdrawn_left = settles_told s (withdrawing face id) fits ∙ ap (with_told (accepted_state s (withdrawing face id))) told_first
 
 -- ---- what own trees tell of one key
@@ -211,11 +238,17 @@ one_key before after key = append-nil (own_told_on before after key)
 
 -- ---- a call that is refused
 module _ (s : State) (t : TextCall) (r : Refusal) (refuses : refusal_of s.core t ≡ Some r) where
+  plain_refused : refused_step r ≡ plain_answer s t
+  plain_refused = sym (ap (λ o. fully s.names (told_after (answered o (granted s.core t)) (after_decided s t (answered o (granted s.core t)))) (answered o (granted s.core t))) refuses)
+
+  plain_stays : plain_settle s t ≡ s
+  plain_stays = ap (λ o. with_told (after_decided s t (answered o (granted s.core t))) (told_after (answered o (granted s.core t)) (after_decided s t (answered o (granted s.core t))))) refuses
+
   pub refused_answered : refused_step r ≡ answer s t
-  refused_answered = sym (answers_fully s t ∙ ap (λ o. fully s.names (told_after (answered o (granted s.core t)) (after_decided s t (answered o (granted s.core t)))) (answered o (granted s.core t))) refuses)
+  refused_answered = λ j. answered_by (asked_text t) (plain_refused j) (sym plain_stays j)
 
   pub refused_left : settle s t ≡ s
-  refused_left = settles_fully s t ∙ ap (λ o. with_told (after_decided s t (answered o (granted s.core t))) (told_after (answered o (granted s.core t)) (after_decided s t (answered o (granted s.core t))))) refuses
+  refused_left = λ j. settled_by (asked_text t) (sym plain_refused j) (plain_stays j)
 
 -- ---- the tellings of calls, as the bodies gather them
 -- of a call that touches one key of a region's hat

@@ -32,9 +32,9 @@ use Rattle.zq_machine.specs.declared.call.Outcome.TheVariants as outcome
 use Rattle.zq_machine.specs.declared.call.Step.{Step}
 use Rattle.zq_machine.specs.declared.call.Refusal.{Refusal}
 use Rattle.zq_machine.specs.declared.call.Refusal.TheVariants as refusal
-use Rattle.zq_machine.specs.Deciding.{accepted, announced_by, changed, entry_by, entry_of, granted, kept, lacks_router, lacks_told, refusal_of, renamed, retracted_by}
+use Rattle.zq_machine.specs.Deciding.{accepted, announced_by, changed, entry_by, entry_of, granted, kept, lacks_router, lacks_told, refusal_of, regated, renamed, retracted_by}
 use Rattle.zq_machine.specs.Handing.{Handed}
-use Rattle.zq_machine.specs.Machine.{answer, settle}
+use Rattle.zq_machine.specs.Gates.{Gates}
 use Rattle.zq_machine.specs.Messages.{from_hat}
 use Rattle.zq_machine.specs.Selecting.{full_text, is_unscoped, says_key}
 use Rattle.zq_machine.specs.State.{Core, State, change_hat, face_region, hat_at, hat_of, is_open, is_routing, put_hat}
@@ -48,6 +48,7 @@ use Rattle.zq_own.specs.Routers.{entered, entry_change, other_router}
 use Rattle.zq_calls.specs.Making.{IsReached}
 use Rattle.zq_calls.specs.Routing.{entering}
 use Rattle.zq_machine.proofs.Keeping.{is_plain}
+use Rattle.zq_machine.proofs.Writing.{plain_answer, plain_settle}
 use Rattle.zq_calls.proofs.Due.{Gathers, changed_home, due, hat_home, key_along, key_looked, key_refuses, looked, told_answered, told_left}
 
 -- in a region of routers
@@ -217,6 +218,10 @@ module _ (s : State) (face : FaceId) (sd : Said) (node : ℕ) where
   entering_names None = refl
   entering_names (Some i) = refl
 
+  pub entering_gates : (info : Option QueryableInfoType) → regated s (entering face sd info node) ≡ s.gates
+  entering_gates None = refl
+  entering_gates (Some i) = refl
+
   pub entering_core : (info : Option QueryableInfoType) → accepted s.core (entering face sd info node) ≡ record s.core { hats = (accepted s.core (entering face sd info node)).hats; ears = (accepted s.core (entering face sd info node)).ears }
   entering_core None = refl
   entering_core (Some i) = refl
@@ -270,11 +275,12 @@ module _ (s : State) (reached : IsReached s) (face : FaceId) (sd : Said) (info :
     its_told : behind [] (tell (accepted s.core (entering face sd info node)) (map from_hat (in_order ts)) (renamed s (entering face sd info node))) ≡ record { handed = l; names = new }
     its_told = ap (λ n. behind [] (tell (accepted s.core (entering face sd info node)) (map from_hat (in_order ts)) n)) (entering_names s face sd node info) ∙ told
 
-    pub entering_answered : ◌≡◌ {A = Step} (record { outcome = outcome.Done; handed = l }) (answer s (entering face sd info node))
+    pub entering_answered : ◌≡◌ {A = Step} (record { outcome = outcome.Done; handed = l }) (plain_answer s (entering face sd info node))
     entering_answered = ap (λ o. record { outcome = o; handed = l }) (sym (entering_done s face sd node info)) ∙ told_answered s reached (entering face sd info node) (entering_plain face sd info node) fits ts are l new its_told (entering_quiet s face sd node info)
 
-    pub entering_left : settle s (entering face sd info node) ≡ record { core = record s.core { hats = change_hat r (entered router key info) s.core.hats; ears = (accepted s.core (entering face sd info node)).ears }; names = new }
+    pub entering_left : plain_settle s (entering face sd info node) ≡ record { core = record s.core { hats = change_hat r (entered router key info) s.core.hats; ears = (accepted s.core (entering face sd info node)).ears }; names = new; gates = s.gates }
     entering_left =
         told_left s reached (entering face sd info node) (entering_plain face sd info node) fits ts are l new its_told
-        ∙ ap (λ (x : Core). record { core = x; names = new }) (entering_core s face sd node info)
-        ∙ ap (λ hats. record { core = record s.core { hats = hats; ears = (accepted s.core (entering face sd info node)).ears }; names = new }) (changes s.core face sd info node opens key says valid r home h there router is)
+        ∙ ap (λ (g : Gates). record { core = accepted s.core (entering face sd info node); names = new; gates = g }) (entering_gates s face sd node info)
+        ∙ ap (λ (x : Core). record { core = x; names = new; gates = s.gates }) (entering_core s face sd node info)
+        ∙ ap (λ hats. record { core = record s.core { hats = hats; ears = (accepted s.core (entering face sd info node)).ears }; names = new; gates = s.gates }) (changes s.core face sd info node opens key says valid r home h there router is)

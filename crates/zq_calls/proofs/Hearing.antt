@@ -15,7 +15,7 @@ use Rattle.zq_machine.specs.State.{Core, State, is_open}
 use Rattle.zq_machine.specs.TextCalls.{TextCall, announcing, declaring, opening}
 use Rattle.zq_machine.proofs.Agreed.{InOrder}
 use Rattle.zq_machine.proofs.DueLess.{accepted_less, brings, listens_kept}
-use Rattle.zq_machine.proofs.Granted.{settles_told}
+use Rattle.zq_machine.proofs.Granted.{settled_of, settled_to}
 use Rattle.zq_machine.proofs.Keeping.{is_plain, lacks_is, same_looked}
 use Rattle.zq_machine.proofs.NeighbourAll.{new_sound}
 use Rattle.zq_machine.proofs.NeighbourIds.{enough, opens}
@@ -35,18 +35,19 @@ no_bringing t e = refl
 
 module _ (config : Settings) (s : State) (i : InOrder config s) (low : s.core.config.start.told < 2 ^ 32) (sound : AreSound s.core.ears) (hear : AllHear s.core s.core.interests s.core.ears)
     (t : TextCall) (fits : refusal_of s.core t ≡ None) where
-  left : (settle s t).core ≡ accepted s.core t
-  left = ap (λ (z : State). z.core) (settles_told s t fits)
-
   same : (face : ℕ) → is_open face s.core ≡ true → is_open face (settle s t).core ≡ true → (key : List ℕ) → listens (settle s t).core s.core.interests face key ≡ listens s.core s.core.interests face key
-  same face was seen key =
-      ap (λ (c : Core). listens c s.core.interests face key) left
-      ∙ listens_kept config s i s.core.interests face key was t (sym (ap (λ (c : Core). is_open face c) left) ∙ seen)
+  same face was =
+      settled_of (λ (c : Core). is_open face c ≡ true → (key : List ℕ) → listens c s.core.interests face key ≡ listens s.core s.core.interests face key) s t fits (λ places c it. it)
+      (λ seen key. listens_kept config s i s.core.interests face key was t seen)
+
+  less : makes_due t ≡ false → (face : ℕ) (key : List ℕ) → is_open face s.core ≡ true → is_some (due (settle s t).core s.core.interests face key) ≡ true → is_some (due s.core s.core.interests face key) ≡ true
+  less none face key was =
+      settled_of (λ (c : Core). is_some (due c s.core.interests face key) ≡ true → is_some (due s.core s.core.interests face key) ≡ true) s t fits (λ places c it. it)
+      (accepted_less config s i s.core.interests face key was t fits (no_bringing t none))
 
   -- ids that a call does not lack which makes nothing due
   pub enough_told : is_plain t ≡ true → makes_due t ≡ false → lacks_told s.core t ≡ false
   enough_told plain none =
       lacks_looked s.core t plain
-      ∙ sym (ap (λ (c : Core). neighbours_lack s.core c s.core.interests t s.core.ears) left)
-      ∙ enough config s i s.core.interests s.core.ears t hear same (new_sound config s i t s.core.interests s.core.ears t low sound).ids (no_opening t none)
-      (λ face key was some. accepted_less config s i s.core.interests face key was t fits (no_bringing t none) (sym (ap (λ (c : Core). is_some (due c s.core.interests face key)) left) ∙ some))
+      ∙ settled_to (λ (c : Core). neighbours_lack s.core c s.core.interests t s.core.ears ≡ false) s t fits (λ places c it. it)
+      (enough config s i s.core.interests s.core.ears t hear same (new_sound config s i t s.core.interests s.core.ears t low sound).ids (no_opening t none) (less none))

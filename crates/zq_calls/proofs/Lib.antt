@@ -2,8 +2,14 @@ pub mod Asking
 pub mod Beside
 pub mod Due
 pub mod Entering
+pub mod GoneOut
 pub mod Hearing
 pub mod Networked
 pub mod Openings
+pub mod Passing
+pub mod Quiet
 pub mod Reached
+pub mod Requesting
+pub mod Saying
 pub mod Seated
+pub mod Unsent

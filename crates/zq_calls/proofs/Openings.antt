@@ -12,7 +12,7 @@ use Rattle.zq_machine.specs.declared.call.Refusal.TheVariants as refusal
 use Rattle.zq_machine.specs.declared.call.Step.{Step}
 use Rattle.zq_machine.specs.Deciding.{accepted, first_of, lacks_face_number, lacks_told, refusal_of, with_face, with_numbers}
 use Rattle.zq_machine.specs.Handing.{Handed}
-use Rattle.zq_machine.specs.Machine.{answer, settle}
+use Rattle.zq_machine.specs.Gates.{gate_at, gate_for, is_sound, with_gate}
 use Rattle.zq_machine.specs.Messages.{from_hat}
 use Rattle.zq_machine.specs.Neighbours.{looked_at}
 use Rattle.zq_machine.specs.State.{State, has_hat, is_full_region}
@@ -21,13 +21,20 @@ use Rattle.zq_machine.specs.Writing.{tell}
 use Rattle.zq_handing.specs.Telling.{behind}
 use Rattle.zq_calls.specs.Making.{IsReached}
 use Rattle.zq_calls.proofs.Due.{Gathers, due, told_answered, told_left}
+use Rattle.zq_calls.proofs.Reached.{reached_in_order}
+use Rattle.zq_machine.proofs.Gates.{none_next}
 use Rattle.zq_machine.proofs.Keeping.{same_looked}
+use Rattle.zq_machine.proofs.Writing.{plain_answer, plain_settle}
+
+-- the next face has no gate
+pub reached_ungated : (s : State) → IsReached s → gate_at s.core.next_face s.gates ≡ None
+reached_ungated s i = none_next s.gates s.core.next_face (reached_in_order s i).gated
 
 module _ (s : State) (i : IsReached s) (o : Opening) where
-  module _ (there : has_hat o.region s.core ≡ true) (room : is_full_region o.region s.core ≡ false) (free : lacks_face_number s.core ≡ false) where
+  module _ (there : has_hat o.region s.core ≡ true) (sound : is_sound o ≡ true) (room : is_full_region o.region s.core ≡ false) (free : lacks_face_number s.core ≡ false) where
     past_number : refusal_of s.core (opening o) ≡ cond (lacks_told s.core (opening o)) (Some refusal.NoFreeId) None
     past_number =
-        λ j. first_of ((not (there j), refusal.UnknownRegion) ∷ (room j, refusal.UpstreamInUse) ∷ (free j, refusal.NoFreeId) ∷ (lacks_told s.core (opening o), refusal.NoFreeId) ∷ [])
+        λ j. first_of ((not (there j), refusal.UnknownRegion) ∷ (not (sound j), refusal.InvalidKeyExpr) ∷ (room j, refusal.UpstreamInUse) ∷ (free j, refusal.NoFreeId) ∷ (lacks_told s.core (opening o), refusal.NoFreeId) ∷ [])
 
     pub opening_fits : lacks_told s.core (opening o) ≡ false → refusal_of s.core (opening o) ≡ None
     opening_fits enough = past_number ∙ ap (λ b. cond b (Some refusal.NoFreeId) None) enough
@@ -46,8 +53,8 @@ module _ (s : State) (i : IsReached s) (o : Opening) where
 
   module _ (fits : refusal_of s.core (opening o) ≡ None) (ts : List TreeTelling) (are : ts ≡ due s.core (opening o)) (l : List Handed) (new : NamingState)
       (told : behind [] (tell (accepted s.core (opening o)) (map from_hat (in_order ts)) (with_numbers s)) ≡ record { handed = l; names = new }) where
-    pub opening_answered : ◌≡◌ {A = Step} (record { outcome = outcome.Opened (record { 0 = s.core.next_face }); handed = l }) (answer s (opening o))
+    pub opening_answered : ◌≡◌ {A = Step} (record { outcome = outcome.Opened (record { 0 = s.core.next_face }); handed = l }) (plain_answer s (opening o))
     opening_answered = told_answered s i (opening o) refl fits ts are l new told refl
 
-    pub opening_left : settle s (opening o) ≡ record { core = accepted s.core (opening o); names = new }
+    pub opening_left : plain_settle s (opening o) ≡ record { core = accepted s.core (opening o); names = new; gates = with_gate s.core.next_face (gate_for o) s.gates }
     opening_left = told_left s i (opening o) refl fits ts are l new told

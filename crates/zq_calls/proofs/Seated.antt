@@ -1,5 +1,5 @@
 -- What code that looks at faces and keys has to know of a gateway that calls made: each open face stands in its region's hat, a face that is about to be opened asks for nothing, and what a face was told is of keys on which regions have information.
-use Rattle.std.proofs.Common.{◌≡◌, ◌∙◌, refl, sym, ap, subst, ℕ, Bool, true, false, cond, List, [], ◌∷◌, Option, Some, None}
+use Rattle.std.proofs.Common.{◌≡◌, ◌∙◌, sym, ap, subst, ℕ, true, false, List, [], ◌∷◌, Option, Some, None}
 use Rattle.std.specs.BTreeMap.{is_at}
 use Rattle.std.specs.List.{AllByRecursion, list_any}
 use Rattle.std.specs.List.Sorted.{IsStrictlySortedBy}
@@ -8,13 +8,13 @@ use Rattle.std.specs.Option.{is_some, option_map, option_map_or}
 use Rattle.std.proofs.lemmas.Bool.{false≢true}
 use Rattle.std.proofs.lemmas.Map.Made.{is_some-lookup}
 use Rattle.zq_index.specs.Texts.{at_text, text_cmp}
-use Rattle.zq_interests.specs.Interests.{Interests, asks_for, wants}
+use Rattle.zq_interests.specs.Interests.{asks_for, wants}
 use Rattle.zq_told.specs.declared.types.ToldEntry.{ToldEntry}
-use Rattle.zq_told.specs.Ears.{Ear, at_face, told_keys}
+use Rattle.zq_told.specs.Ears.{Ear, told_keys}
 use Rattle.zq_told.specs.Receiver.{Heard}
 use Rattle.zq_machine.specs.Due.{due, due_keys}
 use Rattle.zq_machine.specs.Receivers.{Hears}
-use Rattle.zq_machine.specs.State.{Core, State, at, is_open, region_in}
+use Rattle.zq_machine.specs.State.{State, is_open, region_in}
 use Rattle.zq_machine.proofs.DueKeys.{among, is_among, keys_due}
 use Rattle.zq_machine.proofs.Interested.{AskWhereOpen, all_closed}
 use Rattle.zq_dues.specs.Dues.{AreInformed}

@@ -57,7 +57,7 @@ impl Tables {
     ) -> Result<Step, OutOfMemory>
         ensures { Performs self.old self.new (call.DeclareKeyExpr face id wire.now) result }
     {
-        let said = self.names.said(face, wire)?;
+        let said = self.said(face, wire)?;
         self.declare_key(face, id, &said)
     }
 }

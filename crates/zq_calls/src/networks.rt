@@ -3,10 +3,11 @@ ghost use Rattle.std.specs.Prelude.{◌≡◌};
 ghost use Rattle.zq_machine.specs.TextCalls.{networking, tabling};
 ghost use Rattle.zq_calls.specs.Making.{IsReached, Settles};
 
+use crate::gone::let_told_out;
 use crate::tables::Tables;
 use zq_dues::changes::dues_on_all;
 use zq_dues::types::HatChange;
-use zq_handing::neighbours::tell_all;
+use zq_handing::neighbours::{take_back, tell_all};
 use zq_hat::types::{Change, Network, NodeIds};
 use zq_key::items::Items;
 use zq_key::memory::OutOfMemory;
@@ -73,11 +74,19 @@ impl Tables {
             Err(TellRefusal::NoFreeId) => unreachable!(),
             Err(TellRefusal::OutOfMemory) => return Err(OutOfMemory),
         };
+        let exits = match let_told_out(&mut self.gates, &all.handed) {
+            Ok(exits) => exits,
+            Err(error) => {
+                take_back(&mut self.names, &mut self.ears, &all, 0);
+                return Err(error);
+            }
+        };
         match next.change {
             Change::Networked(net) => {
                 hats::put_network(&mut self.hats, region, net, gone.as_slice());
                 self.ears.put(all.plan.as_slice());
-                Ok(self.told(all.handed))
+                let passed = self.gates.pass(all.handed, exits);
+                Ok(self.told(passed))
             }
             _ => unreachable!(),
         }

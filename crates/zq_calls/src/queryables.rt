@@ -1,21 +1,88 @@
 //! Queryables that faces declare and withdraw, and marks of what they have declared.
-ghost use Rattle.std.specs.Prelude.{◌≡◌};
+ghost use Rattle.std.specs.Prelude.{◌≡◌, true, Some, IfOk, OnErr, OnOk};
+ghost use Rattle.std.specs.List.{AllByRecursion};
+ghost use Rattle.zq_hat.specs.Kept.{registered, unregistered};
 ghost use Rattle.zq_machine.specs.declared.call.Call.TheVariants as call;
+ghost use Rattle.zq_machine.specs.State.{change_hat};
 ghost use Rattle.zq_machine.specs.TextCalls.{declaring, finalizing, withdrawing};
+ghost use Rattle.zq_own.specs.Seats.{seats};
+ghost use Rattle.zq_calls.specs.Gone.{AreOut, IsTold};
 ghost use Rattle.zq_calls.specs.Making.{IsReached, Performs, Settles};
 
+use crate::gone::let_told_out;
 use crate::tables::Tables;
 use zq_dues::changes::gather;
+use zq_gates::{Exit, FaceGates};
 use zq_handing::neighbours::{hold_and_tell, take_back, take_back_held, tell_all};
-use zq_handing::read::{key_said, marks_key, said_or_none};
+use zq_handing::read::{key_said, marks_key};
+use zq_hat::hat::Hat;
 use zq_hat::types::{Change, FinalMark};
+use zq_key::Key;
 use zq_key::items::Items;
 use zq_key::memory::OutOfMemory;
-use zq_key::message::{FaceId, QueryableInfoType, WireExpr};
+use zq_key::message::{FaceId, QueryableInfoType, Region, WireExpr};
 use zq_machine::call::{Refusal, Step};
+use zq_machine::handed::HandedList;
 use zq_own::hats;
+use zq_tables::RegionMap;
 use zq_tables::said::Said;
 use zq_told::types::TellRefusal;
+
+// What a declaration tells goes through the gates, and its queryable is registered.
+fn register_told(
+    gates: &mut FaceGates,
+    hats: &mut RegionMap<Hat>,
+    told: &HandedList,
+    region: Region,
+    face: FaceId,
+    id: u32,
+    key: &Key,
+    node: u16,
+    info: QueryableInfoType,
+) -> Result<Vec<Exit>, OutOfMemory>
+    requires told { AllByRecursion IsTold told.now }
+    requires seated { seats region face.0 hats.old ≡ Some true }
+    ensures out { IfOk result (λ es. AreOut gates.old told.now gates.new es.items) }
+    ensures ok { OnOk result (hats.new ≡ change_hat region (registered face.0 id key.now node info) hats.old) }
+    ensures no_gates { OnErr result (gates.new ≡ gates.old) }
+    ensures no_hats { OnErr result (hats.new ≡ hats.old) }
+{
+    let exits = let_told_out(gates, told)?;
+    match hats::register(hats, region, face, id, key, node, info) {
+        Ok(()) => Ok(exits),
+        Err(_) => {
+            gates.take_back(told.as_slice(), exits);
+            Err(OutOfMemory)
+        }
+    }
+}
+
+// What a withdrawal tells goes through the gates, and its queryable is let go.
+fn withdraw_told(
+    gates: &mut FaceGates,
+    hats: &mut RegionMap<Hat>,
+    told: &HandedList,
+    region: Region,
+    face: FaceId,
+    id: u32,
+    node: u16,
+) -> Result<Vec<Exit>, OutOfMemory>
+    requires told { AllByRecursion IsTold told.now }
+    requires seated { seats region face.0 hats.old ≡ Some true }
+    ensures out { IfOk result (λ es. AreOut gates.old told.now gates.new es.items) }
+    ensures ok { OnOk result (hats.new ≡ change_hat region (unregistered face.0 id) hats.old) }
+    ensures no_gates { OnErr result (gates.new ≡ gates.old) }
+    ensures no_hats { OnErr result (hats.new ≡ hats.old) }
+{
+    let exits = let_told_out(gates, told)?;
+    match hats::withdraw(hats, region, face, id, node) {
+        Ok(()) => Ok(exits),
+        Err(_) => {
+            gates.take_back(told.as_slice(), exits);
+            Err(OutOfMemory)
+        }
+    }
+}
 
 impl Tables {
     // A face declares a queryable.
@@ -71,10 +138,21 @@ impl Tables {
             Err(TellRefusal::NoFreeId) => return Ok(self.refused(Refusal::NoFreeId)),
             Err(TellRefusal::OutOfMemory) => return Err(OutOfMemory),
         };
-        match hats::register(&mut self.hats, region, face, id, &key, node, info) {
-            Ok(()) => {
+        match register_told(
+            &mut self.gates,
+            &mut self.hats,
+            &all.handed,
+            region,
+            face,
+            id,
+            &key,
+            node,
+            info,
+        ) {
+            Ok(exits) => {
                 self.ears.put(all.plan.as_slice());
-                Ok(self.told(all.handed))
+                let gone = self.gates.pass(all.handed, exits);
+                Ok(self.told(gone))
             }
             Err(_) => {
                 take_back_held(&mut self.names, &mut self.ears, &all, face, id, fresh);
@@ -128,11 +206,20 @@ impl Tables {
             Err(TellRefusal::NoFreeId) => unreachable!(),
             Err(TellRefusal::OutOfMemory) => return Err(OutOfMemory),
         };
-        match hats::withdraw(&mut self.hats, region, face, id, node) {
-            Ok(()) => {
+        match withdraw_told(
+            &mut self.gates,
+            &mut self.hats,
+            &all.handed,
+            region,
+            face,
+            id,
+            node,
+        ) {
+            Ok(exits) => {
                 self.names.release_queryable(face, id);
                 self.ears.put(all.plan.as_slice());
-                Ok(self.told(all.handed))
+                let gone = self.gates.pass(all.handed, exits);
+                Ok(self.told(gone))
             }
             Err(_) => {
                 take_back(&mut self.names, &mut self.ears, &all, 0);
@@ -153,7 +240,7 @@ impl Tables {
         requires { IsReached self.old }
         ensures { Performs self.old self.new (call.DeclareQueryable face id wire.now info node) result }
     {
-        let said = self.names.said(face, wire)?;
+        let said = self.said(face, wire)?;
         if self.is_routing(face) {
             return self.change_entry(face, &said, Some(info), node);
         }
@@ -172,7 +259,7 @@ impl Tables {
         ensures { Performs self.old self.new (call.UndeclareQueryable face id wire.now node) result }
     {
         if self.is_routing(face) {
-            let said = said_or_none(&self.names, face, wire)?;
+            let said = self.said_or_none(face, wire)?;
             return self.change_entry(face, &said, None, node);
         }
         self.undeclare_queryable(face, id, node)

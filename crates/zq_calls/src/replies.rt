@@ -1,14 +1,16 @@
 //! Replies, finals, reports that a reply was sent, and moments that have come.
-ghost use Rattle.std.specs.Prelude.{◌≡◌, ◌<◌, ◌+◌, ◌^◌, Some, true};
+ghost use Rattle.std.specs.Prelude.{◌≡◌, ◌<◌, ◌+◌, ◌^◌, [], Some, map, true};
 ghost use Rattle.std.specs.Option.{IsSome};
 ghost use Rattle.std.specs.List.{list_any};
 ghost use Rattle.zq_query.specs.Records.{has_number, next_reply};
 ghost use Rattle.zq_machine.specs.Deciding.{messages_of, outcome_of};
+ghost use Rattle.zq_machine.specs.Gates.{through};
 ghost use Rattle.zq_machine.specs.Writing.{write};
 ghost use Rattle.zq_machine.specs.Machine.{accepted_state};
 ghost use Rattle.zq_machine.specs.TextCalls.{ending, passing, replying, reporting};
 ghost use Rattle.zq_calls.specs.Making.{Answers, Settles};
 
+use crate::leaving::let_out;
 use crate::tables::Tables;
 use zq_handing::read::{into_text, is_unscoped, says_key_or_nothing};
 use zq_handing::write::{final_in, room_for_final, written_replies, written_timeouts};
@@ -100,12 +102,13 @@ impl Tables {
             Answers self.old self.new
             (record {
               outcome = outcome_of self.old.core call;
-              handed = write self.old.names (messages_of self.old.core call);
+              handed = map (through [] self.old.gates) (write self.old.names (messages_of self.old.core call));
             })
             (accepted_state self.old call) result }
     {
         let text = into_text(self.alloc, said);
         let handed = written_replies(self.alloc, &self.names, text, response, to)?;
+        let handed = let_out(&mut self.gates, "", handed)?;
         self.queries.put(to)?;
         Ok(Step {
             outcome: Outcome::Replied(to.reply),
@@ -114,7 +117,6 @@ impl Tables {
     }
 
     // A moment has come: entries whose deadlines have come are let go.
-    #[tactic(auto, using(zq_machine::proofs::Writing::polled_after))]
     pub fn pass(&mut self, now: u64) -> Result<Step, OutOfMemory>
         ensures { Settles self.old self.new (passing now) result }
     {
@@ -124,6 +126,7 @@ impl Tables {
             Err(PollRefusal::OutOfMemory) => return Err(OutOfMemory),
         };
         let handed = written_timeouts(self.alloc, &self.names, &self.faces, timeouts.as_slice())?;
+        let handed = let_out(&mut self.gates, "", handed)?;
         self.queries.poll_planned(now, timeouts.as_slice())?;
         Ok(Step {
             outcome: Outcome::Done,

@@ -1,5 +1,7 @@
 //! What a gateway keeps, and a call by its kind.
-ghost use Rattle.std.specs.Prelude.{◌≡◌, ◌<◌, ◌^◌, [], true, Some, IfOk, IfErr, IfSome, OnOk};
+ghost use Rattle.std.specs.Prelude.{◌≡◌, ℕ, ◌<◌, ◌≤◌, ◌^◌, [], true, false, length, Some, IfOk, IfErr, IfSome, IfNone, OnOk};
+ghost use Rattle.zq_query.specs.Records.{flies, pending_count};
+ghost use Rattle.zq_machine.specs.Asked.{replies_of};
 ghost use Rattle.std.specs.List.{cons_option};
 ghost use Rattle.zq_machine.specs.declared.call.Call.TheVariants as call;
 ghost use Rattle.zq_machine.specs.Calls.{declared_call, declaring_call};
@@ -12,6 +14,7 @@ ghost use Rattle.zq_own.specs.Seats.{seats};
 use std::alloc::Global;
 use std::collections::BTreeMap;
 use std::marker::Model;
+use zq_gates::FaceGates;
 use zq_handing::write::written_final;
 use zq_hat::hat::Hat;
 use zq_hat::types::FinalMark;
@@ -25,14 +28,15 @@ use zq_machine::face::OpenFace;
 use zq_machine::handed::{Handed, HandedList};
 use zq_own::hats;
 use zq_query::queries::Queries;
+use zq_query::records::PollRefusal;
 use zq_route::gateways::Gateways;
 use zq_tables::RegionMap;
 use zq_tables::naming::Naming;
 use zq_told::ears::Ears;
 
 /// What a gateway keeps (upstream's `Tables` with its faces): the open faces, a hat for each region,
-/// the gateways that were listed, the open queries, the numbers of keys, what faces ask to hear, and
-/// what they were told.
+/// the gateways that were listed, the open queries, the numbers of keys, what faces ask to hear,
+/// what they were told, and the gates of those that have one.
 #[derive(Drop)]
 pub struct Tables {
     pub(crate) alloc: Global,
@@ -45,6 +49,7 @@ pub struct Tables {
     pub(crate) names: Naming,
     pub(crate) interests: Interests,
     pub(crate) ears: Ears,
+    pub(crate) gates: FaceGates,
 }
 
 impl Model for Tables {
@@ -65,6 +70,7 @@ impl Model for Tables {
         ears = ears_of t.ears;
       };
       names = t.names;
+      gates = t.gates;
     } };
 }
 
@@ -92,6 +98,7 @@ impl Tables {
             names: Naming::new(alloc)?,
             interests: Interests::new(alloc),
             ears: Ears::new(alloc),
+            gates: FaceGates::new(alloc),
         })
     }
 
@@ -174,7 +181,7 @@ impl Tables {
         requires { IsReached self.old }
         ensures { Performs self.old self.new (call.Request face msg.now now) result }
     {
-        let said = self.names.said(face, &msg.wire)?;
+        let said = self.asked_said(face, msg)?;
         self.request(face, said, msg, now)
     }
 
@@ -182,7 +189,7 @@ impl Tables {
     pub fn send_response(&mut self, face: FaceId, msg: &Response) -> Result<Step, OutOfMemory>
         ensures { Performs self.old self.new (call.Response face msg.now) result }
     {
-        let said = self.names.said(face, &msg.wire)?;
+        let said = self.said_by_reply(face, msg)?;
         self.reply(face, said, msg)
     }
 
@@ -222,6 +229,46 @@ impl Tables {
             Ok(Some(last)) => Ok(Some(written_final(last))),
             Ok(None) => Ok(None),
             Err(_) => Err(Refusal::NotInFlight),
+        }
+    }
+
+    /// How many entries of the request are pending; 0 where it is not open. It takes no memory.
+    pub fn pending_of(&self, number: u64) -> u64
+        ensures { result ≡ pending_count number self.now.core.queries.records }
+    {
+        self.queries.pending_of(number)
+    }
+
+    /// The least reply in flight of the request. It takes no memory.
+    pub fn first_in_flight(&self, number: u64) -> Option<u64>
+        ensures there { IfSome result (λ reply. flies number reply self.now.core.queries.records ≡ true) }
+        ensures least { IfSome result (λ reply. (earlier : ℕ) → earlier < reply → flies number earlier self.now.core.queries.records ≡ false) }
+        ensures none { IfNone result ((reply : ℕ) → flies number reply self.now.core.queries.records ≡ false) }
+    {
+        self.queries.first_in_flight(number)
+    }
+
+    // How many entries a moment would let go: a call at it hands no more replies than that.
+    #[tactic(auto, using(crate::proofs::Passing::passing_hands, crate::proofs::Passing::lacking_hands))]
+    fn late_entries(&self, now: u64) -> Result<usize, OutOfMemory>
+        ensures { IfOk result (λ n. length (replies_of (step self.now (call.Poll now))) ≤ n) }
+    {
+        match self.queries.would_poll(now) {
+            Ok(timeouts) => Ok(timeouts.as_slice().len()),
+            Err(PollRefusal::NoFreeId) => Ok(0),
+            Err(PollRefusal::OutOfMemory) => Err(OutOfMemory),
+        }
+    }
+
+    /// At most how many replies the call would hand, and so put in flight.
+    #[tactic(auto, using(crate::proofs::Passing::response_hands, crate::proofs::Passing::others_hand))]
+    pub fn most_replies(&self, call: &Call) -> Result<usize, OutOfMemory>
+        ensures { IfOk result (λ n. length (replies_of (step self.now call.now)) ≤ n) }
+    {
+        match call {
+            Call::Poll { now } => self.late_entries(*now),
+            Call::Response { .. } => Ok(1),
+            _ => Ok(0),
         }
     }
 

@@ -60,14 +60,14 @@ all_ordered P ts all = by [] ts (All-nil P) all
 -- ---- one thing that a hat tells
 
 -- the end of an id other than 0 is told by the id alone, and numbers stay as they are
-pub told_end : (c : Core) (mark : Option ℕ) (t : hat.Telling) (names : NamingState) → ends_alone t ≡ true → tell_body c (marked_by mark t) (from_hat t).body names ≡ tell_declare t.face [] (end_of mark t) names
+pub told_end : (c : Core) (mark : Option ℕ) (t : hat.Telling) (names : NamingState) → ends_alone t ≡ true → tell_body c (marked_by mark t) (from_hat t).body names ≡ tell_declare t.face (end_of mark t) names
 told_end c mark t names alone = by t.info alone
   where
-    ended : (b : Bool) → not b ≡ true → tell_body c (marked_by mark t) (key_ended t.id (cond b (Some t.key) None)) names ≡ tell_declare t.face [] (end_of mark t) names
+    ended : (b : Bool) → not b ≡ true → tell_body c (marked_by mark t) (key_ended t.id (cond b (Some t.key) None)) names ≡ tell_declare t.face (end_of mark t) names
     ended true alone = absurd (false≢true alone)
     ended false alone = refl
 
-    by : (o : Option QueryableInfoType) → (is_none o && not (t.id == 0)) ≡ true → tell_body c (marked_by mark t) (told_or_ended t.id t.key o) names ≡ tell_declare t.face [] (end_of mark t) names
+    by : (o : Option QueryableInfoType) → (is_none o && not (t.id == 0)) ≡ true → tell_body c (marked_by mark t) (told_or_ended t.id t.key o) names ≡ tell_declare t.face (end_of mark t) names
     by None alone = ended (t.id == 0) alone
     by (Some info) alone = absurd (false≢true alone)
 
@@ -89,7 +89,7 @@ messages_of mark t d = handed_number t.face (nonwild t.key) d.declared ++ handed
 
 module _ (c : Core) (mark : Option ℕ) (t : hat.Telling) (names : NamingState) (d : DeclKey) (keyed : ends_alone t ≡ false) (key : d ≡ told_key c t.face t.key names) where
   abbrev told_by : DeclKey → Told
-  told_by k = and_then (tell_number t.face t.key k.declared names) (tell_declare t.face t.key (declare_of mark t k.wire))
+  told_by k = and_then (tell_number t.face t.key k.declared names) (tell_declare t.face (declare_of mark t k.wire))
 
   told : tell_body c (marked_by mark t) (from_hat t).body names ≡ told_by d
   told = told_as c mark t names keyed ∙ ap told_by (sym key)
@@ -97,14 +97,14 @@ module _ (c : Core) (mark : Option ℕ) (t : hat.Telling) (names : NamingState) 
   pub told_messages : (tell_body c (marked_by mark t) (from_hat t).body names).handed ≡ messages_of mark t d
   told_messages = ap (λ (w : Told). w.handed) told ∙ by d.declared
     where
-      by : (o : Option ℕ) → (and_then (tell_number t.face t.key o names) (tell_declare t.face t.key (declare_of mark t d.wire))).handed ≡ handed_number t.face (nonwild t.key) o ++ handed_declare t.face (declare_of mark t d.wire) ∷ []
+      by : (o : Option ℕ) → (and_then (tell_number t.face t.key o names) (tell_declare t.face (declare_of mark t d.wire))).handed ≡ handed_number t.face (nonwild t.key) o ++ handed_declare t.face (declare_of mark t d.wire) ∷ []
       by None = refl
       by (Some id) = refl
 
   pub told_names : (tell_body c (marked_by mark t) (from_hat t).body names).names ≡ change_naming t.face.0 (with_told_number t.key d.declared) names
   told_names = ap (λ (w : Told). w.names) told ∙ by d.declared
     where
-      by : (o : Option ℕ) → (and_then (tell_number t.face t.key o names) (tell_declare t.face t.key (declare_of mark t d.wire))).names ≡ change_naming t.face.0 (with_told_number t.key o) names
+      by : (o : Option ℕ) → (and_then (tell_number t.face t.key o names) (tell_declare t.face (declare_of mark t d.wire))).names ≡ change_naming t.face.0 (with_told_number t.key o) names
       by None = sym (changed_idle t.face.0 (with_told_number t.key None) names refl)
       by (Some id) = refl
 

@@ -4,16 +4,14 @@ ghost use Rattle.zq_key.specs.Key.{is_key as key_of};
 ghost use Rattle.zq_tables.specs.declared.said.Said.{Said};
 ghost use Rattle.zq_machine.specs.Deciding.{marks_key};
 ghost use Rattle.zq_machine.specs.Selecting.{full_text, is_unscoped, says_key, says_key_or_nothing};
-ghost use Rattle.zq_handing.specs.Reading.{key_refusal, said_if_any};
+ghost use Rattle.zq_handing.specs.Reading.{key_refusal};
 
 use std::alloc::Global;
 use zq_hat::types::FinalMark;
 use zq_key::memory::OutOfMemory;
-use zq_key::message::{FaceId, WireExpr};
 use zq_key::text::Text;
 use zq_key::{Key, KeyError, is_key};
 use zq_machine::call::Refusal;
-use zq_tables::naming::Naming;
 use zq_tables::said::Said;
 
 /// Whether the number of the expression stands for nothing.
@@ -92,19 +90,5 @@ pub fn key_said(alloc: Global, said: &Said) -> Result<Result<Key, Refusal>, OutO
         Ok(key) => Ok(Ok(key)),
         Err(KeyError::Invalid) => Ok(Err(Refusal::InvalidKeyExpr)),
         Err(KeyError::OutOfMemory) => Err(OutOfMemory),
-    }
-}
-
-/// What an expression says that may be missing.
-pub fn said_or_none(
-    names: &Naming,
-    face: FaceId,
-    wire: &Option<WireExpr>,
-) -> Result<Said, OutOfMemory>
-    ensures { IfOk result (λ s. s ≡ said_if_any names.now face wire.now) }
-{
-    match wire {
-        Some(wire) => names.said(face, wire),
-        None => Ok(Said::Empty),
     }
 }

@@ -7,7 +7,7 @@ ghost use Rattle.zq_query.specs.Asking.{given_id, given_place};
 ghost use Rattle.zq_message.specs.declared.message.Message.TheVariants as message_of;
 ghost use Rattle.zq_message.specs.declared.message.ReplyBody.TheVariants as body;
 ghost use Rattle.zq_machine.specs.Writing.{sent_final, write, written};
-ghost use Rattle.zq_machine.specs.Deciding.{timed_out, timeout_word, handed_replies, handed_reply, handed_request, handed_requests, handed_timeout, handed_timeouts};
+ghost use Rattle.zq_machine.specs.Deciding.{timed_out, timeout_word, handed_replies, handed_reply, handed_request, handed_timeout, handed_timeouts};
 
 use crate::select::zid_of;
 use std::alloc::{AllocError, Global};
@@ -221,52 +221,34 @@ fn shared(alloc: Global, request: &Request) -> Result<Request, OutOfMemory>
     })
 }
 
-// The requests to the faces of offers. Several share the text and the payload.
-fn requests_sharing(
-    alloc: Global,
-    queries: &Queries,
-    names: &Naming,
-    text: Text,
-    request: &Request,
-    offers: &[QueryTargetQabl],
-    places: &[(u32, u32)],
-) -> Result<HandedList, OutOfMemory>
-    requires { places.now ≡ map (given_place queries.now) (map target_of offers.now) }
-    ensures { IfOk result (λ l. l ≡ write names.now (map (handed_request queries.now text request.now) offers.now)) }
+/// A text that is written so often. Several messages share its memory.
+pub fn text_for(alloc: Global, text: Text, count: usize) -> Result<Text, OutOfMemory>
+    ensures { IfOk result (λ t. t ≡ text) }
 {
-    if offers.len() < 2 {
-        return requests_to(alloc, queries, names, &text, request, offers, places);
+    if count < 2 {
+        return Ok(text);
     }
-    let text = text.shared(alloc)?;
-    let request = shared(alloc, request)?;
-    requests_to(alloc, queries, names, &text, &request, offers, places)
+    text.shared(alloc)
 }
 
-/// What a request hands; with no offer, its final.
+/// The requests to the faces of offers. Several share the payload.
 pub fn written_requests(
     alloc: Global,
     queries: &Queries,
     names: &Naming,
-    asker: FaceId,
-    text: Text,
+    text: &Text,
     request: &Request,
     offers: &[QueryTargetQabl],
     places: &[(u32, u32)],
 ) -> Result<HandedList, OutOfMemory>
     requires { places.now ≡ map (given_place queries.now) (map target_of offers.now) }
-    ensures { IfOk result (λ l. l ≡ write names.now (handed_requests queries.now asker text request.now offers.now)) }
+    ensures { IfOk result (λ l. l ≡ write names.now (map (handed_request queries.now text.now request.now) offers.now)) }
 {
-    if !offers.is_empty() {
-        return requests_sharing(alloc, queries, names, text, request, offers, places);
+    if offers.len() < 2 {
+        return requests_to(alloc, queries, names, text, request, offers, places);
     }
-    let mut handed = room_for(alloc, 1)?;
-    handed.push(written_final(Final {
-        number: queries.next_number(),
-        asker,
-        id: request.id,
-        qos: request.qos,
-    }))?;
-    Ok(handed)
+    let request = shared(alloc, request)?;
+    requests_to(alloc, queries, names, text, &request, offers, places)
 }
 
 fn timeout_message(

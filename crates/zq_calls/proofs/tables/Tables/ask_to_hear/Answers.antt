@@ -1,25 +1,31 @@
-use Rattle.std.proofs.Common.{◌≡◌, ◌∙◌, refl, sym, ap, subst, ℕ, Bool, false, true, true≢false, List, [], map, Option, Some, None, Result, Err}
+use Rattle.std.proofs.Common.{◌≡◌, ◌∙◌, refl, sym, ap, subst, ℕ, false, true, List, map, Option, Some, None, Result, Err}
 use Rattle.std.specs.Prelude.{IfOk, option_copied}
+use Rattle.std.specs.List.{AllByRecursion}
 use Rattle.std.specs.Option.{is_some, option_map}
-use Rattle.zq_tables.specs.Naming.{NamingState, change_naming, without_interest as letting_interest}
 use Rattle.zq_tables.specs.declared.said.Said.{Said}
-use Rattle.zq_interests.specs.declared.types.InterestEntry.{InterestEntry}
-use Rattle.zq_interests.specs.Interests.{Interests, asks_another, has_keyed, meets, with_interest}
-use Rattle.zq_told.specs.Ears.{Ears}
+use Rattle.zq_interests.specs.Interests.{asks_another, has_keyed, meets, with_interest}
 use Rattle.zq_told.specs.Rooms.{ears_of}
-use Rattle.zq_told.specs.Telling.{lacks_ids, put_plan}
+use Rattle.zq_told.specs.declared.types.Way.TheVariants.{Answering}
+use Rattle.zq_told.specs.Telling.{put_plan, tell_faces}
+use Rattle.zq_trees.specs.Tellings.{in_order}
 use Rattle.zq_machine.specs.declared.call.Refusal.{Refusal}
 use Rattle.zq_machine.specs.declared.call.Refusal.TheVariants as refusal
-use Rattle.zq_machine.specs.declared.face.OpenFace.{OpenFace}
 use Rattle.zq_machine.specs.Deciding.{accepted}
 use Rattle.zq_machine.specs.Selecting.{asked_by, full_text}
-use Rattle.zq_machine.specs.State.{State, at, is_open}
+use Rattle.zq_machine.specs.declared.call.Outcome.TheVariants as outcome
+use Rattle.zq_machine.specs.Machine.{done}
+use Rattle.zq_machine.specs.Messages.{answered_by, from_hat}
+use Rattle.zq_machine.specs.Writing.{Told}
+use Rattle.zq_machine.specs.State.{Core, State, at, is_open}
 use Rattle.zq_machine.specs.TextCalls.{hearing}
 use Rattle.zq_handing.specs.Neighbours.{asked_back, asking}
 use Rattle.zq_handing.proofs.Held.{asked_out}
 use Rattle.zq_calls.specs.Asking.{asking_refusal}
-use Rattle.zq_calls.proofs.Asking.{asked_answered, asked_asks, asked_keys, asked_lacks, asked_left, asked_settled, hearing_fits, hearing_lacks, hearing_no_key, hearing_unknown, hearing_used, looked}
+use Rattle.zq_calls.proofs.Asking.{asked_answered, asked_asks, asked_keys, asked_lacks, asked_left, asked_settled, hearing_fits, hearing_lacks, looked}
 use Rattle.zq_calls.proofs.Due.{refused_answered, refused_left}
+use Rattle.zq_calls.proofs.GoneOut.{each_told, goes_out, stays_out}
+use Rattle.zq_calls.specs.Gone.{IsTold}
+use Rattle.zq_machine.proofs.Asks.{is_asking}
 use Rattle.zq_calls.proofs.tables.Tables.ask_to_hear.Goals as goal
 
 pub hold_and_answer-requires : goal.hold_and_answer-requires
@@ -83,13 +89,26 @@ returns-in-Err-NoFreeId c =
           (λ j. record {
             core = record { config = (v j).core.config; faces = (v j).core.faces; next_face = (v j).core.next_face; hats = (v j).core.hats; tables = (v j).core.tables; queries = (v j).core.queries; interests = (v j).core.interests; ears = ears_back j };
             names = names_back j;
+            gates = (v j).gates;
           })
           ∙ sym (refused_left s t refusal.NoFreeId e);
       err = tt;
     }
 
-pub returns-in-Ok-put : goal.returns-in-Ok-put
-returns-in-Ok-put c =
+pub ask_told-requires : goal.ask_told-requires
+ask_told-requires c =
+    let s : State = c.args.self.now in
+    let i = c.self.inside in
+    let face = c.args.face in
+    let id = c.args.id in
+    let w : Core = record s.core { faces = i.faces.entries; interests = with_interest face.0 id (record { key = c.in-Ok.key; keys = c.args.keys }) i.interests } in
+    let ts = answered_by face id (map from_hat (in_order (tell_faces Answering (ears_of i.ears) c.as_slice.result.now).tellings)) in
+    subst (λ (x : Told). AllByRecursion IsTold x.handed) (c.in-Ok-hold_and_answer.ensures.ok w refl (λ f k. refl))
+    (each_told w ts (asking face.0 id (option_copied c.as_ref-held.result) i.names))
+
+pub returns-in-Ok-ask_told : goal.returns-in-Ok-ask_told
+unfolding is_asking
+returns-in-Ok-ask_told c =
     let s : State = c.args.self.now in
     let i = c.self.inside in
     let v = c.self.view_is in
@@ -119,20 +138,28 @@ returns-in-Ok-put c =
     let told =
     c.in-Ok-hold_and_answer.ensures.ok (accepted s.core t) (sym (ap (λ (x : State). x.core.faces) v))
     (λ f k. λ j. has_keyed f k (with_interest face.0 id (record { key = is j; keys = keys }) (held j))) in
-    let more = c.in-Ok-put.ensures.ok ∙ (λ j. with_interest face.0 id (record { key = is j; keys = keys }) (held j)) in
+    let more = c.in-Ok-ask_told.ensures.ok ∙ (λ j. with_interest face.0 id (record { key = is j; keys = keys }) (held j)) in
     let kept =
-    c.put-in-Ok-put.ensures.ears ∙ ap (put_plan c.as_slice-in-Ok-put.result.now) c.hold_and_answer.ensures.ears
-    ∙ asked_left s c.requires face id keys sd (ears_of i.ears) heard dues are c.as_slice-in-Ok-put.result.now (c.as_slice-in-Ok-put.ensures ∙ c.in-Ok-hold_and_answer.ensures.plan) in
+    c.put.ensures.ears ∙ ap (put_plan c.as_slice-in-Ok-ask_told.result.now) c.hold_and_answer.ensures.ears
+    ∙ asked_left s c.requires face id keys sd (ears_of i.ears) heard dues are c.as_slice-in-Ok-ask_told.result.now (c.as_slice-in-Ok-ask_told.ensures ∙ c.in-Ok-hold_and_answer.ensures.plan) in
     let its_key = c.as_ref-held.ensures.value ∙ is in
     let held_by = option_copied c.as_ref-held.result in
+    let plain = asked_answered s c.requires face id keys sd (ears_of i.ears) heard dues are fits i.names names held_by its_key all.handed c.hold_and_answer.new.names told in
+    let stays = asked_settled s c.requires face id keys sd (ears_of i.ears) heard dues are fits i.names names held_by its_key all.handed c.hold_and_answer.new.names told in
+    let w : State = record { core = accepted s.core t; names = c.hold_and_answer.new.names; gates = s.gates } in
+    let same = ap (λ (x : State). x.gates) v in
+    let es = c.in-Ok-ask_told.exits.items in
+    let after = c.ask_told.new.gates in
+    let out = c.in-Ok-ask_told.ensures.out in
     record {
-      step = c.told.ensures ∙ asked_answered s c.requires face id keys sd (ears_of i.ears) heard dues are fits i.names names held_by its_key all.handed c.hold_and_answer.new.names told;
+      step = c.told.ensures ∙ ap done c.pass-gone.ensures.handed ∙ goes_out s t refl outcome.Done all.handed w plain stays i.gates same es after out;
       after =
           (λ j. record {
             core = record { config = (v j).core.config; faces = (v j).core.faces; next_face = (v j).core.next_face; hats = (v j).core.hats; tables = (v j).core.tables; queries = (v j).core.queries; interests = more j; ears = kept j };
             names = c.hold_and_answer.new.names;
+            gates = c.pass-gone.ensures.gates j;
           })
-          ∙ sym (asked_settled s c.requires face id keys sd (ears_of i.ears) heard dues are fits i.names names held_by its_key all.handed c.hold_and_answer.new.names told);
+          ∙ sym (stays_out s t refl outcome.Done all.handed w plain stays i.gates same es after out);
       err = tt;
     }
 
@@ -150,7 +177,8 @@ returns c =
     c.take_back_answered.ensures.names
     ∙ ap (asked_back face.0 id fresh) (c.in-Ok-hold_and_answer.ensures.back ∙ ap (asking face.0 id held_by) names)
     ∙ asked_out face.0 id held_by fresh s.names c.is_fresh-fresh.ensures in
-    let held = c.in-Err-put.ensures.err ∙ ap (λ (x : State). x.core.interests) v in
+    let held = c.in-Err-ask_told.ensures.no_interests ∙ ap (λ (x : State). x.core.interests) v in
+    let gates_back = c.in-Err-ask_told.ensures.no_gates ∙ ap (λ (x : State). x.gates) v in
     let kept = c.take_back_answered.ensures.ears ∙ c.hold_and_answer.ensures.ears ∙ ap (λ (x : State). x.core.ears) v in
     record {
       step = tt;
@@ -158,5 +186,6 @@ returns c =
       err = λ j. record {
         core = record { config = (v j).core.config; faces = (v j).core.faces; next_face = (v j).core.next_face; hats = (v j).core.hats; tables = (v j).core.tables; queries = (v j).core.queries; interests = held j; ears = kept j };
         names = back j;
+        gates = gates_back j;
       };
     }

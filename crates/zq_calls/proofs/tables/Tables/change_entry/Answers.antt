@@ -1,5 +1,6 @@
 use Rattle.std.proofs.Common.{◌≡◌, ◌∙◌, refl, sym, ap, Err, subst, List, ℕ, Bool, IfOk, IfErr, Result, [], ◌∷◌, ◌++◌, Option, map, drop, length, Some, None, true, false}
 use Rattle.std.specs.Prelude.{◌&&◌}
+use Rattle.std.specs.List.{AllByRecursion}
 use Rattle.std.specs.Option.{is_none, is_some}
 use Rattle.zq_message.specs.declared.message.QueryableInfoType.{QueryableInfoType}
 use Rattle.zq_message.specs.declared.message.Zid.{Zid}
@@ -17,13 +18,16 @@ use Rattle.zq_told.specs.Rooms.{ears_of}
 use Rattle.zq_told.specs.Telling.{put_plan}
 use Rattle.zq_machine.specs.declared.call.Refusal.{Refusal}
 use Rattle.zq_machine.specs.declared.call.Refusal.TheVariants as refusal
+use Rattle.zq_machine.specs.declared.call.Outcome.TheVariants as outcome
+use Rattle.zq_machine.specs.Machine.{done}
 use Rattle.zq_machine.specs.Deciding.{accepted, refusal_of}
 use Rattle.zq_machine.specs.Handing.{Handed}
 use Rattle.zq_machine.specs.Messages.{from_hat}
 use Rattle.zq_machine.specs.Neighbours.{looked_over}
-use Rattle.zq_machine.specs.State.{State, change_hat, face_region, hat_at, is_open}
+use Rattle.zq_machine.specs.State.{Core, State, change_hat, face_region, hat_at, is_open}
 use Rattle.zq_machine.specs.Trees.{own_told_on}
-use Rattle.zq_machine.specs.Writing.{tell}
+use Rattle.zq_machine.specs.Writing.{Told, tell}
+use Rattle.zq_calls.specs.Gone.{IsTold}
 use Rattle.zq_handing.specs.Neighbours.{told_with}
 use Rattle.zq_handing.specs.Telling.{behind, untold}
 use Rattle.zq_handing.specs.Reading.{key_refusal}
@@ -34,6 +38,7 @@ use Rattle.zq_calls.specs.Routing.{entering}
 use Rattle.zq_calls.proofs.Due.{Gathers, closed_there, due_of_keys, gathered_due, gathered_lacks, gathered_left, opened_there, refused_answered, refused_left}
 use Rattle.zq_calls.proofs.Entering.{change_is, entering_answered, entering_changes, entering_ears, entering_faces, entering_gathers, entering_interests, entering_left, entering_plain, entry_fits, entry_lacks, no_entry, no_key, no_router, not_open}
 use Rattle.zq_calls.proofs.Reached.{reached_enough}
+use Rattle.zq_calls.proofs.GoneOut.{each_told, entering_asks, goes_out, stays_out}
 use Rattle.zq_calls.proofs.tables.Tables.change_entry.Goals as goal
 
 pub returns-in_default : goal.returns-in_default
@@ -190,16 +195,27 @@ returns-in-Err-NoFreeId c =
           (λ j. record {
             core = record { config = (v j).core.config; faces = (v j).core.faces; next_face = (v j).core.next_face; hats = (v j).core.hats; tables = (v j).core.tables; queries = (v j).core.queries; interests = (v j).core.interests; ears = ears_back j };
             names = names_back j;
+            gates = (v j).gates;
           })
           ∙ sym (refused_left s t refusal.NoFreeId e);
       err = tt;
     }
 
-pub put_entry-requires : goal.put_entry-requires
-put_entry-requires c = ap is_some c.home-hat.ensures.hat
+pub put_entry_told-requires-clause-there : goal.put_entry_told-requires-clause-there
+put_entry_told-requires-clause-there c = ap is_some c.home-hat.ensures.hat
 
-pub returns-in-Ok-put_entry : goal.returns-in-Ok-put_entry
-returns-in-Ok-put_entry c =
+pub put_entry_told-requires-clause-told : goal.put_entry_told-requires-clause-told
+put_entry_told-requires-clause-told c =
+    let s : State = c.args.self.now in
+    let i = c.self.inside in
+    let w : Core = record s.core { faces = i.faces.entries; interests = i.interests } in
+    let ts = told_with (ears_of i.ears) c.as_slice.result.now c.in_ok-told.told in
+    subst (λ (x : Told). AllByRecursion IsTold x.handed)
+    (ap (λ (f : List Handed). behind f (tell w (map from_hat (in_order ts)) i.names)) (sym c.new.ensures) ∙ c.in-Ok-tell_all.ensures.ok w refl (λ f k. refl))
+    (each_told w (map from_hat (in_order ts)) i.names)
+
+pub returns-in-Ok-put_entry_told : goal.returns-in-Ok-put_entry_told
+returns-in-Ok-put_entry_told c =
     let s : State = c.args.self.now in
     let i = c.self.inside in
     let v = c.self.view_is in
@@ -238,16 +254,25 @@ returns-in-Ok-put_entry c =
     ap (λ (f : List Handed). behind f (tell (accepted s.core t) (map from_hat (in_order ts)) s.names)) (sym c.new.ensures)
     ∙ ap (λ (n : NamingState). behind c.new.result (tell (accepted s.core t) (map from_hat (in_order ts)) n)) (sym (ap (λ (x : State). x.names) v))
     ∙ c.in-Ok-tell_all.ensures.ok (accepted s.core t) (faces ∙ sym (ap (λ (x : State). x.core.faces) v)) (λ f k. ap (λ (x : State). has_keyed f k x.core.interests) v ∙ ap (has_keyed f k) (sym asked)) in
-    let left = c.in-Ok-put_entry.ensures.ok ∙ ap (change_hat r (entered router key info)) hats in
-    let kept = c.put.ensures.ears ∙ ap (put_plan c.as_slice-in-Ok-put_entry.result.now) c.tell_all.ensures.ears ∙ gathered_left s.core t plain (ears_of i.ears) dues c.in_ok-told.told g c.as_slice-in-Ok-put_entry.result.now (c.as_slice-in-Ok-put_entry.ensures ∙ c.in-Ok-tell_all.ensures.plan) ∙ entering_ears s face sd node info in
+    let left = c.in-Ok-put_entry_told.ensures.ok ∙ ap (change_hat r (entered router key info)) hats in
+    let kept = c.put.ensures.ears ∙ ap (put_plan c.as_slice-in-Ok-put_entry_told.result.now) c.tell_all.ensures.ears ∙ gathered_left s.core t plain (ears_of i.ears) dues c.in_ok-told.told g c.as_slice-in-Ok-put_entry_told.result.now (c.as_slice-in-Ok-put_entry_told.ensures ∙ c.in-Ok-tell_all.ensures.plan) ∙ entering_ears s face sd node info in
+    let before = entering_answered s c.requires.reached face sd info node opens key says valid r home h there router is fits ts are all.handed c.tell_all.new.names handed in
+    let stays = entering_left s c.requires.reached face sd info node opens key says valid r home h there router is fits ts are all.handed c.tell_all.new.names handed in
+    let w : State = record { core = record s.core { hats = change_hat r (entered router key info) s.core.hats; ears = (accepted s.core t).ears }; names = c.tell_all.new.names; gates = s.gates } in
+    let quiet = entering_asks face sd info node in
+    let same = ap (λ (x : State). x.gates) v in
+    let es = c.in-Ok-put_entry_told.exits.items in
+    let after = c.put_entry_told.new.gates in
+    let out = c.in-Ok-put_entry_told.ensures.out in
     record {
-      step = c.told-in-Ok-put_entry.ensures ∙ entering_answered s c.requires.reached face sd info node opens key says valid r home h there router is fits ts are all.handed c.tell_all.new.names handed;
+      step = c.told-in-Ok-put_entry_told.ensures ∙ ap done c.pass-gone.ensures.handed ∙ goes_out s t quiet outcome.Done all.handed w before stays i.gates same es after out;
       after =
           (λ j. record {
             core = record { config = (v j).core.config; faces = (v j).core.faces; next_face = (v j).core.next_face; hats = left j; tables = (v j).core.tables; queries = (v j).core.queries; interests = (v j).core.interests; ears = kept j };
             names = c.tell_all.new.names;
+            gates = c.pass-gone.ensures.gates j;
           })
-          ∙ sym (entering_left s c.requires.reached face sd info node opens key says valid r home h there router is fits ts are all.handed c.tell_all.new.names handed);
+          ∙ sym (stays_out s t quiet outcome.Done all.handed w before stays i.gates same es after out);
       err = tt;
     }
 
@@ -259,7 +284,8 @@ returns c =
     ∙ ap (λ (f : List Handed). untold (drop (length f) c.in-Ok-tell_all.all.handed) c.tell_all.new.names) (sym c.new.ensures)
     ∙ c.in-Ok-tell_all.ensures.back
     ∙ ap (λ (x : State). x.names) v in
-    let left = c.in-Err-put_entry.ensures.err ∙ ap (λ (x : State). x.core.hats) v in
+    let left = c.in-Err-put_entry_told.ensures.no_hats ∙ ap (λ (x : State). x.core.hats) v in
+    let gates_back = c.in-Err-put_entry_told.ensures.no_gates ∙ ap (λ (x : State). x.gates) v in
     let kept = c.take_back.ensures.ears ∙ c.tell_all.ensures.ears ∙ ap (λ (x : State). x.core.ears) v in
     record {
       step = tt;
@@ -267,5 +293,6 @@ returns c =
       err = λ j. record {
         core = record { config = (v j).core.config; faces = (v j).core.faces; next_face = (v j).core.next_face; hats = left j; tables = (v j).core.tables; queries = (v j).core.queries; interests = (v j).core.interests; ears = kept j };
         names = back j;
+        gates = gates_back j;
       };
     }

@@ -1,4 +1,5 @@
 use Rattle.std.proofs.Common.{◌≡◌, ◌∙◌, refl, sym, ap, Err, subst, List, ℕ, [], ◌∷◌, map, IfErr, IfOk, Option, None, Some, Result, true, false, not}
+use Rattle.std.specs.List.{AllByRecursion}
 use Rattle.std.specs.Option.{is_none, is_some}
 use Rattle.zq_key.specs.Key.{is_key}
 use Rattle.zq_trees.specs.Tellings.{in_order}
@@ -11,13 +12,16 @@ use Rattle.zq_told.specs.Telling.{put_plan}
 use Rattle.zq_machine.specs.declared.call.Refusal.{Refusal}
 use Rattle.zq_machine.specs.declared.call.Refusal.TheVariants as refusal
 use Rattle.zq_machine.specs.Deciding.{accepted, refusal_of}
-use Rattle.zq_machine.specs.Machine.{answer, settle}
+use Rattle.zq_machine.specs.declared.call.Outcome.TheVariants as outcome
+use Rattle.zq_machine.specs.Machine.{answer, done, settle}
 use Rattle.zq_machine.specs.Messages.{from_hat}
 use Rattle.zq_machine.specs.Neighbours.{looked_over}
-use Rattle.zq_machine.specs.State.{State, change_hat, face_region, hat_at}
+use Rattle.zq_machine.specs.State.{Core, State, change_hat, face_region, hat_at}
 use Rattle.zq_machine.specs.TextCalls.{declaring}
 use Rattle.zq_machine.specs.Trees.{own_told_on}
-use Rattle.zq_machine.specs.Writing.{tell}
+use Rattle.zq_machine.specs.Writing.{Told, tell}
+use Rattle.zq_machine.proofs.Asks.{is_asking}
+use Rattle.zq_calls.specs.Gone.{IsTold}
 use Rattle.zq_handing.specs.Neighbours.{taken_back, told_with}
 use Rattle.zq_handing.specs.Reading.{key_refusal}
 use Rattle.zq_handing.specs.Telling.{behind}
@@ -25,6 +29,7 @@ use Rattle.zq_handing.proofs.Held.{put_back}
 use Rattle.zq_calls.proofs.Seated.{reached_in_place}
 use Rattle.zq_calls.specs.Making.{IsReached}
 use Rattle.zq_calls.proofs.Due.{Gathers, changed_home, declaration_clashes, declaration_fits, declaration_gathers, declaration_lacks, declaration_no_key, due_of_keys, gathered_due, gathered_lacks, gathered_left, opened_there, refused_answered, refused_left, told_answered, told_left}
+use Rattle.zq_calls.proofs.GoneOut.{each_told, goes_out, stays_out}
 use Rattle.zq_calls.proofs.tables.Tables.declare_queryable.Goals as goal
 
 pub returns-in-Err : goal.returns-in-Err
@@ -128,13 +133,24 @@ returns-in-Err-NoFreeId c =
           (λ j. record {
             core = record { config = (v j).core.config; faces = (v j).core.faces; next_face = (v j).core.next_face; hats = (v j).core.hats; tables = (v j).core.tables; queries = (v j).core.queries; interests = (v j).core.interests; ears = ears_back j };
             names = names_back j;
+            gates = (v j).gates;
           })
           ∙ sym (refused_left s u refusal.NoFreeId e);
       err = tt;
     }
 
-pub returns-in-Ok-register : goal.returns-in-Ok-register
-returns-in-Ok-register c =
+pub register_told-requires-clause-told : goal.register_told-requires-clause-told
+register_told-requires-clause-told c =
+    let s : State = c.args.self.now in
+    let i = c.self.inside in
+    let w : Core = record s.core { faces = i.faces.entries; interests = i.interests } in
+    let ts = told_with (ears_of i.ears) c.as_slice.result.now c.in_ok-found.found.told in
+    subst (λ (x : Told). AllByRecursion IsTold x.handed) (c.in-Ok-hold_and_tell.ensures.ok w refl (λ f k. refl))
+    (each_told w (map from_hat (in_order ts)) (change_naming c.args.face.0 (with_queryable c.args.id c.in-Ok.key) i.names))
+
+pub returns-in-Ok-register_told : goal.returns-in-Ok-register_told
+unfolding is_asking
+returns-in-Ok-register_told c =
     let s : State = c.args.self.now in
     let i = c.self.inside in
     let v = c.self.view_is in
@@ -166,17 +182,25 @@ returns-in-Ok-register c =
     let handed =
     ap (λ (n : NamingState). behind [] (tell (accepted s.core t) (map from_hat (in_order ts)) (change_naming face.0 (with_queryable id key) n))) (sym (ap (λ (x : State). x.names) v))
     ∙ c.in-Ok-hold_and_tell.ensures.ok (accepted s.core t) (sym (ap (λ (x : State). x.core.faces) v)) (λ f k. ap (λ (x : State). has_keyed f k x.core.interests) v) in
-    let left = c.in-Ok-register.ensures.ok ∙ ap (change_hat r (registered face.0 id key node info)) hats ∙ sym (changed_home face.0 r s.core home (registered face.0 id key node info)) in
-    let kept = c.put.ensures.ears ∙ ap (put_plan c.as_slice-in-Ok-register.result.now) c.hold_and_tell.ensures.ears ∙ gathered_left s.core t refl (ears_of i.ears) dues told g c.as_slice-in-Ok-register.result.now (c.as_slice-in-Ok-register.ensures ∙ c.in-Ok-hold_and_tell.ensures.plan) in
+    let left = c.in-Ok-register_told.ensures.ok ∙ ap (change_hat r (registered face.0 id key node info)) hats ∙ sym (changed_home face.0 r s.core home (registered face.0 id key node info)) in
+    let kept = c.put.ensures.ears ∙ ap (put_plan c.as_slice-in-Ok-register_told.result.now) c.hold_and_tell.ensures.ears ∙ gathered_left s.core t refl (ears_of i.ears) dues told g c.as_slice-in-Ok-register_told.result.now (c.as_slice-in-Ok-register_told.ensures ∙ c.in-Ok-hold_and_tell.ensures.plan) in
     let says : c.args.said.now ≡ said.Full key = subst (λ (x : Result (List ℕ) Refusal). IfOk x (λ k. c.args.said.now ≡ said.Full k)) c.in-Ok.is c.in_ok-key.ensures.says in
+    let plain = told_answered s c.requires t refl fits ts are all.handed c.hold_and_tell.new.names handed refl in
+    let stays = told_left s c.requires t refl fits ts are all.handed c.hold_and_tell.new.names handed in
+    let w : State = record { core = accepted s.core t; names = c.hold_and_tell.new.names; gates = s.gates } in
+    let same = ap (λ (x : State). x.gates) v in
+    let es = c.in-Ok-register_told.exits.items in
+    let after = c.register_told.new.gates in
+    let out = c.in-Ok-register_told.ensures.out in
     record {
-      step = c.told.ensures ∙ told_answered s c.requires t refl fits ts are all.handed c.hold_and_tell.new.names handed refl ∙ ap (λ sd. answer s (declaring face id sd info node)) (sym says);
+      step = c.told.ensures ∙ ap done c.pass-gone.ensures.handed ∙ goes_out s t refl outcome.Done all.handed w plain stays i.gates same es after out ∙ ap (λ sd. answer s (declaring face id sd info node)) (sym says);
       after =
           (λ j. record {
             core = record { config = (v j).core.config; faces = (v j).core.faces; next_face = (v j).core.next_face; hats = left j; tables = (v j).core.tables; queries = (v j).core.queries; interests = (v j).core.interests; ears = kept j };
             names = c.hold_and_tell.new.names;
+            gates = c.pass-gone.ensures.gates j;
           })
-          ∙ sym (told_left s c.requires t refl fits ts are all.handed c.hold_and_tell.new.names handed)
+          ∙ sym (stays_out s t refl outcome.Done all.handed w plain stays i.gates same es after out)
           ∙ ap (λ sd. settle s (declaring face id sd info node)) (sym says);
       err = tt;
     }
@@ -201,7 +225,8 @@ returns c =
     c.take_back_held.ensures.names
     ∙ ap (taken_back face id (not c.holds_queryable-fresh.result)) (c.in-Ok-hold_and_tell.ensures.back ∙ ap (change_naming face (with_queryable id key)) names)
     ∙ put_back face id key (not c.holds_queryable-fresh.result) s.names fresh in
-    let left = c.in-Err-register.ensures.err ∙ ap (λ (x : State). x.core.hats) v in
+    let left = c.in-Err-register_told.ensures.no_hats ∙ ap (λ (x : State). x.core.hats) v in
+    let gates_back = c.in-Err-register_told.ensures.no_gates ∙ ap (λ (x : State). x.gates) v in
     let kept = c.take_back_held.ensures.ears ∙ c.hold_and_tell.ensures.ears ∙ ap (λ (x : State). x.core.ears) v in
     record {
       step = tt;
@@ -209,5 +234,6 @@ returns c =
       err = λ j. record {
         core = record { config = (v j).core.config; faces = (v j).core.faces; next_face = (v j).core.next_face; hats = left j; tables = (v j).core.tables; queries = (v j).core.queries; interests = (v j).core.interests; ears = kept j };
         names = back j;
+        gates = gates_back j;
       };
     }

@@ -1,6 +1,7 @@
 use Rattle.std.specs.Prelude.{option_copied}
-use Rattle.std.proofs.Common.{◌≡◌, ◌∙◌, refl, sym, ap, Err, subst, ℕ, ◌++◌, List, [], map, fold, Some, true≢false}
+use Rattle.std.proofs.Common.{◌≡◌, ◌∙◌, refl, sym, ap, Err, subst, ℕ, ◌++◌, List, [], drop, length, map, fold, Some, true≢false}
 use Rattle.std.specs.BTreeSet.{insert_key}
+use Rattle.std.specs.List.{AllByRecursion}
 use Rattle.zq_index.specs.Texts.{text_cmp}
 use Rattle.zq_machine.specs.Neighbours.{looked_over}
 use Rattle.zq_trees.specs.declared.types.Network.{Network}
@@ -16,18 +17,23 @@ use Rattle.zq_told.specs.Rooms.{ears_of}
 use Rattle.zq_told.specs.Telling.{put_plan}
 use Rattle.zq_machine.specs.Deciding.{accepted}
 use Rattle.zq_machine.specs.Handing.{Handed}
+use Rattle.zq_machine.specs.declared.call.Outcome.TheVariants as outcome
+use Rattle.zq_machine.specs.Machine.{done}
 use Rattle.zq_machine.specs.Messages.{from_hat}
-use Rattle.zq_machine.specs.State.{State, change_hat, hat_at}
+use Rattle.zq_machine.specs.State.{Core, State, change_hat, hat_at}
 use Rattle.zq_machine.specs.Trees.{all_own_told, networked_told}
 use Rattle.zq_machine.specs.TextCalls.{networking}
-use Rattle.zq_machine.specs.Writing.{tell}
+use Rattle.zq_machine.specs.Writing.{Told, tell}
 use Rattle.zq_handing.specs.Neighbours.{told_with}
-use Rattle.zq_handing.specs.Telling.{behind}
+use Rattle.zq_handing.specs.Telling.{behind, untold}
 use Rattle.zq_calls.proofs.Seated.{each_of, reached_in_place}
+use Rattle.zq_machine.proofs.Asks.{is_asking}
+use Rattle.zq_calls.specs.Gone.{IsTold}
 use Rattle.zq_calls.specs.Making.{IsReached}
 use Rattle.zq_calls.proofs.Due.{Gathers, due_of_keys, gathered_due, gathered_lacks, gathered_left, told_answered, told_left}
 use Rattle.zq_calls.proofs.Networked.{network_fits, network_gathers, network_keys}
 use Rattle.zq_calls.proofs.Reached.{reached_enough}
+use Rattle.zq_calls.proofs.GoneOut.{each_told, goes_out, stays_out}
 use Rattle.zq_calls.proofs.tables.Tables.set_network.Goals as goal
 
 pub dues_on_all-requires-clause-keys : goal.dues_on_all-requires-clause-keys
@@ -100,7 +106,38 @@ unreachable-requires c =
     let lacks = sym (gathered_lacks s.core t refl (ears_of i.ears) dues told g) ∙ c.in-Err-NoFreeId.ensures.no_free (ap (λ e. Err e) c.in-Err-NoFreeId.field-0-is) in
     true≢false (sym lacks ∙ reached_enough s c.requires t fits refl refl)
 
+pub let_told_out-requires : goal.let_told_out-requires
+let_told_out-requires c =
+    let s : State = c.args.self.now in
+    let i = c.self.inside in
+    let w : Core = record s.core { faces = i.faces.entries; interests = i.interests } in
+    let ts = told_with (ears_of i.ears) c.as_slice-4.result.now c.tell_losses.new.told in
+    subst (λ (x : Told). AllByRecursion IsTold x.handed)
+    (ap (λ (f : List Handed). behind f (tell w (map from_hat (in_order ts)) i.names)) (sym c.new-none.ensures) ∙ c.in-Ok.ensures.ok w refl (λ f k. refl))
+    (each_told w (map from_hat (in_order ts)) i.names)
+
+pub returns-in-Err : goal.returns-in-Err
+returns-in-Err c =
+    let v = c.self.view_is in
+    let back =
+    c.take_back.ensures.names
+    ∙ ap (λ (f : List Handed). untold (drop (length f) c.in-Ok.all.handed) c.tell_all.new.names) (sym c.new-none.ensures)
+    ∙ c.in-Ok.ensures.back
+    ∙ ap (λ (x : State). x.names) v in
+    let gates_back = c.in-Err.ensures.err ∙ ap (λ (x : State). x.gates) v in
+    let kept = c.take_back.ensures.ears ∙ c.tell_all.ensures.ears ∙ ap (λ (x : State). x.core.ears) v in
+    record {
+      step = tt;
+      after = tt;
+      err = λ j. record {
+        core = record { config = (v j).core.config; faces = (v j).core.faces; next_face = (v j).core.next_face; hats = (v j).core.hats; tables = (v j).core.tables; queries = (v j).core.queries; interests = (v j).core.interests; ears = kept j };
+        names = back j;
+        gates = gates_back j;
+      };
+    }
+
 pub returns : goal.returns
+unfolding is_asking
 returns c =
     let s : State = c.args.self.now in
     let i = c.self.inside in
@@ -135,13 +172,21 @@ returns c =
     let left : c.put_network.new.hats ≡ change_hat r (networked c.args.net.now) s.core.hats =
     c.put_network.ensures ∙ (λ j. change_hat r (networked ((c.in_ok-net-2.ensures.net ∙ is_net) j)) (same j)) in
     let kept = c.put.ensures.ears ∙ ap (put_plan c.as_slice-in-Networked-2.result.now) c.tell_all.ensures.ears ∙ gathered_left s.core t refl (ears_of i.ears) dues told g c.as_slice-in-Networked-2.result.now (c.as_slice-in-Networked-2.ensures ∙ c.in-Ok.ensures.plan) in
+    let plain = told_answered s c.requires t refl fits ts are last.handed c.tell_all.new.names handed refl in
+    let stays = told_left s c.requires t refl fits ts are last.handed c.tell_all.new.names handed in
+    let w : State = record { core = accepted s.core t; names = c.tell_all.new.names; gates = s.gates } in
+    let out_same = ap (λ (x : State). x.gates) v in
+    let es = c.in-Ok-let_told_out.exits.items in
+    let after = c.let_told_out.new.gates in
+    let out = c.in-Ok-let_told_out.ensures.out in
     record {
-      step = c.told-in-Networked.ensures ∙ told_answered s c.requires t refl fits ts are last.handed c.tell_all.new.names handed refl;
+      step = c.told-in-Networked.ensures ∙ ap done c.pass-passed.ensures.handed ∙ goes_out s t refl outcome.Done last.handed w plain stays i.gates out_same es after out;
       after =
           (λ j. record {
             core = record { config = (v j).core.config; faces = (v j).core.faces; next_face = (v j).core.next_face; hats = left j; tables = (v j).core.tables; queries = (v j).core.queries; interests = (v j).core.interests; ears = kept j };
             names = c.tell_all.new.names;
+            gates = c.pass-passed.ensures.gates j;
           })
-          ∙ sym (told_left s c.requires t refl fits ts are last.handed c.tell_all.new.names handed);
+          ∙ sym (stays_out s t refl outcome.Done last.handed w plain stays i.gates out_same es after out);
       err = tt;
     }

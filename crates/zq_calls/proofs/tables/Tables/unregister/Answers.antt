@@ -1,23 +1,15 @@
-use Rattle.std.proofs.Common.{◌≡◌, ◌∙◌, ap, sym, refl, subst, cond, true, false, Option, None, Some}
-use Rattle.zq_message.specs.declared.message.FaceId.{FaceId}
-use Rattle.zq_message.specs.declared.message.WireExpr.{WireExpr}
+use Rattle.std.proofs.Common.{◌≡◌, ◌∙◌, ap, sym, subst, cond, true, false}
 use Rattle.zq_machine.specs.State.{State}
 use Rattle.zq_machine.specs.TextCalls.{by_router, retracting, said_or_none, withdrawing}
 use Rattle.zq_calls.specs.Making.{Settles}
-use Rattle.zq_handing.specs.Reading.{said_if_any}
 use Rattle.zq_calls.proofs.tables.Tables.unregister.Goals as goal
-
-said_is : (s : State) (face : FaceId) (wire : Option WireExpr) → said_if_any s.names face wire ≡ said_or_none face wire s
-said_is s face None = refl
-said_is s face (Some w) = refl
 
 pub returns-then-is_routing : goal.returns-then-is_routing
 returns-then-is_routing c =
     let old : State = c.args.self.now in
     let a = c.args in
-    let read = c.in_ok-said.ensures ∙ ap (λ (x : State). said_if_any x.names a.face a.wire.now) c.self.view_is ∙ said_is old a.face a.wire.now in
     let routing : by_router a.face old.core ≡ true = sym c.is_routing.ensures ∙ c.if-is_routing.true in
-    subst (λ t. Settles old c.change_entry.new.self t c.change_entry.result) (ap (λ x. retracting a.face x a.node) read ∙ ap (λ b. cond b (retracting a.face (said_or_none a.face a.wire.now old) a.node) (withdrawing a.face a.id)) (sym routing)) c.change_entry.ensures
+    subst (λ t. Settles old c.change_entry.new.self t c.change_entry.result) (ap (λ x. retracting a.face x a.node) c.in_ok-said.ensures ∙ ap (λ b. cond b (retracting a.face (said_or_none a.face a.wire.now old) a.node) (withdrawing a.face a.id)) (sym routing)) c.change_entry.ensures
 
 pub returns : goal.returns
 returns c =

@@ -1,13 +1,12 @@
-use Rattle.std.proofs.Common.{◌≡◌, ◌∙◌, refl, sym, ap, subst, ℕ, Bool, false, true, List, [], map, Option, Some, None, Result}
+use Rattle.std.proofs.Common.{◌≡◌, ◌∙◌, sym, ap, subst, true, Some}
 use Rattle.std.specs.Prelude.{option_copied}
-use Rattle.std.specs.Option.{is_some, option_map}
-use Rattle.zq_tables.specs.Naming.{NamingState, change_naming, without_interest as letting_interest}
+use Rattle.std.specs.Option.{is_some}
+use Rattle.zq_tables.specs.Naming.{change_naming, without_interest as letting_interest}
 use Rattle.zq_interests.specs.declared.types.InterestEntry.{InterestEntry}
-use Rattle.zq_interests.specs.Interests.{Interests, interest_at, without_interest}
+use Rattle.zq_interests.specs.Interests.{interest_at, without_interest}
 use Rattle.zq_told.specs.Ears.{told_keys}
 use Rattle.zq_told.specs.Rooms.{ears_of}
 use Rattle.zq_told.specs.Telling.{lacks_ids, put_plan}
-use Rattle.zq_machine.specs.declared.face.OpenFace.{OpenFace}
 use Rattle.zq_machine.specs.Deciding.{accepted}
 use Rattle.zq_machine.specs.Neighbours.{ended_at}
 use Rattle.zq_machine.specs.State.{State, at, is_open}
@@ -75,6 +74,7 @@ returns c =
           (λ j. record {
             core = record { config = (v j).core.config; faces = (v j).core.faces; next_face = (v j).core.next_face; hats = (v j).core.hats; tables = (v j).core.tables; queries = (v j).core.queries; interests = gone j; ears = kept j };
             names = names j;
+            gates = (v j).gates;
           })
           ∙ sym (ending_settled s c.requires face id opens asked there);
       err = tt;
