@@ -1,11 +1,13 @@
 //! The gateway: each call is one event.
 #![tactic(auto, using(zq_calls::proofs::Reached::reached_given))]
 
-ghost use Rattle.std.specs.Prelude.{List, IfErr, ◌≡◌, [], true, IfOk};
+ghost use Rattle.std.specs.Prelude.{ℕ, List, length, IfErr, IfNone, IfSome, ◌≡◌, ◌<◌, ◌≤◌, [], true, false, IfOk};
 ghost use Rattle.std.specs.List.{cons_option};
+ghost use Rattle.zq_query.specs.Records.{flies, pending_count};
+ghost use Rattle.zq_machine.specs.Asked.{replies_of};
 ghost use Rattle.zq_machine.specs.Configs.{north_of};
 ghost use Rattle.zq_machine.specs.declared.call.Call.TheVariants as call;
-ghost use Rattle.zq_machine.specs.Calls.{declared_call, is_built};
+ghost use Rattle.zq_machine.specs.Calls.{declared_call};
 ghost use Rattle.zq_machine.specs.declared.call.Call.{Call};
 ghost use Rattle.zq_machine.specs.Headline.{RunPromise};
 ghost use Rattle.zq_machine.specs.Machine.{after, done, refused_step, step};
@@ -58,19 +60,16 @@ impl Gateway {
     }
 
     /// Performs a call: one event, which is answered by a step. The first cause that holds refuses it,
-    /// and then nothing changes; a call that finds no memory changes nothing either. Of the forms of
-    /// calls those are answered that are built (`Call::is_built`).
+    /// and then nothing changes; a call that finds no memory changes nothing either.
     pub fn call(&mut self, call: &Call) -> Result<Step, OutOfMemory>
-        requires { is_built self.old.core.config call.now ≡ true }
         ensures { Performs self.old self.new call.now result }
     {
         self.tables.call(call)
     }
 
-    /// A face is opened, in its region. A namespace and deny lists are not built yet
-    /// (`Opening::is_built`), so that no face is opened without what it was given.
+    /// A face is opened in its region, with its namespace and deny lists, if it has them. `InvalidKeyExpr`
+    /// where the namespace is no plain key, or a deny list has what is no key.
     pub fn open_face(&mut self, opening: &Opening) -> Result<Step, OutOfMemory>
-        requires { is_built self.old.core.config (call.Open opening.now) ≡ true }
         ensures { Performs self.old self.new (call.Open opening.now) result }
     {
         self.tables.open(opening)
@@ -229,6 +228,30 @@ impl Gateway {
             self.tables.hats(),
             self.tables.interests(),
         )
+    }
+
+    /// How many entries of the request are pending; 0 where it is not open. It takes no memory.
+    pub fn pending_of(&self, number: u64) -> u64
+        ensures { result ≡ pending_count number self.now.core.queries.records }
+    {
+        self.tables.pending_of(number)
+    }
+
+    /// The least of the request's replies in flight, and None exactly where there is none. It takes no
+    /// memory.
+    pub fn first_in_flight(&self, number: u64) -> Option<u64>
+        ensures there { IfSome result (λ reply. flies number reply self.now.core.queries.records ≡ true) }
+        ensures least { IfSome result (λ reply. (earlier : ℕ) → earlier < reply → flies number earlier self.now.core.queries.records ≡ false) }
+        ensures none { IfNone result ((reply : ℕ) → flies number reply self.now.core.queries.records ≡ false) }
+    {
+        self.tables.first_in_flight(number)
+    }
+
+    /// At most how many replies the call would hand, and so put in flight.
+    pub fn most_replies(&self, call: &Call) -> Result<usize, OutOfMemory>
+        ensures { IfOk result (λ n. length (replies_of (step self.now call.now)) ≤ n) }
+    {
+        self.tables.most_replies(call)
     }
 
     /// What it was made with.

@@ -1,7 +1,5 @@
 //! Whole runs.
-ghost use Rattle.std.specs.Prelude.{◌≡◌, IfOk, true};
-ghost use Rattle.std.specs.List.{AllByRecursion};
-ghost use Rattle.zq_machine.specs.Calls.{is_built};
+ghost use Rattle.std.specs.Prelude.{◌≡◌, IfOk};
 ghost use Rattle.zq_machine.specs.Machine.{steps};
 ghost use Rattle.zq_machine.specs.Headline.{RunPromise};
 
@@ -14,7 +12,6 @@ use zq_machine::config::Config;
 
 /// The steps of a new gateway for calls, one after another; and what each run of them promises.
 pub fn replay(alloc: Global, config: &Config, calls: &[Call]) -> Result<Replay, OutOfMemory>
-    requires { AllByRecursion (λ c. is_built config.now c ≡ true) calls.now }
     ensures machine { IfOk result (λ r. r.steps ≡ steps config.now calls.now) }
     ensures headline { IfOk result (λ _. RunPromise config.now calls.now) }
 {

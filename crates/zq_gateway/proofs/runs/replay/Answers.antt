@@ -1,12 +1,10 @@
 use Rattle.std.proofs.Common.{◌≡◌, ◌∙◌, sym, ap, List, [], ◌∷◌, ◌++◌, suc, drop, length, get_or, append_assoc, add-one, arith}
 use Rattle.std.specs.Prelude.{ℕ, ◌+◌, ◌<◌}
 use Rattle.std.proofs.Math.Seq.{drop-cons}
-use Rattle.std.proofs.lemmas.Grind.{common_steps}
 use Rattle.zq_machine.specs.declared.call.Call.{Call}
 use Rattle.zq_machine.specs.declared.call.Step.{Step}
 use Rattle.zq_machine.specs.Machine.{after, step, steps_from}
 use Rattle.zq_machine.specs.State.{State}
-use Rattle.zq_machine.proofs.Frame.{config_kept}
 use Rattle.zq_machine.proofs.Kept.{headline}
 use Rattle.zq_gateway.proofs.runs.replay.Goals as goal
 
@@ -22,14 +20,11 @@ pub loop-call-preserved : goal.loop-call-preserved
 loop-call-preserved c =
     let calls = c.args.calls.now in
     let index = c.loop-call.call-index in
-    let same : c.call.new.self.core.config ≡ c.args.config.now = ap (λ (s : State). s.core.config) c.in_ok-call.ensures.after ∙ config_kept c.loop-call.gateway c.call-item.result ∙ c.loop-call.invariant.same in
     let answered = c.in_ok-push.ensures.ok ∙ ap (λ (t : Step). c.loop-call.steps ++ t ∷ []) c.in_ok-call.ensures.step in
     record {
       told =
           (λ j. answered j ++ steps_from (c.in_ok-call.ensures.after j) (drop (index + 1) calls))
           ∙ told_on calls index c.call-item.result c.loop-call.gateway c.loop-call.steps _ c.loop-call-test.true c.call-item.is c.loop-call.invariant.told;
-      same = same;
-      built = grind (arith, common_steps);
     }
 
 pub returns-clause-headline : goal.returns-clause-headline
