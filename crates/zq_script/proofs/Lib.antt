@@ -1,5 +1,5 @@
 pub mod Parts
-pub mod Built
+pub mod Fitting
 pub mod Promised
 pub mod Printed
 pub mod Loaded

@@ -7,7 +7,6 @@ use Rattle.std.specs.List.{count_by}
 use Rattle.std.specs.Prelude.{nat_lt, ◌/◌, ◌%◌}
 use Rattle.zq_machine.specs.declared.call.Call.{Call}
 use Rattle.zq_machine.specs.Handing.{Handed}
-use Rattle.zq_machine.specs.Calls.{is_built}
 use Rattle.zq_machine.specs.Headline.{asks, replies_to}
 use Rattle.zq_machine.specs.Machine.{after, step, steps_from}
 use Rattle.zq_machine.specs.State.{State}
@@ -37,19 +36,6 @@ pub call_counted : (c : Counts) (s : State) (k : Call) (calls : List Call) → p
 call_counted c s k calls =
     plus_assoc c (count (step s k).handed) (count (handed_over (steps_from (after s k) calls)))
     ∙ ap (plus c) (sym (count_append (step s k).handed (handed_over (steps_from (after s k) calls))))
-
--- the gateway answers each of the calls
-either_built : (b : Bool) (x y : Call) → is_built load_config x ≡ true → is_built load_config y ≡ true → is_built load_config (cond b x y) ≡ true
-either_built true x y e f = e
-either_built false x y e f = f
-
-query_built : (query part : ℕ) → is_built load_config (query_call query part) ≡ true
-query_built query part =
-    either_built (part == 0) (ask_call query) _ refl (either_built (part == 1) (reply_call query) _ refl (either_built (part == 2) (final_call query) (sent_call query) refl refl))
-
-pub call_built : (number : ℕ) → is_built load_config (load_call number) ≡ true
-call_built number =
-    either_built (nat_lt number 8) (open_call number) _ refl (either_built (nat_lt number 12) (declare_call (number - 8)) _ refl (query_built ((number - 12) / 4) ((number - 12) % 4)))
 
 many_from : (number left : ℕ) → length (calls_from number left) ≡ left
 many_from number zero = refl

@@ -34,4 +34,3 @@ FitsRun s (Err n) = Unit {0}
 pub record Prints (o : Option Call) (s : State) (print : List ℕ) (then : State) (more : List ℕ) : Type 0 where
   pub told : (n : ℕ) (r : Result Parts ℕ) → printed_on more (printed_by then r) ≡ printed_on print (printed_by s (with_line n o r))
   pub fits : (n : ℕ) (r : Result Parts ℕ) → FitsRun then r → FitsRun s (with_line n o r)
-  pub same : then.core.config ≡ s.core.config

@@ -1,10 +1,9 @@
 -- Scripts: the lines, and the calls in parts.
-use Rattle.std.specs.Prelude.{ℕ, ◌+◌, ◌-◌, ◌≡◌, Bool, true, ◌&&◌, ◌==◌, nat_lt, List, [], ◌∷◌, ◌++◌, Option, Some, None, Result, Ok, Err, if◌then◌else◌, codes}
+use Rattle.std.specs.Prelude.{ℕ, ◌+◌, ◌-◌, ◌≡◌, Bool, ◌&&◌, ◌==◌, nat_lt, List, [], ◌∷◌, ◌++◌, Option, Some, None, Result, Ok, Err, if◌then◌else◌, codes}
 use Rattle.std.specs.List.{AllByRecursion}
 use Rattle.std.specs.Str.{bytes_eq}
 use Rattle.zq_machine.specs.declared.call.Call.{Call}
-use Rattle.zq_machine.specs.Calls.{is_sent, is_built}
-use Rattle.zq_machine.specs.Configs.{Settings}
+use Rattle.zq_machine.specs.Calls.{is_sent}
 use Rattle.zq_words.specs.Words.{◌>>=◌}
 use Rattle.zq_words.specs.declared.stop.Stop.{Stop}
 use Rattle.zq_words.specs.declared.stop.Stop.TheVariants as stop
@@ -19,13 +18,9 @@ use Rattle.zq_script.specs.declared.refusal.ScriptRefusal.TheVariants as refusal
 abbrev pub unless_sent : Bool → Call → Option Call
 unless_sent shared c = if shared && is_sent c then None else Some c
 
--- a call that the gateway doesn't answer yet is bad
-abbrev pub only_built : Settings → Call → Option Call
-only_built config c = if is_built config c then Some c else None
-
 -- the call of a line
-abbrev pub script_call : Settings → Bool → List ℕ → Option Call
-script_call config shared line = call_of line >>= unless_sent shared >>= only_built config
+abbrev pub script_call : Bool → List ℕ → Option Call
+script_call shared line = call_of line >>= unless_sent shared
 
 -- the calls up to the next `worker`, and the later parts
 abbrev pub Parts : Type 0
@@ -47,12 +42,12 @@ with_line n None rest = Err n
 with_line n (Some c) rest = onto c rest
 
 -- the calls of the lines from this number on, with so many workers to come, or the first bad line
-abbrev pub parts_from : Settings → ℕ → Bool → ℕ → List (List ℕ) → Result Parts ℕ
-parts_from config n shared workers [] = Ok ([], [])
-parts_from config n shared workers (line ∷ lines) =
+abbrev pub parts_from : ℕ → Bool → ℕ → List (List ℕ) → Result Parts ℕ
+parts_from n shared workers [] = Ok ([], [])
+parts_from n shared workers (line ∷ lines) =
     if bytes_eq line (codes "worker")
-    then (if nat_lt 0 workers then new_part (parts_from config (n + 1) shared (workers - 1) lines) else Err n)
-    else with_line n (script_call config shared line) (parts_from config (n + 1) shared workers lines)
+    then (if nat_lt 0 workers then new_part (parts_from (n + 1) shared (workers - 1) lines) else Err n)
+    else with_line n (script_call shared line) (parts_from (n + 1) shared workers lines)
 
 -- what was read before, and what is read on
 abbrev pub onto_parts : List (List Call) → List Call → Result Parts ℕ → Result (List (List Call)) ℕ
@@ -60,8 +55,8 @@ onto_parts parts calls (Ok rest) = Ok (parts ++ (calls ++ rest.0) ∷ rest.1)
 onto_parts parts calls (Err n) = Err n
 
 -- all calls of the lines in parts
-abbrev pub parts_of : Settings → ℕ → ℕ → List (List ℕ) → Result (List (List Call)) ℕ
-parts_of config n workers lines = onto_parts [] [] (parts_from config n (nat_lt 0 workers) workers lines)
+abbrev pub parts_of : ℕ → ℕ → List (List ℕ) → Result (List (List Call)) ℕ
+parts_of n workers lines = onto_parts [] [] (parts_from n (nat_lt 0 workers) workers lines)
 
 -- the script of a head and of what its parts read as
 abbrev pub made : Head → Result (List (List Call)) ℕ → Result Script ℕ
@@ -70,7 +65,7 @@ made head (Err n) = Err n
 
 -- the script of a head, with its parts
 abbrev pub with_parts : ℕ → Result Head ℕ → Result Script ℕ
-with_parts workers (Ok head) = made head (parts_of head.0 head.2 workers head.3)
+with_parts workers (Ok head) = made head (parts_of head.2 workers head.3)
 with_parts workers (Err n) = Err n
 
 -- the script of these lines, or the number of the first bad line
@@ -92,11 +87,6 @@ abbrev pub Gives : {X : Type 0} → Result X ScriptRefusal → Result X ℕ → 
 Gives (Ok x) read = read ≡ Ok x
 Gives (Err e) read = Refuses e read
 
--- the gateway answers each of the calls
-abbrev pub AllBuilt : Settings → List Call → Type 0
-AllBuilt config calls = AllByRecursion (λ c. is_built config c ≡ true) calls
-
--- each call fits its line, and the gateway answers it
-pub record Holds (s : Script) : Type 0 where
-  pub built : AllByRecursion (AllBuilt s.config) s.parts
-  pub fits : AllByRecursion (AllByRecursion FitsCall) s.parts
+-- each call fits its line
+abbrev pub Holds : Script → Type 0
+Holds s = AllByRecursion (AllByRecursion FitsCall) s.parts

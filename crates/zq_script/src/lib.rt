@@ -11,7 +11,7 @@
 //! of steps in `zq_prints`; what users of scripts need of them is passed on here.
 #![tactic(auto)]
 
-mod head;
+pub mod head;
 mod load;
 mod printing;
 pub mod refusal;

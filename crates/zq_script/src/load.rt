@@ -217,15 +217,14 @@ fn load_call(alloc: Global, number: u32) -> Result<Call, OutOfMemory>
 }
 
 // The call of the number is made, and what it hands is counted. It and its step are let go.
-#[tactic(auto, using(crate::proofs::Loaded::call_built, crate::proofs::Loaded::more_below))]
+#[tactic(auto, using(crate::proofs::Loaded::more_below))]
 fn count_call(
     alloc: Global,
     gateway: &mut Gateway,
     counts: &mut Counts,
     number: u32,
 ) -> Result<(), OutOfMemory>
-    requires config { gateway.old.core.config ≡ load_config }
-    requires below { IsBelow (number * 2 ^ 64) counts.old }
+    requires { IsBelow (number * 2 ^ 64) counts.old }
     ensures after { OnOk result (gateway.new ≡ after gateway.old (load_call number)) }
     ensures counted { OnOk result (counts.new ≡ plus counts.old (count (step gateway.old (load_call number)).handed)) }
     ensures below { OnOk result (IsBelow ((number + 1) * 2 ^ 64) counts.new) }

@@ -1,7 +1,6 @@
 //! The print of a script, made while its lines are read: no call is kept once it is answered, and
 //! no step once it is printed.
 ghost use Rattle.std.specs.Prelude.{◌≡◌, ◌<◌, ◌+◌, ◌^◌, ◌++◌, IfOk, OnOk, Ok, None, length, true, false};
-ghost use Rattle.zq_machine.specs.Calls.{is_built};
 ghost use Rattle.zq_machine.specs.Machine.{after, step};
 ghost use Rattle.zq_machine.specs.State.{opening_state};
 ghost use Rattle.zq_script.specs.Printing.{FitsRun, Prints, printed, printed_by};
@@ -28,7 +27,6 @@ use zq_words::stop::Stop;
 /// Makes a call, and prints its step.
 #[tactic(auto, using(zq_prints::proofs::Shown::step_shows))]
 fn print_step(gateway: &mut Gateway, print: &mut Vec<u8>, call: &Call) -> Result<(), OutOfMemory>
-    requires { is_built gateway.old.core.config call.now ≡ true }
     ensures print { OnOk result (print.new.items ≡ print.old.items ++ step_words (step gateway.old call.now)) }
     ensures fits { OnOk result (FitsStep (step gateway.old call.now)) }
     ensures after { OnOk result (gateway.new ≡ after gateway.old call.now) }
@@ -43,16 +41,14 @@ fn print_step(gateway: &mut Gateway, print: &mut Vec<u8>, call: &Call) -> Result
 #[tactic(auto, using(crate::proofs::Printed::call_prints))]
 fn print_line(
     alloc: Global,
-    config: &Config,
     gateway: &mut Gateway,
     print: &mut Vec<u8>,
     line: &[u8],
 ) -> Result<bool, OutOfMemory>
-    requires { gateway.old.core.config ≡ config.now }
-    ensures called { result ≡ Ok true → Prints (script_call config.now false line.now) gateway.old print.old.items gateway.new print.new.items }
-    ensures bad { result ≡ Ok false → script_call config.now false line.now ≡ None }
+    ensures called { result ≡ Ok true → Prints (script_call false line.now) gateway.old print.old.items gateway.new print.new.items }
+    ensures bad { result ≡ Ok false → script_call false line.now ≡ None }
 {
-    match script_call(alloc, config, false, line) {
+    match script_call(alloc, false, line) {
         Ok(call) => {
             print_step(gateway, print, &call)?;
             Ok(true)
@@ -71,15 +67,15 @@ fn print_calls(
     bytes: &[u8],
 ) -> Result<Bytes, ScriptRefusal>
     requires { first + length bytes.now < 2 ^ 64 }
-    ensures print { Gives result (printed_by (opening_state config.now) (parts_from config.now first false 0 (lines_of bytes.now))) }
-    ensures fits { IfOk result (λ _. FitsRun (opening_state config.now) (parts_from config.now first false 0 (lines_of bytes.now))) }
+    ensures print { Gives result (printed_by (opening_state config.now) (parts_from first false 0 (lines_of bytes.now))) }
+    ensures fits { IfOk result (λ _. FitsRun (opening_state config.now) (parts_from first false 0 (lines_of bytes.now))) }
 {
     let mut gateway = Gateway::new(alloc, config)?;
     let mut print = Vec::new(alloc);
     let mut number = first;
     let mut rest = bytes;
     'lines: while let Some((line, after)) = next_line(rest) {
-        if !print_line(alloc, config, &mut gateway, &mut print, line)? {
+        if !print_line(alloc, &mut gateway, &mut print, line)? {
             return Err(ScriptRefusal::BadLine(number));
         }
         number += 1;

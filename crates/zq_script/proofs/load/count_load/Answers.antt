@@ -2,7 +2,6 @@ use Rattle.std.proofs.Common.{◌≡◌, ◌∙◌, ◌+◌, ◌-◌, ◌*◌, �
 use Rattle.zq_machine.specs.declared.call.Call.{Call}
 use Rattle.zq_machine.specs.Machine.{steps, steps_from}
 use Rattle.zq_machine.specs.State.{State}
-use Rattle.zq_machine.proofs.Frame.{config_kept}
 use Rattle.zq_script.specs.Load.{calls_from, count, handed_over, load_call, load_config, plus}
 use Rattle.zq_script.proofs.Loaded.{call_counted, next_calls, none_counted}
 use Rattle.zq_script.proofs.load.count_load.Goals as goal
@@ -21,7 +20,6 @@ calls-preserved c =
           ∙ call_counted c.calls.counts s (load_call n) left
           ∙ ap (λ (l : List Call). plus c.calls.counts (count (handed_over (steps_from s l)))) (sym (next_calls n end c.calls-test.true))
           ∙ c.calls.invariant.counted;
-      same = ap (λ (z : State). z.core.config) after ∙ config_kept s (load_call n) ∙ c.calls.invariant.same;
       below = c.in_ok-count_call.ensures.below;
     }
 

@@ -7,9 +7,8 @@ use Rattle.zq_script.proofs.printing.print_calls.Given as goal
 
 abbrev pub invariant-lines : goal.invariant-lines
 invariant-lines l = record {
-  told : printed_on l.print.items (printed_by l.gateway (parts_from l.config l.number false 0 (lines_of l.rest))) ≡ printed_by (opening_state l.config) (parts_from l.config l.first false 0 (lines_of l.bytes));
-  fits : FitsRun l.gateway (parts_from l.config l.number false 0 (lines_of l.rest)) → FitsRun (opening_state l.config) (parts_from l.config l.first false 0 (lines_of l.bytes));
-  same : l.gateway.core.config ≡ l.config;
+  told : printed_on l.print.items (printed_by l.gateway (parts_from l.number false 0 (lines_of l.rest))) ≡ printed_by (opening_state l.config) (parts_from l.first false 0 (lines_of l.bytes));
+  fits : FitsRun l.gateway (parts_from l.number false 0 (lines_of l.rest)) → FitsRun (opening_state l.config) (parts_from l.first false 0 (lines_of l.bytes));
   counted : l.number + length l.rest ≤ l.first + length l.bytes;
 }
 

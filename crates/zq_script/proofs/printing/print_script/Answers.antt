@@ -15,6 +15,6 @@ returns-clause-back c =
     let config = c.in_ok-config.config in
     let first = c.in_ok-config.first in
     let rest = lines_of c.in_ok-config.rest.now in
-    IfOk-weaker c.print_calls.result (λ _. FitsRun (opening_state config) (parts_from config first false 0 rest)) (λ _. IfOk (script_of 0 lines) ReadsBack)
+    IfOk-weaker c.print_calls.result (λ _. FitsRun (opening_state config) (parts_from first false 0 rest)) (λ _. IfOk (script_of 0 lines) ReadsBack)
     (λ _ f. script_back lines (config, c.in_ok-config.field-0-1, first, rest) c.in_ok-config.ensures.value f)
     c.print_calls.ensures.fits

@@ -6,7 +6,7 @@ use Rattle.zq_script.proofs.script.parts_of.Given as goal
 
 abbrev pub invariant-lines : goal.invariant-lines
 invariant-lines l = record {
-  read : onto_parts l.parts l.calls (parts_from l.config l.number l.shared l.left (lines_of l.rest)) ≡ onto_parts [] [] (parts_from l.config l.first (nat_lt 0 l.workers) l.workers (lines_of l.bytes));
+  read : onto_parts l.parts l.calls (parts_from l.number l.shared l.left (lines_of l.rest)) ≡ onto_parts [] [] (parts_from l.first (nat_lt 0 l.workers) l.workers (lines_of l.bytes));
   counted : l.number + length l.rest ≤ l.first + length l.bytes;
 }
 

@@ -1,7 +1,7 @@
 use Rattle.std.proofs.Common.{arith}
 use Rattle.std.proofs.lemmas.List.Elements.{All-from_get_or}
 use Rattle.percent_encoding.proofs.PercentLemmas.{IsByte}
-use Rattle.zq_script.proofs.Built.{given_holds}
+use Rattle.zq_script.proofs.Fitting.{given_holds}
 use Rattle.zq_script.proofs.script.read_script.Goals as goal
 
 pub returns-clause-calls : goal.returns-clause-calls

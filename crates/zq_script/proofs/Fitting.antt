@@ -1,4 +1,4 @@
--- The calls of a script fit their lines, and are those that the gateway answers.
+-- The calls of a script fit their lines.
 use Rattle.std.proofs.Common.{◌≡◌, ℕ, ◌+◌, ◌-◌, ◌<◌, List, [], ◌∷◌, Option, Some, None, Result, Ok, Err, Bool, true, false, cond, refl, subst}
 use Rattle.std.proofs.lemmas.List.Elements.{All-head, All-tail, All-nil, All-cons}
 use Rattle.std.specs.Prelude.{◌==◌, ◌&&◌, nat_lt, codes, IfOk}
@@ -8,7 +8,7 @@ use Rattle.zq_message.specs.declared.message.Zid.{Zid}
 use Rattle.zq_machine.specs.declared.call.Call.{Call}
 use Rattle.zq_machine.specs.declared.config.Entry.{Entry}
 use Rattle.zq_machine.specs.declared.config.Counters.{Counters}
-use Rattle.zq_machine.specs.Calls.{is_sent, is_built}
+use Rattle.zq_machine.specs.Calls.{is_sent}
 use Rattle.zq_machine.specs.Configs.{Settings}
 use Rattle.zq_words.specs.Words.{◌>>=◌}
 use Rattle.zq_words.specs.Fits.{IsBytes}
@@ -23,13 +23,8 @@ use Rattle.zq_lines.proofs.Given.{Given, no_one, one, bind, either, any_given}
 use Rattle.zq_lines.proofs.GivenLines.{call_given}
 
 -- the call of a line
-call_built : (config : Settings) (shared : Bool) (line : List ℕ) → Given (λ c. is_built config c ≡ true) (script_call config shared line)
-call_built config shared line = bind (any_given (call_of line >>= unless_sent shared)) (λ c u. either (is_built config c) _ _ (λ e. one {P = λ c. is_built config c ≡ true} e) no_one)
-
-call_fits : (config : Settings) (shared : Bool) (line : List ℕ) → IsBytes line → Given FitsCall (script_call config shared line)
-call_fits config shared line a =
-    bind (bind (call_given line a) (λ c p. either (shared && is_sent c) _ _ (λ e. no_one) (one {P = FitsCall} p)))
-    (λ c p. either (is_built config c) _ _ (λ e. one {P = FitsCall} p) no_one)
+call_fits : (shared : Bool) (line : List ℕ) → IsBytes line → Given FitsCall (script_call shared line)
+call_fits shared line a = bind (call_given line a) (λ c p. either (shared && is_sent c) _ _ (λ e. no_one) (one {P = FitsCall} p))
 
 -- parts of such calls
 abbrev EachPart : (Call → Type 0) → Result Parts ℕ → Type 0
@@ -52,12 +47,12 @@ cond_each : (P : Call → Type 0) (b : Bool) (x y : Result Parts ℕ) → EachPa
 cond_each P true x y p q = p
 cond_each P false x y p q = q
 
-parts_each : (P : Call → Type 0) (config : Settings) (shared : Bool) → ((line : List ℕ) → IsBytes line → Given P (script_call config shared line)) → (n workers : ℕ) (lines : List (List ℕ)) → AllByRecursion IsBytes lines → EachPart P (parts_from config n shared workers lines)
-parts_each P config shared g n workers [] a = (tt, tt)
-parts_each P config shared g n workers (line ∷ lines) a =
+parts_each : (P : Call → Type 0) (shared : Bool) → ((line : List ℕ) → IsBytes line → Given P (script_call shared line)) → (n workers : ℕ) (lines : List (List ℕ)) → AllByRecursion IsBytes lines → EachPart P (parts_from n shared workers lines)
+parts_each P shared g n workers [] a = (tt, tt)
+parts_each P shared g n workers (line ∷ lines) a =
     cond_each P (bytes_eq line (codes "worker")) _ _
-    (cond_each P (nat_lt 0 workers) _ _ (new_each P _ (parts_each P config shared g (n + 1) (workers - 1) lines a.1)) tt)
-    (line_each P n (script_call config shared line) _ (g line a.0) (parts_each P config shared g (n + 1) workers lines a.1))
+    (cond_each P (nat_lt 0 workers) _ _ (new_each P _ (parts_each P shared g (n + 1) (workers - 1) lines a.1)) tt)
+    (line_each P n (script_call shared line) _ (g line a.0) (parts_each P shared g (n + 1) workers lines a.1))
 
 -- the lines of bytes
 first_bytes : (b : ℕ) (ws : List (List ℕ)) → b < 256 → AllByRecursion IsBytes ws → AllByRecursion IsBytes (onto_first b ws)
@@ -104,15 +99,13 @@ abbrev HoldsScript : Result Script ℕ → Type 0
 HoldsScript (Ok s) = Holds s
 HoldsScript (Err n) = Unit {0}
 
-made_holds : (head : Head) (r : Result Parts ℕ) → EachPart (λ c. is_built head.0 c ≡ true) r → EachPart FitsCall r → HoldsScript (made head (onto_parts [] [] r))
-made_holds head (Ok parts) p q = record { built = p; fits = q }
-made_holds head (Err n) p q = tt
+made_holds : (head : Head) (r : Result Parts ℕ) → EachPart FitsCall r → HoldsScript (made head (onto_parts [] [] r))
+made_holds head (Ok parts) p = p
+made_holds head (Err n) p = tt
 
 with_holds : (workers : ℕ) (h : Result Head ℕ) → RestFits h → HoldsScript (with_parts workers h)
 with_holds workers (Ok head) a =
-    made_holds head _
-    (parts_each (λ c. is_built head.0 c ≡ true) head.0 (nat_lt 0 workers) (λ line b. call_built head.0 (nat_lt 0 workers) line) head.2 workers head.3 a)
-    (parts_each FitsCall head.0 (nat_lt 0 workers) (λ line b. call_fits head.0 (nat_lt 0 workers) line b) head.2 workers head.3 a)
+    made_holds head _ (parts_each FitsCall (nat_lt 0 workers) (λ line b. call_fits (nat_lt 0 workers) line b) head.2 workers head.3 a)
 with_holds workers (Err n) a = tt
 
 script_holds : (workers : ℕ) (bytes : List ℕ) (s : Script) → IsBytes bytes → script_of workers (lines_of bytes) ≡ Ok s → Holds s
