@@ -3,7 +3,7 @@ ghost use Rattle.std.specs.Prelude.{◌≡◌, ◌<◌, ◌≤◌, ◌∷◌, []
 ghost use Rattle.zq_hold.specs.declared.slot.Mark.TheVariants.{Gone, Kept, Spare, Vacant};
 ghost use Rattle.zq_hold.specs.Slots.{times, without};
 ghost use Rattle.zq_hold.specs.Marks.{AllAllotted, HasMark, IsNext};
-ghost use Rattle.zq_slots.specs.Owners.{owned, owner_at, with_mark, with_owner};
+ghost use Rattle.zq_slots.specs.Owners.{IsSlotted, owned, owner_at, with_mark, with_owner};
 
 use crate::find::{no_owners, place_of};
 use std::alloc::{AllocError, Global};
@@ -38,6 +38,13 @@ impl Slots {
         let owners = no_owners(alloc, slots as usize)?;
         let (keeper, list) = Holds::new(alloc, slots, seats)?;
         Ok((Slots { keeper, owners }, list))
+    }
+
+    /// Tells a proof what holds of the slots between any two calls. It does nothing.
+    pub fn recall(&self)
+        ensures { IsSlotted self.now.keeper.marks self.now.owners }
+    {
+        let _ = &self.keeper;
     }
 
     /// How many slots there are.

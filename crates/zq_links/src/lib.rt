@@ -1,0 +1,12 @@
+//! Where the messages of a gateway go.
+//!
+//! - `link`: a link, which counts its faults, and messages sent over it one by one
+//! - `memory`: a link in memory, and one that never fails
+#![tactic(auto)]
+
+mod link;
+mod memory;
+
+pub use link::{Link, send_all};
+pub use memory::{MemoryLink, SureLink};
+pub use zq_streams::streams::Failed;

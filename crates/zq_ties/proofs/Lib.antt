@@ -1,0 +1,9 @@
+pub mod Distinct
+pub mod Flights
+pub mod Frames
+pub mod Holding
+pub mod Journals
+pub mod Moves
+pub mod Owed
+pub mod Replying
+pub mod Ties
