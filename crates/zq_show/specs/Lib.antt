@@ -1,0 +1,4 @@
+pub mod Answer
+pub mod Notes
+pub mod Rows
+pub mod Showing

@@ -1,0 +1,154 @@
+-- The rows of a picture: one for a call, and one for each message that it hands.
+use Rattle.std.specs.Prelude.{ℕ, Bool, true, false, List, [], ◌∷◌, ◌++◌, Option, Some, None, if◌then◌else◌, map}
+use Rattle.std.specs.List.{flat_map}
+use Rattle.zq_message.specs.declared.message.Message.{Message}
+use Rattle.zq_message.specs.declared.message.Message.TheVariants as message
+use Rattle.zq_machine.specs.declared.call.Call.{Call}
+use Rattle.zq_machine.specs.declared.call.Call.TheVariants as call
+use Rattle.zq_machine.specs.declared.call.Outcome.{Outcome}
+use Rattle.zq_machine.specs.declared.call.Outcome.TheVariants as outcome
+use Rattle.zq_machine.specs.declared.call.Step.{Step}
+use Rattle.zq_machine.specs.Handing.{Handed}
+use Rattle.zq_lines.specs.CallLines.{call_words}
+use Rattle.zq_prints.specs.Steps.{message_words}
+use Rattle.zq_page.specs.declared.row.Event.{Event}
+use Rattle.zq_page.specs.declared.row.Event.TheVariants as event
+use Rattle.zq_page.specs.declared.row.Kind.{Kind}
+use Rattle.zq_page.specs.declared.row.Kind.TheVariants as kind
+use Rattle.zq_page.specs.declared.row.Row.{Row}
+use Rattle.zq_show.specs.declared.entry.Entry.{Entry}
+use Rattle.zq_show.specs.Answer.{is_refused}
+
+-- the stroke of a call
+abbrev pub call_kind : Call → Kind
+call_kind (call.Request face request now) = kind.Request
+call_kind (call.Response face response) = kind.Reply
+call_kind (call.ResponseFinal face rid) = kind.Final
+call_kind (call.Poll now) = kind.Time
+call_kind (call.Sent reply) = kind.Note
+call_kind (call.SetGateways region table) = kind.Note
+call_kind (call.SetNetwork region net) = kind.Note
+call_kind _ = kind.Declaration
+
+-- the face that an answer opened
+abbrev pub opened : Outcome → Option ℕ
+opened (outcome.Opened face) = Some face.0
+opened _ = None
+
+-- the face that makes a call; of an opening the one that it opened
+abbrev pub call_face : Outcome → Call → Option ℕ
+call_face o (call.Open opening) = opened o
+call_face o (call.Close face) = Some face.0
+call_face o (call.DeclareKeyExpr face id wire) = Some face.0
+call_face o (call.UndeclareKeyExpr face id) = Some face.0
+call_face o (call.DeclareQueryable face id wire info node) = Some face.0
+call_face o (call.UndeclareQueryable face id wire node) = Some face.0
+call_face o (call.Interest face id keys wire) = Some face.0
+call_face o (call.InterestFinal face id) = Some face.0
+call_face o (call.FinalizeInterest face mark set) = Some face.0
+call_face o (call.Request face request now) = Some face.0
+call_face o (call.Response face response) = Some face.0
+call_face o (call.ResponseFinal face rid) = Some face.0
+call_face o (call.Sent reply) = None
+call_face o (call.Poll now) = None
+call_face o (call.SetGateways region table) = None
+call_face o (call.SetNetwork region net) = None
+call_face o (call.SetNodeIds face ids) = Some face.0
+
+-- what ends with a call
+abbrev pub ending : Call → Event
+ending (call.ResponseFinal face rid) = event.Finished face.0 rid
+ending (call.Close face) = event.Closed face.0
+ending (call.Sent reply) = event.Sent reply
+ending _ = event.Nothing
+
+-- what ends with a call that is not refused
+abbrev pub call_event : Bool → Call → Event
+call_event refused c = if refused then event.Nothing else ending c
+
+-- the number of the request of the first message
+abbrev pub first_number : List Handed → Option ℕ
+first_number [] = None
+first_number (h ∷ handed) = h.number
+
+-- the request that an answer numbered, or that of the first message
+abbrev pub request_by : Outcome → List Handed → Option ℕ
+request_by (outcome.Asked n) handed = Some n
+request_by _ handed = first_number handed
+
+-- the request that a step is of
+abbrev pub request_of : Step → Option ℕ
+request_of t = request_by t.outcome t.handed
+
+-- the row of a call
+abbrev pub call_row : Entry → Row
+call_row entry =
+    record {
+      line = entry.number;
+      kind = call_kind entry.call;
+      face = call_face entry.step.outcome entry.call;
+      handed = false;
+      refused = is_refused entry.step.outcome;
+      event = call_event (is_refused entry.step.outcome) entry.call;
+      request = request_of entry.step;
+      label = call_words entry.call;
+    }
+
+-- the stroke of a message
+abbrev pub kind_of : Message → Kind
+kind_of (message.Request r) = kind.Request
+kind_of (message.Response r) = kind.Reply
+kind_of (message.ResponseFinal f) = kind.Final
+kind_of _ = kind.Declaration
+
+-- a request is pending at a face from here on, if it has a number
+abbrev pub pending_from : ℕ → ℕ → Option ℕ → Event
+pending_from face id None = event.Nothing
+pending_from face id (Some request) = event.Pending face id request
+
+-- a reply is in flight from here on, if it has a number
+abbrev pub flight_from : Option ℕ → Event
+flight_from None = event.Nothing
+flight_from (Some reply) = event.InFlight reply
+
+-- a request ends here, if it has a number
+abbrev pub over_at : Option ℕ → Event
+over_at None = event.Nothing
+over_at (Some request) = event.Over request
+
+-- what begins or ends with a message to a face, of a request and as a reply of these numbers
+abbrev pub event_by : Message → ℕ → Option ℕ → Option ℕ → Event
+event_by (message.Request r) to request reply = pending_from to r.id request
+event_by (message.Response r) to request reply = flight_from reply
+event_by (message.ResponseFinal f) to request reply = over_at request
+event_by _ to request reply = event.Nothing
+
+-- what begins or ends with a message
+abbrev pub handed_event : Handed → Event
+handed_event h = event_by h.message h.to.0 h.number h.reply
+
+-- the row of a message that a line's call handed
+abbrev pub handed_row : ℕ → Handed → Row
+handed_row number h =
+    record {
+      line = number;
+      kind = kind_of h.message;
+      face = Some h.to.0;
+      handed = true;
+      refused = false;
+      event = handed_event h;
+      request = h.number;
+      label = message_words h.message;
+    }
+
+-- the rows of messages
+abbrev pub handed_rows : ℕ → List Handed → List Row
+handed_rows line handed = map (handed_row line) handed
+
+-- the rows of a call: its own, and one for each message that it handed, in order
+abbrev pub rows_of : Entry → List Row
+rows_of entry = call_row entry ∷ [] ++ handed_rows entry.number entry.step.handed
+
+-- the rows of calls, in order
+abbrev pub all_rows : List Entry → List Row
+all_rows entries = flat_map rows_of entries

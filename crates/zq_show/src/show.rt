@@ -1,0 +1,181 @@
+//! The page and the text of a run.
+ghost use Rattle.std.specs.Prelude.{◌≡◌, ◌++◌, IfOk, OnOk, None, take};
+ghost use Rattle.zq_page.specs.Page.{page_words};
+ghost use Rattle.zq_page.specs.Plain.{plain_words};
+ghost use Rattle.zq_show.specs.Showing.{face_lines, face_text, face_texts, handed_texts, line_of, lines_of, rows_shown, scope_words, shown_of};
+
+use crate::answer::{answer, handed_text, is_refused};
+use crate::entry::Entry;
+use crate::notes::notes_of;
+use crate::rows::all_rows;
+use std::alloc::Global;
+use zq_key::items::Items;
+use zq_key::memory::OutOfMemory;
+use zq_key::text::Bytes;
+use zq_lines::calls::print_call;
+use zq_machine::call::Outcome;
+use zq_machine::handed::Handed;
+use zq_page::choice::{RowList, chosen};
+use zq_page::page::{BadLine, BytesList, Line, LineList, Shown, page};
+use zq_page::plain::plain;
+use zq_words::words::{push_number, push_text};
+
+/// How many calls a picture has where it is of no request.
+pub const DRAWN: usize = 100;
+
+/// A run: the lines before the calls, the calls, and the line that could not be read.
+#[derive(Drop)]
+pub struct Run {
+    /// The lines before the calls, as they stand in the script.
+    pub head: BytesList,
+    /// The calls, in order.
+    pub entries: Items<Entry>,
+    /// The line at which the script ends because it could not be read, if there is one.
+    pub bad: Option<BadLine>,
+}
+
+/// The messages of a call, each as a text, in order.
+fn handed_texts(alloc: Global, handed: &[Handed]) -> Result<BytesList, OutOfMemory>
+    ensures { IfOk result (λ l. l ≡ handed_texts handed.now) }
+{
+    let mut texts = Items::new(alloc);
+    for message in handed {
+        texts.push(handed_text(alloc, message)?)?;
+    }
+    Ok(texts)
+}
+
+/// What is shown of a call.
+fn line_of(alloc: Global, entry: &Entry) -> Result<Line, OutOfMemory>
+    ensures { IfOk result (λ l. l ≡ line_of entry.now) }
+{
+    Ok(Line {
+        number: entry.number,
+        text: entry.text.copy(alloc)?,
+        answer: answer(alloc, entry.step.outcome)?,
+        refused: is_refused(entry.step.outcome),
+        notes: notes_of(alloc, entry)?,
+        messages: handed_texts(alloc, entry.step.handed.as_slice())?,
+    })
+}
+
+/// What is shown of the calls, in order.
+fn lines_of(alloc: Global, entries: &[Entry]) -> Result<LineList, OutOfMemory>
+    ensures { IfOk result (λ l. l ≡ lines_of entries.now) }
+{
+    let mut lines = Items::new(alloc);
+    for entry in entries {
+        lines.push(line_of(alloc, entry)?)?;
+    }
+    Ok(lines)
+}
+
+/// A face by its number and the call that opened it.
+fn face_text(alloc: Global, face: u32, entry: &Entry) -> Result<Bytes, OutOfMemory>
+    ensures { IfOk result (λ b. b ≡ face_text face entry.now) }
+{
+    let mut out = Vec::new(alloc);
+    push_text(&mut out, "face ")?;
+    push_number(&mut out, face)?;
+    push_text(&mut out, ": ")?;
+    out.extend_from_slice(print_call(alloc, &entry.call)?.as_slice())?;
+    Ok(Bytes::from_vec(out))
+}
+
+/// Adds the face that a call opened, if it opened one.
+fn push_face(alloc: Global, texts: &mut BytesList, entry: &Entry) -> Result<(), OutOfMemory>
+    ensures { OnOk result (texts.new ≡ texts.old ++ face_texts entry.now) }
+{
+    match entry.step.outcome {
+        Outcome::Opened(face) => texts.push(face_text(alloc, face.0, entry)?),
+        _ => Ok(()),
+    }
+}
+
+/// The faces that the calls opened, in order.
+fn face_lines(alloc: Global, entries: &[Entry]) -> Result<BytesList, OutOfMemory>
+    ensures { IfOk result (λ l. l ≡ face_lines entries.now) }
+{
+    let mut texts = Items::new(alloc);
+    for entry in entries {
+        push_face(alloc, &mut texts, entry)?;
+    }
+    Ok(texts)
+}
+
+/// The first calls, as many as a picture has.
+fn first_calls(entries: &[Entry]) -> &[Entry]
+    ensures { result.now ≡ take DRAWN entries.now }
+{
+    if entries.len() <= DRAWN {
+        return entries;
+    }
+    let (front, _) = entries.split_at(DRAWN);
+    front
+}
+
+/// The rows of the picture: of the first calls, or of those that concern a request.
+fn rows_shown(
+    alloc: Global,
+    request: Option<u64>,
+    entries: &[Entry],
+) -> Result<RowList, OutOfMemory>
+    ensures { IfOk result (λ l. l ≡ rows_shown request entries.now) }
+{
+    match request {
+        Some(number) => chosen(alloc, number, all_rows(alloc, entries)?),
+        None => all_rows(alloc, first_calls(entries)),
+    }
+}
+
+/// Writes which of the calls a picture shows.
+fn scope(alloc: Global, request: Option<u64>, calls: usize) -> Result<Bytes, OutOfMemory>
+    ensures { IfOk result (λ b. b ≡ scope_words request calls) }
+{
+    let mut out = Vec::new(alloc);
+    match request {
+        Some(number) => {
+            push_text(
+                &mut out,
+                "The picture shows the calls that concern request ",
+            )?;
+            push_number(&mut out, number)?;
+        }
+        None if calls <= DRAWN => push_text(&mut out, "The picture shows all calls")?,
+        None => push_text(&mut out, "The picture shows the first 100 calls")?,
+    }
+    Ok(Bytes::from_vec(out))
+}
+
+/// What is shown of a run: its calls once each and in order, each with the messages that it handed;
+/// the picture is of the first calls, or of those that concern a request.
+fn shown_of(alloc: Global, run: Run, request: Option<u64>) -> Result<Shown, OutOfMemory>
+    ensures value { IfOk result (λ s. s ≡ shown_of run request) }
+{
+    let Run { head, entries, bad } = run;
+    let calls = entries.as_slice();
+    Ok(Shown {
+        head,
+        faces: face_lines(alloc, calls)?,
+        lines: lines_of(alloc, calls)?,
+        bad,
+        scope: scope(alloc, request, calls.len())?,
+        rows: rows_shown(alloc, request, calls)?,
+    })
+}
+
+/// The page of a run.
+pub fn show_page(alloc: Global, run: Run, request: Option<u64>) -> Result<Bytes, OutOfMemory>
+    ensures { IfOk result (λ b. b ≡ page_words (shown_of run request)) }
+{
+    let shown = shown_of(alloc, run, request)?;
+    page(alloc, &shown)
+}
+
+/// The text of a run for a terminal, with colours where they are wanted.
+pub fn show_text(alloc: Global, run: Run, colours: bool) -> Result<Bytes, OutOfMemory>
+    ensures { IfOk result (λ b. b ≡ plain_words colours (shown_of run None)) }
+{
+    let shown = shown_of(alloc, run, None)?;
+    plain(alloc, colours, &shown)
+}

@@ -1,0 +1,40 @@
+-- The words of each call, behind its name.
+use Rattle.std.specs.Prelude.{ℕ, Bool, ◌||◌, List, Option, Some, None, codes, if◌then◌else◌}
+use Rattle.std.specs.Str.{bytes_eq}
+use Rattle.zq_why.specs.declared.kind.Kind.{Kind}
+use Rattle.zq_why.specs.declared.form.TheConstants.{OPEN, FACE, IDS, KEY, UNKEY, QUERYABLE, UNQUERYABLE, INTEREST, FINALIZE, ASK, REPLY, LONG, GATEWAYS, NETWORK, NODES}
+
+-- the words of a call that speaks of keys and queryables
+abbrev pub declaring_form : List ℕ → Option (List Kind)
+declaring_form name =
+    if bytes_eq name (codes "key") then Some KEY.now
+    else (if bytes_eq name (codes "unkey") then Some UNKEY.now
+    else (if bytes_eq name (codes "queryable") then Some QUERYABLE.now
+    else (if bytes_eq name (codes "unqueryable") then Some UNQUERYABLE.now
+    else (if bytes_eq name (codes "interest") then Some INTEREST.now
+    else (if bytes_eq name (codes "uninterest") then Some IDS.now
+    else None)))))
+
+-- the words of a call that is of no key and no query
+abbrev pub other_form : List ℕ → Option (List Kind)
+other_form name =
+    if bytes_eq name (codes "open") then Some OPEN.now
+    else (if bytes_eq name (codes "close") then Some FACE.now
+    else (if bytes_eq name (codes "finalize") then Some FINALIZE.now
+    else (if bytes_eq name (codes "gateways") then Some GATEWAYS.now
+    else (if bytes_eq name (codes "network") then Some NETWORK.now
+    else (if bytes_eq name (codes "nodes") then Some NODES.now
+    else declaring_form name)))))
+
+-- the words of the call of a name, if there is one: all, or those that it has at least
+abbrev pub form_of : List ℕ → Option (List Kind)
+form_of name =
+    if bytes_eq name (codes "ask") then Some ASK.now
+    else (if bytes_eq name (codes "reply") then Some REPLY.now
+    else (if bytes_eq name (codes "final") then Some IDS.now
+    else (if bytes_eq name (codes "sent") || bytes_eq name (codes "poll") then Some LONG.now
+    else other_form name)))
+
+-- the call of a name may have further words
+abbrev pub more_of : List ℕ → Bool
+more_of name = bytes_eq name (codes "open") || bytes_eq name (codes "reply") || bytes_eq name (codes "finalize")

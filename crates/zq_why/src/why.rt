@@ -1,0 +1,151 @@
+//! Why a line is bad, as a sentence.
+ghost use Rattle.std.specs.Prelude.{◌≡◌, ◌≢◌, ◌++◌, IfOk, IfSome, OnOk, None, false, length};
+ghost use Rattle.zq_why.specs.Kinds.{is_kind};
+ghost use Rattle.zq_why.specs.Forms.{form_of, more_of};
+ghost use Rattle.zq_why.specs.Why.{count_words, fits_count, has_words, name_of, or_more, quoted, unknown_words, words_of, wrong_words};
+
+use crate::form::{form_of, may_have_more};
+use crate::kind::{Kind, expected, is_kind};
+use std::alloc::{AllocError, Global};
+use zq_message::memory::OutOfMemory;
+use zq_message::text::Bytes;
+use zq_words::words::{len_to, push_number, push_text, word_at};
+
+/// What is said of a first line.
+pub const CONFIG: &str =
+    "the first line is `config`, an id, a timeout and the regions, of which one is north";
+
+/// What is said where each word is right.
+pub const FORM: &str = "each word is right, and the gateway takes no such call";
+
+/// How many words stand behind the name of a line.
+fn words_behind(rest: &[u8]) -> usize
+    ensures { result ≡ words_of rest.now }
+{
+    rest.iter().filter(|b| **b == b' ').count()
+}
+
+/// Whether a call can have so many words behind its name.
+fn fits_count(least: usize, more: bool, count: usize) -> bool
+    ensures { result ≡ fits_count least more count }
+{
+    if more { least <= count } else { least == count }
+}
+
+/// The first word that is not what is expected at its place, if there is one.
+fn first_wrong<'a>(
+    alloc: Global,
+    kinds: &[Kind],
+    rest: &'a [u8],
+) -> Result<Option<(Kind, &'a [u8])>, OutOfMemory>
+    ensures { IfOk result (λ o. IfSome o (λ t. is_kind t.0 t.1.now ≡ false)) }
+{
+    let mut left = rest;
+    for kind in kinds {
+        let Some((word, after)) = word_at(left) else {
+            return Ok(None);
+        };
+        if !is_kind(alloc, *kind, word)? {
+            return Ok(Some((*kind, word)));
+        }
+        left = after;
+    }
+    Ok(None)
+}
+
+/// Writes bytes between two marks.
+#[tactic(auto, unfolding(crate::specs::Why::quoted))]
+fn push_quoted(out: &mut Vec<u8>, bytes: &[u8]) -> Result<(), AllocError>
+    ensures { OnOk result (out.new.items ≡ out.old.items ++ quoted bytes.now) }
+{
+    push_text(out, "`")?;
+    out.extend_from_slice(bytes)?;
+    push_text(out, "`")
+}
+
+/// A name that is that of no call.
+fn unknown(alloc: Global, name: &[u8]) -> Result<Bytes, OutOfMemory>
+    ensures { IfOk result (λ b. b ≡ unknown_words name.now) }
+{
+    let mut out = Vec::new(alloc);
+    push_quoted(&mut out, name)?;
+    push_text(&mut out, " is no call")?;
+    Ok(Bytes::from_vec(out))
+}
+
+fn or_more(more: bool) -> &'static str
+    ensures { result.now ≡ or_more more }
+{
+    if more { " or more" } else { "" }
+}
+
+/// Writes how many words a call has.
+#[tactic(auto, unfolding(crate::specs::Why::has_words))]
+fn push_has(out: &mut Vec<u8>, name: &[u8], least: usize, more: bool) -> Result<(), AllocError>
+    ensures { OnOk result (out.new.items ≡ out.old.items ++ has_words name.now least more) }
+{
+    push_quoted(out, name)?;
+    push_text(out, " has ")?;
+    push_number(out, least as u128 + 1)?;
+    push_text(out, or_more(more))
+}
+
+/// How many words a call has, and how many stand there.
+fn counts(
+    alloc: Global,
+    name: &[u8],
+    least: usize,
+    more: bool,
+    count: usize,
+) -> Result<Bytes, OutOfMemory>
+    ensures { IfOk result (λ b. b ≡ count_words name.now least more count) }
+{
+    let mut out = Vec::new(alloc);
+    push_has(&mut out, name, least, more)?;
+    push_text(&mut out, " words, this has ")?;
+    push_number(&mut out, count as u128 + 1)?;
+    Ok(Bytes::from_vec(out))
+}
+
+/// A word that is not what is expected at its place.
+fn wrong(alloc: Global, kind: Kind, word: &[u8]) -> Result<Bytes, OutOfMemory>
+    ensures { IfOk result (λ b. b ≡ wrong_words kind word.now) }
+{
+    let mut out = Vec::new(alloc);
+    push_quoted(&mut out, word)?;
+    push_text(&mut out, " is ")?;
+    push_text(&mut out, expected(kind))?;
+    Ok(Bytes::from_vec(out))
+}
+
+/// What is wrong with the words of a call behind its name.
+fn why_call(alloc: Global, name: &[u8], kinds: &[Kind], rest: &[u8]) -> Result<Bytes, OutOfMemory>
+    ensures { fits_count (length kinds.now) (more_of name.now) (words_of rest.now) ≡ false → IfOk result (λ b. b ≡ count_words name.now (length kinds.now) (more_of name.now) (words_of rest.now)) }
+{
+    let count = words_behind(rest);
+    let more = may_have_more(name);
+    if !fits_count(kinds.len(), more, count) {
+        return counts(alloc, name, kinds.len(), more, count);
+    }
+    match first_wrong(alloc, kinds, rest)? {
+        Some((kind, word)) => wrong(alloc, kind, word),
+        None => Ok(Bytes::new(alloc, FORM.as_bytes())?),
+    }
+}
+
+/// Why a line of a number is bad, of a line that is: its name is that of no call, it has too few
+/// words or too many, or one of them is not what is expected at its place. The words stand in the
+/// sentence as they are in the line.
+pub fn why(alloc: Global, number: u64, line: &[u8]) -> Result<Bytes, OutOfMemory>
+    ensures first { number ≡ 1 → IfOk result (λ b. b ≡ CONFIG.now) }
+    ensures unknown { number ≢ 1 → form_of (name_of line.now) ≡ None → IfOk result (λ b. b ≡ unknown_words (name_of line.now)) }
+{
+    if number == 1 {
+        return Ok(Bytes::new(alloc, CONFIG.as_bytes())?);
+    }
+    let (name, rest) = line.split_at(len_to(b' ', line));
+    match form_of(name) {
+        Some(kinds) => why_call(alloc, name, kinds, rest),
+        None => unknown(alloc, name),
+    }
+}
