@@ -102,9 +102,6 @@ fn lists(gateway: &mut Gateway, alloc: Global) -> Seen {
 
 fn opens(gateway: &mut Gateway, alloc: Global, zid: u128) -> Seen {
     let opening = application(alloc, zid);
-    if !opening.is_built(gateway.config()) {
-        return None;
-    }
     seen(gateway.open_face(&opening))
 }
 

@@ -1,5 +1,5 @@
-//! Tests of calls and steps: how lines say calls (`lines`), how steps are printed (`prints`), what
-//! configurations are refused (`config`), and each method of the gateway (`gateway`).
+//! Tests of calls: what configurations are refused (`config`), each method of the gateway (`gateway`), and
+//! messages of faces as calls (`primitives`).
 #![tactic(auto)]
 
 #[cfg(test)]
@@ -9,6 +9,4 @@ mod gateway;
 #[cfg(test)]
 mod given;
 #[cfg(test)]
-mod lines;
-#[cfg(test)]
-mod prints;
+mod primitives;

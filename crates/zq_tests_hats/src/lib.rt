@@ -1,17 +1,10 @@
-//! Tests of what regions have, tell and choose: each file tests the crate of its name.
+//! Tests of what regions have and choose, and of who declared and asked: each file tests the crate of its
+//! name.
 #![tactic(auto)]
 
 #[cfg(test)]
 mod hat;
 #[cfg(test)]
-mod index;
-#[cfg(test)]
-mod interests;
-#[cfg(test)]
 mod route;
 #[cfg(test)]
 mod sources;
-#[cfg(test)]
-mod told;
-#[cfg(test)]
-mod trees;

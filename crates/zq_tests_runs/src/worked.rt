@@ -4,7 +4,7 @@ use std::test::Fail;
 use zq_script::run::Status;
 
 /// What a script tells of, its lines, its print, and how its run ends.
-const ROWS: [(&str, &str, &str, Status); 29] = [
+const ROWS: [(&str, &str, &str, Status); 31] = [
     (
         "one query",
         "config 1 10000 north:client local\n\
@@ -563,12 +563,77 @@ const ROWS: [(&str, &str, &str, Status); 29] = [
         Status::Done,
     ),
     (
-        "a form that is not built",
+        "a namespace and its exit",
+        "config 1 10000 north:client local\n\
+         open local 10 client north n\n\
+         open local 11 client north -\n\
+         queryable 0 1 0:s:k p 0 0\n\
+         ask 1 7 0:s:n/k all - 0 0 - 0\n\
+         reply 0 1 0:s:k ok yo\n\
+         queryable 0 2 0:s:** p 0 0\n\
+         ask 1 8 0:s:n all - 0 0 - 0\n\
+         ask 1 9 0:s:** all - 0 0 - 0\n",
+        "= opened 0\n\
+         = opened 1\n\
+         = done\n\
+         = asked 0\n\
+         > 0 0 - request 1 0:s:n/k all - 0 0 -\n\
+         < request 1 0:s:k all - 0 0 -\n\
+         = replied 0\n\
+         > 1 0 0 response 7 0:s:n/k 0 ok yo -\n\
+         = done\n\
+         = asked 1\n\
+         > 0 1 - request 2 0:s:n all - 0 0 -\n\
+         < -\n\
+         > 1 1 - final 8 0\n\
+         = asked 2\n\
+         > 0 2 - request 3 0:s:** all - 0 0 -\n",
+        Status::Done,
+    ),
+    (
+        "an opening that is refused, and the face that asks of the upstream",
         "config 1 10000 north:client local\n\
          open local 10 client north -\n\
-         open local 11 client north house\n",
-        "bad line 3\n",
-        Status::Script,
+         open local 11 client north -\n\
+         close 5\n\
+         open south:3:peer 5 peer north -\n\
+         open local 5 client north a/*\n\
+         open local 5 client north - in:a//b\n\
+         open local 5 client north - out:\n\
+         open north 99 router south -\n\
+         open north 98 router south -\n",
+        "= opened 0\n\
+         = opened 1\n\
+         = refused UnknownFace\n\
+         = refused UnknownRegion\n\
+         = refused InvalidKeyExpr\n\
+         = refused InvalidKeyExpr\n\
+         = refused InvalidKeyExpr\n\
+         = opened 2\n\
+         = refused UpstreamInUse\n",
+        Status::Done,
+    ),
+    (
+        "deny lists",
+        "config 1 10000 north:client local\n\
+         open local 10 client north - out:k/*\n\
+         open local 11 client north - in:m/**\n\
+         queryable 0 1 0:s:** c 0 0\n\
+         ask 1 1 0:s:k/a all - 0 0 - 0\n\
+         ask 1 2 0:s:k all - 0 0 - 0\n\
+         ask 1 3 0:s:m/a all - 0 0 - 0\n",
+        "= opened 0\n\
+         = opened 1\n\
+         = done\n\
+         = asked 0\n\
+         > 0 0 - request 1 0:s:k/a all - 0 0 -\n\
+         < -\n\
+         > 1 0 - final 1 0\n\
+         = asked 1\n\
+         > 0 1 - request 2 0:s:k all - 0 0 -\n\
+         = asked 2\n\
+         > 1 2 - final 3 0\n",
+        Status::Done,
     ),
 ];
 
