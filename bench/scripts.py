@@ -10,18 +10,18 @@ import sys
 CONFIG = 'config 1 10000 north:client local'
 
 
-def faces(count):
-    """The head of a script, with so many faces, from number 0 on."""
+def faces(count, gate='-'):
+    """The head of a script, with so many faces, from number 0 on, each with this namespace and these deny lists."""
     yield CONFIG
     for face in range(count):
-        yield f'open local {face + 10} client north -'
+        yield f'open local {face + 10} client north {gate}'
 
 
 # Four scripts of 200,000 lines
 
-def load(requests=49_996):
+def load(requests=49_996, gate='-'):
     """Eight faces, of which four declare. Each request is replied to, ended and reported as sent before the next."""
-    yield from faces(8)
+    yield from faces(8, gate)
     for face in range(4):
         yield f'queryable {face} 1 0:s:load/{face}/** c 0 0'
     for i in range(requests):

@@ -4,7 +4,8 @@ from collections import namedtuple
 from dataclasses import dataclass, field
 
 from keys import intersects, is_key
-from words import LOCAL, NORTH, U16, Region, shown
+from spaces import Exit
+from words import LOCAL, NORTH, U16, Expression, Region
 
 
 class Refused(Exception):
@@ -50,22 +51,28 @@ class Face:
     interests: dict = field(default_factory=dict)
     known: dict = field(default_factory=dict)
     last_known: int = 0
+    barred: list = field(default_factory=list)
+    exit: Exit = field(default_factory=Exit)
 
     def info(self, key):
         """What was declared on the key."""
         return min((info for declared, info in self.queryables.values() if declared == key), default=None)
 
+    def enters(self, suffix):
+        """A text without a number, behind the namespace."""
+        return b'/'.join(part for part in (self.exit.space, suffix) if part)
+
     def says(self, written):
         """The text of an expression."""
         if written.number == 0:
-            return written.suffix
+            return self.enters(written.suffix)
         texts = self.texts if written.side == 's' else self.ours
         refuse('UnknownScope', written.number not in texts)
         return texts[written.number] + written.suffix
 
     def says_key(self, written):
-        """The text of an expression that has to be a key."""
-        key = self.says(written)
+        """The text of an expression that has to be there and a key."""
+        key = b'' if written is None else self.says(written)
         refuse('InvalidKeyExpr', not is_key(key))
         return key
 
@@ -86,9 +93,8 @@ class Face:
     def behind(self, key, part):
         """The key as the number of its first part, if that has one, and what follows."""
         if not self.number_of(part):
-            return f'0:s:{shown(key)}'
-        number, side = self.number_of(part)
-        return f'{number}:{side}:{shown(key[len(part):])}'
+            return Expression(0, 's', key)
+        return Expression(*self.number_of(part), key[len(part):])
 
     def declares(self, key, part):
         """The key as it is declared: in full to an application, else by its first part alone."""

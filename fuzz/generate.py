@@ -12,7 +12,8 @@ import sys
 import keys
 from faces import Face
 from model import Gateway
-from telling import Network
+from spaces import is_plain
+from telling import Network, front
 from words import LOCAL, U16, U32, U64, U128, BadLine, Tree, read_call, read_config, region
 
 PLAIN = [b'a b', b'a\nb', b'a\tb', *(
@@ -51,6 +52,8 @@ THEMES = {
     'routers': dict(open=4, close=1, network=4, nodes=4, queryable=24, unqueryable=8, ask=14, reply=2, final=2, sent=1,
                     poll=1, finalize=0.5, gateways=1),
     'wide': dict(ask=27, queryable=45, unqueryable=10, key=13, close=0.5, reply=1, final=3, finalize=1),
+    'spaces': dict(open=4, close=2, key=8, queryable=18, unqueryable=8, interest=7, uninterest=2, ask=20, reply=12, final=4,
+                   sent=3, poll=1, finalize=2, gateways=0.5),
     'told': dict(interest=14, uninterest=6, queryable=24, unqueryable=14, open=3, close=3, key=6, unkey=5, ask=5,
                  reply=1, final=1, sent=0.5, poll=0.5, finalize=0.5, gateways=0.5, network=2, nodes=1),
 }
@@ -122,7 +125,7 @@ class Writer:
             words = kind, *getattr(self, kind)(face)
             line = b' '.join(part if isinstance(part, bytes) else str(part).encode() for part in words)
             with contextlib.suppress(BadLine):
-                self.gateway.call(*read_call(line.split(b' '), self.config))
+                self.gateway.call(*read_call(line.split(b' ')))
                 self.lines.append(line)
         return b'\n'.join(self.lines) + self.rng.choice([b'', b'\n', b'\n', b'\n'])
 
@@ -170,6 +173,8 @@ class Writer:
             number = rng.choice(given)
             return b'%d:r:%s' % (number, word(rng, text[len(face.ours[number]):]))
         number = rng.choice([0, *[n for n, part in face.texts.items() if text.startswith(part)] * 2])
+        if number == 0 and face.exit.space and rng.random() < 0.8:
+            text = text.removeprefix(face.exit.space).removeprefix(b'/')
         text = text[len(face.texts.get(number, b'')):]
         if rng.random() < 0.05:
             number = rng.choice([1, 2, 9, U16, *face.texts])
@@ -182,8 +187,19 @@ class Writer:
         where, namespace = rng.choice(self.regions), '-'
         if rng.random() < 0.04:
             where = rng.choice(['south:7:client', 'south:256:peer', 'south:4294967295:router', 'local'])
-            namespace = rng.choice(['-', 'n', '%2D', 'a/* in:k out:**', '- in:-', '- out:a in:%20'])
+            namespace = rng.choice(['-', 'n', '%2D', 'a/* in:k out:**', '- in:-', '- out:a in:%20', '@a', 'a/'])
+        elif rng.random() < (0.6 if self.theme == 'spaces' else 0.1):
+            namespace = self.gate()
         return where, rng.choice(self.ids), rng.choice(MODES), rng.choice(['north', 'south']), namespace
+
+    def gate(self):
+        """A namespace near the script's keys, or none, and at times deny lists."""
+        rng = self.rng
+        fronts = [front(key) for key in self.keys]
+        space = rng.choice([*filter(is_plain, fronts), *(part.split(b'/')[0] for part in fronts), b'', b'a'])
+        items = [rng.choice([b'in:', b'out:']) + word(rng, rng.choice([*self.keys, b'**', space + b'/**']))
+                 for _ in range(rng.choice([0, 0, 0, 1, 2]))]
+        return b' '.join([word(rng, space), *items])
 
     def close(self, face):
         return face.number,
@@ -380,6 +396,16 @@ def told(rng):
     return writer.write(rng.randint(60, 160))
 
 
+def spaces(rng):
+    """Faces in namespaces and with deny lists, on few keys, of which some are namespaces themselves."""
+    entries = [f'north:{rng.choice(["client", "peer", "router"])}', 'local', 'south:0:client', 'south:1:peer']
+    writer, front = Writer(rng, 'spaces', entries[:rng.choice([2, 3, 4])], faces=rng.choice([3, 5, 7])), rng.choice(PLAIN)
+    near = [front, front + b'/a', front + b'/b/a', front + b'/*', b'*/a', b'**', b'**/a', b'*', some_key(rng)]
+    writer.keys = [front, *rng.sample(near[1:], k=rng.choice([2, 3, 5]))]
+    writer.use_few_ids()
+    return writer.write(rng.randint(40, 160))
+
+
 def mutated(rng):
     """A short script in which a byte, a word or a line, or two, are replaced, put in or taken out."""
     script = Writer(rng, 'all', some_entries(rng, 1)).write(rng.randint(4, 14))
@@ -403,7 +429,8 @@ def change(rng, script):
     return b''.join(parts)
 
 
-KINDS = {'mixed': mixed, 'dense': dense, 'long': long, 'wide': wide, 'mutated': mutated, 'routers': routers, 'told': told}
+KINDS = {'mixed': mixed, 'dense': dense, 'long': long, 'wide': wide, 'mutated': mutated, 'routers': routers, 'told': told,
+         'spaces': spaces}
 
 
 def generate(kind, seed):

@@ -12,8 +12,9 @@ from itertools import count
 
 from faces import Face, Refused, refuse
 from keys import includes, intersects, is_key
+from spaces import Exit, Message, is_plain
 from telling import Declared, Network, at, kept
-from words import LOCAL, NORTH, U16, U32, U64, BadLine, read_script, region_order, shown
+from words import LOCAL, NORTH, NOTHING, U16, U32, U64, BadLine, Expression, read_script, region_order, shown
 
 FARTHEST = U16
 
@@ -75,17 +76,23 @@ class Gateway(Declared):
         """A query ends when no target owes its final and no reply is in flight. The asker is told."""
         ended = [query for query in self.queries if not query.pending and not query.in_flight]
         self.queries = [query for query in self.queries if query.pending or query.in_flight]
-        return [f'> {query.asker} {query.number} - final {query.id} {query.qos}'
-                for query in ended if query.asker in self.faces]
+        return [line for query in ended if query.asker in self.faces
+                for line in self.hand(query.asker, query.number, '-', Message('final', query.id, None, [str(query.qos)]))[0]]
+
+    def hand(self, face, number, reply, message, key=None):
+        """The lines of a message of a request, and whether it leaves."""
+        return self.out(face, f'> {face} {number} {reply}', message, key)
 
     # Faces, numbers, marks, lists
 
-    def on_open(self, where, face_id, bound):
-        """There is one upstream; face numbers end before the last."""
+    def on_open(self, where, face_id, bound, space, barred, denied):
+        """Namespaces are plain; there is one upstream; face numbers end before the last."""
         refuse('UnknownRegion', where not in self.config.regions)
+        refuse('InvalidKeyExpr', space is not None and not is_plain(space) or not all(map(is_key, barred + denied)))
         refuse('UpstreamInUse', where == NORTH and self.config.north_mode == 'client' and self.faces_of(NORTH))
         refuse('NoFreeId', self.next_face == U32)
-        face = Face(self.next_face, where, face_id, bound, self.first_id, last_known=self.first_known)
+        face = Face(self.next_face, where, face_id, bound, self.first_id, last_known=self.first_known,
+                    barred=barred, exit=Exit(space, denied))
         with kept(self.faces):
             self.faces[face.number] = face
             self.need_ids()
@@ -188,6 +195,8 @@ class Gateway(Declared):
             key = asker.says_key(written)
         except Refused:
             return {}
+        if any(includes(barred, key) for barred in asker.barred):
+            return {}
         picked, source = [], at(asker.nodes, node) if asker.region in self.routed else asker.id
         for where in sorted(self.config.regions, key=region_order):
             offers = self.offers(where, key, asker, node)
@@ -219,10 +228,12 @@ class Gateway(Declared):
         for number, node in targets.items():
             to = self.faces[number]
             entry = Entry(number, self.next_id(to), deadline)
-            query.pending.append(entry)
-            self.handed.append(
-                f'> {number} {query.number} - request {entry.id} {to.writes(asker.says(written))} {target}'
-                f' {"-" if timeout is None else timeout} {node} {qos} {shown(content)}')
+            key = asker.says(written)
+            rest = [target, '-' if timeout is None else str(timeout), str(node), str(qos), shown(content)]
+            lines, leaves = self.hand(number, query.number, '-', Message('request', entry.id, to.writes(key), rest), key)
+            self.handed += lines
+            if leaves:
+                query.pending.append(entry)
         self.queries.append(query)
         self.next_query += 1
         return f'asked {query.number}'
@@ -230,14 +241,15 @@ class Gateway(Declared):
     def respond(self, query, key, outcome, content, responder):
         """Hands the asker a reply, which is in flight from now on."""
         query.in_flight.add(self.next_reply)
-        self.handed.append(
-            f'> {query.asker} {query.number} {self.next_reply} response {query.id} 0:s:{shown(key)}'
-            f' {query.qos} {outcome} {shown(content)} {"-" if responder is None else responder}')
+        rest = [str(query.qos), outcome, shown(content), '-' if responder is None else str(responder)]
+        message = Message('response', query.id, Expression(0, 's', key), rest)
+        self.handed += self.hand(query.asker, query.number, self.next_reply, message)[0]
         self.next_reply += 1
 
     def on_reply(self, face, query_id, written, outcome, content, responder=None):
-        """A reply to a closed asker is accepted and goes nowhere. The empty expression is no key."""
-        key = self.face(face).says(written)
+        """A reply to a closed asker is accepted and goes nowhere. The empty expression is no key, in an error nowhere."""
+        face_says = self.face(face).says
+        key = b'' if outcome == 'err' and written[::2] == NOTHING[::2] else face_says(written)
         query = self.pending_at(face).get(query_id)
         refuse('QueryNotFound', query is None)
         refuse('InvalidKeyExpr', key != b'' and not is_key(key))

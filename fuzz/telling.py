@@ -5,7 +5,8 @@ from contextlib import contextmanager
 from itertools import takewhile
 
 from faces import Info, Interest, Known, Refused, refuse
-from words import NORTH, NOTHING, U16, U32, shown
+from spaces import Message
+from words import NORTH, U16, U32, Expression
 
 # What a face is told of a key: under which id, and, where it is asked for, by which interest. No info is a withdrawal.
 Telling = namedtuple('Telling', 'face key node id info interest', defaults=[None])
@@ -95,7 +96,7 @@ class Declared:
         """The id says what is withdrawn; for routers key and router do. What was asked stays pending."""
         face = self.face(face)
         if face.region in self.routed:
-            key = face.says_key(written or NOTHING)
+            key = face.says_key(written)
             router = self.router(face, node)
             refuse('UnknownId', (key, router) not in self.entries[face.region])
             return self.announce(face, router, key, None)
@@ -125,7 +126,7 @@ class Declared:
         due = self.due(face)
         for key in sorted(filter(interest.meets, due)):
             self.inform(face, key, due[key], interest_id)
-        self.ends.append(f'> {face.number} - - declfinal {interest_id}')
+        self.ends.append((face.number, Message('declfinal', interest_id, None, [])))
 
     def on_uninterest(self, face, interest_id):
         """What is due no more is forgotten, and not withdrawn."""
@@ -240,19 +241,28 @@ class Declared:
     def declarations(self):
         """What is told, by face, key and node, and the ends of answers."""
         tellings = sorted(self.tellings, key=lambda telling: (telling.face, telling.key, telling.node))
-        return [line for telling in tellings for line in self.lines(telling)] + self.ends
+        told = [(telling.face, message) for telling in tellings for message in self.messages(telling)]
+        return [line for face, message in told + self.ends for line in self.out(face, f'> {face} - -', message)[0]]
 
-    def lines(self, telling):
+    def out(self, face, head, message, key=None):
+        """The lines of a message, with what leaves where that differs; and whether anything does."""
+        left = self.faces[face].exit.leaves(message, key)
+        lines = [f'{head} {message.line()}']
+        if left != message:
+            lines.append(f'< {left.line() if left else "-"}')
+        return lines, left is not None
+
+    def messages(self, telling):
         """A withdrawal has a key among routers alone. The number of a key comes right before its first use."""
-        face, info = self.faces[telling.face], telling.info
-        head, part = f'> {face.number} - -', front(telling.key)
+        face, info, node = self.faces[telling.face], telling.info, str(telling.node)
+        part = front(telling.key)
         if info is None and face.region not in self.routed:
-            return [f'{head} unqueryable {telling.id} - {telling.node}']
+            return [Message('unqueryable', telling.id, None, [node])]
         given = face.gives_number(part)
-        numbered = [f'{head} key {given} 0:s:{shown(part)}'] if given else []
+        numbered = [Message('key', given, Expression(0, 's', part), [])] if given else []
         key = face.declares(telling.key, part)
         if info is None:
-            return numbered + [f'{head} unqueryable {telling.id} {key} {telling.node}']
-        interest = '-' if telling.interest is None else telling.interest
-        told = f'queryable {telling.id} {key} {"cp"[info.partial]} {info.distance} {telling.node} {interest}'
-        return numbered + [f'{head} {told}']
+            return numbered + [Message('unqueryable', telling.id, key, [node])]
+        interest = '-' if telling.interest is None else str(telling.interest)
+        rest = ['cp'[info.partial], str(info.distance), node, interest]
+        return numbered + [Message('queryable', telling.id, key, rest)]

@@ -184,22 +184,22 @@ FORMATS = [
 READERS = {(kind, len(readers)): readers for kind, *readers in FORMATS}
 
 
-def read_open(words, config):
-    """In a region that is there, a namespace and deny lists are not built yet."""
+def read_open(words):
+    """A face, its namespace if it has one, and the keys that it may not ask for and not be asked for."""
     where, face_id, _, bound, namespace = fields(
         words[:5], region, u128, choice(*MODES), choice('north', 'south'), optional(text))
+    denied = {'in': [], 'out': []}
     for item in words[5:]:
-        tagged('in' if item.startswith(b'in') else 'out', text)(item)
-    if where in config.regions:
-        require(namespace is None and not words[5:])
-    return where, face_id, bound
+        side = 'in' if item.startswith(b'in') else 'out'
+        denied[side].append(tagged(side, text)(item))
+    return where, face_id, bound, namespace, denied['in'], denied['out']
 
 
-def read_call(words, config):
+def read_call(words):
     """The kind of a call, and its values."""
     kind, values = words[0].decode('latin-1'), words[1:]
     if kind == 'open':
-        return kind, read_open(values, config)
+        return kind, read_open(values)
     require((kind, len(values)) in READERS)
     return kind, fields(values, *READERS[kind, len(values)])
 
@@ -216,7 +216,7 @@ def read_script(lines):
             elif at == 2 and words[0] == b'start':
                 config.start = fields(words[1:], u32, u64, u64, u32, u32)
             else:
-                calls.append(read_call(words, config))
+                calls.append(read_call(words))
         except BadLine:
             raise BadLine(at) from None
     return config, calls
