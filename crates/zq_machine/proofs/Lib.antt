@@ -22,6 +22,7 @@ pub mod Ungated
 pub mod LettingGo
 pub mod Leaving
 pub mod Spaces
+pub mod Behind
 pub mod Within
 pub mod Kept
 pub mod EntriesMoved

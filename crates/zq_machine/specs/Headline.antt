@@ -37,6 +37,7 @@ use Rattle.zq_machine.specs.Agreeing.{Agrees}
 use Rattle.zq_machine.specs.Standing.{asking_in, first_routed, listed_in, routed_at, routed_in, standing_at, standing_in}
 use Rattle.zq_machine.specs.Hearing.{hear}
 use Rattle.zq_machine.specs.Leaving.{gate_in}
+use Rattle.zq_machine.specs.Behind.{SaysPromise}
 use Rattle.zq_machine.specs.Within.{AllStay}
 use Rattle.zq_machine.specs.Direct.{AreDirect}
 use Rattle.zq_machine.specs.Children.{ChildPromise}
@@ -244,6 +245,7 @@ RefusesBy None s c = is_accepted (step s c).outcome ≡ true
 
 -- what one call promises, at any point of a run; its declarations stand behind its messages of requests, whose finals stand by number
 pub record KeepsPromises (s : State) (c : Call) : Type 0 where
+  pub says : SaysPromise s
   pub requests : RequestPromise s c (step s c)
   pub replies : ReplyPromise s c (step s c)
   pub waits : is_accepted (step s c).outcome ≡ true → Waits (ends_entry c) (lands c) (until s c) s.core.queries.records (after s c).core.queries.records (step s c).handed
