@@ -12,10 +12,11 @@ use Rattle.zq_namespace.specs.Entry.{entered, is_bare, is_bare_error, is_error}
 use Rattle.zq_tables.specs.declared.said.Said.TheVariants as said_word
 use Rattle.zq_tables.specs.Naming.{FaceNaming, face_naming, said_of, said_plainly}
 use Rattle.zq_machine.specs.Behind.{SaysAt, SaysPromise}
-use Rattle.zq_machine.specs.Gates.{entered_by, gate_at, reply_by, space_of}
+use Rattle.zq_machine.specs.Gates.{denied_by, entered_by, gate_at, reply_by, space_of}
 use Rattle.zq_machine.specs.State.{State}
 use Rattle.zq_machine.specs.TextCalls.{said}
 use Rattle.zq_machine.proofs.Spaces.{ArePlain}
+use Rattle.zq_machine.proofs.Denying.{asks_free}
 
 -- a plain text is not empty, and says itself
 plain_says : (n : List ℕ) → is_plain n ≡ true → said_plainly n ≡ said_word.Full n
@@ -82,5 +83,6 @@ reply_says names r o = by (is_bare_error r) refl o
 pub says_promise : (s : State) → ArePlain s.gates → SaysPromise s
 says_promise s plain = record {
   writes = λ face w. says_at s face w (space_of (gate_at face.0 s.gates)) refl (plain face.0);
+  asks = λ face r free. asks_free (denied_by (gate_at face.0 s.gates)) (said face r.wire s) (λ text says bars. free (text, says, bars));
   replies = λ face r. reply_says (face_naming face.0 s.names) r (space_of (gate_at face.0 s.gates));
 }
