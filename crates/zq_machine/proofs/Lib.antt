@@ -25,6 +25,7 @@ pub mod Leaving
 pub mod Spaces
 pub mod Denying
 pub mod Behind
+pub mod LettingOut
 pub mod Within
 pub mod Kept
 pub mod EntriesMoved

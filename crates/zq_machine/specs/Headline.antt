@@ -239,7 +239,7 @@ is_of_request h = not (declares h)
 abbrev pub LeavePromise : State → Call → Type 0
 LeavePromise s c = leave_all (asked_text (read s c)) (step s c).handed (follow s (read s c)).gates ≡ record { handed = (step s c).handed; gates = (after s c).gates }
 
--- what leaves to a face in a namespace says nothing outside it, and to no face leaves a request on a key that its exit denies
+-- what leaves of each message is as its face's namespace and its exit's deny list have it: the message but for its expression, which the namespace is taken off, and no request on a key that is denied; what has a number is read by what the number stands for, which need not be under the namespace
 abbrev pub WithinPromise : State → Call → Type 0
 WithinPromise s c = AllStay (asked_text (read s c)) (step s c).handed (follow s (read s c)).gates
 
