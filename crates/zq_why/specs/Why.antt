@@ -1,9 +1,11 @@
 -- Why a line is bad, as a sentence.
-use Rattle.std.specs.Prelude.{ℕ, ◌+◌, ◌==◌, Bool, List, [], ◌++◌, codes, if◌then◌else◌, count_by, nat_le, take}
+use Rattle.std.specs.Prelude.{ℕ, ◌+◌, ◌==◌, Bool, List, [], ◌∷◌, ◌++◌, Option, Some, None, codes, if◌then◌else◌, count_by, drop, length, nat_le, take}
 use Rattle.std.specs.Fmt.{decimal}
-use Rattle.zq_words.specs.Words.{len_to}
+use Rattle.zq_words.specs.Words.{len_to, word_at}
 use Rattle.zq_why.specs.declared.kind.Kind.{Kind}
-use Rattle.zq_why.specs.Kinds.{expected}
+use Rattle.zq_why.specs.declared.why.TheConstants.{CONFIG, FORM}
+use Rattle.zq_why.specs.Forms.{form_of, more_of}
+use Rattle.zq_why.specs.Kinds.{expected, is_kind}
 
 -- the name of a line: what stands before its first space
 abbrev pub name_of : List ℕ → List ℕ
@@ -40,3 +42,37 @@ count_words name least more count = has_words name least more ++ codes " words, 
 -- a word that is not what is expected at its place
 abbrev pub wrong_words : Kind → List ℕ → List ℕ
 wrong_words kind word = quoted word ++ codes " is " ++ expected kind
+
+-- the word that stands there, where it is not what is expected; otherwise what is found behind it
+abbrev pub wrong_or : Kind → Option (List ℕ × List ℕ) → (List ℕ → Option (Kind × List ℕ)) → Option (Kind × List ℕ)
+wrong_or kind None behind = None
+wrong_or kind (Some w) behind = if is_kind kind w.0 then behind w.1 else Some (kind, w.0)
+
+-- the first word that is not what is expected at its place, if there is one
+abbrev pub first_wrong : List Kind → List ℕ → Option (Kind × List ℕ)
+first_wrong [] rest = None
+first_wrong (k ∷ ks) rest = wrong_or k (word_at rest) (first_wrong ks)
+
+-- what is said of the first wrong word, or where there is none
+abbrev pub word_reason : Option (Kind × List ℕ) → List ℕ
+word_reason None = FORM.now
+word_reason (Some w) = wrong_words w.0 w.1
+
+-- what is said of a call's words behind its name: of their number, if the call cannot have so many, or of the first that is wrong
+abbrev pub call_reason : List ℕ → List ℕ → List Kind → List ℕ
+call_reason name rest kinds =
+    if fits_count (length kinds) (more_of name) (words_of rest) then word_reason (first_wrong kinds rest)
+    else count_words name (length kinds) (more_of name) (words_of rest)
+
+-- the same of a line by its name, which may be that of no call
+abbrev pub name_reason : List ℕ → List ℕ → Option (List Kind) → List ℕ
+name_reason name rest None = unknown_words name
+name_reason name rest (Some kinds) = call_reason name rest kinds
+
+-- what stands behind the name of a line
+abbrev pub rest_of : List ℕ → List ℕ
+rest_of line = drop (len_to 32 line) line
+
+-- what is said of a bad line of this number
+abbrev pub reason : ℕ → List ℕ → List ℕ
+reason number line = if number == 1 then CONFIG.now else name_reason (name_of line) (rest_of line) (form_of (name_of line))

@@ -1,8 +1,7 @@
 //! Why a line is bad, as a sentence.
-ghost use Rattle.std.specs.Prelude.{◌≡◌, ◌≢◌, ◌++◌, IfOk, IfSome, OnOk, None, false, length};
-ghost use Rattle.zq_why.specs.Kinds.{is_kind};
-ghost use Rattle.zq_why.specs.Forms.{form_of, more_of};
-ghost use Rattle.zq_why.specs.Why.{count_words, fits_count, has_words, name_of, or_more, quoted, unknown_words, words_of, wrong_words};
+ghost use Rattle.std.specs.Prelude.{◌≡◌, ◌++◌, IfOk, OnOk};
+ghost use Rattle.std.specs.Option.{option_map};
+ghost use Rattle.zq_why.specs.Why.{call_reason, count_words, first_wrong, fits_count, has_words, or_more, quoted, reason, unknown_words, words_of, wrong_words};
 
 use crate::form::{form_of, may_have_more};
 use crate::kind::{Kind, expected, is_kind};
@@ -38,10 +37,10 @@ fn first_wrong<'a>(
     kinds: &[Kind],
     rest: &'a [u8],
 ) -> Result<Option<(Kind, &'a [u8])>, OutOfMemory>
-    ensures { IfOk result (λ o. IfSome o (λ t. is_kind t.0 t.1.now ≡ false)) }
+    ensures { IfOk result (λ o. option_map (λ t. (t.0, t.1.now)) o ≡ first_wrong kinds.now rest.now) }
 {
     let mut left = rest;
-    for kind in kinds {
+    'kinds: for kind in kinds {
         let Some((word, after)) = word_at(left) else {
             return Ok(None);
         };
@@ -120,7 +119,7 @@ fn wrong(alloc: Global, kind: Kind, word: &[u8]) -> Result<Bytes, OutOfMemory>
 
 /// What is wrong with the words of a call behind its name.
 fn why_call(alloc: Global, name: &[u8], kinds: &[Kind], rest: &[u8]) -> Result<Bytes, OutOfMemory>
-    ensures { fits_count (length kinds.now) (more_of name.now) (words_of rest.now) ≡ false → IfOk result (λ b. b ≡ count_words name.now (length kinds.now) (more_of name.now) (words_of rest.now)) }
+    ensures { IfOk result (λ b. b ≡ call_reason name.now rest.now kinds.now) }
 {
     let count = words_behind(rest);
     let more = may_have_more(name);
@@ -137,8 +136,7 @@ fn why_call(alloc: Global, name: &[u8], kinds: &[Kind], rest: &[u8]) -> Result<B
 /// words or too many, or one of them is not what is expected at its place. The words stand in the
 /// sentence as they are in the line.
 pub fn why(alloc: Global, number: u64, line: &[u8]) -> Result<Bytes, OutOfMemory>
-    ensures first { number ≡ 1 → IfOk result (λ b. b ≡ CONFIG.now) }
-    ensures unknown { number ≢ 1 → form_of (name_of line.now) ≡ None → IfOk result (λ b. b ≡ unknown_words (name_of line.now)) }
+    ensures { IfOk result (λ b. b ≡ reason number line.now) }
 {
     if number == 1 {
         return Ok(Bytes::new(alloc, CONFIG.as_bytes())?);
