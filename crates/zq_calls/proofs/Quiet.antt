@@ -95,9 +95,6 @@ pub passing_asks : (now : ℕ) → is_asking (passing now) ≡ false
 unfolding is_asking
 passing_asks now = refl
 
-pub passing_fits : (s : State) (now : ℕ) → lacks_replies (timeouts now s.core.queries) s.core.queries ≡ false → refusal_of s.core (passing now) ≡ None
-passing_fits s now fits = ap (λ b. cond b (Some refusal.NoFreeId) None) fits
-
 -- error replies are no requests
 pub timeouts_ask : (s : State) (now : ℕ) → list_any asks (write s.names (handed_timeouts s.core.faces (timeouts now s.core.queries))) ≡ false
 timeouts_ask s now =

@@ -29,6 +29,7 @@ use Rattle.zq_machine.proofs.GoingOut.{final_through, none_unsent}
 use Rattle.zq_machine.proofs.LettingGo.{one_by_one}
 use Rattle.zq_machine.proofs.Sending.{all_away, finals_of_unsent}
 use Rattle.zq_machine.proofs.Ungated.{plain_goes, plain_leaves}
+use Rattle.zq_machine.proofs.Writing.{ask_fits}
 use Rattle.zq_calls.specs.Requesting.{asked_out, requests_out}
 use Rattle.zq_calls.proofs.Unsent.{unsent-append}
 
@@ -96,9 +97,7 @@ module _ (s : State) (sound : IsSound s) (face : FaceId) (sd : Said) (r : Reques
   until = deadline s.core r.timeout now
 
   passes : refusal_of s.core t ≡ None
-  passes =
-      ap (λ o. cond (not (is_some o)) (Some refusal.UnknownFace) (cond (lacks_number (map target_of (offers o)) s.core.queries) (Some refusal.NoFreeId) None)) there
-      ∙ ap (λ b. cond b (Some refusal.NoFreeId) None) fits
+  passes = ask_fits s face sd r now opened there fits
 
   enough : list_any (is_full s.core.queries) (map target_of (offers (Some opened))) ≡ false
   enough = second (s.core.queries.requests + 1 == 2 ^ 64) (list_any (is_full s.core.queries) (map target_of (offers (Some opened)))) fits

@@ -23,7 +23,7 @@ use Rattle.zq_namespace.specs.Leaves.{ExitState, body_kept, gives, kept}
 use Rattle.zq_query.specs.declared.records.Final.{Final}
 use Rattle.zq_machine.specs.declared.call.Opening.{Opening}
 use Rattle.zq_machine.specs.Calls.{has_none, is_absent}
-use Rattle.zq_machine.specs.Gates.{Gate, Gates, denied_by, ends_given, gate_at, gate_for, keeping, kept_by, leave_all, let_out, put_kept, space_of, through, with_gate, with_given, without_ended}
+use Rattle.zq_machine.specs.Gates.{Gate, Gates, denied_by, ends_given, gate_at, gate_for, keeping, kept_by, leave_all, let_out, put_kept, space_of, through, unasked_by, with_gate, with_given, without_ended}
 use Rattle.zq_machine.specs.Handing.{Handed}
 use Rattle.zq_machine.specs.Leaving.{ended_by, gate_past, given_by, if_handed}
 use Rattle.zq_machine.specs.Writing.{sent_final}
@@ -200,6 +200,10 @@ module _ (q : ℕ) where
   pub denied_left : (text : List ℕ) (hs : List Handed) (gates : Gates) → denied_by (gate_at q (leave_all text hs gates).gates) ≡ denied_by (gate_at q gates)
   denied_left = left_view denied_by (λ m g. refl)
 
+  -- and those that it is not asked for
+  pub unasked_left : (text : List ℕ) (hs : List Handed) (gates : Gates) → unasked_by (gate_at q (leave_all text hs gates).gates) ≡ unasked_by (gate_at q gates)
+  unasked_left = left_view unasked_by (λ m g. refl)
+
 -- ---- the gate that a face is opened with
 pub space_for : (o : Opening) → space_of (gate_for o) ≡ o.namespace
 space_for o = by o.namespace (has_none o.entry_deny) (has_none o.exit_deny)
@@ -221,6 +225,14 @@ denied_for o = by (is_absent o.namespace) o.entry_deny (has_none o.exit_deny)
     by true [] false = refl
     by true (k ∷ l) b = refl
     by false l b = refl
+
+pub unasked_for : (o : Opening) → unasked_by (gate_for o) ≡ o.exit_deny
+unasked_for o = by (is_absent o.namespace && has_none o.entry_deny) o.exit_deny
+  where
+    by : (a : Bool) (l : List (List ℕ)) → unasked_by (cond (a && has_none l) None (Some (record { entry = o.entry_deny; exit = new_mux o.namespace l }))) ≡ l
+    by true [] = refl
+    by true (k ∷ l) = refl
+    by false l = refl
 
 -- ---- gates stand by face, and are those of faces that were opened
 pub record Gated (gates : Gates) (next : ℕ) : Type 0 where

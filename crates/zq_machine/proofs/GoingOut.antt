@@ -7,6 +7,7 @@ use Rattle.zq_message.specs.declared.message.DeclareBody.{DeclareBody}
 use Rattle.zq_message.specs.declared.message.DeclareBody.TheVariants as body
 use Rattle.zq_message.specs.declared.message.FaceId.{FaceId}
 use Rattle.zq_message.specs.declared.message.Message.{Message}
+use Rattle.zq_message.specs.declared.message.ResponseFinal.{ResponseFinal}
 use Rattle.zq_message.specs.declared.message.Message.TheVariants as message
 use Rattle.zq_message.specs.declared.message.WireExpr.{WireExpr}
 use Rattle.zq_namespace.specs.Denied.{space_leaves}
@@ -19,7 +20,7 @@ use Rattle.zq_machine.specs.Handing.{Handed}
 use Rattle.zq_machine.specs.Headline.{asks}
 use Rattle.zq_machine.specs.Hearing.{hear, hear_by}
 use Rattle.zq_machine.specs.Messages.{TextMessage, text_final, text_reply, text_request}
-use Rattle.zq_machine.specs.Writing.{final_message, sent_final, unsent, unsent_at, write}
+use Rattle.zq_machine.specs.Writing.{sent_final, unsent, unsent_at, write}
 
 -- ---- what does not look at what leaves is the same
 -- the same of a message, whatever leaves of it
@@ -187,16 +188,16 @@ module _ (text : List ℕ) (gates : Gates) where
   any_through p same (h ∷ hs) = λ j. same h (leaves_by (gate_at h.to.0 gates) text h.message) j || any_through p same hs j
 
 -- a final leaves by every gate
-pub final_through : (text : List ℕ) (gates : Gates) (f : Final) → through text gates (sent_final f) ≡ sent_final f
-final_through text gates f = ap (λ l. record (sent_final f) { leaves = l }) (by (gate_at f.asker.0 gates))
-  where
-    space : (o : Option ExitState) → space_leaves o (final_message f) ≡ Some (final_message f)
-    space None = refl
-    space (Some e) = refl
+final_space : (o : Option ExitState) (f : ResponseFinal) → space_leaves o (message.ResponseFinal f) ≡ Some (message.ResponseFinal f)
+final_space None f = refl
+final_space (Some e) f = refl
 
-    by : (o : Option Gate) → leaves_by o text (final_message f) ≡ Some (final_message f)
-    by None = refl
-    by (Some g) = space g.exit.space
+pub final_leaves : (o : Option Gate) (text : List ℕ) (f : ResponseFinal) → leaves_by o text (message.ResponseFinal f) ≡ Some (message.ResponseFinal f)
+final_leaves None text f = refl
+final_leaves (Some g) text f = final_space g.exit.space f
+
+pub final_through : (text : List ℕ) (gates : Gates) (f : Final) → through text gates (sent_final f) ≡ sent_final f
+final_through text gates f = ap (λ l. record (sent_final f) { leaves = l }) (final_leaves (gate_at f.asker.0 gates) text (record { rid = f.id; qos = f.qos }))
 
 -- ---- where nothing is a request, all requests leave
 unsent_none : (to : FaceId) (m : Message) (left : Option Message) → asks (record { to = to; number = None; reply = None; message = m; leaves = left }) ≡ false → unsent_at to m left ≡ []

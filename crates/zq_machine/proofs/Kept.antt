@@ -16,6 +16,8 @@ use Rattle.zq_machine.proofs.Hats.{kinds_of}
 use Rattle.zq_machine.proofs.Handing.{call_answers, call_behind, call_fits, call_ordered}
 use Rattle.zq_machine.proofs.LastIds.{run_last}
 use Rattle.zq_machine.proofs.Leaving.{all_gates, call_leaves}
+use Rattle.zq_machine.proofs.Barred.{deny_promise}
+use Rattle.zq_machine.proofs.Behind.{says_promise}
 use Rattle.zq_machine.proofs.Within.{call_within}
 use Rattle.zq_machine.proofs.Promises.{request_promise, reply_promise, refusal_promise}
 use Rattle.zq_machine.proofs.Silent.{nothing_after}
@@ -33,7 +35,9 @@ kept : (config : Settings) (before : List Call) (c : Call) → KeepsPromises (st
 kept config before c =
     let s : State = state_after (opening_state config) before in
     record {
+      says = says_promise s (run_in_order config before).spaces;
       requests = request_promise s c (run_sound before (opening_state config) (opening_sound config));
+      denies = deny_promise s c (run_sound before (opening_state config) (opening_sound config));
       replies = reply_promise s c;
       waits = call_waits s c (run_sound before (opening_state config) (opening_sound config));
       tells = tell_promise config s c (run_in_order config before);

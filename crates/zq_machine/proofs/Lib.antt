@@ -12,6 +12,7 @@ pub mod Frame
 pub mod Replies
 pub mod Routes
 pub mod Promises
+pub mod Barred
 pub mod Finals
 pub mod OneFinal
 pub mod Silent
@@ -22,6 +23,9 @@ pub mod Ungated
 pub mod LettingGo
 pub mod Leaving
 pub mod Spaces
+pub mod Denying
+pub mod Behind
+pub mod LettingOut
 pub mod Within
 pub mod Kept
 pub mod EntriesMoved

@@ -33,7 +33,7 @@ use Rattle.zq_machine.specs.declared.call.Opening.{Opening}
 use Rattle.zq_machine.specs.declared.face.OpenFace.{OpenFace}
 use Rattle.zq_machine.specs.Agreeing.{stands_in}
 use Rattle.zq_machine.specs.Configs.{Settings}
-use Rattle.zq_machine.specs.Gates.{Gate, Gates, denied_by, entered_by, gate_at, gate_for, space_of, with_gate}
+use Rattle.zq_machine.specs.Gates.{Gate, Gates, denied_by, entered_by, gate_at, gate_for, space_of, unasked_by, with_gate}
 use Rattle.zq_machine.specs.Deciding.{accepted, announced_by, causes, granted, is_accepted, opened, refusal_of, retracted_by, seat, told_of}
 use Rattle.zq_machine.specs.Machine.{accepted_state, after, state_after, step, steps_from}
 use Rattle.zq_machine.specs.Selecting.{full_text}
@@ -48,7 +48,7 @@ use Rattle.zq_machine.proofs.Agreeing.{Tied, some_of}
 use Rattle.zq_machine.proofs.Always.{after_kept}
 use Rattle.zq_machine.proofs.Changing.{face_here, face_other, found_here, found_other, hat_either, hat_here, itself, naming_changed, number_test, one_number, region_there}
 use Rattle.zq_machine.proofs.Finals.{is_there}
-use Rattle.zq_machine.proofs.Gates.{Gated, denied_for, denied_left, gate_goes, gate_joins, space_for, space_left}
+use Rattle.zq_machine.proofs.Gates.{Gated, denied_for, denied_left, gate_goes, gate_joins, space_for, space_left, unasked_for, unasked_left}
 use Rattle.zq_machine.proofs.GoingOut.{fold_ended, fold_out}
 use Rattle.zq_machine.proofs.Hats.{AreHatsOf, bare}
 use Rattle.zq_machine.proofs.Joining.{home, in_faces, in_hat, in_names, left_in_faces, left_in_hat, left_in_names, own}
@@ -66,13 +66,13 @@ stand q gates faces hats names = standing_of (gate_at q gates) (at q faces) (nam
 
 whole : (q : ℕ) (o : OpenFace) (n : FaceKeys) (f : FaceState) (gates : Gates) (faces : List (ℕ × OpenFace)) (hats : List (ℕ × HatState)) (names : NamingState)
     → at q faces ≡ Some o → naming_at q names ≡ Some n → kept_by q hats (Some o) ≡ Some f
-    → stand q gates faces hats names ≡ Some (record { opened = o; space = space_of (gate_at q gates); denied = denied_by (gate_at q gates); numbers = n.numbers; kept = f })
+    → stand q gates faces hats names ≡ Some (record { opened = o; space = space_of (gate_at q gates); denied = denied_by (gate_at q gates); unasked = unasked_by (gate_at q gates); numbers = n.numbers; kept = f })
 whole q o n f gates faces hats names o_at n_at f_at = λ j. standing_of (gate_at q gates) (o_at j) (n_at j) ((ap (kept_by q hats) o_at ∙ f_at) j)
 
--- what stands by the namespace and the denied keys of the gate alone
-abbrev seen_by : Option (List ℕ) → List (List ℕ) → Option OpenFace → Option FaceKeys → Option FaceState → Option Standing
-seen_by space denied (Some o) (Some n) (Some f) = Some (record { opened = o; space = space; denied = denied; numbers = n.numbers; kept = f })
-seen_by space denied o n f = None
+-- what stands by the namespace and the deny lists of the gate alone
+abbrev seen_by : Option (List ℕ) → List (List ℕ) → List (List ℕ) → Option OpenFace → Option FaceKeys → Option FaceState → Option Standing
+seen_by space denied unasked (Some o) (Some n) (Some f) = Some (record { opened = o; space = space; denied = denied; unasked = unasked; numbers = n.numbers; kept = f })
+seen_by space denied unasked o n f = None
 
 -- ---- one hat is changed
 module _ (place : Region) (first : HatState) (g : HatState → HatState) (hats : List (ℕ × HatState)) (here : hat_at place hats ≡ Some first) where
@@ -109,7 +109,7 @@ module _ (gates : Gates) (faces : List (ℕ × OpenFace)) (hats : List (ℕ × H
   kept_is = ap (option_and_then (face_at face)) its_hat.1 ∙ its_kept.1
 
   abbrev pub before : Standing
-  before = record { opened = o; space = space_of (gate_at face gates); denied = denied_by (gate_at face gates); numbers = its_keys.0.numbers; kept = its_kept.0 }
+  before = record { opened = o; space = space_of (gate_at face gates); denied = denied_by (gate_at face gates); unasked = unasked_by (gate_at face gates); numbers = its_keys.0.numbers; kept = its_kept.0 }
 
   pub stands_so : stand face gates faces hats names ≡ Some before
   stands_so = whole face o its_keys.0 its_kept.0 gates faces hats names seen its_keys.1 kept_is
@@ -183,7 +183,7 @@ module _ (config : Settings) (gates : Gates) (next : ℕ) (gated : Gated gates n
           (in_faces faces hats names t n o absent has n ∙ ap (λ b. cond b (Some (opened o)) (at n faces)) (itself n))
           (in_names faces hats names t n o absent has n ∙ ap (λ b. cond b (Some no_keys) (naming_at n names)) (itself n))
           kept_new)
-          ∙ (λ j. Some (record (newly_opened told n o) { space = (ap space_of gate_here ∙ space_for o) j; denied = (ap denied_by gate_here ∙ denied_for o) j }))
+          ∙ (λ j. Some (record (newly_opened told n o) { space = (ap space_of gate_here ∙ space_for o) j; denied = (ap denied_by gate_here ∙ denied_for o) j; unasked = (ap unasked_by gate_here ∙ unasked_for o) j }))
 
       others : is_at (nat_cmp n) q ≡ false → now q ≡ stand q gates faces hats names
       others e = λ j. standing_of ((gates_are q ∙ ap (λ b. cond b (gate_for o) (gate_at q gates)) (sym (number_test n q) ∙ e)) j) (faces_same j) ((in_names faces hats names t n o absent has q ∙ ap (λ b. cond b (Some no_keys) (naming_at q names)) e) j) (kept_old j)
@@ -509,7 +509,7 @@ module _ (config : Settings) (q : ℕ) (s : State) (i : InOrder config s) where
   call_stands c =
       by_granted (λ t z. standing_at q z ≡ standing_after config q c t (standing_at q s)) s (read s c)
       (λ text z w it.
-      (λ j. seen_by (space_left q text z.handed w.gates j) (denied_left q text z.handed w.gates j) (at q w.core.faces) (naming_at q w.names) (kept_at q w.core))
+      (λ j. seen_by (space_left q text z.handed w.gates j) (denied_left q text z.handed w.gates j) (unasked_left q text z.handed w.gates j) (at q w.core.faces) (naming_at q w.names) (kept_at q w.core))
       ∙ it
       ∙ (λ j. cond (is_accepted z.outcome) (option_map (λ st. sym (fold_out text (heard_at q) (λ x h left. refl) z.handed w.gates st) j) (accepted_at config q c z.outcome (standing_at q s))) (standing_at q s)))
       (λ p places z w it.

@@ -1,8 +1,11 @@
--- What leaves stays within: each namespace is plain, at every point of every run.
-use Rattle.std.proofs.Common.{refl, sym, subst, ℕ, Bool, true, false, cond, List, [], ◌∷◌, ◌++◌, map, Option, Some, None}
+-- What leaves is what is handed but for its expression, and stays within: each namespace is plain, at every point of every run.
+use Rattle.std.proofs.Common.{◌≡◌, refl, sym, subst, ℕ, Bool, true, false, cond, List, [], ◌∷◌, ◌++◌, map, Option, Some, None}
 use Rattle.std.specs.Option.{option_map}
+use Rattle.zq_message.specs.declared.message.Declare.{Declare}
+use Rattle.zq_message.specs.declared.message.DeclareBody.TheVariants as body
 use Rattle.zq_message.specs.declared.message.Message.{Message}
-use Rattle.zq_namespace.specs.Denied.{IsPlainSpace, denies, space_leaves}
+use Rattle.zq_message.specs.declared.message.Message.TheVariants as message
+use Rattle.zq_namespace.specs.Denied.{IsPlainSpace, MuxState, denies, mux_leaves, space_leaves}
 use Rattle.zq_namespace.specs.Leaves.{ExitState}
 use Rattle.zq_namespace.proofs.Within.{leaves-within, stays-in}
 use Rattle.zq_query.specs.declared.records.Final.{Final}
@@ -18,7 +21,9 @@ use Rattle.zq_machine.specs.TextCalls.{read}
 use Rattle.zq_machine.specs.Within.{AllStay, IsInSpace, StaysAt}
 use Rattle.zq_machine.specs.Writing.{final_message, finish, sent_final, unsent}
 use Rattle.zq_machine.proofs.Agreed.{InOrder, granted_in_order}
+use Rattle.zq_machine.proofs.GoingOut.{final_leaves}
 use Rattle.zq_machine.proofs.Granted.{by_out, told_by}
+use Rattle.zq_machine.proofs.LettingOut.{ends_leave, exit_lets, space_rest}
 use Rattle.zq_machine.proofs.Spaces.{ArePlain, plain_given}
 use Rattle.zq_machine.proofs.Tells.{followed}
 use Rattle.zq_machine.proofs.Writing.{fully}
@@ -30,28 +35,34 @@ space_stays None plain m b = tt
 space_stays (Some e) plain m true = λ text says key. tt
 space_stays (Some e) plain m false = leaves-within e m plain
 
+-- the end of declarations leaves by every exit
+ends_out : (s : MuxState) (text : List ℕ) (m : Message) (d : Declare) → m ≡ message.Declare d → d.body ≡ body.DeclareFinal → mux_leaves s text m ≡ Some m
+ends_out s text m d is ends = subst (λ x. mux_leaves s text x ≡ Some x) (sym is) (ends_leave s.space d ends)
+
 -- and what leaves by a gate stays behind it
 stays_at : (o : Option Gate) → IsPlainSpace (space_of o) → (text : List ℕ) (m : Message) → StaysAt o text m (leaves_by o text m)
 stays_at None plain text m = refl
-stays_at (Some g) plain text m = record { within = space_stays g.exit.space plain m (denies g.exit.exit text m); denied = stays-in g.exit text m }
+stays_at (Some g) plain text m = record {
+  within = space_stays g.exit.space plain m (denies g.exit.exit text m);
+  denied = stays-in g.exit text m;
+  lets = exit_lets g.exit.space plain g.exit.exit text m;
+  rest = space_rest g.exit.space m (denies g.exit.exit text m);
+  finals = λ f is. subst (λ x. mux_leaves g.exit text x ≡ Some x) (sym is) (final_leaves (Some g) text f);
+  ends = ends_out g.exit text m;
+}
 
--- a final says no key
-final_stays : (o : Option Gate) (text : List ℕ) (f : Final) → StaysAt o text (final_message f) (Some (final_message f))
-final_stays None text f = refl
-final_stays (Some g) text f = record { within = space g.exit.space; denied = λ k r is there on. absurd (cc) }
-  where
-    space : (o : Option ExitState) → IsInSpace o (final_message f) (Some (final_message f))
-    space None = tt
-    space (Some e) = λ key says is. absurd (cc)
+-- a final leaves
+final_stays : (o : Option Gate) → IsPlainSpace (space_of o) → (text : List ℕ) (f : Final) → StaysAt o text (final_message f) (Some (final_message f))
+final_stays o plain text f = subst (StaysAt o text (final_message f)) (final_leaves o text (record { rid = f.id; qos = f.qos })) (stays_at o plain text (final_message f))
 
 -- ---- messages
 module _ (text : List ℕ) (fs : List Final) where
-  finals_stay : (gs : List Final) (gates : Gates) → AllStay text (map sent_final gs) gates
-  finals_stay [] gates = tt
-  finals_stay (f ∷ gs) gates = (final_stays (gate_at f.asker.0 gates) text f, finals_stay gs gates)
+  finals_stay : (gs : List Final) (gates : Gates) → ArePlain gates → AllStay text (map sent_final gs) gates
+  finals_stay [] gates plain = tt
+  finals_stay (f ∷ gs) gates plain = (final_stays (gate_at f.asker.0 gates) (plain f.asker.0) text f, finals_stay gs gates plain)
 
   all_stay : (hs : List Handed) (gates : Gates) → ArePlain gates → AllStay text ((let_out text hs gates).handed ++ map sent_final fs) gates
-  all_stay [] gates plain = finals_stay fs gates
+  all_stay [] gates plain = finals_stay fs gates plain
   all_stay (h ∷ hs) gates plain =
       let k = through text gates h in
       (stays_at (gate_at h.to.0 gates) (plain h.to.0) text h.message, all_stay hs (with_given k gates) (plain_given k gates plain))

@@ -8,22 +8,21 @@ use Rattle.std.specs.Option.{is_some, option_map}
 use Rattle.zq_message.specs.declared.message.FaceId.{FaceId}
 use Rattle.zq_message.specs.declared.message.Region.{Region}
 use Rattle.zq_message.specs.declared.message.Request.{Request}
-use Rattle.zq_query.specs.Asking.{after_ask, lacks_number}
+use Rattle.zq_query.specs.Asking.{lacks_number}
 use Rattle.zq_tables.specs.declared.said.Said.{Said}
 use Rattle.zq_machine.specs.declared.face.OpenFace.{OpenFace}
-use Rattle.zq_machine.specs.Selecting.{full_text, select_for, target_of}
+use Rattle.zq_machine.specs.Selecting.{select_for, target_of}
 use Rattle.zq_key.proofs.Naturals.{map-map}
 use Rattle.zq_query.specs.declared.records.Final.{Final}
 use Rattle.zq_query.specs.Polling.{timeouts, lacks_replies}
 use Rattle.zq_tables.specs.Naming.{NamingState}
 use Rattle.zq_machine.specs.Handing.{Handed}
-use Rattle.zq_machine.specs.declared.call.Outcome.TheVariants as outcome
 use Rattle.zq_machine.specs.declared.call.Refusal.TheVariants as refusal
 use Rattle.zq_machine.specs.declared.call.Step.{Step}
 use Rattle.zq_machine.specs.Messages.{Decided, text_final}
 use Rattle.zq_machine.specs.State.{Core, State, at, face_region, region_in}
 use Rattle.zq_machine.specs.TextCalls.{TextCall, asking, closing, passing}
-use Rattle.zq_machine.specs.Deciding.{answered, deadline, decide, granted, handed_requests, handed_timeouts, is_accepted, passing_finals, refusal_of, told_of, with_queries}
+use Rattle.zq_machine.specs.Deciding.{answered, decide, granted, is_accepted, refusal_of, told_of}
 use Rattle.zq_machine.specs.Machine.{accepted_state, answer, asked_text, follow, going_out, handing, settle, telling}
 use Rattle.zq_machine.specs.Writing.{Place, Told, finish, is_unsent, sent_final, tell, unsent, without_unsent, write, written}
 use Rattle.zq_machine.specs.Gates.{leave_all, let_out}
@@ -126,21 +125,9 @@ settles_granted s t none fits accepts =
     ∙ (λ j. with_told (after_decided s t (granted s.core t)) (tell (after_decided s t (granted s.core t)).core (none j) (after_decided s t (granted s.core t)).names))
     ∙ ap (λ b. cond b (accepted_state s t) s) accepts
 
--- a moment that has come ends no request of an open asker
-poll_fits : (s : State) (now : ℕ) → lacks_replies (timeouts now s.core.queries) s.core.queries ≡ false → refusal_of s.core (passing now) ≡ None
+-- a moment that has come is refused where numbers of replies are lacking, and by nothing else
+pub poll_fits : (s : State) (now : ℕ) → lacks_replies (timeouts now s.core.queries) s.core.queries ≡ false → refusal_of s.core (passing now) ≡ None
 poll_fits s now fits = ap (λ b. cond b (Some refusal.NoFreeId) None) fits
-
-pub polled : (s : State) (now : ℕ) (handed : List Handed) → lacks_replies (timeouts now s.core.queries) s.core.queries ≡ false → passing_finals now s.core.queries ≡ []
-    → handed ≡ write s.names (handed_timeouts s.core.faces (timeouts now s.core.queries))
-    → ◌≡◌ {A = Step} (record { outcome = outcome.Done; handed = handed }) (plain_answer s (passing now))
-polled s now handed fits none told =
-    answers_granted s (passing now) handed refl (poll_fits s now fits)
-    (told
-    ∙ ap (write s.names) (sym (append-nil (handed_timeouts s.core.faces (timeouts now s.core.queries))))
-    ∙ ap (λ fs. write s.names (handed_timeouts s.core.faces (timeouts now s.core.queries) ++ map text_final fs)) (sym none))
-
-pub polled_after : (s : State) (now : ℕ) → lacks_replies (timeouts now s.core.queries) s.core.queries ≡ false → plain_settle s (passing now) ≡ accepted_state s (passing now)
-polled_after s now fits = settles_granted s (passing now) refl (poll_fits s now fits) refl
 
 -- an open face is closed
 pub close_fits : (s : State) (face : FaceId) (r : Region) → face_region face.0 s.core ≡ Some r → refusal_of s.core (closing face) ≡ None
@@ -150,20 +137,9 @@ close_fits s face r there = by (at face.0 s.core.faces) there
     by None e = absurd (cc)
     by (Some o) e = refl
 
--- an open face asks
-module _ (s : State) (face : FaceId) (sd : Said) (r : Request) (now : ℕ) (opened : OpenFace) (there : at face.0 s.core.faces ≡ Some opened) (fits : lacks_number (map target_of (select_for s.core face sd r (Some opened))) s.core.queries ≡ false) where
-  ask_fits : refusal_of s.core (asking face sd r now) ≡ None
-  ask_fits =
-      ap (λ o. cond (not (is_some o)) (Some refusal.UnknownFace) (cond (lacks_number (map target_of (select_for s.core face sd r o)) s.core.queries) (Some refusal.NoFreeId) None)) there
-      ∙ ap (λ b. cond b (Some refusal.NoFreeId) None) fits
-
-  pub asked_step : (handed : List Handed) → handed ≡ write s.names (handed_requests s.core.queries face (full_text sd) r (select_for s.core face sd r (Some opened)))
-      → ◌≡◌ {A = Step} (record { outcome = outcome.Asked s.core.queries.requests; handed = handed }) (plain_answer s (asking face sd r now))
-  asked_step handed told =
-      answers_granted s (asking face sd r now) handed refl ask_fits
-      (told ∙ ap (λ o. write s.names (handed_requests s.core.queries face (full_text sd) r (select_for s.core face sd r o))) (sym there))
-
-  pub asked_after : plain_settle s (asking face sd r now) ≡ record { core = with_queries s.core (after_ask face r.id r.qos (map target_of (select_for s.core face sd r (Some opened))) (deadline s.core r.timeout now) s.core.queries); names = s.names; gates = s.gates }
-  asked_after =
-      settles_granted s (asking face sd r now) refl ask_fits refl
-      ∙ ap (λ o. record { core = with_queries s.core (after_ask face r.id r.qos (map target_of (select_for s.core face sd r o)) (deadline s.core r.timeout now) s.core.queries); names = s.names; gates = s.gates }) there
+-- an open face asks, and its targets have ids
+pub ask_fits : (s : State) (face : FaceId) (sd : Said) (r : Request) (now : ℕ) (opened : OpenFace) → at face.0 s.core.faces ≡ Some opened → lacks_number (map target_of (select_for s.core face sd r (Some opened))) s.core.queries ≡ false
+    → refusal_of s.core (asking face sd r now) ≡ None
+ask_fits s face sd r now opened there fits =
+    ap (λ o. cond (not (is_some o)) (Some refusal.UnknownFace) (cond (lacks_number (map target_of (select_for s.core face sd r o)) s.core.queries) (Some refusal.NoFreeId) None)) there
+    ∙ ap (λ b. cond b (Some refusal.NoFreeId) None) fits

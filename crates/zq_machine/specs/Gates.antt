@@ -66,6 +66,10 @@ space_of g = option_and_then (λ (g : Gate). space_in g.exit) g
 abbrev pub denied_by : Option Gate → List (List ℕ)
 denied_by g = option_map_or (λ (g : Gate). g.entry) g []
 
+-- the keys that a face is not asked for, by its gate
+abbrev pub unasked_by : Option Gate → List (List ℕ)
+unasked_by g = option_map_or (λ (g : Gate). g.exit.exit) g []
+
 -- an expression as it is read: behind the namespace of the face that sends it
 abbrev pub entered_by : Option (List ℕ) → WireExpr → WireExpr
 entered_by None w = w

@@ -37,6 +37,7 @@ use Rattle.zq_machine.specs.Agreeing.{Agrees}
 use Rattle.zq_machine.specs.Standing.{asking_in, first_routed, listed_in, routed_at, routed_in, standing_at, standing_in}
 use Rattle.zq_machine.specs.Hearing.{hear}
 use Rattle.zq_machine.specs.Leaving.{gate_in}
+use Rattle.zq_machine.specs.Behind.{IsBarred, SaysPromise}
 use Rattle.zq_machine.specs.Within.{AllStay}
 use Rattle.zq_machine.specs.Direct.{AreDirect}
 use Rattle.zq_machine.specs.Children.{ChildPromise}
@@ -76,11 +77,15 @@ HandsEach s text r (o ∷ os) (h ∷ hs) = HandsOn s text r o h × HandsEach s t
 abbrev pub none_leaves : List Handed → Bool
 none_leaves hs = list_all (λ (h : Handed). is_none h.leaves) hs
 
+-- the final of a request that is asked next, to its asker
+abbrev pub own_final : State → FaceId → Request → Handed
+own_final s face r = sent_final (record { number = s.core.queries.requests; asker = face; id = r.id; qos = r.qos })
+
 -- one request for each offer, in their order; and where none of them leaves, as where there is no offer, the asker's final behind them
 pub record HandsRequest (s : State) (face : FaceId) (text : List ℕ) (r : Request) (os : List QueryTargetQabl) (handed : List Handed) : Type 0 where
   pub requests : List Handed
   pub each : HandsEach s text r os requests
-  pub all : handed ≡ requests ++ (if none_leaves requests then sent_final (record { number = s.core.queries.requests; asker = face; id = r.id; qos = r.qos }) ∷ [] else [])
+  pub all : handed ≡ requests ++ (if none_leaves requests then own_final s face r ∷ [] else [])
 
 -- the message is a request
 abbrev pub is_request : Message → Bool
@@ -103,6 +108,11 @@ RequestPromise s (call.Request face r now) t =
     × HandsRequest s face (full_text (asked_said face r s)) r (select s.core face (asked_said face r s) r) t.handed
     × (list_any (is_own face) (select s.core face (asked_said face r s) r) ≡ false)
 RequestPromise s c t = list_any asks t.handed ≡ false
+
+-- a request on what its face may not ask for hands no request, and the asker's final comes at once
+abbrev pub DenyPromise : State → Call → Step → Type 0
+DenyPromise s (call.Request face r now) t = IsBarred s face r → (list_any asks t.handed ≡ false) × (is_accepted t.outcome ≡ true → t.handed ≡ own_final s face r ∷ [])
+DenyPromise s c t = Unit {0}
 
 -- ---- replies
 
@@ -229,7 +239,7 @@ is_of_request h = not (declares h)
 abbrev pub LeavePromise : State → Call → Type 0
 LeavePromise s c = leave_all (asked_text (read s c)) (step s c).handed (follow s (read s c)).gates ≡ record { handed = (step s c).handed; gates = (after s c).gates }
 
--- what leaves to a face in a namespace says nothing outside it, and to no face leaves a request on a key that its exit denies
+-- what leaves of each message is as its face's namespace and its exit's deny list have it: the message but for its expression, which the namespace is taken off, and no request on a key that is denied; what has a number is read by what the number stands for, which need not be under the namespace
 abbrev pub WithinPromise : State → Call → Type 0
 WithinPromise s c = AllStay (asked_text (read s c)) (step s c).handed (follow s (read s c)).gates
 
@@ -244,7 +254,9 @@ RefusesBy None s c = is_accepted (step s c).outcome ≡ true
 
 -- what one call promises, at any point of a run; its declarations stand behind its messages of requests, whose finals stand by number
 pub record KeepsPromises (s : State) (c : Call) : Type 0 where
+  pub says : SaysPromise s
   pub requests : RequestPromise s c (step s c)
+  pub denies : DenyPromise s c (step s c)
   pub replies : ReplyPromise s c (step s c)
   pub waits : is_accepted (step s c).outcome ≡ true → Waits (ends_entry c) (lands c) (until s c) s.core.queries.records (after s c).core.queries.records (step s c).handed
   pub finals : (n : ℕ) → FinalPromise n s c

@@ -19,6 +19,7 @@ pub mod Waiting
 pub mod Asked
 pub mod Standing
 pub mod Leaving
+pub mod Behind
 pub mod Within
 pub mod Children
 pub mod Keeping

@@ -37,14 +37,15 @@ use Rattle.zq_interests.specs.declared.types.InterestEntry.{InterestEntry}
 use Rattle.zq_interests.specs.Interests.{Asked}
 use Rattle.zq_machine.specs.Selecting.{asked_by, full_text}
 use Rattle.zq_machine.specs.Configs.{Settings}
-use Rattle.zq_machine.specs.Gates.{Gate, denied_by, entered_by, gate_at, space_of}
+use Rattle.zq_machine.specs.Gates.{Gate, denied_by, entered_by, gate_at, space_of, unasked_by}
 use Rattle.zq_machine.specs.State.{Core, State, at, first_hats, hat_at, hat_of, is_routing}
 
--- what stands of an open face: how it was opened, with its namespace if it has one and the keys that it may not ask for, the numbers that stand for keys there, and what its region's hat keeps of it
+-- what stands of an open face: how it was opened, with its namespace if it has one, the keys that it may not ask for and those that it is not asked for, the numbers that stand for keys there, and what its region's hat keeps of it
 pub record Standing : Type 0 where
   pub opened : OpenFace
   pub space : Option (List ℕ)
   pub denied : List (List ℕ)
+  pub unasked : List (List ℕ)
   pub numbers : FaceNaming
   pub kept : FaceState
 
@@ -52,7 +53,7 @@ pub record Standing : Type 0 where
 
 -- a face that was just opened: it has no numbers, and has declared nothing
 abbrev pub newly_opened : (told face : ℕ) → Opening → Standing
-newly_opened told face o = record { opened = opened o; space = o.namespace; denied = o.entry_deny; numbers = no_names; kept = new_face (seat face o) told }
+newly_opened told face o = record { opened = opened o; space = o.namespace; denied = o.entry_deny; unasked = o.exit_deny; numbers = no_names; kept = new_face (seat face o) told }
 
 -- the answer opens the face
 abbrev pub opens : ℕ → Outcome → Bool
@@ -242,7 +243,7 @@ kept_at face c = option_and_then (face_at face) (hat_of face c)
 
 -- what stands of a face by its gate, if it has one, and its three parts, where all are there
 abbrev pub standing_of : Option Gate → Option OpenFace → Option FaceKeys → Option FaceState → Option Standing
-standing_of g (Some o) (Some n) (Some f) = Some (record { opened = o; space = space_of g; denied = denied_by g; numbers = n.numbers; kept = f })
+standing_of g (Some o) (Some n) (Some f) = Some (record { opened = o; space = space_of g; denied = denied_by g; unasked = unasked_by g; numbers = n.numbers; kept = f })
 standing_of g o n f = None
 
 -- what the gateway has of the face

@@ -13,7 +13,7 @@ use Rattle.zq_message.specs.declared.message.DeclareBody.TheVariants as declare
 use Rattle.zq_message.specs.declared.message.Message.{Message}
 use Rattle.zq_message.specs.declared.message.Message.TheVariants as message
 
--- an expression without a number goes behind the namespace; what has a number is behind it already
+-- an expression without a number goes behind the namespace; what has a number is read by what the number stands for, which need not be under the namespace
 abbrev pub entered : List ℕ → WireExpr → WireExpr
 entered n w = if w.scope == 0 then record w { suffix = prefixed n w.suffix } else w
 

@@ -36,7 +36,7 @@ abbrev pub headed_out : List ℕ → WireExpr → Option (List ℕ) → Option W
 headed_out n w None = Some w
 headed_out n w (Some head) = if length w.suffix == 0 then None else text_out n w (head ++ w.suffix)
 
--- what leaves in place of an expression; the numbers of the one who is handed it are behind the namespace
+-- what leaves in place of an expression; one with a number that its receiver declared leaves as it is, whatever the number stands for
 unfoldable pub wire_out : List ℕ → Heads → WireExpr → Option WireExpr
 wire_out n heads w =
     if w.scope == 0 then text_out n w w.suffix

@@ -43,7 +43,7 @@ pub record IsWithin (n text : List ℕ) (w : WireExpr) : Type 0 where
   pub within : includes text (behind n w.suffix) ≡ true
   pub whole : is_plain text ≡ true → text ≡ behind n w.suffix
 
--- what leaves of a message on a key says a part of the key, which is under the namespace
+-- of a message whose text the exit knows, where that is a key, what leaves says a part of the key that is under the namespace
 abbrev pub StaysWithin : ExitState → Message → Option Message → Type 0
 StaysWithin s m left = (text : List ℕ) → text_of s.heads m ≡ Some text → is_key text ≡ true → IfSome left (λ v. IsSomeAnd (expr_of v) (IsWithin s.ns text))
 

@@ -9,7 +9,8 @@ use Rattle.zq_machine.specs.Messages.{text_final}
 use Rattle.zq_machine.specs.State.{State}
 use Rattle.zq_machine.specs.TextCalls.{passing}
 use Rattle.zq_machine.specs.Writing.{write}
-use Rattle.zq_calls.proofs.Quiet.{need_no_text, passing_asks, passing_fits, quiet_goes, quiet_stays, timeouts_ask}
+use Rattle.zq_machine.proofs.Writing.{poll_fits}
+use Rattle.zq_calls.proofs.Quiet.{need_no_text, passing_asks, quiet_goes, quiet_stays, timeouts_ask}
 use Rattle.zq_calls.proofs.tables.Tables.pass.Goals as goal
 
 pub let_out-requires-clause-keys : goal.let_out-requires-clause-keys
@@ -33,9 +34,9 @@ returns c =
     let goes = c.in_ok-handed-2.ensures.out ∙ (λ j. map (through [] (v j).gates) (all j)) in
     let queries = c.in_ok-poll_planned.ensures.after ∙ ap (λ (x : State). after_poll c.args.now x.core.queries) v in
     record {
-      step = ap (λ hs. record { outcome = outcome.Done; handed = hs }) goes ∙ quiet_goes s t refl (passing_asks c.args.now) (passing_fits s c.args.now fits);
+      step = ap (λ hs. record { outcome = outcome.Done; handed = hs }) goes ∙ quiet_goes s t refl (passing_asks c.args.now) (poll_fits s c.args.now fits);
       after =
           (λ j. record { core = with_queries (v j).core (queries j); names = (v j).names; gates = (c.in_ok-handed-2.ensures.same ∙ ap (λ (x : State). x.gates) v) j })
-          ∙ sym (quiet_stays s t refl (passing_asks c.args.now) (passing_fits s c.args.now fits));
+          ∙ sym (quiet_stays s t refl (passing_asks c.args.now) (poll_fits s c.args.now fits));
       err = tt;
     }
