@@ -6,6 +6,8 @@ mod hold;
 #[cfg(test)]
 mod key;
 #[cfg(test)]
+mod namespace;
+#[cfg(test)]
 mod regions;
 #[cfg(test)]
 mod rows;

@@ -3,7 +3,7 @@ use std::alloc::Global;
 use zq_gateway::gateway::Gateway;
 use zq_key::memory::OutOfMemory;
 use zq_key::message::{Mode, Region, Zid};
-use zq_machine::config::{BadConfig, Config, ConfigRefusal, Entry};
+use zq_machine::config::{BadConfig, Config, ConfigRefusal, Counters, Entry};
 
 fn refusal(alloc: Global, entries: &[Entry]) -> Option<BadConfig> {
     match Config::new(alloc, Zid(1), entries, 10_000, FIRST) {
@@ -33,6 +33,15 @@ fn bad_configurations(rt: HostRuntime) {
     }
 }
 
+// Whether no number was given yet.
+fn are_first(counters: &Counters) -> bool {
+    counters.faces == 0
+        && counters.requests == 0
+        && counters.replies == 0
+        && counters.told == 0
+        && counters.request_ids == 0
+}
+
 // Whether a configuration, and its gateway, have what it was made of.
 fn has_all(alloc: Global) -> Result<bool, OutOfMemory> {
     let config = config(alloc)?;
@@ -43,7 +52,7 @@ fn has_all(alloc: Global) -> Result<bool, OutOfMemory> {
             && config.has_local()
             && config.has_region(Region::North)
             && config.timeout() == 10_000
-            && *config.counters() == FIRST
+            && are_first(config.counters())
             && gateway.zid() == Zid(1)
             && gateway.north() == Mode::Client,
     )

@@ -16,7 +16,7 @@ use zq_machine::call::{Call, Outcome, Step, StepList};
 use zq_prints::steps::print_steps;
 
 /// What faces say: who says it, and the line of its call, if it makes one.
-const SAID: [(u32, &str); 8] = [
+const SAID: [(u32, &str); 10] = [
     (0, "key 0 1 0:s:k"),
     (0, "queryable 0 1 0:s:k c 0 0"),
     (1, "interest 1 5 - n"),
@@ -24,6 +24,8 @@ const SAID: [(u32, &str); 8] = [
     (0, "reply 0 1 0:s:k ok yo"),
     (0, "final 0 1"),
     (0, "finalize 0 initial 1"),
+    (0, "unqueryable 0 1 - 0"),
+    (0, "unkey 0 1"),
     (0, ""),
 ];
 
@@ -84,6 +86,8 @@ fn message(alloc: Global, at: usize) -> Result<Message, OutOfMemory> {
         4 => response(alloc),
         5 => Ok(Message::ResponseFinal(ResponseFinal { rid: 1, qos: 0 })),
         6 => Ok(declare(Some(0), DeclareBody::DeclareFinal)),
+        7 => Ok(declare(None, DeclareBody::UndeclareQueryable { id: 1, wire: None })),
+        8 => Ok(declare(None, DeclareBody::UndeclareKeyExpr { id: 1 })),
         _ => Ok(declare(Some(1), DeclareBody::DeclareFinal)),
     }
 }
@@ -170,6 +174,9 @@ const PRINT: &str = "= done\n\
      > 1 0 0 response 7 0:s:k 0 ok yo -\n\
      = done\n\
      = done\n\
+     = done\n\
+     > 1 - - unqueryable 1 - 0\n\
+     = done\n\
      = done\n";
 
 fn is_print(print: Result<Bytes, OutOfMemory>, wanted: &str) -> bool {
@@ -194,7 +201,7 @@ fn messages_are_calls(rt: HostRuntime) {
 #[test]
 fn what_answers_all_alike(rt: HostRuntime) {
     let print = sent(rt.alloc(), &mut DummyPrimitives::new(rt.alloc()));
-    let done = "= done\n= done\n= done\n= done\n= done\n= done\n= done\n= done\n";
+    let done = "= done\n= done\n= done\n= done\n= done\n= done\n= done\n= done\n= done\n= done\n";
     assert!(rt; is_print(print, done));
 }
 
