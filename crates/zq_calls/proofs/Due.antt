@@ -60,7 +60,7 @@ use Rattle.zq_machine.specs.Selecting.{full_text, is_unscoped, says_key}
 use Rattle.zq_handing.specs.Reading.{key_refusal}
 use Rattle.zq_handing.specs.Telling.{behind}
 use Rattle.zq_handing.specs.Neighbours.{told_with}
-use Rattle.zq_calls.specs.Gone.{AreOut}
+use Rattle.zq_outgoing.specs.Gone.{AreOut}
 use Rattle.zq_calls.specs.Making.{IsReached}
 use Rattle.zq_calls.proofs.GoneOut.{IsAway, finals_away, told_to_faces}
 use Rattle.zq_calls.proofs.Beside.{IsBeside, changed_after, left_beside, released_beside, told_beside}

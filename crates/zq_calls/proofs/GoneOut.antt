@@ -31,7 +31,7 @@ use Rattle.zq_machine.proofs.Ungated.{quiet_answer, quiet_settle}
 use Rattle.zq_machine.proofs.Writing.{gated, gone_out, plain_answer, plain_settle}
 use Rattle.zq_gates.specs.Exits.{left_by}
 use Rattle.zq_gates.specs.declared.exits.Exit.{Exit}
-use Rattle.zq_calls.specs.Gone.{AreOut, IsTold}
+use Rattle.zq_outgoing.specs.Gone.{AreOut, IsTold}
 use Rattle.zq_calls.specs.Routing.{entering}
 use Rattle.zq_calls.proofs.Beside.{found_beside, written_beside}
 

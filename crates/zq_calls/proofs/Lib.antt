@@ -12,4 +12,3 @@ pub mod Reached
 pub mod Requesting
 pub mod Saying
 pub mod Seated
-pub mod Unsent

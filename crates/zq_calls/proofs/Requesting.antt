@@ -31,7 +31,7 @@ use Rattle.zq_machine.proofs.Sending.{all_away, finals_of_unsent}
 use Rattle.zq_machine.proofs.Ungated.{plain_goes, plain_leaves}
 use Rattle.zq_machine.proofs.Writing.{ask_fits}
 use Rattle.zq_calls.specs.Requesting.{asked_out, requests_out}
-use Rattle.zq_calls.proofs.Unsent.{unsent-append}
+use Rattle.zq_outgoing.proofs.Unsent.{unsent-append}
 
 -- what is left once the entries at places are let go one after another
 abbrev pub without_all : List Place → Core → Core

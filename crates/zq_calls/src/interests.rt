@@ -1,31 +1,25 @@
 //! What faces ask to hear.
-ghost use Rattle.std.specs.Prelude.{◌≡◌, None, Some, IfErr, IfOk, OnErr, OnOk};
-ghost use Rattle.std.specs.List.{AllByRecursion};
+ghost use Rattle.std.specs.Prelude.{◌≡◌, None, Some, IfErr, IfOk};
 ghost use Rattle.std.specs.Option.{option_copied, option_map};
-ghost use Rattle.zq_interests.specs.Interests.{with_interest};
 ghost use Rattle.zq_machine.specs.declared.call.Call.TheVariants as call;
 ghost use Rattle.zq_machine.specs.Selecting.{full_text};
 ghost use Rattle.zq_machine.specs.TextCalls.{hearing, unhearing};
 ghost use Rattle.zq_handing.specs.Neighbours.{is_fresh};
 ghost use Rattle.zq_calls.specs.Asking.{asking_refusal};
-ghost use Rattle.zq_calls.specs.Gone.{AreOut, IsTold};
 ghost use Rattle.zq_calls.specs.Making.{IsReached, Performs, Settles};
 
-use crate::gone::let_told_out;
 use crate::tables::Tables;
 use std::alloc::Global;
 use zq_dues::asked::{dues_asked, dues_ended};
-use zq_gates::{Exit, FaceGates};
 use zq_handing::answers::{hold_and_answer, plan_end, take_back_answered};
 use zq_handing::read::key_said;
-use zq_interests::interests::Interests;
 use zq_interests::numbers::WithInterest;
 use zq_interests::types::InterestEntry;
 use zq_key::Key;
 use zq_key::memory::OutOfMemory;
 use zq_key::message::{FaceId, WireExpr};
 use zq_machine::call::{Refusal, Step};
-use zq_machine::handed::HandedList;
+use zq_outgoing::ask_told;
 use zq_tables::said::Said;
 use zq_told::types::TellRefusal;
 
@@ -44,32 +38,6 @@ fn key_asked(
     match key_said(alloc, said)? {
         Ok(key) => Ok(Ok(Some(key))),
         Err(refusal) => Ok(Err(refusal)),
-    }
-}
-
-// What an interest is answered goes through the gates, and the interest is put in place.
-fn ask_told(
-    alloc: Global,
-    gates: &mut FaceGates,
-    interests: &mut Interests,
-    told: &HandedList,
-    face: FaceId,
-    id: u32,
-    entry: InterestEntry,
-) -> Result<Vec<Exit>, OutOfMemory>
-    requires { AllByRecursion IsTold told.now }
-    ensures out { IfOk result (λ es. AreOut gates.old told.now gates.new es.items) }
-    ensures ok { OnOk result (interests.new ≡ with_interest face.0 id entry interests.old) }
-    ensures no_gates { OnErr result (gates.new ≡ gates.old) }
-    ensures no_interests { OnErr result (interests.new ≡ interests.old) }
-{
-    let exits = let_told_out(gates, told)?;
-    match interests.put(alloc, face, id, entry) {
-        Ok(()) => Ok(exits),
-        Err(error) => {
-            gates.take_back(told.as_slice(), exits);
-            Err(error)
-        }
     }
 }
 

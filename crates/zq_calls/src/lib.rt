@@ -3,7 +3,6 @@
 //!
 //! - `tables`: what a gateway keeps, and a call by its kind
 //! - `faces`: faces that come and go
-//! - `gone`: what a call tells goes through the gates of faces
 //! - `interests`: what faces ask to hear
 //! - `keys`: numbers that faces declare for keys
 //! - `leaving`: messages of requests, replies and finals go out through the gates of their faces
@@ -16,7 +15,6 @@
 #![tactic(auto)]
 
 mod faces;
-mod gone;
 mod interests;
 mod keys;
 mod leaving;

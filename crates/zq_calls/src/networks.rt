@@ -1,9 +1,7 @@
 //! Networks of regions of routers, and what the node numbers of faces stand for.
-ghost use Rattle.std.specs.Prelude.{◌≡◌};
 ghost use Rattle.zq_machine.specs.TextCalls.{networking, tabling};
 ghost use Rattle.zq_calls.specs.Making.{IsReached, Settles};
 
-use crate::gone::let_told_out;
 use crate::tables::Tables;
 use zq_dues::changes::dues_on_all;
 use zq_dues::types::HatChange;
@@ -13,6 +11,7 @@ use zq_key::items::Items;
 use zq_key::memory::OutOfMemory;
 use zq_key::message::{FaceId, Region};
 use zq_machine::call::{Refusal, Step};
+use zq_outgoing::let_told_out;
 use zq_own::hats;
 use zq_own::networks::{tell_losses, tree_tellings};
 use zq_told::types::TellRefusal;

@@ -1,88 +1,22 @@
 //! Queryables that faces declare and withdraw, and marks of what they have declared.
-ghost use Rattle.std.specs.Prelude.{◌≡◌, true, Some, IfOk, OnErr, OnOk};
-ghost use Rattle.std.specs.List.{AllByRecursion};
-ghost use Rattle.zq_hat.specs.Kept.{registered, unregistered};
+ghost use Rattle.std.specs.Prelude.{Some};
 ghost use Rattle.zq_machine.specs.declared.call.Call.TheVariants as call;
-ghost use Rattle.zq_machine.specs.State.{change_hat};
 ghost use Rattle.zq_machine.specs.TextCalls.{declaring, finalizing, withdrawing};
-ghost use Rattle.zq_own.specs.Seats.{seats};
-ghost use Rattle.zq_calls.specs.Gone.{AreOut, IsTold};
 ghost use Rattle.zq_calls.specs.Making.{IsReached, Performs, Settles};
 
-use crate::gone::let_told_out;
 use crate::tables::Tables;
 use zq_dues::changes::gather;
-use zq_gates::{Exit, FaceGates};
 use zq_handing::neighbours::{hold_and_tell, take_back, take_back_held, tell_all};
 use zq_handing::read::{key_said, marks_key};
-use zq_hat::hat::Hat;
 use zq_hat::types::{Change, FinalMark};
-use zq_key::Key;
 use zq_key::items::Items;
 use zq_key::memory::OutOfMemory;
-use zq_key::message::{FaceId, QueryableInfoType, Region, WireExpr};
+use zq_key::message::{FaceId, QueryableInfoType, WireExpr};
 use zq_machine::call::{Refusal, Step};
-use zq_machine::handed::HandedList;
+use zq_outgoing::{register_told, withdraw_told};
 use zq_own::hats;
-use zq_tables::RegionMap;
 use zq_tables::said::Said;
 use zq_told::types::TellRefusal;
-
-// What a declaration tells goes through the gates, and its queryable is registered.
-fn register_told(
-    gates: &mut FaceGates,
-    hats: &mut RegionMap<Hat>,
-    told: &HandedList,
-    region: Region,
-    face: FaceId,
-    id: u32,
-    key: &Key,
-    node: u16,
-    info: QueryableInfoType,
-) -> Result<Vec<Exit>, OutOfMemory>
-    requires told { AllByRecursion IsTold told.now }
-    requires seated { seats region face.0 hats.old ≡ Some true }
-    ensures out { IfOk result (λ es. AreOut gates.old told.now gates.new es.items) }
-    ensures ok { OnOk result (hats.new ≡ change_hat region (registered face.0 id key.now node info) hats.old) }
-    ensures no_gates { OnErr result (gates.new ≡ gates.old) }
-    ensures no_hats { OnErr result (hats.new ≡ hats.old) }
-{
-    let exits = let_told_out(gates, told)?;
-    match hats::register(hats, region, face, id, key, node, info) {
-        Ok(()) => Ok(exits),
-        Err(_) => {
-            gates.take_back(told.as_slice(), exits);
-            Err(OutOfMemory)
-        }
-    }
-}
-
-// What a withdrawal tells goes through the gates, and its queryable is let go.
-fn withdraw_told(
-    gates: &mut FaceGates,
-    hats: &mut RegionMap<Hat>,
-    told: &HandedList,
-    region: Region,
-    face: FaceId,
-    id: u32,
-    node: u16,
-) -> Result<Vec<Exit>, OutOfMemory>
-    requires told { AllByRecursion IsTold told.now }
-    requires seated { seats region face.0 hats.old ≡ Some true }
-    ensures out { IfOk result (λ es. AreOut gates.old told.now gates.new es.items) }
-    ensures ok { OnOk result (hats.new ≡ change_hat region (unregistered face.0 id) hats.old) }
-    ensures no_gates { OnErr result (gates.new ≡ gates.old) }
-    ensures no_hats { OnErr result (hats.new ≡ hats.old) }
-{
-    let exits = let_told_out(gates, told)?;
-    match hats::withdraw(hats, region, face, id, node) {
-        Ok(()) => Ok(exits),
-        Err(_) => {
-            gates.take_back(told.as_slice(), exits);
-            Err(OutOfMemory)
-        }
-    }
-}
 
 impl Tables {
     // A face declares a queryable.

@@ -9,7 +9,7 @@ ghost use Rattle.zq_calls.specs.Making.{IsReached, Settles};
 ghost use Rattle.zq_calls.specs.Requesting.{asked_out};
 ghost use Rattle.zq_own.specs.Seats.{seats};
 
-use crate::leaving::{let_go_unsent, let_out, with_final};
+use crate::leaving::{let_out, with_final};
 use crate::tables::Tables;
 use zq_handing::read::{full_text, into_text, says_key};
 use zq_handing::select::{Asker, targets_of};
@@ -20,6 +20,7 @@ use zq_key::message::{FaceId, Request};
 use zq_machine::call::{Outcome, Refusal, Step};
 use zq_machine::face::OpenFace;
 use zq_machine::handed::HandedList;
+use zq_outgoing::let_go_unsent;
 use zq_own::hats;
 use zq_query::records::{AskRefusal, Final};
 use zq_tables::said::Said;

@@ -1,59 +1,23 @@
 //! What routers announce and retract.
-ghost use Rattle.std.specs.Prelude.{◌≡◌, true, IfOk, OnErr, OnOk};
-ghost use Rattle.std.specs.List.{AllByRecursion};
-ghost use Rattle.std.specs.Option.{is_some};
-ghost use Rattle.zq_machine.specs.State.{change_hat, hat_at};
+ghost use Rattle.std.specs.Prelude.{◌≡◌, true};
+ghost use Rattle.zq_machine.specs.State.{hat_at};
 ghost use Rattle.zq_machine.specs.TextCalls.{by_router};
-ghost use Rattle.zq_own.specs.Routers.{entered};
-ghost use Rattle.zq_calls.specs.Gone.{AreOut, IsTold};
 ghost use Rattle.zq_calls.specs.Making.{IsReached, Settles};
 ghost use Rattle.zq_calls.specs.Routing.{entering};
 
-use crate::gone::let_told_out;
 use crate::tables::Tables;
 use zq_dues::changes::dues_on;
-use zq_gates::{Exit, FaceGates};
 use zq_handing::neighbours::{take_back, tell_all};
 use zq_handing::read::key_said;
-use zq_hat::hat::Hat;
-use zq_key::Key;
 use zq_key::items::Items;
 use zq_key::memory::OutOfMemory;
-use zq_key::message::{FaceId, NodeId, QueryableInfoType, Region, Zid};
+use zq_key::message::{FaceId, NodeId, QueryableInfoType};
 use zq_machine::call::{Refusal, Step};
-use zq_machine::handed::HandedList;
+use zq_outgoing::put_entry_told;
 use zq_own::hats;
-use zq_own::routers::{entry_change, entry_tellings, lacks_entry, put_entry, router_of};
-use zq_tables::RegionMap;
+use zq_own::routers::{entry_change, entry_tellings, lacks_entry, router_of};
 use zq_tables::said::Said;
 use zq_told::types::TellRefusal;
-
-// What a change of an entry tells goes through the gates, and the entry is changed.
-fn put_entry_told(
-    gates: &mut FaceGates,
-    hats: &mut RegionMap<Hat>,
-    told: &HandedList,
-    region: Region,
-    router: Zid,
-    key: &Key,
-    info: Option<QueryableInfoType>,
-) -> Result<Vec<Exit>, OutOfMemory>
-    requires told { AllByRecursion IsTold told.now }
-    requires there { is_some (hat_at region hats.old) ≡ true }
-    ensures out { IfOk result (λ es. AreOut gates.old told.now gates.new es.items) }
-    ensures ok { OnOk result (hats.new ≡ change_hat region (entered router key.now info) hats.old) }
-    ensures no_gates { OnErr result (gates.new ≡ gates.old) }
-    ensures no_hats { OnErr result (hats.new ≡ hats.old) }
-{
-    let exits = let_told_out(gates, told)?;
-    match put_entry(hats, region, router, key, info) {
-        Ok(()) => Ok(exits),
-        Err(error) => {
-            gates.take_back(told.as_slice(), exits);
-            Err(error)
-        }
-    }
-}
 
 impl Tables {
     // Whether the face's region is one of routers.

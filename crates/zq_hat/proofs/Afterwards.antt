@@ -27,8 +27,9 @@ use Rattle.zq_trees.specs.Entries.{staying}
 use Rattle.zq_trees.specs.Nets.{is_listed}
 use Rattle.zq_trees.proofs.Dropping.{keys_filtered}
 use Rattle.zq_hat.specs.declared.types.Declaration.{Declaration}
-use Rattle.zq_hat.specs.declared.types.Leaving.{Leaving}
-use Rattle.zq_hat.specs.Fellows.{is_left_in, is_other, with_fellow}
+use Rattle.zq_offers.specs.declared.merges.Leaving.{Leaving}
+use Rattle.zq_offers.specs.Merges.{is_left_in, is_other}
+use Rattle.zq_hat.specs.Fellows.{with_fellow}
 use Rattle.zq_hat.specs.Kept.{at_id, declaration, declare, faces_info, info, with_face, withdraw}
 use Rattle.zq_hat.specs.declared.types.Strategy.{Strategy}
 use Rattle.zq_hat.specs.declared.types.Strategy.TheVariants as strategy

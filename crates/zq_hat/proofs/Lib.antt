@@ -6,7 +6,6 @@ pub mod Keeping
 pub mod Turns
 pub mod Marking
 pub mod Afterwards
-pub mod KeysAdded
 pub mod OfferLaws
 pub mod RoutersMoved
 pub mod OffersMoved

@@ -30,12 +30,11 @@ use crate::face::HatFace;
 use crate::faces::{
     add_numbers, changed, copy_faces, declare, forget, set_mark, set_nodes, take_seat, withdraw,
 };
-use crate::merges::{add_texts, is_other, merged_but};
 use crate::offers;
 use crate::strategy::{same_region, strategy_of};
 use crate::types::{
-    Change, FaceRecord, FinalMark, HatRefusal, Leaving, NodeIds, OfferList, QueryTargetQabl,
-    Strategy, TellingList, UnregisterEntityResult, ZidList,
+    Change, FaceRecord, FinalMark, HatRefusal, NodeIds, OfferList, QueryTargetQabl, Strategy,
+    TellingList, UnregisterEntityResult, ZidList,
 };
 use std::alloc::Global;
 use std::collections::{BTreeMap, BTreeSet};
@@ -50,6 +49,7 @@ use zq_key::message::{
 };
 use zq_key::text::Text;
 use zq_offers::groups::FaceOffers;
+use zq_offers::merges::{Leaving, add_texts, is_other, merged_but};
 use zq_offers::routers::RouterOffers;
 use zq_offers::texts::add_met_texts;
 use zq_offers::walk::offers_for;
@@ -654,17 +654,11 @@ impl Hat {
     {
         match self.strategy() {
             Strategy::Broker | Strategy::Client | Strategy::Peer => Ok(false),
-            Strategy::Router => self.own_gives(net),
+            Strategy::Router => {
+                let gives = gives(self.alloc, &self.net, net, &self.seats, self.own)?;
+                Ok(gives)
+            }
         }
-    }
-
-    /// The same where the region is one of routers.
-    fn own_gives(&self, net: &Net) -> Result<bool, OutOfMemory>
-        requires { strategy_at self.now ≡ Strategy.Router }
-        ensures { IfOk result (λ gives. gives ≡ any_gives (λ zid. face_with zid self.now.faces) self.now.network net.now self.now.own net.now.nodes net.now.trees) }
-    {
-        let gives = gives(self.alloc, &self.net, net, &self.seats, self.own)?;
-        Ok(gives)
     }
 
     /// What a network hands in a region of routers, before it is put in place, by the gateway's own
@@ -678,25 +672,19 @@ impl Hat {
     {
         match self.strategy() {
             Strategy::Broker | Strategy::Client | Strategy::Peer => Ok(Items::new(self.alloc)),
-            Strategy::Router => self.routers_told(net, own),
+            Strategy::Router => {
+                let change = NetworkChange {
+                    before: &self.net,
+                    net,
+                    seats: &self.seats,
+                    own: self.own,
+                    own_entries: own,
+                    entries: &self.entries,
+                };
+                let tellings = change.tellings(self.alloc)?;
+                Ok(tellings)
+            }
         }
-    }
-
-    /// The same where the region is one of routers.
-    fn routers_told(&self, net: &Net, own: &StandingList) -> Result<TellingList, OutOfMemory>
-        requires { strategy_at self.now ≡ Strategy.Router }
-        ensures { IfOk result (λ ts. ts ≡ network_told own.now self.now.network (networked net.now self.now)) }
-    {
-        let change = NetworkChange {
-            before: &self.net,
-            net,
-            seats: &self.seats,
-            own: self.own,
-            own_entries: own,
-            entries: &self.entries,
-        };
-        let tellings = change.tellings(self.alloc)?;
-        Ok(tellings)
     }
 
     /// The keys that the faces declared join the texts.

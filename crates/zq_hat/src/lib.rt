@@ -4,7 +4,6 @@
 //! - `strategy`: how a region keeps and offers queryables
 //! - `face`: what one face declared
 //! - `faces`: the faces of a hat, their seats and their declarations in the index
-//! - `merges`: the keys of declarations, and what these would say, merged, after a change
 //! - `offers`: what a region offers for the key of a request
 //! - `hat`: the hat of one region
 //!
@@ -14,7 +13,6 @@
 pub mod face;
 mod faces;
 pub mod hat;
-mod merges;
 mod offers;
 pub mod strategy;
 pub mod types;

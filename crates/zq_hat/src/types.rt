@@ -104,10 +104,3 @@ pub enum Change {
     /// A network is put in place.
     Networked(Net),
 }
-
-/// What is left out of the declarations of a face: that of an id, or all.
-#[derive(Clone, Copy)]
-pub struct Leaving {
-    pub face: FaceId,
-    pub id: Option<u32>,
-}

@@ -23,6 +23,10 @@ pub record Settings : Type 0 where
   pub timeout : ℕ
   pub start : Counters
 
+-- the counters of a gateway that gave no number yet
+abbrev pub no_counts : Counters
+no_counts = record { faces = 0; requests = 0; replies = 0; told = 0; request_ids = 0 }
+
 -- the region of an entry
 abbrev pub region_of : Entry → Region
 region_of (entry.North mode) = region.North

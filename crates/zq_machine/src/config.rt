@@ -15,7 +15,7 @@ pub const SOUTH_IDS: u32 = 255;
 
 /// The numbers that a gateway begins with: the next face, request and reply, and the id last told
 /// and last given to each new face. All are 0 by default.
-#[derive(Clone, Copy, Debug, Default, PartialEq, Eq)]
+#[derive(Clone, Copy, Default)]
 pub struct Counters {
     pub faces: u32,
     pub requests: u64,

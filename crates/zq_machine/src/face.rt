@@ -2,7 +2,7 @@
 use zq_key::message::{Bound, Mode, Region, Zid};
 
 /// How an open face was opened.
-#[derive(Clone, Copy, Debug, PartialEq, Eq)]
+#[derive(Clone, Copy)]
 pub struct OpenFace {
     pub region: Region,
     pub zid: Zid,

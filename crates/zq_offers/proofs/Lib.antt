@@ -1,3 +1,4 @@
 pub mod Folds
 pub mod Gathering
 pub mod Walking
+pub mod KeysAdded

@@ -1,3 +1,4 @@
+pub mod Merges
 pub mod Met
 pub mod Offers
 pub mod Routed

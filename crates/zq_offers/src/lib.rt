@@ -1,6 +1,7 @@
 //! What is offered for a request, and in which order.
 //!
 //! - `types`: offers of faces
+//! - `merges`: the keys of declarations, and what these say, merged, but for what is left out
 //! - `order`: offers in order
 //! - `met`: a search for the declared keys that meet one that is asked for
 //! - `texts`: the texts of those
@@ -10,6 +11,7 @@
 #![tactic(auto)]
 
 pub mod groups;
+pub mod merges;
 pub mod met;
 pub mod order;
 pub mod routers;

@@ -2,5 +2,4 @@ pub mod Parts
 pub mod Fitting
 pub mod Promised
 pub mod Printed
-pub mod Loaded
 pub mod Completed

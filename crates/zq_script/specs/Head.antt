@@ -9,7 +9,7 @@ use Rattle.zq_machine.specs.declared.config.Counters.{Counters}
 use Rattle.zq_machine.specs.declared.config.Entry.{Entry}
 use Rattle.zq_machine.specs.declared.config.Entry.TheVariants as entry
 use Rattle.zq_machine.specs.declared.config.BadConfig.{BadConfig}
-use Rattle.zq_machine.specs.Configs.{Settings, bad_config}
+use Rattle.zq_machine.specs.Configs.{Settings, bad_config, no_counts}
 use Rattle.zq_words.specs.Words.{◌>>=◌, len_to, cut, pieces, number, read_at, read_each, at_end}
 use Rattle.zq_words.specs.Values.{most_32, most_64, zid_of, mode_of, behind, region_of}
 
@@ -65,10 +65,6 @@ after_name name line = behind name (take (len_to 32 line) line, drop (len_to 32 
 -- the line `start`
 unfoldable pub start_of : List ℕ → Option Counters
 start_of line = after_name (codes "start") line >>= counters_of
-
--- a gateway that gave no number yet
-abbrev pub no_counts : Counters
-no_counts = record { faces = 0; requests = 0; replies = 0; told = 0; request_ids = 0 }
 
 -- the line `config`: the own id, the default timeout and the entries
 unfoldable pub config_of : List ℕ → Option (Zid × ℕ × List Entry)

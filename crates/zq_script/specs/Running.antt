@@ -8,7 +8,7 @@ use Rattle.zq_machine.specs.Machine.{steps}
 use Rattle.zq_streams.specs.declared.transfer.TheConstants.{LIMIT}
 use Rattle.zq_streams.specs.Streams.{AppendsPrefix}
 use Rattle.zq_words.specs.Words.{◌>>=◌, number}
-use Rattle.zq_script.specs.Load.{load_line}
+use Rattle.zq_load.specs.Load.{load_line}
 use Rattle.zq_lines.specs.Split.{lines_of}
 use Rattle.zq_script.specs.Script.{script_of}
 use Rattle.zq_prints.specs.Steps.{steps_words}

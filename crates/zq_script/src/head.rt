@@ -1,11 +1,11 @@
 //! The lines before the calls: the configuration, and the counters.
-ghost use Rattle.std.specs.Prelude.{◌≡◌, ◌≤◌, ◌+◌, ◌++◌, IfOk, IfSome, MatchOption, MatchResult, OnOk, Ok, length};
+ghost use Rattle.std.specs.Prelude.{◌≡◌, ◌≤◌, ◌+◌, ◌++◌, IfOk, MatchResult, OnOk, Ok, length};
 ghost use Rattle.std.specs.Option.{option_map};
 ghost use Rattle.std.specs.Result.{result_map_both};
 ghost use Rattle.zq_words.specs.Words.{Reads};
 ghost use Rattle.zq_lines.specs.Split.{lines_of};
 ghost use Rattle.zq_script.specs.Script.{Gives, Refuses};
-ghost use Rattle.zq_script.specs.Head.{ended, entry_of, north_of, south_entry, entries_of, counters_of, after_name, start_of, config_of, start_at, no_counts, configured, head_of};
+ghost use Rattle.zq_script.specs.Head.{ended, entry_of, north_of, south_entry, entries_of, counters_of, after_name, start_of, config_of, start_at, configured, head_of};
 
 use crate::refusal::{ScriptRefusal, at_line};
 use std::alloc::Global;

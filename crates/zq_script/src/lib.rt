@@ -4,15 +4,13 @@
 //! - `script`: a whole script: its head, and its calls in parts.
 //! - `refusal`: why bytes are no script.
 //! - `printing`: the print of a script, made while its lines are read.
-//! - `load`: the generated load, and what is counted of it.
 //! - `run`: reads a script from a source, and gives the print of its steps to a sink.
 //!
-//! Words stand in `zq_words`, streams in `zq_streams`, the lines of calls in `zq_lines`, and the print
+//! The generated load stands in `zq_load`, words in `zq_words`, streams in `zq_streams`, the lines of calls in `zq_lines`, and the print
 //! of steps in `zq_prints`; what users of scripts need of them is passed on here.
 #![tactic(auto)]
 
 pub mod head;
-mod load;
 mod printing;
 pub mod refusal;
 pub mod run;

@@ -1,5 +1,5 @@
 //! The call that runs a script.
-ghost use Rattle.std.specs.Prelude.{◌≡◌, ◌≢◌, ◌↔◌, ◌≤◌, ◌^◌, ◌<◌, ◌++◌, ◌∷◌, [], ◌⊎◌, IfOk, IfSome, None, OnOk, OnErr, codes, length, true, false};
+ghost use Rattle.std.specs.Prelude.{◌≡◌, ◌≢◌, ◌↔◌, ◌≤◌, ◌<◌, ◌++◌, ◌∷◌, [], ◌⊎◌, IfOk, IfSome, None, codes, length, false};
 ghost use Rattle.std.specs.Fmt.{decimal};
 ghost use Rattle.std.specs.Io.KnownBytes.{IsAtEnd};
 ghost use Rattle.zq_machine.specs.Headline.{RunPromise};
@@ -9,12 +9,12 @@ ghost use Rattle.zq_lines.specs.Split.{lines_of};
 ghost use Rattle.zq_script.specs.Script.{script_of};
 ghost use Rattle.zq_script.specs.Running.{amount_of, command_of, load_of, first_part, print_of, EndsWell, IsFit, IsReplay, ReadsBack, IsEnd, Leaves, LeavesLoad, wrote, status_code};
 
-use crate::load::print_load;
 use crate::printing::print_script;
 use crate::refusal::ScriptRefusal;
 use std::alloc::Global;
 use zq_key::memory::OutOfMemory;
 use zq_key::text::{Bytes, Text};
+use zq_load::print_load;
 use zq_streams::streams::{Sink, Source};
 use zq_streams::transfer::{ReadRefusal, read_all, write_all};
 use zq_words::words::{number, push_number, push_text};

@@ -24,7 +24,7 @@ use Rattle.zq_calls.specs.Asking.{asking_refusal}
 use Rattle.zq_calls.proofs.Asking.{asked_answered, asked_asks, asked_keys, asked_lacks, asked_left, asked_settled, hearing_fits, hearing_lacks, looked}
 use Rattle.zq_calls.proofs.Due.{refused_answered, refused_left}
 use Rattle.zq_calls.proofs.GoneOut.{each_told, goes_out, stays_out}
-use Rattle.zq_calls.specs.Gone.{IsTold}
+use Rattle.zq_outgoing.specs.Gone.{IsTold}
 use Rattle.zq_machine.proofs.Asks.{is_asking}
 use Rattle.zq_calls.proofs.tables.Tables.ask_to_hear.Goals as goal
 

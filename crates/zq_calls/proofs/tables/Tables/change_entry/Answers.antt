@@ -27,7 +27,7 @@ use Rattle.zq_machine.specs.Neighbours.{looked_over}
 use Rattle.zq_machine.specs.State.{Core, State, change_hat, face_region, hat_at, is_open}
 use Rattle.zq_machine.specs.Trees.{own_told_on}
 use Rattle.zq_machine.specs.Writing.{Told, tell}
-use Rattle.zq_calls.specs.Gone.{IsTold}
+use Rattle.zq_outgoing.specs.Gone.{IsTold}
 use Rattle.zq_handing.specs.Neighbours.{told_with}
 use Rattle.zq_handing.specs.Telling.{behind, untold}
 use Rattle.zq_handing.specs.Reading.{key_refusal}

@@ -30,7 +30,7 @@ use Rattle.zq_handing.specs.Telling.{behind}
 use Rattle.zq_calls.proofs.Seated.{reached_in_place}
 use Rattle.zq_machine.proofs.Asks.{is_asking}
 use Rattle.zq_gates.specs.Exits.{left_by, without_gate}
-use Rattle.zq_calls.specs.Gone.{IsTold}
+use Rattle.zq_outgoing.specs.Gone.{IsTold}
 use Rattle.zq_calls.specs.Making.{IsReached}
 use Rattle.zq_calls.proofs.Due.{Gathers, changed_home, closed_answered, closed_left, closed_out, closing_gathers, due_of_keys, gathered_due, gathered_lacks, gathered_left}
 use Rattle.zq_calls.proofs.Reached.{reached_enough}

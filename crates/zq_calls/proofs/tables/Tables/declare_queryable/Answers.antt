@@ -21,7 +21,7 @@ use Rattle.zq_machine.specs.TextCalls.{declaring}
 use Rattle.zq_machine.specs.Trees.{own_told_on}
 use Rattle.zq_machine.specs.Writing.{Told, tell}
 use Rattle.zq_machine.proofs.Asks.{is_asking}
-use Rattle.zq_calls.specs.Gone.{IsTold}
+use Rattle.zq_outgoing.specs.Gone.{IsTold}
 use Rattle.zq_handing.specs.Neighbours.{taken_back, told_with}
 use Rattle.zq_handing.specs.Reading.{key_refusal}
 use Rattle.zq_handing.specs.Telling.{behind}

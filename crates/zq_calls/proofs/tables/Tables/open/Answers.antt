@@ -31,7 +31,7 @@ use Rattle.zq_handing.specs.Neighbours.{told_with}
 use Rattle.zq_handing.specs.Telling.{behind}
 use Rattle.zq_calls.proofs.Seated.{reached_unasked}
 use Rattle.zq_machine.proofs.Asks.{is_asking}
-use Rattle.zq_calls.specs.Gone.{IsTold}
+use Rattle.zq_outgoing.specs.Gone.{IsTold}
 use Rattle.zq_calls.specs.Making.{IsReached}
 use Rattle.zq_calls.proofs.Due.{Gathers, due_of_keys, gathered_due, gathered_lacks, gathered_left, refused_answered, refused_left}
 use Rattle.zq_calls.proofs.Openings.{opening_answered, opening_fits, opening_gathers, opening_lacks, opening_left, reached_ungated}

@@ -28,7 +28,7 @@ use Rattle.zq_handing.specs.Neighbours.{told_with}
 use Rattle.zq_handing.specs.Telling.{behind, untold}
 use Rattle.zq_calls.proofs.Seated.{each_of, reached_in_place}
 use Rattle.zq_machine.proofs.Asks.{is_asking}
-use Rattle.zq_calls.specs.Gone.{IsTold}
+use Rattle.zq_outgoing.specs.Gone.{IsTold}
 use Rattle.zq_calls.specs.Making.{IsReached}
 use Rattle.zq_calls.proofs.Due.{Gathers, due_of_keys, gathered_due, gathered_lacks, gathered_left, told_answered, told_left}
 use Rattle.zq_calls.proofs.Networked.{network_fits, network_gathers, network_keys}

@@ -15,7 +15,7 @@ use Rattle.zq_machine.specs.State.{Core, State, change_hat, face_region, hat_at}
 use Rattle.zq_machine.specs.TextCalls.{withdrawing}
 use Rattle.zq_machine.specs.Writing.{Told, tell}
 use Rattle.zq_machine.proofs.Asks.{is_asking}
-use Rattle.zq_calls.specs.Gone.{IsTold}
+use Rattle.zq_outgoing.specs.Gone.{IsTold}
 use Rattle.zq_handing.specs.Neighbours.{told_with}
 use Rattle.zq_handing.specs.Telling.{behind}
 use Rattle.zq_calls.proofs.Seated.{reached_in_place}

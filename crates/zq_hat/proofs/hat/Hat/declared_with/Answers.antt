@@ -2,7 +2,8 @@ use Rattle.std.proofs.Common.{◌≡◌, ◌∙◌, refl, ap, sym, Some, Bool, t
 use Rattle.std.specs.Prelude.{◌&&◌}
 use Rattle.std.specs.Option.{is_some}
 use Rattle.zq_index.specs.Infos.{joined}
-use Rattle.zq_hat.specs.Fellows.{info_but, is_other}
+use Rattle.zq_offers.specs.Merges.{is_other}
+use Rattle.zq_hat.specs.Fellows.{info_but}
 use Rattle.zq_hat.specs.Kept.{at_id, change_face, declare}
 use Rattle.zq_hat.specs.State.{HatState}
 use Rattle.zq_hat.proofs.Afterwards.{declared_aside, declared_with}
