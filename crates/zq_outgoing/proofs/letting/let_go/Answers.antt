@@ -3,7 +3,7 @@ use Rattle.std.specs.Prelude.{is_none}
 use Rattle.zq_query.specs.Records.{QueryState, letting_go_all}
 use Rattle.zq_machine.specs.Writing.{Place}
 use Rattle.zq_outgoing.proofs.Unsent.{its_place, no_longer}
-use Rattle.zq_outgoing.proofs.unsent.let_go.Goals as goal
+use Rattle.zq_outgoing.proofs.letting.let_go.Goals as goal
 
 pub returns-in-Request : goal.returns-in-Request
 returns-in-Request c standing =

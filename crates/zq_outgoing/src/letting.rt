@@ -1,4 +1,4 @@
-//! Requests of which nothing leaves.
+//! Requests of which nothing leaves are let go.
 ghost use Rattle.std.specs.Prelude.{◌≡◌, ◌∷◌, [], false, is_none};
 ghost use Rattle.zq_query.specs.Records.{any_over, letting_go_all};
 ghost use Rattle.zq_machine.specs.Headline.{none_leaves};

@@ -4,7 +4,7 @@ use Rattle.zq_query.specs.Records.{QueryState, Record, any_over, letting_go_all}
 use Rattle.zq_machine.specs.Handing.{Handed}
 use Rattle.zq_machine.specs.Writing.{unsent}
 use Rattle.zq_outgoing.proofs.Unsent.{none_over, one_more}
-use Rattle.zq_outgoing.proofs.unsent.let_go_unsent.Goals as goal
+use Rattle.zq_outgoing.proofs.letting.let_go_unsent.Goals as goal
 
 pub loop-message-preserved : goal.loop-message-preserved
 loop-message-preserved c standing =
