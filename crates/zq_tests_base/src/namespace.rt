@@ -1,12 +1,11 @@
 use std::alloc::Global;
 use std::test::Fail;
 use zq_given::wire;
-use zq_key::items::Items;
 use zq_key::memory::OutOfMemory;
 use zq_key::message::{Message, QueryTarget, Request};
 use zq_key::text::Bytes;
 use zq_key::{Key, is_plain};
-use zq_namespace::{ENamespace, Mux, Namespace};
+use zq_namespace::{ENamespace, Namespace};
 
 // A request on a text.
 fn asking(alloc: Global, text: &str) -> Result<Message, OutOfMemory> {
@@ -51,17 +50,5 @@ fn enters_and_leaves(rt: HostRuntime) -> Result<(), Fail> {
     let outside = exit.leave(&asking(alloc, "acme/y/b")?)?;
     assert!(rt; entered.suffix.as_str() == "acme/x/a/*");
     assert!(rt; asks(&inside, "b") && outside.is_none());
-    Ok(())
-}
-
-#[test]
-fn denied_stays(rt: HostRuntime) -> Result<(), Fail> {
-    let alloc = rt.alloc();
-    let mut denied = Items::new(alloc);
-    denied.push(key(alloc, "k/*")?)?;
-    let mut exit = Mux::new(alloc, None, denied);
-    let kept = exit.leave("k/a", &asking(alloc, "k/a")?)?;
-    let left = exit.leave("m", &asking(alloc, "m")?)?;
-    assert!(rt; kept.is_none() && asks(&left, "m"));
     Ok(())
 }
