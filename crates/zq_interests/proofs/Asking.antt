@@ -21,7 +21,7 @@ use Rattle.zq_index.specs.Holders.{Place, place_cmp}
 use Rattle.zq_index.specs.Texts.{at_text, text_cmp}
 use Rattle.zq_index.proofs.Orders.{place_exact, place_total, text_exact, text_total}
 use Rattle.zq_interests.specs.declared.types.InterestEntry.{InterestEntry}
-use Rattle.zq_interests.specs.Interests.{Asked, Interests, askers, at, interest_at, is_asker, meets, wants}
+use Rattle.zq_interests.specs.Interests.{Asked, Interests, askers, at, interest_at, is_asker, is_met, meets}
 use Rattle.zq_interests.specs.Kept.{AreKept, Keyed, Shelf, asks_just, has_place, is_kept, is_under, met_at, met_faces, met_places, numbered, with_face}
 use Rattle.zq_interests.proofs.Keeping.{Text, same_is, same_itself}
 
@@ -163,13 +163,13 @@ module _ (key : Text) (p : Place) where
 
 -- ---- interests that ask for the key
 module _ (key : Text) where
-  any_at : (id : ℕ) (i : InterestEntry) (es : Asked) → at id es ≡ Some i → meets i.key key ≡ true → list_any (wants key) es ≡ true
+  any_at : (id : ℕ) (i : InterestEntry) (es : Asked) → at id es ≡ Some i → meets i.key key ≡ true → list_any (is_met key) es ≡ true
   any_at id i [] is met = cc
   any_at id i (e ∷ es) is met = by (is_at (nat_cmp id) e.0) is (λ more. any_at id i es more met)
     where
-      by : (b : Bool) → cond b (Some e.1) (at id es) ≡ Some i → (at id es ≡ Some i → list_any (wants key) es ≡ true) → (wants key e || list_any (wants key) es) ≡ true
-      by true is later = or_left (wants key e) (list_any (wants key) es) (ap (λ (o : Option InterestEntry). option_map_or (λ (j : InterestEntry). meets j.key key) o false) is ∙ met)
-      by false is later = or_right (wants key e) (list_any (wants key) es) (later is)
+      by : (b : Bool) → cond b (Some e.1) (at id es) ≡ Some i → (at id es ≡ Some i → list_any (is_met key) es ≡ true) → (is_met key e || list_any (is_met key) es) ≡ true
+      by true is later = or_left (is_met key e) (list_any (is_met key) es) (ap (λ (o : Option InterestEntry). option_map_or (λ (j : InterestEntry). meets j.key key) o false) is ∙ met)
+      by false is later = or_right (is_met key e) (list_any (is_met key) es) (later is)
 
   record Wanting (es : Asked) : Type 0 where
     id : ℕ
@@ -177,11 +177,11 @@ module _ (key : Text) where
     there : at id es ≡ Some interest
     met : meets interest.key key ≡ true
 
-  any_found : (es : Asked) → IsStrictlySortedBy nat_cmp (keys_of es) → list_any (wants key) es ≡ true → Wanting es
+  any_found : (es : Asked) → IsStrictlySortedBy nat_cmp (keys_of es) → list_any (is_met key) es ≡ true → Wanting es
   any_found [] s h = absurd (false≢true h)
-  any_found (e ∷ es) s h = by (wants key e) refl h (any_found es (sorted_tail nat_cmp e.0 (keys_of es) s))
+  any_found (e ∷ es) s h = by (is_met key e) refl h (any_found es (sorted_tail nat_cmp e.0 (keys_of es) s))
     where
-      by : (b : Bool) → wants key e ≡ b → (b || list_any (wants key) es) ≡ true → (list_any (wants key) es ≡ true → Wanting es) → Wanting (e ∷ es)
+      by : (b : Bool) → is_met key e ≡ b → (b || list_any (is_met key) es) ≡ true → (list_any (is_met key) es ≡ true → Wanting es) → Wanting (e ∷ es)
       by true is h later = record { id = e.0; interest = e.1; there = ap (λ b. cond b (Some e.1) (at e.0 es)) (at_itself nat_cmp_total exact_unsigned e.0); met = is }
       by false is h later =
           let w = later h in

@@ -1,7 +1,7 @@
 -- What faces ask to hear.
-use Rattle.std.specs.Prelude.{ℕ, Bool, true, false, not, ◌&&◌, List, [], map, filter, Option, Some, None}
+use Rattle.std.specs.Prelude.{ℕ, Bool, true, false, not, ◌&&◌, List, [], map, filter, Option, Some, None, if◌then◌else◌}
 use Rattle.std.specs.BTreeMap.{insert_entry, is_at}
-use Rattle.std.specs.List.{list_any}
+use Rattle.std.specs.List.{filter_map, list_any}
 use Rattle.std.specs.Map.{lookup, remove_entry, set_value}
 use Rattle.std.specs.Option.{option_map_or}
 use Rattle.std.specs.Ordering.{nat_cmp}
@@ -57,26 +57,54 @@ asks_another face id asked ints = option_map_or (λ (i : InterestEntry). not (sa
 abbrev pub meets : Option (List ℕ) → List ℕ → Bool
 meets asked key = option_map_or (λ k. intersects k key) asked true
 
--- the interest asks for the key
+-- the interest has no key, or its key meets the key
+abbrev pub is_met : List ℕ → ℕ × InterestEntry → Bool
+is_met key i = meets i.1.key key
+
+-- what is asked for has no key, or the key itself
+abbrev pub is_own : Option (List ℕ) → List ℕ → Bool
+is_own asked key = option_map_or (λ k. is_at (text_cmp k) key) asked true
+
+-- an interest asks for the key: one that is aggregating for its own alone, and each other for all that it meets
+abbrev pub asked_for : InterestEntry → List ℕ → Bool
+asked_for i key = if i.aggregate then is_own i.key key else meets i.key key
+
+-- so does one under an id
 abbrev pub wants : List ℕ → ℕ × InterestEntry → Bool
-wants key i = meets i.1.key key
+wants key i = asked_for i.1 key
 
 -- an interest of the face asks for the key
 abbrev pub asks_for : ℕ → List ℕ → Interests → Bool
 asks_for face key ints = list_any (wants key) (interests_of face ints)
 
--- the interest asks for the key, and numbers may be declared for keys
+-- the key of an aggregating interest; one without a key counts as not aggregating
+abbrev pub own_key : InterestEntry → Option (List ℕ)
+own_key i = if i.aggregate then i.key else None
+
+-- the interest is aggregating, and the key is its own
+abbrev pub wants_folded : List ℕ → ℕ × InterestEntry → Bool
+wants_folded key i = option_map_or (λ k. is_at (text_cmp k) key) (own_key i.1) false
+
+-- an interest of the face asks for the key as one entry, which stands for all keys that meet it
+abbrev pub asks_folded : ℕ → List ℕ → Interests → Bool
+asks_folded face key ints = list_any (wants_folded key) (interests_of face ints)
+
+-- the keys of the face's aggregating interests
+abbrev pub own_keys : ℕ → Interests → List (List ℕ)
+own_keys face ints = filter_map (λ (i : ℕ × InterestEntry). own_key i.1) (interests_of face ints)
+
+-- the interest meets the key, and numbers may be declared for keys
 abbrev pub wants_keyed : List ℕ → ℕ × InterestEntry → Bool
-wants_keyed key i = i.1.keys && wants key i
+wants_keyed key i = i.1.keys && is_met key i
 
 -- an interest of the face does so
 abbrev pub has_keyed : ℕ → List ℕ → Interests → Bool
 has_keyed face key ints = list_any (wants_keyed key) (interests_of face ints)
 
--- the face asks for the key
+-- an interest of the face meets the key
 abbrev pub is_asker : List ℕ → ℕ × List (ℕ × InterestEntry) → Bool
-is_asker key f = list_any (wants key) f.1
+is_asker key f = list_any (is_met key) f.1
 
--- the faces that ask for the key, in order, each once
+-- the faces with an interest that meets the key, in order, each once
 abbrev pub askers : List ℕ → Interests → List FaceId
 askers key ints = map (λ f. record { 0 = f.0 }) (filter (is_asker key) ints)

@@ -9,13 +9,15 @@ ghost use Rattle.std.specs.Ordering.{nat_cmp};
 ghost use Rattle.zq_key.specs.Key.{is_key};
 ghost use Rattle.zq_index.specs.Holders.{Place};
 ghost use Rattle.zq_interests.specs.Kept.{is_kept, is_of};
-ghost use Rattle.zq_interests.specs.Interests.{at, meets, wants, wants_keyed};
+ghost use Rattle.zq_interests.specs.Interests.{asked_for, at, is_own, meets, wants, wants_keyed};
 
 use crate::shelf::Shelf;
 use crate::types::InterestEntry;
 use std::alloc::Global;
+use std::cmp::Ordering;
 use std::collections::BTreeMap;
 use std::marker::Model;
+use zq_index::text_set::compare_texts;
 use zq_key::memory::OutOfMemory;
 use zq_key::{Key, intersects};
 
@@ -44,7 +46,29 @@ pub(crate) fn meets(asked: &Option<Key>, key: &str) -> bool
     }
 }
 
-/// Whether the interest asks for the key, and numbers may be declared for keys.
+/// Whether what is asked for has no key, or the key itself.
+fn is_own(asked: &Option<Key>, key: &str) -> bool
+    ensures { result ≡ is_own asked.now key.now }
+{
+    let Some(own) = asked else {
+        return true;
+    };
+    compare_texts(own.as_str(), key) == Ordering::Equal
+}
+
+/// Whether the interest asks for the key: its own, if it is aggregating, and else each that it meets.
+fn asked_for(entry: &InterestEntry, key: &str) -> bool
+    requires { IsTrue (is_key key.now) }
+    ensures { result ≡ asked_for entry.now key.now }
+{
+    if entry.aggregate {
+        is_own(&entry.key, key)
+    } else {
+        meets(&entry.key, key)
+    }
+}
+
+/// Whether the interest meets the key, and numbers may be declared for keys.
 pub(crate) fn wants_keyed(entry: &InterestEntry, key: &str) -> bool
     requires { IsTrue (is_key key.now) }
     ensures { (id : ℕ) → result ≡ wants_keyed key.now (id, entry.now) }
@@ -58,14 +82,14 @@ fn any_wants(entries: &BTreeMap<u32, InterestEntry>, key: &str) -> bool
     ensures { result ≡ list_any (wants key.now) entries.now.entries }
 {
     for (_, entry) in entries {
-        if meets(&entry.key, key) {
+        if asked_for(entry, key) {
             return true;
         }
     }
     false
 }
 
-/// Whether one of the interests asks for the key, and numbers may be declared for keys.
+/// Whether one of the interests meets the key, and numbers may be declared for keys.
 fn any_keyed(entries: &BTreeMap<u32, InterestEntry>, key: &str) -> bool
     requires { IsTrue (is_key key.now) }
     ensures { result ≡ list_any (wants_keyed key.now) entries.now.entries }
@@ -84,14 +108,14 @@ fn any_besides(entries: &BTreeMap<u32, InterestEntry>, id: u32, key: &str) -> bo
     ensures { result ≡ list_any (wants key.now) (remove_entry (is_at (nat_cmp id)) entries.now.entries) }
 {
     for (other, entry) in entries {
-        if *other != id && meets(&entry.key, key) {
+        if *other != id && asked_for(entry, key) {
             return true;
         }
     }
     false
 }
 
-/// Whether an interest under another id asks for the key, and numbers may be declared for keys.
+/// Whether an interest under another id meets the key, and numbers may be declared for keys.
 fn any_keyed_besides(entries: &BTreeMap<u32, InterestEntry>, id: u32, key: &str) -> bool
     requires { IsTrue (is_key key.now) }
     ensures any { result ≡ list_any (wants_keyed key.now) (remove_entry (is_at (nat_cmp id)) entries.now.entries) }
@@ -178,7 +202,7 @@ impl Asked {
         any_wants(&self.entries, key)
     }
 
-    /// Whether an interest asks for the key, and numbers may be declared for keys.
+    /// Whether an interest meets the key, and numbers may be declared for keys.
     pub(crate) fn wants_keyed(&self, key: &str) -> bool
         requires { IsTrue (is_key key.now) }
         ensures { result ≡ list_any (wants_keyed key.now) self.now }

@@ -3,11 +3,14 @@ use zq_key::Key;
 use zq_key::items::Items;
 use zq_key::message::FaceId;
 
-/// An interest of a face in the queryables of others: all, or those that meet a key.
+/// An interest of a face in the queryables of others: all, or those that meet a key. Numbers may be
+/// declared for keys, or not; an aggregating one is to hear of its own key alone, as one entry that stands
+/// for all keys that meet it, if it has a key.
 #[derive(Drop)]
 pub struct InterestEntry {
     pub key: Option<Key>,
     pub keys: bool,
+    pub aggregate: bool,
 }
 
 /// Faces, in order of their numbers.

@@ -46,6 +46,7 @@ use Rattle.zq_machine.proofs.Spaces.{ArePlain, accepted_plain, left_plain}
 use Rattle.zq_machine.proofs.Hats.{AreHatsOf, accepted_hats, opening_hats}
 use Rattle.zq_machine.proofs.Foreign.{AreForeign, accepted_foreign, opening_foreign}
 use Rattle.zq_machine.proofs.Frame.{accepted_config}
+use Rattle.zq_machine.proofs.AskedKeys.{AllAskKeys, accepted_asked}
 use Rattle.zq_machine.proofs.Worded.{AreWorded, accepted_worded, opening_worded}
 use Rattle.zq_machine.proofs.Joining.{closed_tied, opened_tied}
 use Rattle.zq_machine.proofs.NewEntries.{numbered_asked}
@@ -140,6 +141,7 @@ pub record InOrder (config : Settings) (s : State) : Type 0 where
   pub numbered : InNumbers s.core.queries
   pub aims : AllAim s.core.faces s.core.queries.records
   pub worded : AreWorded s.core.hats
+  pub asked : AllAskKeys s.core.interests
   pub foreign : AreForeign s.core.config.zid s.core.hats
   pub gated : Gated s.gates s.core.next_face
   pub spaces : ArePlain s.gates
@@ -185,6 +187,7 @@ accepted_in_order config s x h i = record {
   numbered = granted_numbers s x h i.numbered;
   aims = accepted_aims config s.core s.names i.tied i.hats i.sound.sorted i.aims x;
   worded = accepted_worded s.core x h i.worded;
+  asked = accepted_asked s.core x h i.asked;
   foreign = subst (λ (z : Settings). AreForeign z.zid (accepted s.core x).hats) (sym (accepted_config s.core x)) (accepted_foreign s.core i.worded i.foreign x h);
   gated = granted_gated s x i.gated;
   spaces = accepted_plain s x h i.gated i.spaces;
@@ -203,6 +206,7 @@ stays_in_order config = record {
     numbered = i.numbered;
     aims = i.aims;
     worded = i.worded;
+    asked = i.asked;
     foreign = i.foreign;
     gated = i.gated;
     spaces = i.spaces;
@@ -214,6 +218,7 @@ stays_in_order config = record {
     numbered = i.numbered;
     aims = i.aims;
     worded = i.worded;
+    asked = i.asked;
     foreign = i.foreign;
     gated = gated_same gates (leave_all text hs gates).gates core.next_face (left_keys text hs gates) i.gated;
     spaces = left_plain text hs gates i.spaces;
@@ -225,6 +230,7 @@ stays_in_order config = record {
     numbered = numbered_let_go core.queries.records core.queries.requests core.queries.replies i.numbered (is_unsent places);
     aims = let_go_aims core.faces core.queries.records i.aims (is_unsent places);
     worded = i.worded;
+    asked = i.asked;
     foreign = i.foreign;
     gated = i.gated;
     spaces = i.spaces;
@@ -276,6 +282,7 @@ opening_in_order config = record {
   numbered = record { numbers = none_sorted; below = tt; places = λ face id. omega arith; once = tt; flights = λ reply. omega arith; flown = tt };
   aims = tt;
   worded = opening_worded config;
+  asked = tt;
   foreign = opening_foreign config;
   gated = record { sorted = none_sorted; below = λ f h. absurd (false≢true h) };
   spaces = λ q. tt;

@@ -1,52 +1,48 @@
 -- An interest, and the end of one: what receivers keep is due then.
 use Rattle.std.proofs.Common.{◌≡◌, ◌∙◌, refl, sym, ap, subst, ℕ, Bool, true, false, cond, not, List, [], ◌∷◌, filter, fold, map, Option, Some, None, true≢false}
-use Rattle.std.specs.Prelude.{◌==◌, ◌≢◌, ◌&&◌, ◌||◌, is_none}
+use Rattle.std.specs.Prelude.{◌==◌, ◌≢◌, is_none}
 use Rattle.std.specs.BTreeMap.{is_at}
 use Rattle.std.specs.List.{AllByRecursion, list_any}
-use Rattle.std.specs.Option.{is_some, option_map, option_map_or}
+use Rattle.std.specs.Option.{is_some, option_map, option_map_or, option_to_list}
 use Rattle.std.specs.Ordering.{nat_cmp}
-use Rattle.std.proofs.lemmas.List.Kept.{IsStrictlySortedBy-filter}
 use Rattle.std.proofs.lemmas.Map.Made.{is_some-lookup}
 use Rattle.std.proofs.lemmas.Option.{same_Some}
-use Rattle.std.proofs.lemmas.Slice.Eq.{bytes_eq-Decides}
 use Rattle.zq_message.specs.declared.message.FaceId.{FaceId}
 use Rattle.zq_index.specs.Texts.{text_cmp}
 use Rattle.zq_trees.specs.declared.types.Telling.{Telling as TreeTelling}
 use Rattle.zq_trees.specs.Tellings.{in_order}
 use Rattle.zq_interests.specs.declared.types.InterestEntry.{InterestEntry}
-use Rattle.zq_interests.specs.Interests.{Interests, same_asked, interest_at, interests_of, meets, with_interest, without_interest}
+use Rattle.zq_interests.specs.Interests.{Interests, same_asked, interest_at, interests_of, with_interest, without_interest}
 use Rattle.zq_told.specs.declared.types.FaceDues.{FaceDues}
 use Rattle.zq_told.specs.declared.types.Way.{Way}
 use Rattle.zq_told.specs.declared.types.Way.TheVariants.{Answering, Ending}
 use Rattle.zq_told.specs.Ears.{Ear, Ears, at_face, last_at}
 use Rattle.zq_told.specs.Laws.{InOrder as RowsInOrder, is_to, last_given, told_in}
 use Rattle.zq_told.specs.Leaving.{AreSound}
-use Rattle.zq_told.specs.Receiver.{Heard, Tied, memory_of, receive, is_left, is_over}
+use Rattle.zq_told.specs.Receiver.{Heard, Tied, memory_of, receive}
 use Rattle.zq_told.specs.Telling.{KeyDue, tell_due, tell_faces, tell_keys, with_account}
 use Rattle.zq_told.proofs.Faces.{keeps_faces}
+use Rattle.zq_told.proofs.Leaving.{answers_due}
 use Rattle.zq_told.proofs.Numbers.{ids_are_given}
 use Rattle.zq_told.proofs.Ordered.{tells_in_order}
 use Rattle.zq_tables.specs.declared.said.Said.{Said}
-use Rattle.zq_told.specs.declared.types.ToldEntry.{ToldEntry}
-use Rattle.zq_message.specs.declared.message.QueryableInfoType.{QueryableInfoType}
-use Rattle.zq_key.proofs.Lookups.{each_entry, same_key}
+use Rattle.zq_key.proofs.Lookups.{same_key}
 use Rattle.zq_index.proofs.Orders.{text_exact, text_total}
-use Rattle.std.proofs.lemmas.Cmp.{nat_cmp_total}
-use Rattle.std.proofs.lemmas.Map.Lookups.{exact_unsigned}
 use Rattle.zq_machine.specs.Deciding.{accepted, causes, refusal_of, told_of}
-use Rattle.zq_machine.specs.Due.{due, due_keys, met_keys}
+use Rattle.zq_machine.specs.Due.{asked_keys, due}
 use Rattle.zq_machine.specs.Keeping.{IsNear, greatest_with, if_told, with_told, is_due_at}
 use Rattle.zq_machine.specs.Messages.{TellingBody, all_told, from_hat, answered_by}
-use Rattle.zq_machine.specs.Neighbours.{answer_told, asked_at, asked_dues, due_on, ears_asked, with_dues, ears_ended, ended_at, ended_dues}
-use Rattle.zq_machine.specs.Receivers.{AllHear, AskingTold, Hears, heard_asked, EndingTold, heard_ended}
-use Rattle.zq_machine.specs.Selecting.{asked_by}
+use Rattle.zq_machine.specs.Neighbours.{answer_dues, answer_told, asked_at, asked_dues, due_on, ears_asked, ears_ended, ended_at, ended_dues, ended_told, with_dues}
+use Rattle.zq_machine.specs.Receivers.{AllHear, AskingTold, EndingTold, Hears, heard_asked, heard_ended, is_due_in}
+use Rattle.zq_machine.specs.Selecting.{Manner, asked_by}
 use Rattle.zq_machine.specs.State.{Core, State, at}
 use Rattle.zq_machine.specs.TextCalls.{hearing, unhearing}
 use Rattle.zq_machine.proofs.Changing.{itself, number_test, one_number}
-use Rattle.zq_machine.proofs.DueKeys.{keys_rise, either_test, is_among}
-use Rattle.zq_machine.proofs.Following.{Follows, Steps, all_heard, by_ids, marks_kept, telling_total, the_greatest, onto}
+use Rattle.zq_machine.proofs.DueInterests.{keys_rise}
+use Rattle.zq_machine.proofs.Following.{Follows, Steps, all_heard, by_ids, marks_kept, onto, telling_total, the_greatest, to_one}
 use Rattle.zq_machine.proofs.Granted.{all_passed}
-use Rattle.zq_machine.proofs.NeighbourAsked.{left_beside, ended, ended_rise, stays_by}
+use Rattle.zq_machine.proofs.NeighbourAnswers.{rows_owed}
+use Rattle.zq_machine.proofs.NeighbourAsked.{ended, ended_rise, left_beside}
 use Rattle.zq_machine.proofs.NeighbourDues.{alone_rises, keys_alone, keys_at, rows_rise}
 use Rattle.zq_machine.proofs.NeighbourLaws.{asking_keeps, ending_keeps}
 use Rattle.zq_machine.proofs.NeighbourTold.{left_here, told_here}
@@ -92,7 +88,7 @@ answer_last way ears asker rows rise ear heard there sorted tied =
     ∙ ap Some (sym (ap (fold last_given ear.last) (told_here way ears asker ear there dues (alone_rises asker rows)) ∙ (ids_are_given way asker ear (keys_at asker dues) heard sorted (subst RowsInOrder (sym (keys_alone asker rows)) rise) tied).1))
 
 -- ---- an interest
-module _ (s : State) (face : FaceId) (id : ℕ) (keys : Bool) (sd : Option Said) (h : refusal_of s.core (hearing face id keys sd) ≡ None) where
+module _ (s : State) (face : FaceId) (id : ℕ) (keys : Manner) (sd : Option Said) (h : refusal_of s.core (hearing face id keys sd) ≡ None) where
   abbrev d : Core
   d = accepted s.core (hearing face id keys sd)
 
@@ -112,7 +108,7 @@ module _ (s : State) (face : FaceId) (id : ℕ) (keys : Bool) (sd : Option Said)
   law = asking_keeps s.core s.core.interests s.core.ears face.0 id asked same
 
   rows_in_order : RowsInOrder (asked_dues s.core more face.0 asked)
-  rows_in_order = rows_rise (due s.core more face.0) (met_keys asked.key s.core) (IsStrictlySortedBy-filter text_cmp (meets asked.key) (due_keys s.core) (keys_rise s.core).all)
+  rows_in_order = rows_rise (due s.core more face.0) (asked_keys s.core more face.0 asked) ((keys_rise s.core more face.0).asked asked)
 
   ordered : in_order near ≡ near
   ordered = in_order_stays telling_total near (tells_in_order Answering s.core.ears (asked_at s.core more face.0 asked) (alone_rises face.0 (asked_dues s.core more face.0 asked)) (with_sorted face.0 (asked_dues s.core more face.0 asked) rows_in_order))
@@ -124,27 +120,36 @@ module _ (s : State) (face : FaceId) (id : ℕ) (keys : Bool) (sd : Option Said)
       ∙ all_heard f g alike n kept (in_order near)
       ∙ ap (λ l. fold g kept (filter (is_to n) l)) ordered
 
-  follows : (n : ℕ) (heard : Heard) (last : ℕ) → Follows s.core n heard last → Follows d n (fold (if_told with_told n) heard (told_of s.core (hearing face id keys sd))) (fold (if_told greatest_with n) last (told_of s.core (hearing face id keys sd)))
-  follows n heard last f = by (n == face.0) refl
+  abbrev Asks : ℕ → Heard → ℕ → Bool → Type 0
+  Asks n heard last b =
+      Follows d n (cond b (filter (is_due_at n d) (fold (if_told with_told n) heard (told_of s.core (hearing face id keys sd)))) (fold (if_told with_told n) heard (told_of s.core (hearing face id keys sd))))
+      (fold (if_told greatest_with n) last (told_of s.core (hearing face id keys sd)))
+
+  follows : (n : ℕ) (heard : Heard) (last : ℕ) → Follows s.core n heard last → Asks n heard last (face.0 == n)
+  follows n heard last f = by (face.0 == n) refl
     where
-      by : (b : Bool) → (n == face.0) ≡ b → Follows d n (fold (if_told with_told n) heard (told_of s.core (hearing face id keys sd))) (fold (if_told greatest_with n) last (told_of s.core (hearing face id keys sd)))
+      by : (b : Bool) → (face.0 == n) ≡ b → Asks n heard last b
       by true is =
-          let here : n ≡ face.0 = one_number n face.0 (number_test n face.0 ∙ is) in
-          let own : Hears s.core s.core.interests s.core.ears face.0 heard = subst (λ m. Hears s.core s.core.interests s.core.ears m heard) here f.hears in
-          subst (λ m. Follows d m (fold (if_told with_told m) heard (told_of s.core (hearing face id keys sd))) (fold (if_told greatest_with m) last (told_of s.core (hearing face id keys sd)))) (sym here)
+          let here : face.0 ≡ n = one_number face.0 n (number_test face.0 n ∙ is) in
+          let own : Hears s.core s.core.interests s.core.ears face.0 heard = subst (λ m. Hears s.core s.core.interests s.core.ears m heard) (sym here) f.hears in
+          subst (λ m. Asks m heard last true) here
           (record {
-            hears = onto s.core d more d.ears face.0 _ (λ key. refl) (subst (Hears s.core more (ears_asked s.core more s.core.ears face.0 asked) face.0) (law.drops heard own ∙ sym (told_here_by with_told receive (λ k. refl) by_ids face.0 heard)) (law.own heard own));
+            hears =
+                onto s.core d more d.ears face.0 _ (λ key. refl)
+                (subst (Hears s.core more (ears_asked s.core more s.core.ears face.0 asked) face.0)
+                (law.drops heard own ∙ ap (filter (is_due_in s.core more face.0)) (sym (told_here_by with_told receive (λ k. refl) by_ids face.0 heard))) (law.own heard own));
             greatest =
                 answer_last Answering s.core.ears face.0 (asked_dues s.core more face.0 asked) rows_in_order own.ear heard own.there own.sorted own.tied
-                ∙ ap (λ l. Some (fold last_given l (filter (is_to face.0) near))) (same_Some _ _ (sym (ap (option_map (λ (e : Ear). e.last)) own.there) ∙ ap (λ m. last_at m s.core.ears) (sym here) ∙ f.greatest))
+                ∙ ap (λ l. Some (fold last_given l (filter (is_to face.0) near))) (same_Some _ _ (sym (ap (option_map (λ (e : Ear). e.last)) own.there) ∙ ap (λ m. last_at m s.core.ears) here ∙ f.greatest))
                 ∙ ap Some (sym (told_here_by greatest_with last_given (λ k. refl) the_greatest face.0 last));
           })
       by false is =
-          let ne = apart n face.0 is in
+          let other : (n == face.0) ≡ false = turned face.0 n is in
+          let ne = apart n face.0 other in
           record {
             hears = onto s.core d more d.ears n _ (λ key. refl) (subst (Hears s.core more (ears_asked s.core more s.core.ears face.0 asked) n) (sym (told_here_by with_told receive (λ k. refl) by_ids n heard ∙ ap (fold receive heard) (law.silent n ne))) (law.others n ne heard f.hears));
             greatest =
-                ap (option_map (λ (e : Ear). e.last)) (left_beside Answering s.core.ears face.0 n (asked_dues s.core more face.0 asked) (number_test n face.0 ∙ is)) ∙ f.greatest
+                ap (option_map (λ (e : Ear). e.last)) (left_beside Answering s.core.ears face.0 n (asked_dues s.core more face.0 asked) (number_test n face.0 ∙ other)) ∙ f.greatest
                 ∙ ap Some (sym (told_here_by greatest_with last_given (λ k. refl) the_greatest n last ∙ ap (fold last_given last) (law.silent n ne)));
           }
 
@@ -169,29 +174,22 @@ module _ (s : State) (face : FaceId) (id : ℕ) (keys : Bool) (sd : Option Said)
   }
 
   -- what the asker is told
-  pub answer_exactly : (ear : Ear) → at_face face.0 s.core.ears ≡ Some ear → told_of s.core (hearing face id keys sd) ≡ answered_by face id (map from_hat (told_in Answering face.0 ear (asked_dues d d.interests face.0 asked)))
-  answer_exactly ear there = ap (λ l. answered_by face id (map from_hat l)) (ordered ∙ by (asked_dues s.core more face.0 asked))
+  pub answer_exactly : (ear : Ear) → at_face face.0 s.core.ears ≡ Some ear → told_of s.core (hearing face id keys sd) ≡ answered_by face id (map from_hat (told_in Answering face.0 ear (answer_dues d d.interests face.0 asked)))
+  answer_exactly ear there =
+      ap (λ l. answered_by face id (map from_hat l))
+      (ordered ∙ by (asked_dues s.core more face.0 asked)
+      ∙ answers_due face.0 ear (asked_dues s.core more face.0 asked)
+      ∙ ap (told_in Answering face.0 ear) (rows_owed s.core more face.0 asked)
+      ∙ sym (answers_due face.0 ear (answer_dues s.core more face.0 asked)))
     where
       by : (ks : List KeyDue) → (tell_faces Answering s.core.ears (with_dues face.0 ks)).tellings ≡ told_in Answering face.0 ear ks
       by [] = refl
       by (k ∷ ks) = ap (λ o. (option_map_or (λ (e : Ear). with_account face.0 (tell_keys Answering face.0 e (k ∷ ks) []) (record { plan = []; tellings = [] })) o (record { plan = []; tellings = [] })).tellings) there
 
 -- ---- the end of an interest
-filter_alike : {X : Type 0} (p q : X → Bool) (es : List X) → AllByRecursion (λ e. p e ≡ q e) es → filter p es ≡ filter q es
-filter_alike p q [] all = refl
-filter_alike p q (e ∷ es) all = λ j. cond (all.0 j) (e ∷ filter_alike p q es all.1 j) (filter_alike p q es all.1 j)
-
 found_some : {X : Type 0} (o : Option X) → is_none o ≡ false → (x : X) × (o ≡ Some x)
 found_some None e = absurd (true≢false e)
 found_some (Some x) e = (x, refl)
-
-some_or_none : {X : Type 0} (o : Option X) → is_some o ≡ not (is_none o && true)
-some_or_none None = refl
-some_or_none (Some x) = refl
-
-never : (b : Bool) → (b && false) ≡ false
-never true = refl
-never false = refl
 
 module _ (s : State) (face : FaceId) (id : ℕ) (h : refusal_of s.core (unhearing face id) ≡ None) where
   abbrev left : Core
@@ -200,7 +198,7 @@ module _ (s : State) (face : FaceId) (id : ℕ) (h : refusal_of s.core (unhearin
   abbrev less : Interests
   less = without_interest face.0 id s.core.interests
 
-  was : (asked : InterestEntry) × (interest_at face.0 id s.core.interests ≡ Some asked)
+  pub was : (asked : InterestEntry) × (interest_at face.0 id s.core.interests ≡ Some asked)
   was = found_some (interest_at face.0 id s.core.interests) (all_passed (causes s.core (unhearing face id)) h).1.0
 
   ending : EndingTold s.core s.core.interests less s.core.ears face.0 was.0
@@ -209,36 +207,46 @@ module _ (s : State) (face : FaceId) (id : ℕ) (h : refusal_of s.core (unhearin
   ears_left : left.ears ≡ ears_ended s.core less s.core.ears face.0 was.0
   ears_left = ap (λ o. option_map_or (ears_ended s.core less s.core.ears face.0) o s.core.ears) was.1
 
+  abbrev rows : List KeyDue
+  rows = ended_dues s.core less s.core.ears face.0 was.0
+
+  abbrev near_end : List TreeTelling
+  near_end = ended_told s.core less s.core.ears face.0 was.0
+
+  told_end : told_of s.core (unhearing face id) ≡ map from_hat (in_order near_end)
+  told_end = ap (λ o. map from_hat (in_order (option_map_or (ended_told s.core less s.core.ears face.0) o []))) was.1
+
+  end_heard : {K : Type 0} (f : K → TellingBody → K) (g : K → TreeTelling → K) → ((kept : K) (u : TreeTelling) → f kept (from_hat u).body ≡ g kept u) → (n : ℕ) (kept : K)
+      → fold (if_told f n) kept (told_of s.core (unhearing face id)) ≡ fold g kept (filter (is_to n) (in_order near_end))
+  end_heard f g alike n kept = ap (fold (if_told f n) kept) told_end ∙ all_heard f g alike n kept (in_order near_end)
+
+  -- other faces are told nothing
+  other_none : (n : ℕ) → n ≢ face.0 → filter (is_to n) (in_order near_end) ≡ []
+  other_none n ne = to_one n near_end ∙ ap in_order (ending.silent n ne)
+
   module _ (heard : Heard) (own : Hears s.core s.core.interests s.core.ears face.0 heard) where
-    abbrev keys_ended : List (List ℕ)
-    keys_ended = ended s.core s.core.interests s.core.ears face.0 id was.0 was.1
+    rows_sorted : RowsInOrder rows
+    rows_sorted = rows_rise (due s.core less face.0) (ended s.core s.core.interests s.core.ears face.0 id was.0 was.1) (ended_rise s.core s.core.interests s.core.ears face.0 id was.0 was.1 heard own)
 
-    over_is : (q : List ℕ) (ks : List (List ℕ)) → is_over (map (due_on s.core less face.0) ks) q ≡ (is_none (due s.core less face.0 q) && is_among q ks)
-    over_is q [] = sym (never (is_none (due s.core less face.0 q)))
-    over_is q (k ∷ ks) = (λ j. (is_none (due s.core less face.0 k) && either_test q k j) || over_is q ks j) ∙ by (is_at (text_cmp q) k) refl
+    end_ordered : in_order near_end ≡ near_end
+    end_ordered = in_order_stays telling_total near_end (tells_in_order Ending s.core.ears (ended_at s.core less s.core.ears face.0 was.0) (alone_rises face.0 rows) (with_sorted face.0 rows rows_sorted))
+
+    end_here : {K : Type 0} (f : K → TellingBody → K) (g : K → TreeTelling → K) → ((kept : K) (u : TreeTelling) → f kept (from_hat u).body ≡ g kept u) → (kept : K)
+        → fold (if_told f face.0) kept (told_of s.core (unhearing face id)) ≡ fold g kept (filter (is_to face.0) near_end)
+    end_here f g alike kept = end_heard f g alike face.0 kept ∙ ap (λ l. fold g kept (filter (is_to face.0) l)) end_ordered
+
+    -- what the asker is told
+    pub end_exactly : told_of s.core (unhearing face id) ≡ map from_hat (told_in Ending face.0 own.ear (map (due_on left left.interests face.0) (option_to_list was.0.key)))
+    end_exactly = told_end ∙ ap (map from_hat) (end_ordered ∙ all_own ∙ ending.tells heard own)
       where
-        joined_by : (x y : Bool) → ((x && true) || (x && y)) ≡ (x && true)
-        joined_by true y = refl
-        joined_by false y = refl
+        by : (ks : List KeyDue) → (tell_faces Ending s.core.ears (with_dues face.0 ks)).tellings ≡ told_in Ending face.0 own.ear ks
+        by [] = refl
+        by (k ∷ ks) = ap (λ o. (option_map_or (λ (e : Ear). with_account face.0 (tell_keys Ending face.0 e (k ∷ ks) []) (record { plan = []; tellings = [] })) o (record { plan = []; tellings = [] })).tellings) own.there
 
-        by : (b : Bool) → is_at (text_cmp q) k ≡ b → ((is_none (due s.core less face.0 k) && b) || (is_none (due s.core less face.0 q) && is_among q ks)) ≡ (is_none (due s.core less face.0 q) && (b || is_among q ks))
-        by true is = ap (λ x. (is_none (due s.core less face.0 x) && true) || (is_none (due s.core less face.0 q) && is_among q ks)) ((bytes_eq-Decides k q).0 (either_test q k ∙ is)) ∙ joined_by (is_none (due s.core less face.0 q)) (is_among q ks)
-        by false is = ap (λ x. x || (is_none (due s.core less face.0 q) && is_among q ks)) (never (is_none (due s.core less face.0 k)))
-
-    entry_same : (q : List ℕ) (i : QueryableInfoType) → due s.core s.core.interests face.0 q ≡ Some i → is_some (due s.core less face.0 q) ≡ not (is_over (map (due_on s.core less face.0) keys_ended) q)
-    entry_same q i e = by (is_among q keys_ended) refl ∙ sym (ap not (over_is q keys_ended))
-      where
-        by : (b : Bool) → is_among q keys_ended ≡ b → is_some (due s.core less face.0 q) ≡ not (is_none (due s.core less face.0 q) && is_among q keys_ended)
-        by true is = some_or_none (due s.core less face.0 q) ∙ ap (λ b. not (is_none (due s.core less face.0 q) && b)) (sym is)
-        by false is =
-            ap is_some (sym (stays_by s.core s.core.interests s.core.ears face.0 id was.0 was.1 heard own q is (due s.core less face.0 q) (due s.core s.core.interests face.0 q) refl refl) ∙ e)
-            ∙ sym (ap not (ap (λ b. is_none (due s.core less face.0 q) && b) is ∙ never (is_none (due s.core less face.0 q))))
-
-    forgets_alike : filter (is_due_at face.0 left) heard ≡ heard_ended s.core less s.core.ears face.0 was.0 heard
-    forgets_alike =
-        filter_alike (is_due_at face.0 left) (is_left (is_over (map (due_on s.core less face.0) keys_ended))) heard
-        (each_entry nat_cmp_total exact_unsigned (λ e. is_due_at face.0 left e ≡ is_left (is_over (map (due_on s.core less face.0) keys_ended)) e) heard own.tied.sorted
-        (λ k v there. entry_same v.0 v.1 (sym (own.told v.0) ∙ ap (option_map (λ (x : ToldEntry). x.info)) (own.tied.back k v.0 v.1 there))))
+        all_own : near_end ≡ filter (is_to face.0) near_end
+        all_own =
+            by rows
+            ∙ sym (told_here Ending s.core.ears face.0 own.ear own.there (with_dues face.0 rows) (alone_rises face.0 rows) ∙ ap (told_in Ending face.0 own.ear) (keys_alone face.0 rows))
 
   pub unhearing_steps : (first : ℕ) (heards : ℕ → Heard) (lasts : ℕ → ℕ) → ((n : ℕ) → IsNear n s.core → Follows s.core n (heards n) (lasts n)) → Steps first s (unhearing face id) left heards lasts
   unhearing_steps first heards lasts kept = record {
@@ -259,26 +267,38 @@ module _ (s : State) (face : FaceId) (id : ℕ) (h : refusal_of s.core (unhearin
               (_, subst (λ (y : ℕ × Ears). Hears left less y.1 y.0 (heard_ended s.core less s.core.ears face.0 was.0 x.0)) (λ m. (sym here m, sym ears_left m)) (onto s.core left less (ears_ended s.core less s.core.ears face.0 was.0) face.0 _ (λ key. refl) (ending.own x.0 (subst (λ m. Hears s.core s.core.interests s.core.ears m x.0) here x.1))))
           by false is = (_, subst (λ y. Hears left less y n x.0) (sym ears_left) (onto s.core left less (ears_ended s.core less s.core.ears face.0 was.0) n x.0 (λ key. refl) (ending.others n (apart n face.0 is) x.0 x.1)))
 
-      follows_end : (n : ℕ) (heard : Heard) (last : ℕ) → Follows s.core n heard last → Follows left n (cond (face.0 == n) (filter (is_due_at n left) heard) heard) last
+      abbrev Ends : ℕ → Heard → ℕ → Bool → Type 0
+      Ends n heard last b =
+          Follows left n (cond b (filter (is_due_at n left) (fold (if_told with_told n) heard (told_of s.core (unhearing face id)))) (fold (if_told with_told n) heard (told_of s.core (unhearing face id))))
+          (fold (if_told greatest_with n) last (told_of s.core (unhearing face id)))
+
+      follows_end : (n : ℕ) (heard : Heard) (last : ℕ) → Follows s.core n heard last → Ends n heard last (face.0 == n)
       follows_end n heard last f = by (face.0 == n) refl
         where
-          by : (b : Bool) → (face.0 == n) ≡ b → Follows left n (cond b (filter (is_due_at n left) heard) heard) last
+          by : (b : Bool) → (face.0 == n) ≡ b → Ends n heard last b
           by true is =
               let here : face.0 ≡ n = one_number face.0 n (number_test face.0 n ∙ is) in
               let own : Hears s.core s.core.interests s.core.ears face.0 heard = subst (λ m. Hears s.core s.core.interests s.core.ears m heard) (sym here) f.hears in
-              let rows : List KeyDue = ended_dues s.core less s.core.ears face.0 was.0 in
-              subst (λ m. Follows left m (filter (is_due_at m left) heard) last) here
+              subst (λ m. Ends m heard last true) here
               (record {
-                hears = subst (λ (y : Ears × Heard). Hears left less y.0 face.0 y.1) (λ m. (sym ears_left m, sym (forgets_alike heard own) m)) (onto s.core left less (ears_ended s.core less s.core.ears face.0 was.0) face.0 _ (λ key. refl) (ending.own heard own));
+                hears =
+                    subst (λ (y : Ears × Heard). Hears left less y.0 face.0 y.1)
+                    (λ m. (sym ears_left m, (ending.drops heard own ∙ ap (filter (is_due_in s.core less face.0)) (sym (end_here heard own with_told receive by_ids heard))) m))
+                    (onto s.core left less (ears_ended s.core less s.core.ears face.0 was.0) face.0 _ (λ key. refl) (ending.own heard own));
                 greatest =
                     ap (last_at face.0) ears_left
-                    ∙ answer_last Ending s.core.ears face.0 rows (rows_rise (due s.core less face.0) (ended s.core s.core.interests s.core.ears face.0 id was.0 was.1) (ended_rise s.core s.core.interests s.core.ears face.0 id was.0 was.1 heard own)) own.ear heard own.there own.sorted own.tied
-                    ∙ ap (λ ts. Some (fold last_given own.ear.last (filter (is_to face.0) ts))) ending.silent
-                    ∙ sym (ap (option_map (λ (e : Ear). e.last)) own.there) ∙ ap (λ m. last_at m s.core.ears) here ∙ f.greatest;
+                    ∙ answer_last Ending s.core.ears face.0 rows (rows_sorted heard own) own.ear heard own.there own.sorted own.tied
+                    ∙ ap (λ l. Some (fold last_given l (filter (is_to face.0) near_end))) (same_Some _ _ (sym (ap (option_map (λ (e : Ear). e.last)) own.there) ∙ ap (λ m. last_at m s.core.ears) here ∙ f.greatest))
+                    ∙ ap Some (sym (end_here heard own greatest_with last_given the_greatest last));
               })
           by false is =
               let other : (n == face.0) ≡ false = turned face.0 n is in
+              let ne = apart n face.0 other in
               record {
-                hears = subst (λ y. Hears left less y n heard) (sym ears_left) (onto s.core left less (ears_ended s.core less s.core.ears face.0 was.0) n heard (λ key. refl) (ending.others n (apart n face.0 other) heard f.hears));
-                greatest = ap (last_at n) ears_left ∙ ap (option_map (λ (e : Ear). e.last)) (left_beside Ending s.core.ears face.0 n (ended_dues s.core less s.core.ears face.0 was.0) (number_test n face.0 ∙ other)) ∙ f.greatest;
+                hears =
+                    subst (λ (y : Ears × Heard). Hears left less y.0 n y.1) (λ m. (sym ears_left m, sym (end_heard with_told receive by_ids n heard ∙ ap (fold receive heard) (other_none n ne)) m))
+                    (onto s.core left less (ears_ended s.core less s.core.ears face.0 was.0) n heard (λ key. refl) (ending.others n ne heard f.hears));
+                greatest =
+                    ap (last_at n) ears_left ∙ ap (option_map (λ (e : Ear). e.last)) (left_beside Ending s.core.ears face.0 n rows (number_test n face.0 ∙ other)) ∙ f.greatest
+                    ∙ ap Some (sym (end_heard greatest_with last_given the_greatest n last ∙ ap (fold last_given last) (other_none n ne)));
               }

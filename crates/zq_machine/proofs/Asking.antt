@@ -337,7 +337,7 @@ module _ (asked : List Final) (s : State) (all : Asks asked s) where
   call_tells (call.Sent reply) = quiet (reporting reply) refl
   call_tells (call.Poll now) = quiet (passing now) refl
   call_tells (call.SetGateways r t) = quiet (listing r t) refl
-  call_tells (call.Interest face id keys wire) = quiet (hearing face id keys (said_if face wire s)) refl
+  call_tells (call.Interest face id keys aggregate wire) = quiet (hearing face id (record { keys = keys; aggregate = aggregate }) (said_if face wire s)) refl
   call_tells (call.InterestFinal face id) = quiet (unhearing face id) refl
   call_tells (call.FinalizeInterest face mark set) = quiet (finalizing face mark set) refl
   call_tells (call.SetNetwork r net) = quiet (networking r net) refl

@@ -38,7 +38,7 @@ use Rattle.zq_machine.proofs.SelectionMoved.{targets_moved}
 
 module _ (φ : List ℕ → List ℕ) (keeps : Keeps φ) (c : Core) where
   -- ---- what faces ask
-  asked_moved : (face : FaceId) (id : ℕ) (keys : Bool) (s : Option Said) → HasText (hearing face id keys s) → asked_by keys (option_map (move_said φ) s) ≡ move_asked φ (asked_by keys s)
+  asked_moved : (face : FaceId) (id : ℕ) (keys : Manner) (s : Option Said) → HasText (hearing face id keys s) → asked_by keys (option_map (move_said φ) s) ≡ move_asked φ (asked_by keys s)
   asked_moved face id keys None e = refl
   asked_moved face id keys (Some said.Unscoped) e = absurd e
   asked_moved face id keys (Some said.Empty) e = absurd e
@@ -123,6 +123,13 @@ module _ (φ : List ℕ → List ℕ) (keeps : Keeps φ) (c : Core) where
     near_moved : (t : TextCall) → HasText t → near_told (move_core φ c) (move_core φ d) (move_interests φ ints) (move_text φ t) others ≡ map (move_tree φ keeps) (near_told c d ints t held)
     near_moved (hearing face id keys sd) e =
         (λ j. answer_told (move_core φ d) (move_interests φ ints) (same j) face.0 (asked_moved face id keys sd e j)) ∙ (told_alike φ keeps).told_asked d ints held face.0 (asked_by keys sd)
+    near_moved (unhearing face id) e =
+        (λ j. option_map_or (ended_told (move_core φ d) (move_interests φ ints) (same j) face.0) (interest_there φ keeps face.0 id c.interests j) [])
+        ∙ by (interest_at face.0 id c.interests)
+      where
+        by : (o : Option InterestEntry) → option_map_or (ended_told (move_core φ d) (move_interests φ ints) (move_ears φ held) face.0) (option_map (move_asked φ) o) [] ≡ map (move_tree φ keeps) (option_map_or (ended_told d ints held face.0) o [])
+        by None = refl
+        by (Some asked) = (told_alike φ keeps).told_ended d ints held face.0 asked
     near_moved t e = kept_moved φ keeps c d ints t e held others same
 
   pub lacks_moved : (t : TextCall) → HasText t → lacks_told (move_core φ c) (move_text φ t) ≡ lacks_told c t

@@ -93,7 +93,7 @@ module _ (s : State) (face : ℕ) where
   call_closed (call.Sent reply) = quiet (reporting reply) refl
   call_closed (call.Poll now) = quiet (passing now) refl
   call_closed (call.SetGateways r t) = quiet (listing r t) refl
-  call_closed (call.Interest f id keys wire) = quiet (hearing f id keys (said_if f wire s)) refl
+  call_closed (call.Interest f id keys aggregate wire) = quiet (hearing f id (record { keys = keys; aggregate = aggregate }) (said_if f wire s)) refl
   call_closed (call.InterestFinal f id) = quiet (unhearing f id) refl
   call_closed (call.FinalizeInterest f mark set) = quiet (finalizing f mark set) refl
   call_closed (call.SetNetwork r net) = quiet (networking r net) refl

@@ -23,7 +23,7 @@ use Rattle.zq_hat.specs.Kept.{change_face, face_at, info, region_info}
 use Rattle.zq_hat.specs.Regions.{is_north, strategy_at, strategy_of}
 use Rattle.zq_hat.specs.State.{FaceState, HatState}
 use Rattle.zq_machine.specs.declared.face.OpenFace.{OpenFace}
-use Rattle.zq_machine.specs.Due.{due, heard, heard_as, heard_by, listens_by, listens_in, redeclared}
+use Rattle.zq_machine.specs.Due.{plain_due, heard, heard_as, heard_by, listens_by, listens_in, redeclared}
 use Rattle.zq_interests.specs.Interests.{Interests, interests_of, wants}
 use Rattle.zq_machine.specs.State.{Core, at, change_hat, change_hat_of, face_region, hat_at, hat_of, put_hat}
 use Rattle.zq_machine.specs.Trees.{own_entry, with_other}
@@ -31,7 +31,7 @@ use Rattle.zq_machine.proofs.Changing.{hat_here, region_there}
 use Rattle.zq_machine.proofs.Folding.{fold_set}
 
 -- ---- interests of other faces
-pub interests_alone : (c : Core) (ints others : Interests) (face : ℕ) (key : List ℕ) → interests_of face ints ≡ interests_of face others → due c ints face key ≡ due c others face key
+pub interests_alone : (c : Core) (ints others : Interests) (face : ℕ) (key : List ℕ) → interests_of face ints ≡ interests_of face others → plain_due c ints face key ≡ plain_due c others face key
 interests_alone c ints others face key same =
     ap (λ (es : List (ℕ × InterestEntry)). cond (option_map_or (λ (h : HatState). listens_by (strategy_at h) (is_north h.region) (list_any (wants key) es)) (hat_of face c) false) (heard c face key) None) same
 
@@ -43,7 +43,7 @@ quiet (region.South id mode.Router) m out = refl
 quiet (region.South id mode.Peer) m out = refl
 quiet (region.South id mode.Client) m out = refl
 
-pub south_unasked : (c : Core) (ints : Interests) (face : ℕ) (key : List ℕ) (h : HatState) → hat_of face c ≡ Some h → is_north h.region ≡ false → interests_of face ints ≡ [] → due c ints face key ≡ None
+pub south_unasked : (c : Core) (ints : Interests) (face : ℕ) (key : List ℕ) (h : HatState) → hat_of face c ≡ Some h → is_north h.region ≡ false → interests_of face ints ≡ [] → plain_due c ints face key ≡ None
 south_unasked c ints face key h here out none =
     ap (λ b. cond b (heard c face key) None)
     (ap (λ (o : Option HatState). option_map_or (listens_in ints face key) o false) here
@@ -100,7 +100,7 @@ module _ (c : Core) (ints : Interests) (face : ℕ) (key : List ℕ) (n : ℕ) (
           ∙ ap (λ i. cond (listens_in ints face key h) i None) (same h (own_entry (region_index o.region) key c.hats) (ap (option_and_then (λ (p : OpenFace). hat_at p.region c.hats)) seen ∙ e))
           ∙ ap (λ x. due_found x (own_entry (region_index o.region) key c.hats)) (sym e)
 
-  pub alone : HearsSame → face_region n c ≡ face_region face c → due (change_hat_of n (change_face n k) c) ints face key ≡ due c ints face key
+  pub alone : HearsSame → face_region n c ≡ face_region face c → plain_due (change_hat_of n (change_face n k) c) ints face key ≡ plain_due c ints face key
   alone same near = by (at face c.faces) refl
     where
       elsewhere : (p : Option OpenFace) (o : OpenFace) → at face c.faces ≡ Some o → at n c.faces ≡ p → option_map (λ (x : OpenFace). x.region) p ≡ Some o.region → due_from (at face c.faces) (with_faces (at n c.faces)) ≡ due_from (at face c.faces) c.hats
@@ -117,7 +117,7 @@ module _ (c : Core) (ints : Interests) (face : ℕ) (key : List ℕ) (n : ℕ) (
 
 -- ---- declarations
 -- a face is not due what it itself declared
-pub own_unheard : (c : Core) (ints : Interests) (face : ℕ) (key : List ℕ) (ds : List (ℕ × Declaration)) → due (redeclared face ds c) ints face key ≡ due c ints face key
+pub own_unheard : (c : Core) (ints : Interests) (face : ℕ) (key : List ℕ) (ds : List (ℕ × Declaration)) → plain_due (redeclared face ds c) ints face key ≡ plain_due c ints face key
 own_unheard c ints face key ds =
     alone c ints face key face (λ (f : FaceState). record f { declared = ds })
     (λ h own here. ap (λ i. heard_by (strategy_at h) i own) (fellows_idle key face (λ (f : FaceState). record f { declared = ds }) h)) refl
@@ -131,7 +131,7 @@ no_broker strategy.Router other a b own = refl
 
 -- where fellows are not heard, what the region's faces declared does not enter
 pub region_unheard : (c : Core) (ints : Interests) (face fellow : ℕ) (key : List ℕ) (ds : List (ℕ × Declaration)) (h : HatState) → hat_of face c ≡ Some h → strategy_at h ≢ strategy.Broker → face_region fellow c ≡ face_region face c
-    → due (redeclared fellow ds c) ints face key ≡ due c ints face key
+    → plain_due (redeclared fellow ds c) ints face key ≡ plain_due c ints face key
 region_unheard c ints face fellow key ds h here other near =
     alone c ints face key fellow (λ (f : FaceState). record f { declared = ds })
     (λ g own found. no_broker (strategy_at g) (λ is. other (ap strategy_at (same_Some _ _ (sym here ∙ found)) ∙ is)) _ _ own) near

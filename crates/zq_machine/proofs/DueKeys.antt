@@ -1,4 +1,4 @@
--- What is due to any face is on a key on which some region has information; and all keys that are looked at rise.
+-- What is heard at any face is on a key on which some region has information; and keys rise.
 use Rattle.std.proofs.Common.{◌≡◌, ◌∙◌, refl, sym, ap, subst, ℕ, Bool, true, false, cond, List, [], ◌∷◌, fold, Option, Some, None}
 use Rattle.std.specs.Prelude.{◌==◌, ◌||◌}
 use Rattle.std.specs.BTreeMap.{is_at}
@@ -10,7 +10,6 @@ use Rattle.std.specs.Option.{is_some, option_and_then, option_map_or}
 use Rattle.std.specs.Ordering.{nat_cmp}
 use Rattle.std.specs.Str.{bytes_eq}
 use Rattle.std.proofs.lemmas.Bool.{false≢true, or_parts, true≢false}
-use Rattle.std.proofs.lemmas.List.Kept.{IsStrictlySortedBy-filter}
 use Rattle.std.proofs.lemmas.Map.Text.{is_eq-slice_cmp}
 use Rattle.std.proofs.lemmas.Option.{same_Some}
 use Rattle.zq_message.specs.declared.message.QueryableInfoType.{QueryableInfoType}
@@ -34,8 +33,8 @@ use Rattle.zq_hat.specs.Trees.{region_keys}
 use Rattle.zq_machine.specs.declared.call.Opening.{Opening}
 use Rattle.zq_machine.specs.declared.face.OpenFace.{OpenFace}
 use Rattle.zq_machine.specs.Deciding.{accepted, seat}
-use Rattle.zq_machine.specs.Due.{KeysRise, due, due_keys, due_touched, heard, heard_as, heard_by, heard_in, listens, met_keys, with_region_keys}
-use Rattle.zq_interests.specs.Interests.{Interests, meets}
+use Rattle.zq_machine.specs.Due.{plain_due, due_keys, heard_touched, heard, heard_as, heard_by, heard_in, listens, with_region_keys}
+use Rattle.zq_interests.specs.Interests.{Interests}
 use Rattle.zq_machine.specs.State.{Core, at, hat_at, joined as join, put_hat}
 use Rattle.zq_machine.specs.TextCalls.{TextCall, opening}
 use Rattle.zq_machine.specs.Trees.{own_entry, touched, with_other}
@@ -172,7 +171,7 @@ module _ (key : List ℕ) where
       by (Some o) = there o (hat_at o.region c.hats) refl
 
   -- on a key on which no region has information nothing is due
-  pub nothing_due : (c : Core) (ints : Interests) (face : ℕ) → Absent (due_keys c) → due c ints face key ≡ None
+  pub nothing_due : (c : Core) (ints : Interests) (face : ℕ) → Absent (due_keys c) → plain_due c ints face key ≡ None
   nothing_due c ints face a = by (listens c ints face key)
     where
       by : (b : Bool) → cond b (heard c face key) None ≡ None
@@ -180,7 +179,7 @@ module _ (key : List ℕ) where
       by false = refl
 
 -- a key is among those on which something is due
-pub keys_due : (c : Core) (ints : Interests) (face : ℕ) (key : List ℕ) → is_some (due c ints face key) ≡ true → list_any (λ k. bytes_eq k key) (due_keys c) ≡ true
+pub keys_due : (c : Core) (ints : Interests) (face : ℕ) (key : List ℕ) → is_some (plain_due c ints face key) ≡ true → list_any (λ k. bytes_eq k key) (due_keys c) ≡ true
 keys_due c ints face key some = among key (due_keys c) ∙ by (is_among key (due_keys c)) refl
   where
     by : (b : Bool) → is_among key (due_keys c) ≡ b → b ≡ true
@@ -211,14 +210,14 @@ keys_opened c o = by (hat_at o.region c.hats) refl
         (λ ks. ap (fold (insert_key text_cmp) ks) (opened_keys (seat c.next_face o) h)) []
 
 -- ---- order
-abbrev Rise : List (List ℕ) → Type 0
+abbrev pub Rise : List (List ℕ) → Type 0
 Rise ks = IsStrictlySortedBy text_cmp ks
 
 none_rise : Rise []
 unfolding IsStrictlySortedBy
 none_rise = tt
 
-all_rise : (xs ks : List (List ℕ)) → Rise ks → Rise (fold (insert_key text_cmp) ks xs)
+pub all_rise : (xs ks : List (List ℕ)) → Rise ks → Rise (fold (insert_key text_cmp) ks xs)
 all_rise [] ks s = s
 all_rise (x ∷ xs) ks s = all_rise xs (insert_key text_cmp ks x) (sorted_put text_total ks x s)
 
@@ -233,13 +232,6 @@ if_rise : (b : Bool) (ks : List (List ℕ)) → Rise ks → Rise (cond b ks [])
 if_rise true ks s = s
 if_rise false ks s = none_rise
 
-touched_rise : (c : Core) (t : TextCall) (face : ℕ) → Rise (due_touched c t face)
+pub touched_rise : (c : Core) (t : TextCall) (face : ℕ) → Rise (heard_touched c t face)
 touched_rise c (opening o) face = if_rise (face == c.next_face) (due_keys c) (due_rise c)
 touched_rise c t face = all_rise (touched c t) [] none_rise
-
-pub keys_rise : (c : Core) → KeysRise c
-keys_rise c = record {
-  all = due_rise c;
-  touched = touched_rise c;
-  asked = λ asker key face. if_rise (face == asker) (met_keys key c) (IsStrictlySortedBy-filter text_cmp (meets key) (due_keys c) (due_rise c));
-}

@@ -37,7 +37,7 @@ use Rattle.zq_machine.specs.Calls.{declares}
 use Rattle.zq_machine.specs.Configs.{Settings}
 use Rattle.zq_machine.specs.Deciding.{accepted, opened, refusal_of, retracted_by}
 use Rattle.zq_hat.specs.Fellows.{fellow_info, with_fellow}
-use Rattle.zq_machine.specs.Due.{due, due_keys, heard_as, heard_by, is_due_touched, listens, listens_in}
+use Rattle.zq_machine.specs.Due.{plain_due, due_keys, heard_as, heard_by, is_heard_touched, listens, listens_in}
 use Rattle.zq_interests.specs.Interests.{Interests}
 use Rattle.zq_machine.specs.Machine.{after, state_after}
 use Rattle.zq_machine.specs.Selecting.{full_text}
@@ -392,14 +392,14 @@ module _ (config : Settings) (s : State) (i : InOrder config s) (ints : Interest
       same_listens face key ints s.core (accepted s.core t) (faces_kept t still)
       (λ k. (accepted_hats config.start.told (first_hats config) s.core i.hats t).shape k ∙ sym (i.hats.shape k))
 
-  still_open : (t : TextCall) → is_some (due (accepted s.core t) ints face key) ≡ true → is_open face (accepted s.core t) ≡ true
+  still_open : (t : TextCall) → is_some (plain_due (accepted s.core t) ints face key) ≡ true → is_open face (accepted s.core t) ≡ true
   still_open t some = by (is_open face (accepted s.core t)) refl
     where
       by : (b : Bool) → is_open face (accepted s.core t) ≡ b → b ≡ true
       by true e = refl
       by false e = absurd (false≢true (sym (ap is_some (closed_undue (accepted s.core t) ints face key e)) ∙ some))
 
-  kept_less : (t : TextCall) → refusal_of s.core t ≡ None → is_due_touched s.core t face key ≡ false → IsLess (due (accepted s.core t) ints face key) (due s.core ints face key)
+  kept_less : (t : TextCall) → refusal_of s.core t ≡ None → is_heard_touched s.core t face key ≡ false → IsLess (plain_due (accepted s.core t) ints face key) (plain_due s.core ints face key)
   kept_less t h off some = sym (ap is_some (due_kept config s i ints face key t h (still_open t some) off)) ∙ some
 
   opening_off : (b : Bool) → (face == s.core.next_face) ≡ b → list_any (λ k. bytes_eq k key) (cond b (due_keys s.core) []) ≡ false
@@ -407,7 +407,7 @@ module _ (config : Settings) (s : State) (i : InOrder config s) (ints : Interest
   opening_off false e = refl
 
   -- but by what declares or announces, nothing becomes due to it
-  pub accepted_less : (t : TextCall) → refusal_of s.core t ≡ None → brings t ≡ false → IsLess (due (accepted s.core t) ints face key) (due s.core ints face key)
+  pub accepted_less : (t : TextCall) → refusal_of s.core t ≡ None → brings t ≡ false → IsLess (plain_due (accepted s.core t) ints face key) (plain_due s.core ints face key)
   accepted_less (declaring g id sd info node) h b = absurd (true≢false b)
   accepted_less (announcing g sd info node) h b = absurd (true≢false b)
   accepted_less (opening o) h b = kept_less (opening o) h (opening_off (face == s.core.next_face) refl)
@@ -441,9 +441,9 @@ listens_stay config calls c ints face key opens =
 
 pub less_due : (config : Settings) (calls : List Call) (c : Call) (ints : Interests) (face : ℕ) (key : List ℕ)
     → declares c ≡ false → is_open face (state_after (opening_state config) calls).core ≡ true
-    → is_some (due (after (state_after (opening_state config) calls) c).core ints face key) ≡ true → is_some (due (state_after (opening_state config) calls).core ints face key) ≡ true
+    → is_some (plain_due (after (state_after (opening_state config) calls) c).core ints face key) ≡ true → is_some (plain_due (state_after (opening_state config) calls).core ints face key) ≡ true
 less_due config calls c ints face key none opens =
     let s = state_after (opening_state config) calls in
-    by_granted (λ z w. is_some (due w.core ints face key) ≡ true → is_some (due s.core ints face key) ≡ true) s (read s c) (λ text z w it. it) (λ p places z w it. it)
+    by_granted (λ z w. is_some (plain_due w.core ints face key) ≡ true → is_some (plain_due s.core ints face key) ≡ true) s (read s c) (λ text z w it. it) (λ p places z w it. it)
     (λ h some. accepted_less config s (run_in_order config calls) ints face key opens (read s c) h (read_brings s c none) some)
     (λ r some. some)

@@ -31,7 +31,7 @@ use Rattle.zq_machine.specs.declared.call.Call.{Call}
 use Rattle.zq_machine.specs.declared.face.OpenFace.{OpenFace}
 use Rattle.zq_machine.specs.Configs.{Settings}
 use Rattle.zq_machine.specs.Machine.{state_after}
-use Rattle.zq_machine.specs.Due.{due, heard, heard_as, heard_by, heard_in, listens, listens_by, listens_in}
+use Rattle.zq_machine.specs.Due.{plain_due, heard, heard_as, heard_by, heard_in, listens, listens_by, listens_in}
 use Rattle.zq_interests.specs.Interests.{Interests, asks_for, interests_of, wants}
 use Rattle.zq_machine.specs.State.{Core, at, hat_at, hat_of, is_routing, opening_state}
 use Rattle.zq_machine.specs.Trees.{own_entry}
@@ -111,7 +111,7 @@ not_one k n other = by (k == n) refl
 
 -- ---- what is due to a face that listens
 module _ (c : Core) (ints : Interests) (face : ℕ) (key : List ℕ) (o : OpenFace) (h : HatState) where
-  due_heard : at face c.faces ≡ Some o → hat_at o.region c.hats ≡ Some h → listens c ints face key ≡ true → due c ints face key ≡ heard_in face key c.hats (region_index o.region) h
+  due_heard : at face c.faces ≡ Some o → hat_at o.region c.hats ≡ Some h → listens c ints face key ≡ true → plain_due c ints face key ≡ heard_in face key c.hats (region_index o.region) h
   due_heard seen here on =
       ap (λ b. cond b (heard c face key) None) on
       ∙ ap (option_and_then (heard_as face key c.hats)) seen
@@ -119,7 +119,7 @@ module _ (c : Core) (ints : Interests) (face : ℕ) (key : List ℕ) (o : OpenFa
 
   -- under a broker, what each other face of the region declared is in it
   pub fellows_heard : at face c.faces ≡ Some o → hat_at o.region c.hats ≡ Some h → listens c ints face key ≡ true → strategy_at h ≡ strategy.Broker → (fellow : ℕ) (f : FaceState) → fellow ≢ face → face_at fellow h ≡ Some f
-      → joined (due c ints face key) (info key f) ≡ due c ints face key
+      → joined (plain_due c ints face key) (info key f) ≡ plain_due c ints face key
   fellows_heard seen here on broker fellow f other there =
       let is = due_heard seen here on ∙ ap (λ k. heard_by k (fellow_info face key h) (own_entry (region_index o.region) key c.hats)) broker in
       ap (λ m. joined m (info key f)) is
@@ -128,7 +128,7 @@ module _ (c : Core) (ints : Interests) (face : ℕ) (key : List ℕ) (o : OpenFa
 
   -- but in a region of routers, what each other region has is in it
   pub regions_heard : at face c.faces ≡ Some o → hat_at o.region c.hats ≡ Some h → listens c ints face key ≡ true → is_routing h ≡ false → (elsewhere : ℕ) (g : HatState) → elsewhere ≢ region_index o.region → at elsewhere c.hats ≡ Some g
-      → joined (due c ints face key) (region_info key g) ≡ due c ints face key
+      → joined (plain_due c ints face key) (region_info key g) ≡ plain_due c ints face key
   regions_heard seen here on routed elsewhere g other there =
       let is = due_heard seen here on in
       ap (λ m. joined m (region_info key g)) is ∙ by (strategy_at h) routed ∙ sym is
@@ -147,7 +147,7 @@ pub none_added : (config : Settings) (calls : List Call) (ints : Interests) (fac
     → at face (state_after (opening_state config) calls).core.faces ≡ Some o → hat_at o.region (state_after (opening_state config) calls).core.hats ≡ Some h
     → (strategy_at h ≡ strategy.Broker → (fellow : ℕ) (f : FaceState) → fellow ≢ face → face_at fellow h ≡ Some f → joined m (info key f) ≡ m)
     → ((elsewhere : ℕ) (g : HatState) → elsewhere ≢ region_index o.region → at elsewhere (state_after (opening_state config) calls).core.hats ≡ Some g → joined m (region_info key g) ≡ m)
-    → joined m (due (state_after (opening_state config) calls).core ints face key) ≡ m
+    → joined m (plain_due (state_after (opening_state config) calls).core ints face key) ≡ m
 none_added config calls ints face key o h m seen here near far = by (listens (state_after (opening_state config) calls).core ints face key) refl
   where
     i : InOrder config (state_after (opening_state config) calls)
@@ -169,12 +169,12 @@ none_added config calls ints face key o h m seen here near far = by (listens (st
     kind strategy.Peer is = others
     kind strategy.Router is = joined_none m
 
-    by : (b : Bool) → listens (state_after (opening_state config) calls).core ints face key ≡ b → IsIn (due (state_after (opening_state config) calls).core ints face key) m
+    by : (b : Bool) → listens (state_after (opening_state config) calls).core ints face key ≡ b → IsIn (plain_due (state_after (opening_state config) calls).core ints face key) m
     by true on = ap (joined m) (due_heard (state_after (opening_state config) calls).core ints face key o h seen here on) ∙ kind (strategy_at h) refl
     by false off = ap (λ b. joined m (cond b (heard (state_after (opening_state config) calls).core face key) None)) off ∙ joined_none m
 
 -- in a region of routers nothing is due
-pub routers_undue : (c : Core) (ints : Interests) (face : ℕ) (key : List ℕ) (h : HatState) → hat_of face c ≡ Some h → is_routing h ≡ true → due c ints face key ≡ None
+pub routers_undue : (c : Core) (ints : Interests) (face : ℕ) (key : List ℕ) (h : HatState) → hat_of face c ≡ Some h → is_routing h ≡ true → plain_due c ints face key ≡ None
 routers_undue c ints face key h here routed =
     ap (λ b. cond b (heard c face key) None) (ap (λ (x : Option HatState). option_map_or (listens_in ints face key) x false) here) ∙ by (listens_in ints face key h)
   where

@@ -38,7 +38,7 @@ use Rattle.zq_machine.specs.declared.call.Opening.{Opening}
 use Rattle.zq_machine.specs.declared.face.OpenFace.{OpenFace}
 use Rattle.zq_machine.specs.Configs.{Settings}
 use Rattle.zq_machine.specs.Deciding.{accepted, announced_by, causes, opened, refusal_of, retracted_by, seat}
-use Rattle.zq_machine.specs.Due.{due, due_keys, heard_as, heard_by, heard_in, is_due_touched, listens_by, listens_in}
+use Rattle.zq_machine.specs.Due.{plain_due, due_keys, heard_as, heard_by, heard_in, is_heard_touched, listens_by, listens_in}
 use Rattle.zq_interests.specs.Interests.{Interests, asks_for}
 use Rattle.zq_machine.specs.Machine.{after, state_after}
 use Rattle.zq_machine.specs.Selecting.{full_text}
@@ -81,7 +81,7 @@ module _ (face : ℕ) (key : List ℕ) where
         cond (option_map_or hearkens (option_and_then (λ (p : OpenFace). standing_at regions p.region) o) false)
         (option_and_then (λ (p : OpenFace). option_and_then (hears (own (region_index p.region))) (standing_at regions p.region)) o) None
 
-    due_is : (c : Core) → due c ints face key ≡ due_by (at face c.faces) (λ p. own_entry p key c.hats) (λ k. option_map seen (at k c.hats))
+    due_is : (c : Core) → plain_due c ints face key ≡ due_by (at face c.faces) (λ p. own_entry p key c.hats) (λ k. option_map seen (at k c.hats))
     due_is c = by (at face c.faces)
       where
         there : (p : OpenFace) (b : Bool) (x : Option HatState)
@@ -97,7 +97,7 @@ module _ (face : ℕ) (key : List ℕ) where
         by (Some p) = there p (is_region p.region) (at (region_index p.region) c.hats)
 
     same_due : (c d : Core) → at face d.faces ≡ at face c.faces → ((p : ℕ) → own_entry p key d.hats ≡ own_entry p key c.hats) → ((k : ℕ) → option_map seen (at k d.hats) ≡ option_map seen (at k c.hats))
-        → due d ints face key ≡ due c ints face key
+        → plain_due d ints face key ≡ plain_due c ints face key
     same_due c d here own regions = due_is d ∙ (λ j. due_by (here j) (λ p. own p j) (λ k. regions k j)) ∙ sym (due_is c)
 
   -- ---- what stands of regions stays on a key that a call does not touch
@@ -177,7 +177,7 @@ module _ (face : ℕ) (key : List ℕ) where
   regions_stay c t h off k = refl
 
   -- ---- a closed face
-  shut : (c : Core) (ints : Interests) → at face c.faces ≡ None → due c ints face key ≡ None
+  shut : (c : Core) (ints : Interests) → at face c.faces ≡ None → plain_due c ints face key ≡ None
   shut c ints gone = due_is ints c ∙ ap (λ (o : Option OpenFace). due_by ints o (λ p. own_entry p key c.hats) (λ k. option_map seen (at k c.hats))) gone
 
 -- a key that is not among those put in order is not among those put in
@@ -190,13 +190,13 @@ module _ (config : Settings) (s : State) (i : InOrder config s) (ints : Interest
 
   -- what other regions have stays, too
   module _ (t : TextCall) (h : refusal_of s.core t ≡ None) (off : is_touched s.core t key ≡ false) where
-    kept : at face (accepted s.core t).faces ≡ at face s.core.faces → due (accepted s.core t) ints face key ≡ due s.core ints face key
+    kept : at face (accepted s.core t).faces ≡ at face s.core.faces → plain_due (accepted s.core t) ints face key ≡ plain_due s.core ints face key
     kept here =
         same_due face key ints s.core (accepted s.core t) here
         (λ p. own_kept config s t h i (accepted_in_order config s t h i) p key off)
         (regions_stay face key s.core t h off)
 
-  opened_by : (o : Opening) → refusal_of s.core (opening o) ≡ None → (b : Bool) → is_at (nat_cmp s.core.next_face) face ≡ b → is_due_touched s.core (opening o) face key ≡ false → due (accepted s.core (opening o)) ints face key ≡ due s.core ints face key
+  opened_by : (o : Opening) → refusal_of s.core (opening o) ≡ None → (b : Bool) → is_at (nat_cmp s.core.next_face) face ≡ b → is_heard_touched s.core (opening o) face key ≡ false → plain_due (accepted s.core (opening o)) ints face key ≡ plain_due s.core ints face key
   opened_by o h false is off = kept (opening o) h refl (found_after_insertion nat_cmp_total exact_unsigned s.core.next_face face (opened o) s.core.faces ∙ ap (λ b. cond b (Some (opened o)) (at face s.core.faces)) is)
   opened_by o h true is off =
       let same : s.core.next_face ≡ face = one_number s.core.next_face face is in
@@ -217,7 +217,7 @@ module _ (config : Settings) (s : State) (i : InOrder config s) (ints : Interest
       by true e = absurd (false≢true (sym (ap is_some (found ∙ ap (λ b. cond b None (at face s.core.faces)) e)) ∙ seen_after))
       by false e = found ∙ ap (λ b. cond b None (at face s.core.faces)) e
 
-  pub due_kept : (t : TextCall) → refusal_of s.core t ≡ None → is_open face (accepted s.core t) ≡ true → is_due_touched s.core t face key ≡ false → due (accepted s.core t) ints face key ≡ due s.core ints face key
+  pub due_kept : (t : TextCall) → refusal_of s.core t ≡ None → is_open face (accepted s.core t) ≡ true → is_heard_touched s.core t face key ≡ false → plain_due (accepted s.core t) ints face key ≡ plain_due s.core ints face key
   due_kept (opening o) h open_after off = opened_by o h (is_at (nat_cmp s.core.next_face) face) refl off
   due_kept (closing g) h open_after off = kept (closing g) h (untouched key (touched s.core (closing g)) off) (closed_by g.0 (is_at (nat_cmp g.0) face) refl open_after)
   due_kept t h open_after off = kept t h (untouched key (touched s.core t) off) refl
@@ -225,21 +225,21 @@ module _ (config : Settings) (s : State) (i : InOrder config s) (ints : Interest
 -- at each point of a run
 pub dues_stay : (config : Settings) (calls : List Call) (c : Call) (ints : Interests) (face : ℕ) (key : List ℕ)
     → is_open face (after (state_after (opening_state config) calls) c).core ≡ true
-    → is_due_touched (state_after (opening_state config) calls).core (read (state_after (opening_state config) calls) c) face key ≡ false
-    → due (after (state_after (opening_state config) calls) c).core ints face key ≡ due (state_after (opening_state config) calls).core ints face key
+    → is_heard_touched (state_after (opening_state config) calls).core (read (state_after (opening_state config) calls) c) face key ≡ false
+    → plain_due (after (state_after (opening_state config) calls) c).core ints face key ≡ plain_due (state_after (opening_state config) calls).core ints face key
 dues_stay config calls c ints face key =
     let s = state_after (opening_state config) calls in
     by_granted
-    (λ z w. is_open face w.core ≡ true → is_due_touched s.core (read s c) face key ≡ false → due w.core ints face key ≡ due s.core ints face key)
+    (λ z w. is_open face w.core ≡ true → is_heard_touched s.core (read s c) face key ≡ false → plain_due w.core ints face key ≡ plain_due s.core ints face key)
     s (read s c) (λ text z w it. it) (λ p places z w it. it)
     (λ h. due_kept config s (run_in_order config calls) ints face key (read s c) h)
     (λ r seen_after off. refl)
 
 -- to the face that an opening opens nothing is due on a key that is not touched
 pub none_missed : (config : Settings) (calls : List Call) (o : Opening) (ints : Interests) (key : List ℕ)
-    → is_some (due (after (state_after (opening_state config) calls) (call.Open o)).core ints (state_after (opening_state config) calls).core.next_face key) ≡ true
-    → is_due_touched (state_after (opening_state config) calls).core (read (state_after (opening_state config) calls) (call.Open o)) (state_after (opening_state config) calls).core.next_face key ≡ true
-none_missed config calls o ints key some = by (is_due_touched s.core (opening o) s.core.next_face key) refl
+    → is_some (plain_due (after (state_after (opening_state config) calls) (call.Open o)).core ints (state_after (opening_state config) calls).core.next_face key) ≡ true
+    → is_heard_touched (state_after (opening_state config) calls).core (read (state_after (opening_state config) calls) (call.Open o)) (state_after (opening_state config) calls).core.next_face key ≡ true
+none_missed config calls o ints key some = by (is_heard_touched s.core (opening o) s.core.next_face key) refl
   where
     s : State
     s = state_after (opening_state config) calls
@@ -247,7 +247,7 @@ none_missed config calls o ints key some = by (is_due_touched s.core (opening o)
     n : ℕ
     n = s.core.next_face
 
-    before : due s.core ints n key ≡ None
+    before : plain_due s.core ints n key ≡ None
     before = shut n key s.core ints (next_absent s (run_in_order config calls).sound)
 
     is_there : (x : Option OpenFace) → at n (after s (call.Open o)).core.faces ≡ x → is_some x ≡ true
@@ -257,6 +257,6 @@ none_missed config calls o ints key some = by (is_due_touched s.core (opening o)
     seen_after : is_open n (after s (call.Open o)).core ≡ true
     seen_after = is_there (at n (after s (call.Open o)).core.faces) refl
 
-    by : (b : Bool) → is_due_touched s.core (opening o) n key ≡ b → b ≡ true
+    by : (b : Bool) → is_heard_touched s.core (opening o) n key ≡ b → b ≡ true
     by true e = refl
     by false e = absurd (false≢true (sym (ap is_some (dues_stay config calls (call.Open o) ints n key seen_after e ∙ before)) ∙ some))

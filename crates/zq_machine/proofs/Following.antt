@@ -57,6 +57,10 @@ behind_trees n trees near none sorted =
     ∙ ap (fold (insert_key telling_cmp) []) (filter-append (is_to n) trees near ∙ ap (λ l. l ++ filter (is_to n) near) (none_filtered (is_to n) trees none))
     ∙ in_order_stays telling_total (filter (is_to n) near) (IsStrictlySortedBy-filter telling_cmp (is_to n) near sorted)
 
+-- what is told one face, in order, is what it is told
+pub to_one : (n : ℕ) (ts : List TreeTelling) → filter (is_to n) (in_order ts) ≡ in_order (filter (is_to n) ts)
+to_one n ts = sifted telling_total (is_to n) (alike n) [] ts none_in_order
+
 -- ---- a receiver hears what a hat tells
 module _ {K : Type 0} (f : K → TellingBody → K) (g : K → TreeTelling → K) (same : (kept : K) (t : TreeTelling) → f kept (from_hat t).body ≡ g kept t) where
   pub all_heard : (n : ℕ) (kept : K) (ts : List TreeTelling) → fold (if_told f n) kept (map from_hat ts) ≡ fold g kept (filter (is_to n) ts)
@@ -126,8 +130,9 @@ onto c d ints ears n heard same x = record { ear = x.ear; there = x.there; sorte
 pub kept_of : (c : Core) (face : ℕ) (heard : Heard) (last : ℕ) (f : Follows c face heard last) → IsKept f.hears.ear heard last
 kept_of c face heard last f = record { sorted = f.hears.sorted; tied = f.hears.tied; greatest = same_Some _ _ (sym (ap (option_map (λ (e : Ear). e.last)) f.hears.there) ∙ f.greatest) }
 
--- where an interest of the face ends, what is not due any more is forgotten
+-- where an interest of the face comes or ends, what is not due any more is forgotten
 abbrev pub forget_at : ℕ → TextCall → Core → Heard → Heard
+forget_at face (hearing f id manner sd) d heard = cond (f.0 == face) (filter (is_due_at face d) heard) heard
 forget_at face (unhearing f id) d heard = cond (f.0 == face) (filter (is_due_at face d) heard) heard
 forget_at face t d heard = heard
 

@@ -21,7 +21,7 @@ use Rattle.zq_machine.specs.Configs.{Settings}
 use Rattle.zq_machine.specs.Gates.{entered_by, gate_at, space_of}
 use Rattle.zq_machine.specs.Deciding.{accepted, causes, opened, refusal_of}
 use Rattle.zq_machine.specs.Machine.{after, state_after, step, steps_from}
-use Rattle.zq_machine.specs.Selecting.{asked_by}
+use Rattle.zq_machine.specs.Selecting.{Manner, asked_by}
 use Rattle.zq_machine.specs.Standing.{Standing, asked_at, asking_after, asking_by, asking_in, standing_at}
 use Rattle.zq_machine.specs.State.{State, at, is_open, opening_state}
 use Rattle.zq_machine.specs.TextCalls.{TextCall, closing, hearing, read, said_if, unhearing}
@@ -69,26 +69,29 @@ module _ (config : Settings) (s : State) (i : InOrder config s) (rise : AreRisin
   picked false more = refl
 
   granted_asks : (c : Call) → refusal_of s.core (read s c) ≡ None → Makes c
-  granted_asks (call.Interest f id keys w) h =
-      listed_at ints f.0 (with_one f.0 id (asked_by keys (said_if f w s)) ints) q
-      ∙ picked (is_at (nat_cmp f.0) q) (with_one f.0 id (asked_by keys (said_if f w s)) ints)
-      ∙ either f (with_one f.0 id (asked_by keys (said_if f w s)) ints) (now q) here
+  granted_asks (call.Interest f id keys aggregate w) h =
+      listed_at ints f.0 (with_one f.0 id (asked_by manner (said_if f w s)) ints) q
+      ∙ picked (is_at (nat_cmp f.0) q) (with_one f.0 id (asked_by manner (said_if f w s)) ints)
+      ∙ either f (with_one f.0 id (asked_by manner (said_if f w s)) ints) (now q) here
     where
+      manner : Manner
+      manner = record { keys = keys; aggregate = aggregate }
+
       x : (o : OpenFace) × (at f.0 s.core.faces ≡ Some o)
-      x = opened_face s i.sound i.tied f.0 (all_passed (causes s.core (read s (call.Interest f id keys w))) h).0
+      x = opened_face s i.sound i.tied f.0 (all_passed (causes s.core (read s (call.Interest f id keys aggregate w))) h).0
 
       numbers : face_naming f.0 s.names ≡ (before s.gates s.core.faces s.core.hats s.names i.tied f.0 x.0 x.1).numbers
       numbers = numbers_are s.gates s.core.faces s.core.hats s.names i.tied f.0 x.0 x.1
 
       now : ℕ → Asked
-      now m = option_map_or (λ (st : Standing). insert_entry nat_cmp (interests_of m ints) id (asked_at keys w st)) (standing_at m s) (interests_of m ints)
+      now m = option_map_or (λ (st : Standing). insert_entry nat_cmp (interests_of m ints) id (asked_at manner w st)) (standing_at m s) (interests_of m ints)
 
-      at_face : with_one f.0 id (asked_by keys (said_if f w s)) ints ≡ now f.0
+      at_face : with_one f.0 id (asked_by manner (said_if f w s)) ints ≡ now f.0
       at_face =
-          (λ j. insert_entry nat_cmp (interests_of f.0 ints) id (asked_by keys (option_map (λ (x : WireExpr). said_of (numbers j) (entered_by (space_of (gate_at f.0 s.gates)) x)) w)))
-          ∙ sym (ap (λ o. option_map_or (λ (st : Standing). insert_entry nat_cmp (interests_of f.0 ints) id (asked_at keys w st)) o (interests_of f.0 ints)) (stands_so s.gates s.core.faces s.core.hats s.names i.tied f.0 x.0 x.1))
+          (λ j. insert_entry nat_cmp (interests_of f.0 ints) id (asked_by manner (option_map (λ (x : WireExpr). said_of (numbers j) (entered_by (space_of (gate_at f.0 s.gates)) x)) w)))
+          ∙ sym (ap (λ o. option_map_or (λ (st : Standing). insert_entry nat_cmp (interests_of f.0 ints) id (asked_at manner w st)) o (interests_of f.0 ints)) (stands_so s.gates s.core.faces s.core.hats s.names i.tied f.0 x.0 x.1))
 
-      here : f.0 ≡ q → with_one f.0 id (asked_by keys (said_if f w s)) ints ≡ now q
+      here : f.0 ≡ q → with_one f.0 id (asked_by manner (said_if f w s)) ints ≡ now q
       here e = at_face ∙ ap now e
   granted_asks (call.InterestFinal f id) h =
       written_at ints f.0 (without_one f.0 id ints) q (none_without f.0 id ints)
@@ -154,9 +157,9 @@ module _ (config : Settings) (s : State) (i : InOrder config s) (rise : AreRisin
       ∙ shut
 
   granted_closed : (c : Call) → refusal_of s.core (read s c) ≡ None → is_open q (accepted s.core (read s c)) ≡ false → asking_by q c (standing_at q s) (interests_of q s.core.interests) ≡ []
-  granted_closed (call.Interest f id keys w) h shut =
-      by_face f (option_map_or (λ (st : Standing). insert_entry nat_cmp (interests_of q s.core.interests) id (asked_at keys w st)) (standing_at q s) (interests_of q s.core.interests))
-      (all_passed (causes s.core (read s (call.Interest f id keys w))) h).0 shut
+  granted_closed (call.Interest f id keys aggregate w) h shut =
+      by_face f (option_map_or (λ (st : Standing). insert_entry nat_cmp (interests_of q s.core.interests) id (asked_at (record { keys = keys; aggregate = aggregate }) w st)) (standing_at q s) (interests_of q s.core.interests))
+      (all_passed (causes s.core (read s (call.Interest f id keys aggregate w))) h).0 shut
   granted_closed (call.InterestFinal f id) h shut = by_face f (without_one q id s.core.interests) (all_passed (causes s.core (read s (call.InterestFinal f id))) h).0 shut
   granted_closed (call.Close f) h shut = by (f.0 == q) refl
     where

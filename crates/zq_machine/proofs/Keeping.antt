@@ -387,6 +387,11 @@ module _ (config : Settings) (calls : List Call) (c : Call) (heards : ℕ → He
     was_unborn face le = let first : s.core.next_face ≤ (accepted s.core t).next_face = next_after s.core t in omega (arith, first, le)
 
     forgets_nothing : (face : ℕ) (x : TextCall) (d : Core) → forget_at face x d [] ≡ []
+    forgets_nothing face (hearing f id manner sd) d = by (f.0 == face)
+      where
+        by : (b : Bool) → cond b (filter (is_due_at face d) []) [] ≡ []
+        by true = refl
+        by false = refl
     forgets_nothing face (unhearing f id) d = by (f.0 == face)
       where
         by : (b : Bool) → cond b (filter (is_due_at face d) []) [] ≡ []
@@ -424,12 +429,14 @@ module _ (config : Settings) (calls : List Call) (c : Call) (heards : ℕ → He
   both_false false = refl
 
   granted_forgets : (x : Call) (face : ℕ) (z : Step) → is_accepted z.outcome ≡ true → (d : Core) (heard : Heard) → forget_undue face z d x heard ≡ forget_at face (read s x) d heard
+  granted_forgets (call.Interest f id keys aggregate w) face z given d heard = ap (λ b. cond b (filter (is_due_at face d) heard) heard) (ap (λ b. (f.0 == face) && b) given ∙ both_true (f.0 == face))
   granted_forgets (call.InterestFinal f id) face z given d heard = ap (λ b. cond b (filter (is_due_at face d) heard) heard) (ap (λ b. (f.0 == face) && b) given ∙ both_true (f.0 == face))
   granted_forgets (call.DeclareQueryable f id w info node) face z given d heard = sym (declare_read (λ x. forget_at face x d heard ≡ heard) s f id w info node refl refl)
   granted_forgets (call.UndeclareQueryable f id w node) face z given d heard = sym (withdraw_read (λ x. forget_at face x d heard ≡ heard) s f id w node refl refl)
   granted_forgets x face z given d heard = refl
 
   refused_forgets : (x : Call) (face : ℕ) (z : Step) → is_accepted z.outcome ≡ false → (d : Core) (heard : Heard) → forget_undue face z d x heard ≡ heard
+  refused_forgets (call.Interest f id keys aggregate w) face z given d heard = ap (λ b. cond b (filter (is_due_at face d) heard) heard) (ap (λ b. (f.0 == face) && b) given ∙ both_false (f.0 == face))
   refused_forgets (call.InterestFinal f id) face z given d heard = ap (λ b. cond b (filter (is_due_at face d) heard) heard) (ap (λ b. (f.0 == face) && b) given ∙ both_false (f.0 == face))
   refused_forgets x face z given d heard = refl
 
@@ -514,7 +521,7 @@ keep_promise config calls before rest is face n =
     }
 
 plain_read : (s : State) (c : Call) → is_asking c ≡ false → is_plain (read s c) ≡ true
-plain_read s (call.Interest f id keys wire) e = absurd (true≢false e)
+plain_read s (call.Interest f id keys aggregate wire) e = absurd (true≢false e)
 plain_read s (call.InterestFinal f id) e = absurd (true≢false e)
 plain_read s (call.DeclareQueryable f id w info node) e = declare_read (λ x. is_plain x ≡ true) s f id w info node refl refl
 plain_read s (call.UndeclareQueryable f id w node) e = withdraw_read (λ x. is_plain x ≡ true) s f id w node refl refl
@@ -526,22 +533,48 @@ change_promise config calls before rest c is plain given face n =
 
 -- an interest is answered by all that is due
 pub answers_interests : (config : Settings) (calls : List Call) → AnswersInterests config calls
-answers_interests config calls before rest face id keys wire is =
+answers_interests config calls before rest face id keys aggregate wire is =
     let s : State = state_after (opening_state config) before in
     let sd : Option Said = said_if face wire s in
+    let m : Manner = record { keys = keys; aggregate = aggregate } in
     let kept = (run_keeps config before).kept in
     by_granted
-    (λ z w. is_accepted z.outcome ≡ true → IsNear face.0 w.core → TellsAnswer w.core face id (asked_by keys sd) (heard_in face.0 config before) (last_in face.0 config before) (hear z.handed (follow s (hearing face id keys sd)).names))
-    s (hearing face id keys sd)
-    (λ text z w it given n. let x = it given n in record { ear = x.ear; is = x.is; exactly = hear_out text z.handed w.gates (follow s (hearing face id keys sd)).names ∙ x.exactly })
+    (λ z w. is_accepted z.outcome ≡ true → IsNear face.0 w.core → TellsAnswer w.core face id (asked_by m sd) (heard_in face.0 config before) (last_in face.0 config before) (hear z.handed (follow s (hearing face id m sd)).names))
+    s (hearing face id m sd)
+    (λ text z w it given n. let x = it given n in record { ear = x.ear; is = x.is; exactly = hear_out text z.handed w.gates (follow s (hearing face id m sd)).names ∙ x.exactly })
     (λ p places z w it given n.
     let x = it given (near_back (p ∷ places) w.core face.0 n) in
-    record { ear = x.ear; is = x.is; exactly = hear_ended (finish w.core (p ∷ places)).finals z.handed (follow s (hearing face id keys sd)).names ∙ x.exactly })
+    record { ear = x.ear; is = x.is; exactly = hear_ended (finish w.core (p ∷ places)).finals z.handed (follow s (hearing face id m sd)).names ∙ x.exactly })
     (λ h given n.
     let f : Follows s.core face.0 (heard_in face.0 config before) (last_in face.0 config before) = kept face.0 (record { opened = n.opened; near = n.near }) in
     record {
       ear = f.hears.ear;
       is = kept_of s.core face.0 (heard_in face.0 config before) (last_in face.0 config before) f;
-      exactly = granted_heard config s (call.Interest face id keys wire) (run_in_order config before) h ∙ answer_exactly s face id keys sd h f.hears.ear f.hears.there;
+      exactly = granted_heard config s (call.Interest face id keys aggregate wire) (run_in_order config before) h ∙ answer_exactly s face id m sd h f.hears.ear f.hears.there;
     })
     (λ r given. absurd (false≢true given))
+
+-- its end tells at most of its own key
+pub ends_interests : (config : Settings) (calls : List Call) → EndsInterests config calls
+ends_interests config calls before rest face id asked is given n there =
+    let s : State = state_after (opening_state config) before in
+    let kept = (run_keeps config before).kept in
+    by_granted
+    (λ z w. is_accepted z.outcome ≡ true → IsNear face.0 w.core → TellsEnd w.core face asked (heard_in face.0 config before) (last_in face.0 config before) (hear z.handed (follow s (unhearing face id)).names))
+    s (unhearing face id)
+    (λ text z w it given n. let x = it given n in record { ear = x.ear; is = x.is; exactly = hear_out text z.handed w.gates (follow s (unhearing face id)).names ∙ x.exactly })
+    (λ p places z w it given n.
+    let x = it given (near_back (p ∷ places) w.core face.0 n) in
+    record { ear = x.ear; is = x.is; exactly = hear_ended (finish w.core (p ∷ places)).finals z.handed (follow s (unhearing face id)).names ∙ x.exactly })
+    (λ h given n.
+    let f : Follows s.core face.0 (heard_in face.0 config before) (last_in face.0 config before) = kept face.0 (record { opened = n.opened; near = n.near }) in
+    let one : (was s face id h).0 ≡ asked = same_Some _ _ (sym (was s face id h).1 ∙ there) in
+    record {
+      ear = f.hears.ear;
+      is = kept_of s.core face.0 (heard_in face.0 config before) (last_in face.0 config before) f;
+      exactly =
+          granted_heard config s (call.InterestFinal face id) (run_in_order config before) h
+          ∙ end_exactly s face id h (heard_in face.0 config before) f.hears
+          ∙ ap (λ (x : InterestEntry). map from_hat (told_in Ending face.0 f.hears.ear (map (due_on (accepted s.core (unhearing face id)) (accepted s.core (unhearing face id)).interests face.0) (option_to_list x.key)))) one;
+    })
+    (λ r given. absurd (false≢true given)) given n

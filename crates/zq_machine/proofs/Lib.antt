@@ -71,6 +71,11 @@ pub mod Asking
 pub mod Closings
 pub mod Folding
 pub mod DueKeys
+pub mod Folded
+pub mod Widening
+pub mod AskedKeys
+pub mod DueWhole
+pub mod DueInterests
 pub mod DueAlone
 pub mod DueTaken
 pub mod DueAsked

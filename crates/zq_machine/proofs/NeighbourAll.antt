@@ -35,7 +35,7 @@ use Rattle.zq_machine.specs.State.{Core, State, at, is_open}
 use Rattle.zq_machine.specs.TextCalls.{TextCall, opening, closing}
 use Rattle.zq_machine.proofs.Agreed.{InOrder as Kept}
 use Rattle.zq_machine.proofs.Changing.{number_test}
-use Rattle.zq_machine.proofs.DueEnds.{closed_undue}
+use Rattle.zq_machine.proofs.DueWhole.{closed_undue}
 use Rattle.zq_machine.proofs.Granted.{settled_of}
 use Rattle.zq_machine.proofs.NeighbourDues.{all_keys, dues_of, rows_rise}
 use Rattle.zq_machine.proofs.NeighbourLooks.{looked_is}
@@ -47,7 +47,7 @@ module _ (config : Settings) (s : State) (i : Kept config s) (t : TextCall) (int
   w = (settle s t).core
 
   abbrev keys_of_face : ℕ → List KeyDue
-  keys_of_face n = dues_on w ints (due_touched s.core t n) n
+  keys_of_face n = dues_on w ints (due_touched s.core ints t n) n
 
   -- ---- in order, to open faces
   keys_ordered : AllByRecursion (λ (d : FaceDues). InOrder d.keys) (looked_at s.core w ints t)

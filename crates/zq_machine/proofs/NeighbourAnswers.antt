@@ -1,127 +1,144 @@
--- Over an interest the asker's receiver drops nothing: it keeps no key that is looked at and not due.
+-- What answers an interest; and over an interest, or its end, the asker's receiver forgets exactly the keys that are not due.
 use Rattle.std.proofs.Common.{◌≡◌, ◌∙◌, refl, sym, ap, subst, ℕ, Bool, true, false, cond, not, List, [], ◌∷◌, filter, fold, map, Option, Some, None, true≢false}
 use Rattle.std.specs.Prelude.{◌&&◌, ◌||◌, is_none}
-use Rattle.std.specs.BTreeMap.{insert_entry, is_at}
+use Rattle.std.specs.BTreeMap.{is_at}
 use Rattle.std.specs.List.{AllByRecursion}
-use Rattle.std.specs.Map.{remove_entry}
-use Rattle.std.specs.Option.{is_some, option_map}
-use Rattle.std.specs.Ordering.{match_ordering, nat_cmp}
+use Rattle.std.specs.Option.{is_some, option_map, option_to_list}
+use Rattle.std.specs.Ordering.{nat_cmp}
 use Rattle.std.specs.Str.{bytes_eq}
-use Rattle.std.specs.declared.cmp.Ordering.{Ordering}
-use Rattle.std.specs.declared.cmp.Ordering.TheVariants.{Less, Equal, Greater}
+use Rattle.std.proofs.lemmas.Bool.{false≢true}
 use Rattle.std.proofs.lemmas.Cmp.{nat_cmp_total}
+use Rattle.std.proofs.lemmas.List.Kept.{IsStrictlySortedBy-filter}
 use Rattle.std.proofs.lemmas.Map.Lookups.{exact_unsigned}
 use Rattle.std.proofs.lemmas.Slice.Eq.{bytes_eq-Decides}
 use Rattle.zq_message.specs.declared.message.QueryableInfoType.{QueryableInfoType}
 use Rattle.zq_key.proofs.Lookups.{each_entry}
+use Rattle.zq_key.proofs.Sorted.{same_keys}
+use Rattle.zq_index.specs.Texts.{text_cmp}
+use Rattle.zq_index.proofs.Orders.{text_exact, text_total}
 use Rattle.zq_trees.specs.declared.types.Telling.{Telling}
 use Rattle.zq_interests.specs.declared.types.InterestEntry.{InterestEntry}
+use Rattle.zq_interests.specs.Interests.{Interests, asked_for, meets, with_interest}
 use Rattle.zq_told.specs.declared.types.ToldEntry.{ToldEntry}
 use Rattle.zq_told.specs.declared.types.Way.TheVariants.{Answering}
 use Rattle.zq_told.specs.Ears.{Ears}
 use Rattle.zq_told.specs.Telling.{KeyDue}
-use Rattle.zq_told.specs.Receiver.{Heard, heard_entry, is_left, is_over, receive}
+use Rattle.zq_told.specs.Receiver.{Heard, is_left, is_over}
 use Rattle.zq_told.specs.Laws.{is_to, told_in}
 use Rattle.zq_told.specs.Leaving.{news_of}
-use Rattle.zq_told.proofs.Leaving.{answers_all}
-use Rattle.zq_machine.specs.Due.{due, met_keys}
-use Rattle.zq_interests.specs.Interests.{Interests, interests_of, with_interest}
-use Rattle.zq_machine.specs.Neighbours.{answer_told, asked_dues, with_dues}
-use Rattle.zq_machine.specs.Receivers.{Hears, heard_asked}
+use Rattle.zq_told.proofs.Leaving.{answers_all, answers_due}
+use Rattle.zq_machine.specs.Due.{answer_keys, asked_keys, due, face_keys, is_looked}
+use Rattle.zq_machine.specs.Neighbours.{answer_dues, answer_told, asked_dues, due_on, with_dues}
+use Rattle.zq_machine.specs.Receivers.{Hears, is_due_in}
 use Rattle.zq_machine.specs.State.{Core, at}
-use Rattle.zq_machine.proofs.DueEnds.{asks_more}
-use Rattle.zq_machine.proofs.NeighbourDues.{alone_rises, keys_alone, row}
+use Rattle.zq_machine.proofs.DueInterests.{keys_rise}
+use Rattle.zq_machine.proofs.DueKeys.{all_put, either_test, is_among}
+use Rattle.zq_machine.proofs.DueWhole.{keys_among}
+use Rattle.zq_machine.proofs.NeighbourDues.{alone_rises, among_filter, filter_rows, keys_alone, row}
 use Rattle.zq_machine.proofs.NeighbourTold.{told_here}
 
--- ---- entries on keys of a kind
-abbrev IsOff : (List ℕ → Bool) → ℕ × (List ℕ × QueryableInfoType) → Type 0
-IsOff over e = over e.1.0 ≡ false
+-- ---- keys that are looked at, and over
+never : (b : Bool) → (b && false) ≡ false
+never true = refl
+never false = refl
 
-left_by : (over : List ℕ → Bool) (e : ℕ × (List ℕ × QueryableInfoType)) (es : Heard) (b : Bool) → b ≡ false → filter (is_left over) es ≡ es → cond (not b) (e ∷ filter (is_left over) es) (filter (is_left over) es) ≡ e ∷ es
-left_by over e es true off more = absurd (true≢false off)
-left_by over e es false off more = ap (λ l. e ∷ l) more
+pub over_is : (d : List ℕ → Option QueryableInfoType) (q : List ℕ) (ks : List (List ℕ)) → is_over (map (row d) ks) q ≡ (is_none (d q) && is_among q ks)
+over_is d q [] = sym (never (is_none (d q)))
+over_is d q (k ∷ ks) = (λ j. (is_none (d k) && either_test q k j) || over_is d q ks j) ∙ by (is_at (text_cmp q) k) refl
+  where
+    joined_by : (x y : Bool) → ((x && true) || (x && y)) ≡ (x && true)
+    joined_by true y = refl
+    joined_by false y = refl
 
-all_left : (over : List ℕ → Bool) (es : Heard) → AllByRecursion (IsOff over) es → filter (is_left over) es ≡ es
-all_left over [] all = refl
-all_left over (e ∷ es) all = left_by over e es (over e.1.0) all.0 (all_left over es all.1)
+    by : (b : Bool) → is_at (text_cmp q) k ≡ b → ((is_none (d k) && b) || (is_none (d q) && is_among q ks)) ≡ (is_none (d q) && (b || is_among q ks))
+    by true is = ap (λ x. (is_none (d x) && true) || (is_none (d q) && is_among q ks)) ((bytes_eq-Decides k q).0 (either_test q k ∙ is)) ∙ joined_by (is_none (d q)) (is_among q ks)
+    by false is = ap (λ x. x || (is_none (d q) && is_among q ks)) (never (is_none (d k)))
 
-module _ (over : List ℕ → Bool) where
-  put_by : (id : ℕ) (v : List ℕ × QueryableInfoType) (e : ℕ × (List ℕ × QueryableInfoType)) (es : Heard) (r : Ordering) → over v.0 ≡ false → AllByRecursion (IsOff over) (e ∷ es) → AllByRecursion (IsOff over) (insert_entry nat_cmp es id v)
-      → AllByRecursion (IsOff over) (match_ordering r ((id, v) ∷ e ∷ es) ((e.0, v) ∷ es) (e ∷ insert_entry nat_cmp es id v))
-  put_by id v e es Less off all more = (off, all)
-  put_by id v e es Equal off all more = (off, all.1)
-  put_by id v e es Greater off all more = (all.0, more)
+-- two tests, of which the one takes in the other, keep the same where all passes the other that passes the one
+pub filter_both : {X : Type 0} (p q : X → Bool) → ((x : X) → q x ≡ true → p x ≡ true) → (xs : List X) → AllByRecursion (λ x. q x ≡ true) (filter p xs) → filter p xs ≡ filter q xs
+filter_both p q more [] all = refl
+filter_both p q more (x ∷ xs) all = by (p x) refl (q x) refl all (filter_both p q more xs)
+  where
+    by : (a : Bool) → p x ≡ a → (b : Bool) → q x ≡ b → AllByRecursion (λ y. q y ≡ true) (cond a (x ∷ filter p xs) (filter p xs)) → (AllByRecursion (λ y. q y ≡ true) (filter p xs) → filter p xs ≡ filter q xs)
+        → cond a (x ∷ filter p xs) (filter p xs) ≡ cond b (x ∷ filter q xs) (filter q xs)
+    by true e true f each rest = ap (λ l. x ∷ l) (rest each.1)
+    by true e false f each rest = absurd (true≢false (sym each.0 ∙ f))
+    by false e true f each rest = absurd (true≢false (sym (more x f) ∙ e))
+    by false e false f each rest = rest each
 
-  all_put : (id : ℕ) (v : List ℕ × QueryableInfoType) (es : Heard) → over v.0 ≡ false → AllByRecursion (IsOff over) es → AllByRecursion (IsOff over) (insert_entry nat_cmp es id v)
-  all_put id v [] off all = (off, tt)
-  all_put id v (e ∷ es) off all = put_by id v e es (nat_cmp id e.0) off all (all_put id v es off all.1)
+-- ---- what a receiver forgets
+-- of the keys that were looked at it forgets those that are over, and so all that are not due
+module _ (c : Core) (more : Interests) (ears : Ears) (asker : ℕ) (ks : List (List ℕ)) (kept : Heard) where
+  abbrev d : List ℕ → Option QueryableInfoType
+  d = due c more asker
 
-  taken_by : (e : ℕ × (List ℕ × QueryableInfoType)) (es rest : Heard) (b : Bool) → AllByRecursion (IsOff over) (e ∷ es) → AllByRecursion (IsOff over) rest → AllByRecursion (IsOff over) (cond b es (e ∷ rest))
-  taken_by e es rest true all more = all.1
-  taken_by e es rest false all more = (all.0, more)
-
-  all_taken : (id : ℕ) (es : Heard) → AllByRecursion (IsOff over) es → AllByRecursion (IsOff over) (remove_entry (is_at (nat_cmp id)) es)
-  all_taken id [] all = tt
-  all_taken id (e ∷ es) all = taken_by e es (remove_entry (is_at (nat_cmp id)) es) (is_at (nat_cmp id) e.0) all (all_taken id es all.1)
-
-  all_entry : (id : ℕ) (key : List ℕ) (info : Option QueryableInfoType) (es : Heard) → over key ≡ false → AllByRecursion (IsOff over) es → AllByRecursion (IsOff over) (heard_entry es id key info)
-  all_entry id key None es off all = all_taken id es all
-  all_entry id key (Some i) es off all = all_put id (key, i) es off all
-
-  all_received : (ts : List Telling) (es : Heard) → AllByRecursion (λ (k : KeyDue). over k.0 ≡ false) (map news_of ts) → AllByRecursion (IsOff over) es → AllByRecursion (IsOff over) (fold receive es ts)
-  all_received [] es off all = all
-  all_received (t ∷ ts) es off all = all_received ts (receive es t) off.1 (all_entry t.id t.key t.info es off.0 all)
-
--- ---- keys that are looked at
-module _ (d : List ℕ → Option QueryableInfoType) where
-  here_by : (q k : List ℕ) (b : Bool) → bytes_eq k q ≡ b → is_none (d q) ≡ false → (is_none (d k) && b) ≡ false
-  here_by q k true is some = ap (λ x. is_none (d x) && true) ((bytes_eq-Decides k q).0 is) ∙ ap (λ b. b && true) some
-  here_by q k false is some = by (is_none (d k))
+  left_due : (e : ℕ × (List ℕ × QueryableInfoType)) → is_due_in c more asker e ≡ true → is_left (is_over (map (due_on c more asker) ks)) e ≡ true
+  left_due e some = ap not (over_is d e.1.0 ks ∙ by (d e.1.0) some)
     where
-      by : (b : Bool) → (b && false) ≡ false
-      by true = refl
-      by false = refl
+      by : (o : Option QueryableInfoType) → is_some o ≡ true → (is_none o && is_among e.1.0 ks) ≡ false
+      by None s = absurd (false≢true s)
+      by (Some i) s = refl
 
-  -- a key that is due is not over
-  not_over : (q : List ℕ) (ks : List (List ℕ)) → is_none (d q) ≡ false → is_over (map (row d) ks) q ≡ false
-  not_over q [] some = refl
-  not_over q (k ∷ ks) some = λ i. here_by q k (bytes_eq k q) refl some i || not_over q ks some i
+  pub forgets_undue : Hears c more ears asker (filter (is_left (is_over (map (due_on c more asker) ks))) kept) → filter (is_left (is_over (map (due_on c more asker) ks))) kept ≡ filter (is_due_in c more asker) kept
+  forgets_undue h =
+      filter_both (is_left (is_over (map (due_on c more asker) ks))) (is_due_in c more asker) left_due kept
+      (each_entry nat_cmp_total exact_unsigned (λ e. is_due_in c more asker e ≡ true) (filter (is_left (is_over (map (due_on c more asker) ks))) kept) h.tied.sorted
+      (λ k v there. ap is_some (sym (h.told v.0) ∙ ap (option_map (λ (t : ToldEntry). t.info)) (h.tied.back k v.0 v.1 there))))
 
-  due_by : (all k : List (List ℕ)) (q : List ℕ) (o : Option QueryableInfoType) → d q ≡ o → AllByRecursion (λ (k : KeyDue). is_over (map (row d) all) k.0 ≡ false) (filter (λ (k : KeyDue). is_some k.1) (map (row d) k))
-      → AllByRecursion (λ (k : KeyDue). is_over (map (row d) all) k.0 ≡ false) (cond (is_some o) (row d q ∷ filter (λ (k : KeyDue). is_some k.1) (map (row d) k)) (filter (λ (k : KeyDue). is_some k.1) (map (row d) k)))
-  due_by all ks q None e more = more
-  due_by all ks q (Some i) e more = (not_over q all (ap is_none e), more)
+-- ---- what answers an interest
+module _ (c : Core) (more : Interests) (asker : ℕ) (asked : InterestEntry) where
+  abbrev is_owed : List ℕ → Bool
+  is_owed q = is_some (due c more asker q)
 
-  due_off : (all ks : List (List ℕ)) → AllByRecursion (λ (k : KeyDue). is_over (map (row d) all) k.0 ≡ false) (filter (λ (k : KeyDue). is_some k.1) (map (row d) ks))
-  due_off all [] = tt
-  due_off all (k ∷ ks) = due_by all ks k (d k) refl (due_off all ks)
+  looked_owed : (q : List ℕ) (o : Option QueryableInfoType) → due c more asker q ≡ o → is_some o ≡ true → is_looked c more asker asked q ≡ asked_for asked q
+  looked_owed q None e some = absurd (false≢true some)
+  looked_owed q (Some i) e some = ap (λ (o : Option QueryableInfoType). asked_for asked q || (meets asked.key q && is_none o)) e ∙ by (asked_for asked q) (meets asked.key q)
+    where
+      by : (a m : Bool) → (a || (m && false)) ≡ a
+      by true m = refl
+      by false true = refl
+      by false false = refl
 
--- ---- the asker's receiver
-module _ (c : Core) (ints : Interests) (ears : Ears) (asker id : ℕ) (asked : InterestEntry) (same : (old : InterestEntry) → at id (interests_of asker ints) ≡ Some old → old.key ≡ asked.key)
-    (heard : Heard) (h : Hears c ints ears asker heard) where
-  abbrev more : Interests
-  more = with_interest asker id asked ints
+  or_true : (a b : Bool) → b ≡ true → (a || b) ≡ true
+  or_true true b e = refl
+  or_true false b e = e
 
-  abbrev asks : List KeyDue
-  asks = asked_dues c more asker asked
+  owed_among : (q : List ℕ) → is_owed q ≡ true → is_among q (asked_keys c more asker asked) ≡ is_among q (answer_keys c more asker asked)
+  owed_among q some =
+      let there : is_among q (face_keys c more asker) ≡ true = keys_among c more asker q some in
+      among_filter (is_looked c more asker asked) q _
+      ∙ (λ j. looked_owed q (due c more asker q) refl some j && (all_put q (face_keys c more asker) (option_to_list asked.key) ∙ or_true (is_among q (option_to_list asked.key)) (is_among q (face_keys c more asker)) there ∙ sym there) j)
+      ∙ sym (among_filter (asked_for asked) q (face_keys c more asker))
 
-  abbrev told : List Telling
-  told = filter (is_to asker) (answer_told c more ears asker asked)
+  same_owed : filter is_owed (asked_keys c more asker asked) ≡ filter is_owed (answer_keys c more asker asked)
+  same_owed =
+      same_keys text_total text_exact (filter is_owed (asked_keys c more asker asked)) (filter is_owed (answer_keys c more asker asked))
+      (IsStrictlySortedBy-filter text_cmp is_owed (asked_keys c more asker asked) ((keys_rise c more asker).asked asked))
+      (IsStrictlySortedBy-filter text_cmp is_owed (answer_keys c more asker asked) (IsStrictlySortedBy-filter text_cmp (asked_for asked) (face_keys c more asker) (keys_rise c more asker).own))
+      (λ q. among_filter is_owed q (asked_keys c more asker asked) ∙ by q (is_owed q) refl ∙ sym (among_filter is_owed q (answer_keys c more asker asked)))
+    where
+      by : (q : List ℕ) (b : Bool) → is_owed q ≡ b → (b && is_among q (asked_keys c more asker asked)) ≡ (b && is_among q (answer_keys c more asker asked))
+      by q true e = owed_among q e
+      by q false e = refl
 
-  told_is : told ≡ told_in Answering asker h.ear asks
-  told_is = told_here Answering ears asker h.ear h.there (with_dues asker asks) (alone_rises asker asks) ∙ ap (told_in Answering asker h.ear) (keys_alone asker asks)
+  abbrev has_due : KeyDue → Bool
+  has_due k = is_some k.1
 
-  pub asked_told : map news_of told ≡ filter (λ (k : KeyDue). is_some k.1) asks
-  asked_told = ap (map news_of) told_is ∙ answers_all asker h.ear asks
+  -- the keys that are looked at and due are those that answer
+  pub rows_owed : filter has_due (asked_dues c more asker asked) ≡ filter has_due (answer_dues c more asker asked)
+  rows_owed =
+      filter_rows (due c more asker) has_due (asked_keys c more asker asked)
+      ∙ ap (map (due_on c more asker)) same_owed
+      ∙ sym (filter_rows (due c more asker) has_due (answer_keys c more asker asked))
 
-  kept_off : (n : ℕ) (v : List ℕ × QueryableInfoType) → at n heard ≡ Some v → is_over asks v.0 ≡ false
-  kept_off n v there =
-      let was : due c ints asker v.0 ≡ Some v.1 = sym (h.told v.0) ∙ ap (option_map (λ (t : ToldEntry). t.info)) (h.tied.back n v.0 v.1 there) in
-      not_over (due c more asker) v.0 (met_keys asked.key c) (ap is_none (asks_more c ints asker id asked same asker v.0 (ap is_some was) ∙ was))
+  module _ (ears : Ears) (ints : Interests) (heard : Heard) (h : Hears c ints ears asker heard) where
+    abbrev told : List Telling
+    told = filter (is_to asker) (answer_told c more ears asker asked)
 
-  pub drops_none : heard_asked c more ears asker asked heard ≡ fold receive heard told
-  drops_none =
-      all_left (is_over asks) (fold receive heard told)
-      (all_received (is_over asks) told heard
-      (subst (AllByRecursion (λ (k : KeyDue). is_over asks k.0 ≡ false)) (sym asked_told) (due_off (due c more asker) (met_keys asked.key c) (met_keys asked.key c)))
-      (each_entry nat_cmp_total exact_unsigned (IsOff (is_over asks)) heard h.tied.sorted kept_off))
+    told_is : told ≡ told_in Answering asker h.ear (asked_dues c more asker asked)
+    told_is =
+        told_here Answering ears asker h.ear h.there (with_dues asker (asked_dues c more asker asked)) (alone_rises asker (asked_dues c more asker asked))
+        ∙ ap (told_in Answering asker h.ear) (keys_alone asker (asked_dues c more asker asked))
+
+    pub asked_told : map news_of told ≡ filter has_due (answer_dues c more asker asked)
+    asked_told = ap (map news_of) told_is ∙ answers_all asker h.ear (asked_dues c more asker asked) ∙ rows_owed

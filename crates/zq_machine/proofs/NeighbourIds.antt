@@ -25,7 +25,7 @@ use Rattle.zq_machine.specs.declared.call.Opening.{Opening}
 use Rattle.zq_machine.specs.declared.face.OpenFace.{OpenFace}
 use Rattle.zq_machine.specs.Configs.{Settings}
 use Rattle.zq_machine.specs.Deciding.{accepted, opened}
-use Rattle.zq_machine.specs.Due.{due, due_keys, due_touched, heard as heard_there, listens}
+use Rattle.zq_machine.specs.Due.{due, due_touched, face_keys, listens, meant}
 use Rattle.zq_interests.specs.Interests.{Interests}
 use Rattle.zq_machine.specs.Machine.{settle}
 use Rattle.zq_machine.specs.Neighbours.{dues_on, looked_at, neighbours_lack, with_dues, with_new}
@@ -33,7 +33,7 @@ use Rattle.zq_machine.specs.Receivers.{AllHear, is_news, lacks_at}
 use Rattle.zq_machine.specs.State.{Core, State, at, is_open}
 use Rattle.zq_machine.specs.TextCalls.{TextCall, opening, closing}
 use Rattle.zq_machine.proofs.Agreed.{InOrder as Kept}
-use Rattle.zq_machine.proofs.DueEnds.{closed_undue}
+use Rattle.zq_machine.proofs.DueWhole.{closed_undue}
 use Rattle.zq_machine.proofs.Granted.{by_granted}
 use Rattle.zq_machine.proofs.NeighbourTells.{news_counted}
 use Rattle.zq_machine.proofs.NeighbourLooks.{looked_is}
@@ -98,7 +98,7 @@ module _ (config : Settings) (s : State) (i : Kept config s) (ints : Interests) 
               ear = h.1.ear;
               there = new_beside config s i t ints face seen was ears t ∙ h.1.there;
               told = h.1.told;
-              quiet = λ key off. ap (λ b. cond b (heard_there s.core face key) None) (sym (same face was seen key) ∙ off);
+              quiet = λ key off. ap (λ b. cond b (meant s.core ints face key) None) (sym (same face was seen key) ∙ off);
             }
         by false was =
             let none : (key : List ℕ) → due s.core ints face key ≡ None = λ key. closed_undue s.core ints face key was in
@@ -111,12 +111,12 @@ module _ (config : Settings) (s : State) (i : Kept config s) (ints : Interests) 
         or-false (lacks_there Unasked before (record { face = record { 0 = face }; keys = k ∷ ks }))
         ∙ ap (λ o. option_map_or (λ (e : Ear). is_too_great (e.last + length (filter (takes_id Unasked e.told) (k ∷ ks)))) o false) there
 
-    lacks_one : (face : ℕ) → is_open face w ≡ true → list_any (lacks_there Unasked before) (with_dues face (dues_on w ints (due_touched s.core t face) face)) ≡ lacks_at w ints before face
+    lacks_one : (face : ℕ) → is_open face w ≡ true → list_any (lacks_there Unasked before) (with_dues face (dues_on w ints (due_touched s.core ints t face) face)) ≡ lacks_at w ints before face
     lacks_one face seen =
         let x = was_told face seen in
-        lacks_by face x.ear x.there (dues_on w ints (due_touched s.core t face) face)
+        lacks_by face x.ear x.there (dues_on w ints (due_touched s.core ints t face) face)
         ∙ ap (λ n. is_too_great (x.ear.last + n)) (news_counted config s i t ints face seen x.ear x.told x.quiet)
-        ∙ sym (ap (λ o. option_map_or (λ (e : Ear). is_too_great (e.last + length (filter (is_news w ints face e) (due_keys w)))) o false) x.there)
+        ∙ sym (ap (λ o. option_map_or (λ (e : Ear). is_too_great (e.last + length (filter (is_news w ints face e) (face_keys w ints face)))) o false) x.there)
 
     -- ---- all faces
     abbrev IsOpen : ℕ × OpenFace → Type 0
@@ -126,10 +126,10 @@ module _ (config : Settings) (s : State) (i : Kept config s) (ints : Interests) 
     all_open = each_entry nat_cmp_total exact_unsigned IsOpen w.faces (faces_rise config s i t ints) (λ k v there. ap is_some there)
 
     lacks_of : (os : List (ℕ × OpenFace)) → AllByRecursion IsOpen os
-        → list_any (lacks_there Unasked before) (flat_map (λ o. with_dues o.0 (dues_on w ints (due_touched s.core t o.0) o.0)) os) ≡ list_any (λ o. lacks_at w ints before o.0) os
+        → list_any (lacks_there Unasked before) (flat_map (λ o. with_dues o.0 (dues_on w ints (due_touched s.core ints t o.0) o.0)) os) ≡ list_any (λ o. lacks_at w ints before o.0) os
     lacks_of [] open_all = refl
     lacks_of (o ∷ os) open_all =
-        list_any-append (lacks_there Unasked before) (with_dues o.0 (dues_on w ints (due_touched s.core t o.0) o.0)) (flat_map (λ o. with_dues o.0 (dues_on w ints (due_touched s.core t o.0) o.0)) os)
+        list_any-append (lacks_there Unasked before) (with_dues o.0 (dues_on w ints (due_touched s.core ints t o.0) o.0)) (flat_map (λ o. with_dues o.0 (dues_on w ints (due_touched s.core ints t o.0) o.0)) os)
         ∙ (λ j. lacks_one o.0 open_all.0 j || lacks_of os open_all.1 j)
 
     pub lacks_are : neighbours_lack s.core w ints t ears ≡ list_any (λ o. lacks_at w ints before o.0) w.faces
@@ -159,8 +159,8 @@ module _ (config : Settings) (s : State) (i : Kept config s) (ints : Interests) 
       enough_at : (face : ℕ) → is_open face w ≡ true → lacks_at w ints before face ≡ false
       enough_at face seen =
           let x = was_told face seen in
-          ap (λ o. option_map_or (λ (e : Ear). is_too_great (e.last + length (filter (is_news w ints face e) (due_keys w)))) o false) x.there
-          ∙ ap (λ (l : List (List ℕ)). is_too_great (x.ear.last + length l)) (none_news face seen x.ear x.told (due_keys w))
+          ap (λ o. option_map_or (λ (e : Ear). is_too_great (e.last + length (filter (is_news w ints face e) (face_keys w ints face)))) o false) x.there
+          ∙ ap (λ (l : List (List ℕ)). is_too_great (x.ear.last + length l)) (none_news face seen x.ear x.told (face_keys w ints face))
           ∙ ap is_too_great (let z : x.ear.last + 0 ≡ x.ear.last = omega arith in z)
           ∙ below_by x.ear.last (ids face x.ear x.there)
 

@@ -12,7 +12,7 @@ use Rattle.zq_machine.specs.declared.call.Call.TheVariants as call
 use Rattle.zq_machine.specs.declared.call.Opening.{Opening}
 use Rattle.zq_machine.specs.Configs.{Settings}
 use Rattle.zq_machine.specs.Deciding.{is_accepted}
-use Rattle.zq_machine.specs.Due.{due, heard as heard_there}
+use Rattle.zq_machine.specs.Due.{due, meant}
 use Rattle.zq_interests.specs.Interests.{Interests, interests_of, with_interest, without_interest}
 use Rattle.zq_machine.specs.Machine.{after, settle, state_after, step}
 use Rattle.zq_machine.specs.Neighbours.{asked_at, ended_at}
@@ -20,9 +20,9 @@ use Rattle.zq_machine.specs.Receivers.{AllTold, AskingTold, EndingTold, FaceTold
 use Rattle.zq_machine.specs.State.{Core, State, at, is_open, opening_state}
 use Rattle.zq_machine.specs.TextCalls.{TextCall, announcing, declaring, opening, read}
 use Rattle.zq_machine.proofs.Agreed.{InOrder as Kept, next_absent, run_in_order}
-use Rattle.zq_machine.proofs.DueLess.{accepted_less, brings, listens_stay}
+use Rattle.zq_machine.proofs.DueLess.{brings, listens_stay}
 use Rattle.zq_machine.proofs.Granted.{by_granted}
-use Rattle.zq_machine.proofs.DueEnds.{closed_undue}
+use Rattle.zq_machine.proofs.DueWhole.{accepted_less, closed_undue}
 use Rattle.zq_machine.proofs.NeighbourAll.{all_hear, closed_untold, ears_sound, faces_kept, new_hears, new_last, told_ordered}
 use Rattle.zq_machine.proofs.NeighbourAnswers.{asked_told, drops_none}
 use Rattle.zq_machine.proofs.NeighbourAsked.{asker_ended, asker_told, lacks_asked, none_lack, others_asked, others_ended, others_untold, untold}
@@ -42,9 +42,9 @@ module _ (config : Settings) (calls : List Call) where
       → (h : Hears s.core ints ears face heard) → FaceTold s.core (after s c).core ints (read s c) ears face h.ear heard
   face_told c ints ears face heard was seen h = record {
     keeps = call_told config s i (read s c) ints face seen was ears heard (λ key. listens_stay config calls c ints face key was seen) h;
-    some = have_looked config s i (read s c) ints face seen h.ear h.told (λ key off. ap (λ b. cond b (heard_there s.core face key) None) (sym (listens_stay config calls c ints face key was seen) ∙ off));
+    some = have_looked config s i (read s c) ints face seen h.ear h.told (λ key off. ap (λ b. cond b (meant s.core ints face key) None) (sym (listens_stay config calls c ints face key was seen) ∙ off));
     exactly = tells_exactly config s i (read s c) ints face seen h.ear h.told
-        (λ key off. ap (λ b. cond b (heard_there s.core face key) None) (sym (listens_stay config calls c ints face key was seen) ∙ off)) ears
+        (λ key off. ap (λ b. cond b (meant s.core ints face key) None) (sym (listens_stay config calls c ints face key was seen) ∙ off)) ears
         (new_beside config s i (read s c) ints face seen was ears (read s c) ∙ h.there);
     last = last_told config s i (read s c) ints face seen was ears heard h;
   }

@@ -19,7 +19,7 @@ use Rattle.zq_told.specs.Moved.{TellsAlike, move_dues, move_ear, move_ears, move
 use Rattle.zq_told.specs.Telling.{KeyDue, lacks_ids, tell_due, tell_faces}
 use Rattle.zq_told.proofs.Moved.{tells_alike}
 use Rattle.zq_machine.specs.declared.face.OpenFace.{OpenFace}
-use Rattle.zq_machine.specs.Due.{due_touched, listens, met_keys}
+use Rattle.zq_machine.specs.Due.{asked_keys, due_touched, listens}
 use Rattle.zq_interests.specs.Interests.{Interests, meets}
 use Rattle.zq_machine.specs.DueAlike.{DueAlike, ToldAlike}
 use Rattle.zq_machine.specs.Moved.{move_asked, move_core, move_interests, move_text}
@@ -29,7 +29,7 @@ use Rattle.zq_machine.specs.State.{Core}
 use Rattle.zq_machine.specs.TextCalls.{TextCall, opening, closing}
 use Rattle.zq_machine.proofs.NeighbourLooks.{looked_is}
 use Rattle.zq_machine.proofs.Refused.{HasText, has_text}
-use Rattle.zq_machine.proofs.DuesMoved.{dues_moved, keys_moved, listens_moved, looked_moved, meets_moved, met_moved}
+use Rattle.zq_machine.proofs.DuesMoved.{asked_keys_moved, dues_moved, face_keys_moved, keys_moved, listens_moved, looked_moved, meets_moved}
 
 flat_same : {X Y Z : Type 0} (k : Y → Z) (f : X → List Z) (h : X → List Y) → ((x : X) → f x ≡ map k (h x)) → (xs : List X) → flat_map f xs ≡ map k (flat_map h xs)
 flat_same k f h same [] = refl
@@ -57,23 +57,23 @@ module _ (φ : List ℕ → List ℕ) (keeps : Keeps φ) where
 
   -- ---- what is looked at
   module _ (before after : Core) (ints : Interests) (t : TextCall) (text : HasText t) where
-    one_moved : (o : ℕ × OpenFace) → with_dues o.0 (dues_on (move_core φ after) (move_interests φ ints) (due_touched (move_core φ before) (move_text φ t) o.0) o.0) ≡ map (move_dues φ) (with_dues o.0 (dues_on after ints (due_touched before t o.0) o.0))
+    one_moved : (o : ℕ × OpenFace) → with_dues o.0 (dues_on (move_core φ after) (move_interests φ ints) (due_touched (move_core φ before) (move_interests φ ints) (move_text φ t) o.0) o.0) ≡ map (move_dues φ) (with_dues o.0 (dues_on after ints (due_touched before ints t o.0) o.0))
     one_moved o =
-        ap (λ ks. with_dues o.0 (dues_on (move_core φ after) (move_interests φ ints) ks o.0)) (looked_moved φ keeps before t o.0 text)
-        ∙ ap (with_dues o.0) (heard_rows after ints o.0 (due_touched before t o.0))
-        ∙ face_moved o.0 (dues_on after ints (due_touched before t o.0) o.0)
+        ap (λ ks. with_dues o.0 (dues_on (move_core φ after) (move_interests φ ints) ks o.0)) (looked_moved φ keeps before ints t o.0 text)
+        ∙ ap (with_dues o.0) (heard_rows after ints o.0 (due_touched before ints t o.0))
+        ∙ face_moved o.0 (dues_on after ints (due_touched before ints t o.0) o.0)
 
     dues_alike : looked_at (move_core φ before) (move_core φ after) (move_interests φ ints) (move_text φ t) ≡ map (move_dues φ) (looked_at before after ints t)
     dues_alike =
         looked_is (move_core φ before) (move_core φ after) (move_interests φ ints) (move_text φ t)
-        ∙ flat_same (move_dues φ) (λ (o : ℕ × OpenFace). with_dues o.0 (dues_on (move_core φ after) (move_interests φ ints) (due_touched (move_core φ before) (move_text φ t) o.0) o.0))
-        (λ (o : ℕ × OpenFace). with_dues o.0 (dues_on after ints (due_touched before t o.0) o.0)) one_moved after.faces
+        ∙ flat_same (move_dues φ) (λ (o : ℕ × OpenFace). with_dues o.0 (dues_on (move_core φ after) (move_interests φ ints) (due_touched (move_core φ before) (move_interests φ ints) (move_text φ t) o.0) o.0))
+        (λ (o : ℕ × OpenFace). with_dues o.0 (dues_on after ints (due_touched before ints t o.0) o.0)) one_moved after.faces
         ∙ ap (map (move_dues φ)) (sym (looked_is before after ints t))
 
   asked_alike : (c : Core) (ints : Interests) (asker : ℕ) (asked : InterestEntry) → asked_at (move_core φ c) (move_interests φ ints) asker (move_asked φ asked) ≡ map (move_dues φ) (asked_at c ints asker asked)
   asked_alike c ints asker asked =
-      ap (λ ks. with_dues asker (map (due_on (move_core φ c) (move_interests φ ints) asker) ks)) (met_moved φ keeps c asked.key)
-      ∙ ap (with_dues asker) (rows_moved c ints asker (met_keys asked.key c))
+      ap (λ ks. with_dues asker (map (due_on (move_core φ c) (move_interests φ ints) asker) ks)) (asked_keys_moved φ keeps c ints asker asked)
+      ∙ ap (with_dues asker) (rows_moved c ints asker (asked_keys c ints asker asked))
       ∙ face_moved asker (asked_dues c ints asker asked)
 
   keys_of_moved : (told : Told) → keys_of (map (move_row φ) told) ≡ map φ (keys_of told)
@@ -134,6 +134,7 @@ module _ (φ : List ℕ → List ℕ) (keeps : Keeps φ) where
     told_asked = λ c ints ears asker asked. tellings_alike Answering ears (move_ears φ ears) (asked_at c ints asker asked) _ refl (asked_alike c ints asker asked);
     lack_asked = λ c ints ears asker asked. lacks_alike Answering ears (move_ears φ ears) (asked_at c ints asker asked) _ refl (asked_alike c ints asker asked);
     left_asked = λ c ints ears asker asked. left_alike Answering ears (move_ears φ ears) (asked_at c ints asker asked) _ refl (asked_alike c ints asker asked);
+    told_ended = λ c ints ears asker asked. tellings_alike Ending ears (move_ears φ ears) (ended_at c ints ears asker asked) _ refl (ended_alike c ints ears asker asked);
     left_ended = λ c ints ears asker asked. left_alike Ending ears (move_ears φ ears) (ended_at c ints ears asker asked) _ refl (ended_alike c ints ears asker asked);
   }
 
@@ -141,7 +142,8 @@ module _ (φ : List ℕ → List ℕ) (keeps : Keeps φ) where
   due_alike = record {
     dues = dues_moved φ keeps;
     keys = keys_moved φ keeps;
-    met = met_moved φ keeps;
-    touches = λ c t face fits. looked_moved φ keeps c t face (has_text c t fits);
+    own = face_keys_moved φ keeps;
+    asked = asked_keys_moved φ keeps;
+    touches = λ c ints t face fits. looked_moved φ keeps c ints t face (has_text c t fits);
     told = told_alike;
   }

@@ -14,7 +14,7 @@ use Rattle.zq_told.specs.Ears.{Ear, Ears, at_face}
 use Rattle.zq_told.specs.Laws.{differs, is_to, takes_id, told_in, told_info}
 use Rattle.zq_told.proofs.Differing.{tells_difference}
 use Rattle.zq_machine.specs.Configs.{Settings}
-use Rattle.zq_machine.specs.Due.{due, due_keys, listens}
+use Rattle.zq_machine.specs.Due.{due, face_keys, listens}
 use Rattle.zq_interests.specs.Interests.{Interests}
 use Rattle.zq_machine.specs.Machine.{settle}
 use Rattle.zq_machine.specs.Neighbours.{due_on, neighbours_told, with_new}
@@ -22,7 +22,9 @@ use Rattle.zq_machine.specs.Receivers.{HaveChanges, is_news}
 use Rattle.zq_machine.specs.State.{Core, State, is_open}
 use Rattle.zq_machine.specs.TextCalls.{TextCall}
 use Rattle.zq_machine.proofs.Agreed.{InOrder as Kept}
-use Rattle.zq_machine.proofs.DueKeys.{among, due_rise, is_among, keys_due}
+use Rattle.zq_machine.proofs.DueInterests.{keys_rise}
+use Rattle.zq_machine.proofs.DueKeys.{among, is_among}
+use Rattle.zq_machine.proofs.DueWhole.{keys_due}
 use Rattle.zq_machine.proofs.NeighbourDues.{filter_rows, same_passing}
 use Rattle.zq_machine.proofs.NeighbourTold.{all_rise, keys_are, looked, looked_rise, told_here, unlooked}
 
@@ -84,15 +86,15 @@ module _ (config : Settings) (s : State) (i : Kept config s) (t : TextCall) (int
       by None d same = ap is_some (sym same)
       by (Some x) d same = refl
 
-  news_due : (key : List ℕ) → is_news w ints face ear key ≡ true → is_among key (due_keys w) ≡ true
-  news_due key news = sym (among key (due_keys w)) ∙ keys_due w ints face key (by (is_none (at_text key ear.told)) news)
+  news_due : (key : List ℕ) → is_news w ints face ear key ≡ true → is_among key (face_keys w ints face) ≡ true
+  news_due key news = sym (among key (face_keys w ints face)) ∙ keys_due w ints face key (by (is_none (at_text key ear.told)) news)
     where
       by : (b : Bool) → (b && is_some (due w ints face key)) ≡ true → is_some (due w ints face key) ≡ true
       by true e = e
       by false e = absurd (false≢true e)
 
-  pub news_counted : length (filter (takes_id Unasked ear.told) (map (due_on w ints face) keys_looked)) ≡ length (filter (is_news w ints face ear) (due_keys w))
+  pub news_counted : length (filter (takes_id Unasked ear.told) (map (due_on w ints face) keys_looked)) ≡ length (filter (is_news w ints face ear) (face_keys w ints face))
   news_counted =
       ap length (filter_rows (due w ints face) (takes_id Unasked ear.told) keys_looked)
       ∙ length-map (filter (is_news w ints face ear) keys_looked) (due_on w ints face)
-      ∙ ap length (same_passing (is_news w ints face ear) keys_looked (due_keys w) (looked_rise config s i t ints face) (due_rise w) (λ q e. news_by q (is_among q keys_looked) refl e) news_due)
+      ∙ ap length (same_passing (is_news w ints face ear) keys_looked (face_keys w ints face) (looked_rise config s i t ints face) ((keys_rise w ints face).own) (λ q e. news_by q (is_among q keys_looked) refl e) news_due)

@@ -35,7 +35,7 @@ use Rattle.zq_machine.specs.declared.call.Opening.{Opening}
 use Rattle.zq_machine.specs.declared.face.OpenFace.{OpenFace}
 use Rattle.zq_machine.specs.Configs.{Settings}
 use Rattle.zq_machine.specs.Deciding.{is_accepted, opened as as_opened}
-use Rattle.zq_machine.specs.Due.{due, due_touched, heard as heard_there, is_due_touched, listens}
+use Rattle.zq_machine.specs.Due.{due, due_touched, is_due_touched, listens, meant}
 use Rattle.zq_interests.specs.Interests.{Interests}
 use Rattle.zq_machine.specs.Machine.{answer, settle}
 use Rattle.zq_machine.specs.Neighbours.{due_on, dues_on, ears_after, looked_at, neighbours_told, with_new, without_closed}
@@ -45,8 +45,9 @@ use Rattle.zq_machine.specs.TextCalls.{TextCall, opening, closing}
 use Rattle.zq_machine.proofs.Agreed.{InOrder as Kept, accepted_in_order, next_absent}
 use Rattle.zq_machine.proofs.Agreeing.{some_of}
 use Rattle.zq_machine.proofs.Changing.{is_other, itself, number_test, one_number}
-use Rattle.zq_machine.proofs.DueKeys.{among, is_among, keys_rise}
-use Rattle.zq_machine.proofs.Dues.{due_kept}
+use Rattle.zq_machine.proofs.DueInterests.{keys_rise}
+use Rattle.zq_machine.proofs.DueKeys.{among, is_among}
+use Rattle.zq_machine.proofs.DueWhole.{due_kept}
 use Rattle.zq_machine.proofs.Writing.{settles_view}
 use Rattle.zq_machine.proofs.Granted.{by_granted, closed_after}
 use Rattle.zq_machine.proofs.NeighbourLooks.{looked_is}
@@ -136,39 +137,39 @@ module _ (config : Settings) (s : State) (i : Kept config s) (t : TextCall) (int
 
   -- the keys on which the face is told
   abbrev pub looked : ℕ → List (List ℕ)
-  looked face = filter (λ key. listens w ints face key) (due_touched s.core t face)
+  looked face = filter (λ key. listens w ints face key) (due_touched s.core ints t face)
 
   abbrev dues : List FaceDues
   dues = looked_at s.core w ints t
 
   pub looked_rise : (face : ℕ) → IsStrictlySortedBy text_cmp (looked face)
-  looked_rise face = IsStrictlySortedBy-filter text_cmp (λ key. listens w ints face key) (due_touched s.core t face) ((keys_rise s.core).touched t face)
+  looked_rise face = IsStrictlySortedBy-filter text_cmp (λ key. listens w ints face key) (due_touched s.core ints t face) ((keys_rise s.core ints face).touched t)
 
   pub faces_rise : IsStrictlySortedBy nat_cmp (keys_of w.faces)
   faces_rise = by_granted (λ z x. IsStrictlySortedBy nat_cmp (keys_of x.core.faces)) s t (λ text z w it. it) (λ p places z w it. it) (λ h. (accepted_in_order config s t h i).sound.sorted) (λ r. i.sound.sorted)
 
   pub all_rise : Sorted dues
-  all_rise = subst Sorted (sym (looked_is s.core w ints t)) (dues_rise (λ n. dues_on w ints (due_touched s.core t n) n) w.faces faces_rise)
+  all_rise = subst Sorted (sym (looked_is s.core w ints t)) (dues_rise (λ n. dues_on w ints (due_touched s.core ints t n) n) w.faces faces_rise)
 
   module _ (face : ℕ) (seen : is_open face w ≡ true) where
     pub keys_are : keys_at face dues ≡ map (due_on w ints face) (looked face)
-    keys_are = ap (keys_at face) (looked_is s.core w ints t) ∙ keys_of_face (λ n. dues_on w ints (due_touched s.core t n) n) face w.faces ∙ ap (λ b. cond b (dues_on w ints (due_touched s.core t face) face) []) seen
+    keys_are = ap (keys_at face) (looked_is s.core w ints t) ∙ keys_of_face (λ n. dues_on w ints (due_touched s.core ints t n) n) face w.faces ∙ ap (λ b. cond b (dues_on w ints (due_touched s.core ints t face) face) []) seen
 
     pub keys_in_order : InOrder (keys_at face dues)
     keys_in_order = subst InOrder (sym keys_are) (rows_rise (due w ints face) (looked face) (looked_rise face))
 
-    stays : (key : List ℕ) → is_due_touched s.core t face key ≡ false → due w ints face key ≡ due s.core ints face key
+    stays : (key : List ℕ) → is_due_touched s.core ints t face key ≡ false → due w ints face key ≡ due s.core ints face key
     stays key off =
-        by_granted (λ z x. is_open face x.core ≡ true → is_due_touched s.core t face key ≡ false → due x.core ints face key ≡ due s.core ints face key) s t (λ text z w it. it) (λ p places z w it. it)
+        by_granted (λ z x. is_open face x.core ≡ true → is_due_touched s.core ints t face key ≡ false → due x.core ints face key ≡ due s.core ints face key) s t (λ text z w it. it) (λ p places z w it. it)
         (λ h. due_kept config s i ints face key t h) (λ r a b. refl) seen off
 
     -- on keys that are not looked at the same is due, if it was nothing where the face does not listen
     pub unlooked : ((key : List ℕ) → listens w ints face key ≡ false → due s.core ints face key ≡ None) → (key : List ℕ) → is_among key (looked face) ≡ false → due s.core ints face key ≡ due w ints face key
-    unlooked quiet key off = by (listens w ints face key) refl (sym (among_filter (λ q. listens w ints face q) key (due_touched s.core t face)) ∙ off)
+    unlooked quiet key off = by (listens w ints face key) refl (sym (among_filter (λ q. listens w ints face q) key (due_touched s.core ints t face)) ∙ off)
       where
-        by : (b : Bool) → listens w ints face key ≡ b → (b && is_among key (due_touched s.core t face)) ≡ false → due s.core ints face key ≡ due w ints face key
-        by true e out = sym (stays key (among key (due_touched s.core t face) ∙ out))
-        by false e out = quiet key e ∙ sym (ap (λ b. cond b (heard_there w face key) None) e)
+        by : (b : Bool) → listens w ints face key ≡ b → (b && is_among key (due_touched s.core ints t face)) ≡ false → due s.core ints face key ≡ due w ints face key
+        by true e out = sym (stays key (among key (due_touched s.core ints t face) ∙ out))
+        by false e out = quiet key e ∙ sym (ap (λ b. cond b (meant w ints face key) None) e)
 
     pub call_hears : (ears : Ears) (heard : Heard) → ((key : List ℕ) → listens w ints face key ≡ false → due s.core ints face key ≡ None)
         → Hears s.core ints ears face heard → Hears w ints (tell_due Unasked ears dues) face (fold receive heard (filter (is_to face) (tell_faces Unasked ears dues).tellings))
@@ -212,7 +213,7 @@ module _ (config : Settings) (s : State) (i : Kept config s) (t : TextCall) (int
       pub call_told : (ears : Ears) (heard : Heard) → ((key : List ℕ) → listens w ints face key ≡ listens s.core ints face key)
           → Hears s.core ints ears face heard → Hears w ints (ears_after s.core w ints t ears) face (heard_over s.core w ints t ears face heard)
       call_told ears heard same h =
-          let quiet : (key : List ℕ) → listens w ints face key ≡ false → due s.core ints face key ≡ None = λ key off. ap (λ b. cond b (heard_there s.core face key) None) (sym (same key) ∙ off) in
+          let quiet : (key : List ℕ) → listens w ints face key ≡ false → due s.core ints face key ≡ None = λ key off. ap (λ b. cond b (meant s.core ints face key) None) (sym (same key) ∙ off) in
           still_hears w ints (tell_due Unasked (with_new s.core t ears) dues) (ears_after s.core w ints t ears) face (heard_over s.core w ints t ears face heard)
           (closed_beside (tell_due Unasked (with_new s.core t ears) dues) t seen)
           (call_hears (with_new s.core t ears) heard quiet (still_hears s.core ints ears (with_new s.core t ears) face heard (new_beside ears t) h))

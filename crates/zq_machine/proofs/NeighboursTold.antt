@@ -15,36 +15,44 @@ use Rattle.zq_trees.specs.Tellings.{in_order}
 use Rattle.zq_hat.specs.Kept.{has_face}
 use Rattle.zq_hat.specs.State.{HatState}
 use Rattle.zq_hat.specs.Trees.{region_keys}
-use Rattle.zq_interests.specs.Interests.{Interests, meets}
+use Rattle.zq_key.proofs.Lookups.{same_key}
+use Rattle.zq_index.specs.Infos.{same_info}
+use Rattle.zq_index.specs.Texts.{at_text, text_cmp}
+use Rattle.zq_index.proofs.Orders.{text_exact, text_total}
+use Rattle.zq_interests.specs.Interests.{Interests, interest_at, meets, own_keys}
 use Rattle.zq_told.specs.declared.types.FaceDues.{FaceDues}
-use Rattle.zq_told.specs.declared.types.Way.TheVariants.{Unasked, Answering}
-use Rattle.zq_told.specs.Ears.{Ears, Ear, at_face}
-use Rattle.zq_told.specs.Leaving.{IsMeant, is_looked_at, news_of}
-use Rattle.zq_told.specs.Telling.{KeyDue, tell_faces, tell_keys, with_account}
+use Rattle.zq_told.specs.declared.types.Way.TheVariants.{Unasked, Answering, Ending}
+use Rattle.zq_told.specs.declared.types.ToldEntry.{ToldEntry}
+use Rattle.zq_told.specs.Ears.{Ears, Ear, Told, at_face, told_keys}
+use Rattle.zq_told.specs.Leaving.{IsMeant, changed_on, is_looked_at, news_of}
+use Rattle.zq_told.specs.Telling.{KeyDue, change, declared, renewed, tell_faces, tell_keys, with_account}
 use Rattle.zq_told.proofs.Meant.{tells_meant}
 use Rattle.zq_tables.specs.Naming.{NamingState}
 use Rattle.zq_interests.specs.declared.types.InterestEntry.{InterestEntry}
 use Rattle.zq_tables.specs.declared.said.Said.{Said}
 use Rattle.zq_message.specs.declared.message.FaceId.{FaceId}
 use Rattle.zq_message.specs.declared.message.QueryableInfoType.{QueryableInfoType}
-use Rattle.zq_told.proofs.Leaving.{answers_all}
+use Rattle.zq_told.proofs.Leaving.{answers_all, ends_changing}
 use Rattle.zq_machine.proofs.Granted.{all_passed}
-use Rattle.zq_machine.specs.Selecting.{asked_by}
+use Rattle.zq_machine.specs.Selecting.{Manner, asked_by}
 use Rattle.zq_machine.specs.Messages.{Telling, answered_by, from_hat}
 use Rattle.zq_machine.specs.declared.face.OpenFace.{OpenFace}
 use Rattle.zq_machine.specs.Configs.{Settings}
 use Rattle.zq_machine.specs.Deciding.{accepted, kept, refusal_of, renamed, told_of, causes, interests_for}
-use Rattle.zq_machine.specs.Due.{due_keys as keys_due, due_touched, listens, with_region_keys, heard as heard_there, met_keys, due}
+use Rattle.zq_machine.specs.Due.{asked_keys, due, due_keys as keys_due, due_touched, face_keys, heard_touched, is_met_by, listens, meant, widened, with_region_keys}
 use Rattle.zq_machine.specs.Hearing.{CanBeTold, hear}
 use Rattle.zq_machine.specs.Machine.{accepted_state}
-use Rattle.zq_machine.specs.Neighbours.{due_on, dues_on, kept_told, looked_at, with_dues, answer_told, asked_dues, marked, near_told as told_near, asked_at}
+use Rattle.zq_machine.specs.Neighbours.{answer_told, asked_at, asked_dues, due_on, dues_on, ended_at, ended_dues, ended_told, kept_told, looked_at, marked, near_told as told_near, with_dues}
 use Rattle.zq_machine.specs.Agreeing.{stands_in}
 use Rattle.zq_machine.specs.State.{Core, State, at, hat_at, hat_of, is_open}
 use Rattle.zq_machine.specs.TextCalls.{TextCall, opening, hearing, unhearing}
 use Rattle.zq_machine.specs.Trees.{touched}
 use Rattle.zq_machine.specs.Writing.{tell}
+use Rattle.zq_machine.proofs.AskedKeys.{AllAskKeys, accepted_asked, own_texts}
 use Rattle.zq_machine.proofs.Agreed.{InOrder}
 use Rattle.zq_machine.proofs.Agreeing.{Tied, some_of}
+use Rattle.zq_machine.proofs.DueKeys.{is_among}
+use Rattle.zq_machine.proofs.DueWhole.{keys_among}
 use Rattle.zq_machine.proofs.Finals.{is_there}
 use Rattle.zq_machine.proofs.Changing.{itself, number_test, one_number, region_there}
 use Rattle.zq_machine.proofs.DueHeard.{AlongTree, AreTexts, Can, IsOpen, all_ordered, due_trees, from_can, region_texts, texts_put, touched_texts, trees_due}
@@ -105,13 +113,36 @@ pub keys_texts : (ks : List (List ℕ)) (hats : List (ℕ × HatState)) → AreT
 keys_texts ks [] all w = all
 keys_texts ks (h ∷ hats) all w = keys_texts (with_region_keys ks h) hats (texts_put ks (region_keys h.1) all (region_texts h.1 w.0.1)) w.1
 
-looked_texts : (c : Core) → Each Any IsWorded c.hats → (t : TextCall) → refusal_of c t ≡ None → (face : ℕ) → AreTexts (due_touched c t face)
-looked_texts c w (opening o) h face = by (face == c.next_face)
+heard_texts : (c : Core) → Each Any IsWorded c.hats → (t : TextCall) → refusal_of c t ≡ None → (face : ℕ) → AreTexts (heard_touched c t face)
+heard_texts c w (opening o) h face = by (face == c.next_face)
   where
     by : (b : Bool) → AreTexts (cond b (keys_due c) [])
     by true = keys_texts [] c.hats tt w
     by false = tt
-looked_texts c w t h face = texts_put [] (touched c t) tt (touched_texts c w t h)
+heard_texts c w t h face = texts_put [] (touched c t) tt (touched_texts c w t h)
+
+some_texts : (p : List ℕ → Bool) (ks : List (List ℕ)) → AreTexts ks → AreTexts (filter p ks)
+some_texts p [] all = tt
+some_texts p (k ∷ ks) all = by (p k) (some_texts p ks all.1)
+  where
+    by : (b : Bool) → AreTexts (filter p ks) → AreTexts (cond b (k ∷ filter p ks) (filter p ks))
+    by true rest = (all.0, rest)
+    by false rest = rest
+
+-- with the keys of aggregating interests
+wide_texts : (face : ℕ) (ints : Interests) (ks : List (List ℕ)) → AllAskKeys ints → AreTexts ks → AreTexts (widened face ints ks)
+wide_texts face ints ks asks all = texts_put ks (filter (is_met_by ks) (own_keys face ints)) all (some_texts (is_met_by ks) (own_keys face ints) (own_texts face ints asks))
+
+looked_texts : (c : Core) → Each Any IsWorded c.hats → (ints : Interests) → AllAskKeys ints → (t : TextCall) → refusal_of c t ≡ None → (face : ℕ) → AreTexts (due_touched c ints t face)
+looked_texts c w ints asks t h face = wide_texts face ints (heard_touched c t face) asks (heard_texts c w t h face)
+
+among_text : (key : List ℕ) (ks : List (List ℕ)) → AreTexts ks → is_among key ks ≡ true → IsKey key
+among_text key [] all e = absurd (false≢true e)
+among_text key (k ∷ ks) all e = by (is_at (text_cmp key) k) refl e (among_text key ks all.1)
+  where
+    by : (b : Bool) → is_at (text_cmp key) k ≡ b → (b || is_among key ks) ≡ true → (is_among key ks ≡ true → IsKey key) → IsKey key
+    by true is f more = subst IsKey (sym (same_key text_total text_exact key k is)) all.0
+    by false is f more = more f
 
 -- ---- what is told
 -- it can be told, and to a face that listens on the key
@@ -136,12 +167,12 @@ module _ (names : NamingState) (before after : Core) (ints : Interests) (t : Tex
   near_by m [] rest all more = more
   near_by m (k ∷ ks) rest all more = (all, more)
 
-  near_faces : ((face : ℕ) → AreTexts (due_touched before t face)) → (es : List (ℕ × OpenFace)) → AllByRecursion (λ (e : ℕ × OpenFace). IsOpen names e.0) es
-      → AllByRecursion (Holds Near) (flat_map (λ (o : ℕ × OpenFace). with_dues o.0 (dues_on after ints (due_touched before t o.0) o.0)) es)
+  near_faces : ((face : ℕ) → AreTexts (due_touched before ints t face)) → (es : List (ℕ × OpenFace)) → AllByRecursion (λ (e : ℕ × OpenFace). IsOpen names e.0) es
+      → AllByRecursion (Holds Near) (flat_map (λ (o : ℕ × OpenFace). with_dues o.0 (dues_on after ints (due_touched before ints t o.0) o.0)) es)
   near_faces texts [] there = tt
-  near_faces texts (e ∷ es) there = near_by e.0 (dues_on after ints (due_touched before t e.0) e.0) _ (near_rows e.0 there.0 (due_touched before t e.0) (texts e.0)) (near_faces texts es there.1)
+  near_faces texts (e ∷ es) there = near_by e.0 (dues_on after ints (due_touched before ints t e.0) e.0) _ (near_rows e.0 there.0 (due_touched before ints t e.0) (texts e.0)) (near_faces texts es there.1)
 
-  pub near_told : ((face : ℕ) → AreTexts (due_touched before t face)) → AllByRecursion (λ (e : ℕ × OpenFace). IsOpen names e.0) after.faces → (kept : Ears) → AllByRecursion (IsNear names after ints) (kept_told before after ints t kept)
+  pub near_told : ((face : ℕ) → AreTexts (due_touched before ints t face)) → AllByRecursion (λ (e : ℕ × OpenFace). IsOpen names e.0) after.faces → (kept : Ears) → AllByRecursion (IsNear names after ints) (kept_told before after ints t kept)
   near_told texts there kept =
       all_weaker (IsMeant kept (looked_at before after ints t)) (IsNear names after ints)
       (λ u meant. let near = looked_holds Near (looked_at before after ints t) near_all u.face.0 u.key meant.asked in record { can = near.0; listens = near.1 })
@@ -155,27 +186,23 @@ due_listens : (b : Bool) (heard : Option QueryableInfoType) → is_some (cond b 
 due_listens true heard e = refl
 due_listens false heard e = absurd (false≢true e)
 
-met_texts : (asked : Option (List ℕ)) (ks : List (List ℕ)) → AreTexts ks → AreTexts (filter (meets asked) ks)
-met_texts asked [] all = tt
-met_texts asked (k ∷ ks) all = by (meets asked k) (met_texts asked ks all.1)
-  where
-    by : (b : Bool) → AreTexts (filter (meets asked) ks) → AreTexts (cond b (k ∷ filter (meets asked) ks) (filter (meets asked) ks))
-    by true rest = (all.0, rest)
-    by false rest = rest
-
-module _ (names : NamingState) (after : Core) (ints : Interests) (asker : ℕ) (there : IsOpen names asker) where
+module _ (names : NamingState) (after : Core) (ints : Interests) (asker : ℕ) (there : IsOpen names asker) (texts : AreTexts (face_keys after ints asker)) where
   abbrev IsHeard : KeyDue → Type 0
   IsHeard k = IsKey k.0 × (listens after ints asker k.0 ≡ true)
 
-  answer_rows : (ks : List (List ℕ)) → AreTexts ks → AllByRecursion IsHeard (filter (λ (k : KeyDue). is_some k.1) (map (due_on after ints asker) ks))
-  answer_rows [] all = tt
-  answer_rows (k ∷ ks) all = by (is_some (due after ints asker k)) refl (answer_rows ks all.1)
+  -- a key on which something is due is one, and the asker listens there
+  due_heard : (k : List ℕ) → is_some (due after ints asker k) ≡ true → IsHeard (due_on after ints asker k)
+  due_heard k e = (among_text k (face_keys after ints asker) texts (keys_among after ints asker k e), due_listens (listens after ints asker k) (meant after ints asker k) e)
+
+  answer_rows : (ks : List (List ℕ)) → AllByRecursion IsHeard (filter (λ (k : KeyDue). is_some k.1) (map (due_on after ints asker) ks))
+  answer_rows [] = tt
+  answer_rows (k ∷ ks) = by (is_some (due after ints asker k)) refl (answer_rows ks)
     where
       rest : List KeyDue
       rest = filter (λ (q : KeyDue). is_some q.1) (map (due_on after ints asker) ks)
 
       by : (b : Bool) → is_some (due after ints asker k) ≡ b → AllByRecursion IsHeard rest → AllByRecursion IsHeard (cond b (due_on after ints asker k ∷ rest) rest)
-      by true e more = ((all.0, due_listens (listens after ints asker k) (heard_there after asker k) e), more)
+      by true e more = (due_heard k e, more)
       by false e more = more
 
   -- each of what is told is to the asker
@@ -193,8 +220,8 @@ module _ (names : NamingState) (after : Core) (ints : Interests) (asker : ℕ) (
       let face = to_asker u.face.0 u.key ks meant.0.asked in
       (record { can = (subst (IsOpen names) (sym face) there, news.0.0); listens = ap (λ n. listens after ints n u.key) face ∙ news.0.1 }, near_each ks ears us news.1 meant.1)
 
-  pub answer_near : (asked : InterestEntry) (ears : Ears) → AreTexts (met_keys asked.key after) → AllByRecursion (IsNear names after ints) (answer_told after ints ears asker asked)
-  answer_near asked ears texts = near_each (asked_dues after ints asker asked) ears _ (by (asked_dues after ints asker asked) (answer_rows (met_keys asked.key after) texts)) (tells_meant Answering ears (asked_at after ints asker asked))
+  pub answer_near : (asked : InterestEntry) (ears : Ears) → AllByRecursion (IsNear names after ints) (answer_told after ints ears asker asked)
+  answer_near asked ears = near_each (asked_dues after ints asker asked) ears _ (by (asked_dues after ints asker asked) (answer_rows (asked_keys after ints asker asked))) (tells_meant Answering ears (asked_at after ints asker asked))
     where
       by : (ks : List KeyDue) → AllByRecursion IsHeard (filter (λ (k : KeyDue). is_some k.1) ks) → AllByRecursion IsHeard (map news_of (tell_faces Answering ears (with_dues asker ks)).tellings)
       by [] all = tt
@@ -203,6 +230,41 @@ module _ (names : NamingState) (after : Core) (ints : Interests) (asker : ℕ) (
           of_ear : (o : Option Ear) → AllByRecursion IsHeard (map news_of (option_map_or (λ (e : Ear). with_account asker (tell_keys Answering asker e (k ∷ ks) []) (record { plan = []; tellings = [] })) o (record { plan = []; tellings = [] })).tellings)
           of_ear None = tt
           of_ear (Some e) = subst (AllByRecursion IsHeard) (sym (answers_all asker e (k ∷ ks))) all
+
+  -- and so is what the end of an interest tells
+  changed_heard : (told : Told) (k : List ℕ) → AllByRecursion IsHeard (map news_of (changed_on asker told (due_on after ints asker k)))
+  changed_heard told k = by (at_text k told) (due after ints asker k) refl
+    where
+      news : (t : ToldEntry) (i : QueryableInfoType) → due after ints asker k ≡ Some i → (b : Bool) → AllByRecursion IsHeard (map news_of (cond b [] (declared asker k (record { id = t.id; info = i }) ∷ [])))
+      news t i e true = tt
+      news t i e false = (due_heard k (ap is_some e), tt)
+
+      by : (o : Option ToldEntry) (d : Option QueryableInfoType) → due after ints asker k ≡ d → AllByRecursion IsHeard (map news_of (change asker k o (option_and_then (renewed o) d)))
+      by None d e = tt
+      by (Some t) None e = tt
+      by (Some t) (Some i) e = news t i e (same_info t.info i)
+
+  both_heard : (xs ys : List TreeTelling) → AllByRecursion IsHeard (map news_of xs) → AllByRecursion IsHeard (map news_of ys) → AllByRecursion IsHeard (map news_of (xs ++ ys))
+  both_heard [] ys a b = b
+  both_heard (x ∷ xs) ys a b = (a.0, both_heard xs ys a.1 b)
+
+  all_changed : (told : Told) (ks : List (List ℕ)) → AllByRecursion IsHeard (map news_of (flat_map (changed_on asker told) (map (due_on after ints asker) ks)))
+  all_changed told [] = tt
+  all_changed told (k ∷ ks) = both_heard (changed_on asker told (due_on after ints asker k)) (flat_map (changed_on asker told) (map (due_on after ints asker) ks)) (changed_heard told k) (all_changed told ks)
+
+  pub end_near : (asked : InterestEntry) (ears : Ears) → AllByRecursion (IsNear names after ints) (ended_told after ints ears asker asked)
+  end_near asked ears = near_each (ended_dues after ints ears asker asked) ears _ (by (filter (meets asked.key) (told_keys asker ears))) (tells_meant Ending ears (ended_at after ints ears asker asked))
+    where
+      by : (ks : List (List ℕ)) → AllByRecursion IsHeard (map news_of (tell_faces Ending ears (with_dues asker (map (due_on after ints asker) ks))).tellings)
+      by [] = tt
+      by (k ∷ ks) = of_ear (at_face asker ears)
+        where
+          rows : List KeyDue
+          rows = map (due_on after ints asker) (k ∷ ks)
+
+          of_ear : (o : Option Ear) → AllByRecursion IsHeard (map news_of (option_map_or (λ (e : Ear). with_account asker (tell_keys Ending asker e rows []) (record { plan = []; tellings = [] })) o (record { plan = []; tellings = [] })).tellings)
+          of_ear None = tt
+          of_ear (Some e) = subst (λ ts. AllByRecursion IsHeard (map news_of ts)) (sym (ends_changing asker e rows)) (all_changed e.told (k ∷ ks))
 
 -- what is told in answer can be told where the rest can
 answers_can : (names : NamingState) (face : FaceId) (id : ℕ) → IsOpen names face.0 → (ts : List Telling) → AllByRecursion (CanBeTold names) ts → AllByRecursion (CanBeTold names) (answered_by face id ts)
@@ -220,17 +282,31 @@ module _ (config : Settings) (s : State) (i : InOrder config s) (t : TextCall) (
   neighbours = told_near s.core (accepted s.core t) (interests_for s.core t) t (kept s.core t)
 
   -- the face of an interest is open
-  asker_open : (face : FaceId) (id : ℕ) (keys : Bool) (sd : Option Said) → t ≡ hearing face id keys sd → IsOpen (renamed s t) face.0
+  asker_open : (face : FaceId) (id : ℕ) (keys : Manner) (sd : Option Said) → t ≡ hearing face id keys sd → IsOpen (renamed s t) face.0
   asker_open face id keys sd is =
       j.tied.named face.0 ∙ ap (λ (x : TextCall). is_open face.0 (accepted s.core x)) is
       ∙ is_there (is_open face.0 s.core) (all_passed (causes s.core (hearing face id keys sd)) (ap (refusal_of s.core) (sym is) ∙ fits)).0
 
+  all_texts : (face : ℕ) (ints : Interests) → AllAskKeys ints → AreTexts (face_keys (accepted s.core t) ints face)
+  all_texts face ints asks = wide_texts face ints (keys_due (accepted s.core t)) asks (keys_texts [] (accepted s.core t).hats tt j.worded)
+
   near_of : (x : TextCall) → t ≡ x → AllByRecursion (IsNear (renamed s t) (accepted s.core t) (interests_for s.core x)) (told_near s.core (accepted s.core t) (interests_for s.core x) x (kept s.core x))
   near_of (hearing face id keys sd) is =
-      answer_near (renamed s t) (accepted s.core t) (interests_for s.core (hearing face id keys sd)) face.0 (asker_open face id keys sd is) (asked_by keys sd) s.core.ears
-      (met_texts (asked_by keys sd).key (keys_due (accepted s.core t)) (keys_texts [] (accepted s.core t).hats tt j.worded))
-  near_of (unhearing face id) is = tt
-  near_of x is = near_told (renamed s t) s.core (accepted s.core t) s.core.interests x (looked_texts s.core i.worded x (ap (refusal_of s.core) (sym is) ∙ fits)) open_after (kept s.core x)
+      answer_near (renamed s t) (accepted s.core t) (interests_for s.core (hearing face id keys sd)) face.0 (asker_open face id keys sd is)
+      (all_texts face.0 (interests_for s.core (hearing face id keys sd)) (accepted_asked s.core (hearing face id keys sd) (ap (refusal_of s.core) (sym is) ∙ fits) i.asked)) (asked_by keys sd) s.core.ears
+  near_of (unhearing face id) is = ended (interest_at face.0 id s.core.interests)
+    where
+      opens : IsOpen (renamed s t) face.0
+      opens =
+          j.tied.named face.0 ∙ ap (λ (x : TextCall). is_open face.0 (accepted s.core x)) is
+          ∙ is_there (is_open face.0 s.core) (all_passed (causes s.core (unhearing face id)) (ap (refusal_of s.core) (sym is) ∙ fits)).0
+
+      ended : (o : Option InterestEntry) → AllByRecursion (IsNear (renamed s t) (accepted s.core t) (interests_for s.core (unhearing face id))) (option_map_or (ended_told (accepted s.core t) (interests_for s.core (unhearing face id)) (kept s.core (unhearing face id)) face.0) o [])
+      ended None = tt
+      ended (Some asked) =
+          end_near (renamed s t) (accepted s.core t) (interests_for s.core (unhearing face id)) face.0 opens
+          (all_texts face.0 (interests_for s.core (unhearing face id)) (accepted_asked s.core (unhearing face id) (ap (refusal_of s.core) (sym is) ∙ fits) i.asked)) asked (kept s.core (unhearing face id))
+  near_of x is = near_told (renamed s t) s.core (accepted s.core t) s.core.interests x (looked_texts s.core i.worded s.core.interests i.asked x (ap (refusal_of s.core) (sym is) ∙ fits)) open_after (kept s.core x)
 
   pub neighbours_near : AllByRecursion (IsNear (renamed s t) (accepted s.core t) (interests_for s.core t)) neighbours
   neighbours_near = near_of t refl

@@ -192,7 +192,7 @@ request_promise s (call.ResponseFinal face rid) i = quiet_asks s (ending face ri
 request_promise s (call.Sent reply) i = quiet_asks s (reporting reply) refl
 request_promise s (call.Poll now) i = quiet_asks s (passing now) refl
 request_promise s (call.SetGateways r t) i = quiet_asks s (listing r t) refl
-request_promise s (call.Interest face id keys wire) i = quiet_asks s (hearing face id keys (said_if face wire s)) refl
+request_promise s (call.Interest face id keys aggregate wire) i = quiet_asks s (hearing face id (record { keys = keys; aggregate = aggregate }) (said_if face wire s)) refl
 request_promise s (call.InterestFinal face id) i = quiet_asks s (unhearing face id) refl
 request_promise s (call.FinalizeInterest face mark set) i = quiet_asks s (finalizing face mark set) refl
 request_promise s (call.SetNetwork r net) i = quiet_asks s (networking r net) refl
@@ -293,7 +293,7 @@ reply_promise s (call.UndeclareQueryable face id wire node) = quiet_replies s (r
 reply_promise s (call.ResponseFinal face rid) = quiet_replies s (ending face rid) refl
 reply_promise s (call.Sent reply) = quiet_replies s (reporting reply) refl
 reply_promise s (call.SetGateways r t) = quiet_replies s (listing r t) refl
-reply_promise s (call.Interest face id keys wire) = quiet_replies s (hearing face id keys (said_if face wire s)) refl
+reply_promise s (call.Interest face id keys aggregate wire) = quiet_replies s (hearing face id (record { keys = keys; aggregate = aggregate }) (said_if face wire s)) refl
 reply_promise s (call.InterestFinal face id) = quiet_replies s (unhearing face id) refl
 reply_promise s (call.FinalizeInterest face mark set) = quiet_replies s (finalizing face mark set) refl
 reply_promise s (call.SetNetwork r net) = quiet_replies s (networking r net) refl

@@ -48,7 +48,7 @@ use Rattle.zq_machine.proofs.Worded.{IsKey, said_key}
 
 -- ---- who hears nothing, even if it asks for all
 abbrev all_asked : ℕ → List (ℕ × InterestEntry)
-all_asked n = (0, record { key = None; keys = false }) ∷ []
+all_asked n = (0, record { key = None; keys = false; aggregate = false }) ∷ []
 
 abbrev pub asks_all : ℕ → Interests
 asks_all n = (n, all_asked n) ∷ []

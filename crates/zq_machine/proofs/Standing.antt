@@ -496,10 +496,10 @@ module _ (config : Settings) (q : ℕ) (s : State) (i : InOrder config s) where
   granted_stands (call.FinalizeInterest f mark set) h =
       let x = opened_face s i.sound i.tied f.0 (all_passed (causes s.core (finalizing f mark set)) h).0 in
       kept_stands f x (call.FinalizeInterest f mark set) (marked mark set) s.names (keys f x) (its_keys s.gates s.core.faces s.core.hats s.names i.tied f.0 x.0 x.1).1 (λ e. refl) refl
-  granted_stands (call.Interest f id numbers None) h = refl
-  granted_stands (call.Interest f id numbers (Some w)) h =
-      let x = opened_face s i.sound i.tied f.0 (all_passed (causes s.core (read s (call.Interest f id numbers (Some w)))) h).0 in
-      renamed_stands f x (call.Interest f id numbers (Some w)) (with_interest id (full_text (said f w s))) refl ∙ still (call.Interest f id numbers (Some w)) (f.0 == q) (λ st. refl)
+  granted_stands (call.Interest f id numbers aggregate None) h = refl
+  granted_stands (call.Interest f id numbers aggregate (Some w)) h =
+      let x = opened_face s i.sound i.tied f.0 (all_passed (causes s.core (read s (call.Interest f id numbers aggregate (Some w)))) h).0 in
+      renamed_stands f x (call.Interest f id numbers aggregate (Some w)) (with_interest id (full_text (said f w s))) refl ∙ still (call.Interest f id numbers aggregate (Some w)) (f.0 == q) (λ st. refl)
   granted_stands (call.InterestFinal f id) h =
       let x = opened_face s i.sound i.tied f.0 (all_passed (causes s.core (read s (call.InterestFinal f id))) h).0 in
       renamed_stands f x (call.InterestFinal f id) (without_interest id) refl ∙ still (call.InterestFinal f id) (f.0 == q) (λ st. refl)

@@ -424,7 +424,7 @@ call_waits s (call.ResponseFinal face rid) i = followed s (ending face rid) i
 call_waits s (call.Sent reply) i = followed s (reporting reply) i
 call_waits s (call.Poll now) i = followed s (passing now) i
 call_waits s (call.SetGateways r table) i = followed s (listing r table) i
-call_waits s (call.Interest face id keys wire) i = followed s (hearing face id keys (said_if face wire s)) i
+call_waits s (call.Interest face id keys aggregate wire) i = followed s (hearing face id (record { keys = keys; aggregate = aggregate }) (said_if face wire s)) i
 call_waits s (call.InterestFinal face id) i = followed s (unhearing face id) i
 call_waits s (call.FinalizeInterest face mark set) i = followed s (finalizing face mark set) i
 call_waits s (call.SetNetwork r net) i = followed s (networking r net) i

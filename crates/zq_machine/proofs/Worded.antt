@@ -62,7 +62,7 @@ module _ {K X : Type 0} (A : K → Type 0) (B : X → Type 0) where
       by Equal ih = ((all.0.0, b), all.1)
       by Greater ih = (all.0, ih)
 
-  each_set : (test : K → Bool) (es : List (K × X)) (v : X) → Each es → B v → Each (set_value test es v)
+  pub each_set : (test : K → Bool) (es : List (K × X)) (v : X) → Each es → B v → Each (set_value test es v)
   each_set test [] v all b = tt
   each_set test (e ∷ es) v all b = by (test e.0) (each_set test es v all.1 b)
     where

@@ -240,7 +240,7 @@ changed c (announcing face s info node) = change_hat_of face.0 (announced_by fac
 changed c (retracting face s node) = change_hat_of face.0 (retracted_by face.0 node (full_text s)) c
 changed c (networking r net) = record c { hats = change_hat r (networked net) c.hats }
 changed c (tabling face ids) = change_hat_of face.0 (noded face.0 ids) c
-changed c (hearing face id keys s) = record c { interests = with_interest face.0 id (asked_by keys s) c.interests }
+changed c (hearing face id m s) = record c { interests = with_interest face.0 id (asked_by m s) c.interests }
 changed c (unhearing face id) = record c { interests = without_interest face.0 id c.interests }
 
 -- ---- what neighbours are told of it
@@ -251,7 +251,7 @@ kept c t = with_new c t c.ears
 
 -- the interests that count: for an interest and for the end of one those after it
 abbrev pub interests_for : Core → TextCall → Interests
-interests_for c (hearing face id keys s) = (changed c (hearing face id keys s)).interests
+interests_for c (hearing face id m s) = (changed c (hearing face id m s)).interests
 interests_for c (unhearing face id) = (changed c (unhearing face id)).interests
 interests_for c t = c.interests
 
@@ -298,9 +298,9 @@ causes c (retracting face s node) =
     ∷ (lacks_router face node c, refusal.UnknownRouter) ∷ (is_none (entry_of face node (full_text s) c), refusal.UnknownId) ∷ []
 causes c (networking r net) = (not (has_hat r c), refusal.UnknownRegion) ∷ []
 causes c (tabling face ids) = unknown_face face c ∷ []
-causes c (hearing face id keys s) =
+causes c (hearing face id m s) =
     unknown_face face c ∷ (option_map_or is_unscoped s false, refusal.UnknownScope) ∷ (not (option_map_or says_key s true), refusal.InvalidKeyExpr)
-    ∷ (asks_another face.0 id (asked_by keys s).key c.interests, refusal.IdInUse) ∷ (lacks_told c (hearing face id keys s), refusal.NoFreeId) ∷ []
+    ∷ (asks_another face.0 id (asked_by m s).key c.interests, refusal.IdInUse) ∷ (lacks_told c (hearing face id m s), refusal.NoFreeId) ∷ []
 causes c (unhearing face id) = unknown_face face c ∷ (is_none (interest_at face.0 id c.interests), refusal.UnknownId) ∷ []
 
 -- the refusal of a call, if some cause of it holds
@@ -352,8 +352,8 @@ renamed s (naming face id said standing) = change_naming face.0 (with_name id (f
 renamed s (unnaming face id standing) = change_naming face.0 (without_name id) s.names
 renamed s (declaring face id said info node) = change_naming face.0 (with_queryable id (full_text said)) s.names
 renamed s (withdrawing face id) = change_naming face.0 (without_queryable id) s.names
-renamed s (hearing face id keys None) = s.names
-renamed s (hearing face id keys (Some said)) = change_naming face.0 (holding_interest id (full_text said)) s.names
+renamed s (hearing face id m None) = s.names
+renamed s (hearing face id m (Some said)) = change_naming face.0 (holding_interest id (full_text said)) s.names
 renamed s (unhearing face id) = change_naming face.0 (letting_interest id) s.names
 renamed s c = s.names
 

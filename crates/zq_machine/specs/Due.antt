@@ -1,11 +1,12 @@
 -- What is due to each face outside regions of routers, and the keys on which a call may change it.
-use Rattle.std.specs.Prelude.{ℕ, ◌==◌, Bool, true, false, ◌||◌, List, [], filter, fold, Option, None, if◌then◌else◌}
+use Rattle.std.specs.Prelude.{ℕ, ◌==◌, Bool, true, false, not, ◌&&◌, ◌||◌, List, [], filter, fold, Option, None, is_none, if◌then◌else◌}
 use Rattle.std.specs.BTreeSet.{insert_key}
 use Rattle.std.specs.List.{list_any}
 use Rattle.std.specs.List.Sorted.{IsStrictlySortedBy}
-use Rattle.std.specs.Option.{option_and_then, option_map_or}
+use Rattle.std.specs.Option.{option_and_then, option_map, option_map_or, option_to_list}
 use Rattle.std.specs.Str.{bytes_eq}
 use Rattle.zq_message.specs.declared.message.QueryableInfoType.{QueryableInfoType}
+use Rattle.zq_key.specs.Key.{includes, intersects}
 use Rattle.zq_regions.specs.Region.{region_index}
 use Rattle.zq_index.specs.Infos.{joined}
 use Rattle.zq_index.specs.Texts.{text_cmp}
@@ -17,7 +18,8 @@ use Rattle.zq_hat.specs.Kept.{change_face}
 use Rattle.zq_hat.specs.Regions.{is_north, strategy_at}
 use Rattle.zq_hat.specs.State.{FaceState, HatState}
 use Rattle.zq_hat.specs.Trees.{region_keys}
-use Rattle.zq_interests.specs.Interests.{Interests, asks_for, meets}
+use Rattle.zq_interests.specs.declared.types.InterestEntry.{InterestEntry}
+use Rattle.zq_interests.specs.Interests.{Interests, asked_for, asks_folded, asks_for, meets, own_keys}
 use Rattle.zq_machine.specs.declared.face.OpenFace.{OpenFace}
 use Rattle.zq_machine.specs.State.{Core, at, change_hat_of, hat_at, hat_of}
 use Rattle.zq_machine.specs.TextCalls.{TextCall, opening}
@@ -61,11 +63,9 @@ heard_as face key hats o = option_and_then (heard_in face key hats (region_index
 abbrev pub heard : Core → ℕ → List ℕ → Option QueryableInfoType
 heard c face key = option_and_then (heard_as face key c.hats) (at face c.faces)
 
--- ---- what is due
-
--- what is due to the face on the key: what it hears there, if it listens
-abbrev pub due : Core → Interests → ℕ → List ℕ → Option QueryableInfoType
-due c ints face key = if listens c ints face key then heard c face key else None
+-- what is heard on a key, if the face listens there
+abbrev pub plain_due : Core → Interests → ℕ → List ℕ → Option QueryableInfoType
+plain_due c ints face key = if listens c ints face key then heard c face key else None
 
 -- a region's keys join others in order, each once
 abbrev pub with_region_keys : List (List ℕ) → ℕ × HatState → List (List ℕ)
@@ -75,30 +75,93 @@ with_region_keys keys h = fold (insert_key text_cmp) keys (region_keys h.1)
 abbrev pub due_keys : Core → List (List ℕ)
 due_keys c = fold with_region_keys [] c.hats
 
--- those of them that meet what is asked for
-abbrev pub met_keys : Option (List ℕ) → Core → List (List ℕ)
-met_keys asked c = filter (meets asked) (due_keys c)
+-- ---- one entry for all keys that meet a key
+
+-- as a part of the entry for the key, an information on a key that meets it is complete only if that key includes it
+abbrev pub seen_at : List ℕ → List ℕ → QueryableInfoType → QueryableInfoType
+seen_at key k i = record { complete = i.complete && includes k key; distance = i.distance }
+
+-- what is heard on a key joins the entry for another, if they meet
+abbrev pub with_part : (List ℕ → Option QueryableInfoType) → List ℕ → Option QueryableInfoType → List ℕ → Option QueryableInfoType
+with_part hear key m k = if intersects k key then joined m (option_map (seen_at key k) (hear k)) else m
+
+-- all that is heard on the keys that meet the key, as one entry
+abbrev pub folded_over : (List ℕ → Option QueryableInfoType) → List (List ℕ) → List ℕ → Option QueryableInfoType
+folded_over hear keys key = fold (with_part hear key) None keys
+
+-- what a face hears on all keys that meet the key, as one entry
+abbrev pub folded : Core → ℕ → List ℕ → Option QueryableInfoType
+folded c face key = folded_over (heard c face) (due_keys c) key
+
+-- ---- what is due
+
+-- a face of the hat is to hear of the key as one entry: it does not listen unasked, and asks for one
+abbrev pub folds_in : Interests → ℕ → List ℕ → HatState → Bool
+folds_in ints face key h = not (listens_by (strategy_at h) (is_north h.region) false) && asks_folded face key ints
+
+-- the face is open, and is to hear of the key as one entry
+abbrev pub folds : Core → Interests → ℕ → List ℕ → Bool
+folds c ints face key = option_map_or (folds_in ints face key) (hat_of face c) false
+
+-- what there is for the face at the key: the one entry, where it is to hear of one, and else what it hears there
+abbrev pub meant : Core → Interests → ℕ → List ℕ → Option QueryableInfoType
+meant c ints face key = if folds c ints face key then folded c face key else heard c face key
+
+-- what is due to the face on the key: that, if it listens
+abbrev pub due : Core → Interests → ℕ → List ℕ → Option QueryableInfoType
+due c ints face key = if listens c ints face key then meant c ints face key else None
+
+-- one of the keys meets the key
+abbrev pub is_met_by : List (List ℕ) → List ℕ → Bool
+is_met_by keys key = list_any (λ k. intersects k key) keys
+
+-- keys in order, with those of the face's aggregating interests that one of them meets
+abbrev pub widened : ℕ → Interests → List (List ℕ) → List (List ℕ)
+widened face ints keys = fold (insert_key text_cmp) keys (filter (is_met_by keys) (own_keys face ints))
+
+-- the keys on which something may be due to the face, each once, in order
+abbrev pub face_keys : Core → Interests → ℕ → List (List ℕ)
+face_keys c ints face = widened face ints (due_keys c)
+
+-- ---- what answers an interest
+
+-- of the keys on which something may be due to the asker, those for which its interest asks
+abbrev pub answer_keys : Core → Interests → (asker : ℕ) → InterestEntry → List (List ℕ)
+answer_keys c ints asker asked = filter (asked_for asked) (face_keys c ints asker)
+
+-- the interest asks for the key, or meets it where nothing is due (any more)
+abbrev pub is_looked : Core → Interests → (asker : ℕ) → InterestEntry → List ℕ → Bool
+is_looked c ints asker asked key = asked_for asked key || (meets asked.key key && is_none (due c ints asker key))
+
+-- the keys that an interest of the asker looks at: the interest's own is among them
+abbrev pub asked_keys : Core → Interests → (asker : ℕ) → InterestEntry → List (List ℕ)
+asked_keys c ints asker asked = filter (is_looked c ints asker asked) (fold (insert_key text_cmp) (face_keys c ints asker) (option_to_list asked.key))
 
 -- ---- what a call may change of it
 
--- the keys on which a call may change what is due to the face, each once, in order: all where it opens the face, else those on which it changes what a region has
-abbrev pub due_touched : Core → TextCall → ℕ → List (List ℕ)
-due_touched c (opening o) face = if face == c.next_face then due_keys c else []
-due_touched c t face = fold (insert_key text_cmp) [] (touched c t)
-
--- the keys on which an interest of the asker may change what is due to a face, by what it asks for: at its own those that it meets
-abbrev pub ask_touched : (asker : ℕ) → Option (List ℕ) → Core → ℕ → List (List ℕ)
-ask_touched asker asked c face = if face == asker then met_keys asked c else []
+-- the keys on which a call may change what a face hears, each once, in order: all where it opens the face, else those on which it changes what a region has
+abbrev pub heard_touched : Core → TextCall → ℕ → List (List ℕ)
+heard_touched c (opening o) face = if face == c.next_face then due_keys c else []
+heard_touched c t face = fold (insert_key text_cmp) [] (touched c t)
 
 -- the key is one of those
-abbrev pub is_due_touched : Core → TextCall → ℕ → List ℕ → Bool
-is_due_touched c t face key = list_any (λ k. bytes_eq k key) (due_touched c t face)
+abbrev pub is_heard_touched : Core → TextCall → ℕ → List ℕ → Bool
+is_heard_touched c t face key = list_any (λ k. bytes_eq k key) (heard_touched c t face)
+
+-- the keys on which a call may change what is due to the face: those, and of its aggregating interests' keys those that one of them meets
+abbrev pub due_touched : Core → Interests → TextCall → ℕ → List (List ℕ)
+due_touched c ints t face = widened face ints (heard_touched c t face)
+
+-- the key is one of those
+abbrev pub is_due_touched : Core → Interests → TextCall → ℕ → List ℕ → Bool
+is_due_touched c ints t face key = list_any (λ k. bytes_eq k key) (due_touched c ints t face)
 
 -- all keys that are looked at stand in order, each once
-pub record KeysRise (c : Core) : Type 0 where
+pub record KeysRise (c : Core) (ints : Interests) (face : ℕ) : Type 0 where
   pub all : IsStrictlySortedBy text_cmp (due_keys c)
-  pub touched : (t : TextCall) (face : ℕ) → IsStrictlySortedBy text_cmp (due_touched c t face)
-  pub asked : (asker : ℕ) (key : Option (List ℕ)) (face : ℕ) → IsStrictlySortedBy text_cmp (ask_touched asker key c face)
+  pub own : IsStrictlySortedBy text_cmp (face_keys c ints face)
+  pub touched : (t : TextCall) → IsStrictlySortedBy text_cmp (due_touched c ints t face)
+  pub asked : (asked : InterestEntry) → IsStrictlySortedBy text_cmp (asked_keys c ints face asked)
 
 -- the face has declared these, and what it declared is gone
 abbrev pub redeclared : ℕ → List (ℕ × Declaration) → Core → Core

@@ -216,7 +216,7 @@ may_hand (call.Close face) m = is_final m || is_declaration m
 may_hand (call.DeclareQueryable face id wire info node) m = is_declaration m
 may_hand (call.UndeclareQueryable face id wire node) m = is_declaration m
 may_hand (call.SetNetwork r net) m = is_declaration m
-may_hand (call.Interest face id keys wire) m = is_declaration m
+may_hand (call.Interest face id keys aggregate wire) m = is_declaration m
 may_hand c m = false
 
 -- what is handed has a reply number exactly where it is a reply, and a request's number exactly where it is no declaration, and is of a kind that the call may hand

@@ -1,11 +1,12 @@
--- What a receiver keeps of the declarations that a face is handed over a run, read by their ids alone: outside regions of routers it is, after every call, what is due to the face; each call tells the face exactly the difference, and an interest is answered by all that is due.
+-- What a receiver keeps of the declarations that a face is handed over a run, read by their ids alone: outside regions of routers it is, after every call, what is due to the face; each call tells the face exactly the difference, an interest is answered by all that is due, and its end tells at most of its own key.
 use Rattle.std.specs.Prelude.{◌≡◌, ℕ, ◌==◌, ◌&&◌, nat_lt, Bool, true, false, List, [], ◌∷◌, ◌++◌, filter, fold, map, Option, Some, None, if◌then◌else◌}
 use Rattle.std.specs.Option.{is_some, option_to_list}
 use Rattle.zq_message.specs.declared.message.FaceId.{FaceId}
 use Rattle.zq_message.specs.declared.message.QueryableInfoType.{QueryableInfoType}
 use Rattle.zq_message.specs.declared.message.WireExpr.{WireExpr}
 use Rattle.zq_interests.specs.declared.types.InterestEntry.{InterestEntry}
-use Rattle.zq_told.specs.declared.types.Way.TheVariants.{Answering, Unasked}
+use Rattle.zq_interests.specs.Interests.{interest_at}
+use Rattle.zq_told.specs.declared.types.Way.TheVariants.{Answering, Ending, Unasked}
 use Rattle.zq_told.specs.Ears.{Ear, at_face}
 use Rattle.zq_told.specs.Laws.{InOrder, told_in}
 use Rattle.zq_told.specs.Receiver.{Heard, Tied, heard_entry, heard_on, memory_of}
@@ -18,7 +19,7 @@ use Rattle.zq_machine.specs.Due.{due}
 use Rattle.zq_machine.specs.Hearing.{hear}
 use Rattle.zq_machine.specs.Machine.{after, follow, state_after, step}
 use Rattle.zq_machine.specs.Messages.{Telling, TellingBody, all_told, answered_by, from_hat, key_ended, key_told}
-use Rattle.zq_machine.specs.Neighbours.{asked_dues, due_on}
+use Rattle.zq_machine.specs.Neighbours.{answer_dues, due_on}
 use Rattle.zq_machine.specs.Selecting.{asked_by}
 use Rattle.zq_machine.specs.Receivers.{HaveChanges}
 use Rattle.zq_machine.specs.State.{Core, State, is_open, opening_state}
@@ -58,8 +59,9 @@ told_by s c = hear (step s c).handed (follow s (read s c)).names
 abbrev pub is_due_at : ℕ → Core → ℕ × (List ℕ × QueryableInfoType) → Bool
 is_due_at face c e = is_some (due c c.interests face e.1.0)
 
--- where an interest of the face ended, by this answer and with this left, its receiver forgets the keys that are not due any more
+-- where an interest of the face came or ended, by this answer and with this left, its receiver forgets the keys that are not due any more
 abbrev pub forget_undue : ℕ → Step → Core → Call → Heard → Heard
+forget_undue face t left (call.Interest f id keys aggregate wire) heard = if (f.0 == face) && is_accepted t.outcome then filter (is_due_at face left) heard else heard
 forget_undue face t left (call.InterestFinal f id) heard = if (f.0 == face) && is_accepted t.outcome then filter (is_due_at face left) heard else heard
 forget_undue face t left c heard = heard
 
@@ -119,7 +121,7 @@ pub record TellsChanges (c : Core) (face : ℕ) (heard : Heard) (last : ℕ) (to
 
 -- the call is an interest, or the end of one
 abbrev pub is_asking : Call → Bool
-is_asking (call.Interest face id keys wire) = true
+is_asking (call.Interest face id keys aggregate wire) = true
 is_asking (call.InterestFinal face id) = true
 is_asking c = false
 
@@ -130,17 +132,28 @@ ChangePromise config calls =
     → (face : ℕ) → IsNear face (after (state_after (opening_state config) before) c).core
     → TellsChanges (after (state_after (opening_state config) before) c).core face (heard_in face config before) (last_in face config before) (told_by (state_after (opening_state config) before) c)
 
--- the asker is told all that is due on the keys which its interest meets, in order, each under the id that it has, or under the next, and then that this was all
+-- the asker is told all that is due on the keys for which its interest asks, in order, each under the id that it has, or under the next, and then that this was all
 pub record TellsAnswer (c : Core) (face : FaceId) (id : ℕ) (asked : InterestEntry) (heard : Heard) (last : ℕ) (told : List Telling) : Type 0 where
   pub ear : Ear
   pub is : IsKept ear heard last
-  pub exactly : told ≡ answered_by face id (map from_hat (told_in Answering face.0 ear (asked_dues c c.interests face.0 asked)))
+  pub exactly : told ≡ answered_by face id (map from_hat (told_in Answering face.0 ear (answer_dues c c.interests face.0 asked)))
 
 -- so does each accepted interest of a run whose face is near, and tells no other face anything
 abbrev pub AnswersInterests : Settings → List Call → Type 0
 AnswersInterests config calls =
-    (before rest : List Call) (face : FaceId) (id : ℕ) (keys : Bool) (wire : Option WireExpr) → calls ≡ before ++ call.Interest face id keys wire ∷ rest
-    → is_accepted (step (state_after (opening_state config) before) (call.Interest face id keys wire)).outcome ≡ true
-    → IsNear face.0 (after (state_after (opening_state config) before) (call.Interest face id keys wire)).core
-    → TellsAnswer (after (state_after (opening_state config) before) (call.Interest face id keys wire)).core face id (asked_by keys (said_if face wire (state_after (opening_state config) before)))
-    (heard_in face.0 config before) (last_in face.0 config before) (told_by (state_after (opening_state config) before) (call.Interest face id keys wire))
+    (before rest : List Call) (face : FaceId) (id : ℕ) (keys aggregate : Bool) (wire : Option WireExpr)
+    → let s : State = state_after (opening_state config) before in let c : Call = call.Interest face id keys aggregate wire in calls ≡ before ++ c ∷ rest → is_accepted (step s c).outcome ≡ true → IsNear face.0 (after s c).core
+    → TellsAnswer (after s c).core face id (asked_by (record { keys = keys; aggregate = aggregate }) (said_if face wire s)) (heard_in face.0 config before) (last_in face.0 config before) (told_by s c)
+
+-- the asker is told at most what is due on the own key of its interest that ended, under the id that the key has, where it stays due with other information than was told
+pub record TellsEnd (c : Core) (face : FaceId) (asked : InterestEntry) (heard : Heard) (last : ℕ) (told : List Telling) : Type 0 where
+  pub ear : Ear
+  pub is : IsKept ear heard last
+  pub exactly : told ≡ map from_hat (told_in Ending face.0 ear (map (due_on c c.interests face.0) (option_to_list asked.key)))
+
+-- so does each accepted end of an interest in a run whose face is near, and tells no other face anything
+abbrev pub EndsInterests : Settings → List Call → Type 0
+EndsInterests config calls =
+    (before rest : List Call) (face : FaceId) (id : ℕ) (asked : InterestEntry)
+    → let s : State = state_after (opening_state config) before in let c : Call = call.InterestFinal face id in calls ≡ before ++ c ∷ rest → is_accepted (step s c).outcome ≡ true → IsNear face.0 (after s c).core
+    → interest_at face.0 id s.core.interests ≡ Some asked → TellsEnd (after s c).core face asked (heard_in face.0 config before) (last_in face.0 config before) (told_by s c)

@@ -29,7 +29,7 @@ module _ (φ : List ℕ → List ℕ) where
   move_text (finalizing face m set) = finalizing face (move_mark φ m) set
   move_text (announcing face s info node) = announcing face (move_said s) info node
   move_text (retracting face s node) = retracting face (move_said s) node
-  move_text (hearing face id keys s) = hearing face id keys (option_map move_said s)
+  move_text (hearing face id m s) = hearing face id m (option_map move_said s)
   move_text t = t
 
   -- a region's hat with its texts moved

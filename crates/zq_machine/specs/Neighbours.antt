@@ -12,7 +12,7 @@ use Rattle.zq_told.specs.declared.types.FaceDues.{FaceDues}
 use Rattle.zq_told.specs.declared.types.Way.TheVariants.{Unasked, Answering, Ending}
 use Rattle.zq_told.specs.Ears.{Ears, closed, opened, told_keys}
 use Rattle.zq_told.specs.Telling.{KeyDue, lacks_ids, tell_due, tell_faces}
-use Rattle.zq_machine.specs.Due.{due, due_touched, listens, met_keys}
+use Rattle.zq_machine.specs.Due.{answer_keys, asked_keys, due, due_touched, listens, widened}
 use Rattle.zq_machine.specs.Messages.{Telling, answered_by, from_hat}
 use Rattle.zq_machine.specs.Selecting.{asked_by}
 use Rattle.zq_machine.specs.State.{Core}
@@ -38,19 +38,23 @@ with_dues face (k ∷ ks) = record { face = record { 0 = face }; keys = k ∷ ks
 abbrev pub looked_by : Core → Interests → (ℕ → List (List ℕ)) → List FaceDues
 looked_by c ints keys = flat_map (λ o. with_dues o.0 (dues_on c ints (keys o.0) o.0)) c.faces
 
--- the same where all faces have the same keys, if there are any
+-- the same where all faces have the same keys, if there are any, and each besides those of its aggregating interests that one of them meets
 abbrev pub looked_over : Core → Interests → List (List ℕ) → List FaceDues
 looked_over c ints [] = []
-looked_over c ints (k ∷ ks) = looked_by c ints (λ face. k ∷ ks)
+looked_over c ints (k ∷ ks) = looked_by c ints (λ face. widened face ints (k ∷ ks))
 
 -- what a call that is no interest looks at: at each face that is open after it, of the keys that it touches there those on which the face listens
 abbrev pub looked_at : (before after : Core) → Interests → TextCall → List FaceDues
-looked_at before after ints (opening o) = looked_by after ints (due_touched before (opening o))
+looked_at before after ints (opening o) = looked_by after ints (due_touched before ints (opening o))
 looked_at before after ints t = looked_over after ints (fold (insert_key text_cmp) [] (touched before t))
 
--- the keys that meet what an interest asks for, with what is due to the asker
+-- the keys that an interest looks at, with what is due to the asker
 abbrev pub asked_dues : Core → Interests → (asker : ℕ) → InterestEntry → List KeyDue
-asked_dues c ints asker asked = map (due_on c ints asker) (met_keys asked.key c)
+asked_dues c ints asker asked = map (due_on c ints asker) (asked_keys c ints asker asked)
+
+-- the keys that answer it, with what is due
+abbrev pub answer_dues : Core → Interests → (asker : ℕ) → InterestEntry → List KeyDue
+answer_dues c ints asker asked = map (due_on c ints asker) (answer_keys c ints asker asked)
 
 -- what an interest looks at: those, at the asker
 abbrev pub asked_at : Core → Interests → (asker : ℕ) → InterestEntry → List FaceDues
@@ -112,7 +116,11 @@ answer_lacks c ints ears asker asked = lacks_ids Answering ears (asked_at c ints
 abbrev pub ears_asked : Core → Interests → Ears → (asker : ℕ) → InterestEntry → Ears
 ears_asked c ints ears asker asked = tell_due Answering ears (asked_at c ints asker asked)
 
--- what was told after the end of an interest: what is not due any more is forgotten
+-- what the end of an interest tells its face: what stays due with other information, under the id that it has
+abbrev pub ended_told : Core → Interests → Ears → (asker : ℕ) → InterestEntry → List TreeTelling
+ended_told c ints ears asker asked = (tell_faces Ending ears (ended_at c ints ears asker asked)).tellings
+
+-- what was told after it: what is not due any more is forgotten
 abbrev pub ears_ended : Core → Interests → Ears → (asker : ℕ) → InterestEntry → Ears
 ears_ended c ints ears asker asked = tell_due Ending ears (ended_at c ints ears asker asked)
 
@@ -120,17 +128,18 @@ ears_ended c ints ears asker asked = tell_due Ending ears (ended_at c ints ears 
 
 -- what a call tells the faces of which something is kept
 abbrev pub near_told : (before after : Core) → Interests → TextCall → Ears → List TreeTelling
-near_told before after ints (hearing face id keys s) kept = answer_told after ints kept face.0 (asked_by keys s)
+near_told before after ints (hearing face id m s) kept = answer_told after ints kept face.0 (asked_by m s)
+near_told before after ints (unhearing face id) kept = option_map_or (ended_told after ints kept face.0) (interest_at face.0 id before.interests) []
 near_told before after ints t kept = kept_told before after ints t kept
 
 -- a face needs an id above those of 32 bits for it
 abbrev pub near_lack : (before after : Core) → Interests → TextCall → Ears → Bool
-near_lack before after ints (hearing face id keys s) kept = answer_lacks after ints kept face.0 (asked_by keys s)
+near_lack before after ints (hearing face id m s) kept = answer_lacks after ints kept face.0 (asked_by m s)
 near_lack before after ints t kept = kept_lack before after ints t kept
 
 -- what was told after it
 abbrev pub near_after : (before after : Core) → Interests → TextCall → Ears → Ears
-near_after before after ints (hearing face id keys s) kept = ears_asked after ints kept face.0 (asked_by keys s)
+near_after before after ints (hearing face id m s) kept = ears_asked after ints kept face.0 (asked_by m s)
 near_after before after ints (unhearing face id) kept = option_map_or (ears_ended after ints kept face.0) (interest_at face.0 id before.interests) kept
 near_after before after ints t kept = kept_after before after ints t kept
 
@@ -142,5 +151,5 @@ due_told before after ints t kept = map from_hat (in_order ((tree_told before af
 
 -- what is told as it is told: in answer to an interest with its id, and with the end of what there was to tell
 abbrev pub marked : TextCall → List Telling → List Telling
-marked (hearing face id keys s) ts = answered_by face id ts
+marked (hearing face id m s) ts = answered_by face id ts
 marked t ts = ts

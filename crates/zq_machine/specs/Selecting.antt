@@ -47,9 +47,14 @@ full_text said.Unscoped = []
 full_text said.Empty = []
 full_text (said.Full text) = text
 
--- what an interest asks for: all that meets its key, or, with no expression, all; and whether it wants numbers for keys
-abbrev pub asked_by : Bool → Option Said → InterestEntry
-asked_by keys s = record { key = option_map full_text s; keys = keys }
+-- what an interest asks for besides: that numbers be declared for keys, and to hear of its key alone, as one entry
+pub record Manner : Type 0 where
+  pub keys : Bool
+  pub aggregate : Bool
+
+-- what an interest asks for: all that meets its key, or, with no expression, all; and in which manner
+abbrev pub asked_by : Manner → Option Said → InterestEntry
+asked_by m s = record { key = option_map full_text s; keys = m.keys; aggregate = m.aggregate }
 
 -- the face of an offer
 abbrev pub target_of : QueryTargetQabl → FaceId

@@ -204,12 +204,12 @@ abbrev pub first_routed : Settings → ℕ → Option Routed
 first_routed config place = option_map routed (at place (first_hats config))
 
 -- what a face asks to hear by a call: the keys that meet what the expression says there
-abbrev pub asked_at : Bool → Option WireExpr → Standing → InterestEntry
-asked_at keys w s = asked_by keys (option_map (λ (x : WireExpr). said_of s.numbers (entered_by s.space x)) w)
+abbrev pub asked_at : Manner → Option WireExpr → Standing → InterestEntry
+asked_at m w s = asked_by m (option_map (λ (x : WireExpr). said_of s.numbers (entered_by s.space x)) w)
 
 -- what an accepted call makes of what a face asks to hear, by what stands of the face
 abbrev pub asking_by : ℕ → Call → Option Standing → Asked → Asked
-asking_by face (call.Interest f id keys w) stands was = if f.0 == face then option_map_or (λ (s : Standing). insert_entry nat_cmp was id (asked_at keys w s)) stands was else was
+asking_by face (call.Interest f id keys aggregate w) stands was = if f.0 == face then option_map_or (λ (s : Standing). insert_entry nat_cmp was id (asked_at (record { keys = keys; aggregate = aggregate }) w s)) stands was else was
 asking_by face (call.InterestFinal f id) stands was = if f.0 == face then remove_entry (is_at (nat_cmp id)) was else was
 asking_by face (call.Close f) stands was = if f.0 == face then [] else was
 asking_by face c stands was = was

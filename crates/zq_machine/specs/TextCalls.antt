@@ -19,7 +19,7 @@ use Rattle.zq_machine.specs.declared.call.Opening.{Opening}
 use Rattle.zq_machine.specs.declared.call.Call.{Call}
 use Rattle.zq_machine.specs.declared.call.Call.TheVariants as call
 use Rattle.zq_machine.specs.Gates.{denied_by, entered_by, gate_at, reply_by, space_of}
-use Rattle.zq_machine.specs.Selecting.{full_text, says_key}
+use Rattle.zq_machine.specs.Selecting.{Manner, full_text, says_key}
 use Rattle.zq_machine.specs.State.{Core, State, hat_of, is_routing}
 
 -- a call with texts in place of expressions; a number that is declared or given up comes with the text that it stood for; what routers declare is named by its text and its node; an interest may have no expression
@@ -41,7 +41,7 @@ pub data TextCall : Type 0 where
   retracting : FaceId → Said → ℕ → TextCall
   networking : Region → Network → TextCall
   tabling : FaceId → NodeIds → TextCall
-  hearing : FaceId → ℕ → Bool → Option Said → TextCall
+  hearing : FaceId → ℕ → Manner → Option Said → TextCall
   unhearing : FaceId → ℕ → TextCall
 
 -- what an expression says that the face sends, behind its namespace
@@ -92,7 +92,7 @@ read s (call.Sent reply) = reporting reply
 read s (call.Poll now) = passing now
 read s (call.SetGateways r table) = listing r table
 read s (call.FinalizeInterest face mark set) = finalizing face mark set
-read s (call.Interest face id keys wire) = hearing face id keys (said_if face wire s)
+read s (call.Interest face id keys aggregate wire) = hearing face id (record { keys = keys; aggregate = aggregate }) (said_if face wire s)
 read s (call.InterestFinal face id) = unhearing face id
 read s (call.SetNetwork r net) = networking r net
 read s (call.SetNodeIds face ids) = tabling face ids

@@ -56,6 +56,7 @@ pub enum Call {
         face: FaceId,
         id: u32,
         keys: bool,
+        aggregate: bool,
         wire: Option<WireExpr>,
     },
     InterestFinal {

@@ -139,7 +139,9 @@ module _ (n : ℕ) where
   key_sent Unasked m key (Some t) (Some e) = news_by m key e (same_info t.info e.info) (n == m) refl
   key_sent Answering m key old None = none_by (n == m)
   key_sent Answering m key old (Some e) = refl
-  key_sent Ending m key old new = none_by (n == m)
+  key_sent Ending m key None new = none_by (n == m)
+  key_sent Ending m key (Some t) None = none_by (n == m)
+  key_sent Ending m key (Some t) (Some e) = news_by m key e (same_info t.info e.info) (n == m) refl
 
   joined_by : (b : Bool) (ts us : List Telling) → cond b ts [] ++ cond b us [] ≡ cond b (ts ++ us) []
   joined_by true ts us = refl

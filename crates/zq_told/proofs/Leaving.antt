@@ -1,8 +1,8 @@
 -- What a call leaves of one face and tells it, and when it lacks ids.
 use Rattle.std.proofs.Common.{◌≡◌, ◌∙◌, refl, sym, ap, ℕ, ◌+◌, Bool, true, false, cond, List, [], ◌∷◌, ◌++◌, fold, length, map, Option, Some, None, true≢false, arith, append_assoc}
 use Rattle.std.specs.Prelude.{◌||◌, filter}
-use Rattle.std.specs.List.{list_any}
-use Rattle.std.specs.Option.{is_some, option_map_or}
+use Rattle.std.specs.List.{flat_map, list_any}
+use Rattle.std.specs.Option.{is_some, option_and_then, option_map_or}
 use Rattle.std.proofs.lemmas.List.{append-nil, map-append}
 use Rattle.std.proofs.lemmas.List.Folds.{list_any-append}
 use Rattle.zq_message.specs.declared.message.QueryableInfoType.{QueryableInfoType}
@@ -16,9 +16,9 @@ use Rattle.zq_told.specs.declared.types.FacePlan.{FacePlan}
 use Rattle.zq_told.specs.declared.types.Planned.{Planned}
 use Rattle.zq_told.specs.declared.plan.Account.{Account}
 use Rattle.zq_told.specs.Ears.{Ear, Ears, Told, at_face}
-use Rattle.zq_told.specs.Telling.{KeyDue, Row, entry_for, is_above, put_row, tell_face, tell_key, tell_keys, tellings_for, with_account}
+use Rattle.zq_told.specs.Telling.{KeyDue, Row, change, entry_for, is_above, last_for, put_row, renewed, tell_face, tell_key, tell_keys, tellings_for, with_account}
 use Rattle.zq_told.specs.Laws.{InOrder, takes_id}
-use Rattle.zq_told.specs.Leaving.{AnswersAll, EndsNeedNone, EndsQuietly, HaveIds, LacksExactly, StaysInOrder, ToldAimed, is_too_great, lacks_there, news_of, takes_ids}
+use Rattle.zq_told.specs.Leaving.{AnswersAll, AnswersDue, EndsChanging, EndsNeedNone, HaveIds, LacksExactly, StaysInOrder, ToldAimed, changed_on, is_too_great, lacks_there, news_of, takes_ids}
 use Rattle.zq_told.proofs.Slotted.{row_sorted}
 use Rattle.zq_told.proofs.Settling.{told_is}
 use Rattle.zq_told.proofs.Differing.{counted}
@@ -36,12 +36,21 @@ pub stays_in_order : StaysInOrder
 stays_in_order way n ear keys s = rows_sorted (tell_keys way n ear keys []).rows ear.told s
 
 -- ---- an interest that ended
-quiet_all : (n : ℕ) (told : Told) (ks : List KeyDue) (a : Account) → (fold (tell_key Ending n told) a ks).tellings ≡ a.tellings
-quiet_all n told [] a = refl
-quiet_all n told (k ∷ ks) a = quiet_all n told ks (tell_key Ending n told a k) ∙ append-nil a.tellings
+change_by : (n : ℕ) (key : List ℕ) (last : ℕ) (old : Option ToldEntry) (due : Option QueryableInfoType) → tellings_for Ending n key old (entry_for Ending last old due) ≡ change n key old (option_and_then (renewed old) due)
+change_by n key last None None = refl
+change_by n key last (Some t) None = refl
+change_by n key last None (Some i) = refl
+change_by n key last (Some t) (Some i) = refl
 
-pub ends_quietly : EndsQuietly
-ends_quietly n ear keys = quiet_all n ear.told keys (record { last = ear.last; rows = []; tellings = [] })
+change_all : (n : ℕ) (told : Told) (ks : List KeyDue) (a : Account) → (fold (tell_key Ending n told) a ks).tellings ≡ a.tellings ++ flat_map (changed_on n told) ks
+change_all n told [] a = sym (append-nil a.tellings)
+change_all n told (k ∷ ks) a =
+    change_all n told ks (tell_key Ending n told a k)
+    ∙ ap (λ ts. (a.tellings ++ ts) ++ flat_map (changed_on n told) ks) (change_by n k.0 a.last (at_text k.0 told) k.1)
+    ∙ append_assoc a.tellings (changed_on n told k) (flat_map (changed_on n told) ks)
+
+pub ends_changing : EndsChanging
+ends_changing n ear keys = change_all n ear.told keys (record { last = ear.last; rows = []; tellings = [] })
 
 -- ---- an interest that is answered
 abbrev is_due : KeyDue → Bool
@@ -68,6 +77,40 @@ answer_all n told (k ∷ ks) a =
 
 pub answers_all : AnswersAll
 answers_all n ear keys = answer_all n ear.told keys (record { last = ear.last; rows = []; tellings = [] })
+
+-- keys on which nothing is due add nothing
+module _ (n : ℕ) (told : Told) where
+  -- accounts that say the same, whichever rows they have
+  record Alike (a b : Account) : Type 0 where
+    last : a.last ≡ b.last
+    tellings : a.tellings ≡ b.tellings
+
+  alike_step : (k : KeyDue) (a b : Account) → Alike a b → Alike (tell_key Answering n told a k) (tell_key Answering n told b k)
+  alike_step k a b s = record {
+    last = ap (λ l. last_for l (at_text k.0 told) (entry_for Answering l (at_text k.0 told) k.1)) s.last;
+    tellings = λ i. s.tellings i ++ tellings_for Answering n k.0 (at_text k.0 told) (entry_for Answering (s.last i) (at_text k.0 told) k.1);
+  }
+
+  undue_last : (last : ℕ) (old : Option ToldEntry) → last_for last old None ≡ last
+  undue_last last None = refl
+  undue_last last (Some t) = refl
+
+  alike_by : (key : List ℕ) (due : Option QueryableInfoType) (ks : List KeyDue) (a b : Account) → Alike a b
+      → ((c d : Account) → Alike c d → Alike (fold (tell_key Answering n told) c ks) (fold (tell_key Answering n told) d (filter is_due ks)))
+      → Alike (fold (tell_key Answering n told) (tell_key Answering n told a (key, due)) ks) (fold (tell_key Answering n told) b (cond (is_some due) ((key, due) ∷ filter is_due ks) (filter is_due ks)))
+  alike_by key None ks a b s more =
+      more (tell_key Answering n told a (key, None)) b
+      (record { last = undue_last a.last (at_text key told) ∙ s.last; tellings = append-nil a.tellings ∙ s.tellings })
+  alike_by key (Some i) ks a b s more = more (tell_key Answering n told a (key, Some i)) (tell_key Answering n told b (key, Some i)) (alike_step (key, Some i) a b s)
+
+  alike_all : (ks : List KeyDue) (a b : Account) → Alike a b → Alike (fold (tell_key Answering n told) a ks) (fold (tell_key Answering n told) b (filter is_due ks))
+  alike_all [] a b s = s
+  alike_all (k ∷ ks) a b s = alike_by k.0 k.1 ks a b s (λ c d x. alike_all ks c d x)
+
+pub answers_due : AnswersDue
+answers_due n ear keys =
+    let first : Account = record { last = ear.last; rows = []; tellings = [] } in
+    (alike_all n ear.told keys first first (record { last = refl; tellings = refl })).tellings
 
 -- ---- ids that lack
 or_false : (b : Bool) → b ≡ (b || false)

@@ -78,7 +78,9 @@ module _ (φ : List ℕ → List ℕ) (keeps : KeepsTexts φ) where
   words_moved Unasked n key (Some t) (Some e) = change_by n key e (same_info t.info e.info)
   words_moved Answering n key old None = refl
   words_moved Answering n key old (Some e) = refl
-  words_moved Ending n key old new = refl
+  words_moved Ending n key None new = refl
+  words_moved Ending n key (Some t) None = refl
+  words_moved Ending n key (Some t) (Some e) = change_by n key e (same_info t.info e.info)
 
   abbrev move_account : Account → Account
   move_account a = record { last = a.last; rows = moved a.rows; tellings = map (move_telling φ) a.tellings }

@@ -68,7 +68,7 @@ module _ (n : ℕ) (ear : Memory) (heard : Heard) (t : Tied ear heard) (key : Li
   key_given Ending None (Some i) was = (tt, refl)
   key_given Unasked (Some u) (Some i) was = news_given u i (same_info u.info i) was
   key_given Answering (Some u) (Some i) was = again_given u i was
-  key_given Ending (Some u) (Some i) was = (tt, refl)
+  key_given Ending (Some u) (Some i) was = news_given u i (same_info u.info i) was
 
 -- ---- many keys
 given_append : (xs ys : List Telling) (last : ℕ) (heard : Heard) → AreGiven last heard xs → AreGiven (fold last_given last xs) (fold receive heard xs) ys → AreGiven last heard (xs ++ ys)

@@ -94,7 +94,9 @@ module _ (way : Way) (m : ℕ) (k : List ℕ) (old new : Option ToldEntry) (Q : 
       by Unasked (Some t) (Some e) = change_by e (same_info t.info e.info)
       by Answering o None = none
       by Answering o (Some e) = tells e
-      by Ending o x = none
+      by Ending None x = none
+      by Ending (Some t) None = none
+      by Ending (Some t) (Some e) = change_by e (same_info t.info e.info)
 
 module _ (way : Way) (m : ℕ) (told : Told) where
   abbrev words : Account → KeyDue → List Telling

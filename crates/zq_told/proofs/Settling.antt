@@ -94,7 +94,7 @@ module _ (n : ℕ) (ear : Memory) (heard : Heard) (t : Tied ear heard) (key : Li
   tied_key Ending None (Some i) was = over_itself None was
   tied_key Unasked (Some u) (Some i) was = tied_news u i (same_info u.info i) refl was
   tied_key Answering (Some u) (Some i) was = tied_again u i was
-  tied_key Ending (Some u) (Some i) was = over_itself (Some u) was
+  tied_key Ending (Some u) (Some i) was = tied_news u i (same_info u.info i) refl was
 
 -- ---- many keys
 info_of : Option ToldEntry → Option QueryableInfoType
@@ -266,7 +266,8 @@ module _ (way : Way) (n : ℕ) (told : Told) where
       by w old None = refl
       by Unasked old (Some i) = refl
       by Answering old (Some i) = refl
-      by Ending old (Some i) = refl
+      by Ending None (Some i) = refl
+      by Ending (Some t) (Some i) = refl
 
   abbrev info_at : List ℕ → Told → Option QueryableInfoType
   info_at q es = option_map (λ (t : ToldEntry). t.info) (at_text q es)

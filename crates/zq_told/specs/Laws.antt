@@ -36,12 +36,12 @@ KeepsUp =
     (way : Way) (n : ℕ) (ear : Ear) (keys : List KeyDue) (heard : Heard) → InOrder ear.told → InOrder keys → Tied (memory_of ear) heard
     → Tied (memory_of (ear_after way n ear keys)) (heard_after way keys heard (told_in way n ear keys))
 
--- what a receiver is to keep on a key that the call looks at: nothing where nothing is due; else what is due, or, where an interest ended, what it kept
+-- what a receiver is to keep on a key that the call looks at: nothing where nothing is due; else what is due, where an interest ended if it kept something
 abbrev pub aim : Way → Option QueryableInfoType → Option QueryableInfoType → Option QueryableInfoType
 aim way None old = None
 aim Unasked (Some i) old = Some i
 aim Answering (Some i) old = Some i
-aim Ending (Some i) old = old
+aim Ending (Some i) old = if is_some old then Some i else None
 
 -- the information that a face was told of the key
 abbrev pub told_info : Ear → List ℕ → Option QueryableInfoType
@@ -51,7 +51,7 @@ told_info ear key = option_map (λ (t : ToldEntry). t.info) (at_text key ear.tol
 abbrev pub aim_on : Way → List KeyDue → Option QueryableInfoType → List ℕ → Option QueryableInfoType
 aim_on way keys old key = option_map_or (λ d. aim way d old) (at_text key keys) old
 
--- on each key that the call looks at a receiver keeps exactly what is due, or, where an interest ended, what it kept of what is still due; on any other key it keeps what it kept
+-- on each key that the call looks at a receiver keeps exactly what is due, where an interest ended if it kept something there; on any other key it keeps what it kept
 abbrev pub HeardIsDue : Type 0
 HeardIsDue =
     (way : Way) (n : ℕ) (ear : Ear) (keys : List KeyDue) (heard : Heard) → InOrder ear.told → InOrder keys → Tied (memory_of ear) heard

@@ -1,17 +1,18 @@
 -- The laws of what a call leaves of faces and tells them, and of when it lacks ids: no receiver is named.
 use Rattle.std.specs.Prelude.{◌≡◌, ℕ, ◌+◌, ◌^◌, ◌<◌, nat_lt, ◌==◌, ◌&&◌, Bool, true, false, not, List, [], filter, length, map, Some, None, if◌then◌else◌}
-use Rattle.std.specs.List.{AllByRecursion, list_any}
+use Rattle.std.specs.List.{AllByRecursion, flat_map, list_any}
 use Rattle.std.specs.List.Sorted.{IsStrictlySortedBy}
-use Rattle.std.specs.Option.{is_some, option_map, option_map_or}
+use Rattle.std.specs.Option.{is_some, option_and_then, option_map, option_map_or}
 use Rattle.std.specs.Ordering.{nat_cmp}
 use Rattle.std.specs.Str.{bytes_eq}
+use Rattle.zq_index.specs.Texts.{at_text}
 use Rattle.std.specs.Map.{keys_of}
 use Rattle.zq_trees.specs.declared.types.Telling.{Telling}
 use Rattle.zq_told.specs.declared.types.FaceDues.{FaceDues}
 use Rattle.zq_told.specs.declared.types.Way.{Way}
 use Rattle.zq_told.specs.declared.types.Way.TheVariants.{Answering, Ending}
-use Rattle.zq_told.specs.Ears.{Ear, Ears, at_face, closed, last_at, opened}
-use Rattle.zq_told.specs.Telling.{KeyDue, lacks_ids, tell_due, tell_faces}
+use Rattle.zq_told.specs.Ears.{Ear, Ears, Told, at_face, closed, last_at, opened}
+use Rattle.zq_told.specs.Telling.{KeyDue, change, lacks_ids, renewed, tell_due, tell_faces}
 use Rattle.zq_told.specs.Receiver.{Tied, memory_of}
 use Rattle.zq_told.specs.Laws.{InOrder, aim_on, ear_after, is_to, keys_for, takes_id, told_in, told_info}
 
@@ -32,9 +33,13 @@ TellsAimed =
 abbrev pub StaysInOrder : Type 0
 StaysInOrder = (way : Way) (n : ℕ) (ear : Ear) (keys : List KeyDue) → InOrder ear.told → InOrder (ear_after way n ear keys).told
 
--- where an interest ended, nothing is told
-abbrev pub EndsQuietly : Type 0
-EndsQuietly = (n : ℕ) (ear : Ear) (keys : List KeyDue) → told_in Ending n ear keys ≡ []
+-- what is told of a key where an interest ended: what is due, under the id that it has, if it was told with other information
+abbrev pub changed_on : ℕ → Told → KeyDue → List Telling
+changed_on n told k = change n k.0 (at_text k.0 told) (option_and_then (renewed (at_text k.0 told)) k.1)
+
+-- where an interest ended, that is told of its keys, and nothing else: no new key, and no withdrawal
+abbrev pub EndsChanging : Type 0
+EndsChanging = (n : ℕ) (ear : Ear) (keys : List KeyDue) → told_in Ending n ear keys ≡ flat_map (changed_on n ear.told) keys
 
 -- a key with the information that is told of it
 abbrev pub news_of : Telling → KeyDue
@@ -43,6 +48,10 @@ news_of t = (t.key, t.info)
 -- an interest is answered with all that is due, and with nothing else
 abbrev pub AnswersAll : Type 0
 AnswersAll = (n : ℕ) (ear : Ear) (keys : List KeyDue) → map news_of (told_in Answering n ear keys) ≡ filter (λ (k : KeyDue). is_some k.1) keys
+
+-- keys on which nothing is due are told nothing in answer: an interest may look at more keys than it has to
+abbrev pub AnswersDue : Type 0
+AnswersDue = (n : ℕ) (ear : Ear) (keys : List KeyDue) → told_in Answering n ear keys ≡ told_in Answering n ear (filter (λ (k : KeyDue). is_some k.1) keys)
 
 -- the id is above those of 32 bits
 abbrev pub is_too_great : ℕ → Bool

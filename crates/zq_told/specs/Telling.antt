@@ -31,12 +31,17 @@ abbrev pub id_for : ℕ → Option ToldEntry → ℕ
 id_for last None = last + 1
 id_for last (Some t) = t.id
 
--- what a face was told of a key after the call: nothing where nothing is due; else what is due, or, where an interest ended, what it was told before
+-- what was told stands under its id with other information; what was not told is not told
+abbrev pub renewed : Option ToldEntry → QueryableInfoType → Option ToldEntry
+renewed None i = None
+renewed (Some t) i = Some (record { id = t.id; info = i })
+
+-- what a face was told of a key after the call: nothing where nothing is due; else what is due, where an interest ended under the id that it has alone
 abbrev pub entry_for : Way → ℕ → Option ToldEntry → Option QueryableInfoType → Option ToldEntry
 entry_for way last old None = None
 entry_for Unasked last old (Some i) = Some (record { id = id_for last old; info = i })
 entry_for Answering last old (Some i) = Some (record { id = id_for last old; info = i })
-entry_for Ending last old (Some i) = old
+entry_for Ending last old (Some i) = renewed old i
 
 -- the id given last, once a key has become the entry
 abbrev pub last_for : ℕ → Option ToldEntry → Option ToldEntry → ℕ
@@ -62,6 +67,12 @@ difference n key (Some t) None = withdrawn n key t ∷ []
 difference n key None (Some e) = declared n key e ∷ []
 difference n key (Some t) (Some e) = if same_info t.info e.info then [] else declared n key e ∷ []
 
+-- a change of the information of what was told, and nothing else
+abbrev pub change : ℕ → List ℕ → Option ToldEntry → Option ToldEntry → List Telling
+change n key None new = []
+change n key (Some t) None = []
+change n key (Some t) (Some e) = if same_info t.info e.info then [] else declared n key e ∷ []
+
 -- all that is due
 abbrev pub answer : ℕ → List ℕ → Option ToldEntry → List Telling
 answer n key None = []
@@ -71,7 +82,7 @@ answer n key (Some e) = declared n key e ∷ []
 abbrev pub tellings_for : Way → ℕ → List ℕ → Option ToldEntry → Option ToldEntry → List Telling
 tellings_for Unasked n key old new = difference n key old new
 tellings_for Answering n key old new = answer n key new
-tellings_for Ending n key old new = []
+tellings_for Ending n key old new = change n key old new
 
 -- a key of a face has become the entry
 abbrev pub noted : Way → ℕ → List ℕ → Option ToldEntry → Option ToldEntry → Account → Account

@@ -1,6 +1,6 @@
 //! The laws of telling, as the contracts of calls.
 ghost use Rattle.zq_told.specs.Laws.{CallKeepsUp, CountsIds, HeardIsDue, IdsAreGiven, KeepsUp, LooksUp, TellsDifference, TellsEach, TellsInOrder};
-ghost use Rattle.zq_told.specs.Leaving.{AnswersAll, Closes, EndsNeedNone, EndsQuietly, KeepsFaces, LacksExactly, LessDue, Opens, StaySound, StaysInOrder, TellsAimed, TellsMeant, TellsNoOther, ToldAimed};
+ghost use Rattle.zq_told.specs.Leaving.{AnswersAll, AnswersDue, Closes, EndsChanging, EndsNeedNone, KeepsFaces, LacksExactly, LessDue, Opens, StaySound, StaysInOrder, TellsAimed, TellsMeant, TellsNoOther, ToldAimed};
 ghost use Rattle.std.specs.Prelude.{ℕ, List};
 ghost use Rattle.zq_told.specs.Moved.{KeepsTexts, TellsAlike};
 
@@ -11,8 +11,8 @@ pub fn keeps_up()
     ensures { KeepsUp }
 {}
 
-/// On each key that a call looks at a receiver keeps exactly what is due, or, where an interest ended, what
-/// it kept of what is still due; on any other key it keeps what it kept.
+/// On each key that a call looks at a receiver keeps exactly what is due, where an interest ended if it kept
+/// something there; on any other key it keeps what it kept.
 #[tactic(auto, using(crate::proofs::Settling::heard_is_due))]
 pub fn heard_is_due()
     ensures { HeardIsDue }
@@ -76,14 +76,20 @@ pub fn stays_in_order()
     ensures { StaysInOrder }
 {}
 
-/// Where an interest ended, nothing is told.
-pub fn ends_quietly()
-    ensures { EndsQuietly }
+/// Where an interest ended, a key that was told and stays due is told if its information is another, under
+/// the id that it has; nothing else is told, so no key that is not due any more is withdrawn.
+pub fn ends_changing()
+    ensures { EndsChanging }
 {}
 
 /// An interest is answered with all that is due, and with nothing else.
 pub fn answers_all()
     ensures { AnswersAll }
+{}
+
+/// Keys on which nothing is due are told nothing in answer: an interest may look at more keys than it has to.
+pub fn answers_due()
+    ensures { AnswersDue }
 {}
 
 /// Ids lack exactly where some face that is there would be given one above those of 32 bits for the keys that

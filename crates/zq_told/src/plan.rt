@@ -1,6 +1,6 @@
 //! What a face is told of the keys that a call looks at.
 ghost use Rattle.std.specs.Prelude.{◌≡◌, ◌++◌, ◌∷◌, [], ◌≤◌, ◌^◌, Some, IfOk, IfSome, IfNone, OnOk, IsErrOf, None};
-ghost use Rattle.zq_told.specs.Telling.{answer, difference, entry_for as entry_of, id_for, last_for as last_of, noted, tell_key, tell_keys, tellings_for, told_under};
+ghost use Rattle.zq_told.specs.Telling.{answer, change, difference, entry_for as entry_of, id_for, last_for as last_of, noted, renewed as renewed_of, tell_key, tell_keys, tellings_for, told_under};
 ghost use Rattle.zq_told.specs.Rooms.{ear_of};
 
 use crate::book::Book;
@@ -68,6 +68,26 @@ fn tell_difference(
     }
 }
 
+/// The face is told a change of the information alone.
+fn tell_change(
+    tellings: &mut TellingList,
+    alloc: Global,
+    face: FaceId,
+    key: &Text,
+    old: Option<ToldEntry>,
+    new: Option<ToldEntry>,
+) -> Result<(), OutOfMemory>
+    ensures { OnOk result (tellings.new ≡ tellings.old ++ change face.0 key.now old new) }
+{
+    match (old, new) {
+        (None, _) => Ok(()),
+        (Some(_), None) => Ok(()),
+        (Some(told), Some(entry)) => {
+            tell_difference(tellings, alloc, face, key, Some(told), Some(entry))
+        }
+    }
+}
+
 /// The face is told what is due.
 fn tell_answer(
     tellings: &mut TellingList,
@@ -99,7 +119,7 @@ fn tell(
     match way {
         Way::Unasked => tell_difference(tellings, alloc, face, key, old, new),
         Way::Answering => tell_answer(tellings, alloc, face, key, new),
-        Way::Ending => Ok(()),
+        Way::Ending => tell_change(tellings, alloc, face, key, old, new),
     }
 }
 
@@ -135,6 +155,16 @@ fn due_entry(
     }
 }
 
+/// What was told, with other information.
+fn renewed(old: Option<ToldEntry>, info: QueryableInfoType) -> Option<ToldEntry>
+    ensures { result ≡ renewed_of old info }
+{
+    match old {
+        Some(told) => Some(ToldEntry { id: told.id, info }),
+        None => None,
+    }
+}
+
 /// What a face was told of a key after the call. `NoFreeId` where it needs an id above those of 32 bits.
 fn entry_for(
     way: Way,
@@ -149,7 +179,7 @@ fn entry_for(
         (_, None) => Ok(None),
         (Way::Unasked, Some(info)) => due_entry(last, old, info),
         (Way::Answering, Some(info)) => due_entry(last, old, info),
-        (Way::Ending, Some(_)) => Ok(old),
+        (Way::Ending, Some(info)) => Ok(renewed(old, info)),
     }
 }
 

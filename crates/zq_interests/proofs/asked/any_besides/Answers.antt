@@ -8,8 +8,8 @@ use Rattle.zq_interests.specs.Interests.{Asked, wants}
 use Rattle.zq_interests.proofs.Besides.{any_left, other}
 use Rattle.zq_interests.proofs.asked.any_besides.Goals as goal
 
-pub returns-then-meets : goal.returns-then-meets
-returns-then-meets c =
+pub returns-then-asked_for : goal.returns-then-asked_for
+returns-then-asked_for c =
     let id = c.args.id in
     let test = wants c.args.key.now in
     let rest : Asked = c.next.new.self in
@@ -17,7 +17,7 @@ returns-then-meets c =
     ∙ sym c.loop-other.invariant
     ∙ ap (list_any (other test id)) c.in-Some.ensures.steps
     ∙ ap (λ b. (not b && test (c.in-Some.other.now, c.in-Some.entry.now)) || list_any (other test id) rest) (apart nat_cmp_total exact_unsigned id c.in-Some.other.now (λ e. c.if-other-id.true (sym e)))
-    ∙ ap (λ b. b || list_any (other test id) rest) (sym c.meets.ensures ∙ c.if-meets.true))
+    ∙ ap (λ b. b || list_any (other test id) rest) (sym c.asked_for.ensures ∙ c.if-asked_for.true))
 
 pub returns : goal.returns
 returns c =
