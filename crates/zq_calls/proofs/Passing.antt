@@ -110,7 +110,7 @@ module _ (s : State) where
       by (call.UndeclareKeyExpr face id) e = let x = call.UndeclareKeyExpr face id in none x (fit_quiet (may_hand x) _ (call_fits s x) (reply_promise s x))
       by (call.DeclareQueryable face id wire info node) e = let x = call.DeclareQueryable face id wire info node in none x (fit_quiet (may_hand x) _ (call_fits s x) (reply_promise s x))
       by (call.UndeclareQueryable face id wire node) e = let x = call.UndeclareQueryable face id wire node in none x (fit_quiet (may_hand x) _ (call_fits s x) (reply_promise s x))
-      by (call.Interest face id keys wire) e = let x = call.Interest face id keys wire in none x (fit_quiet (may_hand x) _ (call_fits s x) (reply_promise s x))
+      by (call.Interest face id keys aggregate wire) e = let x = call.Interest face id keys aggregate wire in none x (fit_quiet (may_hand x) _ (call_fits s x) (reply_promise s x))
       by (call.InterestFinal face id) e = let x = call.InterestFinal face id in none x (fit_quiet (may_hand x) _ (call_fits s x) (reply_promise s x))
       by (call.FinalizeInterest face mark set) e = let x = call.FinalizeInterest face mark set in none x (fit_quiet (may_hand x) _ (call_fits s x) (reply_promise s x))
       by (call.Request face r now) e = let x = call.Request face r now in none x (fit_quiet (may_hand x) _ (call_fits s x) (reply_promise s x))

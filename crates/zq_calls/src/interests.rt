@@ -11,15 +11,17 @@ ghost use Rattle.zq_calls.specs.Making.{IsReached, Performs, Settles};
 use crate::tables::Tables;
 use std::alloc::Global;
 use zq_dues::asked::{dues_asked, dues_ended};
-use zq_handing::answers::{hold_and_answer, plan_end, take_back_answered};
+use zq_handing::answers::{hold_and_answer, take_back_answered, tell_end};
+use zq_handing::neighbours::take_back;
 use zq_handing::read::key_said;
+use zq_handing::without::WithoutInterest;
 use zq_interests::numbers::WithInterest;
 use zq_interests::types::InterestEntry;
 use zq_key::Key;
 use zq_key::memory::OutOfMemory;
 use zq_key::message::{FaceId, WireExpr};
 use zq_machine::call::{Refusal, Step};
-use zq_outgoing::ask_told;
+use zq_outgoing::{ask_told, let_told_out};
 use zq_tables::said::Said;
 use zq_told::types::TellRefusal;
 
@@ -59,10 +61,11 @@ impl Tables {
         face: FaceId,
         id: u32,
         keys: bool,
+        aggregate: bool,
         said: &Option<Said>,
     ) -> Result<Step, OutOfMemory>
         requires { IsReached self.old }
-        ensures { Settles self.old self.new (hearing face id keys said.now) result }
+        ensures { Settles self.old self.new (hearing face id (record { keys = keys; aggregate = aggregate }) said.now) result }
     {
         let Some(opened) = self.opened(face) else {
             return Ok(self.refused(Refusal::UnknownFace));
@@ -74,8 +77,20 @@ impl Tables {
         if self.interests.asks_another(face, id, key.as_ref()) {
             return Ok(self.refused(Refusal::IdInUse));
         }
-        let dues = dues_asked(self.alloc, &self.hats, face, opened, key.as_ref())?;
-        let entry = InterestEntry { key, keys };
+        let entry = InterestEntry {
+            key,
+            keys,
+            aggregate,
+        };
+        let dues = dues_asked(
+            self.alloc,
+            &self.hats,
+            &self.interests,
+            face,
+            id,
+            opened,
+            &entry,
+        )?;
         let held = entry.key.as_ref();
         let fresh = self.is_fresh(face, id, held);
         let asked = WithInterest {
@@ -126,16 +141,18 @@ impl Tables {
         face: FaceId,
         id: u32,
         keys: bool,
+        aggregate: bool,
         wire: &Option<WireExpr>,
     ) -> Result<Step, OutOfMemory>
         requires { IsReached self.old }
-        ensures { Performs self.old self.new (call.Interest face id keys wire.now) result }
+        ensures { Performs self.old self.new (call.Interest face id keys aggregate wire.now) result }
     {
         let said = self.said_if(face, wire)?;
-        self.ask_to_hear(face, id, keys, &said)
+        self.ask_to_hear(face, id, keys, aggregate, &said)
     }
 
-    /// A face asks no longer. It is told nothing; of what it was told only what is still due is kept.
+    /// A face asks no longer. It is told what stays due with other information, under the id that it has,
+    /// which can be on the interest's own key alone; of what it was told only what is still due is kept.
     pub fn unregister_interest(&mut self, face: FaceId, id: u32) -> Result<Step, OutOfMemory>
         requires { IsReached self.old }
         ensures { Settles self.old self.new (unhearing face id) result }
@@ -156,13 +173,31 @@ impl Tables {
             opened,
             entry.key.as_ref(),
         )?;
-        let plan = match plan_end(self.alloc, &mut self.ears, dues.as_slice()) {
-            Ok(plan) => plan,
-            Err(error) => return Err(error),
+        let without = WithoutInterest {
+            interests: &self.interests,
+            face,
+            id,
         };
-        self.interests.end(face, id);
-        self.names.release_interest(face, id);
-        self.ears.put(plan.as_slice());
-        Ok(self.done())
+        let all = tell_end(
+            self.alloc,
+            &self.faces,
+            &without,
+            &mut self.names,
+            &mut self.ears,
+            dues.as_slice(),
+        )?;
+        match let_told_out(&mut self.gates, &all.handed) {
+            Ok(exits) => {
+                self.interests.end(face, id);
+                self.names.release_interest(face, id);
+                self.ears.put(all.plan.as_slice());
+                let gone = self.gates.pass(all.handed, exits);
+                Ok(self.told(gone))
+            }
+            Err(_) => {
+                take_back(&mut self.names, &mut self.ears, &all, 0);
+                Err(OutOfMemory)
+            }
+        }
     }
 }

@@ -1,20 +1,16 @@
 //! What an interest of a face looks at, and what its end looks at.
-ghost use Rattle.std.specs.Prelude.{◌≡◌, ℕ, List, Some, IfOk, OnOk, filter, option_copied, true};
-ghost use Rattle.zq_interests.specs.declared.types.InterestEntry.{InterestEntry};
-ghost use Rattle.zq_interests.specs.Interests.{Interests, asks_for, meets, without_interest};
-ghost use Rattle.zq_told.specs.Ears.{told_keys};
-ghost use Rattle.zq_told.specs.Rooms.{ears_of};
-ghost use Rattle.zq_machine.specs.Neighbours.{asked_at, ended_at, with_dues};
-ghost use Rattle.zq_machine.specs.State.{Core, at};
-ghost use Rattle.zq_dues.specs.Dues.{AreInformed, AreKeys, all_dues_as, asks_in, was_told};
-
-use crate::dues::{dues_on_each, put_due};
-use crate::keys::met_keys;
+use crate::asking::{Asking, ask_of, put_owns, wants};
+use crate::dues::put_due;
+use crate::due::due_as;
+use crate::keys::{is_met, met_texts};
 use crate::over::list_face;
-use crate::types::DuesList;
+use crate::types::{Counted, DuesList, Wanted};
 use std::alloc::Global;
+use std::collections::BTreeSet;
 use zq_hat::hat::Hat;
+use zq_index::text_set::put_text;
 use zq_interests::interests::Interests;
+use zq_interests::types::InterestEntry;
 use zq_key::Key;
 use zq_key::items::Items;
 use zq_key::memory::OutOfMemory;
@@ -26,35 +22,92 @@ use zq_told::ears::Ears;
 use zq_told::types::KeyDues;
 
 // A list of the face with its dues, if it has any.
-fn one_face(alloc: Global, face: FaceId, dues: KeyDues) -> Result<DuesList, OutOfMemory>
-    ensures { IfOk result (λ ds. ds ≡ with_dues face.0 dues) }
-{
+fn one_face(alloc: Global, face: FaceId, dues: KeyDues) -> Result<DuesList, OutOfMemory> {
     let mut list = Items::new(alloc);
     list_face(&mut list, face, dues)?;
     Ok(list)
 }
 
-/// What an interest of an open face looks at: the keys on which regions have information and that meet
-/// what it asks for, with what is due to the face there. The face asks for all of them, by this
-/// interest. Refused only where memory is lacking.
-pub fn dues_asked(
+// The texts that a key meets on which some region has information join others.
+fn put_met(
+    keys: &mut BTreeSet<String>,
+    alloc: Global,
+    hats: &RegionMap<Hat>,
+    owns: &BTreeSet<String>,
+) -> Result<(), OutOfMemory> {
+    for own in owns {
+        if is_met(alloc, hats, own.as_str())? {
+            put_text(keys, alloc, own.as_str())?;
+        }
+    }
+    Ok(())
+}
+
+// The keys that an interest of the face may have to look at: those that meet what it asks for on which
+// something may be due, and its own.
+fn keys_asked(
+    alloc: Global,
+    hats: &RegionMap<Hat>,
+    interests: &Interests,
+    face: FaceId,
+    id: u32,
+    entry: &InterestEntry,
+) -> Result<BTreeSet<String>, OutOfMemory> {
+    let asked = entry.key.as_ref();
+    let mut owns = BTreeSet::new(alloc);
+    let counted = Counted::With(id, entry);
+    put_owns(&mut owns, alloc, interests, face, counted, Wanted::Asked(asked))?;
+    let mut keys = met_texts(alloc, hats, asked)?;
+    put_met(&mut keys, alloc, hats, &owns)?;
+    if let Some(key) = asked {
+        put_text(&mut keys, alloc, key.as_str())?;
+    }
+    Ok(keys)
+}
+
+// A key joins the list with what is due there to the face, if the interest asks for it, or nothing is due.
+fn put_looked(
+    dues: &mut KeyDues,
     alloc: Global,
     hats: &RegionMap<Hat>,
     face: FaceId,
     opened: OpenFace,
-    asked: Option<&Key>,
-) -> Result<DuesList, OutOfMemory>
-    ensures { (c : Core) (ints : Interests) (e : InterestEntry) → at face.0 c.faces ≡ Some opened → hats.now ≡ c.hats → e.key ≡ option_copied asked.entry → ((key : List ℕ) → meets (option_copied asked.entry) key ≡ true → asks_for face.0 key ints ≡ true) → IfOk result (λ ds. ds ≡ asked_at c ints face.0 e) }
-{
-    let keys = met_keys(alloc, hats, asked)?;
-    let dues = dues_on_each(alloc, hats, face, opened, true, keys.as_slice())?;
+    asks: Asking,
+    wants: bool,
+    key: &str,
+) -> Result<(), OutOfMemory> {
+    let due = due_as(alloc, hats, None, face, opened, asks, key)?;
+    if wants || due.is_none() {
+        dues.push((Text::new(alloc, key)?, due))?;
+    }
+    Ok(())
+}
+
+/// What an interest of an open face looks at, with what is due to the face there once it stands: the keys
+/// on which something may be due and for which it asks, its own among them; and of those that meet it
+/// those on which nothing is due, or is due any more. Refused only where memory is lacking.
+pub fn dues_asked(
+    alloc: Global,
+    hats: &RegionMap<Hat>,
+    interests: &Interests,
+    face: FaceId,
+    id: u32,
+    opened: OpenFace,
+    entry: &InterestEntry,
+) -> Result<DuesList, OutOfMemory> {
+    let keys = keys_asked(alloc, hats, interests, face, id, entry)?;
+    let mut dues = Items::new(alloc);
+    for key in &keys {
+        let text = key.as_str();
+        let asks = ask_of(interests, face, Counted::With(id, entry), text);
+        let wants = wants(entry, text);
+        put_looked(&mut dues, alloc, hats, face, opened, asks, wants, text)?;
+    }
     one_face(alloc, face, dues)
 }
 
 // Whether the face was told of the key.
-fn was_told(ears: &Ears, face: FaceId, key: &str) -> bool
-    ensures { result ≡ was_told face.0 (ears_of ears.now) key.now }
-{
+fn was_told(ears: &Ears, face: FaceId, key: &str) -> bool {
     ears.told_of(face, key).is_some()
 }
 
@@ -67,17 +120,14 @@ fn dues_besides(
     face: FaceId,
     id: u32,
     opened: OpenFace,
-    keys: &[Text],
-) -> Result<KeyDues, OutOfMemory>
-    requires { AreKeys keys.now }
-    ensures { IfOk result (λ ds. ds ≡ all_dues_as (asks_in (without_interest face.0 id interests.now) face.0) face.0 opened hats.now (filter (was_told face.0 (ears_of ears.now)) keys.now)) }
-{
+    keys: &BTreeSet<String>,
+) -> Result<KeyDues, OutOfMemory> {
     let mut dues = Items::new(alloc);
     for key in keys {
         let text = key.as_str();
         if was_told(ears, face, text) {
-            let asks = interests.asks_besides(face, id, text);
-            put_due(&mut dues, alloc, hats, face, opened, asks, text)?;
+            let asks = ask_of(interests, face, Counted::Without(id), text);
+            put_due(&mut dues, alloc, hats, None, face, opened, asks, text)?;
         }
     }
     Ok(dues)
@@ -85,8 +135,9 @@ fn dues_besides(
 
 /// What the end of an interest of an open face looks at: the keys that the face was told and that meet
 /// what was asked for, with what is due to it there by its other interests. They are found among the
-/// regions' keys by what was asked for; of each that the face was told some region has information.
-/// Refused only where memory is lacking.
+/// regions' keys by what was asked for, and among those of the face's aggregating interests; of each that
+/// the face was told some region has information, or it is one of these. Refused only where memory is
+/// lacking.
 pub fn dues_ended(
     alloc: Global,
     hats: &RegionMap<Hat>,
@@ -96,20 +147,11 @@ pub fn dues_ended(
     id: u32,
     opened: OpenFace,
     asked: Option<&Key>,
-) -> Result<DuesList, OutOfMemory>
-    requires { AreInformed (told_keys face.0 (ears_of ears.now)) hats.now }
-    ensures { (c : Core) (e : InterestEntry) → at face.0 c.faces ≡ Some opened → hats.now ≡ c.hats → e.key ≡ option_copied asked.entry → IfOk result (λ ds. ds ≡ ended_at c (without_interest face.0 id interests.now) (ears_of ears.now) face.0 e) }
-{
-    let keys = met_keys(alloc, hats, asked)?;
+) -> Result<DuesList, OutOfMemory> {
+    let mut keys = met_texts(alloc, hats, asked)?;
+    put_owns(&mut keys, alloc, interests, face, Counted::All, Wanted::Asked(asked))?;
     let dues = dues_besides(
-        alloc,
-        hats,
-        interests,
-        ears,
-        face,
-        id,
-        opened,
-        keys.as_slice(),
+        alloc, hats, interests, ears, face, id, opened, &keys,
     )?;
     one_face(alloc, face, dues)
 }

@@ -10,11 +10,15 @@ ghost use Rattle.zq_machine.specs.State.{Core, at};
 ghost use Rattle.zq_machine.specs.Trees.{own_entry};
 ghost use Rattle.zq_dues.specs.Dues.{due_as, hats_after, hats_next, listens_as, new_info};
 
-use crate::types::HatChange;
+use crate::asking::Asking;
+use crate::folded::folded;
+use crate::types::{Coming, HatChange};
+use std::alloc::Global;
 use zq_hat::hat::Hat;
 use zq_hat::strategy::{is_north, same_region};
 use zq_hat::types::{Change, Strategy};
 use zq_index::info::joined;
+use zq_key::memory::OutOfMemory;
 use zq_key::message::{FaceId, QueryableInfoType, Region};
 use zq_machine::face::OpenFace;
 use zq_own::entries::{NewInfo, own_entry, own_entry_as};
@@ -129,40 +133,55 @@ fn heard_next(
     }
 }
 
-/// What an open face will hear on the key by its region, once a hat has changed; where none changes,
-/// what it hears.
-pub fn heard_after(
+/// What an open face will hear on the key by its region, once a hat has changed that changes what is
+/// heard on some keys alone; where none changes, what it hears.
+pub fn heard_at(
     hats: &RegionMap<Hat>,
-    next: Option<&HatChange>,
+    coming: Option<&Coming>,
     face: FaceId,
     opened: OpenFace,
     key: &str,
-) -> Option<QueryableInfoType>
-    ensures { result ≡ heard_as face.0 key.now (hats_after (option_copied next.entry) key.now hats.now) opened }
-{
-    match next {
-        Some(next) => heard_next(hats, next, face, opened, key),
-        None => heard_now(hats, face, opened, key),
+) -> Option<QueryableInfoType> {
+    match coming {
+        Some(coming) if coming.keys.contains(key) => {
+            heard_next(hats, coming.next, face, opened, key)
+        }
+        _ => heard_now(hats, face, opened, key),
     }
 }
 
-/// What will be due to an open face on a key once a hat has changed: what it will hear there, if it
-/// listens; where none changes, what is due.
-#[tactic(auto, using(crate::proofs::Nexts::listens_after))]
-pub fn due_as(
+// What there will be for an open face at the key that it asks for as one entry, or not: the one entry, if
+// it does not listen unasked, and else what it will hear there.
+fn meant(
+    alloc: Global,
     hats: &RegionMap<Hat>,
-    next: Option<&HatChange>,
+    coming: Option<&Coming>,
     face: FaceId,
     opened: OpenFace,
-    asks: bool,
+    folds: bool,
     key: &str,
-) -> Option<QueryableInfoType>
-    ensures due { result ≡ due_as asks face.0 key.now (hats_after (option_copied next.entry) key.now hats.now) opened }
-    ensures same { (c : Core) (ints : Interests) → at face.0 c.faces ≡ Some opened → asks ≡ asks_for face.0 key.now ints → hats_after (option_copied next.entry) key.now hats.now ≡ c.hats → result ≡ due c ints face.0 key.now }
-{
-    if listens(hats, opened, asks) {
-        heard_after(hats, next, face, opened, key)
+) -> Result<Option<QueryableInfoType>, OutOfMemory> {
+    if folds && !listens(hats, opened, false) {
+        folded(alloc, hats, coming, face, opened, key)
     } else {
-        None
+        Ok(heard_at(hats, coming, face, opened, key))
+    }
+}
+
+/// What will be due to an open face on a key of which it asks this, once a hat has changed: what there
+/// will be for it there, if it listens; where none changes, what is due.
+pub fn due_as(
+    alloc: Global,
+    hats: &RegionMap<Hat>,
+    coming: Option<&Coming>,
+    face: FaceId,
+    opened: OpenFace,
+    asking: Asking,
+    key: &str,
+) -> Result<Option<QueryableInfoType>, OutOfMemory> {
+    if listens(hats, opened, asking.asks) {
+        meant(alloc, hats, coming, face, opened, asking.folds, key)
+    } else {
+        Ok(None)
     }
 }

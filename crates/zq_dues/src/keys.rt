@@ -31,7 +31,7 @@ fn add_met(keys: &mut BTreeSet<String>, hat: &Hat, asked: Option<&Key>) -> Resul
 }
 
 // The keys on which regions have information and that meet what is asked for, each once, in order.
-fn met_texts(
+pub(crate) fn met_texts(
     alloc: Global,
     hats: &RegionMap<Hat>,
     asked: Option<&Key>,
@@ -44,6 +44,28 @@ fn met_texts(
         add_met(&mut keys, hat, asked)?;
     }
     Ok(keys)
+}
+
+/// The keys on which regions have information and that meet the key, each once, in order.
+pub(crate) fn met_texts_by(
+    alloc: Global,
+    hats: &RegionMap<Hat>,
+    key: &str,
+) -> Result<BTreeSet<String>, OutOfMemory> {
+    let mut keys = BTreeSet::new(alloc);
+    for (_, hat) in hats.iter() {
+        hat.add_met_keys(&mut keys, key)?;
+    }
+    Ok(keys)
+}
+
+/// Whether a key on which some region has information meets the key.
+pub(crate) fn is_met(
+    alloc: Global,
+    hats: &RegionMap<Hat>,
+    key: &str,
+) -> Result<bool, OutOfMemory> {
+    Ok(!met_texts_by(alloc, hats, key)?.is_empty())
 }
 
 /// The keys on which regions have information and that meet what is asked for, each once, in order;

@@ -11,18 +11,20 @@ ghost use Rattle.zq_machine.specs.TextCalls.{opening};
 ghost use Rattle.zq_dues.specs.Dues.{AreKeys, all_keys, asks_in};
 ghost use Rattle.zq_dues.specs.Over.{AreAfter, AreSeated, IsOpening, faces_but, is_gone, looked_as, looked_over_as, looked_there, open_but};
 
+use crate::asking::{is_widened, put_owns};
 use crate::due::listens;
 use crate::dues::{dues_of_face, dues_on_each};
 use crate::keys::met_keys;
 use crate::listeners::listeners;
-use crate::types::{DuesList, HatChange};
+use crate::sorted::{list_of, put_texts};
+use crate::types::{Coming, Counted, DuesList, Wanted};
 use std::alloc::Global;
 use std::collections::{BTreeMap, BTreeSet};
 use zq_hat::hat::Hat;
 use zq_interests::interests::Interests;
 use zq_key::items::Items;
 use zq_key::memory::OutOfMemory;
-use zq_key::message::FaceId;
+use zq_key::message::{FaceId, TextList};
 use zq_key::text::Text;
 use zq_machine::face::OpenFace;
 use zq_tables::RegionMap;
@@ -60,6 +62,39 @@ pub(crate) fn list_face(list: &mut DuesList, face: FaceId, dues: KeyDues) -> Res
     Ok(())
 }
 
+// The keys in order, with those of the face's aggregating interests that one of them meets.
+fn widened(
+    alloc: Global,
+    interests: &Interests,
+    face: FaceId,
+    keys: &[Text],
+) -> Result<TextList, OutOfMemory> {
+    let mut texts = BTreeSet::new(alloc);
+    put_texts(&mut texts, alloc, keys)?;
+    let wanted = Wanted::Met(keys);
+    put_owns(&mut texts, alloc, interests, face, Counted::All, wanted)?;
+    list_of(alloc, &texts)
+}
+
+// What will be due to an open face on those of the keys on which it listens, and on those of its
+// aggregating interests' keys that one of them meets.
+fn dues_there(
+    alloc: Global,
+    hats: &RegionMap<Hat>,
+    coming: Option<&Coming>,
+    interests: &Interests,
+    face: FaceId,
+    opened: OpenFace,
+    keys: &[Text],
+) -> Result<KeyDues, OutOfMemory> {
+    if !is_widened(interests, face, keys) {
+        return dues_of_face(alloc, hats, coming, interests, face, opened, keys);
+    }
+    let wide = widened(alloc, interests, face, keys)?;
+    let keys = wide.as_slice();
+    dues_of_face(alloc, hats, coming, interests, face, opened, keys)
+}
+
 // The face joins the list with what will be due to it, if it is open after the call and anything is.
 fn look_there(
     list: &mut DuesList,
@@ -67,18 +102,15 @@ fn look_there(
     faces: &BTreeMap<u32, OpenFace>,
     but: Option<FaceId>,
     hats: &RegionMap<Hat>,
-    next: Option<&HatChange>,
+    coming: Option<&Coming>,
     interests: &Interests,
     face: FaceId,
     keys: &[Text],
-) -> Result<(), OutOfMemory>
-    requires { AreKeys keys.now }
-    ensures { OnOk result (list.new ≡ list.old ++ looked_there (asks_in interests.now) (option_copied next.entry) hats.now keys.now but faces.now.entries face.0) }
-{
+) -> Result<(), OutOfMemory> {
     let Some(opened) = open_but(faces, but, face) else {
         return Ok(());
     };
-    let dues = dues_of_face(alloc, hats, next, interests, face, opened, keys)?;
+    let dues = dues_there(alloc, hats, coming, interests, face, opened, keys)?;
     list_face(list, face, dues)
 }
 
@@ -88,43 +120,35 @@ fn look_at(
     faces: &BTreeMap<u32, OpenFace>,
     but: Option<FaceId>,
     hats: &RegionMap<Hat>,
-    next: Option<&HatChange>,
+    coming: Option<&Coming>,
     interests: &Interests,
     listeners: &BTreeSet<u32>,
     keys: &[Text],
-) -> Result<DuesList, OutOfMemory>
-    requires { AreKeys keys.now }
-    ensures { IfOk result (λ ds. ds ≡ flat_map (looked_there (asks_in interests.now) (option_copied next.entry) hats.now keys.now but faces.now.entries) listeners.now.keys) }
-{
+) -> Result<DuesList, OutOfMemory> {
     let mut list = Items::new(alloc);
     for number in listeners {
         let face = FaceId(*number);
         look_there(
-            &mut list, alloc, faces, but, hats, next, interests, face, keys,
+            &mut list, alloc, faces, but, hats, coming, interests, face, keys,
         )?;
     }
     Ok(list)
 }
 
-/// What will be due to each open face on those of the keys on which it listens, once a hat has
-/// changed, in order of their numbers: to all faces but one that a closing takes away. A face that
-/// listens on none is left out. Only those are looked at that can listen: the faces of regions whose
-/// faces listen unasked, and those that ask for one of the keys. Refused only where memory is lacking,
-/// and then nothing is changed.
+/// What will be due to each open face, once a hat has changed, on those of the keys on which it listens,
+/// and on those of its aggregating interests' keys that one of them meets, in order of their numbers: to
+/// all faces but one that a closing takes away. A face that listens on none is left out. Only those are
+/// looked at that can listen: the faces of regions whose faces listen unasked, and those of which an
+/// interest meets one of the keys. Refused only where memory is lacking, and then nothing is changed.
 pub fn dues_over(
     alloc: Global,
     faces: &BTreeMap<u32, OpenFace>,
     but: Option<FaceId>,
     hats: &RegionMap<Hat>,
-    next: Option<&HatChange>,
+    coming: Option<&Coming>,
     interests: &Interests,
     keys: &[Text],
-) -> Result<DuesList, OutOfMemory>
-    requires keys { AreKeys keys.now }
-    requires seated { AreSeated faces.now.entries hats.now }
-    ensures dues { IfOk result (λ ds. ds ≡ looked_over_as (asks_in interests.now) (option_copied next.entry) hats.now keys.now (faces_but but faces.now.entries)) }
-    ensures same { (c : Core) → AreAfter c (option_copied next.entry) (faces_but but faces.now.entries) hats.now keys.now → IfOk result (λ ds. ds ≡ looked_over c interests.now keys.now) }
-{
+) -> Result<DuesList, OutOfMemory> {
     if keys.is_empty() {
         return Ok(Items::new(alloc));
     }
@@ -132,7 +156,7 @@ pub fn dues_over(
         return Ok(Items::new(alloc));
     }
     let listeners = listeners(alloc, hats, interests, keys)?;
-    look_at(alloc, faces, but, hats, next, interests, &listeners, keys)
+    look_at(alloc, faces, but, hats, coming, interests, &listeners, keys)
 }
 
 /// What will be due to a face that is about to be opened and asks for nothing yet, on those of all
@@ -152,7 +176,7 @@ pub fn dues_at_opening(
         return Ok(Items::new(alloc));
     }
     let keys = met_keys(alloc, hats, None)?;
-    let dues = dues_on_each(alloc, hats, face, opened, false, keys.as_slice())?;
+    let dues = dues_on_each(alloc, hats, face, opened, keys.as_slice())?;
     let mut list = Items::new(alloc);
     list_face(&mut list, face, dues)?;
     Ok(list)

@@ -11,8 +11,8 @@ use zq_key::memory::OutOfMemory;
 use zq_key::message::TextList;
 use zq_key::text::Text;
 
-// The keys join the texts.
-fn put_texts(texts: &mut BTreeSet<String>, alloc: Global, keys: &[Text]) -> Result<(), OutOfMemory>
+/// The keys join the texts.
+pub(crate) fn put_texts(texts: &mut BTreeSet<String>, alloc: Global, keys: &[Text]) -> Result<(), OutOfMemory>
     ensures { OnOk result (map string_bytes texts.new.keys ≡ fold (insert_key text_cmp) (map string_bytes texts.old.keys) keys.now) }
 {
     for key in keys {

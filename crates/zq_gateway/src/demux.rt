@@ -69,6 +69,7 @@ impl DeMux {
                 face,
                 id: interest.id,
                 keys: interest.keys,
+                aggregate: false,
                 wire: interest.wire,
             }),
             Message::InterestFinal(id) => Some(Call::InterestFinal { face, id }),

@@ -127,13 +127,14 @@ impl Gateway {
     /// `Primitives::send_interest`). `IdInUse` where the id stands for an interest in another key; one
     /// in the same key is replaced, and answered anew.
     pub fn send_interest(&mut self, face: FaceId, msg: &Interest) -> Result<Step, OutOfMemory>
-        ensures { Performs self.old self.new (call.Interest face msg.now.id msg.now.keys msg.now.wire) result }
+        ensures { Performs self.old self.new (call.Interest face msg.now.id msg.now.keys false msg.now.wire) result }
     {
         self.tables
-            .register_interest(face, msg.id, msg.keys, &msg.wire)
+            .register_interest(face, msg.id, msg.keys, false, &msg.wire)
     }
 
-    /// A face asks no longer under the id; it is handed nothing (upstream's
+    /// A face asks no longer under the id; it is handed what stays due on the interest's key with other
+    /// information, if anything does (upstream's
     /// `Primitives::send_interest_final`). `UnknownId` where it has no interest of that id.
     pub fn send_interest_final(&mut self, face: FaceId, id: u32) -> Result<Step, OutOfMemory>
         ensures { Performs self.old self.new (call.InterestFinal face id) result }

@@ -13,7 +13,7 @@ ghost use Rattle.zq_machine.specs.Writing.{tell as tell_of};
 ghost use Rattle.zq_handing.specs.Neighbours.{asked_back, asking, is_fresh};
 ghost use Rattle.zq_handing.specs.Telling.{KeyedAs, behind, untold};
 
-use crate::neighbours::{ToldAll, plan_room, take_back, tell_way};
+use crate::neighbours::{ToldAll, take_back, tell_way};
 use crate::tell::InterestId;
 use std::alloc::Global;
 use std::collections::BTreeMap;
@@ -25,7 +25,7 @@ use zq_key::message::FaceId;
 use zq_machine::face::OpenFace;
 use zq_tables::naming::Naming;
 use zq_told::ears::Ears;
-use zq_told::types::{FaceDues, Plan, TellRefusal, Way};
+use zq_told::types::{FaceDues, TellRefusal, Way};
 
 /// An interest of the face is answered: the messages of all that is due on the keys that it asks for,
 /// each marked with its id, and last that all was told. Room is made for what it leaves of the face, so
@@ -55,7 +55,10 @@ pub fn answer_all<K: Keyed>(
     let interest = Some(InterestId { face, id });
     let told = Items::new(alloc);
     let none = Items::new(alloc);
-    match tell_way(alloc, faces, keyed, names, ears, interest, dues, told, none) {
+    let way = Way::Answering;
+    match tell_way(
+        alloc, faces, keyed, names, ears, way, interest, dues, told, none,
+    ) {
         Ok(told) => Ok(told),
         Err(refusal) => Err(refusal),
     }
@@ -140,18 +143,26 @@ pub fn take_back_answered(
     let_go(names, face, id, fresh);
 }
 
-/// What the end of an interest leaves of the face that asked: what is due to it no more is forgotten.
-/// It is told nothing, and no id lacks. There is room for the plan, so that it can be put. Refused only
-/// where memory is lacking; then all is as it was, and the rooms are given back.
-pub fn plan_end(alloc: Global, ears: &mut Ears, dues: &[FaceDues]) -> Result<Plan, OutOfMemory>
-    requires { lacks_ids Ending (ears_of ears.old) dues.now ≡ false }
-    ensures ears { ears_of ears.new ≡ ears_of ears.old }
-    ensures plan { IfOk result (λ p. p ≡ (tell_faces Ending (ears_of ears.old) dues.now).plan) }
-    ensures ready { IfOk result (λ p. IsReady p ears.new) }
-    ensures rooms { AreBare (tell_faces Ending (ears_of ears.old) dues.now).plan ears.old → OnErr result (AreBare (tell_faces Ending (ears_of ears.old) dues.now).plan ears.new) }
+/// The end of an interest is told: the messages of what stays due with other information, under the id
+/// that it has. Room is made for what it leaves of the face that asked, of whom what is due no more is
+/// forgotten, so that the plan can be put; no id lacks. Refused only where memory is lacking; then all is
+/// as it was, and the rooms are given back.
+pub fn tell_end<K: Keyed>(
+    alloc: Global,
+    faces: &BTreeMap<u32, OpenFace>,
+    keyed: &K,
+    names: &mut Naming,
+    ears: &mut Ears,
+    dues: &[FaceDues],
+) -> Result<ToldAll, OutOfMemory>
 {
-    match plan_room(alloc, ears, Way::Ending, dues, Items::new(alloc)) {
-        Ok(planned) => Ok(planned.plan),
+    let told = Items::new(alloc);
+    let none = Items::new(alloc);
+    let way = Way::Ending;
+    match tell_way(
+        alloc, faces, keyed, names, ears, way, None, dues, told, none,
+    ) {
+        Ok(told) => Ok(told),
         Err(TellRefusal::OutOfMemory) => Err(OutOfMemory),
         Err(TellRefusal::NoFreeId) => unreachable!(),
     }

@@ -12,7 +12,7 @@ ghost use Rattle.zq_machine.specs.Messages.{from_hat};
 ghost use Rattle.zq_machine.specs.State.{Core};
 ghost use Rattle.zq_machine.specs.Writing.{tell as tell_of};
 ghost use Rattle.zq_handing.specs.Neighbours.{taken_back, told_with};
-ghost use Rattle.zq_handing.specs.Telling.{KeyedAs, behind, told_to, untold, way_of};
+ghost use Rattle.zq_handing.specs.Telling.{KeyedAs, behind, told_to, untold};
 
 use crate::tell::{InterestId, tell, untell};
 use std::alloc::Global;
@@ -34,16 +34,6 @@ use zq_told::types::{FaceDues, Plan, Planned, TellRefusal, Way};
 pub struct ToldAll {
     pub plan: Plan,
     pub handed: HandedList,
-}
-
-// How faces are told: in answer to an interest, or unasked.
-fn way_of(interest: Option<InterestId>) -> Way
-    ensures { result ≡ way_of interest }
-{
-    match interest {
-        Some(_) => Way::Answering,
-        None => Way::Unasked,
-    }
 }
 
 // What is told along trees, with what neighbours are told behind it, and what it leaves of them, for
@@ -81,31 +71,33 @@ pub(crate) fn plan_room(
     }
 }
 
-// The same in answer to the interest, or where there is none as `tell_all` says: of both kinds of calls.
+// The same told as messages: in answer to the interest, or where there is none as `tell_all` says; of all
+// kinds of calls.
 pub(crate) fn tell_way<K: Keyed>(
     alloc: Global,
     faces: &BTreeMap<u32, OpenFace>,
     keyed: &K,
     names: &mut Naming,
     ears: &mut Ears,
+    way: Way,
     interest: Option<InterestId>,
     dues: &[FaceDues],
     told: TellingList,
     first: HandedList,
 ) -> Result<ToldAll, TellRefusal>
-    requires { lacks_ids (way_of interest) (ears_of ears.old) dues.now ≡ false → All (λ t. key_of t.key ≡ true) (told ++ (tell_faces (way_of interest) (ears_of ears.old) dues.now).tellings) }
-    ensures ok { (c : Core) → c.faces ≡ faces.now.entries → KeyedAs (K.keyed keyed.now) c.interests → IfOk result (λ x. behind first (tell_of c (told_to interest (map from_hat (in_order (told ++ (tell_faces (way_of interest) (ears_of ears.old) dues.now).tellings)))) names.old) ≡ record { handed = x.handed; names = names.new }) }
+    requires { lacks_ids way (ears_of ears.old) dues.now ≡ false → All (λ t. key_of t.key ≡ true) (told ++ (tell_faces way (ears_of ears.old) dues.now).tellings) }
+    ensures ok { (c : Core) → c.faces ≡ faces.now.entries → KeyedAs (K.keyed keyed.now) c.interests → IfOk result (λ x. behind first (tell_of c (told_to interest (map from_hat (in_order (told ++ (tell_faces way (ears_of ears.old) dues.now).tellings)))) names.old) ≡ record { handed = x.handed; names = names.new }) }
     ensures longer { IfOk result (λ x. length first ≤ length x.handed) }
     ensures back { IfOk result (λ x. untold (drop (length first) x.handed) names.new ≡ names.old) }
-    ensures plan { IfOk result (λ x. x.plan ≡ (tell_faces (way_of interest) (ears_of ears.old) dues.now).plan) }
+    ensures plan { IfOk result (λ x. x.plan ≡ (tell_faces way (ears_of ears.old) dues.now).plan) }
     ensures ready { IfOk result (λ x. IsReady x.plan ears.new) }
     ensures ears { ears_of ears.new ≡ ears_of ears.old }
-    ensures rooms { AreBare (tell_faces (way_of interest) (ears_of ears.old) dues.now).plan ears.old → OnErr result (AreBare (tell_faces (way_of interest) (ears_of ears.old) dues.now).plan ears.new) }
+    ensures rooms { AreBare (tell_faces way (ears_of ears.old) dues.now).plan ears.old → OnErr result (AreBare (tell_faces way (ears_of ears.old) dues.now).plan ears.new) }
     ensures err { OnErr result (names.new ≡ names.old) }
-    ensures free { OnOk result (lacks_ids (way_of interest) (ears_of ears.old) dues.now ≡ false) }
-    ensures no_free { IsErrOf result TellRefusal.NoFreeId → lacks_ids (way_of interest) (ears_of ears.old) dues.now ≡ true }
+    ensures free { OnOk result (lacks_ids way (ears_of ears.old) dues.now ≡ false) }
+    ensures no_free { IsErrOf result TellRefusal.NoFreeId → lacks_ids way (ears_of ears.old) dues.now ≡ true }
 {
-    let Planned { plan, tellings } = match plan_room(alloc, ears, way_of(interest), dues, told) {
+    let Planned { plan, tellings } = match plan_room(alloc, ears, way, dues, told) {
         Ok(planned) => planned,
         Err(refusal) => return Err(refusal),
     };
@@ -145,7 +137,10 @@ pub fn tell_all<K: Keyed>(
     ensures free { OnOk result (lacks_ids Unasked (ears_of ears.old) dues.now ≡ false) }
     ensures no_free { IsErrOf result TellRefusal.NoFreeId → lacks_ids Unasked (ears_of ears.old) dues.now ≡ true }
 {
-    match tell_way(alloc, faces, keyed, names, ears, None, dues, told, first) {
+    let way = Way::Unasked;
+    match tell_way(
+        alloc, faces, keyed, names, ears, way, None, dues, told, first,
+    ) {
         Ok(told) => Ok(told),
         Err(refusal) => Err(refusal),
     }

@@ -51,6 +51,11 @@ abbrev pub by_words : Option Zid → List ℕ
 by_words None = []
 by_words (Some zid) = field (codes "by:" ++ zid_word zid)
 
+-- nothing for an interest that is not aggregating
+abbrev pub aggregate_words : Bool → List ℕ
+aggregate_words false = []
+aggregate_words true = field (codes "a")
+
 -- a name and a field
 abbrev pub first_words : List ℕ → List ℕ → List ℕ
 first_words name word = name ++ field word
@@ -98,8 +103,8 @@ table_words c = asking_words c
 abbrev pub call_words : Call → List ℕ
 call_words (call.Open o) = codes "open" ++ opening_words o
 call_words (call.Close face) = first_words (codes "close") (face_word face)
-call_words (call.Interest face id keys wire) =
-    ids_words (codes "interest") face (decimal id) ++ field (option_word wire_word wire) ++ field (flag_word (codes "k") (codes "n") keys)
+call_words (call.Interest face id keys aggregate wire) =
+    ids_words (codes "interest") face (decimal id) ++ field (option_word wire_word wire) ++ field (flag_word (codes "k") (codes "n") keys) ++ aggregate_words aggregate
 call_words (call.InterestFinal face id) = ids_words (codes "uninterest") face (decimal id)
 call_words (call.FinalizeInterest face what set) = first_words (codes "finalize") (face_word face) ++ mark_words what ++ field (flag_word (codes "1") (codes "0") set)
 call_words c = table_words c

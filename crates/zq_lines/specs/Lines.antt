@@ -99,14 +99,20 @@ unqueryable_of bytes = do
   node ← read_at (number most_16) wire.1
   at_end node.1 (call.UndeclareQueryable face.0 id.0 wire.0 node.0)
 
--- `interest F NUM OPT-WIRE k`
+-- an interest is aggregating, if the line goes on with a last word, `a`
+unfoldable pub aggregate_of : List ℕ → Option Bool
+aggregate_of [] = Some false
+aggregate_of (b ∷ bytes) = if bytes_eq (b ∷ bytes) (codes " a") then Some true else None
+
+-- `interest F NUM OPT-WIRE k`, and maybe `a`
 unfoldable pub interest_of : List ℕ → Option Call
 interest_of bytes = do
   face ← read_at face_of bytes
   id ← read_at (number most_32) face.1
   wire ← read_at (option_of wire_of) id.1
   keys ← read_at (flag_of (codes "k") (codes "n")) wire.1
-  at_end keys.1 (call.Interest face.0 id.0 keys.0 wire.0)
+  aggregate ← aggregate_of keys.1
+  Some (call.Interest face.0 id.0 keys.0 aggregate wire.0)
 
 -- `uninterest F NUM`
 unfoldable pub uninterest_of : List ℕ → Option Call

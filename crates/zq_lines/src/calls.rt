@@ -2,14 +2,15 @@
 ghost use Rattle.std.specs.Prelude.{◌≡◌, ◌++◌, IfOk, OnOk, Some};
 ghost use Rattle.std.specs.List.{flat_map};
 ghost use Rattle.zq_lines.specs.Lines.{call_of};
+ghost use Rattle.zq_machine.specs.declared.call.Call.TheVariants as call;
 ghost use Rattle.zq_lines.specs.Fits.{FitsCall};
-ghost use Rattle.zq_lines.specs.CallLines.{deny_item, opening_words, info_words, mark_words, body_words, by_words, first_words, ids_words, declaring_words, ask_words, reply_words, asking_words, table_words, call_words};
+ghost use Rattle.zq_lines.specs.CallLines.{deny_item, aggregate_words, opening_words, info_words, mark_words, body_words, by_words, first_words, ids_words, declaring_words, ask_words, reply_words, asking_words, table_words, call_words};
 
 use crate::tables::push_items;
 use std::alloc::{AllocError, Global};
 use zq_hat::types::FinalMark;
 use zq_key::memory::OutOfMemory;
-use zq_key::message::{FaceId, QueryableInfoType, ReplyBody, Request, Response, Zid};
+use zq_key::message::{FaceId, QueryableInfoType, ReplyBody, Request, Response, WireExpr, Zid};
 use zq_key::text::{Bytes, Text};
 use zq_machine::call::{Call, Opening};
 use zq_words::show::{Shown, push_field, push_flag};
@@ -91,6 +92,15 @@ fn push_by(out: &mut Vec<u8>, responder: &Option<Zid>) -> Result<(), AllocError>
         }
         None => Ok(()),
     }
+}
+
+fn push_aggregate(out: &mut Vec<u8>, aggregate: bool) -> Result<(), AllocError>
+    ensures { OnOk result (out.new.items ≡ out.old.items ++ aggregate_words aggregate) }
+{
+    if aggregate {
+        push_text(out, " a")?;
+    }
+    Ok(())
 }
 
 /// Writes the name of a call, and its one field or its first.
@@ -205,6 +215,23 @@ fn push_table(out: &mut Vec<u8>, call: &Call) -> Result<(), AllocError>
     }
 }
 
+/// Writes the line of an interest.
+fn push_interest(
+    out: &mut Vec<u8>,
+    face: FaceId,
+    id: u32,
+    keys: bool,
+    aggregate: bool,
+    wire: &Option<WireExpr>,
+) -> Result<(), AllocError>
+    ensures { OnOk result (out.new.items ≡ out.old.items ++ call_words (call.Interest face id keys aggregate wire.now)) }
+{
+    push_ids(out, "interest", face, &id)?;
+    push_field(out, wire)?;
+    push_flag(out, "k", "n", keys)?;
+    push_aggregate(out, aggregate)
+}
+
 /// Writes a call as a line.
 pub fn push_call(out: &mut Vec<u8>, call: &Call) -> Result<(), AllocError>
     ensures { OnOk result (out.new.items ≡ out.old.items ++ call_words call.now) }
@@ -219,12 +246,9 @@ pub fn push_call(out: &mut Vec<u8>, call: &Call) -> Result<(), AllocError>
             face,
             id,
             keys,
+            aggregate,
             wire,
-        } => {
-            push_ids(out, "interest", *face, id)?;
-            push_field(out, wire)?;
-            push_flag(out, "k", "n", *keys)
-        }
+        } => push_interest(out, *face, *id, *keys, *aggregate, wire),
         Call::InterestFinal { face, id } => push_ids(out, "uninterest", *face, id),
         Call::FinalizeInterest { face, mark, set } => {
             push_first(out, "finalize", face)?;

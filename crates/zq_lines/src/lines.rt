@@ -2,7 +2,7 @@
 ghost use Rattle.std.specs.Prelude.{◌≡◌, IfOk, map, filter, take, length};
 ghost use Rattle.std.specs.Result.{result_map_both};
 ghost use Rattle.zq_words.specs.Words.{Reads, read_at, at_end, read_each, pieces};
-ghost use Rattle.zq_lines.specs.Lines.{deny_of, denies_of, at_side, deny_text, opening_of, close_of, key_of, unkey_of, info_at, queryable_of, unqueryable_of, interest_of, uninterest_of, mark_by, mark_at, finalize_of, manner_at, ask_of, body_by, body_at, by_of, responder_of, reply_of, final_of, sent_of, poll_of, gateways_of, network_of, nodes_of, call_by, other_by, call_of};
+ghost use Rattle.zq_lines.specs.Lines.{deny_of, denies_of, at_side, deny_text, opening_of, close_of, key_of, unkey_of, info_at, queryable_of, unqueryable_of, aggregate_of, interest_of, uninterest_of, mark_by, mark_at, finalize_of, manner_at, ask_of, body_by, body_at, by_of, responder_of, reply_of, final_of, sent_of, poll_of, gateways_of, network_of, nodes_of, call_by, other_by, call_of};
 
 use crate::tables::{EntriesOf, TreesOf};
 use std::alloc::Global;
@@ -163,6 +163,18 @@ fn unqueryable_of(alloc: Global, bytes: &[u8]) -> Result<Call, Stop>
     )
 }
 
+/// Whether an interest is aggregating: the line goes on, with a last word.
+#[tactic(auto, unfolding(crate::specs::Lines::aggregate_of))]
+fn aggregate_of(bytes: &[u8]) -> Result<bool, Stop>
+    ensures { Reads result (aggregate_of bytes.now) }
+{
+    match bytes {
+        [] => Ok(false),
+        [b' ', b'a'] => Ok(true),
+        _ => Err(Stop::Bad),
+    }
+}
+
 #[tactic(auto, unfolding(crate::specs::Lines::interest_of))]
 fn interest_of(alloc: Global, bytes: &[u8]) -> Result<Call, Stop>
     ensures { Reads result (interest_of bytes.now) }
@@ -171,15 +183,14 @@ fn interest_of(alloc: Global, bytes: &[u8]) -> Result<Call, Stop>
     let (id, rest) = read_at::<u32>(alloc, rest)?;
     let (wire, rest) = read_at::<Option<WireExpr>>(alloc, rest)?;
     let (keys, rest) = flag_at("k", "n", rest).ok_or(Stop::Bad)?;
-    at_end(
-        rest,
-        Call::Interest {
-            face,
-            id,
-            keys,
-            wire,
-        },
-    )
+    let aggregate = aggregate_of(rest)?;
+    Ok(Call::Interest {
+        face,
+        id,
+        keys,
+        aggregate,
+        wire,
+    })
 }
 
 #[tactic(auto, unfolding(crate::specs::Lines::uninterest_of))]
