@@ -13,6 +13,8 @@ fn bad_lines_have_a_reason(rt: HostRuntime) -> Result<(), Fail> {
             "`al` is no target: `all`, `complete` or `best`",
         ),
         ("close", "`close` has 2 words, this has 1"),
+        ("interest 0 1 -", "`interest` has 5 or 6 words, this has 4"),
+        ("interest 0 1 - k b", "`b` is not `a`"),
         ("reply 0 1 0:s:k", "`reply` has 6 or more words, this has 4"),
         (
             "open local 10 server north -",

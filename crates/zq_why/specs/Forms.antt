@@ -1,7 +1,9 @@
 -- The words of each call, behind its name.
-use Rattle.std.specs.Prelude.{ℕ, Bool, ◌||◌, List, Option, Some, None, codes, if◌then◌else◌}
+use Rattle.std.specs.Prelude.{ℕ, ◌||◌, List, Option, Some, None, codes, if◌then◌else◌}
 use Rattle.std.specs.Str.{bytes_eq}
 use Rattle.zq_why.specs.declared.kind.Kind.{Kind}
+use Rattle.zq_why.specs.declared.form.Span.{Span}
+use Rattle.zq_why.specs.declared.form.Span.TheVariants as span
 use Rattle.zq_why.specs.declared.form.TheConstants.{OPEN, FACE, IDS, KEY, UNKEY, QUERYABLE, UNQUERYABLE, INTEREST, FINALIZE, ASK, REPLY, LONG, GATEWAYS, NETWORK, NODES}
 
 -- the words of a call that speaks of keys and queryables
@@ -26,7 +28,7 @@ other_form name =
     else (if bytes_eq name (codes "nodes") then Some NODES.now
     else declaring_form name)))))
 
--- the words of the call of a name, if there is one: all, or those that it has at least
+-- the words of the call of a name, if there is one: all, those that it has at least, or those that it has at most
 abbrev pub form_of : List ℕ → Option (List Kind)
 form_of name =
     if bytes_eq name (codes "ask") then Some ASK.now
@@ -35,6 +37,9 @@ form_of name =
     else (if bytes_eq name (codes "sent") || bytes_eq name (codes "poll") then Some LONG.now
     else other_form name)))
 
--- the call of a name may have further words
-abbrev pub more_of : List ℕ → Bool
-more_of name = bytes_eq name (codes "open") || bytes_eq name (codes "reply") || bytes_eq name (codes "finalize")
+-- how many words the call of a name may have: further ones, or one less, or just its own
+abbrev pub span_of : List ℕ → Span
+span_of name =
+    if bytes_eq name (codes "open") || bytes_eq name (codes "reply") || bytes_eq name (codes "finalize") then span.More
+    else (if bytes_eq name (codes "interest") then span.Less
+    else span.Exact)

@@ -1,5 +1,6 @@
 -- What can stand at a place of a line.
-use Rattle.std.specs.Prelude.{ℕ, Bool, true, false, List, codes, is_some}
+use Rattle.std.specs.Prelude.{ℕ, Bool, true, List, codes, is_some}
+use Rattle.std.specs.Str.{bytes_eq}
 use Rattle.zq_words.specs.Words.{number, text_of, option_of}
 use Rattle.zq_words.specs.Values.{most_8, most_16, most_32, most_64, flag_of, zid_of, mode_of, bound_of, target_of, region_of, wire_of, zids_of}
 use Rattle.zq_why.specs.declared.kind.Kind.{Kind}
@@ -27,6 +28,7 @@ is_kind kind.OptionWire word = is_some (option_of wire_of word)
 is_kind kind.OptionText word = is_some (option_of text_of word)
 is_kind kind.Completeness word = is_flag (codes "c") (codes "p") word
 is_kind kind.Keys word = is_flag (codes "k") (codes "n") word
+is_kind kind.Aggregate word = bytes_eq word (codes "a")
 is_kind kind.Body word = is_flag (codes "ok") (codes "err") word
 is_kind kind.Mark word = is_flag (codes "initial") (codes "key") word
 is_kind kind.Any word = true
@@ -49,6 +51,7 @@ expected kind.OptionWire = codes "no expression: `NUM:s:TEXT`, `NUM:r:TEXT` or `
 expected kind.OptionText = codes "no text in UTF-8"
 expected kind.Completeness = codes "neither `c` nor `p`"
 expected kind.Keys = codes "neither `k` nor `n`"
+expected kind.Aggregate = codes "not `a`"
 expected kind.Body = codes "neither `ok` nor `err`"
 expected kind.Mark = codes "no mark: `initial` or `key`"
 expected kind.Any = codes "no word"

@@ -1,10 +1,12 @@
 -- Why a line is bad, as a sentence.
-use Rattle.std.specs.Prelude.{ℕ, ◌+◌, ◌==◌, Bool, List, [], ◌∷◌, ◌++◌, Option, Some, None, codes, if◌then◌else◌, count_by, drop, length, nat_le, take}
+use Rattle.std.specs.Prelude.{ℕ, ◌+◌, ◌==◌, Bool, ◌||◌, List, [], ◌∷◌, ◌++◌, Option, Some, None, codes, if◌then◌else◌, count_by, drop, length, nat_le, take}
 use Rattle.std.specs.Fmt.{decimal}
 use Rattle.zq_words.specs.Words.{len_to, word_at}
 use Rattle.zq_why.specs.declared.kind.Kind.{Kind}
 use Rattle.zq_why.specs.declared.why.TheConstants.{CONFIG, FORM}
-use Rattle.zq_why.specs.Forms.{form_of, more_of}
+use Rattle.zq_why.specs.declared.form.Span.{Span}
+use Rattle.zq_why.specs.declared.form.Span.TheVariants as span
+use Rattle.zq_why.specs.Forms.{form_of, span_of}
 use Rattle.zq_why.specs.Kinds.{expected, is_kind}
 
 -- the name of a line: what stands before its first space
@@ -16,8 +18,10 @@ abbrev pub words_of : List ℕ → ℕ
 words_of rest = count_by (λ b. b == 32) rest
 
 -- a call can have so many words behind its name
-abbrev pub fits_count : ℕ → Bool → ℕ → Bool
-fits_count least more count = if more then nat_le least count else least == count
+abbrev pub fits_count : ℕ → Span → ℕ → Bool
+fits_count all span.Exact count = all == count
+fits_count all span.Less count = all == count || all == count + 1
+fits_count all span.More count = nat_le all count
 
 -- bytes between two marks
 unfoldable pub quoted : List ℕ → List ℕ
@@ -27,17 +31,19 @@ quoted bytes = codes "`" ++ bytes ++ codes "`"
 abbrev pub unknown_words : List ℕ → List ℕ
 unknown_words name = quoted name ++ codes " is no call"
 
--- whether more may stand there
-abbrev pub or_more : Bool → List ℕ
-or_more more = if more then codes " or more" else []
+-- how many words a call has, its name among them, where so many can stand behind the name
+unfoldable pub number_words : ℕ → Span → List ℕ
+number_words all span.Exact = decimal (all + 1)
+number_words all span.Less = decimal all ++ codes " or " ++ decimal (all + 1)
+number_words all span.More = decimal (all + 1) ++ codes " or more"
 
 -- how many words a call has
-unfoldable pub has_words : List ℕ → ℕ → Bool → List ℕ
-has_words name least more = quoted name ++ codes " has " ++ decimal (least + 1) ++ or_more more
+unfoldable pub has_words : List ℕ → ℕ → Span → List ℕ
+has_words name all span = quoted name ++ codes " has " ++ number_words all span
 
 -- how many words a call has, and how many stand there
-abbrev pub count_words : List ℕ → ℕ → Bool → ℕ → List ℕ
-count_words name least more count = has_words name least more ++ codes " words, this has " ++ decimal (count + 1)
+abbrev pub count_words : List ℕ → ℕ → Span → ℕ → List ℕ
+count_words name all span count = has_words name all span ++ codes " words, this has " ++ decimal (count + 1)
 
 -- a word that is not what is expected at its place
 abbrev pub wrong_words : Kind → List ℕ → List ℕ
@@ -61,8 +67,8 @@ word_reason (Some w) = wrong_words w.0 w.1
 -- what is said of a call's words behind its name: of their number, if the call cannot have so many, or of the first that is wrong
 abbrev pub call_reason : List ℕ → List ℕ → List Kind → List ℕ
 call_reason name rest kinds =
-    if fits_count (length kinds) (more_of name) (words_of rest) then word_reason (first_wrong kinds rest)
-    else count_words name (length kinds) (more_of name) (words_of rest)
+    if fits_count (length kinds) (span_of name) (words_of rest) then word_reason (first_wrong kinds rest)
+    else count_words name (length kinds) (span_of name) (words_of rest)
 
 -- the same of a line by its name, which may be that of no call
 abbrev pub name_reason : List ℕ → List ℕ → Option (List Kind) → List ℕ

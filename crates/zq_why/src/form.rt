@@ -1,7 +1,7 @@
 //! The words of each call, behind its name.
 ghost use Rattle.std.specs.Prelude.{◌≡◌};
 ghost use Rattle.std.specs.Option.{option_map};
-ghost use Rattle.zq_why.specs.Forms.{declaring_form, form_of, more_of, other_form};
+ghost use Rattle.zq_why.specs.Forms.{declaring_form, form_of, other_form, span_of};
 
 use crate::kind::Kind;
 use zq_words::words::is;
@@ -33,8 +33,14 @@ pub const QUERYABLE: &[Kind] = &[
 ];
 /// The words of `unqueryable`.
 pub const UNQUERYABLE: &[Kind] = &[Kind::Int, Kind::Int, Kind::OptionWire, Kind::Short];
-/// The words of `interest`.
-pub const INTEREST: &[Kind] = &[Kind::Int, Kind::Int, Kind::OptionWire, Kind::Keys];
+/// The words of `interest`; the last may be missing.
+pub const INTEREST: &[Kind] = &[
+    Kind::Int,
+    Kind::Int,
+    Kind::OptionWire,
+    Kind::Keys,
+    Kind::Aggregate,
+];
 /// The words of `finalize` up to its mark; one word or two follow.
 pub const FINALIZE: &[Kind] = &[Kind::Int, Kind::Mark, Kind::Any];
 /// The words of `ask`.
@@ -102,7 +108,8 @@ fn other_form(name: &[u8]) -> Option<&'static [Kind]>
     }
 }
 
-/// The words of the call of a name, if there is one: all, or those that it has at least.
+/// The words of the call of a name, if there is one: all, those that it has at least, or those that it has
+/// at most.
 pub fn form_of(name: &[u8]) -> Option<&'static [Kind]>
     ensures { option_map (λ k. k.now) result ≡ form_of name.now }
 {
@@ -119,9 +126,26 @@ pub fn form_of(name: &[u8]) -> Option<&'static [Kind]>
     }
 }
 
-/// Whether the call of a name may have further words.
-pub fn may_have_more(name: &[u8]) -> bool
-    ensures { result ≡ more_of name.now }
+/// How many words a call may have.
+#[derive(Clone, Copy)]
+pub enum Span {
+    /// Just its own.
+    Exact,
+    /// The last may be missing.
+    Less,
+    /// Further words may follow.
+    More,
+}
+
+/// How many words the call of a name may have.
+pub fn span_of(name: &[u8]) -> Span
+    ensures { result ≡ span_of name.now }
 {
-    is(name, "open") || is(name, "reply") || is(name, "finalize")
+    if is(name, "open") || is(name, "reply") || is(name, "finalize") {
+        Span::More
+    } else if is(name, "interest") {
+        Span::Less
+    } else {
+        Span::Exact
+    }
 }

@@ -9,7 +9,7 @@ use zq_message::message::{Bound, Mode, QueryTarget, Region, WireExpr, Zid};
 use zq_message::text::Text;
 use zq_words::stop::Stop;
 use zq_words::values::flag_of;
-use zq_words::words::Word;
+use zq_words::words::{Word, is};
 
 /// What stands at a place of a line.
 #[derive(Clone, Copy)]
@@ -42,6 +42,8 @@ pub enum Kind {
     Completeness,
     /// What an interest asks for.
     Keys,
+    /// That an interest is aggregating.
+    Aggregate,
     /// Whether a reply is an error.
     Body,
     /// Which mark a face is given.
@@ -89,6 +91,7 @@ pub fn is_kind(alloc: Global, kind: Kind, word: &[u8]) -> Result<bool, OutOfMemo
         Kind::OptionText => reads::<Option<Text>>(alloc, word),
         Kind::Completeness => Ok(is_flag("c", "p", word)),
         Kind::Keys => Ok(is_flag("k", "n", word)),
+        Kind::Aggregate => Ok(is(word, "a")),
         Kind::Body => Ok(is_flag("ok", "err", word)),
         Kind::Mark => Ok(is_flag("initial", "key", word)),
         Kind::Any => Ok(true),
@@ -116,6 +119,7 @@ pub fn expected(kind: Kind) -> &'static str
         Kind::OptionText => "no text in UTF-8",
         Kind::Completeness => "neither `c` nor `p`",
         Kind::Keys => "neither `k` nor `n`",
+        Kind::Aggregate => "not `a`",
         Kind::Body => "neither `ok` nor `err`",
         Kind::Mark => "no mark: `initial` or `key`",
         Kind::Any => "no word",

@@ -1,9 +1,9 @@
 //! Why a line is bad, as a sentence.
 ghost use Rattle.std.specs.Prelude.{◌≡◌, ◌++◌, IfOk, OnOk};
 ghost use Rattle.std.specs.Option.{option_map};
-ghost use Rattle.zq_why.specs.Why.{call_reason, count_words, first_wrong, fits_count, has_words, or_more, quoted, reason, unknown_words, words_of, wrong_words};
+ghost use Rattle.zq_why.specs.Why.{call_reason, count_words, first_wrong, fits_count, has_words, number_words, quoted, reason, unknown_words, words_of, wrong_words};
 
-use crate::form::{form_of, may_have_more};
+use crate::form::{Span, form_of, span_of};
 use crate::kind::{Kind, expected, is_kind};
 use std::alloc::{AllocError, Global};
 use zq_message::memory::OutOfMemory;
@@ -25,10 +25,14 @@ fn words_behind(rest: &[u8]) -> usize
 }
 
 /// Whether a call can have so many words behind its name.
-fn fits_count(least: usize, more: bool, count: usize) -> bool
-    ensures { result ≡ fits_count least more count }
+fn fits_count(all: usize, span: Span, count: usize) -> bool
+    ensures { result ≡ fits_count all span count }
 {
-    if more { least <= count } else { least == count }
+    match span {
+        Span::Exact => all == count,
+        Span::Less => all == count || (all > 0 && all - 1 == count),
+        Span::More => all <= count,
+    }
 }
 
 /// The first word that is not what is expected at its place, if there is one.
@@ -72,35 +76,47 @@ fn unknown(alloc: Global, name: &[u8]) -> Result<Bytes, OutOfMemory>
     Ok(Bytes::from_vec(out))
 }
 
-fn or_more(more: bool) -> &'static str
-    ensures { result.now ≡ or_more more }
+/// Writes how many words a call has, its name among them.
+#[tactic(auto, unfolding(crate::specs::Why::number_words))]
+fn push_count(out: &mut Vec<u8>, all: usize, span: Span) -> Result<(), AllocError>
+    ensures { OnOk result (out.new.items ≡ out.old.items ++ number_words all span) }
 {
-    if more { " or more" } else { "" }
+    match span {
+        Span::Exact => push_number(out, all as u128 + 1),
+        Span::Less => {
+            push_number(out, all as u128)?;
+            push_text(out, " or ")?;
+            push_number(out, all as u128 + 1)
+        }
+        Span::More => {
+            push_number(out, all as u128 + 1)?;
+            push_text(out, " or more")
+        }
+    }
 }
 
 /// Writes how many words a call has.
 #[tactic(auto, unfolding(crate::specs::Why::has_words))]
-fn push_has(out: &mut Vec<u8>, name: &[u8], least: usize, more: bool) -> Result<(), AllocError>
-    ensures { OnOk result (out.new.items ≡ out.old.items ++ has_words name.now least more) }
+fn push_has(out: &mut Vec<u8>, name: &[u8], all: usize, span: Span) -> Result<(), AllocError>
+    ensures { OnOk result (out.new.items ≡ out.old.items ++ has_words name.now all span) }
 {
     push_quoted(out, name)?;
     push_text(out, " has ")?;
-    push_number(out, least as u128 + 1)?;
-    push_text(out, or_more(more))
+    push_count(out, all, span)
 }
 
 /// How many words a call has, and how many stand there.
 fn counts(
     alloc: Global,
     name: &[u8],
-    least: usize,
-    more: bool,
+    all: usize,
+    span: Span,
     count: usize,
 ) -> Result<Bytes, OutOfMemory>
-    ensures { IfOk result (λ b. b ≡ count_words name.now least more count) }
+    ensures { IfOk result (λ b. b ≡ count_words name.now all span count) }
 {
     let mut out = Vec::new(alloc);
-    push_has(&mut out, name, least, more)?;
+    push_has(&mut out, name, all, span)?;
     push_text(&mut out, " words, this has ")?;
     push_number(&mut out, count as u128 + 1)?;
     Ok(Bytes::from_vec(out))
@@ -122,9 +138,9 @@ fn why_call(alloc: Global, name: &[u8], kinds: &[Kind], rest: &[u8]) -> Result<B
     ensures { IfOk result (λ b. b ≡ call_reason name.now rest.now kinds.now) }
 {
     let count = words_behind(rest);
-    let more = may_have_more(name);
-    if !fits_count(kinds.len(), more, count) {
-        return counts(alloc, name, kinds.len(), more, count);
+    let span = span_of(name);
+    if !fits_count(kinds.len(), span, count) {
+        return counts(alloc, name, kinds.len(), span, count);
     }
     match first_wrong(alloc, kinds, rest)? {
         Some((kind, word)) => wrong(alloc, kind, word),
