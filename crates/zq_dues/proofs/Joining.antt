@@ -1,8 +1,9 @@
 -- A face that is opened hears by the hats before it joins its region what it hears afterwards: it has declared nothing.
-use Rattle.std.proofs.Common.{◌≡◌, ◌∙◌, refl, sym, ap, ℕ, Bool, true, false, cond, eq-eqb, eqb-true, true≢false, List, [], ◌∷◌, ◌++◌, append-nil, map, filter, Option, Some, None}
+use Rattle.std.proofs.Common.{◌≡◌, ◌∙◌, refl, sym, ap, ℕ, Bool, true, false, cond, eq-eqb, eqb-true, true≢false, List, [], ◌∷◌, ◌++◌, append-nil, fold, map, filter, Option, Some, None}
 use Rattle.std.specs.Prelude.{◌==◌}
 use Rattle.std.specs.BTreeMap.{insert_entry, is_at}
-use Rattle.std.specs.List.{AllByRecursion, flat_map}
+use Rattle.std.specs.BTreeSet.{insert_key}
+use Rattle.std.specs.List.{filter_map, flat_map, list_any}
 use Rattle.std.specs.Option.{is_some, option_and_then, option_map, option_map_or}
 use Rattle.std.specs.Ordering.{is_eq, match_ordering, nat_cmp}
 use Rattle.std.specs.declared.cmp.Ordering.{Ordering}
@@ -14,6 +15,7 @@ use Rattle.zq_message.specs.declared.message.Region.{Region}
 use Rattle.zq_key.proofs.Lookups.{found_after_insertion}
 use Rattle.zq_regions.specs.Region.{region_index}
 use Rattle.zq_index.specs.Infos.{joined}
+use Rattle.zq_index.specs.Texts.{text_cmp}
 use Rattle.zq_index.proofs.Merges.{joined_none}
 use Rattle.zq_hat.specs.declared.types.FaceRecord.{FaceRecord}
 use Rattle.zq_hat.specs.declared.types.Strategy.{Strategy}
@@ -23,39 +25,43 @@ use Rattle.zq_hat.specs.Regions.{in_routers, is_north, strategy_at}
 use Rattle.zq_hat.specs.State.{FaceState, HatState}
 use Rattle.zq_told.specs.declared.types.FaceDues.{FaceDues}
 use Rattle.zq_told.specs.Telling.{KeyDue}
-use Rattle.zq_interests.specs.Interests.{Interests, asks_for, meets}
+use Rattle.zq_interests.specs.declared.types.InterestEntry.{InterestEntry}
+use Rattle.zq_interests.specs.Interests.{Interests, interests_of, meets, own_key, own_keys, wants, wants_folded}
 use Rattle.zq_machine.specs.declared.call.Opening.{Opening}
 use Rattle.zq_machine.specs.declared.face.OpenFace.{OpenFace}
 use Rattle.zq_machine.specs.Deciding.{opened, seat, with_face}
-use Rattle.zq_machine.specs.Due.{due_keys, due_touched, heard_as, heard_by, heard_in, listens_by}
+use Rattle.zq_machine.specs.Due.{due_keys, due_touched, heard, heard_as, heard_by, heard_in, is_met_by, listens_by, widened}
 use Rattle.zq_machine.specs.Neighbours.{dues_on, looked_at, with_dues}
 use Rattle.zq_machine.specs.State.{Core, at, change_hat, hat_at, joined as join, put_hat}
 use Rattle.zq_machine.specs.TextCalls.{opening}
 use Rattle.zq_machine.specs.Trees.{own_entry, with_other}
 use Rattle.zq_machine.proofs.Changing.{hat_here, number_test, region_there}
 use Rattle.zq_machine.proofs.Folding.{fold_put, fold_set}
-use Rattle.zq_dues.specs.Dues.{all_dues_as, all_keys, dues_as, hears_as, listens_as, will_be_due, will_listen}
+use Rattle.zq_machine.proofs.Widening.{not_wider}
+use Rattle.zq_dues.specs.declared.asking.Asking.{Asking}
+use Rattle.zq_dues.specs.Dues.{all_keys, hears_as, listed_due, listens_as, row_as}
 use Rattle.zq_dues.specs.Over.{IsOpening}
-use Rattle.zq_dues.proofs.Nexts.{dues_are}
+use Rattle.zq_dues.proofs.Heard.{IsHeard, heard_here, listed_is}
 
 -- ---- a face that asks for nothing
-abbrev pub nothing : List ℕ → Bool
-nothing key = false
+abbrev pub nothing : List ℕ → Asking
+nothing key = record { asks = false; folds = false }
 
 module _ (face : ℕ) (o : OpenFace) (hats : List (ℕ × HatState)) where
+  abbrev pub listing : List ℕ → List KeyDue
+  listing = listed_due nothing None [] face o hats
+
   -- it listens on no key
-  pub none_listening : listens_as false hats o ≡ false → (keys : List (List ℕ)) → dues_as nothing None face o hats keys ≡ []
+  pub none_listening : listens_as false hats o ≡ false → (keys : List (List ℕ)) → flat_map listing keys ≡ []
   none_listening deaf [] = refl
-  none_listening deaf (k ∷ ks) =
-      ap (λ b. map (will_be_due nothing None face o hats) (cond b (k ∷ filter (will_listen nothing None o hats) ks) (filter (will_listen nothing None o hats) ks))) deaf
-      ∙ none_listening deaf ks
+  none_listening deaf (k ∷ ks) = ap (λ b. cond b (row_as nothing face o hats k ∷ []) [] ++ flat_map listing ks) deaf ∙ none_listening deaf ks
 
   -- or on each
-  pub each_listening : listens_as false hats o ≡ true → (keys : List (List ℕ)) → all_dues_as nothing face o hats keys ≡ dues_as nothing None face o hats keys
+  pub each_listening : listens_as false hats o ≡ true → (keys : List (List ℕ)) → map (row_as nothing face o hats) keys ≡ flat_map listing keys
   each_listening heard [] = refl
   each_listening heard (k ∷ ks) =
-      ap (λ l. will_be_due nothing None face o hats k ∷ l) (each_listening heard ks)
-      ∙ ap (λ b. map (will_be_due nothing None face o hats) (cond b (k ∷ filter (will_listen nothing None o hats) ks) (filter (will_listen nothing None o hats) ks))) (sym heard)
+      ap (λ l. row_as nothing face o hats k ∷ l) (each_listening heard ks)
+      ∙ ap (λ b. cond b (row_as nothing face o hats k ∷ []) [] ++ flat_map listing ks) (sym heard)
 
 -- ---- a hat that a face joins
 module _ (r : FaceRecord) where
@@ -140,10 +146,6 @@ module _ (r : FaceRecord) where
         by None = refl
         by (Some h) = sym (λ j. heard_by (joined_strategy h j) (joined_fellows face key h j) (own_seated p.region hats (region_index p.region) key j))
 
-    dues_seated : (asks : List ℕ → Bool) (face : ℕ) (keys : List (List ℕ)) → dues_as asks None face p hats keys ≡ dues_as asks None face p (seated p.region hats) keys
-    dues_seated asks face keys =
-        λ j. map (λ key. (key, cond (listens_seated (asks key) j) (heard_seated face key j) None)) (filter (λ key. listens_seated (asks key) j) keys)
-
 -- ---- of all faces the new one alone is looked at
 module _ (f : ℕ × OpenFace → List FaceDues) (n : ℕ) (p : OpenFace) (others : (e : ℕ × OpenFace) → is_at (nat_cmp n) e.0 ≡ false → f e ≡ []) where
   others_none : (es : List (ℕ × OpenFace)) → at n es ≡ None → flat_map f es ≡ []
@@ -170,11 +172,18 @@ module _ (c : Core) (ints : Interests) (o : Opening) (free : at c.next_face c.fa
   after = with_face o c
 
   abbrev looked : ℕ × OpenFace → List FaceDues
-  looked e = with_dues e.0 (dues_on after ints (due_touched c (opening o) e.0) e.0)
+  looked e = with_dues e.0 (dues_on after ints (due_touched c ints (opening o) e.0) e.0)
 
   -- at each number its keys
-  looked_with : (e : ℕ × OpenFace) (b : Bool) → (e.0 == c.next_face) ≡ b → looked e ≡ with_dues e.0 (dues_on after ints (cond b (due_keys c) []) e.0)
-  looked_with e b is = ap (λ x. with_dues e.0 (dues_on after ints (cond x (due_keys c) []) e.0)) is
+  looked_with : (e : ℕ × OpenFace) (b : Bool) → (e.0 == c.next_face) ≡ b → looked e ≡ with_dues e.0 (dues_on after ints (widened e.0 ints (cond b (due_keys c) [])) e.0)
+  looked_with e b is = ap (λ x. with_dues e.0 (dues_on after ints (widened e.0 ints (cond x (due_keys c) [])) e.0)) is
+
+  none_met : (ks : List (List ℕ)) → filter (is_met_by []) ks ≡ []
+  none_met [] = refl
+  none_met (k ∷ ks) = none_met ks
+
+  none_wide : (face : ℕ) → widened face ints [] ≡ []
+  none_wide face = ap (fold (insert_key text_cmp) []) (none_met (own_keys face ints))
 
   flipped : (a b : ℕ) → (a == b) ≡ (b == a)
   flipped a b = by (a == b) refl (b == a) refl
@@ -186,32 +195,45 @@ module _ (c : Core) (ints : Interests) (o : Opening) (free : at c.next_face c.fa
       by false e false h = refl
 
   others_unlooked : (e : ℕ × OpenFace) → is_at (nat_cmp c.next_face) e.0 ≡ false → looked e ≡ []
-  others_unlooked e is = looked_with e false (flipped e.0 c.next_face ∙ sym (number_test c.next_face e.0) ∙ is)
+  others_unlooked e is = looked_with e false (flipped e.0 c.next_face ∙ sym (number_test c.next_face e.0) ∙ is) ∙ ap (λ ks. with_dues e.0 (dues_on after ints ks e.0)) (none_wide e.0)
 
-  opening_alone : looked_at c after ints (opening o) ≡ with_dues c.next_face (dues_on after ints (due_keys c) c.next_face)
-  opening_alone = new_alone looked c.next_face (opened o) others_unlooked c.faces free ∙ looked_with (c.next_face, opened o) true (eq-eqb c.next_face c.next_face refl)
+  module _ (unasked : interests_of c.next_face ints ≡ []) where
+    opening_alone : looked_at c after ints (opening o) ≡ with_dues c.next_face (dues_on after ints (due_keys c) c.next_face)
+    opening_alone =
+        new_alone looked c.next_face (opened o) others_unlooked c.faces free
+        ∙ looked_with (c.next_face, opened o) true (eq-eqb c.next_face c.next_face refl)
+        ∙ ap (λ ks. with_dues c.next_face (dues_on after ints ks c.next_face)) (not_wider c.next_face ints (due_keys c) (ap (filter_map (λ (i : ℕ × InterestEntry). own_key i.1)) unasked))
 
-  found_new : at c.next_face after.faces ≡ Some (opened o)
-  found_new =
-      found_after_insertion nat_cmp_total exact_unsigned c.next_face c.next_face (opened o) c.faces
-      ∙ ap (λ b. cond b (Some (opened o)) (at c.next_face c.faces)) (number_test c.next_face c.next_face ∙ eq-eqb c.next_face c.next_face refl)
+    found_new : at c.next_face after.faces ≡ Some (opened o)
+    found_new =
+        found_after_insertion nat_cmp_total exact_unsigned c.next_face c.next_face (opened o) c.faces
+        ∙ ap (λ b. cond b (Some (opened o)) (at c.next_face c.faces)) (number_test c.next_face c.next_face ∙ eq-eqb c.next_face c.next_face refl)
 
-  all_same : (keys : List (List ℕ)) → AllByRecursion (λ key. after.hats ≡ after.hats) keys
-  all_same [] = tt
-  all_same (k ∷ ks) = (refl, all_same ks)
+    abbrev place : FaceRecord
+    place = seat c.next_face o
 
-  opening_looks : ((key : List ℕ) → asks_for c.next_face key ints ≡ false) → with_dues c.next_face (dues_as nothing None c.next_face (opened o) c.hats (due_keys c)) ≡ looked_at c after ints (opening o)
-  opening_looks unasked =
-      ap (with_dues c.next_face)
-      (dues_seated (seat c.next_face o) (opened o) c.hats nothing c.next_face (due_keys c)
-      ∙ dues_are after ints nothing None c.next_face (opened o) after.hats (due_keys c) (λ key. sym (unasked key)) (record { opened = found_new; after = all_same (due_keys c) }))
-      ∙ sym opening_alone
+    hears_new : (key : List ℕ) → heard_as c.next_face key c.hats (opened o) ≡ heard after c.next_face key
+    hears_new key = heard_seated place (opened o) c.hats c.next_face key ∙ heard_here after c.next_face (opened o) found_new key
+
+    heard_new : IsHeard after None c.hats [] c.next_face (opened o)
+    heard_new = record {
+      opened = found_new;
+      listens = λ asks. listens_seated place (opened o) c.hats asks;
+      hears = hears_new;
+      before = λ key off. hears_new key;
+    }
+
+    opening_looks : with_dues c.next_face (flat_map (listing c.next_face (opened o) c.hats) (due_keys c)) ≡ looked_at c after ints (opening o)
+    opening_looks =
+        ap (with_dues c.next_face)
+        (listed_is after ints None c.hats [] c.next_face (opened o) heard_new nothing (λ key. ap (list_any (wants key)) (sym unasked)) (λ key. ap (list_any (wants_folded key)) (sym unasked)) (due_keys c))
+        ∙ sym opening_alone
 
 pub opening_is : (c : Core) (ints : Interests) (face : ℕ) (p : OpenFace) (o : Opening) (hats : List (ℕ × HatState)) → IsOpening c ints face p o hats
-    → with_dues face (dues_as nothing None face p hats (all_keys hats)) ≡ looked_at c (with_face o c) ints (opening o)
+    → with_dues face (flat_map (listing face p hats) (all_keys hats)) ≡ looked_at c (with_face o c) ints (opening o)
 opening_is c ints face p o hats is =
-    (λ j. with_dues (sym is.next j) (dues_as nothing None (sym is.next j) (sym is.opens j) (is.same j) (all_keys (is.same j))))
-    ∙ opening_looks c ints o (ap (λ n. at n c.faces) is.next ∙ is.free) (λ key. ap (λ n. asks_for n key ints) is.next ∙ is.unasked key)
+    (λ j. with_dues (sym is.next j) (flat_map (listing (sym is.next j) (sym is.opens j) (is.same j)) (all_keys (is.same j))))
+    ∙ opening_looks c ints o (ap (λ n. at n c.faces) is.next ∙ is.free) (ap (λ n. interests_of n ints) is.next ∙ is.unasked)
 
 -- ---- where nothing is asked for all keys are met
 all_met : (keys : List (List ℕ)) → filter (meets None) keys ≡ keys
@@ -220,9 +242,9 @@ all_met (k ∷ ks) = ap (λ l. k ∷ l) (all_met ks)
 
 -- so that a list of the one face has its dues on all of them
 pub one_listed : (face : ℕ) (p : OpenFace) (hats : List (ℕ × HatState)) (keys : List (List ℕ)) (dues : List KeyDue) (before list : List FaceDues)
-    → listens_as false hats p ≡ true → keys ≡ filter (meets None) (all_keys hats) → dues ≡ all_dues_as nothing face p hats keys → before ≡ [] → list ≡ before ++ with_dues face dues → list ≡ with_dues face (dues_as nothing None face p hats (all_keys hats))
+    → listens_as false hats p ≡ true → keys ≡ filter (meets None) (all_keys hats) → dues ≡ map (row_as nothing face p hats) keys → before ≡ [] → list ≡ before ++ with_dues face dues → list ≡ with_dues face (flat_map (listing face p hats) (all_keys hats))
 one_listed face p hats keys dues before list heard met are none is =
     is
     ∙ (λ j. none j ++ with_dues face (are j))
-    ∙ ap (λ ks. with_dues face (all_dues_as nothing face p hats ks)) (met ∙ all_met (all_keys hats))
+    ∙ ap (λ ks. with_dues face (map (row_as nothing face p hats) ks)) (met ∙ all_met (all_keys hats))
     ∙ ap (with_dues face) (each_listening face p hats heard (all_keys hats))

@@ -21,7 +21,7 @@ use Rattle.zq_told.specs.Ears.{Ear, Ears, at_face, told_keys}
 use Rattle.zq_machine.specs.Due.{with_region_keys}
 use Rattle.zq_machine.proofs.DueKeys.{all_put, is_among}
 use Rattle.zq_machine.proofs.NeighbourDues.{among_filter}
-use Rattle.zq_dues.specs.Dues.{AreInformed, all_keys, was_told}
+use Rattle.zq_dues.specs.Dues.{all_keys, was_told}
 
 -- what holds of each holds of those that pass
 pub all_passing : {X : Type 0} (P : X → Type 0) (test : X → Bool) (xs : List X) → AllByRecursion P xs → AllByRecursion P (filter test xs)
@@ -46,15 +46,15 @@ met_by_none (k ∷ ks) = ap (λ l. k ∷ l) (met_by_none ks)
 abbrev Rise : List (List ℕ) → Type 0
 Rise keys = IsStrictlySortedBy text_cmp keys
 
-none_rise : Rise []
+pub none_rise : Rise []
 unfolding IsStrictlySortedBy
 none_rise = tt
 
-all_rise : (xs ks : List (List ℕ)) → Rise ks → Rise (fold (insert_key text_cmp) ks xs)
+pub all_rise : (xs ks : List (List ℕ)) → Rise ks → Rise (fold (insert_key text_cmp) ks xs)
 all_rise [] ks s = s
 all_rise (x ∷ xs) ks s = all_rise xs (insert_key text_cmp ks x) (sorted_put text_total ks x s)
 
-hats_rise : (hats : List (ℕ × HatState)) (ks : List (List ℕ)) → Rise ks → Rise (fold with_region_keys ks hats)
+pub hats_rise : (hats : List (ℕ × HatState)) (ks : List (List ℕ)) → Rise ks → Rise (fold with_region_keys ks hats)
 hats_rise [] ks s = s
 hats_rise (h ∷ hats) ks s = hats_rise hats (with_region_keys ks h) (all_rise (region_keys h.1) ks s)
 
@@ -90,30 +90,9 @@ module _ (test : List ℕ → Bool) where
 
 -- ---- those that a face was told
 module _ (face : ℕ) (ears : Ears) where
-  told_is : (key : List ℕ) → was_told face ears key ≡ is_among key (told_keys face ears)
+  pub told_is : (key : List ℕ) → was_told face ears key ≡ is_among key (told_keys face ears)
   told_is key = by (at_face face ears)
     where
       by : (o : Option Ear) → is_some (option_and_then (λ (e : Ear). at_text key e.told) o) ≡ is_among key (option_map_or (λ (e : Ear). keys_of e.told) o [])
       by None = refl
       by (Some e) = is_some-lookup (is_at (text_cmp key)) e.told
-
-  -- of the keys that pass a test, where it was told no key on which no region has information
-  pub told_met : (test : List ℕ → Bool) (hats : List (ℕ × HatState)) → AreInformed (told_keys face ears) hats → filter (was_told face ears) (filter test (all_keys hats)) ≡ filter test (told_keys face ears)
-  told_met test hats informed =
-      let told = told_keys face ears in
-      same_keys text_total text_exact (filter (was_told face ears) (filter test (all_keys hats))) (filter test told)
-      (IsStrictlySortedBy-filter text_cmp (was_told face ears) (filter test (all_keys hats)) (IsStrictlySortedBy-filter text_cmp test (all_keys hats) (hats_rise hats [] none_rise)))
-      (IsStrictlySortedBy-filter text_cmp test told informed.rise)
-      (λ q.
-      among_filter (was_told face ears) q (filter test (all_keys hats))
-      ∙ (λ j. told_is q j && among_filter test q (all_keys hats) j)
-      ∙ by q (is_among q told) refl
-      ∙ sym (among_filter test q told))
-    where
-      none : (b : Bool) → false ≡ (b && false)
-      none true = refl
-      none false = refl
-
-      by : (q : List ℕ) (b : Bool) → is_among q (told_keys face ears) ≡ b → (b && (test q && is_among q (all_keys hats))) ≡ (test q && b)
-      by q true is = ap (λ b. test q && b) (informed.found q is)
-      by q false is = none (test q)

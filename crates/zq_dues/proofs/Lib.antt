@@ -1,6 +1,8 @@
 pub mod Nexts
 pub mod KeysGathered
 pub mod KeysMet
+pub mod Heard
+pub mod Widened
 pub mod Overs
 pub mod Listening
 pub mod Joining

@@ -4,7 +4,7 @@ use Rattle.std.specs.Prelude.{◌||◌, ◌&&◌}
 use Rattle.std.specs.BTreeMap.{is_at}
 use Rattle.std.specs.BTreeSet.{insert_key}
 use Rattle.std.specs.Cmp.{nat_cmp_total}
-use Rattle.std.specs.List.{AllByRecursion, flat_map, list_any}
+use Rattle.std.specs.List.{AllByRecursion, cons_option, filter_map, flat_map, list_any}
 use Rattle.std.specs.List.Sorted.{IsStrictlySortedBy}
 use Rattle.std.specs.Map.{keys_of}
 use Rattle.std.specs.Option.{is_some, option_map, option_map_or}
@@ -13,24 +13,29 @@ use Rattle.std.proofs.lemmas.List.Kept.{IsStrictlySortedBy-filter}
 use Rattle.std.proofs.lemmas.Map.Lookups.{exact_unsigned}
 use Rattle.std.proofs.lemmas.Map.Made.{is_some-lookup}
 use Rattle.zq_message.specs.declared.message.FaceId.{FaceId}
+use Rattle.zq_key.specs.Key.{intersects}
+use Rattle.zq_key.proofs.Lawful.{intersects-swap}
 use Rattle.zq_key.proofs.Lookups.{each_entry, same_key}
 use Rattle.zq_key.proofs.Sorted.{has_put, same_keys, sorted_put}
 use Rattle.zq_regions.specs.Region.{region_index}
 use Rattle.zq_hat.specs.Kept.{has_face}
 use Rattle.zq_hat.specs.State.{HatState}
+use Rattle.zq_index.specs.Texts.{text_cmp}
 use Rattle.zq_told.specs.declared.types.FaceDues.{FaceDues}
 use Rattle.zq_interests.specs.declared.types.InterestEntry.{InterestEntry}
-use Rattle.zq_interests.specs.Interests.{Interests, askers, asks_for, is_asker, wants}
+use Rattle.zq_interests.specs.Interests.{Interests, askers, asks_for, interests_of, is_asker, is_met, meets, own_key, wants}
 use Rattle.zq_machine.specs.declared.face.OpenFace.{OpenFace}
+use Rattle.zq_machine.specs.Due.{is_met_by}
 use Rattle.zq_machine.specs.Neighbours.{with_dues}
 use Rattle.zq_machine.specs.State.{at, hat_at}
 use Rattle.zq_machine.proofs.Changing.{region_there}
+use Rattle.zq_machine.proofs.Widening.{asked_meets}
 use Rattle.zq_own.specs.Seats.{seats}
 use Rattle.zq_dues.specs.declared.types.HatChange.{HatChange}
-use Rattle.zq_dues.specs.Dues.{asks_in, dues_as, hats_after, hears_as, listens_as, will_be_due, will_listen}
+use Rattle.zq_dues.specs.Asking.{asking}
+use Rattle.zq_dues.specs.Dues.{due_as, hears_as, listed_due, listens_as}
 use Rattle.zq_dues.specs.Listeners.{listeners, with_askers, with_hat, with_number, with_unasked}
-use Rattle.zq_dues.specs.Over.{AreSeated, faces_but, is_gone, looked_as, looked_over_as, looked_there}
-use Rattle.zq_dues.proofs.Nexts.{listens_after}
+use Rattle.zq_dues.specs.Over.{AreSeated, dues_there, faces_but, is_gone, looked_as, looked_over_as, looked_there}
 use Rattle.zq_dues.proofs.Overs.{if_stays, over_staying}
 
 abbrev has : ℕ → List ℕ → Bool
@@ -63,24 +68,24 @@ module _ (n : ℕ) where
       let one = out_one m.0 ns later.0 in
       (one.0, λ i. one.1 i || later.1 i)
 
-  -- one that is not among those who ask for a key asks for it nowhere
+  -- of one that is not among those of whom an interest meets a key none does
   abbrev face_of : ℕ × List (ℕ × InterestEntry) → FaceId
   face_of f = record { 0 = f.0 }
 
-  not_asking : (key : List ℕ) (ints : Interests) → has n (map number_of (askers key ints)) ≡ false → asks_for n key ints ≡ false
+  not_asking : (key : List ℕ) (ints : Interests) → has n (map number_of (askers key ints)) ≡ false → list_any (is_met key) (interests_of n ints) ≡ false
   not_asking key [] e = refl
   not_asking key (f ∷ ints) e = by (is_asker key f) refl (is_at (nat_cmp n) f.0) refl e (not_asking key ints)
     where
       by : (a : Bool) → is_asker key f ≡ a → (b : Bool) → is_at (nat_cmp n) f.0 ≡ b
           → has n (map number_of (map face_of (cond a (f ∷ filter (is_asker key) ints) (filter (is_asker key) ints)))) ≡ false
-          → (has n (map number_of (askers key ints)) ≡ false → asks_for n key ints ≡ false)
-          → list_any (wants key) (option_map_or (λ (es : List (ℕ × InterestEntry)). es) (cond b (Some f.1) (at n ints)) []) ≡ false
+          → (has n (map number_of (askers key ints)) ≡ false → list_any (is_met key) (interests_of n ints) ≡ false)
+          → list_any (is_met key) (option_map_or (λ (es : List (ℕ × InterestEntry)). es) (cond b (Some f.1) (at n ints)) []) ≡ false
       by true is true here e later = absurd (true≢false (sym (ap (λ b. b || has n (map number_of (askers key ints))) here) ∙ e))
       by true is false there e later = later (sym (ap (λ b. b || has n (map number_of (askers key ints))) there) ∙ e)
       by false is true here e later = is
       by false is false there e later = later e
 
-  none_asked : (ints : Interests) (keys : List (List ℕ)) (ns : List ℕ) → has n (fold (with_askers ints) ns keys) ≡ false → (has n ns ≡ false) × AllByRecursion (λ key. asks_for n key ints ≡ false) keys
+  none_asked : (ints : Interests) (keys : List (List ℕ)) (ns : List ℕ) → has n (fold (with_askers ints) ns keys) ≡ false → (has n ns ≡ false) × AllByRecursion (λ key. list_any (is_met key) (interests_of n ints) ≡ false) keys
   none_asked ints [] ns e = (e, tt)
   none_asked ints (key ∷ keys) ns e =
       let later = none_asked ints keys (with_askers ints ns key) e in
@@ -158,13 +163,60 @@ sorted_listeners : (hats : List (ℕ × HatState)) (ints : Interests) (keys : Li
 sorted_listeners hats ints keys = sorted_askers ints keys (fold with_unasked [] hats) (sorted_unasked hats [] sorted_none)
 
 -- ---- a face that cannot listen has nothing due
-module _ (ints : Interests) (next : Option HatChange) (hats : List (ℕ × HatState)) (n : ℕ) (o : OpenFace) (deaf_there : listens_as false hats o ≡ false) where
-  none_listed : (keys : List (List ℕ)) → AllByRecursion (λ key. asks_for n key ints ≡ false) keys → dues_as (asks_in ints n) next n o hats keys ≡ []
+no_more : {X : Type 0} (p q : X → Bool) → ((x : X) → q x ≡ true → p x ≡ true) → (xs : List X) → list_any p xs ≡ false → list_any q xs ≡ false
+no_more p q less [] e = refl
+no_more p q less (x ∷ xs) e = let both = both_false (p x) (list_any p xs) e in by (q x) refl both.0 (no_more p q less xs both.1)
+  where
+    by : (b : Bool) → q x ≡ b → p x ≡ false → list_any q xs ≡ false → (b || list_any q xs) ≡ false
+    by true is out more = absurd (true≢false (sym (less x is) ∙ out))
+    by false is out more = more
+
+-- the key of an aggregating interest meets what the interest does
+own_met : (keys : List (List ℕ)) (e : ℕ × InterestEntry) → AllByRecursion (λ key. is_met key e ≡ false) keys → option_map_or (is_met_by keys) (own_key e.1) false ≡ false
+own_met keys e all = by e.1.aggregate e.1.key keys all
+  where
+    none : (k : List ℕ) (ks : List (List ℕ)) → AllByRecursion (λ key. intersects k key ≡ false) ks → is_met_by ks k ≡ false
+    none k [] off = refl
+    none k (q ∷ qs) off = λ j. (intersects-swap q k ∙ off.0) j || none k qs off.1 j
+
+    by : (b : Bool) (o : Option (List ℕ)) (ks : List (List ℕ)) → AllByRecursion (λ key. meets o key ≡ false) ks → option_map_or (is_met_by ks) (cond b o None) false ≡ false
+    by true None ks off = refl
+    by true (Some k) ks off = none k ks off
+    by false o ks off = refl
+
+each_out : (e : ℕ × InterestEntry) (es : List (ℕ × InterestEntry)) (keys : List (List ℕ)) → AllByRecursion (λ key. list_any (is_met key) (e ∷ es) ≡ false) keys
+    → AllByRecursion (λ key. is_met key e ≡ false) keys × AllByRecursion (λ key. list_any (is_met key) es ≡ false) keys
+each_out e es [] all = (tt, tt)
+each_out e es (k ∷ ks) all =
+    let both = both_false (is_met k e) (list_any (is_met k) es) all.0 in
+    let more = each_out e es ks all.1 in
+    ((both.0, more.0), (both.1, more.1))
+
+-- so that of those keys none is met
+none_own : (es : List (ℕ × InterestEntry)) (keys : List (List ℕ)) → AllByRecursion (λ key. list_any (is_met key) es ≡ false) keys → filter (is_met_by keys) (filter_map (λ (i : ℕ × InterestEntry). own_key i.1) es) ≡ []
+none_own [] keys all = refl
+none_own (e ∷ es) keys all = let out = each_out e es keys all in by (own_key e.1) (own_met keys e out.0) (none_own es keys out.1)
+  where
+    by : (o : Option (List ℕ)) → option_map_or (is_met_by keys) o false ≡ false → filter (is_met_by keys) (filter_map (λ (i : ℕ × InterestEntry). own_key i.1) es) ≡ []
+        → filter (is_met_by keys) (cons_option o (filter_map (λ (i : ℕ × InterestEntry). own_key i.1) es)) ≡ []
+    by None off more = more
+    by (Some k) off more = ap (λ b. cond b (k ∷ filter (is_met_by keys) (filter_map (λ (i : ℕ × InterestEntry). own_key i.1) es)) (filter (is_met_by keys) (filter_map (λ (i : ℕ × InterestEntry). own_key i.1) es))) off ∙ more
+
+module _ (ints : Interests) (next : Option HatChange) (hats : List (ℕ × HatState)) (n : ℕ) (o : OpenFace) (deaf_there : listens_as false hats o ≡ false) (keys : List (List ℕ)) where
+  unasking : (key : List ℕ) → list_any (is_met key) (interests_of n ints) ≡ false → asks_for n key ints ≡ false
+  unasking key out = no_more (is_met key) (wants key) (λ e. asked_meets e.1 key) (interests_of n ints) out
+
+  none_listed : (ks : List (List ℕ)) → AllByRecursion (λ key. list_any (is_met key) (interests_of n ints) ≡ false) ks → flat_map (listed_due (asking None None n ints) next keys n o hats) ks ≡ []
   none_listed [] all = refl
   none_listed (k ∷ ks) all =
-      ap (λ b. map (will_be_due (asks_in ints n) next n o hats) (cond b (k ∷ filter (will_listen (asks_in ints n) next o hats) ks) (filter (will_listen (asks_in ints n) next o hats) ks)))
-      (ap (λ b. listens_as b (hats_after next k hats) o) all.0 ∙ listens_after false k o hats next ∙ deaf_there)
+      ap (λ b. cond b ((k, due_as (asking None None n ints k) next keys n o hats k) ∷ []) [] ++ flat_map (listed_due (asking None None n ints) next keys n o hats) ks)
+      (ap (λ b. listens_as b hats o) (unasking k all.0) ∙ deaf_there)
       ∙ none_listed ks all.1
+
+  none_there : AllByRecursion (λ key. list_any (is_met key) (interests_of n ints) ≡ false) keys → dues_there ints next hats keys (n, o) ≡ []
+  none_there all =
+      ap (λ more. flat_map (listed_due (asking None None n ints) next keys n o hats) (fold (insert_key text_cmp) keys more)) (none_own (interests_of n ints) keys all)
+      ∙ none_listed keys all
 
 -- ---- lists of numbers, in order, that give the same
 abbrev is_given : {Y : Type 0} → List Y → Bool
@@ -221,17 +273,17 @@ module _ {Y : Type 0} (g : ℕ → List Y) where
 -- ---- what a call looks at
 module _ (ints : Interests) (next : Option HatChange) (hats : List (ℕ × HatState)) (keys : List (List ℕ)) (but : Option FaceId) (faces : List (ℕ × OpenFace)) where
   abbrev looks : ℕ × OpenFace → List FaceDues
-  looks = looked_as (asks_in ints) next hats keys
+  looks = looked_as ints next hats keys
 
   abbrev pub there : ℕ → List FaceDues
-  there = looked_there (asks_in ints) next hats keys but faces
+  there = looked_there ints next hats keys but faces
 
   module _ (seated : AreSeated faces hats) where
     passed_over : (n : ℕ) (o : OpenFace) → at n faces ≡ Some o → has n (listeners hats ints keys) ≡ false → looks (n, o) ≡ []
     passed_over n o found out =
         let asked = none_asked n ints keys (fold with_unasked [] hats) out in
         let unasked = none_unasked n hats [] asked.0 in
-        ap (with_dues n) (none_listed ints next hats n o (deaf n o hats unasked.1 (seated n o found)) keys asked.1)
+        ap (with_dues n) (none_there ints next hats n o (deaf n o hats unasked.1 (seated n o found)) keys asked.1)
 
     nothing_there : (n : ℕ) → has n (listeners hats ints keys) ≡ false → there n ≡ []
     nothing_there n out = by (is_gone but n) (at n faces) refl
@@ -273,7 +325,7 @@ module _ (ints : Interests) (next : Option HatChange) (hats : List (ℕ × HatSt
     all_there [] all = refl
     all_there (e ∷ es) all = λ i. one_there e all.0 i ++ all_there es all.1 i
 
-    pub listeners_give : IsStrictlySortedBy nat_cmp (keys_of faces) → flat_map there (listeners hats ints keys) ≡ looked_over_as (asks_in ints) next hats keys (faces_but but faces)
+    pub listeners_give : IsStrictlySortedBy nat_cmp (keys_of faces) → flat_map there (listeners hats ints keys) ≡ looked_over_as ints next hats keys (faces_but but faces)
     listeners_give s =
         same_given there (listeners hats ints keys) (keys_of faces) (sorted_listeners hats ints keys) s (λ q given. listening q given ∙ sym (open_there q given))
         ∙ all_there faces (each_entry nat_cmp_total exact_unsigned (λ (e : ℕ × OpenFace). at e.0 faces ≡ Some e.1) faces s (λ k v at_k. at_k))

@@ -15,13 +15,15 @@ use Rattle.zq_query.proofs.Counts.{removed_by_filter}
 use Rattle.zq_told.specs.declared.types.FaceDues.{FaceDues}
 use Rattle.zq_interests.specs.Interests.{Interests}
 use Rattle.zq_machine.specs.declared.face.OpenFace.{OpenFace}
-use Rattle.zq_machine.specs.Neighbours.{dues_on, looked_by, looked_over, with_dues}
+use Rattle.zq_machine.specs.Due.{widened}
+use Rattle.zq_machine.specs.Neighbours.{dues_on, looked_over, with_dues}
 use Rattle.zq_machine.specs.State.{Core, at}
 use Rattle.zq_machine.proofs.Changing.{number_test}
 use Rattle.zq_dues.specs.declared.types.HatChange.{HatChange}
-use Rattle.zq_dues.specs.Dues.{asks_in, hats_after}
-use Rattle.zq_dues.specs.Over.{AreAfter, faces_but, is_gone, looked_over_as}
-use Rattle.zq_dues.proofs.Nexts.{dues_are}
+use Rattle.zq_dues.specs.Asking.{asking}
+use Rattle.zq_dues.specs.Dues.{IsAfter}
+use Rattle.zq_dues.specs.Over.{faces_but, is_gone, looked_as, looked_over_as}
+use Rattle.zq_dues.proofs.Heard.{is_heard, listed_is}
 
 -- ---- all faces but the one that a closing takes away
 module _ (f : ℕ × OpenFace → List FaceDues) where
@@ -50,44 +52,40 @@ but_sorted None es s = s
 but_sorted (Some g) es s = sorted_out nat_cmp (is_at (nat_cmp g.0)) es s
 
 -- ---- what is looked at over all faces
-none_looked : (asks : ℕ → List ℕ → Bool) (next : Option HatChange) (hats : List (ℕ × HatState)) (es : List (ℕ × OpenFace)) → looked_over_as asks next hats [] es ≡ []
-none_looked asks next hats [] = refl
-none_looked asks next hats (e ∷ es) = none_looked asks next hats es
-
 -- where there are no keys nothing is
-pub no_keys : (asks : ℕ → List ℕ → Bool) (next : Option HatChange) (hats : List (ℕ × HatState)) (keys : List (List ℕ)) (es : List (ℕ × OpenFace)) → keys ≡ [] → [] ≡ looked_over_as asks next hats keys es
-no_keys asks next hats keys es none = sym (ap (λ ks. looked_over_as asks next hats ks es) none ∙ none_looked asks next hats es)
-
 pub no_keys_over : (c : Core) (ints : Interests) (keys : List (List ℕ)) → keys ≡ [] → [] ≡ looked_over c ints keys
 no_keys_over c ints keys none = ap (looked_over c ints) (sym none)
-
-by_none : (c : Core) (ints : Interests) (es : List (ℕ × OpenFace)) → flat_map (λ (o : ℕ × OpenFace). with_dues o.0 (dues_on c ints [] o.0)) es ≡ []
-by_none c ints [] = refl
-by_none c ints (e ∷ es) = by_none c ints es
-
-over_is : (c : Core) (ints : Interests) (keys : List (List ℕ)) → looked_by c ints (λ face. keys) ≡ looked_over c ints keys
-over_is c ints [] = by_none c ints c.faces
-over_is c ints (k ∷ ks) = refl
-
-module _ (c : Core) (ints : Interests) (next : Option HatChange) (hats : List (ℕ × HatState)) (keys : List (List ℕ)) (after : AllByRecursion (λ key. hats_after next key hats ≡ c.hats) keys) where
-  each_looked : (es : List (ℕ × OpenFace)) → AllByRecursion (λ (o : ℕ × OpenFace). at o.0 c.faces ≡ Some o.1) es → looked_over_as (asks_in ints) next hats keys es ≡ flat_map (λ (o : ℕ × OpenFace). with_dues o.0 (dues_on c ints keys o.0)) es
-  each_looked [] all = refl
-  each_looked (e ∷ es) all =
-      let one = dues_are c ints (asks_in ints e.0) next e.0 e.1 hats keys (λ key. refl) (record { opened = all.0; after = after }) in
-      λ j. with_dues e.0 (one j) ++ each_looked es all.1 j
-
-pub looked_are : (c : Core) (ints : Interests) (next : Option HatChange) (but : Option FaceId) (es : List (ℕ × OpenFace)) (hats : List (ℕ × HatState)) (keys : List (List ℕ)) → IsStrictlySortedBy nat_cmp (keys_of es)
-    → AreAfter c next (faces_but but es) hats keys → looked_over_as (asks_in ints) next hats keys (faces_but but es) ≡ looked_over c ints keys
-looked_are c ints next but es hats keys s is =
-    let sorted : IsStrictlySortedBy nat_cmp (keys_of c.faces) = subst (λ (fs : List (ℕ × OpenFace)). IsStrictlySortedBy nat_cmp (keys_of fs)) (sym is.left) (but_sorted but es s) in
-    ap (looked_over_as (asks_in ints) next hats keys) (sym is.left)
-    ∙ each_looked c ints next hats keys is.after c.faces (each_entry nat_cmp_total exact_unsigned (λ (o : ℕ × OpenFace). at o.0 c.faces ≡ Some o.1) c.faces sorted (λ k v found. found))
-    ∙ over_is c ints keys
 
 -- where no face is open nothing is looked at
 none_open : (but : Option FaceId) (es : List (ℕ × OpenFace)) → es ≡ [] → faces_but but es ≡ []
 none_open None es none = none
 none_open (Some g) es none = ap (remove_entry (is_at (nat_cmp g.0))) none
 
-pub no_faces : (ints : Interests) (next : Option HatChange) (hats : List (ℕ × HatState)) (keys : List (List ℕ)) (but : Option FaceId) (es : List (ℕ × OpenFace)) → es ≡ [] → [] ≡ looked_over_as (asks_in ints) next hats keys (faces_but but es)
-no_faces ints next hats keys but es none = ap (looked_over_as (asks_in ints) next hats keys) (sym (none_open but es none))
+no_faces_by : (c : Core) (ints : Interests) (keys : List (List ℕ)) → c.faces ≡ [] → [] ≡ looked_over c ints keys
+no_faces_by c ints [] none = refl
+no_faces_by c ints (k ∷ ks) none = ap (flat_map (λ (o : ℕ × OpenFace). with_dues o.0 (dues_on c ints (widened o.0 ints (k ∷ ks)) o.0))) (sym none)
+
+pub no_faces_over : (c : Core) (ints : Interests) (keys : List (List ℕ)) (but : Option FaceId) (es : List (ℕ × OpenFace)) → c.faces ≡ faces_but but es → es ≡ [] → [] ≡ looked_over c ints keys
+no_faces_over c ints keys but es left none = no_faces_by c ints keys (left ∙ none_open but es none)
+
+module _ (c : Core) (ints : Interests) (next : Option HatChange) (hats : List (ℕ × HatState)) (k : List ℕ) (ks : List (List ℕ)) (is : IsAfter c next hats (k ∷ ks)) where
+  one_looked : (e : ℕ × OpenFace) → at e.0 c.faces ≡ Some e.1 → looked_as ints next hats (k ∷ ks) e ≡ with_dues e.0 (dues_on c ints (widened e.0 ints (k ∷ ks)) e.0)
+  one_looked e opened =
+      ap (with_dues e.0)
+      (listed_is c ints next hats (k ∷ ks) e.0 e.1 (is_heard c next hats (k ∷ ks) is e.0 e.1 opened k ks refl) (asking None None e.0 ints) (λ key. refl) (λ key. refl) (widened e.0 ints (k ∷ ks)))
+
+  each_looked : (es : List (ℕ × OpenFace)) → AllByRecursion (λ (o : ℕ × OpenFace). at o.0 c.faces ≡ Some o.1) es
+      → looked_over_as ints next hats (k ∷ ks) es ≡ flat_map (λ (o : ℕ × OpenFace). with_dues o.0 (dues_on c ints (widened o.0 ints (k ∷ ks)) o.0)) es
+  each_looked [] all = refl
+  each_looked (e ∷ es) all = λ j. one_looked e all.0 j ++ each_looked es all.1 j
+
+by_keys : (c : Core) (ints : Interests) (next : Option HatChange) (hats : List (ℕ × HatState)) (keys : List (List ℕ)) (k : List ℕ) (ks : List (List ℕ)) → keys ≡ k ∷ ks → IsAfter c next hats keys
+    → IsStrictlySortedBy nat_cmp (keys_of c.faces) → looked_over_as ints next hats keys c.faces ≡ looked_over c ints keys
+by_keys c ints next hats [] k ks some is s = absurd (let gap : [] ≡ k ∷ ks = some in cc)
+by_keys c ints next hats (q ∷ qs) k ks some is s = each_looked c ints next hats q qs is c.faces (each_entry nat_cmp_total exact_unsigned (λ (o : ℕ × OpenFace). at o.0 c.faces ≡ Some o.1) c.faces s (λ n v found. found))
+
+pub looked_are : (c : Core) (ints : Interests) (next : Option HatChange) (but : Option FaceId) (es : List (ℕ × OpenFace)) (hats : List (ℕ × HatState)) (keys : List (List ℕ)) (k : List ℕ) (ks : List (List ℕ)) → keys ≡ k ∷ ks
+    → IsStrictlySortedBy nat_cmp (keys_of es) → c.faces ≡ faces_but but es → IsAfter c next hats keys → looked_over_as ints next hats keys (faces_but but es) ≡ looked_over c ints keys
+looked_are c ints next but es hats keys k ks some s left is =
+    let sorted : IsStrictlySortedBy nat_cmp (keys_of c.faces) = subst (λ (fs : List (ℕ × OpenFace)). IsStrictlySortedBy nat_cmp (keys_of fs)) (sym left) (but_sorted but es s) in
+    ap (looked_over_as ints next hats keys) (sym left) ∙ by_keys c ints next hats keys k ks some is sorted

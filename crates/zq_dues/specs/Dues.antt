@@ -1,10 +1,11 @@
 -- What is due to an open face, by the hats of the regions as they are or as a change of one of them will make them.
-use Rattle.std.specs.Prelude.{◌≡◌, ℕ, Bool, true, false, List, [], ◌∷◌, filter, fold, map, Option, Some, None, if◌then◌else◌}
+use Rattle.std.specs.Prelude.{◌≡◌, ℕ, Bool, ◌&&◌, false, true, not, List, [], ◌∷◌, filter, fold, map, Option, Some, None, if◌then◌else◌}
+use Rattle.std.specs.BTreeSet.{insert_key}
 use Rattle.std.specs.Option.{is_some, option_map, option_map_or}
 use Rattle.std.specs.List.{AllByRecursion}
 use Rattle.std.specs.List.Sorted.{IsStrictlySortedBy}
 use Rattle.zq_message.specs.declared.message.QueryableInfoType.{QueryableInfoType}
-use Rattle.zq_key.specs.Key.{is_key}
+use Rattle.zq_key.specs.Key.{intersects, is_key}
 use Rattle.zq_index.specs.Texts.{has_text, text_cmp}
 use Rattle.zq_hat.specs.Changes.{changed_by}
 use Rattle.zq_hat.specs.Kept.{region_info}
@@ -13,10 +14,10 @@ use Rattle.zq_hat.specs.State.{HatState}
 use Rattle.zq_told.specs.Ears.{Ears, told_at}
 use Rattle.zq_told.specs.Telling.{KeyDue}
 use Rattle.zq_machine.specs.declared.face.OpenFace.{OpenFace}
-use Rattle.zq_machine.specs.Due.{heard_as, listens_by, with_region_keys}
-use Rattle.zq_interests.specs.Interests.{Interests, asks_for}
+use Rattle.zq_machine.specs.Due.{folded_over, heard_as, listens_by, seen_at, with_region_keys}
 use Rattle.zq_machine.specs.State.{Core, at, change_hat, hat_at}
 use Rattle.zq_own.specs.declared.entries.NewInfo.{NewInfo}
+use Rattle.zq_dues.specs.declared.asking.Asking.{Asking}
 use Rattle.zq_dues.specs.declared.types.HatChange.{HatChange}
 
 -- the hats after the change, on a key
@@ -39,26 +40,6 @@ hears_as asks h = listens_by (strategy_at h) (is_north h.region) asks
 abbrev pub listens_as : Bool → List (ℕ × HatState) → OpenFace → Bool
 listens_as asks hats o = option_map_or (hears_as asks) (hat_at o.region hats) false
 
--- what is due to an open face on the key, which it asks for or not
-abbrev pub due_as : Bool → ℕ → List ℕ → List (ℕ × HatState) → OpenFace → Option QueryableInfoType
-due_as asks face key hats o = if listens_as asks hats o then heard_as face key hats o else None
-
--- an open face with whom it asks: it listens on a key once a hat has changed
-abbrev pub will_listen : (List ℕ → Bool) → Option HatChange → OpenFace → List (ℕ × HatState) → List ℕ → Bool
-will_listen asks next o hats key = listens_as (asks key) (hats_after next key hats) o
-
--- a key with what will be due there
-abbrev pub will_be_due : (List ℕ → Bool) → Option HatChange → ℕ → OpenFace → List (ℕ × HatState) → List ℕ → KeyDue
-will_be_due asks next face o hats key = (key, due_as (asks key) face key (hats_after next key hats) o)
-
--- those of the keys on which it will listen, with what will be due
-abbrev pub dues_as : (List ℕ → Bool) → Option HatChange → ℕ → OpenFace → List (ℕ × HatState) → List (List ℕ) → List KeyDue
-dues_as asks next face o hats keys = map (will_be_due asks next face o hats) (filter (will_listen asks next o hats) keys)
-
--- a key with what will be due there, if it will listen
-abbrev pub listed_due : Bool → Option HatChange → ℕ → OpenFace → List (ℕ × HatState) → List ℕ → List KeyDue
-listed_due asks next face o hats key = if listens_as asks (hats_after next key hats) o then (key, heard_as face key (hats_after next key hats) o) ∷ [] else []
-
 -- the keys on which regions have information, each once, in order
 abbrev pub all_keys : List (ℕ × HatState) → List (List ℕ)
 all_keys hats = fold with_region_keys [] hats
@@ -67,26 +48,57 @@ all_keys hats = fold with_region_keys [] hats
 abbrev pub AreKeys : List (List ℕ) → Type 0
 AreKeys keys = AllByRecursion (λ key. is_key key ≡ true) keys
 
--- the keys stand in order, and on each of them some region has information
-pub record AreInformed (keys : List (List ℕ)) (hats : List (ℕ × HatState)) : Type 0 where
-  pub rise : IsStrictlySortedBy text_cmp keys
-  pub found : (key : List ℕ) → has_text key keys ≡ true → has_text key (all_keys hats) ≡ true
+-- ---- where a hat changes, and what is heard changes on some keys alone
+
+-- what an open face will hear on the key: on those keys by the hats after the change, and elsewhere what it hears
+abbrev pub heard_at : Option HatChange → List (List ℕ) → ℕ → OpenFace → List (ℕ × HatState) → List ℕ → Option QueryableInfoType
+heard_at next touched face o hats key = if has_text key touched then heard_as face key (hats_after next key hats) o else heard_as face key hats o
+
+-- what it hears on a key as a part of the entry for another, if anything
+abbrev pub part_of : List ℕ → List ℕ → Option QueryableInfoType → Option QueryableInfoType
+part_of key k i = option_map (seen_at key k) i
+
+-- of some keys those that meet the key join others
+abbrev pub with_meeting : List ℕ → List (List ℕ) → List (List ℕ) → List (List ℕ)
+with_meeting key ks more = fold (insert_key text_cmp) ks (filter (λ k. intersects k key) more)
+
+-- the keys that meet the key on which regions have information, or may have it after the change, each once, in order
+abbrev pub parts : List (List ℕ) → List (ℕ × HatState) → List ℕ → List (List ℕ)
+parts touched hats key = with_meeting key (filter (λ k. intersects k key) (all_keys hats)) touched
+
+-- what an open face will hear on all keys that meet the key, as one entry
+abbrev pub folded_as : Option HatChange → List (List ℕ) → ℕ → OpenFace → List (ℕ × HatState) → List ℕ → Option QueryableInfoType
+folded_as next touched face o hats key = folded_over (heard_at next touched face o hats) (parts touched hats key) key
+
+-- what there will be for it at a key, for which it asks as one entry or not
+abbrev pub meant_as : Bool → Option HatChange → List (List ℕ) → ℕ → OpenFace → List (ℕ × HatState) → List ℕ → Option QueryableInfoType
+meant_as folds next touched face o hats key = if not (listens_as false hats o) && folds then folded_as next touched face o hats key else heard_at next touched face o hats key
+
+-- what will be due to it on a key of which it asks this
+abbrev pub due_as : Asking → Option HatChange → List (List ℕ) → ℕ → OpenFace → List (ℕ × HatState) → List ℕ → Option QueryableInfoType
+due_as a next touched face o hats key = if listens_as a.asks hats o then meant_as a.folds next touched face o hats key else None
+
+-- a key with what will be due there, if the face listens
+abbrev pub listed_due : (List ℕ → Asking) → Option HatChange → List (List ℕ) → ℕ → OpenFace → List (ℕ × HatState) → List ℕ → List KeyDue
+listed_due asks next touched face o hats key = if listens_as (asks key).asks hats o then (key, due_as (asks key) next touched face o hats key) ∷ [] else []
+
+-- a key with what is due there
+abbrev pub row_as : (List ℕ → Asking) → ℕ → OpenFace → List (ℕ × HatState) → List ℕ → KeyDue
+row_as asks face o hats key = (key, due_as (asks key) None [] face o hats key)
+
+-- ---- keys that a face was told
 
 -- the face was told of the key
 abbrev pub was_told : ℕ → Ears → List ℕ → Bool
 was_told face ears key = is_some (told_at face key ears)
 
--- the keys for which a face asks
-abbrev pub asks_in : Interests → ℕ → List ℕ → Bool
-asks_in ints face key = asks_for face key ints
-
--- what is due to an open face on the keys, whether it listens or not, where it asks for just these
-abbrev pub all_dues_as : (List ℕ → Bool) → ℕ → OpenFace → List (ℕ × HatState) → List (List ℕ) → List KeyDue
-all_dues_as asks face o hats keys = map (λ key. (key, due_as (asks key) face key hats o)) keys
-
 -- ---- the same of what decides after a call
 
--- the face is open so, and on each of the keys the hats are those after the change
-pub record IsAfter (c : Core) (next : Option HatChange) (face : ℕ) (o : OpenFace) (hats : List (ℕ × HatState)) (keys : List (List ℕ)) : Type 0 where
-  pub opened : at face c.faces ≡ Some o
+-- on each other key than these what decides after the call has faces that are open hear what they heard
+abbrev pub IsBeside : Core → List (ℕ × HatState) → List (List ℕ) → Type 0
+IsBeside c hats keys = (face : ℕ) (o : OpenFace) → at face c.faces ≡ Some o → (key : List ℕ) → has_text key keys ≡ false → heard_as face key c.hats o ≡ heard_as face key hats o
+
+-- the hats after the change are those that decide, on each of the keys; and on each other key faces that are open hear what they heard
+pub record IsAfter (c : Core) (next : Option HatChange) (hats : List (ℕ × HatState)) (keys : List (List ℕ)) : Type 0 where
   pub after : AllByRecursion (λ key. hats_after next key hats ≡ c.hats) keys
+  pub beside : IsBeside c hats keys

@@ -1,3 +1,5 @@
+pub mod Asked
+pub mod Asking
 pub mod Dues
 pub mod Listeners
 pub mod Over

@@ -1,4 +1,4 @@
--- Which faces can listen on some of the keys: those of hats whose faces listen unasked, and those that ask for one of the keys.
+-- Which faces can listen on some of the keys: those of hats whose faces listen unasked, and those of which an interest meets one of the keys.
 use Rattle.std.specs.Prelude.{ℕ, false, List, [], fold, if◌then◌else◌}
 use Rattle.std.specs.BTreeSet.{insert_key}
 use Rattle.std.specs.Map.{keys_of}
@@ -20,7 +20,7 @@ with_unasked ns h = with_hat ns h.1
 abbrev pub with_number : List ℕ → FaceId → List ℕ
 with_number ns f = insert_key nat_cmp ns f.0
 
--- those who ask for a key join them
+-- those of whom an interest meets a key join them
 abbrev pub with_askers : Interests → List ℕ → List ℕ → List ℕ
 with_askers ints ns key = fold with_number ns (askers key ints)
 

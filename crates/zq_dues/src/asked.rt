@@ -1,10 +1,23 @@
 //! What an interest of a face looks at, and what its end looks at.
-use crate::asking::{Asking, ask_of, put_owns, wants};
-use crate::dues::put_due;
+ghost use Rattle.std.specs.Prelude.{◌≡◌, ◌++◌, [], ℕ, List, None, Some, IfOk, IsTrue, OnOk, filter, map, option_copied, string_bytes};
+ghost use Rattle.std.specs.List.{flat_map};
+ghost use Rattle.zq_key.specs.Key.{is_key};
+ghost use Rattle.zq_interests.specs.declared.types.InterestEntry.{InterestEntry};
+ghost use Rattle.zq_interests.specs.Interests.{own_keys, with_interest, without_interest};
+ghost use Rattle.zq_told.specs.Ears.{told_keys};
+ghost use Rattle.zq_told.specs.Rooms.{ears_of};
+ghost use Rattle.zq_machine.specs.Neighbours.{asked_at, ended_at, with_dues};
+ghost use Rattle.zq_machine.specs.State.{Core, at};
+ghost use Rattle.zq_dues.specs.Asked.{AreInformed, keys_asked, looked_due, with_there};
+ghost use Rattle.zq_dues.specs.Asking.{asking};
+ghost use Rattle.zq_dues.specs.Dues.{AreKeys, row_as, was_told};
+
+use crate::asking::{ask_of, put_owns_asked, wants};
 use crate::due::due_as;
+use crate::dues::put_due;
 use crate::keys::{is_met, met_texts};
 use crate::over::list_face;
-use crate::types::{Counted, DuesList, Wanted};
+use crate::types::DuesList;
 use std::alloc::Global;
 use std::collections::BTreeSet;
 use zq_hat::hat::Hat;
@@ -22,20 +35,26 @@ use zq_told::ears::Ears;
 use zq_told::types::KeyDues;
 
 // A list of the face with its dues, if it has any.
-fn one_face(alloc: Global, face: FaceId, dues: KeyDues) -> Result<DuesList, OutOfMemory> {
+fn one_face(alloc: Global, face: FaceId, dues: KeyDues) -> Result<DuesList, OutOfMemory>
+    ensures { IfOk result (λ ds. ds ≡ with_dues face.0 dues) }
+{
     let mut list = Items::new(alloc);
     list_face(&mut list, face, dues)?;
     Ok(list)
 }
 
-// The texts that a key meets on which some region has information join others.
-fn put_met(
+// Of some keys those join others that a key meets on which some region has information.
+fn put_there(
     keys: &mut BTreeSet<String>,
     alloc: Global,
     hats: &RegionMap<Hat>,
-    owns: &BTreeSet<String>,
-) -> Result<(), OutOfMemory> {
-    for own in owns {
+    more: &BTreeSet<String>,
+) -> Result<(), OutOfMemory>
+    requires { AreKeys (map string_bytes more.now.keys) }
+    ensures joined { OnOk result (map string_bytes keys.new.keys ≡ with_there hats.now (map string_bytes keys.old.keys) (map string_bytes more.now.keys)) }
+    ensures valid { AreKeys (map string_bytes keys.old.keys) → OnOk result (AreKeys (map string_bytes keys.new.keys)) }
+{
+    for own in more {
         if is_met(alloc, hats, own.as_str())? {
             put_text(keys, alloc, own.as_str())?;
         }
@@ -43,8 +62,7 @@ fn put_met(
     Ok(())
 }
 
-// The keys that an interest of the face may have to look at: those that meet what it asks for on which
-// something may be due, and its own.
+// The keys that an interest of the face may have to look at.
 fn keys_asked(
     alloc: Global,
     hats: &RegionMap<Hat>,
@@ -52,35 +70,69 @@ fn keys_asked(
     face: FaceId,
     id: u32,
     entry: &InterestEntry,
-) -> Result<BTreeSet<String>, OutOfMemory> {
+) -> Result<BTreeSet<String>, OutOfMemory>
+    ensures keys { IfOk result (λ s. map string_bytes s.keys ≡ keys_asked id entry.now face.0 interests.now hats.now) }
+    ensures valid { IfOk result (λ s. AreKeys (map string_bytes s.keys)) }
+{
     let asked = entry.key.as_ref();
     let mut owns = BTreeSet::new(alloc);
-    let counted = Counted::With(id, entry);
-    put_owns(&mut owns, alloc, interests, face, counted, Wanted::Asked(asked))?;
+    put_owns_asked(&mut owns, alloc, interests, face, Some(id), asked)?;
     let mut keys = met_texts(alloc, hats, asked)?;
-    put_met(&mut keys, alloc, hats, &owns)?;
-    if let Some(key) = asked {
-        put_text(&mut keys, alloc, key.as_str())?;
+    put_there(&mut keys, alloc, hats, &owns)?;
+    match asked {
+        Some(key) => put_text(&mut keys, alloc, key.as_str())?,
+        None => {}
     }
     Ok(keys)
 }
 
-// A key joins the list with what is due there to the face, if the interest asks for it, or nothing is due.
+// A key joins the list with what is due there to the face once the interest stands, if it asks for the key
+// or nothing is due there.
 fn put_looked(
     dues: &mut KeyDues,
     alloc: Global,
     hats: &RegionMap<Hat>,
+    interests: &Interests,
     face: FaceId,
+    id: u32,
     opened: OpenFace,
-    asks: Asking,
-    wants: bool,
+    entry: &InterestEntry,
     key: &str,
-) -> Result<(), OutOfMemory> {
-    let due = due_as(alloc, hats, None, face, opened, asks, key)?;
-    if wants || due.is_none() {
+) -> Result<(), OutOfMemory>
+    requires { IsTrue (is_key key.now) }
+    ensures { OnOk result (dues.new ≡ dues.old ++ looked_due id entry.now face.0 interests.now opened hats.now key.now) }
+{
+    let asks = ask_of(interests, face, Some(id), Some(entry), key);
+    let touched = BTreeSet::new(alloc);
+    let due = due_as(alloc, hats, None, &touched, face, opened, asks, key)?;
+    if wants(entry, key) || due.is_none() {
         dues.push((Text::new(alloc, key)?, due))?;
     }
     Ok(())
+}
+
+// What is looked at on the keys.
+fn looked_dues(
+    alloc: Global,
+    hats: &RegionMap<Hat>,
+    interests: &Interests,
+    face: FaceId,
+    id: u32,
+    opened: OpenFace,
+    entry: &InterestEntry,
+    keys: &BTreeSet<String>,
+) -> Result<KeyDues, OutOfMemory>
+    requires { AreKeys (map string_bytes keys.now.keys) }
+    ensures { IfOk result (λ ds. ds ≡ flat_map (looked_due id entry.now face.0 interests.now opened hats.now) (map string_bytes keys.now.keys)) }
+{
+    let mut dues = Items::new(alloc);
+    for key in keys {
+        let text = key.as_str();
+        put_looked(
+            &mut dues, alloc, hats, interests, face, id, opened, entry, text,
+        )?;
+    }
+    Ok(dues)
 }
 
 /// What an interest of an open face looks at, with what is due to the face there once it stands: the keys
@@ -94,20 +146,18 @@ pub fn dues_asked(
     id: u32,
     opened: OpenFace,
     entry: &InterestEntry,
-) -> Result<DuesList, OutOfMemory> {
+) -> Result<DuesList, OutOfMemory>
+    ensures { (c : Core) → at face.0 c.faces ≡ Some opened → hats.now ≡ c.hats → IfOk result (λ ds. ds ≡ asked_at c (with_interest face.0 id entry.now interests.now) face.0 entry.now) }
+{
     let keys = keys_asked(alloc, hats, interests, face, id, entry)?;
-    let mut dues = Items::new(alloc);
-    for key in &keys {
-        let text = key.as_str();
-        let asks = ask_of(interests, face, Counted::With(id, entry), text);
-        let wants = wants(entry, text);
-        put_looked(&mut dues, alloc, hats, face, opened, asks, wants, text)?;
-    }
+    let dues = looked_dues(alloc, hats, interests, face, id, opened, entry, &keys)?;
     one_face(alloc, face, dues)
 }
 
 // Whether the face was told of the key.
-fn was_told(ears: &Ears, face: FaceId, key: &str) -> bool {
+fn was_told(ears: &Ears, face: FaceId, key: &str) -> bool
+    ensures { result ≡ was_told face.0 (ears_of ears.now) key.now }
+{
     ears.told_of(face, key).is_some()
 }
 
@@ -121,13 +171,19 @@ fn dues_besides(
     id: u32,
     opened: OpenFace,
     keys: &BTreeSet<String>,
-) -> Result<KeyDues, OutOfMemory> {
+) -> Result<KeyDues, OutOfMemory>
+    requires { AreKeys (map string_bytes keys.now.keys) }
+    ensures { IfOk result (λ ds. ds ≡ map (row_as (asking (Some id) None face.0 interests.now) face.0 opened hats.now) (filter (was_told face.0 (ears_of ears.now)) (map string_bytes keys.now.keys))) }
+{
+    let touched = BTreeSet::new(alloc);
     let mut dues = Items::new(alloc);
     for key in keys {
         let text = key.as_str();
         if was_told(ears, face, text) {
-            let asks = ask_of(interests, face, Counted::Without(id), text);
-            put_due(&mut dues, alloc, hats, None, face, opened, asks, text)?;
+            let asks = ask_of(interests, face, Some(id), None, text);
+            put_due(
+                &mut dues, alloc, hats, None, &touched, face, opened, asks, text,
+            )?;
         }
     }
     Ok(dues)
@@ -147,11 +203,12 @@ pub fn dues_ended(
     id: u32,
     opened: OpenFace,
     asked: Option<&Key>,
-) -> Result<DuesList, OutOfMemory> {
+) -> Result<DuesList, OutOfMemory>
+    requires { AreInformed (told_keys face.0 (ears_of ears.now)) hats.now (own_keys face.0 interests.now) }
+    ensures { (c : Core) (e : InterestEntry) → at face.0 c.faces ≡ Some opened → hats.now ≡ c.hats → e.key ≡ option_copied asked.entry → IfOk result (λ ds. ds ≡ ended_at c (without_interest face.0 id interests.now) (ears_of ears.now) face.0 e) }
+{
     let mut keys = met_texts(alloc, hats, asked)?;
-    put_owns(&mut keys, alloc, interests, face, Counted::All, Wanted::Asked(asked))?;
-    let dues = dues_besides(
-        alloc, hats, interests, ears, face, id, opened, &keys,
-    )?;
+    put_owns_asked(&mut keys, alloc, interests, face, None, asked)?;
+    let dues = dues_besides(alloc, hats, interests, ears, face, id, opened, &keys)?;
     one_face(alloc, face, dues)
 }

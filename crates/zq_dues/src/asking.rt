@@ -1,6 +1,16 @@
-//! What a face asks of keys by its interests: as they are, with one that is not put yet, or without one
-//! that ends.
-use crate::types::{Counted, Wanted};
+//! What a face asks of keys by its interests: as they are, without one that ends, or with one that is not
+//! put yet in the place of another under its id.
+ghost use Rattle.std.specs.Prelude.{◌≡◌, ℕ, OnOk, IsTrue, filter, fold, map, option_copied, string_bytes};
+ghost use Rattle.std.specs.BTreeSet.{insert_key};
+ghost use Rattle.std.specs.List.{AllByRecursion, list_any};
+ghost use Rattle.std.specs.Option.{option_map};
+ghost use Rattle.zq_key.specs.Key.{is_key};
+ghost use Rattle.zq_index.specs.Texts.{text_cmp};
+ghost use Rattle.zq_interests.specs.Interests.{asked_for, interests_of, meets, own_key, wants_folded};
+ghost use Rattle.zq_machine.specs.Due.{is_met_by};
+ghost use Rattle.zq_dues.specs.Asking.{any_folds, asking, asks_but, asks_new, folds_new, has_met, is_left, with_asked, with_met, with_own};
+ghost use Rattle.zq_dues.specs.Dues.{AreKeys};
+
 use std::alloc::Global;
 use std::cmp::Ordering;
 use std::collections::{BTreeMap, BTreeSet};
@@ -22,7 +32,10 @@ pub struct Asking {
 }
 
 // Whether what is asked for has no key, or its key meets the key.
-fn meets(asked: Option<&Key>, key: &str) -> bool {
+fn meets(asked: Option<&Key>, key: &str) -> bool
+    requires { IsTrue (is_key key.now) }
+    ensures { result ≡ meets (option_copied asked.entry) key.now }
+{
     match asked {
         Some(asked) => intersects(asked.as_str(), key),
         None => true,
@@ -30,7 +43,9 @@ fn meets(asked: Option<&Key>, key: &str) -> bool {
 }
 
 // The key of an aggregating interest; one without a key counts as not aggregating.
-fn own_key(entry: &InterestEntry) -> Option<&Key> {
+fn own_key(entry: &InterestEntry) -> Option<&Key>
+    ensures { option_copied result ≡ own_key entry.now }
+{
     if entry.aggregate {
         entry.key.as_ref()
     } else {
@@ -39,7 +54,9 @@ fn own_key(entry: &InterestEntry) -> Option<&Key> {
 }
 
 // Whether the interest is aggregating, and the key is its own.
-fn wants_folded(entry: &InterestEntry, key: &str) -> bool {
+fn wants_folded(entry: &InterestEntry, key: &str) -> bool
+    ensures { (id : ℕ) → result ≡ wants_folded key.now (id, entry.now) }
+{
     match own_key(entry) {
         Some(own) => compare_texts(own.as_str(), key) == Ordering::Equal,
         None => false,
@@ -47,70 +64,104 @@ fn wants_folded(entry: &InterestEntry, key: &str) -> bool {
 }
 
 /// Whether the interest asks for the key: its own, if it is aggregating, and else each that it meets.
-pub fn wants(entry: &InterestEntry, key: &str) -> bool {
+pub fn wants(entry: &InterestEntry, key: &str) -> bool
+    requires { IsTrue (is_key key.now) }
+    ensures { result ≡ asked_for entry.now key.now }
+{
     match own_key(entry) {
         Some(own) => compare_texts(own.as_str(), key) == Ordering::Equal,
         None => meets(entry.key.as_ref(), key),
     }
 }
 
-// Whether the interest under the id counts as it is.
-fn is_left(counted: Counted, id: u32) -> bool {
-    match counted {
-        Counted::All => true,
-        Counted::With(other, _) => id != other,
-        Counted::Without(other) => id != other,
+// Whether the interest under the id stays.
+fn is_left(but: Option<u32>, id: u32) -> bool
+    ensures { result ≡ is_left but id }
+{
+    match but {
+        Some(other) => id != other,
+        None => true,
     }
 }
 
-// Whether one of those that count as they are asks for the key.
-fn any_wants(entries: &BTreeMap<u32, InterestEntry>, counted: Counted, key: &str) -> bool {
+// Whether an interest of the face that stays asks for the key.
+fn asks_but(interests: &Interests, face: FaceId, but: Option<u32>, key: &str) -> bool
+    requires { IsTrue (is_key key.now) }
+    ensures { result ≡ asks_but but face.0 key.now interests.now }
+{
+    match but {
+        Some(id) => interests.asks_besides(face, id, key),
+        None => interests.asks_for(face, key),
+    }
+}
+
+// Whether an interest that stays asks for the key as one entry.
+fn any_folds(entries: &BTreeMap<u32, InterestEntry>, but: Option<u32>, key: &str) -> bool
+    ensures { result ≡ any_folds but key.now entries.now.entries }
+{
     for (id, entry) in entries {
-        if is_left(counted, *id) && wants(entry, key) {
+        if is_left(but, *id) && wants_folded(entry, key) {
             return true;
         }
     }
     false
 }
 
-// Whether one of them asks for the key as one entry.
-fn any_folds(entries: &BTreeMap<u32, InterestEntry>, counted: Counted, key: &str) -> bool {
-    for (id, entry) in entries {
-        if is_left(counted, *id) && wants_folded(entry, key) {
-            return true;
-        }
+// Whether the new interest, if there is one, asks for the key.
+fn asks_new(new: Option<&InterestEntry>, key: &str) -> bool
+    requires { IsTrue (is_key key.now) }
+    ensures { result ≡ asks_new (option_copied new.entry) key.now }
+{
+    match new {
+        Some(entry) => wants(entry, key),
+        None => false,
     }
-    false
 }
 
-// What those that count as they are ask of the key.
-fn asking_as_is(interests: &Interests, face: FaceId, counted: Counted, key: &str) -> Asking {
+// Whether it asks for the key as one entry.
+fn folds_new(new: Option<&InterestEntry>, key: &str) -> bool
+    ensures { result ≡ folds_new (option_copied new.entry) key.now }
+{
+    match new {
+        Some(entry) => wants_folded(entry, key),
+        None => false,
+    }
+}
+
+// Whether an interest of the face that stays asks for the key as one entry.
+fn folds_but(interests: &Interests, face: FaceId, but: Option<u32>, key: &str) -> bool
+    ensures { result ≡ any_folds but key.now (interests_of face.0 interests.now) }
+{
     match interests.asked_by(face) {
-        Some(entries) => Asking {
-            asks: any_wants(entries, counted, key),
-            folds: any_folds(entries, counted, key),
-        },
-        None => Asking {
-            asks: false,
-            folds: false,
-        },
+        Some(entries) => any_folds(entries, but, key),
+        None => false,
     }
 }
 
-/// What the face asks of the key by its interests that count.
-pub fn ask_of(interests: &Interests, face: FaceId, counted: Counted, key: &str) -> Asking {
-    let others = asking_as_is(interests, face, counted, key);
-    match counted {
-        Counted::With(_, entry) => Asking {
-            asks: wants(entry, key) || others.asks,
-            folds: wants_folded(entry, key) || others.folds,
-        },
-        _ => others,
+/// What the face asks of the key by its interests, but for the one under the id, and by the new one, if
+/// there is one. It looks at this face's interests alone.
+pub fn ask_of(
+    interests: &Interests,
+    face: FaceId,
+    but: Option<u32>,
+    new: Option<&InterestEntry>,
+    key: &str,
+) -> Asking
+    requires { IsTrue (is_key key.now) }
+    ensures { result ≡ asking but (option_copied new.entry) face.0 interests.now key.now }
+{
+    Asking {
+        asks: asks_new(new, key) || asks_but(interests, face, but, key),
+        folds: folds_new(new, key) || folds_but(interests, face, but, key),
     }
 }
 
 // Whether one of the keys meets the key.
-fn is_met_by(keys: &[Text], key: &str) -> bool {
+fn is_met_by(keys: &[Text], key: &str) -> bool
+    requires keys { AreKeys keys.now }
+    requires key { IsTrue (is_key key.now) }
+    ensures { result ≡ is_met_by keys.now key.now }
+{
     for k in keys {
         if intersects(k.as_str(), key) {
             return true;
@@ -119,89 +170,147 @@ fn is_met_by(keys: &[Text], key: &str) -> bool {
     false
 }
 
-// Whether the key is one of those that are wanted.
-fn is_wanted(wanted: Wanted, key: &str) -> bool {
-    match wanted {
-        Wanted::Met(keys) => is_met_by(keys, key),
-        Wanted::Asked(asked) => meets(asked, key),
-    }
-}
-
-// Whether the interest is aggregating, and its key is wanted.
-fn has_wanted(entry: &InterestEntry, wanted: Wanted) -> bool {
+// Whether the interest is aggregating, and one of the keys meets its own.
+fn has_met(entry: &InterestEntry, keys: &[Text]) -> bool
+    requires { AreKeys keys.now }
+    ensures { (id : ℕ) → result ≡ has_met keys.now (id, entry.now) }
+{
     match own_key(entry) {
-        Some(own) => is_wanted(wanted, own.as_str()),
+        Some(own) => is_met_by(keys, own.as_str()),
         None => false,
     }
 }
 
-// The key of an aggregating interest joins others, if it is wanted.
-fn put_own(
-    keys: &mut BTreeSet<String>,
-    alloc: Global,
-    entry: &InterestEntry,
-    wanted: Wanted,
-) -> Result<(), OutOfMemory> {
-    match own_key(entry) {
-        Some(own) => {
-            if is_wanted(wanted, own.as_str()) {
-                put_text(keys, alloc, own.as_str())?;
-            }
-            Ok(())
-        }
-        None => Ok(()),
-    }
-}
-
-// The same of those that count as they are.
-fn put_entries(
-    keys: &mut BTreeSet<String>,
-    alloc: Global,
-    entries: &BTreeMap<u32, InterestEntry>,
-    counted: Counted,
-    wanted: Wanted,
-) -> Result<(), OutOfMemory> {
-    for (id, entry) in entries {
-        if is_left(counted, *id) {
-            put_own(keys, alloc, entry, wanted)?;
-        }
-    }
-    Ok(())
-}
-
-/// Of the keys of the face's aggregating interests that count, those that are wanted join others.
-pub fn put_owns(
-    keys: &mut BTreeSet<String>,
-    alloc: Global,
-    interests: &Interests,
-    face: FaceId,
-    counted: Counted,
-    wanted: Wanted,
-) -> Result<(), OutOfMemory> {
-    match interests.asked_by(face) {
-        Some(entries) => put_entries(keys, alloc, entries, counted, wanted)?,
-        None => {}
-    }
-    match counted {
-        Counted::With(_, entry) => put_own(keys, alloc, entry, wanted),
-        _ => Ok(()),
-    }
-}
-
-// Whether one of them is wanted.
-fn any_wanted(entries: &BTreeMap<u32, InterestEntry>, wanted: Wanted) -> bool {
+// Whether one of the interests is so.
+fn any_met(entries: &BTreeMap<u32, InterestEntry>, keys: &[Text]) -> bool
+    requires { AreKeys keys.now }
+    ensures { result ≡ list_any (has_met keys.now) entries.now.entries }
+{
     for (_, entry) in entries {
-        if has_wanted(entry, wanted) {
+        if has_met(entry, keys) {
             return true;
         }
     }
     false
 }
 
-/// Whether the key of an aggregating interest of the face meets one of the keys.
-pub fn is_widened(interests: &Interests, face: FaceId, keys: &[Text]) -> bool {
+/// Whether one of the keys meets the key of an aggregating interest of the face.
+pub fn is_widened(interests: &Interests, face: FaceId, keys: &[Text]) -> bool
+    requires { AreKeys keys.now }
+    ensures { result ≡ list_any (has_met keys.now) (interests_of face.0 interests.now) }
+{
     match interests.asked_by(face) {
-        Some(entries) => any_wanted(entries, Wanted::Met(keys)),
+        Some(entries) => any_met(entries, keys),
         None => false,
+    }
+}
+
+// The key of an aggregating interest that one of the keys meets joins others.
+fn put_met(
+    texts: &mut BTreeSet<String>,
+    alloc: Global,
+    entry: &InterestEntry,
+    keys: &[Text],
+) -> Result<(), OutOfMemory>
+    requires { AreKeys keys.now }
+    ensures joined { (id : ℕ) → OnOk result (map string_bytes texts.new.keys ≡ with_met keys.now (map string_bytes texts.old.keys) (id, entry.now)) }
+    ensures valid { AreKeys (map string_bytes texts.old.keys) → OnOk result (AreKeys (map string_bytes texts.new.keys)) }
+{
+    if let Some(own) = own_key(entry) {
+        if is_met_by(keys, own.as_str()) {
+            return put_text(texts, alloc, own.as_str());
+        }
+    }
+    Ok(())
+}
+
+// The same of each of the interests.
+fn put_each_met(
+    texts: &mut BTreeSet<String>,
+    alloc: Global,
+    entries: &BTreeMap<u32, InterestEntry>,
+    keys: &[Text],
+) -> Result<(), OutOfMemory>
+    requires { AreKeys keys.now }
+    ensures joined { OnOk result (map string_bytes texts.new.keys ≡ fold (with_met keys.now) (map string_bytes texts.old.keys) entries.now.entries) }
+    ensures valid { AreKeys (map string_bytes texts.old.keys) → OnOk result (AreKeys (map string_bytes texts.new.keys)) }
+{
+    for (_, entry) in entries {
+        put_met(texts, alloc, entry, keys)?;
+    }
+    Ok(())
+}
+
+/// Of the keys of the face's aggregating interests those join others that one of the keys meets.
+pub fn put_owns_met(
+    texts: &mut BTreeSet<String>,
+    alloc: Global,
+    interests: &Interests,
+    face: FaceId,
+    keys: &[Text],
+) -> Result<(), OutOfMemory>
+    requires { AreKeys keys.now }
+    ensures joined { OnOk result (map string_bytes texts.new.keys ≡ fold (with_met keys.now) (map string_bytes texts.old.keys) (interests_of face.0 interests.now)) }
+    ensures valid { AreKeys (map string_bytes texts.old.keys) → OnOk result (AreKeys (map string_bytes texts.new.keys)) }
+{
+    match interests.asked_by(face) {
+        Some(entries) => put_each_met(texts, alloc, entries, keys),
+        None => Ok(()),
+    }
+}
+
+// The key of an aggregating interest that meets what is asked for joins others.
+fn put_asked(
+    texts: &mut BTreeSet<String>,
+    alloc: Global,
+    entry: &InterestEntry,
+    asked: Option<&Key>,
+) -> Result<(), OutOfMemory>
+    ensures joined { OnOk result (map string_bytes texts.new.keys ≡ with_asked (option_copied asked.entry) (map string_bytes texts.old.keys) entry.now) }
+    ensures valid { AreKeys (map string_bytes texts.old.keys) → OnOk result (AreKeys (map string_bytes texts.new.keys)) }
+{
+    if let Some(own) = own_key(entry) {
+        if meets(asked, own.as_str()) {
+            return put_text(texts, alloc, own.as_str());
+        }
+    }
+    Ok(())
+}
+
+// The same of each of the interests that stay.
+fn put_each_asked(
+    texts: &mut BTreeSet<String>,
+    alloc: Global,
+    entries: &BTreeMap<u32, InterestEntry>,
+    but: Option<u32>,
+    asked: Option<&Key>,
+) -> Result<(), OutOfMemory>
+    ensures joined { OnOk result (map string_bytes texts.new.keys ≡ fold (with_own but (option_copied asked.entry)) (map string_bytes texts.old.keys) entries.now.entries) }
+    ensures valid { AreKeys (map string_bytes texts.old.keys) → OnOk result (AreKeys (map string_bytes texts.new.keys)) }
+{
+    for (id, entry) in entries {
+        if is_left(but, *id) {
+            put_asked(texts, alloc, entry, asked)?;
+        }
+    }
+    Ok(())
+}
+
+/// Of the keys of the face's aggregating interests, but for the one under the id, those join others that
+/// meet what is asked for.
+pub fn put_owns_asked(
+    texts: &mut BTreeSet<String>,
+    alloc: Global,
+    interests: &Interests,
+    face: FaceId,
+    but: Option<u32>,
+    asked: Option<&Key>,
+) -> Result<(), OutOfMemory>
+    ensures joined { OnOk result (map string_bytes texts.new.keys ≡ fold (with_own but (option_copied asked.entry)) (map string_bytes texts.old.keys) (interests_of face.0 interests.now)) }
+    ensures valid { AreKeys (map string_bytes texts.old.keys) → OnOk result (AreKeys (map string_bytes texts.new.keys)) }
+{
+    match interests.asked_by(face) {
+        Some(entries) => put_each_asked(texts, alloc, entries, but, asked),
+        None => Ok(()),
     }
 }

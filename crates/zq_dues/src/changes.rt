@@ -12,20 +12,20 @@ ghost use Rattle.zq_hat.specs.Kept.{has_face, keys_of_face, without_face};
 ghost use Rattle.zq_machine.specs.Neighbours.{looked_over};
 ghost use Rattle.zq_machine.specs.State.{Core, change_hat, hat_at};
 ghost use Rattle.zq_own.specs.Own.{change_told};
-ghost use Rattle.zq_dues.specs.Dues.{AreKeys, hats_next};
+ghost use Rattle.zq_dues.specs.Dues.{AreKeys, IsBeside, hats_next};
 ghost use Rattle.zq_dues.specs.Over.{AreSeated, faces_but};
 
 use crate::over::dues_over;
-use crate::sorted::{list_of, put_texts};
-use crate::types::{Coming, DuesList, HatChange};
+use crate::sorted::sorted;
+use crate::types::{DuesList, HatChange};
 use std::alloc::Global;
-use std::collections::{BTreeMap, BTreeSet};
+use std::collections::BTreeMap;
 use zq_hat::hat::Hat;
 use zq_hat::types::{Change, TellingList};
 use zq_interests::interests::Interests;
 use zq_key::items::Items;
 use zq_key::memory::OutOfMemory;
-use zq_key::message::{FaceId, Region, TextList};
+use zq_key::message::{FaceId, Region};
 use zq_key::text::Text;
 use zq_machine::face::OpenFace;
 use zq_own::telling::tell_change;
@@ -40,48 +40,6 @@ pub struct Gathered {
     pub dues: DuesList,
 }
 
-// The key is one on which some region has information.
-fn is_there(hats: &RegionMap<Hat>, key: &str) -> bool {
-    for (_, hat) in hats.iter() {
-        if hat.remote_queryables_of(key).is_some() {
-            return true;
-        }
-    }
-    false
-}
-
-// Those of the keys on which no region has information.
-fn fresh_of(
-    alloc: Global,
-    hats: &RegionMap<Hat>,
-    keys: &BTreeSet<String>,
-) -> Result<TextList, OutOfMemory> {
-    let mut fresh = Items::new(alloc);
-    for key in keys {
-        if !is_there(hats, key.as_str()) {
-            fresh.push(Text::new(alloc, key.as_str())?)?;
-        }
-    }
-    Ok(fresh)
-}
-
-// A hat is to change, and what is heard changes on these keys alone.
-fn coming<'a>(
-    alloc: Global,
-    hats: &RegionMap<Hat>,
-    next: &'a HatChange,
-    keys: &[Text],
-) -> Result<Coming<'a>, OutOfMemory> {
-    let mut texts = BTreeSet::new(alloc);
-    put_texts(&mut texts, alloc, keys)?;
-    let fresh = fresh_of(alloc, hats, &texts)?;
-    Ok(Coming {
-        next,
-        keys: texts,
-        fresh,
-    })
-}
-
 /// What will be due to each open face once the region's hat has changed, on a key, which it changes
 /// alone, and on those of its aggregating interests' keys that it meets. Refused only where memory is
 /// lacking, and then nothing is changed.
@@ -93,16 +51,20 @@ pub fn dues_on(
     region: Region,
     change: Change,
     key: &str,
-) -> Result<DuesList, OutOfMemory> {
+) -> Result<DuesList, OutOfMemory>
+    requires key { IsTrue (is_key key.now) }
+    requires seated { AreSeated faces.now.entries hats.now }
+    ensures { (c : Core) → c.faces ≡ faces.now.entries → change_hat region (changed_by change key.now) hats.now ≡ c.hats → IsBeside c hats.now (key.now ∷ []) → IfOk result (λ ds. ds ≡ looked_over c interests.now (key.now ∷ [])) }
+{
+    let next = HatChange { region, change };
     let mut keys = Items::new(alloc);
     keys.push(Text::new(alloc, key)?)?;
-    let next = HatChange { region, change };
-    dues_on_all(
+    dues_over(
         alloc,
         faces,
         None,
         hats,
-        &next,
+        Some(&next),
         interests,
         keys.as_slice(),
     )
@@ -119,15 +81,18 @@ pub fn dues_on_all(
     next: &HatChange,
     interests: &Interests,
     keys: &[Text],
-) -> Result<DuesList, OutOfMemory> {
-    let coming = coming(alloc, hats, next, keys)?;
-    let keys = list_of(alloc, &coming.keys)?;
+) -> Result<DuesList, OutOfMemory>
+    requires keys { AreKeys keys.now }
+    requires seated { AreSeated faces.now.entries hats.now }
+    ensures { (c : Core) → c.faces ≡ faces_but but faces.now.entries → AllByRecursion (λ key. hats_next next.now key hats.now ≡ c.hats) keys.now → IsBeside c hats.now (fold (insert_key text_cmp) [] keys.now) → IfOk result (λ ds. ds ≡ looked_over c interests.now (fold (insert_key text_cmp) [] keys.now)) }
+{
+    let keys = sorted(alloc, keys)?;
     dues_over(
         alloc,
         faces,
         but,
         hats,
-        Some(&coming),
+        Some(next),
         interests,
         keys.as_slice(),
     )
@@ -147,7 +112,7 @@ pub fn dues_left(
     requires there { hat_at region hats.now ≡ Some hat.now }
     requires face { has_face face.0 hat.now ≡ true }
     requires seated { AreSeated faces.now.entries hats.now }
-    ensures { (c : Core) → c.faces ≡ remove_entry (is_at (nat_cmp face.0)) faces.now.entries → change_hat region (without_face face.0) hats.now ≡ c.hats → IfOk result (λ ds. ds ≡ looked_over c interests.now (fold (insert_key text_cmp) [] (keys_of_face face.0 hat.now))) }
+    ensures { (c : Core) → c.faces ≡ remove_entry (is_at (nat_cmp face.0)) faces.now.entries → change_hat region (without_face face.0) hats.now ≡ c.hats → IsBeside c hats.now (fold (insert_key text_cmp) [] (keys_of_face face.0 hat.now)) → IfOk result (λ ds. ds ≡ looked_over c interests.now (fold (insert_key text_cmp) [] (keys_of_face face.0 hat.now))) }
 {
     let keys = hat.keys_of(face)?;
     let next = HatChange {
@@ -181,7 +146,7 @@ pub fn gather(
     requires key { IsTrue (is_key key.now) }
     requires seated { AreSeated faces.now.entries hats.now }
     ensures told { IfOk result (λ g. g.told ≡ change_told hats.now region change key.now) }
-    ensures dues { (c : Core) → c.faces ≡ faces.now.entries → change_hat region (changed_by change key.now) hats.now ≡ c.hats → IfOk result (λ g. g.dues ≡ looked_over c interests.now (key.now ∷ [])) }
+    ensures dues { (c : Core) → c.faces ≡ faces.now.entries → change_hat region (changed_by change key.now) hats.now ≡ c.hats → IsBeside c hats.now (key.now ∷ []) → IfOk result (λ g. g.dues ≡ looked_over c interests.now (key.now ∷ [])) }
 {
     let mut told = Items::new(alloc);
     tell_change(hats, region, hat, &change, key, &mut told)?;

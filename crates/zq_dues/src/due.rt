@@ -1,19 +1,20 @@
 //! Whether a face listens on a key, and what will be due to it there once a hat has changed.
-ghost use Rattle.std.specs.Prelude.{◌≡◌, ℕ, List, Some, option_copied};
+ghost use Rattle.std.specs.Prelude.{◌≡◌, IfOk, IsTrue, map, option_copied, string_bytes};
+ghost use Rattle.zq_key.specs.Key.{is_key};
 ghost use Rattle.zq_regions.specs.Region.{region_index};
 ghost use Rattle.zq_hat.specs.Changes.{changed_if};
 ghost use Rattle.zq_hat.specs.Fellows.{fellow_info};
 ghost use Rattle.zq_hat.specs.Regions.{is_north, strategy_at};
-ghost use Rattle.zq_machine.specs.Due.{due, heard_as, heard_by, listens, listens_by};
-ghost use Rattle.zq_interests.specs.Interests.{Interests, asks_for};
-ghost use Rattle.zq_machine.specs.State.{Core, at};
+ghost use Rattle.zq_machine.specs.Due.{heard_as, heard_by, listens_by};
 ghost use Rattle.zq_machine.specs.Trees.{own_entry};
-ghost use Rattle.zq_dues.specs.Dues.{due_as, hats_after, hats_next, listens_as, new_info};
+ghost use Rattle.zq_dues.specs.Dues.{AreKeys, due_as, hats_after, hats_next, heard_at, listens_as, meant_as, new_info};
 
 use crate::asking::Asking;
 use crate::folded::folded;
-use crate::types::{Coming, HatChange};
+use crate::sorted::has_text;
+use crate::types::HatChange;
 use std::alloc::Global;
+use std::collections::BTreeSet;
 use zq_hat::hat::Hat;
 use zq_hat::strategy::{is_north, same_region};
 use zq_hat::types::{Change, Strategy};
@@ -40,8 +41,7 @@ pub fn listens_by(hat: &Hat, asks: bool) -> bool
 
 /// Whether an open face, which asks for a key or not, listens on it. No change of a hat changes that.
 pub fn listens(hats: &RegionMap<Hat>, opened: OpenFace, asks: bool) -> bool
-    ensures value { result ≡ listens_as asks hats.now opened }
-    ensures same { (c : Core) (ints : Interests) (face : ℕ) (key : List ℕ) → at face c.faces ≡ Some opened → asks ≡ asks_for face key ints → hats.now ≡ c.hats → result ≡ listens c ints face key }
+    ensures { result ≡ listens_as asks hats.now opened }
 {
     match hat_at(hats, opened.region) {
         Some(hat) => listens_by(hat, asks),
@@ -67,8 +67,8 @@ fn heard_in(
     }
 }
 
-/// What an open face hears on the key by its region.
-pub fn heard_now(
+// What an open face hears on the key by its region.
+fn heard_now(
     hats: &RegionMap<Hat>,
     face: FaceId,
     opened: OpenFace,
@@ -133,54 +133,93 @@ fn heard_next(
     }
 }
 
-/// What an open face will hear on the key by its region, once a hat has changed that changes what is
-/// heard on some keys alone; where none changes, what it hears.
-pub fn heard_at(
+// What an open face will hear on the key by its region, once a hat has changed; where none changes, what
+// it hears.
+fn heard_after(
     hats: &RegionMap<Hat>,
-    coming: Option<&Coming>,
+    next: Option<&HatChange>,
     face: FaceId,
     opened: OpenFace,
     key: &str,
-) -> Option<QueryableInfoType> {
-    match coming {
-        Some(coming) if coming.keys.contains(key) => {
-            heard_next(hats, coming.next, face, opened, key)
-        }
-        _ => heard_now(hats, face, opened, key),
+) -> Option<QueryableInfoType>
+    ensures { result ≡ heard_as face.0 key.now (hats_after (option_copied next.entry) key.now hats.now) opened }
+{
+    match next {
+        Some(next) => heard_next(hats, next, face, opened, key),
+        None => heard_now(hats, face, opened, key),
     }
 }
 
-// What there will be for an open face at the key that it asks for as one entry, or not: the one entry, if
+/// What an open face will hear on the key by its region, once a hat has changed, which changes what is
+/// heard on these keys alone; where none changes, what it hears.
+pub fn heard_at(
+    hats: &RegionMap<Hat>,
+    next: Option<&HatChange>,
+    touched: &BTreeSet<String>,
+    face: FaceId,
+    opened: OpenFace,
+    key: &str,
+) -> Option<QueryableInfoType>
+    ensures { result ≡ heard_at (option_copied next.entry) (map string_bytes touched.now.keys) face.0 opened hats.now key.now }
+{
+    if has_text(touched, key) {
+        heard_after(hats, next, face, opened, key)
+    } else {
+        heard_now(hats, face, opened, key)
+    }
+}
+
+// What there will be for an open face at a key, for which it asks as one entry or not: the one entry, if
 // it does not listen unasked, and else what it will hear there.
 fn meant(
     alloc: Global,
     hats: &RegionMap<Hat>,
-    coming: Option<&Coming>,
+    next: Option<&HatChange>,
+    touched: &BTreeSet<String>,
     face: FaceId,
     opened: OpenFace,
     folds: bool,
     key: &str,
-) -> Result<Option<QueryableInfoType>, OutOfMemory> {
-    if folds && !listens(hats, opened, false) {
-        folded(alloc, hats, coming, face, opened, key)
+) -> Result<Option<QueryableInfoType>, OutOfMemory>
+    requires touched { AreKeys (map string_bytes touched.now.keys) }
+    requires key { IsTrue (is_key key.now) }
+    ensures { IfOk result (λ i. i ≡ meant_as folds (option_copied next.entry) (map string_bytes touched.now.keys) face.0 opened hats.now key.now) }
+{
+    if !listens(hats, opened, false) && folds {
+        folded(alloc, hats, next, touched, face, opened, key)
     } else {
-        Ok(heard_at(hats, coming, face, opened, key))
+        Ok(heard_at(hats, next, touched, face, opened, key))
     }
 }
 
 /// What will be due to an open face on a key of which it asks this, once a hat has changed: what there
-/// will be for it there, if it listens; where none changes, what is due.
+/// will be for it there, if it listens; where none changes, what is due. Refused only where memory is
+/// lacking.
 pub fn due_as(
     alloc: Global,
     hats: &RegionMap<Hat>,
-    coming: Option<&Coming>,
+    next: Option<&HatChange>,
+    touched: &BTreeSet<String>,
     face: FaceId,
     opened: OpenFace,
     asking: Asking,
     key: &str,
-) -> Result<Option<QueryableInfoType>, OutOfMemory> {
+) -> Result<Option<QueryableInfoType>, OutOfMemory>
+    requires touched { AreKeys (map string_bytes touched.now.keys) }
+    requires key { IsTrue (is_key key.now) }
+    ensures { IfOk result (λ i. i ≡ due_as asking (option_copied next.entry) (map string_bytes touched.now.keys) face.0 opened hats.now key.now) }
+{
     if listens(hats, opened, asking.asks) {
-        meant(alloc, hats, coming, face, opened, asking.folds, key)
+        meant(
+            alloc,
+            hats,
+            next,
+            touched,
+            face,
+            opened,
+            asking.folds,
+            key,
+        )
     } else {
         Ok(None)
     }

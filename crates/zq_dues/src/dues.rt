@@ -1,8 +1,15 @@
 //! What will be due to a face on some keys, once a hat has changed.
+ghost use Rattle.std.specs.Prelude.{◌≡◌, ◌++◌, ◌∷◌, [], IfOk, IsTrue, None, OnOk, map, option_copied, string_bytes, false};
+ghost use Rattle.std.specs.List.{flat_map};
+ghost use Rattle.zq_key.specs.Key.{is_key};
+ghost use Rattle.zq_dues.specs.Asking.{asking};
+ghost use Rattle.zq_dues.specs.Dues.{AreKeys, due_as, listed_due, row_as};
+
 use crate::asking::{Asking, ask_of};
 use crate::due::{due_as, listens};
-use crate::types::{Coming, Counted};
+use crate::types::HatChange;
 use std::alloc::Global;
+use std::collections::BTreeSet;
 use zq_hat::hat::Hat;
 use zq_interests::interests::Interests;
 use zq_key::items::Items;
@@ -19,50 +26,69 @@ pub fn put_due(
     dues: &mut KeyDues,
     alloc: Global,
     hats: &RegionMap<Hat>,
-    coming: Option<&Coming>,
+    next: Option<&HatChange>,
+    touched: &BTreeSet<String>,
     face: FaceId,
     opened: OpenFace,
     asking: Asking,
     key: &str,
-) -> Result<(), OutOfMemory> {
-    let due = due_as(alloc, hats, coming, face, opened, asking, key)?;
+) -> Result<(), OutOfMemory>
+    requires touched { AreKeys (map string_bytes touched.now.keys) }
+    requires key { IsTrue (is_key key.now) }
+    ensures { OnOk result (dues.new ≡ dues.old ++ (key.now, due_as asking (option_copied next.entry) (map string_bytes touched.now.keys) face.0 opened hats.now key.now) ∷ []) }
+{
+    let due = due_as(alloc, hats, next, touched, face, opened, asking, key)?;
     dues.push((Text::new(alloc, key)?, due))?;
     Ok(())
 }
 
-// The same if the face will listen.
+// The same of a key that the face asks for by its interests, if it listens there.
 fn list_due(
     dues: &mut KeyDues,
     alloc: Global,
     hats: &RegionMap<Hat>,
-    coming: Option<&Coming>,
+    next: Option<&HatChange>,
+    touched: &BTreeSet<String>,
+    interests: &Interests,
     face: FaceId,
     opened: OpenFace,
-    asking: Asking,
     key: &str,
-) -> Result<(), OutOfMemory> {
-    if !listens(hats, opened, asking.asks) {
-        return Ok(());
+) -> Result<(), OutOfMemory>
+    requires touched { AreKeys (map string_bytes touched.now.keys) }
+    requires key { IsTrue (is_key key.now) }
+    ensures { OnOk result (dues.new ≡ dues.old ++ listed_due (asking None None face.0 interests.now) (option_copied next.entry) (map string_bytes touched.now.keys) face.0 opened hats.now key.now) }
+{
+    let asks = ask_of(interests, face, None, None, key);
+    if listens(hats, opened, asks.asks) {
+        put_due(dues, alloc, hats, next, touched, face, opened, asks, key)
+    } else {
+        Ok(())
     }
-    put_due(dues, alloc, hats, coming, face, opened, asking, key)
 }
 
-/// Those of the keys on which an open face will listen once a hat has changed, with what will be due
-/// to it there; where none changes, as they are. Refused only where memory is lacking.
+/// Those of the keys on which an open face will listen once a hat has changed, which changes what is heard
+/// on the touched keys alone, with what will be due to it there; where none changes, as they are. Refused
+/// only where memory is lacking.
 pub fn dues_of_face(
     alloc: Global,
     hats: &RegionMap<Hat>,
-    coming: Option<&Coming>,
+    next: Option<&HatChange>,
+    touched: &BTreeSet<String>,
     interests: &Interests,
     face: FaceId,
     opened: OpenFace,
     keys: &[Text],
-) -> Result<KeyDues, OutOfMemory> {
+) -> Result<KeyDues, OutOfMemory>
+    requires touched { AreKeys (map string_bytes touched.now.keys) }
+    requires keys { AreKeys keys.now }
+    ensures { IfOk result (λ ds. ds ≡ flat_map (listed_due (asking None None face.0 interests.now) (option_copied next.entry) (map string_bytes touched.now.keys) face.0 opened hats.now) keys.now) }
+{
     let mut dues = Items::new(alloc);
     for key in keys {
         let text = key.as_str();
-        let asks = ask_of(interests, face, Counted::All, text);
-        list_due(&mut dues, alloc, hats, coming, face, opened, asks, text)?;
+        list_due(
+            &mut dues, alloc, hats, next, touched, interests, face, opened, text,
+        )?;
     }
     Ok(dues)
 }
@@ -75,15 +101,21 @@ pub fn dues_on_each(
     face: FaceId,
     opened: OpenFace,
     keys: &[Text],
-) -> Result<KeyDues, OutOfMemory> {
+) -> Result<KeyDues, OutOfMemory>
+    requires { AreKeys keys.now }
+    ensures { IfOk result (λ ds. ds ≡ map (row_as (λ key. record { asks = false; folds = false }) face.0 opened hats.now) keys.now) }
+{
     let none = Asking {
         asks: false,
         folds: false,
     };
+    let touched = BTreeSet::new(alloc);
     let mut dues = Items::new(alloc);
     for key in keys {
         let text = key.as_str();
-        put_due(&mut dues, alloc, hats, None, face, opened, none, text)?;
+        put_due(
+            &mut dues, alloc, hats, None, &touched, face, opened, none, text,
+        )?;
     }
     Ok(dues)
 }

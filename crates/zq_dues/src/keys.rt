@@ -1,13 +1,12 @@
 //! The keys on which regions have information, and so something may be due.
-ghost use Rattle.std.specs.Prelude.{◌≡◌, IfOk, OnOk, filter, fold, map, option_copied, string_bytes, true};
+ghost use Rattle.std.specs.Prelude.{◌≡◌, IfOk, IsTrue, OnOk, filter, fold, map, option_copied, string_bytes, true};
 ghost use Rattle.std.specs.BTreeSet.{insert_key};
 ghost use Rattle.std.specs.List.{AllByRecursion};
 ghost use Rattle.zq_index.specs.Texts.{text_cmp};
-ghost use Rattle.zq_key.specs.Key.{is_key};
+ghost use Rattle.zq_key.specs.Key.{intersects, is_key};
 ghost use Rattle.zq_hat.specs.Trees.{region_keys};
-ghost use Rattle.zq_machine.specs.Due.{due_keys, met_keys};
+ghost use Rattle.zq_machine.specs.Due.{is_met_by};
 ghost use Rattle.zq_interests.specs.Interests.{meets};
-ghost use Rattle.zq_machine.specs.State.{Core};
 ghost use Rattle.zq_dues.specs.Dues.{AreKeys, all_keys};
 
 use crate::sorted::list_of;
@@ -51,7 +50,11 @@ pub(crate) fn met_texts_by(
     alloc: Global,
     hats: &RegionMap<Hat>,
     key: &str,
-) -> Result<BTreeSet<String>, OutOfMemory> {
+) -> Result<BTreeSet<String>, OutOfMemory>
+    requires { IsTrue (is_key key.now) }
+    ensures keys { IfOk result (λ s. map string_bytes s.keys ≡ filter (λ k. intersects k key.now) (all_keys hats.now)) }
+    ensures valid { IfOk result (λ s. AreKeys (map string_bytes s.keys)) }
+{
     let mut keys = BTreeSet::new(alloc);
     for (_, hat) in hats.iter() {
         hat.add_met_keys(&mut keys, key)?;
@@ -60,12 +63,12 @@ pub(crate) fn met_texts_by(
 }
 
 /// Whether a key on which some region has information meets the key.
-pub(crate) fn is_met(
-    alloc: Global,
-    hats: &RegionMap<Hat>,
-    key: &str,
-) -> Result<bool, OutOfMemory> {
-    Ok(!met_texts_by(alloc, hats, key)?.is_empty())
+pub(crate) fn is_met(alloc: Global, hats: &RegionMap<Hat>, key: &str) -> Result<bool, OutOfMemory>
+    requires { IsTrue (is_key key.now) }
+    ensures { IfOk result (λ b. b ≡ is_met_by (all_keys hats.now) key.now) }
+{
+    let met = met_texts_by(alloc, hats, key)?;
+    Ok(!met.is_empty())
 }
 
 /// The keys on which regions have information and that meet what is asked for, each once, in order;
@@ -76,7 +79,6 @@ pub fn met_keys(
     asked: Option<&Key>,
 ) -> Result<TextList, OutOfMemory>
     ensures keys { IfOk result (λ ks. ks ≡ filter (meets (option_copied asked.entry)) (all_keys hats.now)) }
-    ensures same { (c : Core) → hats.now ≡ c.hats → IfOk result (λ ks. ks ≡ met_keys (option_copied asked.entry) c) }
     ensures valid { IfOk result (λ ks. AreKeys ks) }
 {
     let keys = met_texts(alloc, hats, asked)?;

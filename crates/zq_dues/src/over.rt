@@ -1,23 +1,26 @@
 //! What a whole call looks at: at each face that is open after it those of its keys on which the
 //! face listens; at a new face those of all keys.
-ghost use Rattle.std.specs.Prelude.{◌≡◌, ◌++◌, [], ℕ, List, false, IfOk, OnOk, None, option_copied};
+ghost use Rattle.std.specs.Prelude.{◌≡◌, ◌++◌, [], IfOk, OnOk, map, option_copied, string_bytes};
 ghost use Rattle.std.specs.List.{flat_map};
+ghost use Rattle.std.specs.List.Sorted.{IsStrictlySortedBy};
+ghost use Rattle.zq_index.specs.Texts.{text_cmp};
 ghost use Rattle.zq_interests.specs.Interests.{Interests};
 ghost use Rattle.zq_machine.specs.declared.call.Opening.{Opening};
 ghost use Rattle.zq_machine.specs.Deciding.{with_face};
+ghost use Rattle.zq_machine.specs.Due.{widened};
 ghost use Rattle.zq_machine.specs.Neighbours.{looked_at, looked_over, with_dues};
 ghost use Rattle.zq_machine.specs.State.{Core};
 ghost use Rattle.zq_machine.specs.TextCalls.{opening};
-ghost use Rattle.zq_dues.specs.Dues.{AreKeys, all_keys, asks_in};
-ghost use Rattle.zq_dues.specs.Over.{AreAfter, AreSeated, IsOpening, faces_but, is_gone, looked_as, looked_over_as, looked_there, open_but};
+ghost use Rattle.zq_dues.specs.Dues.{AreKeys, IsAfter};
+ghost use Rattle.zq_dues.specs.Over.{AreSeated, IsOpening, dues_there, faces_but, is_gone, looked_there, open_but};
 
-use crate::asking::{is_widened, put_owns};
+use crate::asking::{is_widened, put_owns_met};
 use crate::due::listens;
 use crate::dues::{dues_of_face, dues_on_each};
 use crate::keys::met_keys;
 use crate::listeners::listeners;
-use crate::sorted::{list_of, put_texts};
-use crate::types::{Coming, Counted, DuesList, Wanted};
+use crate::sorted::{list_of, set_of};
+use crate::types::{DuesList, HatChange};
 use std::alloc::Global;
 use std::collections::{BTreeMap, BTreeSet};
 use zq_hat::hat::Hat;
@@ -68,31 +71,40 @@ fn widened(
     interests: &Interests,
     face: FaceId,
     keys: &[Text],
-) -> Result<TextList, OutOfMemory> {
-    let mut texts = BTreeSet::new(alloc);
-    put_texts(&mut texts, alloc, keys)?;
-    let wanted = Wanted::Met(keys);
-    put_owns(&mut texts, alloc, interests, face, Counted::All, wanted)?;
+) -> Result<TextList, OutOfMemory>
+    requires valid { AreKeys keys.now }
+    requires rise { IsStrictlySortedBy text_cmp keys.now }
+    ensures keys { IfOk result (λ ks. ks ≡ widened face.0 interests.now keys.now) }
+    ensures valid { IfOk result (λ ks. AreKeys ks) }
+{
+    let mut texts = set_of(alloc, keys)?;
+    put_owns_met(&mut texts, alloc, interests, face, keys)?;
     list_of(alloc, &texts)
 }
 
-// What will be due to an open face on those of the keys on which it listens, and on those of its
+// What will be due to an open face, on those of the touched keys on which it listens, and on those of its
 // aggregating interests' keys that one of them meets.
 fn dues_there(
     alloc: Global,
     hats: &RegionMap<Hat>,
-    coming: Option<&Coming>,
+    next: Option<&HatChange>,
+    touched: &BTreeSet<String>,
     interests: &Interests,
     face: FaceId,
     opened: OpenFace,
     keys: &[Text],
-) -> Result<KeyDues, OutOfMemory> {
+) -> Result<KeyDues, OutOfMemory>
+    requires same { map string_bytes touched.now.keys ≡ keys.now }
+    requires valid { AreKeys keys.now }
+    requires rise { IsStrictlySortedBy text_cmp keys.now }
+    ensures { IfOk result (λ ds. ds ≡ dues_there interests.now (option_copied next.entry) hats.now keys.now (face.0, opened)) }
+{
     if !is_widened(interests, face, keys) {
-        return dues_of_face(alloc, hats, coming, interests, face, opened, keys);
+        return dues_of_face(alloc, hats, next, touched, interests, face, opened, keys);
     }
     let wide = widened(alloc, interests, face, keys)?;
-    let keys = wide.as_slice();
-    dues_of_face(alloc, hats, coming, interests, face, opened, keys)
+    let all = wide.as_slice();
+    dues_of_face(alloc, hats, next, touched, interests, face, opened, all)
 }
 
 // The face joins the list with what will be due to it, if it is open after the call and anything is.
@@ -102,15 +114,21 @@ fn look_there(
     faces: &BTreeMap<u32, OpenFace>,
     but: Option<FaceId>,
     hats: &RegionMap<Hat>,
-    coming: Option<&Coming>,
+    next: Option<&HatChange>,
+    touched: &BTreeSet<String>,
     interests: &Interests,
     face: FaceId,
     keys: &[Text],
-) -> Result<(), OutOfMemory> {
+) -> Result<(), OutOfMemory>
+    requires same { map string_bytes touched.now.keys ≡ keys.now }
+    requires valid { AreKeys keys.now }
+    requires rise { IsStrictlySortedBy text_cmp keys.now }
+    ensures { OnOk result (list.new ≡ list.old ++ looked_there interests.now (option_copied next.entry) hats.now keys.now but faces.now.entries face.0) }
+{
     let Some(opened) = open_but(faces, but, face) else {
         return Ok(());
     };
-    let dues = dues_there(alloc, hats, coming, interests, face, opened, keys)?;
+    let dues = dues_there(alloc, hats, next, touched, interests, face, opened, keys)?;
     list_face(list, face, dues)
 }
 
@@ -120,43 +138,58 @@ fn look_at(
     faces: &BTreeMap<u32, OpenFace>,
     but: Option<FaceId>,
     hats: &RegionMap<Hat>,
-    coming: Option<&Coming>,
+    next: Option<&HatChange>,
+    touched: &BTreeSet<String>,
     interests: &Interests,
     listeners: &BTreeSet<u32>,
     keys: &[Text],
-) -> Result<DuesList, OutOfMemory> {
+) -> Result<DuesList, OutOfMemory>
+    requires same { map string_bytes touched.now.keys ≡ keys.now }
+    requires valid { AreKeys keys.now }
+    requires rise { IsStrictlySortedBy text_cmp keys.now }
+    ensures { IfOk result (λ ds. ds ≡ flat_map (looked_there interests.now (option_copied next.entry) hats.now keys.now but faces.now.entries) listeners.now.keys) }
+{
     let mut list = Items::new(alloc);
     for number in listeners {
         let face = FaceId(*number);
         look_there(
-            &mut list, alloc, faces, but, hats, coming, interests, face, keys,
+            &mut list, alloc, faces, but, hats, next, touched, interests, face, keys,
         )?;
     }
     Ok(list)
 }
 
-/// What will be due to each open face, once a hat has changed, on those of the keys on which it listens,
-/// and on those of its aggregating interests' keys that one of them meets, in order of their numbers: to
-/// all faces but one that a closing takes away. A face that listens on none is left out. Only those are
-/// looked at that can listen: the faces of regions whose faces listen unasked, and those of which an
-/// interest meets one of the keys. Refused only where memory is lacking, and then nothing is changed.
+/// What will be due to each open face, once a hat has changed, which changes what is heard on these keys
+/// alone: on those of them on which it listens, and on those of its aggregating interests' keys that one
+/// of them meets. In order of the faces' numbers, all but one that a closing takes away; a face that
+/// listens on none is left out. Only those are looked at that can listen: the faces of regions whose faces
+/// listen unasked, and those of which an interest meets one of the keys. Refused only where memory is
+/// lacking, and then nothing is changed.
 pub fn dues_over(
     alloc: Global,
     faces: &BTreeMap<u32, OpenFace>,
     but: Option<FaceId>,
     hats: &RegionMap<Hat>,
-    coming: Option<&Coming>,
+    next: Option<&HatChange>,
     interests: &Interests,
     keys: &[Text],
-) -> Result<DuesList, OutOfMemory> {
+) -> Result<DuesList, OutOfMemory>
+    requires keys { AreKeys keys.now }
+    requires rise { IsStrictlySortedBy text_cmp keys.now }
+    requires seated { AreSeated faces.now.entries hats.now }
+    ensures { (c : Core) → c.faces ≡ faces_but but faces.now.entries → IsAfter c (option_copied next.entry) hats.now keys.now → IfOk result (λ ds. ds ≡ looked_over c interests.now keys.now) }
+{
     if keys.is_empty() {
         return Ok(Items::new(alloc));
     }
     if faces.len() == 0 {
         return Ok(Items::new(alloc));
     }
+    let touched = set_of(alloc, keys)?;
     let listeners = listeners(alloc, hats, interests, keys)?;
-    look_at(alloc, faces, but, hats, coming, interests, &listeners, keys)
+    look_at(
+        alloc, faces, but, hats, next, &touched, interests, &listeners, keys,
+    )
 }
 
 /// What will be due to a face that is about to be opened and asks for nothing yet, on those of all
@@ -169,8 +202,7 @@ pub fn dues_at_opening(
     face: FaceId,
     opened: OpenFace,
 ) -> Result<DuesList, OutOfMemory>
-    ensures dues { IfOk result (λ ds. ds ≡ looked_as (λ n key. false) None hats.now (all_keys hats.now) (face.0, opened)) }
-    ensures same { (c : Core) (ints : Interests) (o : Opening) → IsOpening c ints face.0 opened o hats.now → IfOk result (λ ds. ds ≡ looked_at c (with_face o c) ints (opening o)) }
+    ensures { (c : Core) (ints : Interests) (o : Opening) → IsOpening c ints face.0 opened o hats.now → IfOk result (λ ds. ds ≡ looked_at c (with_face o c) ints (opening o)) }
 {
     if !listens(hats, opened, false) {
         return Ok(Items::new(alloc));

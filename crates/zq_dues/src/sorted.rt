@@ -1,7 +1,7 @@
 //! Keys in order, each once.
 ghost use Rattle.std.specs.Prelude.{◌≡◌, [], IfOk, OnOk, fold, map, string_bytes};
 ghost use Rattle.std.specs.BTreeSet.{insert_key};
-ghost use Rattle.zq_index.specs.Texts.{text_cmp};
+ghost use Rattle.zq_index.specs.Texts.{has_text, text_cmp};
 
 use std::alloc::Global;
 use std::collections::BTreeSet;
@@ -36,7 +36,23 @@ pub fn list_of(alloc: Global, texts: &BTreeSet<String>) -> Result<TextList, OutO
 pub fn sorted(alloc: Global, keys: &[Text]) -> Result<TextList, OutOfMemory>
     ensures { IfOk result (λ ks. ks ≡ fold (insert_key text_cmp) [] keys.now) }
 {
+    let texts = set_of(alloc, keys)?;
+    list_of(alloc, &texts)
+}
+
+/// Whether the texts have this one.
+#[tactic(auto, using(zq_index::proofs::Texts::texts_any))]
+pub(crate) fn has_text(texts: &BTreeSet<String>, text: &str) -> bool
+    ensures { result ≡ has_text text.now (map string_bytes texts.now.keys) }
+{
+    texts.contains(text)
+}
+
+/// The keys as a set.
+pub(crate) fn set_of(alloc: Global, keys: &[Text]) -> Result<BTreeSet<String>, OutOfMemory>
+    ensures { IfOk result (λ s. map string_bytes s.keys ≡ fold (insert_key text_cmp) [] keys.now) }
+{
     let mut texts = BTreeSet::new(alloc);
     put_texts(&mut texts, alloc, keys)?;
-    list_of(alloc, &texts)
+    Ok(texts)
 }

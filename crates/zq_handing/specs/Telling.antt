@@ -11,8 +11,6 @@ use Rattle.zq_message.specs.declared.message.QueryableInfoType.{QueryableInfoTyp
 use Rattle.zq_message.specs.declared.message.WireExpr.{WireExpr}
 use Rattle.zq_hat.specs.declared.types.Telling.{Telling}
 use Rattle.zq_interests.specs.Interests.{Interests, has_keyed}
-use Rattle.zq_told.specs.declared.types.Way.{Way}
-use Rattle.zq_told.specs.declared.types.Way.TheVariants.{Answering, Unasked}
 use Rattle.zq_tables.specs.Naming.{NamingState, change_naming, plain, without_sent}
 use Rattle.zq_machine.specs.Handing.{Handed}
 use Rattle.zq_machine.specs.Messages.{Telling as Said, answered_by, from_hat}
@@ -33,11 +31,6 @@ asked_number takes part wanted = takes || (not (length part == 0) && wanted)
 abbrev pub mark_of : Option InterestId → Option ℕ
 mark_of None = None
 mark_of (Some i) = Some i.id
-
--- how faces are told: in answer to an interest, or unasked
-abbrev pub way_of : Option InterestId → Way
-way_of None = Unasked
-way_of (Some i) = Answering
 
 -- what a hat tells is told in answer to the interest of that id, if of one
 abbrev pub marked_by : Option ℕ → Telling → Said

@@ -155,6 +155,15 @@ pub fn tell_end<K: Keyed>(
     ears: &mut Ears,
     dues: &[FaceDues],
 ) -> Result<ToldAll, OutOfMemory>
+    requires keys { All (λ t. key_of t.key ≡ true) (tell_faces Ending (ears_of ears.old) dues.now).tellings }
+    requires free { lacks_ids Ending (ears_of ears.old) dues.now ≡ false }
+    ensures ok { (c : Core) → c.faces ≡ faces.now.entries → KeyedAs (K.keyed keyed.now) c.interests → IfOk result (λ x. tell_of c (map from_hat (in_order (tell_faces Ending (ears_of ears.old) dues.now).tellings)) names.old ≡ record { handed = x.handed; names = names.new }) }
+    ensures back { IfOk result (λ x. untold x.handed names.new ≡ names.old) }
+    ensures plan { IfOk result (λ x. x.plan ≡ (tell_faces Ending (ears_of ears.old) dues.now).plan) }
+    ensures ready { IfOk result (λ x. IsReady x.plan ears.new) }
+    ensures ears { ears_of ears.new ≡ ears_of ears.old }
+    ensures rooms { AreBare (tell_faces Ending (ears_of ears.old) dues.now).plan ears.old → OnErr result (AreBare (tell_faces Ending (ears_of ears.old) dues.now).plan ears.new) }
+    ensures err { OnErr result (names.new ≡ names.old) }
 {
     let told = Items::new(alloc);
     let none = Items::new(alloc);

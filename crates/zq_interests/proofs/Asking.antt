@@ -25,19 +25,19 @@ use Rattle.zq_interests.specs.Interests.{Asked, Interests, askers, at, interest_
 use Rattle.zq_interests.specs.Kept.{AreKept, Keyed, Shelf, asks_just, has_place, is_kept, is_under, met_at, met_faces, met_places, numbered, with_face}
 use Rattle.zq_interests.proofs.Keeping.{Text, same_is, same_itself}
 
-or_right : (a b : Bool) → b ≡ true → (a || b) ≡ true
+pub or_right : (a b : Bool) → b ≡ true → (a || b) ≡ true
 or_right true b e = refl
 or_right false b e = e
 
-or_left : (a b : Bool) → a ≡ true → (a || b) ≡ true
+pub or_left : (a b : Bool) → a ≡ true → (a || b) ≡ true
 or_left a b e = ap (λ x. x || b) e
 
-both_ways : (a b : Bool) → (a ≡ true → b ≡ true) → (b ≡ true → a ≡ true) → a ≡ b
+pub both_ways : (a b : Bool) → (a ≡ true → b ≡ true) → (b ≡ true → a ≡ true) → a ≡ b
 both_ways true b forth back = sym (forth refl)
 both_ways false true forth back = back refl
 both_ways false false forth back = refl
 
-any_joined : {X : Type 0} (test : X → Bool) (xs ys : List X) → list_any test (xs ++ ys) ≡ (list_any test xs || list_any test ys)
+pub any_joined : {X : Type 0} (test : X → Bool) (xs ys : List X) → list_any test (xs ++ ys) ≡ (list_any test xs || list_any test ys)
 any_joined test [] ys = refl
 any_joined test (x ∷ xs) ys = ap (λ b. test x || b) (any_joined test xs ys) ∙ sym (or_assoc (test x) (list_any test xs) (list_any test ys))
 
@@ -112,10 +112,10 @@ module _ (key : Text) (p : Place) where
       by true is h = record { has = h; met = is }
       by false is h = absurd (false≢true h)
 
-  first_under : (e : Text × List Place) (es : Keyed) → has_place p e.1 ≡ true → is_under e.0 p (e ∷ es) ≡ true
+  pub first_under : (e : Text × List Place) (es : Keyed) → has_place p e.1 ≡ true → is_under e.0 p (e ∷ es) ≡ true
   first_under e es h = ap (λ b. has_place p (option_map_or (λ (ps : List Place). ps) (cond b (Some e.1) (at_text e.0 es)) [])) (at_itself text_total text_exact e.0) ∙ h
 
-  later_under : (t : Text) (e : Text × List Place) (es : Keyed) → AllByRecursion (λ y. text_cmp e.0 y ≡ Less) (keys_of es) → is_under t p es ≡ true → is_under t p (e ∷ es) ≡ true
+  pub later_under : (t : Text) (e : Text × List Place) (es : Keyed) → AllByRecursion (λ y. text_cmp e.0 y ≡ Less) (keys_of es) → is_under t p es ≡ true → is_under t p (e ∷ es) ≡ true
   later_under t e es above h = by (is_at (text_cmp t) e.0) refl
     where
       by : (b : Bool) → is_at (text_cmp t) e.0 ≡ b → has_place p (option_map_or (λ (ps : List Place). ps) (cond b (Some e.1) (at_text t es)) []) ≡ true

@@ -4,3 +4,4 @@ pub mod Keeping
 pub mod Under
 pub mod Walking
 pub mod Writing
+pub mod Folders

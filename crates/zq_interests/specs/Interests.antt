@@ -1,5 +1,5 @@
 -- What faces ask to hear.
-use Rattle.std.specs.Prelude.{ℕ, Bool, true, false, not, ◌&&◌, List, [], map, filter, Option, Some, None, if◌then◌else◌}
+use Rattle.std.specs.Prelude.{ℕ, ◌≡◌, ◌==◌, Bool, true, false, not, ◌&&◌, List, [], map, filter, Option, Some, None, if◌then◌else◌}
 use Rattle.std.specs.BTreeMap.{insert_entry, is_at}
 use Rattle.std.specs.List.{filter_map, list_any}
 use Rattle.std.specs.Map.{lookup, remove_entry, set_value}
@@ -8,6 +8,7 @@ use Rattle.std.specs.Ordering.{nat_cmp}
 use Rattle.zq_message.specs.declared.message.FaceId.{FaceId}
 use Rattle.zq_key.specs.Key.{intersects}
 use Rattle.zq_index.specs.Texts.{text_cmp}
+use Rattle.zq_interests.specs.declared.types.FaceKey.{FaceKey}
 use Rattle.zq_interests.specs.declared.types.InterestEntry.{InterestEntry}
 
 -- the interests of one face, by id
@@ -108,3 +109,11 @@ is_asker key f = list_any (is_met key) f.1
 -- the faces with an interest that meets the key, in order, each once
 abbrev pub askers : List ℕ → Interests → List FaceId
 askers key ints = map (λ f. record { 0 = f.0 }) (filter (is_asker key) ints)
+
+-- it is the face, with the key
+abbrev pub is_folder : ℕ → List ℕ → FaceKey → Bool
+is_folder face key f = (f.face.0 == face) && is_at (text_cmp key) f.key
+
+-- these are the keys of aggregating interests that the key meets, each with its face
+abbrev pub AreFolders : List ℕ → Interests → List FaceKey → Type 0
+AreFolders key ints fs = (face : ℕ) (own : List ℕ) → list_any (is_folder face own) fs ≡ (intersects own key && list_any (is_at (text_cmp own)) (own_keys face ints))

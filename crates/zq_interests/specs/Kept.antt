@@ -1,5 +1,5 @@
 -- Where interests are kept by what they ask for: those in all keys, and those in a key by its text.
-use Rattle.std.specs.Prelude.{ℕ, ◌≡◌, Bool, true, false, not, ◌&&◌, List, [], ◌++◌, fold, Option, Some, None, if◌then◌else◌}
+use Rattle.std.specs.Prelude.{ℕ, ◌≡◌, Bool, true, false, not, ◌&&◌, List, [], ◌∷◌, ◌++◌, filter, fold, map, Option, Some, None, if◌then◌else◌}
 use Rattle.std.specs.BTreeMap.{is_at}
 use Rattle.std.specs.BTreeSet.{insert_key}
 use Rattle.std.specs.List.{flat_map, list_any}
@@ -11,6 +11,7 @@ use Rattle.zq_message.specs.declared.message.FaceId.{FaceId}
 use Rattle.zq_key.specs.Key.{intersects, is_key}
 use Rattle.zq_index.specs.Holders.{AreListed, Place, place_cmp}
 use Rattle.zq_index.specs.Texts.{Lists, at_text, text_cmp}
+use Rattle.zq_interests.specs.declared.types.FaceKey.{FaceKey}
 use Rattle.zq_interests.specs.declared.types.InterestEntry.{InterestEntry}
 use Rattle.zq_interests.specs.Interests.{Interests, at, interest_at, same_asked}
 
@@ -105,3 +106,27 @@ met_faces key s = fold with_face [] (met_places key s)
 -- the face of the number
 abbrev pub numbered : ℕ → FaceId
 numbered n = record { 0 = n }
+
+-- a place, and the text under which it is
+abbrev pub Spot : Type 0
+Spot = Place × List ℕ
+
+-- the places under a key, if it meets the key, each with it
+abbrev pub spots_at : List ℕ → List ℕ × List Place → List Spot
+spots_at key e = if intersects e.0 key then map (λ p. (p, e.0)) e.1 else []
+
+-- a spot joins others
+abbrev pub with_spot : List Spot → Spot → List Spot
+with_spot spots s = spots ++ s ∷ []
+
+-- the interest at the spot is aggregating
+abbrev pub is_folding : Interests → Spot → Bool
+is_folding ints s = option_map_or (λ (i : InterestEntry). i.aggregate) (interest_at s.0.0 s.0.1 ints) false
+
+-- the face of a spot, and its text
+abbrev pub folder_at : Spot → FaceKey
+folder_at s = record { face = record { 0 = s.0.0 }; key = s.1 }
+
+-- the keys of aggregating interests that meet the key, each with its face
+abbrev pub folders_in : List ℕ → Interests → Shelf → List FaceKey
+folders_in key ints s = map folder_at (filter (is_folding ints) (flat_map (spots_at key) s.keyed))

@@ -2,15 +2,15 @@
 ghost use Rattle.std.specs.Prelude.{◌≡◌, [], OnOk, OnErr, IfOk, IsTrue};
 ghost use Rattle.std.specs.Option.{option_copied, option_map};
 ghost use Rattle.zq_key.specs.Key.{is_key};
-ghost use Rattle.zq_interests.specs.Interests.{asks_another, asks_for, askers, at, closed_face, has_keyed, interest_at, with_interest, without_interest};
+ghost use Rattle.zq_interests.specs.Interests.{AreFolders, asks_another, asks_for, askers, at, closed_face, has_keyed, interest_at, with_interest, without_interest};
 
 use crate::faces::{
     AskedMap, face_asks, face_asks_another, face_asks_besides, face_keyed, face_keyed_with,
     get_interest,
 };
-use crate::kept::{close_kept, end_kept, kept_askers, put_kept};
+use crate::kept::{close_kept, end_kept, kept_askers, kept_folders, put_kept};
 use crate::shelf::Shelf;
-use crate::types::{FaceList, InterestEntry};
+use crate::types::{FaceList, FolderList, InterestEntry};
 use std::alloc::Global;
 use std::collections::BTreeMap;
 use std::marker::Model;
@@ -152,5 +152,15 @@ impl Interests {
         ensures { IfOk result (λ l. l ≡ askers key.now self.now) }
     {
         kept_askers(&self.faces, &self.shelf, alloc, key)
+    }
+
+    /// The keys of aggregating interests that the key meets, each with its face; a face that has several
+    /// interests in one key may have it several times. They are found by the texts of keys, as those who
+    /// ask are.
+    pub fn folders(&self, alloc: Global, key: &str) -> Result<FolderList, OutOfMemory>
+        requires { IsTrue (is_key key.now) }
+        ensures { IfOk result (λ l. AreFolders key.now self.now l) }
+    {
+        kept_folders(&self.faces, &self.shelf, alloc, key)
     }
 }

@@ -1,13 +1,13 @@
 //! The interests of all faces, and where they are kept.
-ghost use Rattle.std.specs.Prelude.{◌≡◌, ◌&&◌, not, map, ℕ, List, Option, OnOk, OnErr, IfOk, IsTrue};
+ghost use Rattle.std.specs.Prelude.{◌≡◌, ◌&&◌, not, filter, map, ℕ, List, Option, OnOk, OnErr, IfOk, IsTrue};
 ghost use Rattle.zq_key.specs.Key.{is_key};
 ghost use Rattle.zq_index.specs.Holders.{Place};
-ghost use Rattle.zq_interests.specs.Interests.{askers, closed_face, with_interest, without_interest};
-ghost use Rattle.zq_interests.specs.Kept.{AreKept, is_kept, is_left, numbered};
+ghost use Rattle.zq_interests.specs.Interests.{AreFolders, askers, closed_face, with_interest, without_interest};
+ghost use Rattle.zq_interests.specs.Kept.{AreKept, folder_at, is_folding, is_kept, is_left, numbered};
 
-use crate::faces::{AskedMap, close_face, end_interest, put_interest};
+use crate::faces::{AskedMap, close_face, end_interest, get_interest, put_interest};
 use crate::shelf::{Shelf, same_asked};
-use crate::types::{FaceList, InterestEntry};
+use crate::types::{FaceKey, FaceList, FolderList, InterestEntry};
 use std::alloc::Global;
 use std::collections::BTreeSet;
 use zq_index::holders::FacePlace;
@@ -15,6 +15,7 @@ use zq_key::Key;
 use zq_key::items::Items;
 use zq_key::memory::OutOfMemory;
 use zq_key::message::FaceId;
+use zq_key::text::Text;
 
 /// What is asked for, once more.
 fn copy_asked(alloc: Global, asked: &Option<Key>) -> Result<Option<Key>, OutOfMemory>
@@ -118,4 +119,50 @@ pub(crate) fn kept_askers(
 {
     let numbers = shelf.met_faces(alloc, key)?;
     Ok(list_faces(alloc, &numbers)?)
+}
+
+/// Whether the interest at the place is aggregating.
+fn is_folding(faces: &AskedMap, place: FacePlace, key: &str) -> bool
+    ensures { result ≡ is_folding faces.now.entries (place, key.now) }
+{
+    match get_interest(faces, place.0, place.1) {
+        Some(entry) => entry.aggregate,
+        None => false,
+    }
+}
+
+/// Those of the spots at which interests are aggregating, as faces with keys.
+fn list_folders(
+    alloc: Global,
+    faces: &AskedMap,
+    spots: &[(FacePlace, Text)],
+) -> Result<FolderList, OutOfMemory>
+    ensures { IfOk result (λ l. l ≡ map folder_at (filter (is_folding faces.now.entries) spots.now)) }
+{
+    let mut folders = Items::new(alloc);
+    for spot in spots {
+        let (place, text) = spot;
+        if is_folding(faces, *place, text.as_str()) {
+            let face = FaceId(place.0);
+            let key = text.copy(alloc)?;
+            folders.push(FaceKey { face, key })?;
+        }
+    }
+    Ok(folders)
+}
+
+/// The keys of aggregating interests that meet the key, each with its face, found by where interests are
+/// kept.
+pub(crate) fn kept_folders(
+    faces: &AskedMap,
+    shelf: &Shelf,
+    alloc: Global,
+    key: &str,
+) -> Result<FolderList, OutOfMemory>
+    requires key { IsTrue (is_key key.now) }
+    requires kept { AreKept faces.now.entries shelf.now }
+    ensures { IfOk result (λ l. AreFolders key.now faces.now.entries l) }
+{
+    let spots = shelf.met_spots(alloc, key)?;
+    list_folders(alloc, faces, spots.as_slice())
 }

@@ -1,14 +1,16 @@
 //! Places of interests: faces' numbers, and ids there.
-ghost use Rattle.std.specs.Prelude.{◌≡◌, ◌==◌, ◌||◌, ◌&&◌, [], not, length, fold, OnOk, OnErr};
+ghost use Rattle.std.specs.Prelude.{◌≡◌, ◌==◌, ◌||◌, ◌&&◌, [], not, length, fold, map, OnOk, OnErr};
 ghost use Rattle.std.specs.BTreeMap.{is_at};
 ghost use Rattle.zq_index.specs.Holders.{Place, place_cmp};
-ghost use Rattle.zq_interests.specs.Kept.{has_place, with_face};
+ghost use Rattle.zq_interests.specs.Kept.{has_place, with_face, with_spot};
 
 use std::alloc::Global;
 use std::collections::BTreeSet;
 use std::marker::Model;
 use zq_index::holders::FacePlace;
+use zq_key::items::Items;
 use zq_key::memory::OutOfMemory;
+use zq_key::text::Text;
 
 /// Places, each once.
 #[derive(Drop)]
@@ -31,6 +33,24 @@ fn add_faces(found: &mut BTreeSet<u32>, places: &BTreeSet<FacePlace>) -> Result<
 {
     for place in places {
         found.insert(place.0)?;
+    }
+    Ok(())
+}
+
+/// Places, each with the text under which it is.
+pub(crate) type SpotList = Items<(FacePlace, Text)>;
+
+/// Places join others, each with the text.
+fn add_spots(
+    found: &mut SpotList,
+    alloc: Global,
+    key: &str,
+    places: &BTreeSet<FacePlace>,
+) -> Result<(), OutOfMemory>
+    ensures { OnOk result (found.new ≡ fold with_spot found.old (map (λ (p : Place). (p, key.now)) places.now.keys)) }
+{
+    for place in places {
+        found.push((*place, Text::new(alloc, key)?))?;
     }
     Ok(())
 }
@@ -68,5 +88,17 @@ impl PlaceSet {
         ensures { OnOk result (found.new.keys ≡ fold with_face found.old.keys self.now) }
     {
         add_faces(found, &self.places)
+    }
+
+    /// The places join others, each with the text.
+    pub(crate) fn add_spots(
+        &self,
+        found: &mut SpotList,
+        alloc: Global,
+        key: &str,
+    ) -> Result<(), OutOfMemory>
+        ensures { OnOk result (found.new ≡ fold with_spot found.old (map (λ (p : Place). (p, key.now)) self.now)) }
+    {
+        add_spots(found, alloc, key, &self.places)
     }
 }

@@ -7,11 +7,11 @@ ghost use Rattle.zq_key.specs.Key.{is_key};
 ghost use Rattle.zq_index.specs.Holders.{Place};
 ghost use Rattle.zq_index.specs.Texts.{text_cmp};
 ghost use Rattle.zq_interests.specs.Interests.{same_asked};
-ghost use Rattle.zq_interests.specs.Kept.{is_kept, is_spot, met_faces};
+ghost use Rattle.zq_interests.specs.Kept.{is_kept, is_spot, met_faces, spots_at, with_spot};
 
 use crate::keyed::{KeyedMap, put_keyed, take_keyed};
-use crate::places::PlaceSet;
-use crate::walk::add_met_faces;
+use crate::places::{PlaceSet, SpotList};
+use crate::walk::{add_met_faces, add_met_spots};
 use std::alloc::Global;
 use std::cmp::Ordering;
 use std::collections::{BTreeMap, BTreeSet};
@@ -19,6 +19,7 @@ use std::marker::Model;
 use zq_index::holders::FacePlace;
 use zq_index::text_set::{KeyLists, compare_texts};
 use zq_key::Key;
+use zq_key::items::Items;
 use zq_key::memory::OutOfMemory;
 
 /// The places of interests in all keys, and of those in a key by its text.
@@ -103,6 +104,17 @@ impl Shelf {
         let mut found = BTreeSet::new(alloc);
         self.all.add_faces(&mut found)?;
         add_met_faces(&mut found, alloc, &self.keyed, &self.lists, key)?;
+        Ok(found)
+    }
+
+    /// The places of those who ask for what meets the key, each with its text.
+    pub(crate) fn met_spots(&self, alloc: Global, key: &str) -> Result<SpotList, OutOfMemory>
+        requires { IsTrue (is_key key.now) }
+        ensures spots { IfOk result (λ l. l ≡ fold with_spot [] (flat_map (spots_at key.now) self.now.keyed)) }
+        ensures ordered { IfOk result (λ l. IsStrictlySortedBy text_cmp (keys_of self.now.keyed)) }
+    {
+        let mut found = Items::new(alloc);
+        add_met_spots(&mut found, alloc, &self.keyed, &self.lists, key)?;
         Ok(found)
     }
 }

@@ -2,6 +2,7 @@
 use zq_key::Key;
 use zq_key::items::Items;
 use zq_key::message::FaceId;
+use zq_key::text::Text;
 
 /// An interest of a face in the queryables of others: all, or those that meet a key. Numbers may be
 /// declared for keys, or not; an aggregating one is to hear of its own key alone, as one entry that stands
@@ -15,3 +16,13 @@ pub struct InterestEntry {
 
 /// Faces, in order of their numbers.
 pub type FaceList = Items<FaceId>;
+
+/// A face, and the key of one of its aggregating interests.
+#[derive(Debug, Drop)]
+pub struct FaceKey {
+    pub face: FaceId,
+    pub key: Text,
+}
+
+/// Faces, each with the key of one of its aggregating interests; the same may stand twice.
+pub type FolderList = Items<FaceKey>;

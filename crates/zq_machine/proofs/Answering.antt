@@ -248,6 +248,11 @@ module _ (s : State) (face : FaceId) (id : ℕ) (h : refusal_of s.core (unhearin
             by rows
             ∙ sym (told_here Ending s.core.ears face.0 own.ear own.there (with_dues face.0 rows) (alone_rises face.0 rows) ∙ ap (told_in Ending face.0 own.ear) (keys_alone face.0 rows))
 
+  abbrev Ends : ℕ → Heard → ℕ → Bool → Type 0
+  Ends n heard last b =
+      Follows left n (cond b (filter (is_due_at n left) (fold (if_told with_told n) heard (told_of s.core (unhearing face id)))) (fold (if_told with_told n) heard (told_of s.core (unhearing face id))))
+      (fold (if_told greatest_with n) last (told_of s.core (unhearing face id)))
+
   pub unhearing_steps : (first : ℕ) (heards : ℕ → Heard) (lasts : ℕ → ℕ) → ((n : ℕ) → IsNear n s.core → Follows s.core n (heards n) (lasts n)) → Steps first s (unhearing face id) left heards lasts
   unhearing_steps first heards lasts kept = record {
     ears = λ low e. record {
@@ -266,11 +271,6 @@ module _ (s : State) (face : FaceId) (id : ℕ) (h : refusal_of s.core (unhearin
               let here : n ≡ face.0 = one_number n face.0 (number_test n face.0 ∙ is) in
               (_, subst (λ (y : ℕ × Ears). Hears left less y.1 y.0 (heard_ended s.core less s.core.ears face.0 was.0 x.0)) (λ m. (sym here m, sym ears_left m)) (onto s.core left less (ears_ended s.core less s.core.ears face.0 was.0) face.0 _ (λ key. refl) (ending.own x.0 (subst (λ m. Hears s.core s.core.interests s.core.ears m x.0) here x.1))))
           by false is = (_, subst (λ y. Hears left less y n x.0) (sym ears_left) (onto s.core left less (ears_ended s.core less s.core.ears face.0 was.0) n x.0 (λ key. refl) (ending.others n (apart n face.0 is) x.0 x.1)))
-
-      abbrev Ends : ℕ → Heard → ℕ → Bool → Type 0
-      Ends n heard last b =
-          Follows left n (cond b (filter (is_due_at n left) (fold (if_told with_told n) heard (told_of s.core (unhearing face id)))) (fold (if_told with_told n) heard (told_of s.core (unhearing face id))))
-          (fold (if_told greatest_with n) last (told_of s.core (unhearing face id)))
 
       follows_end : (n : ℕ) (heard : Heard) (last : ℕ) → Follows s.core n heard last → Ends n heard last (face.0 == n)
       follows_end n heard last f = by (face.0 == n) refl

@@ -23,8 +23,8 @@ use Rattle.zq_tables.specs.declared.said.Said.TheVariants as said
 use Rattle.zq_machine.specs.Deciding.{accepted, announced_by, changed, deadline, ears_of, interests_for, kept, lacks_told, retracted_by, seat, told_of, with_open, with_queries}
 use Rattle.zq_machine.specs.Messages.{Telling, answered_by, answering, from_hat}
 use Rattle.zq_machine.specs.Moved.{move_asked, move_core, move_interest, move_interests, move_said, move_telling, move_text}
-use Rattle.zq_machine.specs.Neighbours.{answer_lacks, answer_told, due_told, ears_asked, ears_ended, marked, near_after, near_lack, near_told}
-use Rattle.zq_machine.specs.Selecting.{asked_by}
+use Rattle.zq_machine.specs.Neighbours.{answer_lacks, answer_told, due_told, ears_asked, ears_ended, ended_told, marked, near_after, near_lack, near_told}
+use Rattle.zq_machine.specs.Selecting.{Manner, asked_by}
 use Rattle.zq_machine.specs.State.{Core, joined}
 use Rattle.zq_machine.specs.TextCalls.{TextCall, opening, closing, naming, unnaming, declaring, withdrawing, asking, replying, ending, reporting, passing, listing, finalizing, announcing, retracting, networking, tabling, hearing, unhearing}
 use Rattle.zq_machine.specs.Trees.{all_own_told, touched, tree_told}

@@ -176,7 +176,7 @@ less_some c face key (Some h) now was one ones more folds some = by (strategy_at
 
 -- the asker's own number, or another's
 apart_by : (face asker : ℕ) (b : Bool) → ((face == asker) && b) ≡ false → is_at (nat_cmp asker) face ≡ true → b ≡ false
-apart_by face asker b off is = sym (ap (λ x. x && b) (number_test face asker ∙ ap (λ n. is_at (nat_cmp n) asker) (sym (one_number asker face is)) ∙ ap (is_at (nat_cmp asker)) (one_number asker face is) ∙ is)) ∙ off
+apart_by face asker b off is = sym (ap (λ x. x && b) (sym (number_test face asker) ∙ ap (λ n. is_at (nat_cmp n) asker) (sym (one_number asker face is)) ∙ ap (is_at (nat_cmp asker)) (one_number asker face is) ∙ is)) ∙ off
 
 -- ---- an interest comes, in the place of none or of one that asks for the same key
 module _ (c : Core) (ints : Interests) (asker id : ℕ) (asked : InterestEntry) (same : (old : InterestEntry) → at id (interests_of asker ints) ≡ Some old → old.key ≡ asked.key) (face : ℕ) (key : List ℕ) where

@@ -32,7 +32,7 @@ use Rattle.zq_machine.specs.declared.face.OpenFace.{OpenFace}
 use Rattle.zq_machine.specs.Configs.{Settings}
 use Rattle.zq_machine.specs.Machine.{state_after}
 use Rattle.zq_machine.specs.Due.{plain_due, heard, heard_as, heard_by, heard_in, listens, listens_by, listens_in}
-use Rattle.zq_interests.specs.Interests.{Interests, asks_for, interests_of, wants}
+use Rattle.zq_interests.specs.Interests.{Interests, asked_for, asks_for, interests_of, wants}
 use Rattle.zq_machine.specs.State.{Core, at, hat_at, hat_of, is_routing, opening_state}
 use Rattle.zq_machine.specs.Trees.{own_entry}
 use Rattle.zq_machine.proofs.Agreed.{InOrder, run_in_order}
@@ -208,11 +208,11 @@ module _ (c : Core) (ints : Interests) (face : ℕ) (key : List ℕ) (h : HatSta
   any_at id asked on (e ∷ es) there = by (is_at (nat_cmp id) e.0) there (any_at id asked on es)
     where
       by : (b : Bool) → cond b (Some e.1) (at_id id es) ≡ Some asked → (at_id id es ≡ Some asked → list_any (wants key) es ≡ true) → (wants key e || list_any (wants key) es) ≡ true
-      by true found more = ap (λ b. b || list_any (wants key) es) (ap (λ (i : InterestEntry). option_map_or (λ k. intersects k key) i.key true) (same_Some _ _ found) ∙ on)
+      by true found more = ap (λ b. b || list_any (wants key) es) (ap (λ (i : InterestEntry). asked_for i key) (same_Some _ _ found) ∙ on)
       by false found more = or_right (wants key e) (list_any (wants key) es) (more found)
 
-  -- a face listens that has an interest without a key, or with one that meets the key
-  pub asking_listens : is_routing h ≡ false → (id : ℕ) (asked : InterestEntry) → at id (interests_of face ints) ≡ Some asked → option_map_or (λ k. intersects k key) asked.key true ≡ true → listens c ints face key ≡ true
+  -- a face listens on a key for which one of its interests asks
+  pub asking_listens : is_routing h ≡ false → (id : ℕ) (asked : InterestEntry) → at id (interests_of face ints) ≡ Some asked → asked_for asked key ≡ true → listens c ints face key ≡ true
   asking_listens routed id asked there on = listening (by (strategy_at h) (is_north h.region) (asks_for face key ints) routed (any_at id asked on (interests_of face ints) there))
     where
       by : (k : Strategy) (north asks : Bool) → in_routers k true false ≡ false → asks ≡ true → listens_by k north asks ≡ true

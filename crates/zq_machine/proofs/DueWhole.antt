@@ -14,7 +14,7 @@ use Rattle.zq_index.specs.Texts.{text_cmp}
 use Rattle.zq_hat.specs.declared.types.Strategy.{Strategy}
 use Rattle.zq_hat.specs.declared.types.Strategy.TheVariants as strategy
 use Rattle.zq_hat.specs.Fellows.{fellow_info}
-use Rattle.zq_hat.specs.Regions.{is_north, strategy_at}
+use Rattle.zq_hat.specs.Regions.{in_routers, is_north, strategy_at}
 use Rattle.zq_hat.specs.State.{HatState}
 use Rattle.zq_interests.specs.declared.types.InterestEntry.{InterestEntry}
 use Rattle.zq_interests.specs.Interests.{Interests, asks_folded, asks_for, interests_of, own_keys, wants, wants_folded}
@@ -25,21 +25,22 @@ use Rattle.zq_machine.specs.declared.face.OpenFace.{OpenFace}
 use Rattle.zq_machine.specs.Calls.{declares}
 use Rattle.zq_machine.specs.Configs.{Settings}
 use Rattle.zq_machine.specs.Deciding.{accepted, refusal_of}
-use Rattle.zq_machine.specs.Due.{due, due_keys, due_touched, face_keys, folded, folded_over, folds, folds_in, heard, heard_as, heard_by, heard_in, heard_touched, is_due_touched, is_met_by, listens, listens_by, listens_in, plain_due, widened}
+use Rattle.zq_machine.specs.Due.{due, due_keys, due_touched, face_keys, folded, folded_over, folds, folds_in, heard, heard_as, heard_by, heard_in, heard_touched, is_due_touched, is_heard_touched, is_met_by, listens, listens_by, listens_in, meant, plain_due, widened}
 use Rattle.zq_machine.specs.Machine.{after, state_after}
-use Rattle.zq_machine.specs.State.{Core, State, at, first_hats, hat_at, hat_of, is_open, is_region, opening_state}
+use Rattle.zq_machine.specs.State.{Core, State, at, first_hats, hat_at, hat_of, is_open, is_region, is_routing, opening_state}
 use Rattle.zq_machine.specs.TextCalls.{TextCall, opening, read}
 use Rattle.zq_machine.specs.Trees.{own_entry}
 use Rattle.zq_machine.proofs.Agreed.{InOrder, next_absent, run_in_order}
 use Rattle.zq_machine.proofs.Changing.{itself}
-use Rattle.zq_machine.proofs.DueKeys.{Absent, among, due_rise, is_among, keys_due as plain_keys, nothing_due}
+use Rattle.zq_machine.proofs.DueAlone.{south_unasked as plain_south}
+use Rattle.zq_machine.proofs.DueKeys.{among, due_rise, is_among, keys_due as plain_keys}
 use Rattle.zq_machine.proofs.DueEnds.{closed_undue as plain_closed}
 use Rattle.zq_machine.proofs.DueLess.{accepted_less as plain_less, brings, faces_kept, listens_kept, read_brings}
 use Rattle.zq_machine.proofs.Dues.{due_kept as plain_kept}
 use Rattle.zq_machine.proofs.Folded.{adds, folded_same, some_folded}
 use Rattle.zq_machine.proofs.Granted.{by_granted}
 use Rattle.zq_machine.proofs.Hats.{accepted_hats, bare}
-use Rattle.zq_machine.proofs.Widening.{any_passes, both_true, folded_for, in_keys, in_met, off_keys, off_met, passing}
+use Rattle.zq_machine.proofs.Widening.{among_wide, any_passes, both_true, folded_for, folded_own, in_keys, in_met, off_keys, off_met, passing}
 
 abbrev Info : Type 0
 Info = Option QueryableInfoType
@@ -194,6 +195,28 @@ alone_plain c ints face key none = due_is c ints face key ∙ by (folds c ints f
     by : (b : Bool) → folds c ints face key ≡ b → cond b (folded c face key) (plain_due c ints face key) ≡ plain_due c ints face key
     by true f = absurd (true≢false (sym (folds_asks c ints face key f) ∙ none))
     by false f = refl
+
+-- ---- who is due nothing
+pub south_unasked : (c : Core) (ints : Interests) (face : ℕ) (key : List ℕ) (h : HatState) → hat_of face c ≡ Some h → is_north h.region ≡ false → interests_of face ints ≡ [] → due c ints face key ≡ None
+south_unasked c ints face key h here out none = alone_plain c ints face key (ap (list_any (wants_folded key)) none) ∙ plain_south c ints face key h here out none
+
+pub routers_undue : (c : Core) (ints : Interests) (face : ℕ) (key : List ℕ) (h : HatState) → hat_of face c ≡ Some h → is_routing h ≡ true → due c ints face key ≡ None
+routers_undue c ints face key h here routed =
+    ap (λ b. cond b (meant c ints face key) None) (ap (λ (o : Option HatState). option_map_or (listens_in ints face key) o false) here ∙ by (strategy_at h) (is_north h.region) (asks_for face key ints) routed)
+  where
+    by : (k : Strategy) (north asks : Bool) → in_routers k true false ≡ true → listens_by k north asks ≡ false
+    by strategy.Broker north asks r = absurd (false≢true r)
+    by strategy.Client north asks r = absurd (false≢true r)
+    by strategy.Peer north asks r = absurd (false≢true r)
+    by strategy.Router north asks r = refl
+
+-- ---- the keys that a call touches
+pub touched_widely : (c : Core) (ints : Interests) (t : TextCall) (face : ℕ) (key : List ℕ)
+    → is_due_touched c ints t face key ≡ ((list_any (λ k. intersects k key) (heard_touched c t face) && asks_folded face key ints) || is_heard_touched c t face key)
+touched_widely c ints t face key =
+    among key (due_touched c ints t face)
+    ∙ among_wide face ints (heard_touched c t face) key
+    ∙ (λ j. (is_met_by (heard_touched c t face) key && sym (folded_own face key ints) j) || sym (among key (heard_touched c t face)) j)
 
 -- ---- what stays where the same is heard
 -- a face that hears the same on all keys that meet the key has the same entry

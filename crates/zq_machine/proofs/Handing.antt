@@ -35,7 +35,7 @@ use Rattle.zq_machine.specs.Machine.{answer, step}
 use Rattle.zq_machine.specs.Messages.{TextMessage, text_final, text_reply, text_request}
 use Rattle.zq_machine.specs.Selecting.{full_text, select}
 use Rattle.zq_machine.specs.State.{Core, State}
-use Rattle.zq_machine.specs.TextCalls.{TextCall, opening, closing, declaring, withdrawing, asking, replying, ending, reporting, passing, announcing, retracting, networking, read, hearing}
+use Rattle.zq_machine.specs.TextCalls.{TextCall, opening, closing, declaring, withdrawing, asking, replying, ending, reporting, passing, announcing, retracting, networking, read, hearing, unhearing}
 use Rattle.zq_machine.specs.Writing.{Place, finish, is_unsent, sent_final, unsent, write}
 use Rattle.zq_machine.specs.Configs.{Settings}
 use Rattle.zq_machine.specs.Gates.{Gates, let_out, through, with_given}
@@ -76,6 +76,7 @@ may_text (announcing face s i n) m = is_declaration m
 may_text (retracting face s n) m = is_declaration m
 may_text (networking r net) m = is_declaration m
 may_text (hearing face id keys sd) m = is_declaration m
+may_text (unhearing face id) m = is_declaration m
 may_text t m = false
 
 may_read : (s : State) (c : Call) (m : Message) → may_text (read s c) m ≡ may_hand c m
@@ -152,6 +153,7 @@ told_fit s (announcing face sd i n) = declared_fit s (announcing face sd i n) is
 told_fit s (retracting face sd n) = declared_fit s (retracting face sd n) is_declaration (λ d. refl)
 told_fit s (networking r net) = declared_fit s (networking r net) is_declaration (λ d. refl)
 told_fit s (hearing face id keys sd) = declared_fit s (hearing face id keys sd) is_declaration (λ d. refl)
+told_fit s (unhearing face id) = declared_fit s (unhearing face id) is_declaration (λ d. refl)
 told_fit s t = tt
 
 -- through the gates it stays so

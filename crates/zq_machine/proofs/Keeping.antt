@@ -4,15 +4,16 @@ use Rattle.std.specs.Prelude.{◌==◌, ◌&&◌}
 use Rattle.std.specs.BTreeMap.{is_at}
 use Rattle.std.specs.Cmp.{nat_cmp_total}
 use Rattle.std.specs.List.Sorted.{IsStrictlySortedBy}
-use Rattle.std.specs.Option.{is_some, option_and_then, option_map_or}
+use Rattle.std.specs.Option.{is_some, option_and_then, option_map_or, option_to_list}
 use Rattle.std.specs.Ordering.{nat_cmp}
 use Rattle.std.proofs.lemmas.Bool.{false≢true}
 use Rattle.std.proofs.lemmas.Map.Lookups.{exact_unsigned}
+use Rattle.std.proofs.lemmas.Option.{same_Some}
 use Rattle.zq_key.proofs.Lookups.{found_after_insertion, found_after_removal}
 use Rattle.zq_trees.specs.declared.types.Telling.{Telling as TreeTelling}
 use Rattle.zq_trees.specs.Tellings.{in_order, telling_cmp}
 use Rattle.zq_interests.specs.Interests.{Interests, closed_face}
-use Rattle.zq_told.specs.declared.types.Way.TheVariants.{Unasked}
+use Rattle.zq_told.specs.declared.types.Way.TheVariants.{Ending, Unasked}
 use Rattle.zq_told.specs.declared.types.ToldEntry.{ToldEntry}
 use Rattle.zq_told.specs.Ears.{Ear, Ears, last_at}
 use Rattle.zq_told.specs.Receiver.{Heard, receive}
@@ -27,11 +28,11 @@ use Rattle.std.specs.Map.{keys_of}
 use Rattle.zq_machine.specs.Writing.{Place, finish, without_unsent}
 use Rattle.zq_machine.proofs.Writing.{fully}
 use Rattle.zq_machine.specs.declared.call.Step.{Step}
-use Rattle.zq_machine.proofs.DueAlone.{interests_alone}
+use Rattle.zq_machine.proofs.DueWhole.{interests_alone}
 use Rattle.zq_machine.proofs.Reading.{declare_read, withdraw_read}
-use Rattle.zq_machine.proofs.Answering.{answer_exactly, hearing_steps, unhearing_steps}
+use Rattle.zq_machine.proofs.Answering.{answer_exactly, end_exactly, hearing_steps, unhearing_steps, was}
 use Rattle.zq_machine.proofs.Following.{AreKept, Follows, Steps, all_heard, behind_trees, by_ids, forget_at, kept_of, none_heard, onto, the_greatest, told_only}
-use Rattle.zq_machine.specs.Selecting.{asked_by}
+use Rattle.zq_machine.specs.Selecting.{Manner, asked_by}
 use Rattle.zq_machine.specs.declared.call.Call.{Call}
 use Rattle.zq_machine.specs.declared.call.Call.TheVariants as call
 use Rattle.zq_machine.specs.declared.face.OpenFace.{OpenFace}
@@ -39,10 +40,10 @@ use Rattle.zq_machine.specs.Configs.{Settings}
 use Rattle.zq_machine.specs.Deciding.{accepted, changed, causes, is_accepted, lacks_told, opened, refusal_of, renamed, told_of, ears_of, interests_for, kept, granted}
 use Rattle.zq_machine.specs.Due.{listens, due}
 use Rattle.zq_machine.specs.Hearing.{CanBeTold, hear}
-use Rattle.zq_machine.specs.Keeping.{ChangePromise, IsKept, IsNear, KeepPromise, TellsChanges, heard_in, is_told, received_in, last_in, told_by, if_told, greatest_with, with_told, AnswersInterests, TellsAnswer, forget_undue, heard_after, is_asking, is_due_at, last_after}
+use Rattle.zq_machine.specs.Keeping.{ChangePromise, IsKept, IsNear, KeepPromise, TellsChanges, heard_in, is_told, received_in, last_in, told_by, if_told, greatest_with, with_told, AnswersInterests, EndsInterests, TellsAnswer, TellsEnd, forget_undue, heard_after, is_asking, is_due_at, last_after}
 use Rattle.zq_machine.specs.Machine.{accepted_state, after, follow, state_after, step, refused_step}
 use Rattle.zq_machine.specs.Messages.{Telling, TellingBody, from_hat}
-use Rattle.zq_machine.specs.Neighbours.{ears_after, looked_at, neighbours_lack, neighbours_told, with_new, without_closed, marked, near_told as told_near}
+use Rattle.zq_machine.specs.Neighbours.{due_on, ears_after, looked_at, neighbours_lack, neighbours_told, with_new, without_closed, marked, near_told as told_near}
 use Rattle.zq_machine.specs.Receivers.{AllHear, AllTold, AreOfOpen, FaceTold, HaveChanges, Hears, makes_due}
 use Rattle.zq_machine.specs.State.{Core, State, at, hat_at, hat_of, is_open, opening_state}
 use Rattle.zq_machine.specs.TextCalls.{TextCall, opening, closing, declaring, withdrawing, asking, replying, ending, reporting, passing, listing, finalizing, announcing, retracting, networking, tabling, read, hearing, unhearing, said_if}

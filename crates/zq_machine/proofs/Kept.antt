@@ -8,7 +8,7 @@ use Rattle.zq_machine.specs.Headline.{KeepsPromises, RunPromise}
 use Rattle.zq_machine.proofs.Agreed.{agree_always, run_in_order}
 use Rattle.zq_machine.proofs.Asking.{counted, to_askers}
 use Rattle.zq_machine.proofs.Children.{child_promise}
-use Rattle.zq_machine.proofs.Keeping.{answers_interests, change_promise, keep_promise}
+use Rattle.zq_machine.proofs.Keeping.{answers_interests, change_promise, ends_interests, keep_promise}
 use Rattle.zq_machine.proofs.Closings.{call_closed}
 use Rattle.zq_machine.proofs.Counting.{faces_counted, faces_next, replies_counted}
 use Rattle.zq_machine.proofs.Frame.{run_config}
@@ -69,6 +69,7 @@ headline config calls = record {
   neighbours = keep_promise config calls;
   changes = change_promise config calls;
   answers = answers_interests config calls;
+  ends = ends_interests config calls;
   numbers = counted config calls;
   faces = faces_counted config calls;
   next_face = faces_next calls (opening_state config);

@@ -225,18 +225,17 @@ module _ {X : Type 0} (f : List ℕ → List X) (key : List ℕ) where
 
   only_one : (ks : List (List ℕ)) → IsStrictlySortedBy text_cmp ks → ((k : List ℕ) → is_among k ks ≡ true → is_at (text_cmp key) k ≡ false → f k ≡ []) → flat_map f ks ≡ cond (is_among key ks) (f key) []
   only_one [] s none = refl
-  only_one (k ∷ ks) s none = by (is_at (text_cmp key) k) refl
+  only_one (k ∷ ks) s none = by (is_at (text_cmp key) k) refl (only_one ks (sorted_tail text_cmp k ks s) (λ q on off. none q (or_true (is_at (text_cmp q) k) (is_among q ks) on) off))
     where
       later : (q : List ℕ) → is_among q ks ≡ true → is_at (text_cmp key) q ≡ false → f q ≡ []
       later q on off = none q (or_true (is_at (text_cmp q) k) (is_among q ks) on) off
 
-      by : (b : Bool) → is_at (text_cmp key) k ≡ b → f k ++ flat_map f ks ≡ cond (b || is_among key ks) (f key) []
-      by true is =
+      by : (b : Bool) → is_at (text_cmp key) k ≡ b → flat_map f ks ≡ cond (is_among key ks) (f key) [] → f k ++ flat_map f ks ≡ cond (b || is_among key ks) (f key) []
+      by true is more =
           let same : key ≡ k = same_key text_total text_exact key k is in
           let above : is_among key ks ≡ false = ap (λ q. is_among q ks) same ∙ head_alone k ks s in
           (λ j. f (sym same j) ++ none_else ks above later j) ∙ append-nil (f key)
-      by false is =
-          (λ j. none k (or_first (is_at (text_cmp k) k) (is_among k ks) (at_itself text_total text_exact k)) is j ++ only_one ks (sorted_tail text_cmp k ks s) later j)
+      by false is more = λ j. none k (or_first (is_at (text_cmp k) k) (is_among k ks) (at_itself text_total text_exact k)) is j ++ more j
 
 module _ (c : Core) (ints : Interests) (ears : Ears) (asker id : ℕ) (asked : InterestEntry) (was : at id (interests_of asker ints) ≡ Some asked) where
   abbrev less : Interests

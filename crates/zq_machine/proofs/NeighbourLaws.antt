@@ -1,10 +1,11 @@
 -- The laws of what faces are told, at every point of every run.
-use Rattle.std.proofs.Common.{◌≡◌, ◌∙◌, refl, sym, ap, ℕ, true, false, cond, true≢false, List, [], Some, None}
+use Rattle.std.proofs.Common.{◌≡◌, ◌∙◌, refl, sym, ap, ℕ, true, false, cond, true≢false, List, [], filter, fold, Some, None}
 use Rattle.std.specs.Option.{is_some}
 use Rattle.zq_interests.specs.declared.types.InterestEntry.{InterestEntry}
 use Rattle.zq_told.specs.declared.types.Way.TheVariants.{Answering, Ending}
-use Rattle.zq_told.specs.Ears.{Ears}
-use Rattle.zq_told.specs.Receiver.{Heard}
+use Rattle.zq_told.specs.Ears.{Ears, told_keys}
+use Rattle.zq_told.specs.Laws.{is_to}
+use Rattle.zq_told.specs.Receiver.{Heard, receive}
 use Rattle.zq_told.specs.Leaving.{fresh_ear}
 use Rattle.zq_told.proofs.Faces.{stay_sound}
 use Rattle.zq_machine.specs.declared.call.Call.{Call}
@@ -12,10 +13,10 @@ use Rattle.zq_machine.specs.declared.call.Call.TheVariants as call
 use Rattle.zq_machine.specs.declared.call.Opening.{Opening}
 use Rattle.zq_machine.specs.Configs.{Settings}
 use Rattle.zq_machine.specs.Deciding.{is_accepted}
-use Rattle.zq_machine.specs.Due.{due, meant}
-use Rattle.zq_interests.specs.Interests.{Interests, interests_of, with_interest, without_interest}
+use Rattle.zq_machine.specs.Due.{asked_keys, due, meant}
+use Rattle.zq_interests.specs.Interests.{Interests, interests_of, meets, with_interest, without_interest}
 use Rattle.zq_machine.specs.Machine.{after, settle, state_after, step}
-use Rattle.zq_machine.specs.Neighbours.{asked_at, ended_at}
+use Rattle.zq_machine.specs.Neighbours.{answer_told, asked_at, ears_asked, ears_ended, ended_at, ended_told}
 use Rattle.zq_machine.specs.Receivers.{AllTold, AskingTold, EndingTold, FaceTold, Hears, makes_due}
 use Rattle.zq_machine.specs.State.{Core, State, at, is_open, opening_state}
 use Rattle.zq_machine.specs.TextCalls.{TextCall, announcing, declaring, opening, read}
@@ -24,8 +25,8 @@ use Rattle.zq_machine.proofs.DueLess.{brings, listens_stay}
 use Rattle.zq_machine.proofs.Granted.{by_granted}
 use Rattle.zq_machine.proofs.DueWhole.{accepted_less, closed_undue}
 use Rattle.zq_machine.proofs.NeighbourAll.{all_hear, closed_untold, ears_sound, faces_kept, new_hears, new_last, told_ordered}
-use Rattle.zq_machine.proofs.NeighbourAnswers.{asked_told, drops_none}
-use Rattle.zq_machine.proofs.NeighbourAsked.{asker_ended, asker_told, lacks_asked, none_lack, others_asked, others_ended, others_untold, untold}
+use Rattle.zq_machine.proofs.NeighbourAnswers.{asked_told, forgets_undue}
+use Rattle.zq_machine.proofs.NeighbourAsked.{asker_ended, asker_told, ended_tells, lacks_asked, none_lack, others_asked, others_ended, others_quiet, others_untold}
 use Rattle.zq_machine.proofs.NeighbourIds.{enough, lacks_are, new_face, opens}
 use Rattle.zq_machine.proofs.NeighbourTells.{have_looked, tells_exactly}
 use Rattle.zq_machine.proofs.NeighbourTold.{call_told, last_told, new_beside, open_after}
@@ -98,8 +99,10 @@ module _ (c : Core) (ints : Interests) (ears : Ears) (asker id : ℕ) (asked : I
   pub asking_keeps : ((old : InterestEntry) → at id (interests_of asker ints) ≡ Some old → old.key ≡ asked.key) → AskingTold c ints (with_interest asker id asked ints) ears asker asked
   asking_keeps same = record {
     own = λ heard h. asker_told c ints ears asker id asked same heard h;
-    answers = λ heard h. asked_told c ints ears asker id asked same heard h;
-    drops = λ heard h. drops_none c ints ears asker id asked same heard h;
+    answers = λ heard h. asked_told c (with_interest asker id asked ints) asker asked ears ints heard h;
+    drops = λ heard h.
+        forgets_undue c (with_interest asker id asked ints) (ears_asked c (with_interest asker id asked ints) ears asker asked) asker (asked_keys c (with_interest asker id asked ints) asker asked)
+        (fold receive heard (filter (is_to asker) (answer_told c (with_interest asker id asked ints) ears asker asked))) (asker_told c ints ears asker id asked same heard h);
     others = λ face ne heard h. others_asked c ints ears asker id asked same face ne heard h;
     silent = λ face ne. others_untold c ints ears asker id asked same face ne;
     sound = λ a enough. stay_sound.tells Answering ears (asked_at c (with_interest asker id asked ints) asker asked) enough a;
@@ -110,7 +113,11 @@ module _ (c : Core) (ints : Interests) (ears : Ears) (asker id : ℕ) (asked : I
   ending_keeps was = record {
     own = λ heard h. asker_ended c ints ears asker id asked was heard h;
     others = λ face ne heard h. others_ended c ints ears asker id asked was face ne heard h;
-    silent = untold c ints ears asker id asked was;
+    tells = λ heard h. ended_tells c ints ears asker id asked was heard h;
+    drops = λ heard h.
+        forgets_undue c (without_interest asker id ints) (ears_ended c (without_interest asker id ints) ears asker asked) asker (filter (meets asked.key) (told_keys asker ears))
+        (fold receive heard (filter (is_to asker) (ended_told c (without_interest asker id ints) ears asker asked))) (asker_ended c ints ears asker id asked was heard h);
+    silent = λ face ne. others_quiet c ints ears asker id asked was face ne;
     sound = λ a. stay_sound.tells Ending ears (ended_at c (without_interest asker id ints) ears asker asked) (none_lack c ints ears asker id asked was a.ids) a;
     enough = none_lack c ints ears asker id asked was;
   }

@@ -191,8 +191,8 @@ module _ (names : NamingState) (after : Core) (ints : Interests) (asker : ℕ) (
   IsHeard k = IsKey k.0 × (listens after ints asker k.0 ≡ true)
 
   -- a key on which something is due is one, and the asker listens there
-  due_heard : (k : List ℕ) → is_some (due after ints asker k) ≡ true → IsHeard (due_on after ints asker k)
-  due_heard k e = (among_text k (face_keys after ints asker) texts (keys_among after ints asker k e), due_listens (listens after ints asker k) (meant after ints asker k) e)
+  owed_heard : (k : List ℕ) → is_some (due after ints asker k) ≡ true → IsHeard (due_on after ints asker k)
+  owed_heard k e = (among_text k (face_keys after ints asker) texts (keys_among after ints asker k e), due_listens (listens after ints asker k) (meant after ints asker k) e)
 
   answer_rows : (ks : List (List ℕ)) → AllByRecursion IsHeard (filter (λ (k : KeyDue). is_some k.1) (map (due_on after ints asker) ks))
   answer_rows [] = tt
@@ -202,7 +202,7 @@ module _ (names : NamingState) (after : Core) (ints : Interests) (asker : ℕ) (
       rest = filter (λ (q : KeyDue). is_some q.1) (map (due_on after ints asker) ks)
 
       by : (b : Bool) → is_some (due after ints asker k) ≡ b → AllByRecursion IsHeard rest → AllByRecursion IsHeard (cond b (due_on after ints asker k ∷ rest) rest)
-      by true e more = (due_heard k e, more)
+      by true e more = (owed_heard k e, more)
       by false e more = more
 
   -- each of what is told is to the asker
@@ -237,7 +237,7 @@ module _ (names : NamingState) (after : Core) (ints : Interests) (asker : ℕ) (
     where
       news : (t : ToldEntry) (i : QueryableInfoType) → due after ints asker k ≡ Some i → (b : Bool) → AllByRecursion IsHeard (map news_of (cond b [] (declared asker k (record { id = t.id; info = i }) ∷ [])))
       news t i e true = tt
-      news t i e false = (due_heard k (ap is_some e), tt)
+      news t i e false = (owed_heard k (ap is_some e), tt)
 
       by : (o : Option ToldEntry) (d : Option QueryableInfoType) → due after ints asker k ≡ d → AllByRecursion IsHeard (map news_of (change asker k o (option_and_then (renewed o) d)))
       by None d e = tt

@@ -41,7 +41,7 @@ use Rattle.zq_machine.specs.Behind.{IsBarred, SaysPromise}
 use Rattle.zq_machine.specs.Within.{AllStay}
 use Rattle.zq_machine.specs.Direct.{AreDirect}
 use Rattle.zq_machine.specs.Children.{ChildPromise}
-use Rattle.zq_machine.specs.Keeping.{AnswersInterests, ChangePromise, KeepPromise}
+use Rattle.zq_machine.specs.Keeping.{AnswersInterests, ChangePromise, EndsInterests, KeepPromise}
 use Rattle.zq_machine.specs.Machine.{asked_text, step, steps, after, follow, state_after, refused_step}
 use Rattle.zq_machine.specs.Writing.{sent_final, write}
 
@@ -204,7 +204,7 @@ ended_by h = if is_final h.message then h.number else None
 abbrev pub ended_in : List Handed → List ℕ
 ended_in hs = filter_map ended_by hs
 
--- what a call may hand: a request, requests or the asker's final; a reply, a reply; a moment that has come, replies and finals; the end of an entry or of a reply, finals; a closing, finals and declarations; an opening, what is declared or withdrawn, a network and an interest, declarations; any other call, nothing
+-- what a call may hand: a request, requests or the asker's final; a reply, a reply; a moment that has come, replies and finals; the end of an entry or of a reply, finals; a closing, finals and declarations; an opening, what is declared or withdrawn, a network, an interest and the end of one, declarations; any other call, nothing
 abbrev pub may_hand : Call → Message → Bool
 may_hand (call.Request face r now) m = is_request m || is_final m
 may_hand (call.Response face r) m = is_response m
@@ -217,6 +217,7 @@ may_hand (call.DeclareQueryable face id wire info node) m = is_declaration m
 may_hand (call.UndeclareQueryable face id wire node) m = is_declaration m
 may_hand (call.SetNetwork r net) m = is_declaration m
 may_hand (call.Interest face id keys aggregate wire) m = is_declaration m
+may_hand (call.InterestFinal face id) m = is_declaration m
 may_hand c m = false
 
 -- what is handed has a reply number exactly where it is a reply, and a request's number exactly where it is no declaration, and is of a kind that the call may hand
@@ -271,7 +272,7 @@ pub record KeepsPromises (s : State) (c : Call) : Type 0 where
   pub closed : (face : ℕ) → is_closed (after s c).core.queries.closed face ≡ (closes face c (step s c) || is_closed s.core.queries.closed face)
   pub refusals : RefusesBy (refusal_of s.core (read s c)) s c
 
--- what a whole run promises: each of its calls keeps its promises; the configuration stays, and what stands of each face and of the routers of each region, what each face asks to hear, which lists of gateways there are, and which gates the faces have, is what the calls and their answers made of it; the hats stand by place, and each is of what it was made for; the open faces, the hats and what stands for keys agree; what a child of a root's tree knows of it is what stands of the root; what the receiver of an open face outside regions of routers keeps is what is due to it, and each accepted call hands it the difference, or answers its interest by all that is due; accepted requests, opened faces and replies are numbered one after another, and the next face by what comes after them; and the id that was last given at a face is that of the last request handed to it; each message that it hands, but for declarations, is of a request, and each reply and final goes to the request's asker, under the asker's id; it hands one final of a request at most, and nothing of the request afterwards
+-- what a whole run promises: each of its calls keeps its promises; the configuration stays, and what stands of each face and of the routers of each region, what each face asks to hear, which lists of gateways there are, and which gates the faces have, is what the calls and their answers made of it; the hats stand by place, and each is of what it was made for; the open faces, the hats and what stands for keys agree; what a child of a root's tree knows of it is what stands of the root; what the receiver of an open face outside regions of routers keeps is what is due to it, and each accepted call hands it the difference, or answers its interest by all that is due, or at the interest's end tells at most of its own key; accepted requests, opened faces and replies are numbered one after another, and the next face by what comes after them; and the id that was last given at a face is that of the last request handed to it; each message that it hands, but for declarations, is of a request, and each reply and final goes to the request's asker, under the asker's id; it hands one final of a request at most, and nothing of the request afterwards
 pub record RunPromise (config : Settings) (calls : List Call) : Type 0 where
   pub each : (before rest : List Call) (c : Call) → calls ≡ before ++ c ∷ rest → KeepsPromises (state_after (opening_state config) before) c
   pub settings : (state_after (opening_state config) calls).core.config ≡ config
@@ -287,6 +288,7 @@ pub record RunPromise (config : Settings) (calls : List Call) : Type 0 where
   pub neighbours : KeepPromise config calls
   pub changes : ChangePromise config calls
   pub answers : AnswersInterests config calls
+  pub ends : EndsInterests config calls
   pub numbers : AreCounted config.start.requests (map asked_number (asked_in calls (steps config calls)))
   pub faces : AreCounted config.start.faces (opened_in (steps config calls))
   pub next_face : (state_after (opening_state config) calls).core.next_face ≡ config.start.faces + length (opened_in (steps config calls))

@@ -35,7 +35,7 @@ use Rattle.zq_machine.specs.Handing.{Handed}
 use Rattle.zq_machine.specs.Hearing.{with_ours}
 use Rattle.zq_interests.specs.declared.types.InterestEntry.{InterestEntry}
 use Rattle.zq_interests.specs.Interests.{Asked}
-use Rattle.zq_machine.specs.Selecting.{asked_by, full_text}
+use Rattle.zq_machine.specs.Selecting.{Manner, asked_by, full_text}
 use Rattle.zq_machine.specs.Configs.{Settings}
 use Rattle.zq_machine.specs.Gates.{Gate, denied_by, entered_by, gate_at, space_of, unasked_by}
 use Rattle.zq_machine.specs.State.{Core, State, at, first_hats, hat_at, hat_of, is_routing}

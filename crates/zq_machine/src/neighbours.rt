@@ -45,17 +45,16 @@ pub fn all_told()
     ensures { (config : Settings) (calls : List Call) → let s : State = state_after (opening_state config) calls in (c : Call) (ints : Interests) (ears : Ears) → AllTold s.core (after s c).core ints (read s c) ears }
 {}
 
-/// An interest, in the place of none or of one that asks for the same, tells its face alone,
-/// and that all that is due on the keys that meet it: a receiver there keeps what is due then, and drops
-/// nothing; those of other faces keep what they kept, which is still due; and ids lack exactly where
-/// they lack to that face.
+/// An interest, in the place of none or of one with the same key, tells its face alone, and that all that is
+/// due on the keys for which it asks: a receiver there keeps what is due then, and forgets what is not; those
+/// of other faces keep what they kept, which is still due; and ids lack exactly where they lack to that face.
 pub fn asking_told()
     ensures { (c : Core) (ints : Interests) (ears : Ears) (asker id : ℕ) (asked : InterestEntry) → ((old : InterestEntry) → at id (interests_of asker ints) ≡ Some old → old.key ≡ asked.key) → AskingTold c ints (with_interest asker id asked ints) ears asker asked }
 {}
 
-/// The end of an interest tells nothing: a receiver at its face forgets, of the keys that met it,
-/// those that are not due any more, and keeps what is due then; those of other faces keep what they
-/// kept; and no ids lack.
+/// The end of an interest tells its face at most of its own key, where that stays due with other information,
+/// and no other face anything: a receiver at its face forgets those that are not due any more, and keeps what
+/// is due then; those of other faces keep what they kept; and no ids lack.
 pub fn ending_told()
     ensures { (c : Core) (ints : Interests) (ears : Ears) (asker id : ℕ) (asked : InterestEntry) → at id (interests_of asker ints) ≡ Some asked → EndingTold c ints (without_interest asker id ints) ears asker asked }
 {}

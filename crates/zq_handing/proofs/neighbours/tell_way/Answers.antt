@@ -8,9 +8,4 @@ use Rattle.zq_told.specs.Telling.{lacks_ids, tell_faces}
 use Rattle.zq_handing.proofs.neighbours.tell_way.Goals as goal
 
 pub tell-requires : goal.tell-requires
-tell-requires g c =
-    let ears = ears_of c.args.ears.now in
-    let dues = c.args.dues.now in
-    let way = c.way_of.ensures in
-    subst (All (λ (t : Telling). is_key t.key ≡ true)) (sym (c.as_slice-told.ensures ∙ c.in-Ok.ensures.told ∙ ap (λ (w : Way). c.args.told ++ (tell_faces w ears dues).tellings) way))
-    (c.requires (ap (λ (w : Way). lacks_ids w ears dues) (sym way) ∙ c.in-Ok.ensures.free))
+tell-requires g c = subst (All (λ (t : Telling). is_key t.key ≡ true)) (sym (c.as_slice-told.ensures ∙ c.in-Ok.ensures.told)) (c.requires c.in-Ok.ensures.free)

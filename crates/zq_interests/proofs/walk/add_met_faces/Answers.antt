@@ -4,7 +4,7 @@ use Rattle.zq_index.specs.Skipping.{StepIs}
 use Rattle.zq_index.proofs.Rebuilt.{sorted_texts}
 use Rattle.zq_index.proofs.Skipping.{unbounded}
 use Rattle.zq_interests.specs.Kept.{met_at, with_face}
-use Rattle.zq_interests.proofs.Walking.{all_found, fewer, stands_after_jump, stands_after_look, stands_first}
+use Rattle.zq_interests.proofs.Walking.{all_found, faces_miss, fewer, stands_after_jump, stands_after_look, stands_first}
 use Rattle.zq_interests.proofs.walk.add_met_faces.Goals as goal
 
 pub loop-key-init : goal.loop-key-init
@@ -12,7 +12,7 @@ loop-key-init c = record {
   next = tt;
   finite = tt;
   stands =
-      stands_first c.args.q.now c.args.lists.now c.args.found.now.keys c.args.keys.now.entries c.range-rest.ensures.ordered
+      stands_first with_face c.args.q.now (met_at c.args.q.now) (faces_miss c.args.q.now) c.args.lists.now c.args.found.now.keys c.args.keys.now.entries c.range-rest.ensures.ordered
       c.range-rest.result (c.range-rest.ensures.between tt ∙ unbounded c.args.keys.now.entries) c.requires.fit;
 }
 
@@ -20,7 +20,7 @@ loop-key-init c = record {
 pub loop-key-smaller : goal.loop-key-smaller
 loop-key-smaller c =
     let lists = c.args.lists.now in
-    fewer c.args.q.now lists c.args.found.now.keys c.args.keys.now.entries c.range-rest.ensures.ordered
+    fewer with_face c.args.q.now (met_at c.args.q.now) (faces_miss c.args.q.now) lists c.args.found.now.keys c.args.keys.now.entries c.range-rest.ensures.ordered
     c.loop-key.found.keys c.loop-key.rest c.loop-key.invariant.stands (c.in-Some.key.now, c.in-Some.places.now) c.next.new.self c.in-Some.ensures.steps
     c.next_step.new.bound (subst (StepIs lists c.args.q.now (string_bytes c.in-Some.key.now) (string_bytes c.next_step.new.bound)) c.in-Jump.is c.in_ok-next_step.ensures)
     c.range-rest-in-Jump.result (c.range-rest-in-Jump.ensures.between tt)
@@ -32,7 +32,7 @@ loop-key-preserved c =
       next = tt;
       finite = tt;
       stands =
-          stands_after_jump c.args.q.now lists c.args.found.now.keys c.args.keys.now.entries c.range-rest.ensures.ordered
+          stands_after_jump with_face c.args.q.now (met_at c.args.q.now) (faces_miss c.args.q.now) lists c.args.found.now.keys c.args.keys.now.entries c.range-rest.ensures.ordered
           c.loop-key.found.keys c.loop-key.rest c.loop-key.invariant.stands (c.in-Some.key.now, c.in-Some.places.now) c.next.new.self c.in-Some.ensures.steps
           c.next_step.new.bound (subst (StepIs lists c.args.q.now (string_bytes c.in-Some.key.now) (string_bytes c.next_step.new.bound)) c.in-Jump.is c.in_ok-next_step.ensures)
           c.range-rest-in-Jump.result (c.range-rest-in-Jump.ensures.between tt);
@@ -42,7 +42,7 @@ loop-key-preserved c =
 pub returns-in-End-clause-faces : goal.returns-in-End-clause-faces
 returns-in-End-clause-faces c =
     let lists = c.args.lists.now in
-    all_found c.args.q.now lists c.args.found.now.keys c.args.keys.now.entries c.range-rest.ensures.ordered
+    all_found with_face c.args.q.now (met_at c.args.q.now) (faces_miss c.args.q.now) lists c.args.found.now.keys c.args.keys.now.entries c.range-rest.ensures.ordered
     c.loop-key.found.keys c.loop-key.rest c.loop-key.invariant.stands (c.in-Some.key.now, c.in-Some.places.now) c.next.new.self c.in-Some.ensures.steps
     (subst (StepIs lists c.args.q.now (string_bytes c.in-Some.key.now) (string_bytes c.next_step.new.bound)) c.in-End.is c.in_ok-next_step.ensures)
 
@@ -61,7 +61,7 @@ loop-key-preserved-in-Continue-branch-3 c =
       next = tt;
       finite = tt;
       stands =
-          stands_after_look c.args.q.now lists c.args.found.now.keys c.args.keys.now.entries c.range-rest.ensures.ordered
+          stands_after_look with_face c.args.q.now (met_at c.args.q.now) (faces_miss c.args.q.now) lists c.args.found.now.keys c.args.keys.now.entries c.range-rest.ensures.ordered
           c.loop-key.found.keys c.loop-key.rest c.loop-key.invariant.stands (c.in-Some.key.now, c.in-Some.places.now) c.next.new.self c.in-Some.ensures.steps
           c.add_met.new.found.keys put;
     }

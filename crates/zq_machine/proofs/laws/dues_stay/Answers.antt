@@ -1,4 +1,4 @@
-use Rattle.zq_machine.proofs.Dues.{dues_stay}
+use Rattle.zq_machine.proofs.DueWhole.{dues_stay}
 use Rattle.zq_machine.proofs.laws.dues_stay.Goals as goal
 
 pub returns : goal.returns

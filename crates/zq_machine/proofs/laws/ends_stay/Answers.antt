@@ -1,4 +1,4 @@
-use Rattle.zq_machine.proofs.DueEnds.{ends_stay}
+use Rattle.zq_machine.proofs.DueInterests.{ends_stay}
 use Rattle.zq_machine.proofs.laws.ends_stay.Goals as goal
 
 pub returns : goal.returns

@@ -1,4 +1,4 @@
-use Rattle.zq_machine.proofs.DueTaken.{routers_undue}
+use Rattle.zq_machine.proofs.DueWhole.{routers_undue}
 use Rattle.zq_machine.proofs.laws.routers_undue.Goals as goal
 
 pub returns : goal.returns
