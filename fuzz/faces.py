@@ -23,11 +23,20 @@ Info = namedtuple('Info', 'partial distance')
 Known = namedtuple('Known', 'id info')
 
 
-class Interest(namedtuple('Interest', 'key numbers')):
-    """The key that a face wants to hear of, or none for all; and whether it wants numbers for keys."""
+class Interest(namedtuple('Interest', 'key numbers aggregate')):
+    """The key that a face wants to hear of, or none for all; whether it wants numbers for keys; and whether it wants
+    one entry on its key, for all that meet it, which without a key it cannot.
+    """
 
     def meets(self, key):
         return self.key is None or intersects(self.key, key)
+
+    def folds(self):
+        return self.aggregate and self.key is not None
+
+    def asks(self, key):
+        """Whether it wants to hear of the key as it is."""
+        return not self.folds() and self.meets(key)
 
 
 @dataclass

@@ -238,12 +238,13 @@ class Writer:
         return face.number, number, self.rng.choice([*unread, self.expression(face, text)]), node
 
     def interest(self, face):
-        """A few ids, a taken one mostly with its own key; at times all keys are meant."""
+        """A few ids, a taken one mostly with its own key; at times all keys are meant, and at times one entry."""
         rng = self.rng
         number, text = rng.choice([0, 1, 2, 7, U32]), rng.choice([*[self.text()] * 4, None])
         if number in face.interests and rng.random() < 0.8:
             text = face.interests[number].key
-        return face.number, number, b'-' if text is None else self.expression(face, text), rng.choice('kn')
+        last = ['a'] if rng.random() < 0.4 else []
+        return face.number, number, b'-' if text is None else self.expression(face, text), rng.choice('kn'), *last
 
     def uninterest(self, face):
         """Mostly of a face that has interests."""

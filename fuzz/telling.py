@@ -5,6 +5,7 @@ from contextlib import contextmanager
 from itertools import takewhile
 
 from faces import Info, Interest, Known, Refused, refuse
+from keys import includes, intersects
 from spaces import Message
 from words import NORTH, U16, U32, Expression
 
@@ -30,6 +31,13 @@ def merged(pairs):
     for key, info in pairs:
         infos[key] = min(info, infos.get(key, info))
     return infos
+
+
+def folded(heard, key):
+    """One information for all keys that meet the key, if there is any: a part is complete where its key includes it."""
+    parts = [Info(info.partial or not includes(part, key), info.distance)
+             for part, info in heard.items() if intersects(part, key)]
+    return min(parts, default=None)
 
 
 def front(key):
@@ -115,26 +123,35 @@ class Declared:
 
     # Faces outside regions of routers
 
-    def on_interest(self, face, interest_id, written, numbers):
-        """All that is due and that it meets is told, known or not, and that this was all. An id keeps its key."""
+    def on_interest(self, face, interest_id, written, numbers, aggregate=''):
+        """All that is due and that it asks for is told, known or not, and that this was all. An id keeps its key.
+
+        What is due no more is forgotten, and not withdrawn: the interest may have asked in another way before.
+        """
         face = self.face(face)
-        interest = Interest(None if written is None else face.says_key(written), numbers == 'k')
+        interest = Interest(None if written is None else face.says_key(written), numbers == 'k', aggregate == 'a')
         refuse('IdInUse', face.interests.get(interest_id, interest).key != interest.key)
         with kept(face.interests):
             face.interests[interest_id] = interest
             self.need_ids()
-        due = self.due(face)
-        for key in sorted(filter(interest.meets, due)):
-            self.inform(face, key, due[key], interest_id)
+        due = self.forget(face)
+        for key in sorted(due):
+            if key == interest.key if interest.folds() else interest.meets(key):
+                self.inform(face, key, due[key], interest_id)
         self.ends.append((face.number, Message('declfinal', interest_id, None, [])))
 
     def on_uninterest(self, face, interest_id):
-        """What is due no more is forgotten, and not withdrawn."""
+        """What is due no more is forgotten, and not withdrawn. What stays due with other information is told."""
         face = self.face(face)
         refuse('UnknownId', interest_id not in face.interests)
         del face.interests[interest_id]
+        self.forget(face)
+
+    def forget(self, face):
+        """What is due to the face; it does not know anything else any more."""
         due = self.due(face)
         face.known = {key: known for key, known in face.known.items() if key in due}
+        return due
 
     def heard(self, face):
         """What others have on each key: other regions, and among applications and clients the other faces."""
@@ -145,12 +162,15 @@ class Declared:
         return merged([*self.elsewhere(face.region).items(), *pairs])
 
     def due(self, face):
-        """What a face has to know: in North all that it hears, elsewhere what an interest meets, of routers none."""
+        """What a face has to know: in North all that it hears, elsewhere what an interest asks for, of routers none."""
         if face.region in self.routed:
             return {}
-        asked = face.interests.values()
-        return {key: info for key, info in self.heard(face).items()
-                if face.region == NORTH or any(interest.meets(key) for interest in asked)}
+        heard, asked = self.heard(face), face.interests.values()
+        if face.region == NORTH:
+            return heard
+        due = {key: info for key, info in heard.items() if any(interest.asks(key) for interest in asked)}
+        entries = {interest.key: folded(heard, interest.key) for interest in asked if interest.folds()}
+        return due | {key: info for key, info in entries.items() if info}
 
     def need_ids(self):
         """Each key that a face does not know yet takes an id, and each id is given once, the last one too."""

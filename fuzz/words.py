@@ -168,6 +168,7 @@ FORMATS = [
     ('queryable', u32, u32, expression, choice('c', 'p'), u16, u16),
     ('unqueryable', u32, u32, optional(expression), u16),
     ('interest', u32, u32, optional(expression), choice('k', 'n')),
+    ('interest', u32, u32, optional(expression), choice('k', 'n'), choice('a')),
     ('uninterest', u32, u32),
     ('ask', u32, u32, expression, choice('all', 'complete', 'best'), optional(u64), u16, u8, payload, u64),
     ('reply', u32, u32, expression, choice('ok', 'err'), payload),
