@@ -248,6 +248,31 @@ def heard_and_withdrawn(count):
         yield f'unqueryable {count} {n} - 0'
 
 
+def letters(n):
+    """The nth of `a` to `z`, `aa` to `zz`, and so on."""
+    word = ''
+    while n >= 0:
+        word, n = chr(ord('a') + n % 26) + word, n // 26 - 1
+    return word
+
+
+def folded(count, declared=0):
+    """A face that asks for one entry on each of so many keys `a/*`, and one that then declares keys under them."""
+    yield from faces(2)
+    for n in range(count):
+        yield f'interest 1 {n} 0:s:{letters(n)}/* n a'
+    for n in range(declared):
+        yield f'queryable 0 {n} 0:s:{letters(n * 7919 % count)}/{n} c {n % 100} 0'
+
+
+def folded_and_withdrawn(count):
+    """What is declared changes one of the entries."""
+    yield from folded(count, count)
+    for n in range(count, count + CALLS):
+        yield f'queryable 0 {n} 0:s:{letters(n * 7919 % count)}/{n} c 0 0'
+        yield f'unqueryable 0 {n} - 0'
+
+
 def declared_and_answered(count):
     """So many keys, and a face that asks for one of them, a hundredth as often as elsewhere."""
     yield from declared(count)

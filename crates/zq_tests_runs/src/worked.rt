@@ -4,7 +4,7 @@ use std::test::Fail;
 use zq_script::run::Status;
 
 /// What a script tells of, its lines, its print, and how its run ends.
-const ROWS: [(&str, &str, &str, Status); 31] = [
+const ROWS: [(&str, &str, &str, Status); 32] = [
     (
         "one query",
         "config 1 10000 north:client local\n\
@@ -529,6 +529,39 @@ const ROWS: [(&str, &str, &str, Status); 31] = [
          = done\n\
          = done\n\
          = refused UnknownId\n",
+        Status::Done,
+    ),
+    (
+        "a face that asks is told one entry for all keys that meet its own",
+        "config 1 10000 north:client local\n\
+         open local 10 client north -\n\
+         open local 11 client north -\n\
+         open local 12 client north -\n\
+         queryable 0 1 0:s:a/b c 2 0\n\
+         interest 1 5 0:s:a/* n a\n\
+         queryable 2 1 0:s:a/** c 4 0\n\
+         unqueryable 2 1 - 0\n\
+         queryable 2 2 0:s:a/* p 3 0\n\
+         interest 1 6 0:s:a/** n\n\
+         uninterest 1 5\n",
+        "= opened 0\n\
+         = opened 1\n\
+         = opened 2\n\
+         = done\n\
+         = done\n\
+         > 1 - - queryable 1 0:s:a/* p 2 0 5\n\
+         > 1 - - declfinal 5\n\
+         = done\n\
+         > 1 - - queryable 1 0:s:a/* c 4 0 -\n\
+         = done\n\
+         > 1 - - queryable 1 0:s:a/* p 2 0 -\n\
+         = done\n\
+         = done\n\
+         > 1 - - queryable 1 0:s:a/* p 2 0 6\n\
+         > 1 - - queryable 2 0:s:a/b c 2 0 6\n\
+         > 1 - - declfinal 6\n\
+         = done\n\
+         > 1 - - queryable 1 0:s:a/* p 3 0 -\n",
         Status::Done,
     ),
     (
