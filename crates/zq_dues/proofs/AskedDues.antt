@@ -18,23 +18,27 @@ use Rattle.zq_index.proofs.Orders.{text_exact, text_total}
 use Rattle.zq_hat.specs.State.{HatState}
 use Rattle.zq_interests.specs.declared.types.InterestEntry.{InterestEntry}
 use Rattle.zq_interests.specs.Interests.{Interests, asked_for, asks_folded, asks_for, interests_of, meets, own_key, own_keys, wants, wants_folded, with_interest, without_interest}
-use Rattle.zq_interests.proofs.Besides.{any_left, any_put, any_with, left_of, put_of}
+use Rattle.zq_interests.proofs.Besides.{any_put, put_of}
 use Rattle.zq_told.specs.Ears.{Ears, told_keys}
 use Rattle.zq_told.specs.Telling.{KeyDue}
 use Rattle.zq_machine.specs.declared.face.OpenFace.{OpenFace}
-use Rattle.zq_machine.specs.Due.{asked_keys, due, due_keys, face_keys, is_looked, is_met_by}
+use Rattle.zq_machine.specs.Due.{asked_keys, due, due_keys, face_keys, is_looked}
 use Rattle.zq_machine.specs.Neighbours.{asked_dues, due_on, ended_dues}
 use Rattle.zq_machine.specs.State.{Core, at}
 use Rattle.zq_machine.proofs.DueInterests.{keys_rise}
 use Rattle.zq_machine.proofs.DueKeys.{all_put, is_among}
 use Rattle.zq_machine.proofs.NeighbourDues.{among_filter}
-use Rattle.zq_machine.proofs.Widening.{among_wide, asked_meets, folded_own}
+use Rattle.zq_machine.proofs.Widening.{asked_meets, folded_own}
 use Rattle.zq_dues.specs.declared.asking.Asking.{Asking}
-use Rattle.zq_dues.specs.Asked.{AreInformed, keys_asked, looked_due, owns_asked, with_there}
-use Rattle.zq_dues.specs.Asking.{any_folds, asking, is_left, put_if_asked, with_asked, with_own}
+use Rattle.zq_dues.specs.Asked.{AreInformed, keys_asked, looked_due}
+use Rattle.zq_dues.specs.Asking.{asking_in, is_left, put_if_asked, with_asked, with_own}
 use Rattle.zq_dues.specs.Dues.{all_keys, due_as, row_as, was_told}
 use Rattle.zq_dues.proofs.Heard.{IsHeard, due_is, heard_still}
 use Rattle.zq_dues.proofs.KeysMet.{all_rise, hats_rise, none_rise, told_is}
+
+-- an interest that stays asks for the key as one entry
+abbrev any_folds : Option ℕ → List ℕ → List (ℕ × InterestEntry) → Bool
+any_folds but key es = list_any (λ (i : ℕ × InterestEntry). is_left but i.0 && wants_folded key i) es
 
 -- ---- keys of aggregating interests that meet what is asked for
 or_none : (b : Bool) → b ≡ (b || false)
@@ -104,18 +108,9 @@ module _ (but : Option ℕ) (asked : Option (List ℕ)) where
 abbrev Ordered : ℕ → Interests → Type 0
 Ordered face ints = IsStrictlySortedBy nat_cmp (keys_of (interests_of face ints))
 
-module _ (face id : ℕ) (ints : Interests) (sorted : Ordered face ints) (key : List ℕ) where
-  folds_without : any_folds (Some id) key (interests_of face ints) ≡ asks_folded face key (without_interest face id ints)
-  folds_without = sym (ap (list_any (wants_folded key)) (left_of ints face id) ∙ any_left (wants_folded key) id (interests_of face ints) sorted)
-
-  module _ (e : InterestEntry) where
-    asks_with : (asked_for e key || asks_for face key (without_interest face id ints)) ≡ asks_for face key (with_interest face id e ints)
-    asks_with =
-        ap (λ (es : List (ℕ × InterestEntry)). asked_for e key || list_any (wants key) es) (left_of ints face id)
-        ∙ sym (ap (list_any (wants key)) (put_of ints face id e) ∙ any_with (wants key) id e (interests_of face ints) sorted)
-
-    folds_with : (wants_folded key (id, e) || any_folds (Some id) key (interests_of face ints)) ≡ asks_folded face key (with_interest face id e ints)
-    folds_with = sym (ap (list_any (wants_folded key)) (put_of ints face id e) ∙ any_put (wants_folded key) id e (interests_of face ints) sorted)
+module _ (face id : ℕ) (ints : Interests) (sorted : Ordered face ints) (key : List ℕ) (e : InterestEntry) where
+  folds_with : (wants_folded key (id, e) || any_folds (Some id) key (interests_of face ints)) ≡ asks_folded face key (with_interest face id e ints)
+  folds_with = sym (ap (list_any (wants_folded key)) (put_of ints face id e) ∙ any_put (wants_folded key) id e (interests_of face ints) sorted)
 
 -- ---- two lists of keys that pass
 -- where two say the same of a key it passes both
@@ -136,10 +131,10 @@ module _ (c : Core) (ints : Interests) (face id : ℕ) (sorted : Ordered face in
     more = with_interest face id e ints
 
     abbrev asks : List ℕ → Asking
-    asks = asking (Some id) (Some e) face ints
+    asks = asking_in more face
 
     due_same : (key : List ℕ) → due_as (asks key) None [] face o hats key ≡ due c more face key
-    due_same key = due_is c more None hats [] face o still key (asks key) (asks_with face id ints sorted key e) (folds_with face id ints sorted key e)
+    due_same key = due_is c more None hats [] face o still key (asks key) refl refl
 
     -- it is looked at
     abbrev passes : List ℕ → Bool
@@ -162,14 +157,14 @@ module _ (c : Core) (ints : Interests) (face id : ℕ) (sorted : Ordered face in
     abbrev base : List (List ℕ)
     base = filter (meets e.key) (all_keys hats)
 
-    abbrev owns : List (List ℕ)
-    owns = owns_asked (Some id) e.key face ints
-
     base_rise : IsStrictlySortedBy text_cmp base
     base_rise = IsStrictlySortedBy-filter text_cmp (meets e.key) (all_keys hats) (hats_rise hats [] none_rise)
 
+    abbrev with_owns : List (List ℕ)
+    with_owns = fold (with_own (Some id) e.key) base (interests_of face ints)
+
     asked_rise : IsStrictlySortedBy text_cmp all_asked
-    asked_rise = all_rise (option_to_list e.key) (with_there hats base owns) (all_rise (filter (is_met_by (all_keys hats)) owns) base base_rise)
+    asked_rise = all_rise (option_to_list e.key) with_owns (owns_rise (Some id) e.key (interests_of face ints) base base_rise)
 
     module _ (q : List ℕ) where
       abbrev met : Bool
@@ -178,30 +173,27 @@ module _ (c : Core) (ints : Interests) (face id : ℕ) (sorted : Ordered face in
       abbrev own : Bool
       own = is_among q (option_to_list e.key)
 
-      abbrev there : Bool
-      there = is_met_by (due_keys c) q
-
       abbrev others : Bool
       others = any_folds (Some id) q (interests_of face ints)
 
       abbrev known : Bool
       known = is_among q (due_keys c)
 
-      among_asked : is_among q all_asked ≡ (own || ((there && ((met && others) || false)) || (met && known)))
+      among_asked : is_among q all_asked ≡ (own || ((met && others) || (met && known)))
       among_asked =
-          all_put q (with_there hats base owns) (option_to_list e.key)
-          ∙ ap (λ b. own || b) (all_put q base (filter (is_met_by (all_keys hats)) owns))
-          ∙ (λ j. own || (among_filter (is_met_by (all_keys hats)) q owns j || among_filter (meets e.key) q (all_keys hats) j))
-          ∙ (λ j. own || ((is_met_by (keys_same j) q && among_owns (Some id) e.key q (interests_of face ints) [] j) || (met && is_among q (keys_same j))))
+          all_put q with_owns (option_to_list e.key)
+          ∙ ap (λ b. own || b) (among_owns (Some id) e.key q (interests_of face ints) base)
+          ∙ ap (λ b. own || ((met && others) || b)) (among_filter (meets e.key) q (all_keys hats))
+          ∙ ap (λ ks. own || ((met && others) || (met && is_among q ks))) keys_same
 
       abbrev all_due : List (List ℕ)
       all_due = fold (insert_key text_cmp) (face_keys c more face) (option_to_list e.key)
 
-      among_due : is_among q all_due ≡ (own || ((there && (wants_folded q (id, e) || others)) || known))
+      among_due : is_among q all_due ≡ (own || ((wants_folded q (id, e) || others) || known))
       among_due =
           all_put q (face_keys c more face) (option_to_list e.key)
-          ∙ ap (λ b. own || b) (among_wide face more (due_keys c) q)
-          ∙ ap (λ b. own || ((there && b) || known)) (sym (folded_own face q more) ∙ sym (folds_with face id ints sorted q e))
+          ∙ ap (λ b. own || b) (all_put q (due_keys c) (own_keys face more))
+          ∙ ap (λ b. own || (b || known)) (sym (folded_own face q more) ∙ sym (folds_with face id ints sorted q e))
 
       -- its own key is asked for as one entry, and met
       own_folds : wants_folded q (id, e) ≡ true → own ≡ true
@@ -219,20 +211,19 @@ module _ (c : Core) (ints : Interests) (face id : ℕ) (sorted : Ordered face in
           by None f = absurd (true≢false (sym f))
           by (Some k) f = ap (intersects k) (same_key text_total text_exact q k (or_none (is_at (text_cmp q) k) ∙ f)) ∙ intersects-self k
 
-      looks_alike : (a n m k t w f d : Bool) → (a ≡ true → m ≡ true) → (f ≡ true → k ≡ true) → (k ≡ true → m ≡ true)
-          → ((a || n) && (k || ((t && ((m && w) || false)) || (m && d)))) ≡ ((a || (m && n)) && (k || ((t && (f || w)) || d)))
-      looks_alike a n true k t w true d am fk km = (λ j. (a || n) && (fk refl j || ((t && (w || false)) || d))) ∙ sym (λ j. (a || n) && (fk refl j || ((t && true) || d)))
-      looks_alike a n true k t w false d am fk km = ap (λ b. (a || n) && (k || ((t && b) || d))) (sym (or_none w))
-      looks_alike true n false k t w f d am fk km = absurd (true≢false (sym (am refl)))
-      looks_alike a n false true t w f d am fk km = absurd (true≢false (sym (km refl)))
-      looks_alike false n false false true w f d am fk km = sym (and_false n)
-      looks_alike false n false false false w f d am fk km = sym (and_false n)
+      looks_alike : (a n m k w f d : Bool) → (a ≡ true → m ≡ true) → (f ≡ true → k ≡ true) → (k ≡ true → m ≡ true)
+          → ((a || n) && (k || ((m && w) || (m && d)))) ≡ ((a || (m && n)) && (k || ((f || w) || d)))
+      looks_alike a n true k w true d am fk km = (λ j. (a || n) && (fk refl j || (w || d))) ∙ sym (λ j. (a || n) && (fk refl j || true))
+      looks_alike a n true k w false d am fk km = refl
+      looks_alike true n false k w f d am fk km = absurd (true≢false (sym (am refl)))
+      looks_alike a n false true w f d am fk km = absurd (true≢false (sym (km refl)))
+      looks_alike false n false false w f d am fk km = sym (and_false n)
 
       alike : is_among q (filter passes all_asked) ≡ is_among q (asked_keys c more face e)
       alike =
           among_filter passes q all_asked
           ∙ ap (λ b. passes q && b) among_asked
-          ∙ looks_alike (asked_for e q) (is_none (due c more face q)) met own there others (wants_folded q (id, e)) known (asked_meets e q) own_folds own_met
+          ∙ looks_alike (asked_for e q) (is_none (due c more face q)) met own others (wants_folded q (id, e)) known (asked_meets e q) own_folds own_met
           ∙ ap (λ b. is_looked c more face e q && b) (sym among_due)
           ∙ sym (among_filter (is_looked c more face e) q all_due)
 
@@ -258,12 +249,12 @@ module _ (c : Core) (ints : Interests) (face id : ℕ) (sorted : Ordered face in
 
     module _ (q : List ℕ) where
       ends_alike : (t m f d : Bool) → (t ≡ true → (d || f) ≡ true) → (t && ((m && f) || (m && d))) ≡ (m && t)
-      ends_alike true true true d known = refl
-      ends_alike true true false true known = refl
-      ends_alike true true false false known = absurd (true≢false (sym (known refl)))
-      ends_alike true false f d known = refl
-      ends_alike false true f d known = refl
-      ends_alike false false f d known = refl
+      ends_alike true true true d on = refl
+      ends_alike true true false true on = refl
+      ends_alike true true false false on = absurd (true≢false (sym (on refl)))
+      ends_alike true false f d on = refl
+      ends_alike false true f d on = refl
+      ends_alike false false f d on = refl
 
       told_alike : is_among q (filter (was_told face ears) ended) ≡ is_among q (filter (meets asked) told)
       told_alike =
@@ -277,12 +268,12 @@ module _ (c : Core) (ints : Interests) (face id : ℕ) (sorted : Ordered face in
     ended_alike =
         same_keys text_total text_exact (filter (was_told face ears) ended) (filter (meets asked) told) (IsStrictlySortedBy-filter text_cmp (was_told face ears) ended ended_rise) (IsStrictlySortedBy-filter text_cmp (meets asked) told informed.rise) told_alike
 
-    due_besides : (key : List ℕ) → row_as (asking (Some id) None face ints) face o hats key ≡ due_on c less face key
+    due_besides : (key : List ℕ) → row_as (asking_in less face) face o hats key ≡ due_on c less face key
     due_besides key =
-        ap (λ d. (key, d)) (due_is c less None hats [] face o still key (asking (Some id) None face ints key) refl (folds_without face id ints sorted key))
+        ap (λ d. (key, d)) (due_is c less None hats [] face o still key (asking_in less face key) refl refl)
 
-    pub ended_are : (e : InterestEntry) → e.key ≡ asked → map (row_as (asking (Some id) None face ints) face o hats) (filter (was_told face ears) ended) ≡ ended_dues c less ears face e
+    pub ended_are : (e : InterestEntry) → e.key ≡ asked → map (row_as (asking_in less face) face o hats) (filter (was_told face ears) ended) ≡ ended_dues c less ears face e
     ended_are e is =
-        same_rows (row_as (asking (Some id) None face ints) face o hats) (due_on c less face) due_besides (filter (was_told face ears) ended)
+        same_rows (row_as (asking_in less face) face o hats) (due_on c less face) due_besides (filter (was_told face ears) ended)
         ∙ ap (map (due_on c less face)) ended_alike
         ∙ ap (λ k. map (due_on c less face) (filter (meets k) told)) (sym is)

@@ -1,7 +1,8 @@
 -- What a face hears, has as one entry, and is due once a hat has changed is what decides after the change, where it changes what is heard on some keys alone.
-use Rattle.std.proofs.Common.{◌≡◌, ◌∙◌, refl, sym, ap, subst, ℕ, Bool, true, false, cond, not, List, [], ◌∷◌, ◌++◌, map, filter, Option, Some, None, true≢false}
+use Rattle.std.proofs.Common.{◌≡◌, ◌∙◌, refl, sym, ap, subst, ℕ, Bool, true, false, cond, not, List, [], ◌∷◌, ◌++◌, map, filter, fold, Option, Some, None, true≢false}
 use Rattle.std.specs.Prelude.{◌&&◌, ◌||◌}
 use Rattle.std.specs.BTreeMap.{is_at}
+use Rattle.std.specs.BTreeSet.{insert_key}
 use Rattle.std.specs.List.{AllByRecursion, flat_map}
 use Rattle.std.specs.List.Sorted.{IsStrictlySortedBy}
 use Rattle.std.specs.Option.{is_some, option_and_then, option_map_or}
@@ -26,7 +27,7 @@ use Rattle.zq_machine.proofs.NeighbourDues.{among_filter}
 use Rattle.zq_machine.proofs.Widening.{both_true}
 use Rattle.zq_dues.specs.declared.asking.Asking.{Asking}
 use Rattle.zq_dues.specs.declared.types.HatChange.{HatChange}
-use Rattle.zq_dues.specs.Dues.{IsAfter, IsBeside, all_keys, due_as, folded_as, hats_after, hears_as, heard_at, listed_due, listens_as, parts}
+use Rattle.zq_dues.specs.Dues.{IsAfter, IsBeside, all_keys, due_as, folded_as, hats_after, hears_as, heard_at, listed_due, listens_as, parts, put_if_meets}
 use Rattle.zq_dues.proofs.KeysMet.{all_rise, hats_rise, none_rise}
 use Rattle.zq_dues.proofs.Nexts.{listens_after}
 
@@ -88,6 +89,16 @@ or_right false b e = e
 or_left : (a b : Bool) → a ≡ true → (a || b) ≡ true
 or_left a b e = ap (λ x. x || b) e
 
+-- those of some keys that meet a key are put in
+meeting_put : (key : List ℕ) (ks texts : List (List ℕ)) → fold (put_if_meets key) texts ks ≡ fold (insert_key text_cmp) texts (filter (λ k. intersects k key) ks)
+meeting_put key [] texts = refl
+meeting_put key (k ∷ ks) texts = by (intersects k key) (meeting_put key ks)
+  where
+    by : (b : Bool) → ((more : List (List ℕ)) → fold (put_if_meets key) more ks ≡ fold (insert_key text_cmp) more (filter (λ q. intersects q key) ks))
+        → fold (put_if_meets key) (cond b (insert_key text_cmp texts k) texts) ks ≡ fold (insert_key text_cmp) texts (cond b (k ∷ filter (λ q. intersects q key) ks) (filter (λ q. intersects q key) ks))
+    by true more = more (insert_key text_cmp texts k)
+    by false more = more texts
+
 module _ (c : Core) (ints : Interests) (next : Option HatChange) (hats : Hats) (keys : List (List ℕ)) (face : ℕ) (o : OpenFace) (is : IsHeard c next hats keys face o) where
   -- the hats before the change have each key on which something is heard by them
   abbrev was : Core
@@ -99,7 +110,8 @@ module _ (c : Core) (ints : Interests) (next : Option HatChange) (hats : Hats) (
   -- all that add to an entry are among its parts
   in_parts : (key q : List ℕ) → adds key (heard c face) q ≡ true → is_among q (parts keys hats key) ≡ true
   in_parts key q e =
-      all_put q (filter meets (all_keys hats)) (filter meets keys)
+      ap (is_among q) (meeting_put key keys (filter meets (all_keys hats)))
+      ∙ all_put q (filter meets (all_keys hats)) (filter meets keys)
       ∙ (λ j. among_filter meets q keys j || among_filter meets q (all_keys hats) j)
       ∙ by (has_text q keys) refl
     where
@@ -114,7 +126,9 @@ module _ (c : Core) (ints : Interests) (next : Option HatChange) (hats : Hats) (
       by false off = or_right (meets q && is_among q keys) (meets q && is_among q (all_keys hats)) (λ j. both.0 j && there_before q both.1 off j)
 
   parts_rise : (key : List ℕ) → IsStrictlySortedBy text_cmp (parts keys hats key)
-  parts_rise key = all_rise (filter (λ k. intersects k key) keys) (filter (λ k. intersects k key) (all_keys hats)) (IsStrictlySortedBy-filter text_cmp (λ k. intersects k key) (all_keys hats) (hats_rise hats [] none_rise))
+  parts_rise key =
+      subst (IsStrictlySortedBy text_cmp) (sym (meeting_put key keys (filter (λ k. intersects k key) (all_keys hats))))
+      (all_rise (filter (λ k. intersects k key) keys) (filter (λ k. intersects k key) (all_keys hats)) (IsStrictlySortedBy-filter text_cmp (λ k. intersects k key) (all_keys hats) (hats_rise hats [] none_rise)))
 
   pub folded_is : (key : List ℕ) → folded_as next keys face o hats key ≡ folded c face key
   folded_is key = folded_same key (heard c face) (heard_at next keys face o hats) (λ k meets. is.hears k) (due_keys c) (parts keys hats key) (due_rise c) (parts_rise key) (adds_keys c face key) (in_parts key)

@@ -12,7 +12,7 @@ module _ {K : Type 0} (R : K → K → Ordering) (P : K → Type 0) where
   in_by k x xs Equal p all ih = all
   in_by k x xs Greater p all ih = (all.0, ih)
 
-  one_in : (k : K) (xs : List K) → P k → AllByRecursion P xs → AllByRecursion P (insert_key R xs k)
+  pub one_in : (k : K) (xs : List K) → P k → AllByRecursion P xs → AllByRecursion P (insert_key R xs k)
   one_in k [] p all = (p, tt)
   one_in k (x ∷ xs) p all = in_by k x xs (R k x) p all (one_in k xs p all.1)
 

@@ -1,6 +1,6 @@
 -- The keys that meet what is asked for, put in order region by region, and those of them that a face was told.
-use Rattle.std.proofs.Common.{◌≡◌, ◌∙◌, refl, sym, ap, subst, ℕ, Bool, true, false, cond, filter, fold, List, [], ◌∷◌, Option, Some, None}
-use Rattle.std.specs.Prelude.{◌||◌, ◌&&◌}
+use Rattle.std.proofs.Common.{◌≡◌, ◌∙◌, refl, sym, ap, subst, ℕ, Bool, true, false, cond, filter, fold, List, [], ◌∷◌, Option, Some, None, Result, Ok, Err}
+use Rattle.std.specs.Prelude.{◌||◌, ◌&&◌, IfOk, OnOk}
 use Rattle.std.specs.BTreeMap.{is_at}
 use Rattle.std.specs.BTreeSet.{insert_key}
 use Rattle.std.specs.List.{AllByRecursion}
@@ -21,7 +21,7 @@ use Rattle.zq_told.specs.Ears.{Ear, Ears, at_face, told_keys}
 use Rattle.zq_machine.specs.Due.{with_region_keys}
 use Rattle.zq_machine.proofs.DueKeys.{all_put, is_among}
 use Rattle.zq_machine.proofs.NeighbourDues.{among_filter}
-use Rattle.zq_dues.specs.Dues.{all_keys, was_told}
+use Rattle.zq_dues.specs.Dues.{AreKeys, all_keys, was_told}
 
 -- what holds of each holds of those that pass
 pub all_passing : {X : Type 0} (P : X → Type 0) (test : X → Bool) (xs : List X) → AllByRecursion P xs → AllByRecursion P (filter test xs)
@@ -96,3 +96,13 @@ module _ (face : ℕ) (ears : Ears) where
       by : (o : Option Ear) → is_some (option_and_then (λ (e : Ear). at_text key e.told) o) ≡ is_among key (option_map_or (λ (e : Ear). keys_of e.told) o [])
       by None = refl
       by (Some e) = is_some-lookup (is_at (text_cmp key)) e.told
+
+-- where texts are some keys at Ok, they are keys there
+pub ok_keys : {X E : Type 0} (r : Result X E) (texts keys : List (List ℕ)) → OnOk r (texts ≡ keys) → AreKeys keys → OnOk r (AreKeys texts)
+ok_keys (Ok x) texts keys is all = subst AreKeys (sym is) all
+ok_keys (Err e) texts keys is all = tt
+
+-- where an answer is some keys it is keys
+pub if_keys : {E : Type 0} (r : Result (List (List ℕ)) E) (keys : List (List ℕ)) → IfOk r (λ ks. ks ≡ keys) → AreKeys keys → IfOk r AreKeys
+if_keys (Ok ks) keys is all = subst AreKeys (sym is) all
+if_keys (Err e) keys is all = tt

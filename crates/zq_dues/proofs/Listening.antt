@@ -32,7 +32,7 @@ use Rattle.zq_machine.proofs.Changing.{region_there}
 use Rattle.zq_machine.proofs.Widening.{asked_meets}
 use Rattle.zq_own.specs.Seats.{seats}
 use Rattle.zq_dues.specs.declared.types.HatChange.{HatChange}
-use Rattle.zq_dues.specs.Asking.{asking}
+use Rattle.zq_dues.specs.Asking.{asking_in}
 use Rattle.zq_dues.specs.Dues.{due_as, hears_as, listed_due, listens_as}
 use Rattle.zq_dues.specs.Listeners.{listeners, with_askers, with_hat, with_number, with_unasked}
 use Rattle.zq_dues.specs.Over.{AreSeated, dues_there, faces_but, is_gone, looked_as, looked_over_as, looked_there}
@@ -206,16 +206,16 @@ module _ (ints : Interests) (next : Option HatChange) (hats : List (ℕ × HatSt
   unasking : (key : List ℕ) → list_any (is_met key) (interests_of n ints) ≡ false → asks_for n key ints ≡ false
   unasking key out = no_more (is_met key) (wants key) (λ e. asked_meets e.1 key) (interests_of n ints) out
 
-  none_listed : (ks : List (List ℕ)) → AllByRecursion (λ key. list_any (is_met key) (interests_of n ints) ≡ false) ks → flat_map (listed_due (asking None None n ints) next keys n o hats) ks ≡ []
+  none_listed : (ks : List (List ℕ)) → AllByRecursion (λ key. list_any (is_met key) (interests_of n ints) ≡ false) ks → flat_map (listed_due (asking_in ints n) next keys n o hats) ks ≡ []
   none_listed [] all = refl
   none_listed (k ∷ ks) all =
-      ap (λ b. cond b ((k, due_as (asking None None n ints k) next keys n o hats k) ∷ []) [] ++ flat_map (listed_due (asking None None n ints) next keys n o hats) ks)
+      ap (λ b. cond b ((k, due_as (asking_in ints n k) next keys n o hats k) ∷ []) [] ++ flat_map (listed_due (asking_in ints n) next keys n o hats) ks)
       (ap (λ b. listens_as b hats o) (unasking k all.0) ∙ deaf_there)
       ∙ none_listed ks all.1
 
   none_there : AllByRecursion (λ key. list_any (is_met key) (interests_of n ints) ≡ false) keys → dues_there ints next hats keys (n, o) ≡ []
   none_there all =
-      ap (λ more. flat_map (listed_due (asking None None n ints) next keys n o hats) (fold (insert_key text_cmp) keys more)) (none_own (interests_of n ints) keys all)
+      ap (λ more. flat_map (listed_due (asking_in ints n) next keys n o hats) (fold (insert_key text_cmp) keys more)) (none_own (interests_of n ints) keys all)
       ∙ none_listed keys all
 
 -- ---- lists of numbers, in order, that give the same

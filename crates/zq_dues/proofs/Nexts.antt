@@ -38,7 +38,7 @@ use Rattle.zq_machine.proofs.Changing.{hat_here, region_there}
 use Rattle.zq_own.specs.Own.{own_entry_as}
 use Rattle.zq_own.proofs.Changed.{own_changed, same_places}
 use Rattle.zq_dues.specs.declared.types.HatChange.{HatChange}
-use Rattle.zq_dues.specs.Dues.{IsAfter, due_as, dues_as, hats_after, hats_next, hears_as, listed_due, listens_as, new_info, will_be_due, will_listen}
+use Rattle.zq_dues.specs.Dues.{hats_after, hats_next, hears_as, listens_as, new_info}
 use Rattle.zq_machine.specs.Neighbours.{due_on, dues_on}
 
 -- ---- a change keeps a hat's region and strategy

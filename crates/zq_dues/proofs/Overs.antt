@@ -20,7 +20,7 @@ use Rattle.zq_machine.specs.Neighbours.{dues_on, looked_over, with_dues}
 use Rattle.zq_machine.specs.State.{Core, at}
 use Rattle.zq_machine.proofs.Changing.{number_test}
 use Rattle.zq_dues.specs.declared.types.HatChange.{HatChange}
-use Rattle.zq_dues.specs.Asking.{asking}
+use Rattle.zq_dues.specs.Asking.{asking_in}
 use Rattle.zq_dues.specs.Dues.{IsAfter}
 use Rattle.zq_dues.specs.Over.{faces_but, is_gone, looked_as, looked_over_as}
 use Rattle.zq_dues.proofs.Heard.{is_heard, listed_is}
@@ -72,7 +72,7 @@ module _ (c : Core) (ints : Interests) (next : Option HatChange) (hats : List (�
   one_looked : (e : ℕ × OpenFace) → at e.0 c.faces ≡ Some e.1 → looked_as ints next hats (k ∷ ks) e ≡ with_dues e.0 (dues_on c ints (widened e.0 ints (k ∷ ks)) e.0)
   one_looked e opened =
       ap (with_dues e.0)
-      (listed_is c ints next hats (k ∷ ks) e.0 e.1 (is_heard c next hats (k ∷ ks) is e.0 e.1 opened k ks refl) (asking None None e.0 ints) (λ key. refl) (λ key. refl) (widened e.0 ints (k ∷ ks)))
+      (listed_is c ints next hats (k ∷ ks) e.0 e.1 (is_heard c next hats (k ∷ ks) is e.0 e.1 opened k ks refl) (asking_in ints e.0) (λ key. refl) (λ key. refl) (widened e.0 ints (k ∷ ks)))
 
   each_looked : (es : List (ℕ × OpenFace)) → AllByRecursion (λ (o : ℕ × OpenFace). at o.0 c.faces ≡ Some o.1) es
       → looked_over_as ints next hats (k ∷ ks) es ≡ flat_map (λ (o : ℕ × OpenFace). with_dues o.0 (dues_on c ints (widened o.0 ints (k ∷ ks)) o.0)) es

@@ -62,3 +62,18 @@ module _ (keys : List (List ℕ)) (s : IsStrictlySortedBy text_cmp keys) (face :
 
 pub not_widened : (keys : List (List ℕ)) (face : ℕ) (ints : Interests) → list_any (has_met keys) (interests_of face ints) ≡ false → widened face ints keys ≡ keys
 not_widened keys face ints none = ap (fold (insert_key text_cmp) keys) (none_in keys (interests_of face ints) none)
+
+-- one key stands in order
+pub one_rises : (key : List ℕ) → IsStrictlySortedBy text_cmp (key ∷ [])
+unfolding IsStrictlySortedBy
+one_rises key = all_rise (key ∷ []) [] none_rise
+
+-- keys of which there are some
+pub record Some-first (ks : List (List ℕ)) : Type 0 where
+  pub key : List ℕ
+  pub rest : List (List ℕ)
+  pub is : ks ≡ key ∷ rest
+
+pub first_of : (ks : List (List ℕ)) → (ks ≡ [] → ⊥) → Some-first ks
+first_of [] some = absurd (some refl)
+first_of (k ∷ ks) some = record { key = k; rest = ks; is = refl }

@@ -6,30 +6,21 @@ use Rattle.std.specs.Option.{option_to_list}
 use Rattle.zq_index.specs.Texts.{has_text, text_cmp}
 use Rattle.zq_hat.specs.State.{HatState}
 use Rattle.zq_interests.specs.declared.types.InterestEntry.{InterestEntry}
-use Rattle.zq_interests.specs.Interests.{Interests, asked_for, interests_of, meets, own_keys}
+use Rattle.zq_interests.specs.Interests.{Interests, asked_for, interests_of, meets, with_interest}
 use Rattle.zq_told.specs.Telling.{KeyDue}
 use Rattle.zq_machine.specs.declared.face.OpenFace.{OpenFace}
-use Rattle.zq_machine.specs.Due.{is_met_by}
-use Rattle.zq_dues.specs.Asking.{asking, with_own}
+use Rattle.zq_dues.specs.Asking.{asking_in, with_own}
 use Rattle.zq_dues.specs.Dues.{all_keys, due_as, row_as}
 
--- those of some keys that a key meets on which some region has information join others
-abbrev pub with_there : List (ℕ × HatState) → List (List ℕ) → List (List ℕ) → List (List ℕ)
-with_there hats texts more = fold (insert_key text_cmp) texts (filter (is_met_by (all_keys hats)) more)
-
--- the keys of the face's aggregating interests, but for the one under the id, that meet what is asked for
-abbrev pub owns_asked : Option ℕ → Option (List ℕ) → ℕ → Interests → List (List ℕ)
-owns_asked but asked face ints = fold (with_own but asked) [] (interests_of face ints)
-
--- the keys that an interest may have to look at: of those on which regions have information, and of those of the face's other aggregating interests that one of these meets, the ones that meet what it asks for; and its own
+-- the keys that an interest may have to look at: those on which regions have information and those of the face's other aggregating interests that meet what it asks for, and its own
 abbrev pub keys_asked : ℕ → InterestEntry → ℕ → Interests → List (ℕ × HatState) → List (List ℕ)
 keys_asked id e face ints hats =
-    fold (insert_key text_cmp) (with_there hats (filter (meets e.key) (all_keys hats)) (owns_asked (Some id) e.key face ints)) (option_to_list e.key)
+    fold (insert_key text_cmp) (fold (with_own (Some id) e.key) (filter (meets e.key) (all_keys hats)) (interests_of face ints)) (option_to_list e.key)
 
 -- a key with what is due there to the face once the interest stands, if it asks for the key or nothing is due there
 abbrev pub looked_due : ℕ → InterestEntry → ℕ → Interests → OpenFace → List (ℕ × HatState) → List ℕ → List KeyDue
 looked_due id e face ints o hats key =
-    if asked_for e key || is_none (due_as (asking (Some id) (Some e) face ints key) None [] face o hats key) then row_as (asking (Some id) (Some e) face ints) face o hats key ∷ [] else []
+    if asked_for e key || is_none (due_as (asking_in (with_interest face id e ints) face key) None [] face o hats key) then row_as (asking_in (with_interest face id e ints) face) face o hats key ∷ [] else []
 
 -- the keys that a face was told stand in order, and of each of them some region has information, or it is that of an aggregating interest
 pub record AreInformed (keys : List (List ℕ)) (hats : List (ℕ × HatState)) (owns : List (List ℕ)) : Type 0 where

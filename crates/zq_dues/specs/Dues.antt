@@ -58,13 +58,13 @@ heard_at next touched face o hats key = if has_text key touched then heard_as fa
 abbrev pub part_of : List ℕ → List ℕ → Option QueryableInfoType → Option QueryableInfoType
 part_of key k i = option_map (seen_at key k) i
 
--- of some keys those that meet the key join others
-abbrev pub with_meeting : List ℕ → List (List ℕ) → List (List ℕ) → List (List ℕ)
-with_meeting key ks more = fold (insert_key text_cmp) ks (filter (λ k. intersects k key) more)
+-- a key joins others, if it meets the key
+abbrev pub put_if_meets : List ℕ → List (List ℕ) → List ℕ → List (List ℕ)
+put_if_meets key ks k = if intersects k key then insert_key text_cmp ks k else ks
 
 -- the keys that meet the key on which regions have information, or may have it after the change, each once, in order
 abbrev pub parts : List (List ℕ) → List (ℕ × HatState) → List ℕ → List (List ℕ)
-parts touched hats key = with_meeting key (filter (λ k. intersects k key) (all_keys hats)) touched
+parts touched hats key = fold (put_if_meets key) (filter (λ k. intersects k key) (all_keys hats)) touched
 
 -- what an open face will hear on all keys that meet the key, as one entry
 abbrev pub folded_as : Option HatChange → List (List ℕ) → ℕ → OpenFace → List (ℕ × HatState) → List ℕ → Option QueryableInfoType

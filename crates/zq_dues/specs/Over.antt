@@ -18,7 +18,7 @@ use Rattle.zq_machine.specs.Neighbours.{with_dues}
 use Rattle.zq_machine.specs.State.{Core, at}
 use Rattle.zq_own.specs.Seats.{seats}
 use Rattle.zq_dues.specs.declared.types.HatChange.{HatChange}
-use Rattle.zq_dues.specs.Asking.{asking}
+use Rattle.zq_dues.specs.Asking.{asking_in}
 use Rattle.zq_dues.specs.Dues.{listed_due}
 
 -- the number is that of the face that a closing takes away, if there is one
@@ -31,7 +31,7 @@ faces_but but faces = option_map_or (λ (f : FaceId). remove_entry (is_at (nat_c
 
 -- what will be due to an open face, on those of the keys on which it listens, and on those of its aggregating interests' keys that one of them meets
 abbrev pub dues_there : Interests → Option HatChange → List (ℕ × HatState) → List (List ℕ) → ℕ × OpenFace → List KeyDue
-dues_there ints next hats keys o = flat_map (listed_due (asking None None o.0 ints) next keys o.0 o.1 hats) (widened o.0 ints keys)
+dues_there ints next hats keys o = flat_map (listed_due (asking_in ints o.0) next keys o.0 o.1 hats) (widened o.0 ints keys)
 
 -- an open face with these, if there are any
 abbrev pub looked_as : Interests → Option HatChange → List (ℕ × HatState) → List (List ℕ) → ℕ × OpenFace → List FaceDues

@@ -1,27 +1,32 @@
 //! What an interest of a face looks at, and what its end looks at.
-ghost use Rattle.std.specs.Prelude.{◌≡◌, ◌++◌, [], ℕ, List, None, Some, IfOk, IsTrue, OnOk, filter, map, option_copied, string_bytes};
+ghost use Rattle.std.specs.Prelude.{◌≡◌, ◌++◌, [], ℕ, List, None, Some, IfOk, IsTrue, OnOk, filter, fold, map, option_copied, string_bytes};
+ghost use Rattle.std.specs.BTreeSet.{insert_key};
 ghost use Rattle.std.specs.List.{flat_map};
+ghost use Rattle.std.specs.Option.{option_to_list};
+ghost use Rattle.zq_index.specs.Texts.{text_cmp};
+ghost use Rattle.std.specs.List.Sorted.{IsStrictlySortedBy};
+ghost use Rattle.std.specs.Map.{keys_of};
+ghost use Rattle.std.specs.Ordering.{nat_cmp};
 ghost use Rattle.zq_key.specs.Key.{is_key};
 ghost use Rattle.zq_interests.specs.declared.types.InterestEntry.{InterestEntry};
-ghost use Rattle.zq_interests.specs.Interests.{own_keys, with_interest, without_interest};
+ghost use Rattle.zq_interests.specs.Interests.{interests_of, own_keys, with_interest, without_interest};
 ghost use Rattle.zq_told.specs.Ears.{told_keys};
 ghost use Rattle.zq_told.specs.Rooms.{ears_of};
 ghost use Rattle.zq_machine.specs.Neighbours.{asked_at, ended_at, with_dues};
 ghost use Rattle.zq_machine.specs.State.{Core, at};
-ghost use Rattle.zq_dues.specs.Asked.{AreInformed, keys_asked, looked_due, with_there};
-ghost use Rattle.zq_dues.specs.Asking.{asking};
+ghost use Rattle.zq_dues.specs.Asked.{AreInformed, keys_asked, looked_due};
+ghost use Rattle.zq_dues.specs.Asking.{asking_in};
 ghost use Rattle.zq_dues.specs.Dues.{AreKeys, row_as, was_told};
 
-use crate::asking::{ask_of, put_owns_asked, wants};
+use crate::asking::{asks_besides, asks_with, put_key, put_owns_asked, wants};
 use crate::due::due_as;
 use crate::dues::put_due;
-use crate::keys::{is_met, met_texts};
+use crate::keys::met_texts;
 use crate::over::list_face;
 use crate::types::DuesList;
 use std::alloc::Global;
 use std::collections::BTreeSet;
 use zq_hat::hat::Hat;
-use zq_index::text_set::put_text;
 use zq_interests::interests::Interests;
 use zq_interests::types::InterestEntry;
 use zq_key::Key;
@@ -43,23 +48,19 @@ fn one_face(alloc: Global, face: FaceId, dues: KeyDues) -> Result<DuesList, OutO
     Ok(list)
 }
 
-// Of some keys those join others that a key meets on which some region has information.
-fn put_there(
+// A key joins others, if there is one.
+fn put_option(
     keys: &mut BTreeSet<String>,
     alloc: Global,
-    hats: &RegionMap<Hat>,
-    more: &BTreeSet<String>,
+    asked: Option<&Key>,
 ) -> Result<(), OutOfMemory>
-    requires { AreKeys (map string_bytes more.now.keys) }
-    ensures joined { OnOk result (map string_bytes keys.new.keys ≡ with_there hats.now (map string_bytes keys.old.keys) (map string_bytes more.now.keys)) }
+    ensures joined { OnOk result (map string_bytes keys.new.keys ≡ fold (insert_key text_cmp) (map string_bytes keys.old.keys) (option_to_list (option_copied asked.entry))) }
     ensures valid { AreKeys (map string_bytes keys.old.keys) → OnOk result (AreKeys (map string_bytes keys.new.keys)) }
 {
-    for own in more {
-        if is_met(alloc, hats, own.as_str())? {
-            put_text(keys, alloc, own.as_str())?;
-        }
+    match asked {
+        Some(key) => put_key(keys, alloc, key.as_str()),
+        None => Ok(()),
     }
-    Ok(())
 }
 
 // The keys that an interest of the face may have to look at.
@@ -73,16 +74,12 @@ fn keys_asked(
 ) -> Result<BTreeSet<String>, OutOfMemory>
     ensures keys { IfOk result (λ s. map string_bytes s.keys ≡ keys_asked id entry.now face.0 interests.now hats.now) }
     ensures valid { IfOk result (λ s. AreKeys (map string_bytes s.keys)) }
+    ensures ordered { OnOk result (IsStrictlySortedBy nat_cmp (keys_of (interests_of face.0 interests.now))) }
 {
     let asked = entry.key.as_ref();
-    let mut owns = BTreeSet::new(alloc);
-    put_owns_asked(&mut owns, alloc, interests, face, Some(id), asked)?;
     let mut keys = met_texts(alloc, hats, asked)?;
-    put_there(&mut keys, alloc, hats, &owns)?;
-    match asked {
-        Some(key) => put_text(&mut keys, alloc, key.as_str())?,
-        None => {}
-    }
+    put_owns_asked(&mut keys, alloc, interests, face, Some(id), asked)?;
+    put_option(&mut keys, alloc, asked)?;
     Ok(keys)
 }
 
@@ -102,7 +99,7 @@ fn put_looked(
     requires { IsTrue (is_key key.now) }
     ensures { OnOk result (dues.new ≡ dues.old ++ looked_due id entry.now face.0 interests.now opened hats.now key.now) }
 {
-    let asks = ask_of(interests, face, Some(id), Some(entry), key);
+    let asks = asks_with(interests, face, id, entry, key);
     let touched = BTreeSet::new(alloc);
     let due = due_as(alloc, hats, None, &touched, face, opened, asks, key)?;
     if wants(entry, key) || due.is_none() {
@@ -173,14 +170,14 @@ fn dues_besides(
     keys: &BTreeSet<String>,
 ) -> Result<KeyDues, OutOfMemory>
     requires { AreKeys (map string_bytes keys.now.keys) }
-    ensures { IfOk result (λ ds. ds ≡ map (row_as (asking (Some id) None face.0 interests.now) face.0 opened hats.now) (filter (was_told face.0 (ears_of ears.now)) (map string_bytes keys.now.keys))) }
+    ensures { IfOk result (λ ds. ds ≡ map (row_as (asking_in (without_interest face.0 id interests.now) face.0) face.0 opened hats.now) (filter (was_told face.0 (ears_of ears.now)) (map string_bytes keys.now.keys))) }
 {
     let touched = BTreeSet::new(alloc);
     let mut dues = Items::new(alloc);
     for key in keys {
         let text = key.as_str();
         if was_told(ears, face, text) {
-            let asks = ask_of(interests, face, Some(id), None, text);
+            let asks = asks_besides(interests, face, id, text);
             put_due(
                 &mut dues, alloc, hats, None, &touched, face, opened, asks, text,
             )?;

@@ -6,9 +6,12 @@ ghost use Rattle.std.specs.List.{AllByRecursion, list_any};
 ghost use Rattle.std.specs.Option.{option_map};
 ghost use Rattle.zq_key.specs.Key.{is_key};
 ghost use Rattle.zq_index.specs.Texts.{text_cmp};
-ghost use Rattle.zq_interests.specs.Interests.{asked_for, interests_of, meets, own_key, wants_folded};
+ghost use Rattle.std.specs.List.Sorted.{IsStrictlySortedBy};
+ghost use Rattle.std.specs.Map.{keys_of};
+ghost use Rattle.std.specs.Ordering.{nat_cmp};
+ghost use Rattle.zq_interests.specs.Interests.{asked_for, interests_of, meets, own_key, with_interest, without_interest};
 ghost use Rattle.zq_machine.specs.Due.{is_met_by};
-ghost use Rattle.zq_dues.specs.Asking.{any_folds, asking, asks_but, asks_new, folds_new, has_met, is_left, with_asked, with_met, with_own};
+ghost use Rattle.zq_dues.specs.Asking.{asking_in, has_met, is_left, met_own, met_with, put_if_asked, put_if_met, with_met, with_own};
 ghost use Rattle.zq_dues.specs.Dues.{AreKeys};
 
 use std::alloc::Global;
@@ -53,16 +56,6 @@ fn own_key(entry: &InterestEntry) -> Option<&Key>
     }
 }
 
-// Whether the interest is aggregating, and the key is its own.
-fn wants_folded(entry: &InterestEntry, key: &str) -> bool
-    ensures { (id : ℕ) → result ≡ wants_folded key.now (id, entry.now) }
-{
-    match own_key(entry) {
-        Some(own) => compare_texts(own.as_str(), key) == Ordering::Equal,
-        None => false,
-    }
-}
-
 /// Whether the interest asks for the key: its own, if it is aggregating, and else each that it meets.
 pub fn wants(entry: &InterestEntry, key: &str) -> bool
     requires { IsTrue (is_key key.now) }
@@ -84,75 +77,42 @@ fn is_left(but: Option<u32>, id: u32) -> bool
     }
 }
 
-// Whether an interest of the face that stays asks for the key.
-fn asks_but(interests: &Interests, face: FaceId, but: Option<u32>, key: &str) -> bool
+/// What the face asks of the key by its interests. It looks at this face's interests alone.
+pub fn asks_now(interests: &Interests, face: FaceId, key: &str) -> Asking
     requires { IsTrue (is_key key.now) }
-    ensures { result ≡ asks_but but face.0 key.now interests.now }
+    ensures { result ≡ asking_in interests.now face.0 key.now }
 {
-    match but {
-        Some(id) => interests.asks_besides(face, id, key),
-        None => interests.asks_for(face, key),
+    Asking {
+        asks: interests.asks_for(face, key),
+        folds: interests.folds(face, key),
     }
 }
 
-// Whether an interest that stays asks for the key as one entry.
-fn any_folds(entries: &BTreeMap<u32, InterestEntry>, but: Option<u32>, key: &str) -> bool
-    ensures { result ≡ any_folds but key.now entries.now.entries }
-{
-    for (id, entry) in entries {
-        if is_left(but, *id) && wants_folded(entry, key) {
-            return true;
-        }
-    }
-    false
-}
-
-// Whether the new interest, if there is one, asks for the key.
-fn asks_new(new: Option<&InterestEntry>, key: &str) -> bool
+/// The same once the one under the id has ended.
+pub fn asks_besides(interests: &Interests, face: FaceId, id: u32, key: &str) -> Asking
     requires { IsTrue (is_key key.now) }
-    ensures { result ≡ asks_new (option_copied new.entry) key.now }
+    ensures { result ≡ asking_in (without_interest face.0 id interests.now) face.0 key.now }
 {
-    match new {
-        Some(entry) => wants(entry, key),
-        None => false,
+    Asking {
+        asks: interests.asks_besides(face, id, key),
+        folds: interests.folds_besides(face, id, key),
     }
 }
 
-// Whether it asks for the key as one entry.
-fn folds_new(new: Option<&InterestEntry>, key: &str) -> bool
-    ensures { result ≡ folds_new (option_copied new.entry) key.now }
-{
-    match new {
-        Some(entry) => wants_folded(entry, key),
-        None => false,
-    }
-}
-
-// Whether an interest of the face that stays asks for the key as one entry.
-fn folds_but(interests: &Interests, face: FaceId, but: Option<u32>, key: &str) -> bool
-    ensures { result ≡ any_folds but key.now (interests_of face.0 interests.now) }
-{
-    match interests.asked_by(face) {
-        Some(entries) => any_folds(entries, but, key),
-        None => false,
-    }
-}
-
-/// What the face asks of the key by its interests, but for the one under the id, and by the new one, if
-/// there is one. It looks at this face's interests alone.
-pub fn ask_of(
+/// The same once it asks this under the id.
+pub fn asks_with(
     interests: &Interests,
     face: FaceId,
-    but: Option<u32>,
-    new: Option<&InterestEntry>,
+    id: u32,
+    entry: &InterestEntry,
     key: &str,
 ) -> Asking
     requires { IsTrue (is_key key.now) }
-    ensures { result ≡ asking but (option_copied new.entry) face.0 interests.now key.now }
+    ensures { result ≡ asking_in (with_interest face.0 id entry.now interests.now) face.0 key.now }
 {
     Asking {
-        asks: asks_new(new, key) || asks_but(interests, face, but, key),
-        folds: folds_new(new, key) || folds_but(interests, face, but, key),
+        asks: interests.asks_with(face, id, entry, key),
+        folds: interests.folds_with(face, id, entry, key),
     }
 }
 
@@ -173,7 +133,7 @@ fn is_met_by(keys: &[Text], key: &str) -> bool
 // Whether the interest is aggregating, and one of the keys meets its own.
 fn has_met(entry: &InterestEntry, keys: &[Text]) -> bool
     requires { AreKeys keys.now }
-    ensures { (id : ℕ) → result ≡ has_met keys.now (id, entry.now) }
+    ensures { result ≡ met_own keys.now entry.now }
 {
     match own_key(entry) {
         Some(own) => is_met_by(keys, own.as_str()),
@@ -205,6 +165,52 @@ pub fn is_widened(interests: &Interests, face: FaceId, keys: &[Text]) -> bool
     }
 }
 
+/// A key joins others.
+pub(crate) fn put_key(texts: &mut BTreeSet<String>, alloc: Global, key: &str) -> Result<(), OutOfMemory>
+    requires { IsTrue (is_key key.now) }
+    ensures joined { OnOk result (map string_bytes texts.new.keys ≡ insert_key text_cmp (map string_bytes texts.old.keys) key.now) }
+    ensures valid { AreKeys (map string_bytes texts.old.keys) → OnOk result (AreKeys (map string_bytes texts.new.keys)) }
+{
+    put_text(texts, alloc, key)
+}
+
+// It joins them, if one of the keys meets it.
+fn put_if_met(
+    texts: &mut BTreeSet<String>,
+    alloc: Global,
+    own: &str,
+    keys: &[Text],
+) -> Result<(), OutOfMemory>
+    requires keys { AreKeys keys.now }
+    requires key { IsTrue (is_key own.now) }
+    ensures joined { OnOk result (map string_bytes texts.new.keys ≡ put_if_met keys.now (map string_bytes texts.old.keys) own.now) }
+    ensures valid { AreKeys (map string_bytes texts.old.keys) → OnOk result (AreKeys (map string_bytes texts.new.keys)) }
+{
+    if is_met_by(keys, own) {
+        put_key(texts, alloc, own)
+    } else {
+        Ok(())
+    }
+}
+
+// It joins them, if it meets what is asked for.
+fn put_asked(
+    texts: &mut BTreeSet<String>,
+    alloc: Global,
+    own: &str,
+    asked: Option<&Key>,
+) -> Result<(), OutOfMemory>
+    requires { IsTrue (is_key own.now) }
+    ensures joined { OnOk result (map string_bytes texts.new.keys ≡ put_if_asked (option_copied asked.entry) (map string_bytes texts.old.keys) own.now) }
+    ensures valid { AreKeys (map string_bytes texts.old.keys) → OnOk result (AreKeys (map string_bytes texts.new.keys)) }
+{
+    if meets(asked, own) {
+        put_key(texts, alloc, own)
+    } else {
+        Ok(())
+    }
+}
+
 // The key of an aggregating interest that one of the keys meets joins others.
 fn put_met(
     texts: &mut BTreeSet<String>,
@@ -213,15 +219,13 @@ fn put_met(
     keys: &[Text],
 ) -> Result<(), OutOfMemory>
     requires { AreKeys keys.now }
-    ensures joined { (id : ℕ) → OnOk result (map string_bytes texts.new.keys ≡ with_met keys.now (map string_bytes texts.old.keys) (id, entry.now)) }
+    ensures joined { OnOk result (map string_bytes texts.new.keys ≡ met_with keys.now (map string_bytes texts.old.keys) entry.now) }
     ensures valid { AreKeys (map string_bytes texts.old.keys) → OnOk result (AreKeys (map string_bytes texts.new.keys)) }
 {
-    if let Some(own) = own_key(entry) {
-        if is_met_by(keys, own.as_str()) {
-            return put_text(texts, alloc, own.as_str());
-        }
+    match own_key(entry) {
+        Some(own) => put_if_met(texts, alloc, own.as_str(), keys),
+        None => Ok(()),
     }
-    Ok(())
 }
 
 // The same of each of the interests.
@@ -259,26 +263,29 @@ pub fn put_owns_met(
     }
 }
 
-// The key of an aggregating interest that meets what is asked for joins others.
-fn put_asked(
+// The key of an aggregating interest that stays joins others, if it meets what is asked for.
+fn put_own(
     texts: &mut BTreeSet<String>,
     alloc: Global,
+    but: Option<u32>,
+    id: u32,
     entry: &InterestEntry,
     asked: Option<&Key>,
 ) -> Result<(), OutOfMemory>
-    ensures joined { OnOk result (map string_bytes texts.new.keys ≡ with_asked (option_copied asked.entry) (map string_bytes texts.old.keys) entry.now) }
+    ensures joined { OnOk result (map string_bytes texts.new.keys ≡ with_own but (option_copied asked.entry) (map string_bytes texts.old.keys) (id, entry.now)) }
     ensures valid { AreKeys (map string_bytes texts.old.keys) → OnOk result (AreKeys (map string_bytes texts.new.keys)) }
 {
-    if let Some(own) = own_key(entry) {
-        if meets(asked, own.as_str()) {
-            return put_text(texts, alloc, own.as_str());
-        }
+    if !is_left(but, id) {
+        return Ok(());
     }
-    Ok(())
+    match own_key(entry) {
+        Some(own) => put_asked(texts, alloc, own.as_str(), asked),
+        None => Ok(()),
+    }
 }
 
-// The same of each of the interests that stay.
-fn put_each_asked(
+// The same of each of the interests.
+fn put_each_own(
     texts: &mut BTreeSet<String>,
     alloc: Global,
     entries: &BTreeMap<u32, InterestEntry>,
@@ -286,12 +293,11 @@ fn put_each_asked(
     asked: Option<&Key>,
 ) -> Result<(), OutOfMemory>
     ensures joined { OnOk result (map string_bytes texts.new.keys ≡ fold (with_own but (option_copied asked.entry)) (map string_bytes texts.old.keys) entries.now.entries) }
+    ensures ordered { OnOk result (IsStrictlySortedBy nat_cmp (keys_of entries.now.entries)) }
     ensures valid { AreKeys (map string_bytes texts.old.keys) → OnOk result (AreKeys (map string_bytes texts.new.keys)) }
 {
     for (id, entry) in entries {
-        if is_left(but, *id) {
-            put_asked(texts, alloc, entry, asked)?;
-        }
+        put_own(texts, alloc, but, *id, entry, asked)?;
     }
     Ok(())
 }
@@ -307,10 +313,11 @@ pub fn put_owns_asked(
     asked: Option<&Key>,
 ) -> Result<(), OutOfMemory>
     ensures joined { OnOk result (map string_bytes texts.new.keys ≡ fold (with_own but (option_copied asked.entry)) (map string_bytes texts.old.keys) (interests_of face.0 interests.now)) }
+    ensures ordered { OnOk result (IsStrictlySortedBy nat_cmp (keys_of (interests_of face.0 interests.now))) }
     ensures valid { AreKeys (map string_bytes texts.old.keys) → OnOk result (AreKeys (map string_bytes texts.new.keys)) }
 {
     match interests.asked_by(face) {
-        Some(entries) => put_each_asked(texts, alloc, entries, but, asked),
+        Some(entries) => put_each_own(texts, alloc, entries, but, asked),
         None => Ok(()),
     }
 }

@@ -2,10 +2,10 @@
 ghost use Rattle.std.specs.Prelude.{◌≡◌, ◌++◌, ◌∷◌, [], IfOk, IsTrue, None, OnOk, map, option_copied, string_bytes, false};
 ghost use Rattle.std.specs.List.{flat_map};
 ghost use Rattle.zq_key.specs.Key.{is_key};
-ghost use Rattle.zq_dues.specs.Asking.{asking};
+ghost use Rattle.zq_dues.specs.Asking.{asking_in};
 ghost use Rattle.zq_dues.specs.Dues.{AreKeys, due_as, listed_due, row_as};
 
-use crate::asking::{Asking, ask_of};
+use crate::asking::{Asking, asks_now};
 use crate::due::{due_as, listens};
 use crate::types::HatChange;
 use std::alloc::Global;
@@ -56,9 +56,9 @@ fn list_due(
 ) -> Result<(), OutOfMemory>
     requires touched { AreKeys (map string_bytes touched.now.keys) }
     requires key { IsTrue (is_key key.now) }
-    ensures { OnOk result (dues.new ≡ dues.old ++ listed_due (asking None None face.0 interests.now) (option_copied next.entry) (map string_bytes touched.now.keys) face.0 opened hats.now key.now) }
+    ensures { OnOk result (dues.new ≡ dues.old ++ listed_due (asking_in interests.now face.0) (option_copied next.entry) (map string_bytes touched.now.keys) face.0 opened hats.now key.now) }
 {
-    let asks = ask_of(interests, face, None, None, key);
+    let asks = asks_now(interests, face, key);
     if listens(hats, opened, asks.asks) {
         put_due(dues, alloc, hats, next, touched, face, opened, asks, key)
     } else {
@@ -81,7 +81,7 @@ pub fn dues_of_face(
 ) -> Result<KeyDues, OutOfMemory>
     requires touched { AreKeys (map string_bytes touched.now.keys) }
     requires keys { AreKeys keys.now }
-    ensures { IfOk result (λ ds. ds ≡ flat_map (listed_due (asking None None face.0 interests.now) (option_copied next.entry) (map string_bytes touched.now.keys) face.0 opened hats.now) keys.now) }
+    ensures { IfOk result (λ ds. ds ≡ flat_map (listed_due (asking_in interests.now face.0) (option_copied next.entry) (map string_bytes touched.now.keys) face.0 opened hats.now) keys.now) }
 {
     let mut dues = Items::new(alloc);
     for key in keys {

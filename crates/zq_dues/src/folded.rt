@@ -1,9 +1,10 @@
 //! One entry for all keys that meet a key: what a face hears on them, merged.
 ghost use Rattle.std.specs.Prelude.{◌≡◌, IfOk, IsTrue, OnOk, fold, map, option_copied, string_bytes};
 ghost use Rattle.zq_key.specs.Key.{is_key};
-ghost use Rattle.zq_machine.specs.Due.{with_part};
-ghost use Rattle.zq_dues.specs.Dues.{AreKeys, folded_as, heard_at, part_of, parts, with_meeting};
+ghost use Rattle.zq_machine.specs.Due.{folded_over, with_part};
+ghost use Rattle.zq_dues.specs.Dues.{AreKeys, folded_as, heard_at, part_of, parts, put_if_meets};
 
+use crate::asking::put_key;
 use crate::due::heard_at;
 use crate::keys::met_texts_by;
 use crate::types::HatChange;
@@ -11,7 +12,6 @@ use std::alloc::Global;
 use std::collections::BTreeSet;
 use zq_hat::hat::Hat;
 use zq_index::info::joined;
-use zq_index::text_set::put_text;
 use zq_key::memory::OutOfMemory;
 use zq_key::message::{FaceId, QueryableInfoType};
 use zq_key::{includes, intersects};
@@ -57,7 +57,26 @@ fn with_part(
     }
 }
 
-// Of the keys those that meet the key join others.
+// A key joins others, if it meets the key.
+fn put_if_meets(
+    parts: &mut BTreeSet<String>,
+    alloc: Global,
+    k: &str,
+    key: &str,
+) -> Result<(), OutOfMemory>
+    requires part { IsTrue (is_key k.now) }
+    requires key { IsTrue (is_key key.now) }
+    ensures joined { OnOk result (map string_bytes parts.new.keys ≡ put_if_meets key.now (map string_bytes parts.old.keys) k.now) }
+    ensures valid { AreKeys (map string_bytes parts.old.keys) → OnOk result (AreKeys (map string_bytes parts.new.keys)) }
+{
+    if intersects(k, key) {
+        put_key(parts, alloc, k)
+    } else {
+        Ok(())
+    }
+}
+
+// So does each of some keys.
 fn put_meeting(
     parts: &mut BTreeSet<String>,
     alloc: Global,
@@ -66,12 +85,11 @@ fn put_meeting(
 ) -> Result<(), OutOfMemory>
     requires keys { AreKeys (map string_bytes keys.now.keys) }
     requires key { IsTrue (is_key key.now) }
-    ensures { OnOk result (map string_bytes parts.new.keys ≡ with_meeting key.now (map string_bytes parts.old.keys) (map string_bytes keys.now.keys)) }
+    ensures joined { OnOk result (map string_bytes parts.new.keys ≡ fold (put_if_meets key.now) (map string_bytes parts.old.keys) (map string_bytes keys.now.keys)) }
+    ensures valid { AreKeys (map string_bytes parts.old.keys) → OnOk result (AreKeys (map string_bytes parts.new.keys)) }
 {
     for k in keys {
-        if intersects(k.as_str(), key) {
-            put_text(parts, alloc, k.as_str())?;
-        }
+        put_if_meets(parts, alloc, k.as_str(), key)?;
     }
     Ok(())
 }
@@ -93,6 +111,28 @@ fn parts_of(
     Ok(parts)
 }
 
+// What the face hears on the keys that meet the key, merged.
+fn merged_over(
+    hats: &RegionMap<Hat>,
+    next: Option<&HatChange>,
+    touched: &BTreeSet<String>,
+    face: FaceId,
+    opened: OpenFace,
+    key: &str,
+    parts: &BTreeSet<String>,
+) -> Option<QueryableInfoType>
+    requires key { IsTrue (is_key key.now) }
+    requires parts { AreKeys (map string_bytes parts.now.keys) }
+    ensures { result ≡ folded_over (heard_at (option_copied next.entry) (map string_bytes touched.now.keys) face.0 opened hats.now) (map string_bytes parts.now.keys) key.now }
+{
+    let mut merged = None;
+    for part in parts {
+        let part = part.as_str();
+        merged = with_part(hats, next, touched, face, opened, key, merged, part);
+    }
+    merged
+}
+
 /// What an open face will hear, once a hat has changed, which changes what is heard on the touched keys
 /// alone, on all keys that meet the key, as one entry; where none changes, what it hears. Only keys that
 /// meet it are looked at. Refused only where memory is lacking.
@@ -110,18 +150,7 @@ pub fn folded(
     ensures { IfOk result (λ i. i ≡ folded_as (option_copied next.entry) (map string_bytes touched.now.keys) face.0 opened hats.now key.now) }
 {
     let parts = parts_of(alloc, hats, touched, key)?;
-    let mut merged = None;
-    for part in &parts {
-        merged = with_part(
-            hats,
-            next,
-            touched,
-            face,
-            opened,
-            key,
-            merged,
-            part.as_str(),
-        );
-    }
-    Ok(merged)
+    Ok(merged_over(
+        hats, next, touched, face, opened, key, &parts,
+    ))
 }

@@ -5,7 +5,6 @@ ghost use Rattle.std.specs.List.{AllByRecursion};
 ghost use Rattle.zq_index.specs.Texts.{text_cmp};
 ghost use Rattle.zq_key.specs.Key.{intersects, is_key};
 ghost use Rattle.zq_hat.specs.Trees.{region_keys};
-ghost use Rattle.zq_machine.specs.Due.{is_met_by};
 ghost use Rattle.zq_interests.specs.Interests.{meets};
 ghost use Rattle.zq_dues.specs.Dues.{AreKeys, all_keys};
 
@@ -60,15 +59,6 @@ pub(crate) fn met_texts_by(
         hat.add_met_keys(&mut keys, key)?;
     }
     Ok(keys)
-}
-
-/// Whether a key on which some region has information meets the key.
-pub(crate) fn is_met(alloc: Global, hats: &RegionMap<Hat>, key: &str) -> Result<bool, OutOfMemory>
-    requires { IsTrue (is_key key.now) }
-    ensures { IfOk result (λ b. b ≡ is_met_by (all_keys hats.now) key.now) }
-{
-    let met = met_texts_by(alloc, hats, key)?;
-    Ok(!met.is_empty())
 }
 
 /// The keys on which regions have information and that meet what is asked for, each once, in order;

@@ -8,7 +8,7 @@ use Rattle.std.specs.List.Sorted.{IsStrictlySortedBy}
 use Rattle.std.specs.Map.{keys_of}
 use Rattle.std.specs.Option.{option_map_or}
 use Rattle.std.specs.Ordering.{nat_cmp}
-use Rattle.std.proofs.lemmas.Bool.{false≢true, true≢false}
+use Rattle.std.proofs.lemmas.Bool.{false≢true}
 use Rattle.std.proofs.lemmas.Map.Keys.{sorted_head, sorted_tail}
 use Rattle.std.proofs.lemmas.Map.Lookups.{exact_unsigned}
 use Rattle.zq_key.specs.Key.{intersects}
@@ -17,7 +17,7 @@ use Rattle.zq_index.specs.Holders.{Place, place_cmp}
 use Rattle.zq_index.specs.Texts.{at_text, text_cmp}
 use Rattle.zq_index.proofs.Orders.{place_exact, place_total, text_exact, text_total}
 use Rattle.zq_interests.specs.declared.types.InterestEntry.{InterestEntry}
-use Rattle.zq_interests.specs.Interests.{AreFolders, Asked, Interests, at, interest_at, interests_of, is_folder, own_key, own_keys}
+use Rattle.zq_interests.specs.Interests.{AreFolders, Asked, Interests, at, interest_at, is_folder, own_key, own_keys}
 use Rattle.zq_interests.specs.Kept.{AreKept, Keyed, Shelf, Spot, asks_just, folder_at, folders_in, has_place, is_folding, is_under, spots_at, with_spot}
 use Rattle.zq_interests.proofs.Asking.{any_joined, both_ways, first_under, later_under, or_left, or_right}
 use Rattle.zq_interests.proofs.Keeping.{Text, same_is, same_itself}

@@ -10,6 +10,8 @@ use Rattle.zq_key.specs.Key.{intersects}
 use Rattle.zq_index.specs.Texts.{text_cmp}
 use Rattle.zq_interests.specs.declared.types.FaceKey.{FaceKey}
 use Rattle.zq_interests.specs.declared.types.InterestEntry.{InterestEntry}
+use Rattle.zq_interests.specs.declared.types.Test.{Test}
+use Rattle.zq_interests.specs.declared.types.Test.TheVariants.{Asks, Folds, Keyed}
 
 -- the interests of one face, by id
 abbrev pub Asked : Type 0
@@ -82,9 +84,13 @@ asks_for face key ints = list_any (wants key) (interests_of face ints)
 abbrev pub own_key : InterestEntry → Option (List ℕ)
 own_key i = if i.aggregate then i.key else None
 
--- the interest is aggregating, and the key is its own
+-- an interest is aggregating, and the key is its own
+abbrev pub folded_for : InterestEntry → List ℕ → Bool
+folded_for i key = option_map_or (λ k. is_at (text_cmp k) key) (own_key i) false
+
+-- so is one under an id
 abbrev pub wants_folded : List ℕ → ℕ × InterestEntry → Bool
-wants_folded key i = option_map_or (λ k. is_at (text_cmp k) key) (own_key i.1) false
+wants_folded key i = folded_for i.1 key
 
 -- an interest of the face asks for the key as one entry, which stands for all keys that meet it
 abbrev pub asks_folded : ℕ → List ℕ → Interests → Bool
@@ -98,7 +104,17 @@ own_keys face ints = filter_map (λ (i : ℕ × InterestEntry). own_key i.1) (in
 abbrev pub wants_keyed : List ℕ → ℕ × InterestEntry → Bool
 wants_keyed key i = i.1.keys && is_met key i
 
--- an interest of the face does so
+-- what an interest may be tested for on a key
+abbrev pub passes : Test → List ℕ → InterestEntry → Bool
+passes Asks key i = asked_for i key
+passes Folds key i = folded_for i key
+passes Keyed key i = i.keys && meets i.key key
+
+-- one under an id passes the test
+abbrev pub is_passing : Test → List ℕ → ℕ × InterestEntry → Bool
+is_passing test key i = passes test key i.1
+
+-- an interest of the face meets the key, and numbers may be declared for keys
 abbrev pub has_keyed : ℕ → List ℕ → Interests → Bool
 has_keyed face key ints = list_any (wants_keyed key) (interests_of face ints)
 

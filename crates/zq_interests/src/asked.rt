@@ -9,10 +9,10 @@ ghost use Rattle.std.specs.Ordering.{nat_cmp};
 ghost use Rattle.zq_key.specs.Key.{is_key};
 ghost use Rattle.zq_index.specs.Holders.{Place};
 ghost use Rattle.zq_interests.specs.Kept.{is_kept, is_of};
-ghost use Rattle.zq_interests.specs.Interests.{asked_for, at, is_own, meets, wants, wants_keyed};
+ghost use Rattle.zq_interests.specs.Interests.{asked_for, at, folded_for, is_own, is_passing, meets, passes};
 
 use crate::shelf::Shelf;
-use crate::types::InterestEntry;
+use crate::types::{InterestEntry, Test};
 use std::alloc::Global;
 use std::cmp::Ordering;
 use std::collections::BTreeMap;
@@ -68,61 +68,46 @@ fn asked_for(entry: &InterestEntry, key: &str) -> bool
     }
 }
 
-/// Whether the interest meets the key, and numbers may be declared for keys.
-pub(crate) fn wants_keyed(entry: &InterestEntry, key: &str) -> bool
-    requires { IsTrue (is_key key.now) }
-    ensures { (id : ℕ) → result ≡ wants_keyed key.now (id, entry.now) }
+/// Whether the interest is aggregating, and the key is its own.
+fn is_folded(entry: &InterestEntry, key: &str) -> bool
+    ensures { result ≡ folded_for entry.now key.now }
 {
-    entry.keys && meets(&entry.key, key)
+    entry.aggregate && entry.key.is_some() && is_own(&entry.key, key)
 }
 
-/// Whether one of the interests asks for the key.
-fn any_wants(entries: &BTreeMap<u32, InterestEntry>, key: &str) -> bool
+/// Whether the interest passes the test on the key.
+pub(crate) fn passes(entry: &InterestEntry, test: Test, key: &str) -> bool
     requires { IsTrue (is_key key.now) }
-    ensures { result ≡ list_any (wants key.now) entries.now.entries }
+    ensures { result ≡ passes test key.now entry.now }
+{
+    match test {
+        Test::Asks => asked_for(entry, key),
+        Test::Folds => is_folded(entry, key),
+        Test::Keyed => entry.keys && meets(&entry.key, key),
+    }
+}
+
+/// Whether one of the interests passes the test on the key.
+fn any_passes(entries: &BTreeMap<u32, InterestEntry>, test: Test, key: &str) -> bool
+    requires { IsTrue (is_key key.now) }
+    ensures { result ≡ list_any (is_passing test key.now) entries.now.entries }
 {
     for (_, entry) in entries {
-        if asked_for(entry, key) {
+        if passes(entry, test, key) {
             return true;
         }
     }
     false
 }
 
-/// Whether one of the interests meets the key, and numbers may be declared for keys.
-fn any_keyed(entries: &BTreeMap<u32, InterestEntry>, key: &str) -> bool
+/// Whether an interest under another id passes the test on the key.
+fn any_besides(entries: &BTreeMap<u32, InterestEntry>, id: u32, test: Test, key: &str) -> bool
     requires { IsTrue (is_key key.now) }
-    ensures { result ≡ list_any (wants_keyed key.now) entries.now.entries }
-{
-    for (_, entry) in entries {
-        if entry.keys && meets(&entry.key, key) {
-            return true;
-        }
-    }
-    false
-}
-
-/// Whether an interest under another id asks for the key.
-fn any_besides(entries: &BTreeMap<u32, InterestEntry>, id: u32, key: &str) -> bool
-    requires { IsTrue (is_key key.now) }
-    ensures { result ≡ list_any (wants key.now) (remove_entry (is_at (nat_cmp id)) entries.now.entries) }
-{
-    for (other, entry) in entries {
-        if *other != id && asked_for(entry, key) {
-            return true;
-        }
-    }
-    false
-}
-
-/// Whether an interest under another id meets the key, and numbers may be declared for keys.
-fn any_keyed_besides(entries: &BTreeMap<u32, InterestEntry>, id: u32, key: &str) -> bool
-    requires { IsTrue (is_key key.now) }
-    ensures any { result ≡ list_any (wants_keyed key.now) (remove_entry (is_at (nat_cmp id)) entries.now.entries) }
+    ensures any { result ≡ list_any (is_passing test key.now) (remove_entry (is_at (nat_cmp id)) entries.now.entries) }
     ensures ordered { IsStrictlySortedBy nat_cmp (keys_of entries.now.entries) }
 {
     for (other, entry) in entries {
-        if *other != id && entry.keys && meets(&entry.key, key) {
+        if *other != id && passes(entry, test, key) {
             return true;
         }
     }
@@ -194,37 +179,28 @@ impl Asked {
         leave_all(&self.entries, shelf, face);
     }
 
-    /// Whether an interest asks for the key.
-    pub(crate) fn wants(&self, key: &str) -> bool
+    /// Whether an interest passes the test on the key.
+    pub(crate) fn any(&self, test: Test, key: &str) -> bool
         requires { IsTrue (is_key key.now) }
-        ensures { result ≡ list_any (wants key.now) self.now }
+        ensures { result ≡ list_any (is_passing test key.now) self.now }
     {
-        any_wants(&self.entries, key)
+        any_passes(&self.entries, test, key)
     }
 
-    /// Whether an interest meets the key, and numbers may be declared for keys.
-    pub(crate) fn wants_keyed(&self, key: &str) -> bool
+    /// Whether an interest under another id passes the test on the key.
+    pub(crate) fn any_besides(&self, id: u32, test: Test, key: &str) -> bool
         requires { IsTrue (is_key key.now) }
-        ensures { result ≡ list_any (wants_keyed key.now) self.now }
+        ensures { result ≡ list_any (is_passing test key.now) (remove_entry (is_at (nat_cmp id)) self.now) }
     {
-        any_keyed(&self.entries, key)
+        any_besides(&self.entries, id, test, key)
     }
 
-    /// Whether an interest under another id asks for the key.
-    pub(crate) fn wants_besides(&self, id: u32, key: &str) -> bool
+    /// Whether an interest would pass the test on the key, if this one stood under the id.
+    pub(crate) fn any_with(&self, id: u32, entry: &InterestEntry, test: Test, key: &str) -> bool
         requires { IsTrue (is_key key.now) }
-        ensures { result ≡ list_any (wants key.now) (remove_entry (is_at (nat_cmp id)) self.now) }
+        ensures { result ≡ list_any (is_passing test key.now) (insert_entry nat_cmp self.now id entry.now) }
     {
-        any_besides(&self.entries, id, key)
-    }
-
-    /// Whether an interest would ask for the key, and numbers might be declared for keys, if this one stood
-    /// under the id.
-    pub(crate) fn wants_keyed_with(&self, id: u32, entry: &InterestEntry, key: &str) -> bool
-        requires { IsTrue (is_key key.now) }
-        ensures { result ≡ list_any (wants_keyed key.now) (insert_entry nat_cmp self.now id entry.now) }
-    {
-        let others = any_keyed_besides(&self.entries, id, key);
-        wants_keyed(entry, key) || others
+        let others = any_besides(&self.entries, id, test, key);
+        passes(entry, test, key) || others
     }
 }

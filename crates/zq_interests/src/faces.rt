@@ -1,12 +1,13 @@
 //! The interests of all faces, as a map.
 ghost use Rattle.std.specs.Prelude.{◌≡◌, None, OnOk, OnErr, IfOk, IsTrue, is_some, true};
+ghost use Rattle.std.specs.List.{list_any};
 ghost use Rattle.std.specs.Option.{option_copied};
 ghost use Rattle.zq_key.specs.Key.{is_key};
-ghost use Rattle.zq_interests.specs.Interests.{asks_another, asks_for, at, closed_face, has_keyed, interest_at, with_interest, without_interest};
+ghost use Rattle.zq_interests.specs.Interests.{asks_another, at, closed_face, interest_at, interests_of, is_passing, with_interest, without_interest};
 
-use crate::asked::{Asked, wants_keyed};
+use crate::asked::{Asked, passes};
 use crate::shelf::same_asked;
-use crate::types::InterestEntry;
+use crate::types::{InterestEntry, Test};
 use std::alloc::Global;
 use std::collections::BTreeMap;
 use zq_key::Key;
@@ -111,54 +112,43 @@ pub(crate) fn close_face(faces: &mut AskedMap, face: u32) -> Option<Asked>
     faces.remove(&face)
 }
 
-/// Whether the face asks for the key.
-pub(crate) fn face_asks(faces: &AskedMap, face: u32, key: &str) -> bool
+/// Whether an interest of the face passes the test on the key.
+pub(crate) fn face_any(faces: &AskedMap, face: u32, test: Test, key: &str) -> bool
     requires { IsTrue (is_key key.now) }
-    ensures { result ≡ asks_for face key.now faces.now.entries }
+    ensures { result ≡ list_any (is_passing test key.now) (interests_of face faces.now.entries) }
 {
     match faces.get(&face) {
-        Some(asked) => asked.wants(key),
+        Some(asked) => asked.any(test, key),
         None => false,
     }
 }
 
-/// Whether the face asks for the key, and numbers may be declared for keys.
-pub(crate) fn face_keyed(faces: &AskedMap, face: u32, key: &str) -> bool
+/// Whether an interest of the face under another id does.
+pub(crate) fn face_any_besides(faces: &AskedMap, face: u32, id: u32, test: Test, key: &str) -> bool
     requires { IsTrue (is_key key.now) }
-    ensures { result ≡ has_keyed face key.now faces.now.entries }
+    ensures { result ≡ list_any (is_passing test key.now) (interests_of face (without_interest face id faces.now.entries)) }
 {
     match faces.get(&face) {
-        Some(asked) => asked.wants_keyed(key),
+        Some(asked) => asked.any_besides(id, test, key),
         None => false,
     }
 }
 
-/// Whether the face asks for the key under another id.
-pub(crate) fn face_asks_besides(faces: &AskedMap, face: u32, id: u32, key: &str) -> bool
-    requires { IsTrue (is_key key.now) }
-    ensures { result ≡ asks_for face key.now (without_interest face id faces.now.entries) }
-{
-    match faces.get(&face) {
-        Some(asked) => asked.wants_besides(id, key),
-        None => false,
-    }
-}
-
-/// Whether the face would ask for the key, and numbers might be declared for keys, if it asked this under
-/// the id.
-pub(crate) fn face_keyed_with(
+/// Whether an interest of the face would, if it asked this under the id.
+pub(crate) fn face_any_with(
     faces: &AskedMap,
     face: u32,
     id: u32,
     entry: &InterestEntry,
+    test: Test,
     key: &str,
 ) -> bool
     requires { IsTrue (is_key key.now) }
-    ensures { result ≡ has_keyed face key.now (with_interest face id entry.now faces.now.entries) }
+    ensures { result ≡ list_any (is_passing test key.now) (interests_of face (with_interest face id entry.now faces.now.entries)) }
 {
     match faces.get(&face) {
-        Some(asked) => asked.wants_keyed_with(id, entry, key),
-        None => wants_keyed(entry, key),
+        Some(asked) => asked.any_with(id, entry, test, key),
+        None => passes(entry, test, key),
     }
 }
 

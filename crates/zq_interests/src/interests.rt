@@ -2,15 +2,14 @@
 ghost use Rattle.std.specs.Prelude.{◌≡◌, [], OnOk, OnErr, IfOk, IsTrue};
 ghost use Rattle.std.specs.Option.{option_copied, option_map};
 ghost use Rattle.zq_key.specs.Key.{is_key};
-ghost use Rattle.zq_interests.specs.Interests.{AreFolders, asks_another, asks_for, askers, at, closed_face, has_keyed, interest_at, with_interest, without_interest};
+ghost use Rattle.zq_interests.specs.Interests.{AreFolders, asks_another, asks_folded, asks_for, askers, at, closed_face, has_keyed, interest_at, with_interest, without_interest};
 
 use crate::faces::{
-    AskedMap, face_asks, face_asks_another, face_asks_besides, face_keyed, face_keyed_with,
-    get_interest,
+    AskedMap, face_any, face_any_besides, face_any_with, face_asks_another, get_interest,
 };
 use crate::kept::{close_kept, end_kept, kept_askers, kept_folders, put_kept};
 use crate::shelf::Shelf;
-use crate::types::{FaceList, FolderList, InterestEntry};
+use crate::types::{FaceList, FolderList, InterestEntry, Test};
 use std::alloc::Global;
 use std::collections::BTreeMap;
 use std::marker::Model;
@@ -102,7 +101,7 @@ impl Interests {
         requires { IsTrue (is_key key.now) }
         ensures { result ≡ asks_for face.0 key.now self.now }
     {
-        face_asks(&self.faces, face.0, key)
+        face_any(&self.faces, face.0, Test::Asks, key)
     }
 
     /// Whether an interest of the face under another id asks for the key, so that it asks for it once this
@@ -111,7 +110,40 @@ impl Interests {
         requires { IsTrue (is_key key.now) }
         ensures { result ≡ asks_for face.0 key.now (without_interest face.0 id self.now) }
     {
-        face_asks_besides(&self.faces, face.0, id, key)
+        face_any_besides(&self.faces, face.0, id, Test::Asks, key)
+    }
+
+    /// The same once the face asks this under the id.
+    pub fn asks_with(&self, face: FaceId, id: u32, entry: &InterestEntry, key: &str) -> bool
+        requires { IsTrue (is_key key.now) }
+        ensures { result ≡ asks_for face.0 key.now (with_interest face.0 id entry.now self.now) }
+    {
+        face_any_with(&self.faces, face.0, id, entry, Test::Asks, key)
+    }
+
+    /// Whether an interest of the face asks for the key as one entry, which stands for all keys that meet it. It
+    /// looks at this face's interests alone.
+    pub fn folds(&self, face: FaceId, key: &str) -> bool
+        requires { IsTrue (is_key key.now) }
+        ensures { result ≡ asks_folded face.0 key.now self.now }
+    {
+        face_any(&self.faces, face.0, Test::Folds, key)
+    }
+
+    /// Whether one under another id does.
+    pub fn folds_besides(&self, face: FaceId, id: u32, key: &str) -> bool
+        requires { IsTrue (is_key key.now) }
+        ensures { result ≡ asks_folded face.0 key.now (without_interest face.0 id self.now) }
+    {
+        face_any_besides(&self.faces, face.0, id, Test::Folds, key)
+    }
+
+    /// The same once the face asks this under the id.
+    pub fn folds_with(&self, face: FaceId, id: u32, entry: &InterestEntry, key: &str) -> bool
+        requires { IsTrue (is_key key.now) }
+        ensures { result ≡ asks_folded face.0 key.now (with_interest face.0 id entry.now self.now) }
+    {
+        face_any_with(&self.faces, face.0, id, entry, Test::Folds, key)
     }
 
     /// Whether the face asks for something else under the id: for another key, or for all where this is a
@@ -128,7 +160,7 @@ impl Interests {
         requires { IsTrue (is_key key.now) }
         ensures { result ≡ has_keyed face.0 key.now self.now }
     {
-        face_keyed(&self.faces, face.0, key)
+        face_any(&self.faces, face.0, Test::Keyed, key)
     }
 
     /// The same once the face asks this under the id.
@@ -142,7 +174,7 @@ impl Interests {
         requires { IsTrue (is_key key.now) }
         ensures { result ≡ has_keyed face.0 key.now (with_interest face.0 id entry.now self.now) }
     {
-        face_keyed_with(&self.faces, face.0, id, entry, key)
+        face_any_with(&self.faces, face.0, id, entry, Test::Keyed, key)
     }
 
     /// The faces that ask for the key, in order of their numbers, each once. They are found by the texts of

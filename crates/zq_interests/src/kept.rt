@@ -164,5 +164,5 @@ pub(crate) fn kept_folders(
     ensures { IfOk result (λ l. AreFolders key.now faces.now.entries l) }
 {
     let spots = shelf.met_spots(alloc, key)?;
-    list_folders(alloc, faces, spots.as_slice())
+    Ok(list_folders(alloc, faces, spots.as_slice())?)
 }

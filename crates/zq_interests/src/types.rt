@@ -14,6 +14,15 @@ pub struct InterestEntry {
     pub aggregate: bool,
 }
 
+/// What an interest is tested for on a key: that it asks for it; that it asks for it as one entry, which
+/// stands for all keys that meet it; or that it meets it, and numbers may be declared for keys.
+#[derive(Clone, Copy, Debug)]
+pub(crate) enum Test {
+    Asks,
+    Folds,
+    Keyed,
+}
+
 /// Faces, in order of their numbers.
 pub type FaceList = Items<FaceId>;
 

@@ -21,7 +21,7 @@ use Rattle.zq_hat.specs.declared.types.Strategy.TheVariants as strategy
 use Rattle.zq_hat.specs.Regions.{is_north, strategy_at}
 use Rattle.zq_hat.specs.State.{HatState}
 use Rattle.zq_interests.specs.declared.types.InterestEntry.{InterestEntry}
-use Rattle.zq_interests.specs.Interests.{Interests, asked_for, asks_folded, asks_for, interests_of, is_own, meets, own_key, wants, wants_folded, with_interest, without_interest}
+use Rattle.zq_interests.specs.Interests.{Interests, asked_for, asks_folded, asks_for, interests_of, is_own, meets, own_key, own_keys, wants, wants_folded, with_interest, without_interest}
 use Rattle.zq_machine.specs.Due.{KeysRise, asked_keys, due, due_keys, due_touched, face_keys, folded, heard, heard_touched, is_looked, listens_by}
 use Rattle.zq_machine.specs.State.{Core, at, hat_of}
 use Rattle.zq_machine.specs.TextCalls.{TextCall}
@@ -302,7 +302,7 @@ module _ (c : Core) (ints : Interests) (asker id face : ℕ) (key : List ℕ) wh
 pub keys_rise : (c : Core) (ints : Interests) (face : ℕ) → KeysRise c ints face
 keys_rise c ints face = record {
   all = due_rise c;
-  own = wide_rise face ints (due_keys c) (due_rise c);
+  own = all_rise (own_keys face ints) (due_keys c) (due_rise c);
   touched = λ t. wide_rise face ints (heard_touched c t face) (touched_rise c t face);
-  asked = λ asked. IsStrictlySortedBy-filter text_cmp (is_looked c ints face asked) _ (all_rise (option_to_list asked.key) (face_keys c ints face) (wide_rise face ints (due_keys c) (due_rise c)));
+  asked = λ asked. IsStrictlySortedBy-filter text_cmp (is_looked c ints face asked) _ (all_rise (option_to_list asked.key) (face_keys c ints face) (all_rise (own_keys face ints) (due_keys c) (due_rise c)));
 }

@@ -33,14 +33,14 @@ use Rattle.zq_machine.specs.Trees.{own_entry}
 use Rattle.zq_machine.proofs.Agreed.{InOrder, next_absent, run_in_order}
 use Rattle.zq_machine.proofs.Changing.{itself}
 use Rattle.zq_machine.proofs.DueAlone.{south_unasked as plain_south}
-use Rattle.zq_machine.proofs.DueKeys.{among, due_rise, is_among, keys_due as plain_keys}
+use Rattle.zq_machine.proofs.DueKeys.{all_put, among, due_rise, is_among, keys_due as plain_keys}
 use Rattle.zq_machine.proofs.DueEnds.{closed_undue as plain_closed}
 use Rattle.zq_machine.proofs.DueLess.{accepted_less as plain_less, brings, faces_kept, listens_kept, read_brings}
 use Rattle.zq_machine.proofs.Dues.{due_kept as plain_kept}
 use Rattle.zq_machine.proofs.Folded.{adds, folded_same, some_folded}
 use Rattle.zq_machine.proofs.Granted.{by_granted}
 use Rattle.zq_machine.proofs.Hats.{accepted_hats, bare}
-use Rattle.zq_machine.proofs.Widening.{among_wide, any_passes, both_true, folded_for, folded_own, in_keys, in_met, off_keys, off_met, passing}
+use Rattle.zq_machine.proofs.Widening.{among_wide, any_passes, both_true, folded_for, folded_own, in_keys, in_met, in_wide, off_keys, off_met, passing}
 
 abbrev Info : Type 0
 Info = Option QueryableInfoType
@@ -161,18 +161,21 @@ module _ (c : Core) (ints : Interests) (face : ℕ) (key : List ℕ) where
       by (Some h) e = (both_true (not (listens_by (strategy_at h) (is_north h.region) false)) (asks_folded face key ints) e).1
 
   -- it is on a key on which something may be due
-  keys_by : (b : Bool) → folds c ints face key ≡ b → is_some (cond b (folded c face key) (plain_due c ints face key)) ≡ true → is_among key (face_keys c ints face) ≡ true
+  keys_by : (b : Bool) → folds c ints face key ≡ b → is_some (cond b (folded c face key) (plain_due c ints face key)) ≡ true → is_among key (widened face ints (due_keys c)) ≡ true
   keys_by true f some =
       let p = part_of c face key some in
       in_met face ints (due_keys c) key (folds_asks f) (any_passes (λ k. intersects k key) p.part (due_keys c) p.among p.meets)
   keys_by false f some = in_keys face ints (due_keys c) key (sym (among key (due_keys c)) ∙ plain_keys c ints face key some)
 
+  keys_met : is_some (due c ints face key) ≡ true → is_among key (widened face ints (due_keys c)) ≡ true
+  keys_met some = keys_by (folds c ints face key) refl (sym (ap is_some due_is) ∙ some)
+
   pub keys_among : is_some (due c ints face key) ≡ true → is_among key (face_keys c ints face) ≡ true
-  keys_among some = keys_by (folds c ints face key) refl (sym (ap is_some due_is) ∙ some)
+  keys_among some = all_put key (due_keys c) (own_keys face ints) ∙ in_wide face ints (due_keys c) key (keys_met some)
 
 -- a key is among those on which something may be due
-pub keys_due : (c : Core) (ints : Interests) (face : ℕ) (key : List ℕ) → is_some (due c ints face key) ≡ true → list_any (λ k. bytes_eq k key) (face_keys c ints face) ≡ true
-keys_due c ints face key some = among key (face_keys c ints face) ∙ keys_among c ints face key some
+pub keys_due : (c : Core) (ints : Interests) (face : ℕ) (key : List ℕ) → is_some (due c ints face key) ≡ true → list_any (λ k. bytes_eq k key) (widened face ints (due_keys c)) ≡ true
+keys_due c ints face key some = among key (widened face ints (due_keys c)) ∙ keys_met c ints face key some
 
 -- to a face that is not open nothing is due
 pub closed_undue : (c : Core) (ints : Interests) (face : ℕ) (key : List ℕ) → is_open face c ≡ false → due c ints face key ≡ None

@@ -134,7 +134,9 @@ module _ (φ : List ℕ → List ℕ) (keeps : Keeps φ) where
       ∙ put_moved ks (filter (is_met_by ks) (own_keys face ints))
 
   pub face_keys_moved : (c : Core) (ints : Interests) (face : ℕ) → face_keys (move_core φ c) (move_interests φ ints) face ≡ map φ (face_keys c ints face)
-  face_keys_moved c ints face = ap (widened face (move_interests φ ints)) (keys_moved c) ∙ wider_moved face ints (due_keys c)
+  face_keys_moved c ints face =
+      (λ j. fold (insert_key text_cmp) (keys_moved c j) (own_keys_moved face ints j))
+      ∙ put_moved (due_keys c) (own_keys face ints)
 
   keys_touched : (c : Core) (t : TextCall) → HasText t → fold (insert_key text_cmp) [] (touched (move_core φ c) (move_text φ t)) ≡ map φ (fold (insert_key text_cmp) [] (touched c t))
   keys_touched c t e = ap (fold (insert_key text_cmp) []) (touched_moved φ keeps c t e) ∙ put_moved [] (touched c t)

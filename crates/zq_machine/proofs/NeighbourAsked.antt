@@ -38,8 +38,8 @@ use Rattle.zq_told.proofs.Differing.{looks_up, tells_each}
 use Rattle.zq_told.proofs.Faces.{less_due}
 use Rattle.zq_told.proofs.Leaving.{ends_changing, lacks_exactly}
 use Rattle.zq_told.proofs.Reaching.{below_by}
-use Rattle.zq_machine.specs.Due.{asked_keys, due, due_keys, face_keys, is_looked, is_met_by}
-use Rattle.zq_interests.specs.Interests.{Interests, asked_for, interests_of, meets, with_interest, without_interest}
+use Rattle.zq_machine.specs.Due.{asked_keys, due, due_keys, face_keys, is_looked}
+use Rattle.zq_interests.specs.Interests.{Interests, asked_for, interests_of, meets, own_keys, with_interest, without_interest}
 use Rattle.zq_machine.specs.Neighbours.{answer_lacks, answer_told, asked_dues, due_on, ears_asked, ears_ended, ended_at, ended_dues, ended_told, with_dues}
 use Rattle.zq_told.specs.Ears.{told_keys}
 use Rattle.zq_machine.specs.Receivers.{Hears, heard_asked, heard_ended, is_news, lacks_at}
@@ -50,7 +50,7 @@ use Rattle.zq_machine.proofs.DueKeys.{all_put, is_among}
 use Rattle.zq_machine.proofs.DueWhole.{keys_among}
 use Rattle.zq_machine.proofs.NeighbourDues.{aims_at, alone_rises, among_filter, filter_rows, keys_alone, keys_beside, rows_rise, same_passing}
 use Rattle.zq_machine.proofs.NeighbourTold.{keeps_due, told_here}
-use Rattle.zq_machine.proofs.Widening.{among_wide, folded_own}
+use Rattle.zq_machine.proofs.Widening.{folded_own}
 
 never : (b : Bool) → (b && false) ≡ false
 never true = refl
@@ -136,9 +136,9 @@ module _ (c : Core) (ints : Interests) (ears : Ears) (asker id : ℕ) (asked : I
           by : (b : Bool) → is_among key (option_to_list asked.key) ≡ b → (b || is_among key (face_keys c more asker)) ≡ true
           by true e = refl
           by false e =
-              among_wide asker more (due_keys c) key
-              ∙ ap (λ b. (is_met_by (due_keys c) key && b) || is_among key (due_keys c)) (sym (folded_own asker key more) ∙ folds_alike c ints asker id asked same asker key e ∙ folded_own asker key ints)
-              ∙ sym (among_wide asker ints (due_keys c) key)
+              all_put key (due_keys c) (own_keys asker more)
+              ∙ ap (λ b. b || is_among key (due_keys c)) (sym (folded_own asker key more) ∙ folds_alike c ints asker id asked same asker key e ∙ folded_own asker key ints)
+              ∙ sym (all_put key (due_keys c) (own_keys asker ints))
               ∙ keys_among c ints asker key some
 
       by_due : meets asked.key key ≡ true → (now : Option QueryableInfoType) → due c more asker key ≡ now → (looks : Bool) → asked_for asked key ≡ looks → due c ints asker key ≡ now

@@ -24,7 +24,7 @@ use Rattle.zq_machine.specs.TextCalls.{TextCall}
 use Rattle.zq_machine.proofs.Agreed.{InOrder as Kept}
 use Rattle.zq_machine.proofs.DueInterests.{keys_rise}
 use Rattle.zq_machine.proofs.DueKeys.{among, is_among}
-use Rattle.zq_machine.proofs.DueWhole.{keys_due}
+use Rattle.zq_machine.proofs.DueWhole.{keys_among}
 use Rattle.zq_machine.proofs.NeighbourDues.{filter_rows, same_passing}
 use Rattle.zq_machine.proofs.NeighbourTold.{all_rise, keys_are, looked, looked_rise, told_here, unlooked}
 
@@ -87,7 +87,7 @@ module _ (config : Settings) (s : State) (i : Kept config s) (t : TextCall) (int
       by (Some x) d same = refl
 
   news_due : (key : List ℕ) → is_news w ints face ear key ≡ true → is_among key (face_keys w ints face) ≡ true
-  news_due key news = sym (among key (face_keys w ints face)) ∙ keys_due w ints face key (by (is_none (at_text key ear.told)) news)
+  news_due key news = keys_among w ints face key (by (is_none (at_text key ear.told)) news)
     where
       by : (b : Bool) → (b && is_some (due w ints face key)) ≡ true → is_some (due w ints face key) ≡ true
       by true e = e

@@ -288,7 +288,7 @@ module _ (config : Settings) (s : State) (i : InOrder config s) (t : TextCall) (
       ∙ is_there (is_open face.0 s.core) (all_passed (causes s.core (hearing face id keys sd)) (ap (refusal_of s.core) (sym is) ∙ fits)).0
 
   all_texts : (face : ℕ) (ints : Interests) → AllAskKeys ints → AreTexts (face_keys (accepted s.core t) ints face)
-  all_texts face ints asks = wide_texts face ints (keys_due (accepted s.core t)) asks (keys_texts [] (accepted s.core t).hats tt j.worded)
+  all_texts face ints asks = texts_put (keys_due (accepted s.core t)) (own_keys face ints) (keys_texts [] (accepted s.core t).hats tt j.worded) (own_texts face ints asks)
 
   near_of : (x : TextCall) → t ≡ x → AllByRecursion (IsNear (renamed s t) (accepted s.core t) (interests_for s.core x)) (told_near s.core (accepted s.core t) (interests_for s.core x) x (kept s.core x))
   near_of (hearing face id keys sd) is =

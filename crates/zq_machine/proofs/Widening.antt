@@ -123,6 +123,14 @@ module _ (face : ℕ) (ints : Interests) (keys : List (List ℕ)) where
       among_wide key
       ∙ or_left (is_met_by keys key && is_among key (own_keys face ints)) (is_among key keys) ((λ j. met j && (sym (folded_own face key ints) ∙ folds) j))
 
+  -- one of them is one of the keys, or that of an aggregating interest
+  pub in_wide : (key : List ℕ) → is_among key (widened face ints keys) ≡ true → (is_among key (own_keys face ints) || is_among key keys) ≡ true
+  in_wide key on = by (is_met_by keys key) (sym (among_wide key) ∙ on)
+    where
+      by : (b : Bool) → ((b && is_among key (own_keys face ints)) || is_among key keys) ≡ true → (is_among key (own_keys face ints) || is_among key keys) ≡ true
+      by true e = e
+      by false e = or_right (is_among key (own_keys face ints)) (is_among key keys) e
+
   -- they stand in order where the keys do
   puts_rise : (xs ks : List (List ℕ)) → IsStrictlySortedBy text_cmp ks → IsStrictlySortedBy text_cmp (fold (insert_key text_cmp) ks xs)
   puts_rise [] ks s = s

@@ -119,9 +119,9 @@ is_met_by keys key = list_any (λ k. intersects k key) keys
 abbrev pub widened : ℕ → Interests → List (List ℕ) → List (List ℕ)
 widened face ints keys = fold (insert_key text_cmp) keys (filter (is_met_by keys) (own_keys face ints))
 
--- the keys on which something may be due to the face, each once, in order
+-- the keys on which something may be due to the face, each once, in order: those, and those of its aggregating interests
 abbrev pub face_keys : Core → Interests → ℕ → List (List ℕ)
-face_keys c ints face = widened face ints (due_keys c)
+face_keys c ints face = fold (insert_key text_cmp) (due_keys c) (own_keys face ints)
 
 -- ---- what answers an interest
 

@@ -23,7 +23,7 @@ ghost use Rattle.zq_machine.specs.declared.call.Opening.{Opening};
 ghost use Rattle.zq_machine.specs.Agreeing.{Agrees};
 ghost use Rattle.zq_machine.specs.Calls.{declares};
 ghost use Rattle.zq_machine.specs.Configs.{Settings};
-ghost use Rattle.zq_machine.specs.Due.{KeysRise, due, due_keys, face_keys, folded, heard, heard_touched, is_due_touched, is_heard_touched, listens, plain_due, redeclared};
+ghost use Rattle.zq_machine.specs.Due.{KeysRise, due, due_keys, folded, heard, heard_touched, is_due_touched, is_heard_touched, listens, plain_due, redeclared, widened};
 ghost use Rattle.std.specs.BTreeMap.{is_at};
 ghost use Rattle.zq_index.specs.Texts.{text_cmp};
 ghost use Rattle.zq_interests.specs.Interests.{Interests, asked_for, asks_folded, interests_of, meets, with_interest, without_interest};
@@ -142,7 +142,7 @@ pub fn listens_stay()
 /// as one entry and that such a key meets.
 #[tactic(auto, using(crate::proofs::DueWhole::keys_due))]
 pub fn keys_due()
-    ensures { (c : Core) (ints : Interests) (face : ℕ) (key : List ℕ) → is_some (due c ints face key) ≡ true → list_any (λ k. bytes_eq k key) (face_keys c ints face) ≡ true }
+    ensures { (c : Core) (ints : Interests) (face : ℕ) (key : List ℕ) → is_some (due c ints face key) ≡ true → list_any (λ k. bytes_eq k key) (widened face ints (due_keys c)) ≡ true }
 {}
 
 /// All keys that are looked at stand in order, each once.

@@ -1,19 +1,21 @@
-use Rattle.std.proofs.Common.{◌≡◌, ◌∙◌, ap, subst, List, IfOk, true}
-use Rattle.std.specs.Option.{option_copied}
+use Rattle.std.proofs.Common.{◌≡◌, ◌∙◌, ap, subst, map, List, IfOk}
+use Rattle.std.specs.Prelude.{string_bytes}
+use Rattle.std.specs.List.{flat_map}
 use Rattle.zq_told.specs.declared.types.FaceDues.{FaceDues}
 use Rattle.zq_told.specs.Telling.{KeyDue}
-use Rattle.zq_machine.specs.Neighbours.{asked_dues, with_dues}
-use Rattle.zq_dues.specs.Dues.{all_dues_as}
+use Rattle.zq_machine.specs.Neighbours.{with_dues}
+use Rattle.zq_dues.specs.Asked.{looked_due}
 use Rattle.zq_dues.proofs.AskedDues.{asked_are}
 use Rattle.zq_dues.proofs.asked.dues_asked.Goals as goal
 
 pub returns : goal.returns
-returns c core ints e opened same is all =
+returns c core opened same =
     let face = c.args.face.0 in
-    let asked = option_copied c.args.asked in
+    let ints = c.args.interests.now in
     let hats = c.args.hats.now in
-    let dues : c.in_ok-dues.dues ≡ asked_dues core ints face e =
+    let entry = c.args.entry.now in
+    let dues =
     c.in_ok-dues.ensures
-    ∙ ap (all_dues_as (λ key. true) face c.args.opened hats) (c.as_slice.ensures ∙ c.in_ok-keys.ensures.same core same)
-    ∙ asked_are core ints face c.args.opened opened hats same e asked is all in
+    ∙ ap (flat_map (looked_due c.args.id entry face ints c.args.opened hats)) c.in_ok-keys.ensures.keys
+    ∙ asked_are core ints face c.args.id c.in_ok-keys.ensures.ordered c.args.opened opened hats same entry in
     subst (λ (ks : List KeyDue). IfOk c.one_face.result (λ (ds : List FaceDues). ds ≡ with_dues face ks)) dues c.one_face.ensures

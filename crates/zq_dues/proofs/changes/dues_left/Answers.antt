@@ -5,7 +5,7 @@ use Rattle.zq_index.specs.Texts.{text_cmp}
 use Rattle.zq_hat.specs.declared.types.Change.TheVariants as change
 use Rattle.zq_told.specs.declared.types.FaceDues.{FaceDues}
 use Rattle.zq_machine.specs.Neighbours.{looked_over}
-use Rattle.zq_dues.specs.Dues.{AreKeys, hats_next}
+use Rattle.zq_dues.specs.Dues.{AreKeys, IsBeside, hats_next}
 use Rattle.zq_dues.proofs.changes.dues_left.Goals as goal
 
 -- what holds of every key holds of each of some
@@ -17,6 +17,8 @@ pub dues_on_all-requires-clause-keys : goal.dues_on_all-requires-clause-keys
 dues_on_all-requires-clause-keys c = subst AreKeys (sym c.as_slice.ensures) c.in_ok-keys.ensures.valid
 
 pub returns : goal.returns
-returns c core faces hats =
-    subst (λ (ks : List (List ℕ)). IfOk c.dues_on_all.result (λ (ds : List FaceDues). ds ≡ looked_over core c.args.interests.now (fold (insert_key text_cmp) [] ks))) (c.as_slice.ensures ∙ c.in_ok-keys.ensures.keys)
-    (c.dues_on_all.ensures core faces (all_of (λ (key : List ℕ). hats_next (record { region = c.args.region; change = change.Left c.args.face }) key c.args.hats.now ≡ core.hats) (λ key. hats) c.as_slice.result.now))
+returns c core faces hats beside =
+    let keys = c.as_slice.ensures ∙ c.in_ok-keys.ensures.keys in
+    subst (λ (ks : List (List ℕ)). IfOk c.dues_on_all.result (λ (ds : List FaceDues). ds ≡ looked_over core c.args.interests.now (fold (insert_key text_cmp) [] ks))) keys
+    (c.dues_on_all.ensures core faces (all_of (λ (key : List ℕ). hats_next (record { region = c.args.region; change = change.Left c.args.face }) key c.args.hats.now ≡ core.hats) (λ key. hats) c.as_slice.result.now)
+    (subst (λ (ks : List (List ℕ)). IsBeside core c.args.hats.now (fold (insert_key text_cmp) [] ks)) (sym keys) beside))

@@ -4,25 +4,25 @@ use Rattle.std.specs.Cmp.{nat_cmp_total}
 use Rattle.std.specs.List.{list_any}
 use Rattle.std.proofs.lemmas.Map.Lookups.{exact_unsigned}
 use Rattle.zq_key.proofs.Lookups.{apart}
-use Rattle.zq_interests.specs.Interests.{Asked, wants}
+use Rattle.zq_interests.specs.Interests.{Asked, is_passing}
 use Rattle.zq_interests.proofs.Besides.{any_left, other}
 use Rattle.zq_interests.proofs.asked.any_besides.Goals as goal
 
-pub returns-then-asked_for : goal.returns-then-asked_for
-returns-then-asked_for c =
+pub returns-then-passes-clause-any : goal.returns-then-passes-clause-any
+returns-then-passes-clause-any c =
     let id = c.args.id in
-    let test = wants c.args.key.now in
+    let test = is_passing c.args.test c.args.key.now in
     let rest : Asked = c.next.new.self in
     sym (any_left test id c.args.entries.now.entries c.into_iter-other-iterator.ensures.into_iter_gives.5
     ∙ sym c.loop-other.invariant
     ∙ ap (list_any (other test id)) c.in-Some.ensures.steps
     ∙ ap (λ b. (not b && test (c.in-Some.other.now, c.in-Some.entry.now)) || list_any (other test id) rest) (apart nat_cmp_total exact_unsigned id c.in-Some.other.now (λ e. c.if-other-id.true (sym e)))
-    ∙ ap (λ b. b || list_any (other test id) rest) (sym c.asked_for.ensures ∙ c.if-asked_for.true))
+    ∙ ap (λ b. b || list_any (other test id) rest) (sym c.passes.ensures ∙ c.if-passes.true))
 
-pub returns : goal.returns
-returns c =
+pub returns-clause-any : goal.returns-clause-any
+returns-clause-any c =
     let id = c.args.id in
-    let test = wants c.args.key.now in
+    let test = is_passing c.args.test c.args.key.now in
     sym (any_left test id c.args.entries.now.entries c.into_iter-other-iterator.ensures.into_iter_gives.5
     ∙ sym c.loop-other.invariant
     ∙ ap (list_any (other test id)) c.in-None.ensures.steps.0)

@@ -1,0 +1,81 @@
+-- On each key that a call does not touch faces hear what they heard, also where a face lacks ids for what the call would tell it.
+use Rattle.std.proofs.Common.{◌≡◌, ◌∙◌, refl, sym, ap, ℕ, Bool, true, false, cond, not, List, [], ◌∷◌, fold, Option, Some, None}
+use Rattle.std.specs.List.{list_any}
+use Rattle.std.specs.Option.{is_some, option_and_then}
+use Rattle.zq_message.specs.declared.message.FaceId.{FaceId}
+use Rattle.zq_message.specs.declared.message.QueryableInfoType.{QueryableInfoType}
+use Rattle.zq_message.specs.declared.message.Region.{Region}
+use Rattle.zq_key.specs.Key.{is_key}
+use Rattle.zq_hat.specs.Kept.{clashes_at}
+use Rattle.zq_hat.specs.State.{HatState}
+use Rattle.zq_index.specs.Texts.{has_text}
+use Rattle.zq_tables.specs.declared.said.Said.TheVariants as said
+use Rattle.zq_told.specs.declared.types.FaceDues.{FaceDues}
+use Rattle.zq_told.specs.declared.types.Way.{Way}
+use Rattle.zq_told.specs.declared.types.Way.TheVariants.{Unasked}
+use Rattle.zq_told.specs.Telling.{is_above, lacks_ids, tell_face}
+use Rattle.zq_told.specs.declared.types.Planned.{Planned}
+use Rattle.zq_machine.specs.declared.call.Refusal.{Refusal}
+use Rattle.zq_machine.specs.declared.call.Refusal.TheVariants as refusal
+use Rattle.zq_machine.specs.declared.face.OpenFace.{OpenFace}
+use Rattle.zq_machine.specs.Deciding.{accepted, lacks_told, refusal_of}
+use Rattle.zq_machine.specs.Due.{heard, heard_as, heard_touched}
+use Rattle.zq_machine.specs.State.{Core, State, at, clashes_in, face_region, hat_at, hat_of, is_open}
+use Rattle.zq_machine.specs.TextCalls.{TextCall, declaring}
+use Rattle.zq_machine.proofs.Agreed.{InOrder}
+use Rattle.zq_machine.proofs.DueWhole.{heard_kept}
+use Rattle.zq_dues.specs.Dues.{IsBeside}
+use Rattle.zq_dues.proofs.Heard.{heard_here}
+use Rattle.zq_calls.specs.Making.{IsReached}
+use Rattle.zq_calls.proofs.Due.{hat_home, opened_there}
+use Rattle.zq_calls.proofs.Reached.{reached_in_order}
+
+-- ---- where nothing is kept of faces none lacks an id
+none_told : (way : Way) (ds : List FaceDues) (p : Planned) → fold (tell_face way []) p ds ≡ p
+none_told way [] p = refl
+none_told way (d ∷ ds) p = none_told way ds p
+
+pub none_lacks : (way : Way) (ds : List FaceDues) → lacks_ids way [] ds ≡ false
+none_lacks way ds = ap (λ (p : Planned). list_any is_above p.plan) (none_told way ds (record { plan = []; tellings = [] }))
+
+module _ (s : State) (i : IsReached s) where
+  -- the same with nothing kept of faces
+  abbrev pub quiet : State
+  quiet = record s { core = record s.core { ears = [] } }
+
+  quiet_order : InOrder i.config quiet
+  quiet_order =
+      let o = reached_in_order s i in
+      record { sound = o.sound; tied = o.tied; hats = o.hats; numbered = o.numbered; aims = o.aims; worded = o.worded; asked = o.asked; foreign = o.foreign; gated = o.gated; spaces = o.spaces }
+
+  module _ (t : TextCall) (fits : refusal_of quiet.core t ≡ None) (keys : List (List ℕ)) (touches : (face : ℕ) → heard_touched quiet.core t face ≡ keys)
+      (same_hats : (accepted quiet.core t).hats ≡ (accepted s.core t).hats) (same_faces : (accepted quiet.core t).faces ≡ (accepted s.core t).faces)
+      (stays : (face : ℕ) (o : OpenFace) → at face (accepted s.core t).faces ≡ Some o → at face s.core.faces ≡ Some o) where
+    pub beside : IsBeside (accepted s.core t) s.core.hats keys
+    beside face o open key off =
+        heard_here (accepted s.core t) face o open key
+        ∙ sym (λ j. option_and_then (heard_as face key (same_hats j)) (at face (same_faces j)))
+        ∙ heard_kept i.config quiet quiet_order [] face t fits (ap is_some (ap (at face) same_faces ∙ open)) key (ap (has_text key) (touches face) ∙ off)
+        ∙ sym (heard_here s.core face o (stays face o open) key)
+
+-- ---- a declaration that nothing else refuses
+module _ (s : State) (face : FaceId) (id : ℕ) (r : Region) (home : face_region face.0 s.core ≡ Some r) (h : HatState) (there : hat_at r s.core.hats ≡ Some h) (text : List ℕ) (info : QueryableInfoType) (node : ℕ) where
+  abbrev silent : Core
+  silent = record s.core { ears = [] }
+
+  abbrev t : TextCall
+  t = declaring face id (said.Full text) info node
+
+  pub declares_quietly : is_key text ≡ true → clashes_at face.0 id text h ≡ false → refusal_of silent t ≡ None
+  declares_quietly valid free =
+      let lacks : Option Refusal = cond (lacks_told silent t) (Some refusal.NoFreeId) None in
+      let clashes : Option Refusal = cond (clashes_in face.0 id text (hat_of face.0 s.core)) (Some refusal.IdInUse) lacks in
+      ap (λ b. cond (not b) (Some refusal.UnknownFace) (cond (not (is_key text)) (Some refusal.InvalidKeyExpr) clashes)) (opened_there face.0 r s.core home)
+      ∙ ap (λ b. cond (not b) (Some refusal.InvalidKeyExpr) clashes) valid
+      ∙ ap (λ x. cond (clashes_in face.0 id text x) (Some refusal.IdInUse) lacks) (hat_home face.0 r s.core home ∙ there)
+      ∙ ap (λ b. cond b (Some refusal.IdInUse) lacks) free
+      ∙ ap (λ b. cond b (Some refusal.NoFreeId) None) (none_lacks Unasked _)
+
+-- the same by the hats and the keys that a body has
+pub beside_at : (c : Core) {hats now : List (ℕ × HatState)} {keys texts : List (List ℕ)} → hats ≡ now → keys ≡ texts → IsBeside c now texts → IsBeside c hats keys
+beside_at c hats keys b = λ face o open key off. b face o open key (ap (has_text key) (sym keys) ∙ off) ∙ sym (ap (λ l. heard_as face key l o) hats)
