@@ -1,11 +1,11 @@
 //! Which faces want numbers for keys, once an interest has ended.
-ghost use Rattle.std.specs.Prelude.{◌≡◌, ℕ, IsTrue};
+ghost use Rattle.std.specs.Prelude.{◌≡◌, ◌&&◌, IsTrue};
 ghost use Rattle.std.specs.BTreeMap.{is_at};
 ghost use Rattle.std.specs.List.{list_any};
 ghost use Rattle.std.specs.Map.{remove_entry};
 ghost use Rattle.std.specs.Ordering.{nat_cmp};
 ghost use Rattle.zq_key.specs.Key.{is_key};
-ghost use Rattle.zq_interests.specs.Interests.{wants_keyed};
+ghost use Rattle.zq_interests.specs.Interests.{meets, wants_keyed};
 
 use std::collections::BTreeMap;
 use zq_interests::interests::Interests;
@@ -28,7 +28,7 @@ pub struct WithoutInterest<'a> {
 // Whether the interest meets the key, and numbers may be declared for keys.
 fn wants_keyed(entry: &InterestEntry, key: &str) -> bool
     requires { IsTrue (is_key key.now) }
-    ensures { (id : ℕ) → result ≡ wants_keyed key.now (id, entry.now) }
+    ensures { result ≡ (entry.now.keys && meets entry.now.key key.now) }
 {
     entry.keys
         && match &entry.key {

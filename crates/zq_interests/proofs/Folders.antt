@@ -3,22 +3,23 @@ use Rattle.std.proofs.Common.{◌≡◌, ◌∙◌, sym, ap, refl, subst, ℕ, B
 use Rattle.std.specs.Prelude.{◌==◌, ◌||◌, ◌&&◌, filter}
 use Rattle.std.specs.BTreeMap.{is_at}
 use Rattle.std.specs.Cmp.{nat_cmp_total}
-use Rattle.std.specs.List.{cons_option, filter_map, flat_map, list_any}
+use Rattle.std.specs.List.{AllByRecursion, cons_option, filter_map, flat_map, list_any}
 use Rattle.std.specs.List.Sorted.{IsStrictlySortedBy}
 use Rattle.std.specs.Map.{keys_of}
-use Rattle.std.specs.Option.{option_map_or}
+use Rattle.std.specs.Option.{is_some, option_map_or}
 use Rattle.std.specs.Ordering.{nat_cmp}
 use Rattle.std.proofs.lemmas.Bool.{false≢true}
 use Rattle.std.proofs.lemmas.Map.Keys.{sorted_head, sorted_tail}
 use Rattle.std.proofs.lemmas.Map.Lookups.{exact_unsigned}
-use Rattle.zq_key.specs.Key.{intersects}
+use Rattle.zq_key.specs.Key.{intersects, is_key}
 use Rattle.zq_key.proofs.Lookups.{at_itself, found_later, same_key}
 use Rattle.zq_index.specs.Holders.{Place, place_cmp}
 use Rattle.zq_index.specs.Texts.{at_text, text_cmp}
 use Rattle.zq_index.proofs.Orders.{place_exact, place_total, text_exact, text_total}
+use Rattle.zq_interests.specs.declared.types.FaceKey.{FaceKey}
 use Rattle.zq_interests.specs.declared.types.InterestEntry.{InterestEntry}
 use Rattle.zq_interests.specs.Interests.{AreFolders, Asked, Interests, at, interest_at, is_folder, own_key, own_keys}
-use Rattle.zq_interests.specs.Kept.{AreKept, Keyed, Shelf, Spot, asks_just, folder_at, folders_in, has_place, is_folding, is_under, spots_at, with_spot}
+use Rattle.zq_interests.specs.Kept.{AreKept, AreKeys, Keyed, Shelf, Spot, asks_just, folder_at, folders_in, has_place, is_folding, is_under, spots_at, with_spot}
 use Rattle.zq_interests.proofs.Asking.{any_joined, both_ways, first_under, later_under, or_left, or_right}
 use Rattle.zq_interests.proofs.Keeping.{Text, same_is, same_itself}
 
@@ -235,3 +236,43 @@ module _ (ints : Interests) (shelf : Shelf) (kept : AreKept ints shelf) (key : T
 
 pub are_folders : (ints : Interests) (shelf : Shelf) → AreKept ints shelf → (key : Text) → IsStrictlySortedBy text_cmp (keys_of shelf.keyed) → AreFolders key ints (folders_in key ints shelf)
 are_folders ints shelf kept key texts face own = found_folder ints shelf kept key texts face own
+
+-- ---- their keys are keys
+abbrev HasKey : Spot → Type 0
+HasKey s = is_key s.1 ≡ true
+
+all_joined : (ss ts : List Spot) → AllByRecursion HasKey ss → AllByRecursion HasKey ts → AllByRecursion HasKey (ss ++ ts)
+all_joined [] ts a b = b
+all_joined (s ∷ ss) ts a b = (a.0, all_joined ss ts a.1 b)
+
+module _ (key : Text) where
+  under_keys : (u : Text) (ps : List Place) → is_key u ≡ true → AllByRecursion HasKey (map (λ q. (q, u)) ps)
+  under_keys u [] k = tt
+  under_keys u (q ∷ ps) k = (k, under_keys u ps k)
+
+  one_keys : (e : Text × List Place) → is_key e.0 ≡ true → AllByRecursion HasKey (spots_at key e)
+  one_keys e k = by (intersects e.0 key)
+    where
+      by : (b : Bool) → AllByRecursion HasKey (cond b (map (λ q. (q, e.0)) e.1) [])
+      by true = under_keys e.0 e.1 k
+      by false = tt
+
+  pub spots_keys : (es : Keyed) → AreKeys es → AllByRecursion HasKey (flat_map (spots_at key) es)
+  spots_keys [] k = tt
+  spots_keys (e ∷ es) k = all_joined (spots_at key e) (flat_map (spots_at key) es) (one_keys e (k e.0 (here (is_at (text_cmp e.0) e.0) (at_itself text_total text_exact e.0)))) (spots_keys es (λ t some. k t (there t (is_at (text_cmp t) e.0) some)))
+    where
+      here : (b : Bool) → b ≡ true → is_some (cond b (Some e.1) (at_text e.0 es)) ≡ true
+      here true is = refl
+      here false is = absurd (false≢true is)
+
+      there : (t : Text) (b : Bool) → is_some (at_text t es) ≡ true → is_some (cond b (Some e.1) (at_text t es)) ≡ true
+      there t true some = refl
+      there t false some = some
+
+pub folders_keys : (ints : Interests) (ss : List Spot) → AllByRecursion HasKey ss → AllByRecursion (λ (f : FaceKey). is_key f.key ≡ true) (map folder_at (filter (is_folding ints) ss))
+folders_keys ints [] k = tt
+folders_keys ints (s ∷ ss) k = by (is_folding ints s) (folders_keys ints ss k.1)
+  where
+    by : (b : Bool) → AllByRecursion (λ (f : FaceKey). is_key f.key ≡ true) (map folder_at (filter (is_folding ints) ss)) → AllByRecursion (λ (f : FaceKey). is_key f.key ≡ true) (map folder_at (cond b (s ∷ filter (is_folding ints) ss) (filter (is_folding ints) ss)))
+    by true more = (k.0, more)
+    by false more = more

@@ -9,7 +9,7 @@ ghost use Rattle.std.specs.Ordering.{nat_cmp};
 ghost use Rattle.zq_key.specs.Key.{is_key};
 ghost use Rattle.zq_index.specs.Holders.{Place};
 ghost use Rattle.zq_interests.specs.Kept.{is_kept, is_of};
-ghost use Rattle.zq_interests.specs.Interests.{asked_for, at, folded_for, is_own, is_passing, meets, passes};
+ghost use Rattle.zq_interests.specs.Interests.{asked_for, at, folded_for, is_own, is_passing, meets, own_key, passes};
 
 use crate::shelf::Shelf;
 use crate::types::{InterestEntry, Test};
@@ -73,6 +73,27 @@ fn is_folded(entry: &InterestEntry, key: &str) -> bool
     ensures { result ≡ folded_for entry.now key.now }
 {
     entry.aggregate && entry.key.is_some() && is_own(&entry.key, key)
+}
+
+impl InterestEntry {
+    /// Whether the interest asks for the key.
+    pub fn asks_for(&self, key: &str) -> bool
+        requires { IsTrue (is_key key.now) }
+        ensures { result ≡ asked_for self.now key.now }
+    {
+        asked_for(self, key)
+    }
+
+    /// The key of which it is to hear as one entry, if there is one.
+    pub fn own_key(&self) -> Option<&Key>
+        ensures { option_copied result ≡ own_key self.now }
+    {
+        if self.aggregate {
+            self.key.as_ref()
+        } else {
+            None
+        }
+    }
 }
 
 /// Whether the interest passes the test on the key.

@@ -1,5 +1,6 @@
 //! What faces ask to hear.
-ghost use Rattle.std.specs.Prelude.{◌≡◌, [], OnOk, OnErr, IfOk, IsTrue};
+ghost use Rattle.std.specs.Prelude.{◌≡◌, [], OnOk, OnErr, IfOk, IsTrue, true};
+ghost use Rattle.std.specs.List.{AllByRecursion};
 ghost use Rattle.std.specs.Option.{option_copied, option_map};
 ghost use Rattle.zq_key.specs.Key.{is_key};
 ghost use Rattle.zq_interests.specs.Interests.{AreFolders, asks_another, asks_folded, asks_for, askers, at, closed_face, has_keyed, interest_at, with_interest, without_interest};
@@ -191,7 +192,8 @@ impl Interests {
     /// ask are.
     pub fn folders(&self, alloc: Global, key: &str) -> Result<FolderList, OutOfMemory>
         requires { IsTrue (is_key key.now) }
-        ensures { IfOk result (λ l. AreFolders key.now self.now l) }
+        ensures found { IfOk result (λ l. AreFolders key.now self.now l) }
+        ensures valid { IfOk result (λ l. AllByRecursion (λ f. is_key f.key ≡ true) l) }
     {
         kept_folders(&self.faces, &self.shelf, alloc, key)
     }

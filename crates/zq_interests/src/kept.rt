@@ -1,5 +1,6 @@
 //! The interests of all faces, and where they are kept.
-ghost use Rattle.std.specs.Prelude.{◌≡◌, ◌&&◌, not, filter, map, ℕ, List, Option, OnOk, OnErr, IfOk, IsTrue};
+ghost use Rattle.std.specs.Prelude.{◌≡◌, ◌&&◌, not, filter, map, ℕ, List, Option, OnOk, OnErr, IfOk, IsTrue, true};
+ghost use Rattle.std.specs.List.{AllByRecursion};
 ghost use Rattle.zq_key.specs.Key.{is_key};
 ghost use Rattle.zq_index.specs.Holders.{Place};
 ghost use Rattle.zq_interests.specs.Interests.{AreFolders, askers, closed_face, with_interest, without_interest};
@@ -161,7 +162,8 @@ pub(crate) fn kept_folders(
 ) -> Result<FolderList, OutOfMemory>
     requires key { IsTrue (is_key key.now) }
     requires kept { AreKept faces.now.entries shelf.now }
-    ensures { IfOk result (λ l. AreFolders key.now faces.now.entries l) }
+    ensures found { IfOk result (λ l. AreFolders key.now faces.now.entries l) }
+    ensures valid { IfOk result (λ l. AllByRecursion (λ f. is_key f.key ≡ true) l) }
 {
     let spots = shelf.met_spots(alloc, key)?;
     Ok(list_folders(alloc, faces, spots.as_slice())?)

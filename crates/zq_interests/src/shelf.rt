@@ -1,6 +1,6 @@
 //! Where interests are kept by what they ask for.
-ghost use Rattle.std.specs.Prelude.{◌≡◌, ◌||◌, ◌&&◌, [], ◌++◌, not, ℕ, List, Option, OnOk, OnErr, IfOk, IsTrue, fold, option_copied};
-ghost use Rattle.std.specs.List.{flat_map};
+ghost use Rattle.std.specs.Prelude.{◌≡◌, ◌||◌, ◌&&◌, [], ◌++◌, not, ℕ, List, Option, OnOk, OnErr, IfOk, IsTrue, fold, option_copied, true};
+ghost use Rattle.std.specs.List.{AllByRecursion, flat_map};
 ghost use Rattle.std.specs.List.Sorted.{IsStrictlySortedBy};
 ghost use Rattle.std.specs.Map.{keys_of};
 ghost use Rattle.zq_key.specs.Key.{is_key};
@@ -112,6 +112,7 @@ impl Shelf {
         requires { IsTrue (is_key key.now) }
         ensures spots { IfOk result (λ l. l ≡ fold with_spot [] (flat_map (spots_at key.now) self.now.keyed)) }
         ensures ordered { IfOk result (λ l. IsStrictlySortedBy text_cmp (keys_of self.now.keyed)) }
+        ensures valid { IfOk result (λ l. AllByRecursion (λ s. is_key s.1 ≡ true) l) }
     {
         let mut found = Items::new(alloc);
         add_met_spots(&mut found, alloc, &self.keyed, &self.lists, key)?;
