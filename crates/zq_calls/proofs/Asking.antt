@@ -1,18 +1,13 @@
 -- An interest and the end of one: what refuses them, what they are answered, and what they leave.
 use Rattle.std.proofs.Common.{◌≡◌, ◌∙◌, refl, sym, ap, subst, ℕ, Bool, true, false, cond, not, List, [], ◌∷◌, map, Option, Some, None}
-use Rattle.std.specs.List.{All, list_any}
-use Rattle.std.specs.BTreeMap.{insert_entry}
-use Rattle.std.specs.Ordering.{match_ordering, nat_cmp}
-use Rattle.std.specs.declared.cmp.Ordering.{Ordering}
-use Rattle.std.specs.declared.cmp.Ordering.TheVariants.{Less, Equal, Greater}
-use Rattle.std.specs.Prelude.{◌||◌}
+use Rattle.std.specs.List.{All, AllByRecursion}
 use Rattle.std.specs.Option.{is_none, option_map, option_map_or}
 use Rattle.zq_message.specs.declared.message.FaceId.{FaceId}
 use Rattle.zq_key.specs.Key.{is_key}
 use Rattle.zq_trees.specs.declared.types.Telling.{Telling as TreeTelling}
 use Rattle.zq_trees.specs.Tellings.{in_order as ordered}
 use Rattle.zq_interests.specs.declared.types.InterestEntry.{InterestEntry}
-use Rattle.zq_interests.specs.Interests.{Interests, asks_another, asks_for, interest_at, interests_of, meets, wants, with_interest, without_interest}
+use Rattle.zq_interests.specs.Interests.{Interests, asks_another, interest_at, without_interest}
 use Rattle.zq_tables.specs.declared.said.Said.{Said}
 use Rattle.zq_tables.specs.Naming.{NamingState, change_naming, without_interest as letting_interest}
 use Rattle.zq_told.specs.declared.types.FaceDues.{FaceDues}
@@ -26,69 +21,46 @@ use Rattle.zq_machine.specs.declared.call.Refusal.TheVariants as refusal
 use Rattle.zq_machine.specs.declared.call.Step.{Step}
 use Rattle.zq_machine.specs.Deciding.{accepted, lacks_told, refusal_of, renamed}
 use Rattle.zq_machine.specs.Handing.{Handed}
-use Rattle.zq_machine.specs.Machine.{accepted_state, answer, done, settle}
-use Rattle.zq_machine.specs.Messages.{answered_by, from_hat}
+use Rattle.zq_machine.specs.Machine.{accepted_state}
+use Rattle.zq_machine.specs.Messages.{Telling, answered_by, from_hat}
 use Rattle.zq_machine.specs.Neighbours.{asked_at, ended_at}
-use Rattle.zq_machine.specs.Selecting.{asked_by, full_text, is_unscoped, says_key}
+use Rattle.zq_machine.specs.Selecting.{Manner, asked_by, full_text, is_unscoped, says_key}
 use Rattle.zq_machine.specs.State.{Core, State, is_open}
 use Rattle.zq_machine.specs.TextCalls.{TextCall, hearing, unhearing}
 use Rattle.zq_machine.specs.Writing.{Told, tell}
-use Rattle.zq_machine.proofs.Changing.{itself}
-use Rattle.zq_machine.proofs.DueAsked.{listed, listed_at, with_one}
 use Rattle.zq_machine.proofs.Agreed.{accepted_in_order}
 use Rattle.zq_machine.proofs.Granted.{answers_told, settles_told, told_by}
 use Rattle.zq_machine.proofs.NeighbourLaws.{ending_keeps}
 use Rattle.zq_machine.proofs.NeighboursTold.{due_keys}
-use Rattle.zq_machine.proofs.Asks.{is_asking}
 use Rattle.zq_machine.proofs.Writing.{plain_answer, plain_settle, with_told}
 use Rattle.zq_handing.specs.Neighbours.{asking}
 use Rattle.zq_calls.specs.Asking.{asking_refusal}
 use Rattle.zq_calls.specs.Making.{IsReached}
+use Rattle.zq_calls.proofs.Beside.{IsBeside, changed_after, ended_beside, told_beside}
 use Rattle.zq_calls.proofs.Due.{all_from, key_refuses}
-use Rattle.zq_calls.proofs.GoneOut.{nothing_goes, nothing_stays}
 use Rattle.zq_calls.proofs.Reached.{reached_in_order, reached_keeps}
 
--- ---- an interest asks for the keys that meet it
-put_asks : (key : List ℕ) (id : ℕ) (v : InterestEntry) → meets v.key key ≡ true → (es : List (ℕ × InterestEntry)) → list_any (wants key) (insert_entry nat_cmp es id v) ≡ true
-put_asks key id v on [] = ap (λ b. b || false) on
-put_asks key id v on (e ∷ es) = by (nat_cmp id e.0) (put_asks key id v on es)
-  where
-    right : (a b : Bool) → b ≡ true → (a || b) ≡ true
-    right true b h = refl
-    right false b h = h
-
-    by : (r : Ordering) → list_any (wants key) (insert_entry nat_cmp es id v) ≡ true → list_any (wants key) (match_ordering r ((id, v) ∷ e ∷ es) ((e.0, v) ∷ es) (e ∷ insert_entry nat_cmp es id v)) ≡ true
-    by Less more = ap (λ b. b || list_any (wants key) (e ∷ es)) on
-    by Equal more = ap (λ b. b || list_any (wants key) es) on
-    by Greater more = right (wants key e) (list_any (wants key) (insert_entry nat_cmp es id v)) more
-
-pub asked_asks : (face id : ℕ) (v : InterestEntry) (ints : Interests) (key : List ℕ) → meets v.key key ≡ true → asks_for face key (with_interest face id v ints) ≡ true
-asked_asks face id v ints key on =
-    ap (list_any (wants key)) (listed_at ints face (with_one face id v ints) face)
-    ∙ ap (λ b. list_any (wants key) (listed ints face (with_one face id v ints) face b)) (itself face)
-    ∙ put_asks key id v on (interests_of face ints)
-
 -- ---- what refuses an interest
-module _ (c : Core) (face : FaceId) (id : ℕ) (keys : Bool) (sd : Option Said) where
+module _ (c : Core) (face : FaceId) (id : ℕ) (m : Manner) (sd : Option Said) where
   abbrev asked : InterestEntry
-  asked = asked_by keys sd
+  asked = asked_by m sd
 
   -- behind its key
   abbrev behind_key : Option Refusal
-  behind_key = cond (asks_another face.0 id asked.key c.interests) (Some refusal.IdInUse) (cond (lacks_told c (hearing face id keys sd)) (Some refusal.NoFreeId) None)
+  behind_key = cond (asks_another face.0 id asked.key c.interests) (Some refusal.IdInUse) (cond (lacks_told c (hearing face id m sd)) (Some refusal.NoFreeId) None)
 
   -- behind its face
   abbrev behind_face : Option Refusal
   behind_face = cond (option_map_or is_unscoped sd false) (Some refusal.UnknownScope) (cond (not (option_map_or says_key sd true)) (Some refusal.InvalidKeyExpr) behind_key)
 
-  pub hearing_unknown : is_open face.0 c ≡ false → refusal_of c (hearing face id keys sd) ≡ Some refusal.UnknownFace
+  pub hearing_unknown : is_open face.0 c ≡ false → refusal_of c (hearing face id m sd) ≡ Some refusal.UnknownFace
   hearing_unknown shut = ap (λ b. cond (not b) (Some refusal.UnknownFace) behind_face) shut
 
   module _ (opens : is_open face.0 c ≡ true) where
-    past_face : refusal_of c (hearing face id keys sd) ≡ behind_face
+    past_face : refusal_of c (hearing face id m sd) ≡ behind_face
     past_face = ap (λ b. cond (not b) (Some refusal.UnknownFace) behind_face) opens
 
-    pub hearing_no_key : (x : Refusal) → asking_refusal sd ≡ Some x → refusal_of c (hearing face id keys sd) ≡ Some x
+    pub hearing_no_key : (x : Refusal) → asking_refusal sd ≡ Some x → refusal_of c (hearing face id m sd) ≡ Some x
     hearing_no_key x e = past_face ∙ by sd behind_key e
       where
         by : (o : Option Said) (rest : Option Refusal) → asking_refusal o ≡ Some x
@@ -97,7 +69,7 @@ module _ (c : Core) (face : FaceId) (id : ℕ) (keys : Bool) (sd : Option Said) 
         by (Some s) rest f = key_refuses s rest x f
 
     module _ (valid : asking_refusal sd ≡ None) where
-      past_key : refusal_of c (hearing face id keys sd) ≡ behind_key
+      past_key : refusal_of c (hearing face id m sd) ≡ behind_key
       past_key = past_face ∙ by sd behind_key valid
         where
           tests : (a b : Bool) (rest : Option Refusal) → cond a (Some refusal.UnknownScope) (cond (not b) (Some refusal.InvalidKeyExpr) None) ≡ None
@@ -111,27 +83,27 @@ module _ (c : Core) (face : FaceId) (id : ℕ) (keys : Bool) (sd : Option Said) 
           by None rest f = refl
           by (Some s) rest f = tests (is_unscoped s) (says_key s) rest f
 
-      pub hearing_used : asks_another face.0 id asked.key c.interests ≡ true → refusal_of c (hearing face id keys sd) ≡ Some refusal.IdInUse
-      hearing_used used = past_key ∙ ap (λ b. cond b (Some refusal.IdInUse) (cond (lacks_told c (hearing face id keys sd)) (Some refusal.NoFreeId) None)) used
+      pub hearing_used : asks_another face.0 id asked.key c.interests ≡ true → refusal_of c (hearing face id m sd) ≡ Some refusal.IdInUse
+      hearing_used used = past_key ∙ ap (λ b. cond b (Some refusal.IdInUse) (cond (lacks_told c (hearing face id m sd)) (Some refusal.NoFreeId) None)) used
 
       module _ (free : asks_another face.0 id asked.key c.interests ≡ false) where
-        past_id : refusal_of c (hearing face id keys sd) ≡ cond (lacks_told c (hearing face id keys sd)) (Some refusal.NoFreeId) None
-        past_id = past_key ∙ ap (λ b. cond b (Some refusal.IdInUse) (cond (lacks_told c (hearing face id keys sd)) (Some refusal.NoFreeId) None)) free
+        past_id : refusal_of c (hearing face id m sd) ≡ cond (lacks_told c (hearing face id m sd)) (Some refusal.NoFreeId) None
+        past_id = past_key ∙ ap (λ b. cond b (Some refusal.IdInUse) (cond (lacks_told c (hearing face id m sd)) (Some refusal.NoFreeId) None)) free
 
-        pub hearing_lacks : lacks_told c (hearing face id keys sd) ≡ true → refusal_of c (hearing face id keys sd) ≡ Some refusal.NoFreeId
+        pub hearing_lacks : lacks_told c (hearing face id m sd) ≡ true → refusal_of c (hearing face id m sd) ≡ Some refusal.NoFreeId
         hearing_lacks lacks = past_id ∙ ap (λ b. cond b (Some refusal.NoFreeId) None) lacks
 
-        pub hearing_fits : lacks_told c (hearing face id keys sd) ≡ false → refusal_of c (hearing face id keys sd) ≡ None
+        pub hearing_fits : lacks_told c (hearing face id m sd) ≡ false → refusal_of c (hearing face id m sd) ≡ None
         hearing_fits enough = past_id ∙ ap (λ b. cond b (Some refusal.NoFreeId) None) enough
 
 -- ---- what an interest is answered, and what it leaves
-module _ (s : State) (i : IsReached s) (face : FaceId) (id : ℕ) (keys : Bool) (sd : Option Said) where
+module _ (s : State) (i : IsReached s) (face : FaceId) (id : ℕ) (m : Manner) (sd : Option Said) where
   abbrev t : TextCall
-  t = hearing face id keys sd
+  t = hearing face id m sd
 
   -- what it looks at
   abbrev pub looked : List FaceDues
-  looked = asked_at (accepted s.core t) (accepted s.core t).interests face.0 (asked_by keys sd)
+  looked = asked_at (accepted s.core t) (accepted s.core t).interests face.0 (asked_by m sd)
 
   module _ (ears : Ears) (heard : ears ≡ s.core.ears) (dues : List FaceDues) (are : dues ≡ looked) where
     pub asked_lacks : lacks_ids Answering ears dues ≡ lacks_told s.core t
@@ -150,7 +122,7 @@ module _ (s : State) (i : IsReached s) (face : FaceId) (id : ℕ) (keys : Bool) 
     held : (names : NamingState) → names ≡ s.names → (key : Option (List ℕ)) → key ≡ option_map full_text sd → asking face.0 id key names ≡ renamed s t
     held names same key is = (λ j. asking face.0 id (is j) (same j)) ∙ by sd
       where
-        by : (o : Option Said) → asking face.0 id (option_map full_text o) s.names ≡ renamed s (hearing face id keys o)
+        by : (o : Option Said) → asking face.0 id (option_map full_text o) s.names ≡ renamed s (hearing face id m o)
         by None = refl
         by (Some x) = refl
 
@@ -187,9 +159,16 @@ module _ (s : State) (i : IsReached s) (face : FaceId) (id : ℕ) where
       abbrev less : Interests
       less = without_interest face.0 id s.core.interests
 
+      abbrev ended_as : Option InterestEntry → List TreeTelling
+      ended_as o = option_map_or (λ (a : InterestEntry). (tell_faces Ending s.core.ears (ended_at (accepted s.core e) less s.core.ears face.0 a)).tellings) o []
+
       -- what it looks at
       abbrev pub looked_last : List FaceDues
       looked_last = ended_at (accepted s.core e) less s.core.ears face.0 asked
+
+      -- what it tells neighbours is what it tells
+      tells : ended_as (interest_at face.0 id s.core.interests) ≡ (tell_faces Ending s.core.ears looked_last).tellings
+      tells = ap ended_as there
 
       pub ending_enough : lacks_ids Ending s.core.ears looked_last ≡ false
       ending_enough = (ending_keeps s.core s.core.interests s.core.ears face.0 id asked there).enough ((reached_keeps s i).ears i.low).sound.ids
@@ -200,19 +179,31 @@ module _ (s : State) (i : IsReached s) (face : FaceId) (id : ℕ) where
           ∙ (λ j. put_plan (tell_faces Ending (heard j) (are j)).plan (heard j))
           ∙ ap (λ (o : Option InterestEntry). option_map_or (λ (a : InterestEntry). put_plan (tell_faces Ending s.core.ears (ended_at (accepted s.core e) less s.core.ears face.0 a)).plan s.core.ears) o s.core.ears) (sym there)
 
-      abbrev left_last : State
-      left_last = record { core = accepted s.core e; names = change_naming face.0 (letting_interest id) s.names; gates = s.gates }
+      module _ (ears : Ears) (heard : ears ≡ s.core.ears) (dues : List FaceDues) (are : dues ≡ looked_last) where
+        -- what it tells is of keys
+        pub ending_keys : All (λ (u : TreeTelling). is_key u.key ≡ true) (tell_faces Ending ears dues).tellings
+        ending_keys =
+            subst (All (λ (u : TreeTelling). is_key u.key ≡ true)) (λ j. (tell_faces Ending (sym heard j) (sym are j)).tellings)
+            (all_from (λ (u : TreeTelling). is_key u.key ≡ true) (tell_faces Ending s.core.ears looked_last).tellings
+            (subst (λ us. AllByRecursion (λ (u : TreeTelling). is_key u.key ≡ true) us) tells
+            (due_keys i.config s (reached_in_order s i) e ending_fits (accepted_in_order i.config s e ending_fits (reached_in_order s i)))))
 
-      answered_nothing : done [] ≡ plain_answer s e
-      answered_nothing = answers_told s e [] ending_fits refl
+        abbrev let_go : NamingState → NamingState
+        let_go = change_naming face.0 (letting_interest id)
 
-      settled_nothing : plain_settle s e ≡ left_last
-      settled_nothing = settles_told s e ending_fits
+        all_beside : (us : List Telling) → AllByRecursion (λ (u : Telling). IsBeside (accepted s.core e) (accepted s.core e) let_go u.to.0) us
+        all_beside [] = tt
+        all_beside (u ∷ us) = (ended_beside (accepted s.core e) (accepted s.core e) face.0 id u.to.0 refl refl, all_beside us)
 
-      pub ending_answered : done [] ≡ answer s e
-      unfolding is_asking
-      ending_answered = nothing_goes s e refl outcome.Done left_last answered_nothing settled_nothing
+        module _ (l : List Handed) (new : NamingState) (told : tell (accepted s.core e) (map from_hat (ordered (tell_faces Ending ears dues).tellings)) s.names ≡ record { handed = l; names = new }) where
+          its_end : told_by s e ≡ record { handed = l; names = let_go new }
+          its_end =
+              ap (λ us. tell (accepted s.core e) us (renamed s e)) (ap (λ us. map from_hat (ordered us)) (tells ∙ (λ j. (tell_faces Ending (sym heard j) (sym are j)).tellings)))
+              ∙ told_beside (accepted s.core e) (accepted s.core e) let_go (map from_hat (ordered (tell_faces Ending ears dues).tellings)) (all_beside (map from_hat (ordered (tell_faces Ending ears dues).tellings))) s.names
+              ∙ ap (changed_after (accepted s.core e) (accepted s.core e) let_go) told
 
-      pub ending_settled : settle s e ≡ left_last
-      unfolding is_asking
-      ending_settled = nothing_stays s e refl outcome.Done left_last answered_nothing settled_nothing
+          pub ending_answered : ◌≡◌ {A = Step} (record { outcome = outcome.Done; handed = l }) (plain_answer s e)
+          ending_answered = answers_told s e l ending_fits (ap (λ (w : Told). w.handed) (sym its_end))
+
+          pub ending_settled : plain_settle s e ≡ record { core = accepted s.core e; names = let_go new; gates = s.gates }
+          ending_settled = settles_told s e ending_fits ∙ ap (with_told (accepted_state s e)) its_end

@@ -14,7 +14,7 @@ use Rattle.zq_message.specs.declared.message.FaceId.{FaceId}
 use Rattle.zq_names.specs.Texts.{nonwild}
 use Rattle.zq_ids.specs.FaceTexts.{declared_key}
 use Rattle.zq_ids.specs.declared.decl.DeclKey.{DeclKey}
-use Rattle.zq_tables.specs.Naming.{FaceKeys, NamingState, change_naming, face_naming, naming_at, no_keys, put_naming, with_told_number, without_queryable}
+use Rattle.zq_tables.specs.Naming.{FaceKeys, NamingState, change_naming, face_naming, naming_at, no_keys, put_naming, with_told_number, without_interest, without_queryable}
 use Rattle.zq_interests.specs.declared.types.InterestEntry.{InterestEntry}
 use Rattle.zq_interests.specs.Interests.{closed_face, interests_of, wants_keyed}
 use Rattle.zq_machine.specs.Messages.{Telling, TellingBody, all_told, key_ended, key_told}
@@ -148,19 +148,17 @@ left_beside c d face to other faces asked = record {
   later = λ text n names. left_later face to other names (with_told_number text n);
 }
 
--- ---- a queryable is withdrawn: each face is told the same
-pub released_beside : (c d : Core) (face id to : ℕ) → d.faces ≡ c.faces → d.interests ≡ c.interests → IsBeside c d (change_naming face (without_queryable id)) to
-released_beside c d face id to faces asked = by (is_at (nat_cmp face) to) refl
+-- ---- what stands for keys at a face is changed, but for its numbers: each face is told the same
+pub changed_beside : (c d : Core) (face : ℕ) (g : FaceKeys → FaceKeys) → ((n : FaceKeys) → (g n).numbers ≡ n.numbers) → ((text : List ℕ) (k : Option ℕ) (n : FaceKeys) → with_told_number text k (g n) ≡ g (with_told_number text k n))
+    → (to : ℕ) → d.faces ≡ c.faces → d.interests ≡ c.interests → IsBeside c d (change_naming face g) to
+changed_beside c d face g keeps swaps to faces asked = by (is_at (nat_cmp face) to) refl
   where
-    g : FaceKeys → FaceKeys
-    g = without_queryable id
-
     numbers_here : (names : NamingState) → face_naming face (change_naming face g names) ≡ face_naming face names
     numbers_here names = at_there (naming_at face names) refl
       where
         at_there : (o : Option FaceKeys) → naming_at face names ≡ o → face_naming face (put_naming face g names o) ≡ (unwrap_or o no_keys).numbers
         at_there None e = ap (λ (p : Option FaceKeys). (unwrap_or p no_keys).numbers) e
-        at_there (Some n) e = ap (λ (p : Option FaceKeys). (unwrap_or p no_keys).numbers) (lookup_set (is_at (nat_cmp face)) names n (g n) e)
+        at_there (Some n) e = ap (λ (p : Option FaceKeys). (unwrap_or p no_keys).numbers) (lookup_set (is_at (nat_cmp face)) names n (g n) e) ∙ keeps n
 
     by : (b : Bool) → is_at (nat_cmp face) to ≡ b → IsBeside c d (change_naming face g) to
     by true here = subst (IsBeside c d (change_naming face g)) (one_number face to here) (record {
@@ -169,7 +167,7 @@ released_beside c d face id to faces asked = by (is_at (nat_cmp face) to) refl
       numbers = numbers_here;
       later = λ text n names.
           changed_twice face g (with_told_number text n) (λ m. with_told_number text n (g m)) (λ m. refl) names
-          ∙ sym (changed_twice face (with_told_number text n) g (λ m. with_told_number text n (g m)) (λ m. refl) names);
+          ∙ sym (changed_twice face (with_told_number text n) g (λ m. with_told_number text n (g m)) (λ m. sym (swaps text n m)) names);
     })
     by false other = record {
       face = ap (at to) faces;
@@ -177,3 +175,11 @@ released_beside c d face id to faces asked = by (is_at (nat_cmp face) to) refl
       numbers = λ names. ap (λ (o : Option FaceKeys). (unwrap_or o no_keys).numbers) (other_kept face to other names g);
       later = λ text n names. changes_beside face to other g (with_told_number text n) names;
     }
+
+-- a queryable is withdrawn
+pub released_beside : (c d : Core) (face id to : ℕ) → d.faces ≡ c.faces → d.interests ≡ c.interests → IsBeside c d (change_naming face (without_queryable id)) to
+released_beside c d face id to faces asked = changed_beside c d face (without_queryable id) (λ n. refl) (λ text k n. refl) to faces asked
+
+-- an interest ends
+pub ended_beside : (c d : Core) (face id to : ℕ) → d.faces ≡ c.faces → d.interests ≡ c.interests → IsBeside c d (change_naming face (without_interest id)) to
+ended_beside c d face id to faces asked = changed_beside c d face (without_interest id) (λ n. refl) (λ text k n. refl) to faces asked

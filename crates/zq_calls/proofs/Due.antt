@@ -340,7 +340,7 @@ module _ (s : State) (i : IsReached s) (face : FaceId) (id : ℕ) (r : Region) (
         by None e f = absurd (let gap : Some key ≡ None = f in cc)
         by (Some d) e f = withdrawal (Some d) e
 
-    withdrawal_touches : touched s.core (withdrawing face id) ≡ key ∷ []
+    pub withdrawal_touches : touched s.core (withdrawing face id) ≡ key ∷ []
     withdrawal_touches = ap (λ x. option_to_list (option_map (λ (d : Declaration). d.key) (option_and_then (declaration_at face.0 id) x))) hat_there ∙ ap option_to_list (sym declared)
 
     pub withdrawal_key : is_key key ≡ true

@@ -1,12 +1,18 @@
 -- On each key that a call does not touch faces hear what they heard, also where a face lacks ids for what the call would tell it.
 use Rattle.std.proofs.Common.{◌≡◌, ◌∙◌, refl, sym, ap, ℕ, Bool, true, false, cond, not, List, [], ◌∷◌, fold, Option, Some, None}
+use Rattle.std.specs.BTreeMap.{is_at}
+use Rattle.std.specs.Cmp.{nat_cmp_total}
 use Rattle.std.specs.List.{list_any}
-use Rattle.std.specs.Option.{is_some, option_and_then}
+use Rattle.std.specs.Map.{remove_entry}
+use Rattle.std.specs.Option.{is_some, option_and_then, option_map_or}
+use Rattle.std.specs.Ordering.{nat_cmp}
+use Rattle.std.proofs.lemmas.Map.Lookups.{exact_unsigned}
+use Rattle.zq_key.proofs.Lookups.{found_after_removal}
 use Rattle.zq_message.specs.declared.message.FaceId.{FaceId}
 use Rattle.zq_message.specs.declared.message.QueryableInfoType.{QueryableInfoType}
 use Rattle.zq_message.specs.declared.message.Region.{Region}
 use Rattle.zq_key.specs.Key.{is_key}
-use Rattle.zq_hat.specs.Kept.{clashes_at}
+use Rattle.zq_hat.specs.Kept.{clashes_at, keys_of_face}
 use Rattle.zq_hat.specs.State.{HatState}
 use Rattle.zq_index.specs.Texts.{has_text}
 use Rattle.zq_tables.specs.declared.said.Said.TheVariants as said
@@ -21,7 +27,8 @@ use Rattle.zq_machine.specs.declared.face.OpenFace.{OpenFace}
 use Rattle.zq_machine.specs.Deciding.{accepted, lacks_told, refusal_of}
 use Rattle.zq_machine.specs.Due.{heard, heard_as, heard_touched}
 use Rattle.zq_machine.specs.State.{Core, State, at, clashes_in, face_region, hat_at, hat_of, is_open}
-use Rattle.zq_machine.specs.TextCalls.{TextCall, declaring}
+use Rattle.zq_machine.specs.TextCalls.{TextCall, closing, declaring}
+use Rattle.zq_machine.specs.Trees.{touched}
 use Rattle.zq_machine.proofs.Agreed.{InOrder}
 use Rattle.zq_machine.proofs.DueWhole.{heard_kept}
 use Rattle.zq_dues.specs.Dues.{IsBeside}
@@ -79,3 +86,19 @@ module _ (s : State) (face : FaceId) (id : ℕ) (r : Region) (home : face_region
 -- the same by the hats and the keys that a body has
 pub beside_at : (c : Core) {hats now : List (ℕ × HatState)} {keys texts : List (List ℕ)} → hats ≡ now → keys ≡ texts → IsBeside c now texts → IsBeside c hats keys
 beside_at c hats keys b = λ face o open key off. b face o open key (ap (has_text key) (sym keys) ∙ off) ∙ sym (ap (λ l. heard_as face key l o) hats)
+
+-- ---- a closing
+-- its keys are those that the face declared
+pub closing_touches : (s : State) (face : FaceId) (r : Region) → face_region face.0 s.core ≡ Some r → (keys : List (List ℕ)) → keys ≡ option_map_or (keys_of_face face.0) (hat_at r s.core.hats) [] → touched s.core (closing face) ≡ keys
+closing_touches s face r home keys are = ap (λ (o : Option HatState). option_map_or (keys_of_face face.0) o []) (hat_home face.0 r s.core home) ∙ sym are
+
+-- a face that is open after it was so before
+pub closing_stays : (s : State) → IsReached s → (face f : ℕ) (o : OpenFace) → at f (remove_entry (is_at (nat_cmp face)) s.core.faces) ≡ Some o → at f s.core.faces ≡ Some o
+closing_stays s i face f o open = by (is_at (nat_cmp face) f) refl
+  where
+    found : at f (remove_entry (is_at (nat_cmp face)) s.core.faces) ≡ cond (is_at (nat_cmp face) f) None (at f s.core.faces)
+    found = found_after_removal nat_cmp_total exact_unsigned face f s.core.faces (reached_in_order s i).sound.sorted
+
+    by : (b : Bool) → is_at (nat_cmp face) f ≡ b → at f s.core.faces ≡ Some o
+    by true e = absurd (let gap : None ≡ Some o = sym (found ∙ ap (λ b. cond b None (at f s.core.faces)) e) ∙ open in cc)
+    by false e = sym (found ∙ ap (λ b. cond b None (at f s.core.faces)) e) ∙ open

@@ -37,7 +37,7 @@ use Rattle.zq_machine.specs.Handing.{Handed}
 use Rattle.zq_machine.specs.Gates.{Gates}
 use Rattle.zq_machine.specs.Messages.{from_hat}
 use Rattle.zq_machine.specs.Selecting.{full_text, is_unscoped, says_key}
-use Rattle.zq_machine.specs.State.{Core, State, change_hat, face_region, hat_at, hat_of, is_open, is_routing, put_hat}
+use Rattle.zq_machine.specs.State.{Core, State, at, change_hat, face_region, hat_at, hat_of, is_open, is_routing, put_hat}
 use Rattle.zq_machine.specs.TextCalls.{announcing, by_router}
 use Rattle.zq_machine.specs.Trees.{own_told_on, source_told, touched, tree_told}
 use Rattle.zq_machine.specs.Writing.{tell}
@@ -49,6 +49,10 @@ use Rattle.zq_calls.specs.Making.{IsReached}
 use Rattle.zq_calls.specs.Routing.{entering}
 use Rattle.zq_machine.proofs.Keeping.{is_plain}
 use Rattle.zq_machine.proofs.Writing.{plain_answer, plain_settle}
+use Rattle.zq_machine.specs.declared.face.OpenFace.{OpenFace}
+use Rattle.zq_dues.specs.Dues.{IsBeside}
+use Rattle.zq_machine.specs.Due.{heard_touched}
+use Rattle.zq_calls.proofs.Elsewhere.{beside, beside_at, none_lacks, quiet}
 use Rattle.zq_calls.proofs.Due.{Gathers, changed_home, due, hat_home, key_along, key_looked, key_refuses, looked, told_answered, told_left}
 
 -- in a region of routers
@@ -262,6 +266,33 @@ module _ (s : State) (reached : IsReached s) (face : FaceId) (sd : Said) (info :
       over : (o : Option QueryableInfoType) → looked s.core (entering face sd o node) ≡ looked_over (accepted s.core (entering face sd o node)) s.core.interests (fold (insert_key text_cmp) [] (touched s.core (entering face sd o node)))
       over None = refl
       over (Some i) = refl
+
+  -- and on each other key faces hear what they heard
+  pub entering_apart : (info ≡ None → is_none (entry_at router.0 key h) ≡ false) → (hats : List (ℕ × HatState)) → hats ≡ s.core.hats → (text : List ℕ) → text ≡ key → IsBeside (accepted s.core (entering face sd info node)) hats (text ∷ [])
+  entering_apart has hats same text named =
+      beside_at (accepted s.core (entering face sd info node)) same (ap (λ k. k ∷ []) named)
+      (beside s reached (entering face sd info node) (entry_fits (quiet s reached).core face sd info node opens key says valid r home h there router is (lacks_none info) has) (key ∷ [])
+      (touches_at info (touches s.core face sd info node opens key says valid r home h there router is)) (same_hats info) (same_faces info) (stay info))
+    where
+      lacks_none : (o : Option QueryableInfoType) → lacks_told (quiet s reached).core (entering face sd o node) ≡ false
+      lacks_none None = none_lacks Unasked _
+      lacks_none (Some i) = none_lacks Unasked _
+
+      touches_at : (o : Option QueryableInfoType) → touched s.core (entering face sd o node) ≡ key ∷ [] → (f : ℕ) → heard_touched (quiet s reached).core (entering face sd o node) f ≡ key ∷ []
+      touches_at None e f = ap (fold (insert_key text_cmp) []) e
+      touches_at (Some i) e f = ap (fold (insert_key text_cmp) []) e
+
+      same_hats : (o : Option QueryableInfoType) → (accepted (quiet s reached).core (entering face sd o node)).hats ≡ (accepted s.core (entering face sd o node)).hats
+      same_hats None = refl
+      same_hats (Some i) = refl
+
+      same_faces : (o : Option QueryableInfoType) → (accepted (quiet s reached).core (entering face sd o node)).faces ≡ (accepted s.core (entering face sd o node)).faces
+      same_faces None = refl
+      same_faces (Some i) = refl
+
+      stay : (o : Option QueryableInfoType) (f : ℕ) (x : OpenFace) → at f (accepted s.core (entering face sd o node)).faces ≡ Some x → at f s.core.faces ≡ Some x
+      stay None f x on = on
+      stay (Some i) f x on = on
 
   -- what the change of its hat is
   pub entering_changes : (accepted s.core (entering face sd info node)).hats ≡ change_hat r (entered router key info) s.core.hats

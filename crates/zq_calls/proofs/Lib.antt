@@ -1,6 +1,7 @@
 pub mod Asking
 pub mod Beside
 pub mod Due
+pub mod Elsewhere
 pub mod Entering
 pub mod GoneOut
 pub mod Hearing

@@ -3,7 +3,7 @@ use Rattle.std.specs.Prelude.{IfOk, option_copied}
 use Rattle.std.specs.List.{AllByRecursion}
 use Rattle.std.specs.Option.{is_some, option_map}
 use Rattle.zq_tables.specs.declared.said.Said.{Said}
-use Rattle.zq_interests.specs.Interests.{asks_another, has_keyed, meets, with_interest}
+use Rattle.zq_interests.specs.Interests.{asks_another, has_keyed, with_interest}
 use Rattle.zq_told.specs.Rooms.{ears_of}
 use Rattle.zq_told.specs.declared.types.Way.TheVariants.{Answering}
 use Rattle.zq_told.specs.Telling.{put_plan, tell_faces}
@@ -11,17 +11,18 @@ use Rattle.zq_trees.specs.Tellings.{in_order}
 use Rattle.zq_machine.specs.declared.call.Refusal.{Refusal}
 use Rattle.zq_machine.specs.declared.call.Refusal.TheVariants as refusal
 use Rattle.zq_machine.specs.Deciding.{accepted}
-use Rattle.zq_machine.specs.Selecting.{asked_by, full_text}
+use Rattle.zq_machine.specs.Selecting.{Manner, asked_by, full_text}
 use Rattle.zq_machine.specs.declared.call.Outcome.TheVariants as outcome
 use Rattle.zq_machine.specs.Machine.{done}
 use Rattle.zq_machine.specs.Messages.{answered_by, from_hat}
+use Rattle.zq_machine.specs.Neighbours.{asked_at}
 use Rattle.zq_machine.specs.Writing.{Told}
 use Rattle.zq_machine.specs.State.{Core, State, at, is_open}
 use Rattle.zq_machine.specs.TextCalls.{hearing}
 use Rattle.zq_handing.specs.Neighbours.{asked_back, asking}
 use Rattle.zq_handing.proofs.Held.{asked_out}
 use Rattle.zq_calls.specs.Asking.{asking_refusal}
-use Rattle.zq_calls.proofs.Asking.{asked_answered, asked_asks, asked_keys, asked_lacks, asked_left, asked_settled, hearing_fits, hearing_lacks, looked}
+use Rattle.zq_calls.proofs.Asking.{asked_answered, asked_keys, asked_lacks, asked_left, asked_settled, hearing_fits, hearing_lacks, looked}
 use Rattle.zq_calls.proofs.Due.{refused_answered, refused_left}
 use Rattle.zq_calls.proofs.GoneOut.{each_told, goes_out, stays_out}
 use Rattle.zq_outgoing.specs.Gone.{IsTold}
@@ -35,25 +36,25 @@ hold_and_answer-requires c enough =
     let v = c.self.view_is in
     let face = c.args.face in
     let id = c.args.id in
-    let keys = c.args.keys in
+    let m : Manner = record { keys = c.args.keys; aggregate = c.args.aggregate } in
     let sd : Option Said = c.args.said.now in
-    let t = hearing face id keys sd in
+    let t = hearing face id m sd in
     let home : at face.0 s.core.faces ≡ Some c.in-Some.opened = sym c.in-Some.ensures.found in
     let opens : is_open face.0 s.core ≡ true = ap is_some home in
     let key : Option (List ℕ) = c.in-Ok.key in
     let is : key ≡ option_map full_text sd = subst (λ (x : Result (Option (List ℕ)) Refusal). IfOk x (λ k. k ≡ option_map full_text sd)) c.in-Ok.is c.in_ok-key.ensures.key in
     let valid : asking_refusal sd ≡ None = subst (λ (x : Result (Option (List ℕ)) Refusal). IfOk x (λ k. asking_refusal sd ≡ None)) c.in-Ok.is c.in_ok-key.ensures.valid in
     let held = ap (λ (x : State). x.core.interests) v in
-    let free : asks_another face.0 id (asked_by keys sd).key s.core.interests ≡ false =
+    let free : asks_another face.0 id (asked_by m sd).key s.core.interests ≡ false =
     (λ j. asks_another face.0 id (sym (c.as_ref.ensures.value ∙ is) j) (sym held j)) ∙ sym c.asks_another.ensures ∙ c.if-asks_another.false in
     let dues = c.as_slice.result.now in
-    let are : dues ≡ looked s c.requires face id keys sd =
+    let are : dues ≡ looked s c.requires face id m sd =
     c.as_slice.ensures
-    ∙ c.in_ok-dues.ensures (accepted s.core t) (accepted s.core t).interests (asked_by keys sd) home (ap (λ (x : State). x.core.hats) v) (sym (c.as_ref-2.ensures.value ∙ is))
-    (λ k on. asked_asks face.0 id (asked_by keys sd) s.core.interests k (ap (λ o. meets o k) (sym (c.as_ref-2.ensures.value ∙ is)) ∙ on)) in
+    ∙ c.in_ok-dues.ensures (accepted s.core t) home (ap (λ (x : State). x.core.hats) v)
+    ∙ (λ j. asked_at (accepted s.core t) (with_interest face.0 id (record { key = is j; keys = c.args.keys; aggregate = c.args.aggregate }) (held j)) face.0 (record { key = is j; keys = c.args.keys; aggregate = c.args.aggregate })) in
     let heard : ears_of i.ears ≡ s.core.ears = ap (λ (x : State). x.core.ears) v in
-    let lacks = asked_lacks s c.requires face id keys sd (ears_of i.ears) heard dues are in
-    asked_keys s c.requires face id keys sd (ears_of i.ears) heard dues are (hearing_fits s.core face id keys sd opens valid free (sym lacks ∙ enough))
+    let lacks = asked_lacks s c.requires face id m sd (ears_of i.ears) heard dues are in
+    asked_keys s c.requires face id m sd (ears_of i.ears) heard dues are (hearing_fits s.core face id m sd opens valid free (sym lacks ∙ enough))
 
 pub returns-in-Err-NoFreeId : goal.returns-in-Err-NoFreeId
 returns-in-Err-NoFreeId c =
@@ -62,25 +63,25 @@ returns-in-Err-NoFreeId c =
     let v = c.self.view_is in
     let face = c.args.face in
     let id = c.args.id in
-    let keys = c.args.keys in
+    let m : Manner = record { keys = c.args.keys; aggregate = c.args.aggregate } in
     let sd : Option Said = c.args.said.now in
-    let t = hearing face id keys sd in
+    let t = hearing face id m sd in
     let home : at face.0 s.core.faces ≡ Some c.in-Some.opened = sym c.in-Some.ensures.found in
     let opens : is_open face.0 s.core ≡ true = ap is_some home in
     let key : Option (List ℕ) = c.in-Ok.key in
     let is : key ≡ option_map full_text sd = subst (λ (x : Result (Option (List ℕ)) Refusal). IfOk x (λ k. k ≡ option_map full_text sd)) c.in-Ok.is c.in_ok-key.ensures.key in
     let valid : asking_refusal sd ≡ None = subst (λ (x : Result (Option (List ℕ)) Refusal). IfOk x (λ k. asking_refusal sd ≡ None)) c.in-Ok.is c.in_ok-key.ensures.valid in
     let held = ap (λ (x : State). x.core.interests) v in
-    let free : asks_another face.0 id (asked_by keys sd).key s.core.interests ≡ false =
+    let free : asks_another face.0 id (asked_by m sd).key s.core.interests ≡ false =
     (λ j. asks_another face.0 id (sym (c.as_ref.ensures.value ∙ is) j) (sym held j)) ∙ sym c.asks_another.ensures ∙ c.if-asks_another.false in
     let dues = c.as_slice.result.now in
-    let are : dues ≡ looked s c.requires face id keys sd =
+    let are : dues ≡ looked s c.requires face id m sd =
     c.as_slice.ensures
-    ∙ c.in_ok-dues.ensures (accepted s.core t) (accepted s.core t).interests (asked_by keys sd) home (ap (λ (x : State). x.core.hats) v) (sym (c.as_ref-2.ensures.value ∙ is))
-    (λ k on. asked_asks face.0 id (asked_by keys sd) s.core.interests k (ap (λ o. meets o k) (sym (c.as_ref-2.ensures.value ∙ is)) ∙ on)) in
+    ∙ c.in_ok-dues.ensures (accepted s.core t) home (ap (λ (x : State). x.core.hats) v)
+    ∙ (λ j. asked_at (accepted s.core t) (with_interest face.0 id (record { key = is j; keys = c.args.keys; aggregate = c.args.aggregate }) (held j)) face.0 (record { key = is j; keys = c.args.keys; aggregate = c.args.aggregate })) in
     let heard : ears_of i.ears ≡ s.core.ears = ap (λ (x : State). x.core.ears) v in
-    let lacks = asked_lacks s c.requires face id keys sd (ears_of i.ears) heard dues are in
-    let e = hearing_lacks s.core face id keys sd opens valid free (sym lacks ∙ c.in-Err-NoFreeId.ensures.no_free (ap (λ e. Err e) c.in-Err-NoFreeId.field-0-is)) in
+    let lacks = asked_lacks s c.requires face id m sd (ears_of i.ears) heard dues are in
+    let e = hearing_lacks s.core face id m sd opens valid free (sym lacks ∙ c.in-Err-NoFreeId.ensures.no_free (ap (λ e. Err e) c.in-Err-NoFreeId.field-0-is)) in
     let names_back = c.in-Err-NoFreeId.ensures.err ∙ ap (λ (x : State). x.names) v in
     let ears_back = c.hold_and_answer.ensures.ears ∙ heard in
     record {
@@ -101,7 +102,7 @@ ask_told-requires c =
     let i = c.self.inside in
     let face = c.args.face in
     let id = c.args.id in
-    let w : Core = record s.core { faces = i.faces.entries; interests = with_interest face.0 id (record { key = c.in-Ok.key; keys = c.args.keys }) i.interests } in
+    let w : Core = record s.core { faces = i.faces.entries; interests = with_interest face.0 id (record { key = c.in-Ok.key; keys = c.args.keys; aggregate = c.args.aggregate }) i.interests } in
     let ts = answered_by face id (map from_hat (in_order (tell_faces Answering (ears_of i.ears) c.as_slice.result.now).tellings)) in
     subst (λ (x : Told). AllByRecursion IsTold x.handed) (c.in-Ok-hold_and_answer.ensures.ok w refl (λ f k. refl))
     (each_told w ts (asking face.0 id (option_copied c.as_ref-held.result) i.names))
@@ -114,38 +115,38 @@ returns-in-Ok-ask_told c =
     let v = c.self.view_is in
     let face = c.args.face in
     let id = c.args.id in
-    let keys = c.args.keys in
+    let m : Manner = record { keys = c.args.keys; aggregate = c.args.aggregate } in
     let sd : Option Said = c.args.said.now in
-    let t = hearing face id keys sd in
+    let t = hearing face id m sd in
     let home : at face.0 s.core.faces ≡ Some c.in-Some.opened = sym c.in-Some.ensures.found in
     let opens : is_open face.0 s.core ≡ true = ap is_some home in
     let key : Option (List ℕ) = c.in-Ok.key in
     let is : key ≡ option_map full_text sd = subst (λ (x : Result (Option (List ℕ)) Refusal). IfOk x (λ k. k ≡ option_map full_text sd)) c.in-Ok.is c.in_ok-key.ensures.key in
     let valid : asking_refusal sd ≡ None = subst (λ (x : Result (Option (List ℕ)) Refusal). IfOk x (λ k. asking_refusal sd ≡ None)) c.in-Ok.is c.in_ok-key.ensures.valid in
     let held = ap (λ (x : State). x.core.interests) v in
-    let free : asks_another face.0 id (asked_by keys sd).key s.core.interests ≡ false =
+    let free : asks_another face.0 id (asked_by m sd).key s.core.interests ≡ false =
     (λ j. asks_another face.0 id (sym (c.as_ref.ensures.value ∙ is) j) (sym held j)) ∙ sym c.asks_another.ensures ∙ c.if-asks_another.false in
     let dues = c.as_slice.result.now in
-    let are : dues ≡ looked s c.requires face id keys sd =
+    let are : dues ≡ looked s c.requires face id m sd =
     c.as_slice.ensures
-    ∙ c.in_ok-dues.ensures (accepted s.core t) (accepted s.core t).interests (asked_by keys sd) home (ap (λ (x : State). x.core.hats) v) (sym (c.as_ref-2.ensures.value ∙ is))
-    (λ k on. asked_asks face.0 id (asked_by keys sd) s.core.interests k (ap (λ o. meets o k) (sym (c.as_ref-2.ensures.value ∙ is)) ∙ on)) in
+    ∙ c.in_ok-dues.ensures (accepted s.core t) home (ap (λ (x : State). x.core.hats) v)
+    ∙ (λ j. asked_at (accepted s.core t) (with_interest face.0 id (record { key = is j; keys = c.args.keys; aggregate = c.args.aggregate }) (held j)) face.0 (record { key = is j; keys = c.args.keys; aggregate = c.args.aggregate })) in
     let heard : ears_of i.ears ≡ s.core.ears = ap (λ (x : State). x.core.ears) v in
-    let lacks = asked_lacks s c.requires face id keys sd (ears_of i.ears) heard dues are in
-    let fits = hearing_fits s.core face id keys sd opens valid free (sym lacks ∙ c.in-Ok-hold_and_answer.ensures.free) in
+    let lacks = asked_lacks s c.requires face id m sd (ears_of i.ears) heard dues are in
+    let fits = hearing_fits s.core face id m sd opens valid free (sym lacks ∙ c.in-Ok-hold_and_answer.ensures.free) in
     let all = c.in-Ok-hold_and_answer.all in
     let names = ap (λ (x : State). x.names) v in
     let told =
     c.in-Ok-hold_and_answer.ensures.ok (accepted s.core t) (sym (ap (λ (x : State). x.core.faces) v))
-    (λ f k. λ j. has_keyed f k (with_interest face.0 id (record { key = is j; keys = keys }) (held j))) in
-    let more = c.in-Ok-ask_told.ensures.ok ∙ (λ j. with_interest face.0 id (record { key = is j; keys = keys }) (held j)) in
+    (λ f k. λ j. has_keyed f k (with_interest face.0 id (record { key = is j; keys = c.args.keys; aggregate = c.args.aggregate }) (held j))) in
+    let more = c.in-Ok-ask_told.ensures.ok ∙ (λ j. with_interest face.0 id (record { key = is j; keys = c.args.keys; aggregate = c.args.aggregate }) (held j)) in
     let kept =
     c.put.ensures.ears ∙ ap (put_plan c.as_slice-in-Ok-ask_told.result.now) c.hold_and_answer.ensures.ears
-    ∙ asked_left s c.requires face id keys sd (ears_of i.ears) heard dues are c.as_slice-in-Ok-ask_told.result.now (c.as_slice-in-Ok-ask_told.ensures ∙ c.in-Ok-hold_and_answer.ensures.plan) in
+    ∙ asked_left s c.requires face id m sd (ears_of i.ears) heard dues are c.as_slice-in-Ok-ask_told.result.now (c.as_slice-in-Ok-ask_told.ensures ∙ c.in-Ok-hold_and_answer.ensures.plan) in
     let its_key = c.as_ref-held.ensures.value ∙ is in
     let held_by = option_copied c.as_ref-held.result in
-    let plain = asked_answered s c.requires face id keys sd (ears_of i.ears) heard dues are fits i.names names held_by its_key all.handed c.hold_and_answer.new.names told in
-    let stays = asked_settled s c.requires face id keys sd (ears_of i.ears) heard dues are fits i.names names held_by its_key all.handed c.hold_and_answer.new.names told in
+    let plain = asked_answered s c.requires face id m sd (ears_of i.ears) heard dues are fits i.names names held_by its_key all.handed c.hold_and_answer.new.names told in
+    let stays = asked_settled s c.requires face id m sd (ears_of i.ears) heard dues are fits i.names names held_by its_key all.handed c.hold_and_answer.new.names told in
     let w : State = record { core = accepted s.core t; names = c.hold_and_answer.new.names; gates = s.gates } in
     let same = ap (λ (x : State). x.gates) v in
     let es = c.in-Ok-ask_told.exits.items in

@@ -36,7 +36,7 @@ use Rattle.zq_calls.proofs.Seated.{reached_in_place}
 use Rattle.zq_calls.specs.Making.{IsReached}
 use Rattle.zq_calls.specs.Routing.{entering}
 use Rattle.zq_calls.proofs.Due.{Gathers, closed_there, due_of_keys, gathered_due, gathered_lacks, gathered_left, opened_there, refused_answered, refused_left}
-use Rattle.zq_calls.proofs.Entering.{change_is, entering_answered, entering_changes, entering_ears, entering_faces, entering_gathers, entering_interests, entering_left, entering_plain, entry_fits, entry_lacks, no_entry, no_key, no_router, not_open}
+use Rattle.zq_calls.proofs.Entering.{change_is, entering_answered, entering_apart, entering_changes, entering_ears, entering_faces, entering_gathers, entering_interests, entering_left, entering_plain, entry_fits, entry_lacks, no_entry, no_key, no_router, not_open}
 use Rattle.zq_calls.proofs.Reached.{reached_enough}
 use Rattle.zq_calls.proofs.GoneOut.{each_told, entering_asks, goes_out, stays_out}
 use Rattle.zq_calls.proofs.tables.Tables.change_entry.Goals as goal
@@ -148,7 +148,8 @@ tell_all-requires c enough =
     let dues = c.as_slice.result.now in
     let changed = ap (λ (x : Change). change_hat r (changed_by x c.as_str-3.result.now) i.hats) c.entry_change.ensures ∙ change_is r router info c.as_str-3.result.now i.hats ∙ ap (λ (k : List ℕ). change_hat r (entered router k info) i.hats) c.as_str-3.ensures.text ∙ ap (change_hat r (entered router key info)) hats ∙ sym (entering_changes s c.requires.reached face sd info node opens key says valid r home h there router is) in
     let faces = entering_faces s c.requires.reached face sd info node opens key says valid r home h there router is in
-    let dues_are = c.as_slice.ensures ∙ c.in_ok-dues.ensures (accepted s.core t) (faces ∙ sym (ap (λ (x : State). x.core.faces) v)) changed ∙ ap (λ (k : List ℕ). looked_over (accepted s.core t) i.interests (k ∷ [])) c.as_str-3.ensures.text in
+    let apart = entering_apart s c.requires.reached face sd info node opens key says valid r home h there router is has i.hats hats c.as_str-3.result.now c.as_str-3.ensures.text in
+    let dues_are = c.as_slice.ensures ∙ c.in_ok-dues.ensures (accepted s.core t) (faces ∙ sym (ap (λ (x : State). x.core.faces) v)) changed apart ∙ ap (λ (k : List ℕ). looked_over (accepted s.core t) i.interests (k ∷ [])) c.as_str-3.ensures.text in
     let g : Gathers s.core t (ears_of i.ears) dues c.in_ok-told.told =
     entering_gathers s c.requires.reached face sd info node opens key says valid r home h there router is c.requires.routing i.hats hats c.in_ok-told.told told (ears_of i.ears) (ap (λ (x : State). x.core.ears) v) i.interests (ap (λ (x : State). x.core.interests) v) dues dues_are in
     let fits : refusal_of s.core t ≡ None = entry_fits s.core face sd info node opens key says valid r home h there router is (sym (gathered_lacks s.core t plain (ears_of i.ears) dues c.in_ok-told.told g) ∙ enough) has in
@@ -182,7 +183,8 @@ returns-in-Err-NoFreeId c =
     let dues = c.as_slice.result.now in
     let changed = ap (λ (x : Change). change_hat r (changed_by x c.as_str-3.result.now) i.hats) c.entry_change.ensures ∙ change_is r router info c.as_str-3.result.now i.hats ∙ ap (λ (k : List ℕ). change_hat r (entered router k info) i.hats) c.as_str-3.ensures.text ∙ ap (change_hat r (entered router key info)) hats ∙ sym (entering_changes s c.requires.reached face sd info node opens key says valid r home h there router is) in
     let faces = entering_faces s c.requires.reached face sd info node opens key says valid r home h there router is in
-    let dues_are = c.as_slice.ensures ∙ c.in_ok-dues.ensures (accepted s.core t) (faces ∙ sym (ap (λ (x : State). x.core.faces) v)) changed ∙ ap (λ (k : List ℕ). looked_over (accepted s.core t) i.interests (k ∷ [])) c.as_str-3.ensures.text in
+    let apart = entering_apart s c.requires.reached face sd info node opens key says valid r home h there router is has i.hats hats c.as_str-3.result.now c.as_str-3.ensures.text in
+    let dues_are = c.as_slice.ensures ∙ c.in_ok-dues.ensures (accepted s.core t) (faces ∙ sym (ap (λ (x : State). x.core.faces) v)) changed apart ∙ ap (λ (k : List ℕ). looked_over (accepted s.core t) i.interests (k ∷ [])) c.as_str-3.ensures.text in
     let g : Gathers s.core t (ears_of i.ears) dues c.in_ok-told.told =
     entering_gathers s c.requires.reached face sd info node opens key says valid r home h there router is c.requires.routing i.hats hats c.in_ok-told.told told (ears_of i.ears) (ap (λ (x : State). x.core.ears) v) i.interests (ap (λ (x : State). x.core.interests) v) dues dues_are in
     let short = sym (gathered_lacks s.core t plain (ears_of i.ears) dues c.in_ok-told.told g) ∙ c.in-Err-NoFreeId.ensures.no_free (ap (λ e. Err e) c.in-Err-NoFreeId.field-0-is) in
@@ -242,7 +244,8 @@ returns-in-Ok-put_entry_told c =
     let dues = c.as_slice.result.now in
     let changed = ap (λ (x : Change). change_hat r (changed_by x c.as_str-3.result.now) i.hats) c.entry_change.ensures ∙ change_is r router info c.as_str-3.result.now i.hats ∙ ap (λ (k : List ℕ). change_hat r (entered router k info) i.hats) c.as_str-3.ensures.text ∙ ap (change_hat r (entered router key info)) hats ∙ sym (entering_changes s c.requires.reached face sd info node opens key says valid r home h there router is) in
     let faces = entering_faces s c.requires.reached face sd info node opens key says valid r home h there router is in
-    let dues_are = c.as_slice.ensures ∙ c.in_ok-dues.ensures (accepted s.core t) (faces ∙ sym (ap (λ (x : State). x.core.faces) v)) changed ∙ ap (λ (k : List ℕ). looked_over (accepted s.core t) i.interests (k ∷ [])) c.as_str-3.ensures.text in
+    let apart = entering_apart s c.requires.reached face sd info node opens key says valid r home h there router is has i.hats hats c.as_str-3.result.now c.as_str-3.ensures.text in
+    let dues_are = c.as_slice.ensures ∙ c.in_ok-dues.ensures (accepted s.core t) (faces ∙ sym (ap (λ (x : State). x.core.faces) v)) changed apart ∙ ap (λ (k : List ℕ). looked_over (accepted s.core t) i.interests (k ∷ [])) c.as_str-3.ensures.text in
     let g : Gathers s.core t (ears_of i.ears) dues c.in_ok-told.told =
     entering_gathers s c.requires.reached face sd info node opens key says valid r home h there router is c.requires.routing i.hats hats c.in_ok-told.told told (ears_of i.ears) (ap (λ (x : State). x.core.ears) v) i.interests (ap (λ (x : State). x.core.interests) v) dues dues_are in
     let fits : refusal_of s.core t ≡ None = entry_fits s.core face sd info node opens key says valid r home h there router is (sym (gathered_lacks s.core t plain (ears_of i.ears) dues c.in_ok-told.told g) ∙ c.in-Ok-tell_all.ensures.free) has in

@@ -20,7 +20,7 @@ use Rattle.zq_machine.specs.Gates.{Gates, without_ended}
 use Rattle.zq_machine.specs.Handing.{Handed}
 use Rattle.zq_machine.specs.Machine.{done}
 use Rattle.zq_machine.specs.Messages.{from_hat}
-use Rattle.zq_machine.specs.State.{Core, State, change_hat, face_region}
+use Rattle.zq_machine.specs.State.{Core, State, change_hat, face_region, hat_at}
 use Rattle.zq_machine.specs.TextCalls.{closing}
 use Rattle.zq_machine.specs.Trees.{all_own_told}
 use Rattle.zq_machine.specs.Writing.{Told, sent_final, tell}
@@ -32,6 +32,9 @@ use Rattle.zq_machine.proofs.Asks.{is_asking}
 use Rattle.zq_gates.specs.Exits.{left_by, without_gate}
 use Rattle.zq_outgoing.specs.Gone.{IsTold}
 use Rattle.zq_calls.specs.Making.{IsReached}
+use Rattle.std.specs.BTreeSet.{insert_key}
+use Rattle.zq_index.specs.Texts.{text_cmp}
+use Rattle.zq_calls.proofs.Elsewhere.{beside, beside_at, closing_stays, closing_touches}
 use Rattle.zq_calls.proofs.Due.{Gathers, changed_home, closed_answered, closed_left, closed_out, closing_gathers, due_of_keys, gathered_due, gathered_lacks, gathered_left}
 use Rattle.zq_calls.proofs.Reached.{reached_enough}
 use Rattle.zq_calls.proofs.GoneOut.{goes_out, stays_out, told_behind}
@@ -56,9 +59,10 @@ tell_all-requires c enough =
     let ts = c.tell_left.new.told in
     let dues = c.as_slice-2.result.now in
     let changed = ap (change_hat r (without_face face.0)) hats ∙ sym (changed_home face.0 r s.core home (without_face face.0)) in
+    let apart = beside_at (accepted s.core t) hats refl (beside s c.requires t fits (fold (insert_key text_cmp) [] keys) (λ f. ap (fold (insert_key text_cmp) []) (closing_touches s face r home keys (ap (λ o. option_map_or (keys_of_face face.0) o []) (sym (ap (hat_at r) (sym hats) ∙ c.home-hat.ensures.hat))))) refl refl (λ f o on. closing_stays s c.requires face.0 f o on)) in
     let g : Gathers s.core t (ears_of i.ears) dues ts =
     closing_gathers s face r home i.hats hats keys (ap (λ o. option_map_or (keys_of_face face.0) o []) (sym c.home-hat.ensures.hat)) ts told (ears_of i.ears) (ap (λ (x : State). x.core.ears) v) i.interests (ap (λ (x : State). x.core.interests) v) dues
-    (c.as_slice-2.ensures ∙ c.in_ok-dues.ensures (accepted s.core t) (sym (ap (λ (x : State). remove_entry (is_at (nat_cmp face.0)) x.core.faces) v)) changed) in
+    (c.as_slice-2.ensures ∙ c.in_ok-dues.ensures (accepted s.core t) (sym (ap (λ (x : State). remove_entry (is_at (nat_cmp face.0)) x.core.faces) v)) changed apart) in
     due_of_keys s c.requires t refl fits (told_with (ears_of i.ears) dues ts) (gathered_due s.core t refl (ears_of i.ears) dues ts g)
 
 pub unreachable-requires : goal.unreachable-requires
@@ -77,9 +81,10 @@ unreachable-requires c =
     let ts = c.tell_left.new.told in
     let dues = c.as_slice-2.result.now in
     let changed = ap (change_hat r (without_face face.0)) hats ∙ sym (changed_home face.0 r s.core home (without_face face.0)) in
+    let apart = beside_at (accepted s.core t) hats refl (beside s c.requires t fits (fold (insert_key text_cmp) [] keys) (λ f. ap (fold (insert_key text_cmp) []) (closing_touches s face r home keys (ap (λ o. option_map_or (keys_of_face face.0) o []) (sym (ap (hat_at r) (sym hats) ∙ c.home-hat.ensures.hat))))) refl refl (λ f o on. closing_stays s c.requires face.0 f o on)) in
     let g : Gathers s.core t (ears_of i.ears) dues ts =
     closing_gathers s face r home i.hats hats keys (ap (λ o. option_map_or (keys_of_face face.0) o []) (sym c.home-hat.ensures.hat)) ts told (ears_of i.ears) (ap (λ (x : State). x.core.ears) v) i.interests (ap (λ (x : State). x.core.interests) v) dues
-    (c.as_slice-2.ensures ∙ c.in_ok-dues.ensures (accepted s.core t) (sym (ap (λ (x : State). remove_entry (is_at (nat_cmp face.0)) x.core.faces) v)) changed) in
+    (c.as_slice-2.ensures ∙ c.in_ok-dues.ensures (accepted s.core t) (sym (ap (λ (x : State). remove_entry (is_at (nat_cmp face.0)) x.core.faces) v)) changed apart) in
     let lacks = sym (gathered_lacks s.core t refl (ears_of i.ears) dues ts g) ∙ c.in-Err-NoFreeId.ensures.no_free (ap (λ e. Err e) c.in-Err-NoFreeId.field-0-is) in
     true≢false (sym lacks ∙ reached_enough s c.requires t fits refl refl)
 
@@ -112,9 +117,10 @@ returns-in-Ok-close_told c =
     let ts = c.tell_left.new.told in
     let dues = c.as_slice-2.result.now in
     let changed = ap (change_hat r (without_face face.0)) hats ∙ sym (changed_home face.0 r s.core home (without_face face.0)) in
+    let apart = beside_at (accepted s.core t) hats refl (beside s c.requires t fits (fold (insert_key text_cmp) [] keys) (λ f. ap (fold (insert_key text_cmp) []) (closing_touches s face r home keys (ap (λ o. option_map_or (keys_of_face face.0) o []) (sym (ap (hat_at r) (sym hats) ∙ c.home-hat.ensures.hat))))) refl refl (λ f o on. closing_stays s c.requires face.0 f o on)) in
     let g : Gathers s.core t (ears_of i.ears) dues ts =
     closing_gathers s face r home i.hats hats keys (ap (λ o. option_map_or (keys_of_face face.0) o []) (sym c.home-hat.ensures.hat)) ts told (ears_of i.ears) (ap (λ (x : State). x.core.ears) v) i.interests (ap (λ (x : State). x.core.interests) v) dues
-    (c.as_slice-2.ensures ∙ c.in_ok-dues.ensures (accepted s.core t) (sym (ap (λ (x : State). remove_entry (is_at (nat_cmp face.0)) x.core.faces) v)) changed) in
+    (c.as_slice-2.ensures ∙ c.in_ok-dues.ensures (accepted s.core t) (sym (ap (λ (x : State). remove_entry (is_at (nat_cmp face.0)) x.core.faces) v)) changed apart) in
     let queries : i.queries ≡ s.core.queries = ap (λ (x : State). x.core.queries) v in
     let us = told_with (ears_of i.ears) dues ts in
     let are = gathered_due s.core t refl (ears_of i.ears) dues ts g in

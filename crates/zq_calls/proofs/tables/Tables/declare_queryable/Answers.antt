@@ -28,6 +28,7 @@ use Rattle.zq_handing.specs.Telling.{behind}
 use Rattle.zq_handing.proofs.Held.{put_back}
 use Rattle.zq_calls.proofs.Seated.{reached_in_place}
 use Rattle.zq_calls.specs.Making.{IsReached}
+use Rattle.zq_calls.proofs.Elsewhere.{beside, beside_at, declares_quietly}
 use Rattle.zq_calls.proofs.Due.{Gathers, changed_home, declaration_clashes, declaration_fits, declaration_gathers, declaration_lacks, declaration_no_key, due_of_keys, gathered_due, gathered_lacks, gathered_left, opened_there, refused_answered, refused_left, told_answered, told_left}
 use Rattle.zq_calls.proofs.GoneOut.{each_told, goes_out, stays_out}
 use Rattle.zq_calls.proofs.tables.Tables.declare_queryable.Goals as goal
@@ -89,7 +90,8 @@ hold_and_tell-requires c enough =
     let dues = c.as_slice.result.now in
     let told_is = c.in_ok-found.ensures.told ∙ ap (λ (k : List ℕ). own_told_on i.hats (change_hat r (registered face.0 id k node info) i.hats) k) text in
     let changed = ap (λ (k : List ℕ). change_hat r (registered face.0 id k node info) i.hats) text ∙ ap (change_hat r (registered face.0 id key node info)) hats ∙ sym (changed_home face.0 r s.core home (registered face.0 id key node info)) in
-    let dues_are = c.as_slice.ensures ∙ c.in_ok-found.ensures.dues (accepted s.core t) (sym (ap (λ (x : State). x.core.faces) v)) changed ∙ ap (λ (k : List ℕ). looked_over (accepted s.core t) i.interests (k ∷ [])) text in
+    let apart = beside_at (accepted s.core t) hats (ap (λ (k : List ℕ). k ∷ []) text) (beside s c.requires t (declares_quietly s face id r home h there key info node valid free) (key ∷ []) (λ f. refl) refl refl (λ f o on. on)) in
+    let dues_are = c.as_slice.ensures ∙ c.in_ok-found.ensures.dues (accepted s.core t) (sym (ap (λ (x : State). x.core.faces) v)) changed apart ∙ ap (λ (k : List ℕ). looked_over (accepted s.core t) i.interests (k ∷ [])) text in
     let g : Gathers s.core t (ears_of i.ears) dues told =
     declaration_gathers s c.requires face id r home h there key info node i.hats hats told told_is (ears_of i.ears) (ap (λ (x : State). x.core.ears) v) i.interests (ap (λ (x : State). x.core.interests) v) dues dues_are in
     let fits = declaration_fits s c.requires face id r home h there key info node valid free (sym (gathered_lacks s.core t refl (ears_of i.ears) dues told g) ∙ enough) in
@@ -118,7 +120,8 @@ returns-in-Err-NoFreeId c =
     let dues = c.as_slice.result.now in
     let told_is = c.in_ok-found.ensures.told ∙ ap (λ (k : List ℕ). own_told_on i.hats (change_hat r (registered face.0 id k node info) i.hats) k) text in
     let changed = ap (λ (k : List ℕ). change_hat r (registered face.0 id k node info) i.hats) text ∙ ap (change_hat r (registered face.0 id key node info)) hats ∙ sym (changed_home face.0 r s.core home (registered face.0 id key node info)) in
-    let dues_are = c.as_slice.ensures ∙ c.in_ok-found.ensures.dues (accepted s.core t) (sym (ap (λ (x : State). x.core.faces) v)) changed ∙ ap (λ (k : List ℕ). looked_over (accepted s.core t) i.interests (k ∷ [])) text in
+    let apart = beside_at (accepted s.core t) hats (ap (λ (k : List ℕ). k ∷ []) text) (beside s c.requires t (declares_quietly s face id r home h there key info node valid free) (key ∷ []) (λ f. refl) refl refl (λ f o on. on)) in
+    let dues_are = c.as_slice.ensures ∙ c.in_ok-found.ensures.dues (accepted s.core t) (sym (ap (λ (x : State). x.core.faces) v)) changed apart ∙ ap (λ (k : List ℕ). looked_over (accepted s.core t) i.interests (k ∷ [])) text in
     let g : Gathers s.core t (ears_of i.ears) dues told =
     declaration_gathers s c.requires face id r home h there key info node i.hats hats told told_is (ears_of i.ears) (ap (λ (x : State). x.core.ears) v) i.interests (ap (λ (x : State). x.core.interests) v) dues dues_are in
     let lacks = sym (gathered_lacks s.core t refl (ears_of i.ears) dues told g) ∙ c.in-Err-NoFreeId.ensures.no_free (ap (λ e. Err e) c.in-Err-NoFreeId.field-0-is) in
@@ -172,7 +175,8 @@ returns-in-Ok-register_told c =
     let dues = c.as_slice.result.now in
     let told_is = c.in_ok-found.ensures.told ∙ ap (λ (k : List ℕ). own_told_on i.hats (change_hat r (registered face.0 id k node info) i.hats) k) text in
     let changed = ap (λ (k : List ℕ). change_hat r (registered face.0 id k node info) i.hats) text ∙ ap (change_hat r (registered face.0 id key node info)) hats ∙ sym (changed_home face.0 r s.core home (registered face.0 id key node info)) in
-    let dues_are = c.as_slice.ensures ∙ c.in_ok-found.ensures.dues (accepted s.core t) (sym (ap (λ (x : State). x.core.faces) v)) changed ∙ ap (λ (k : List ℕ). looked_over (accepted s.core t) i.interests (k ∷ [])) text in
+    let apart = beside_at (accepted s.core t) hats (ap (λ (k : List ℕ). k ∷ []) text) (beside s c.requires t (declares_quietly s face id r home h there key info node valid free) (key ∷ []) (λ f. refl) refl refl (λ f o on. on)) in
+    let dues_are = c.as_slice.ensures ∙ c.in_ok-found.ensures.dues (accepted s.core t) (sym (ap (λ (x : State). x.core.faces) v)) changed apart ∙ ap (λ (k : List ℕ). looked_over (accepted s.core t) i.interests (k ∷ [])) text in
     let g : Gathers s.core t (ears_of i.ears) dues told =
     declaration_gathers s c.requires face id r home h there key info node i.hats hats told told_is (ears_of i.ears) (ap (λ (x : State). x.core.ears) v) i.interests (ap (λ (x : State). x.core.interests) v) dues dues_are in
     let fits = declaration_fits s c.requires face id r home h there key info node valid free (sym (gathered_lacks s.core t refl (ears_of i.ears) dues told g) ∙ c.in-Ok-hold_and_tell.ensures.free) in

@@ -11,7 +11,7 @@ use Rattle.std.proofs.lemmas.Map.Lookups.{exact_unsigned}
 use Rattle.zq_query.proofs.Owing.{undone}
 use Rattle.zq_trees.specs.Tellings.{in_order}
 use Rattle.zq_tables.specs.Naming.{NamingState, no_keys}
-use Rattle.zq_interests.specs.Interests.{asks_for, has_keyed}
+use Rattle.zq_interests.specs.Interests.{interests_of, has_keyed}
 use Rattle.zq_told.specs.Ears.{Ears, closed as unheard, opened as heard_opened}
 use Rattle.zq_told.specs.Leaving.{fresh_ear}
 use Rattle.zq_told.specs.Rooms.{ears_of}
@@ -66,11 +66,11 @@ join_and_tell-requires-clause-keys c enough =
     let heard : ears ≡ heard_opened s.core.next_face s.core.config.start.told s.core.ears = λ j. heard_opened (v j).core.next_face (start j).told (v j).core.ears in
     let dues = c.as_slice.result.now in
     let dues_are =
-    c.as_slice.ensures ∙ c.in_ok-dues.ensures.same s.core s.core.interests o (record {
+    c.as_slice.ensures ∙ c.in_ok-dues.ensures s.core s.core.interests o (record {
       next = ap (λ (x : State). x.core.next_face) (sym v);
       free = ap (λ n. at n s.core.faces) (ap (λ (x : State). x.core.next_face) v) ∙ reached_absent s c.requires;
       opens = sym c.opened.ensures;
-      unasked = λ key. ap (λ n. asks_for n key s.core.interests) (ap (λ (x : State). x.core.next_face) v) ∙ reached_unasked s c.requires key;
+      unasked = ap (λ n. interests_of n s.core.interests) (ap (λ (x : State). x.core.next_face) v) ∙ reached_unasked s c.requires;
       same = ap (λ (x : State). x.core.hats) v;
     }) in
     let g : Gathers s.core t ears dues [] = opening_gathers s c.requires o ears heard s.core.interests refl dues dues_are in
@@ -113,11 +113,11 @@ returns-in-Err-NoFreeId c =
     let heard : ears ≡ heard_opened s.core.next_face s.core.config.start.told s.core.ears = λ j. heard_opened (v j).core.next_face (start j).told (v j).core.ears in
     let dues = c.as_slice.result.now in
     let dues_are =
-    c.as_slice.ensures ∙ c.in_ok-dues.ensures.same s.core s.core.interests o (record {
+    c.as_slice.ensures ∙ c.in_ok-dues.ensures s.core s.core.interests o (record {
       next = ap (λ (x : State). x.core.next_face) (sym v);
       free = ap (λ n. at n s.core.faces) (ap (λ (x : State). x.core.next_face) v) ∙ reached_absent s c.requires;
       opens = sym c.opened.ensures;
-      unasked = λ key. ap (λ n. asks_for n key s.core.interests) (ap (λ (x : State). x.core.next_face) v) ∙ reached_unasked s c.requires key;
+      unasked = ap (λ n. interests_of n s.core.interests) (ap (λ (x : State). x.core.next_face) v) ∙ reached_unasked s c.requires;
       same = ap (λ (x : State). x.core.hats) v;
     }) in
     let g : Gathers s.core t ears dues [] = opening_gathers s c.requires o ears heard s.core.interests refl dues dues_are in
@@ -156,11 +156,11 @@ returns-in-Ok-enter_told c =
     let heard : ears ≡ heard_opened s.core.next_face s.core.config.start.told s.core.ears = λ j. heard_opened (v j).core.next_face (start j).told (v j).core.ears in
     let dues = c.as_slice.result.now in
     let dues_are =
-    c.as_slice.ensures ∙ c.in_ok-dues.ensures.same s.core s.core.interests o (record {
+    c.as_slice.ensures ∙ c.in_ok-dues.ensures s.core s.core.interests o (record {
       next = ap (λ (x : State). x.core.next_face) (sym v);
       free = ap (λ n. at n s.core.faces) (ap (λ (x : State). x.core.next_face) v) ∙ reached_absent s c.requires;
       opens = sym c.opened.ensures;
-      unasked = λ key. ap (λ n. asks_for n key s.core.interests) (ap (λ (x : State). x.core.next_face) v) ∙ reached_unasked s c.requires key;
+      unasked = ap (λ n. interests_of n s.core.interests) (ap (λ (x : State). x.core.next_face) v) ∙ reached_unasked s c.requires;
       same = ap (λ (x : State). x.core.hats) v;
     }) in
     let g : Gathers s.core t ears dues [] = opening_gathers s c.requires o ears heard s.core.interests refl dues dues_are in

@@ -6,4 +6,4 @@ use Rattle.zq_calls.proofs.tables.Tables.register_interest.Goals as goal
 
 pub returns : goal.returns
 returns c =
-    subst (λ (said : Option Said). Settles c.args.self.now c.ask_to_hear.new.self (hearing c.args.face c.args.id c.args.keys said) c.ask_to_hear.result) c.in_ok-said.ensures c.ask_to_hear.ensures
+    subst (λ (said : Option Said). Settles c.args.self.now c.ask_to_hear.new.self (hearing c.args.face c.args.id (record { keys = c.args.keys; aggregate = c.args.aggregate }) said) c.ask_to_hear.result) c.in_ok-said.ensures c.ask_to_hear.ensures

@@ -1,5 +1,5 @@
 use Rattle.std.specs.Prelude.{option_copied}
-use Rattle.std.proofs.Common.{◌≡◌, ◌∙◌, refl, sym, ap, Err, subst, ℕ, ◌++◌, List, [], drop, length, map, fold, Some, true≢false}
+use Rattle.std.proofs.Common.{◌≡◌, ◌∙◌, refl, sym, ap, Err, subst, ℕ, ◌++◌, List, [], drop, length, map, fold, Option, Some, true≢false}
 use Rattle.std.specs.BTreeSet.{insert_key}
 use Rattle.std.specs.List.{AllByRecursion}
 use Rattle.zq_index.specs.Texts.{text_cmp}
@@ -30,6 +30,8 @@ use Rattle.zq_calls.proofs.Seated.{each_of, reached_in_place}
 use Rattle.zq_machine.proofs.Asks.{is_asking}
 use Rattle.zq_outgoing.specs.Gone.{IsTold}
 use Rattle.zq_calls.specs.Making.{IsReached}
+use Rattle.std.specs.Option.{option_map_or}
+use Rattle.zq_calls.proofs.Elsewhere.{beside, beside_at}
 use Rattle.zq_calls.proofs.Due.{Gathers, due_of_keys, gathered_due, gathered_lacks, gathered_left, told_answered, told_left}
 use Rattle.zq_calls.proofs.Networked.{network_fits, network_gathers, network_keys}
 use Rattle.zq_calls.proofs.Reached.{reached_enough}
@@ -70,8 +72,9 @@ tell_all-requires c enough =
     let lost : c.in_ok-keys.keys ≡ losing net hat = c.in_ok-keys.ensures ∙ ap (λ (ids : List Zid). keys_by (is_one_of ids) hat.entries) c.as_slice-2.ensures ∙ c.in_ok-gone.ensures.losing in
     let dues = c.as_slice-4.result.now in
     let changed = λ (key : List ℕ). ap (λ (n : Network). change_hat r (networked n) i.hats) c.in_ok-net-2.ensures.net ∙ ap (change_hat r (networked net)) same in
+    let apart = beside_at (accepted s.core (networking r net)) same (ap (fold (insert_key text_cmp) []) (c.as_slice-3.ensures ∙ lost)) (beside s c.requires (networking r net) (network_fits s r net hat (ap (hat_at r) (sym same) ∙ there)) (fold (insert_key text_cmp) [] (losing net hat)) (λ f. ap (λ (o : Option HatState). fold (insert_key text_cmp) [] (option_map_or (losing net) o [])) (ap (hat_at r) (sym same) ∙ there)) refl refl (λ f o on. on)) in
     let dues_are =
-    c.as_slice-4.ensures ∙ c.in_ok-dues.ensures (accepted s.core (networking r net)) (sym (ap (λ (x : State). x.core.faces) v)) (each_of changed c.as_slice-3.result.now)
+    c.as_slice-4.ensures ∙ c.in_ok-dues.ensures (accepted s.core (networking r net)) (sym (ap (λ (x : State). x.core.faces) v)) (each_of changed c.as_slice-3.result.now) apart
     ∙ ap (λ (ks : List (List ℕ)). looked_over (accepted s.core (networking r net)) i.interests (fold (insert_key text_cmp) [] ks)) (c.as_slice-3.ensures ∙ lost) in
     let g : Gathers s.core t (ears_of i.ears) dues told =
     subst (λ (n : Network). Gathers s.core (networking r n) (ears_of i.ears) dues told) is_net
@@ -97,8 +100,9 @@ unreachable-requires c =
     let lost : c.in_ok-keys.keys ≡ losing net hat = c.in_ok-keys.ensures ∙ ap (λ (ids : List Zid). keys_by (is_one_of ids) hat.entries) c.as_slice-2.ensures ∙ c.in_ok-gone.ensures.losing in
     let dues = c.as_slice-4.result.now in
     let changed = λ (key : List ℕ). ap (λ (n : Network). change_hat r (networked n) i.hats) c.in_ok-net-2.ensures.net ∙ ap (change_hat r (networked net)) same in
+    let apart = beside_at (accepted s.core (networking r net)) same (ap (fold (insert_key text_cmp) []) (c.as_slice-3.ensures ∙ lost)) (beside s c.requires (networking r net) (network_fits s r net hat (ap (hat_at r) (sym same) ∙ there)) (fold (insert_key text_cmp) [] (losing net hat)) (λ f. ap (λ (o : Option HatState). fold (insert_key text_cmp) [] (option_map_or (losing net) o [])) (ap (hat_at r) (sym same) ∙ there)) refl refl (λ f o on. on)) in
     let dues_are =
-    c.as_slice-4.ensures ∙ c.in_ok-dues.ensures (accepted s.core (networking r net)) (sym (ap (λ (x : State). x.core.faces) v)) (each_of changed c.as_slice-3.result.now)
+    c.as_slice-4.ensures ∙ c.in_ok-dues.ensures (accepted s.core (networking r net)) (sym (ap (λ (x : State). x.core.faces) v)) (each_of changed c.as_slice-3.result.now) apart
     ∙ ap (λ (ks : List (List ℕ)). looked_over (accepted s.core (networking r net)) i.interests (fold (insert_key text_cmp) [] ks)) (c.as_slice-3.ensures ∙ lost) in
     let g : Gathers s.core t (ears_of i.ears) dues told =
     subst (λ (n : Network). Gathers s.core (networking r n) (ears_of i.ears) dues told) is_net
@@ -156,8 +160,9 @@ returns c =
     let lost : c.in_ok-keys.keys ≡ losing net hat = c.in_ok-keys.ensures ∙ ap (λ (ids : List Zid). keys_by (is_one_of ids) hat.entries) c.as_slice-2.ensures ∙ c.in_ok-gone.ensures.losing in
     let dues = c.as_slice-4.result.now in
     let changed = λ (key : List ℕ). ap (λ (n : Network). change_hat r (networked n) i.hats) c.in_ok-net-2.ensures.net ∙ ap (change_hat r (networked net)) same in
+    let apart = beside_at (accepted s.core (networking r net)) same (ap (fold (insert_key text_cmp) []) (c.as_slice-3.ensures ∙ lost)) (beside s c.requires (networking r net) (network_fits s r net hat (ap (hat_at r) (sym same) ∙ there)) (fold (insert_key text_cmp) [] (losing net hat)) (λ f. ap (λ (o : Option HatState). fold (insert_key text_cmp) [] (option_map_or (losing net) o [])) (ap (hat_at r) (sym same) ∙ there)) refl refl (λ f o on. on)) in
     let dues_are =
-    c.as_slice-4.ensures ∙ c.in_ok-dues.ensures (accepted s.core (networking r net)) (sym (ap (λ (x : State). x.core.faces) v)) (each_of changed c.as_slice-3.result.now)
+    c.as_slice-4.ensures ∙ c.in_ok-dues.ensures (accepted s.core (networking r net)) (sym (ap (λ (x : State). x.core.faces) v)) (each_of changed c.as_slice-3.result.now) apart
     ∙ ap (λ (ks : List (List ℕ)). looked_over (accepted s.core (networking r net)) i.interests (fold (insert_key text_cmp) [] ks)) (c.as_slice-3.ensures ∙ lost) in
     let g : Gathers s.core t (ears_of i.ears) dues told =
     subst (λ (n : Network). Gathers s.core (networking r n) (ears_of i.ears) dues told) is_net

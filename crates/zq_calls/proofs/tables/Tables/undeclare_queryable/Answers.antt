@@ -1,4 +1,4 @@
-use Rattle.std.proofs.Common.{◌≡◌, ◌∙◌, refl, sym, ap, subst, Err, List, map, Some, true≢false}
+use Rattle.std.proofs.Common.{◌≡◌, ◌∙◌, refl, sym, ap, subst, fold, Err, List, [], ◌∷◌, map, Some, true≢false}
 use Rattle.std.specs.List.{AllByRecursion}
 use Rattle.zq_trees.specs.Tellings.{in_order}
 use Rattle.zq_hat.specs.Kept.{unregistered}
@@ -20,7 +20,10 @@ use Rattle.zq_handing.specs.Neighbours.{told_with}
 use Rattle.zq_handing.specs.Telling.{behind}
 use Rattle.zq_calls.proofs.Seated.{reached_in_place}
 use Rattle.zq_calls.specs.Making.{IsReached}
-use Rattle.zq_calls.proofs.Due.{changed_home, due_of_keys, gathered_due, gathered_lacks, gathered_left, withdrawal_fits, withdrawal_gathers, withdrawal_key, withdrawn_answered, withdrawn_left}
+use Rattle.std.specs.BTreeSet.{insert_key}
+use Rattle.zq_index.specs.Texts.{text_cmp}
+use Rattle.zq_calls.proofs.Elsewhere.{beside, beside_at}
+use Rattle.zq_calls.proofs.Due.{changed_home, due_of_keys, gathered_due, gathered_lacks, gathered_left, withdrawal_fits, withdrawal_gathers, withdrawal_key, withdrawal_touches, withdrawn_answered, withdrawn_left}
 use Rattle.zq_calls.proofs.Reached.{reached_enough}
 use Rattle.zq_calls.proofs.GoneOut.{each_told, goes_out, stays_out}
 use Rattle.zq_calls.proofs.tables.Tables.undeclare_queryable.Goals as goal
@@ -55,9 +58,10 @@ tell_all-requires c enough =
     let there : hat_at r s.core.hats ≡ Some h = ap (hat_at r) (sym hats) ∙ c.home-hat.ensures.hat in
     let fits = withdrawal_fits s c.requires face id r home h there key c.in-Some-key_at.ensures in
     let changed = ap (change_hat r (unregistered face.0 id)) hats ∙ sym (changed_home face.0 r s.core home (unregistered face.0 id)) in
+    let apart = beside_at (accepted s.core t) hats refl (beside s c.requires t fits (key ∷ []) (λ f. ap (fold (insert_key text_cmp) []) (withdrawal_touches s c.requires face id r home h there key c.in-Some-key_at.ensures)) refl refl (λ f o on. on)) in
     let g =
     withdrawal_gathers s c.requires face id r home h there key c.in-Some-key_at.ensures i.hats hats c.in_ok-found.found.told c.in_ok-found.ensures.told (ears_of i.ears) (ap (λ (x : State). x.core.ears) v)
-    i.interests (ap (λ (x : State). x.core.interests) v) c.as_slice.result.now (c.as_slice.ensures ∙ c.in_ok-found.ensures.dues (accepted s.core t) (sym (ap (λ (x : State). x.core.faces) v)) changed) in
+    i.interests (ap (λ (x : State). x.core.interests) v) c.as_slice.result.now (c.as_slice.ensures ∙ c.in_ok-found.ensures.dues (accepted s.core t) (sym (ap (λ (x : State). x.core.faces) v)) changed apart) in
     due_of_keys s c.requires t refl fits (told_with (ears_of i.ears) c.as_slice.result.now c.in_ok-found.found.told) (gathered_due s.core t refl (ears_of i.ears) c.as_slice.result.now c.in_ok-found.found.told g)
 
 pub unreachable-requires : goal.unreachable-requires
@@ -76,9 +80,10 @@ unreachable-requires c =
     let there : hat_at r s.core.hats ≡ Some h = ap (hat_at r) (sym hats) ∙ c.home-hat.ensures.hat in
     let fits = withdrawal_fits s c.requires face id r home h there key c.in-Some-key_at.ensures in
     let changed = ap (change_hat r (unregistered face.0 id)) hats ∙ sym (changed_home face.0 r s.core home (unregistered face.0 id)) in
+    let apart = beside_at (accepted s.core t) hats refl (beside s c.requires t fits (key ∷ []) (λ f. ap (fold (insert_key text_cmp) []) (withdrawal_touches s c.requires face id r home h there key c.in-Some-key_at.ensures)) refl refl (λ f o on. on)) in
     let g =
     withdrawal_gathers s c.requires face id r home h there key c.in-Some-key_at.ensures i.hats hats c.in_ok-found.found.told c.in_ok-found.ensures.told (ears_of i.ears) (ap (λ (x : State). x.core.ears) v)
-    i.interests (ap (λ (x : State). x.core.interests) v) c.as_slice.result.now (c.as_slice.ensures ∙ c.in_ok-found.ensures.dues (accepted s.core t) (sym (ap (λ (x : State). x.core.faces) v)) changed) in
+    i.interests (ap (λ (x : State). x.core.interests) v) c.as_slice.result.now (c.as_slice.ensures ∙ c.in_ok-found.ensures.dues (accepted s.core t) (sym (ap (λ (x : State). x.core.faces) v)) changed apart) in
     let lacks = sym (gathered_lacks s.core t refl (ears_of i.ears) c.as_slice.result.now c.in_ok-found.found.told g) ∙ c.in-Err-NoFreeId.ensures.no_free (ap (λ e. Err e) c.in-Err-NoFreeId.field-0-is) in
     true≢false (sym lacks ∙ reached_enough s c.requires t fits refl refl)
 
@@ -111,9 +116,10 @@ returns-in-Ok-withdraw_told c =
     let changed = ap (change_hat r (unregistered face.0 id)) hats ∙ sym (changed_home face.0 r s.core home (unregistered face.0 id)) in
     let told = c.in_ok-found.found.told in
     let dues = c.as_slice.result.now in
+    let apart = beside_at (accepted s.core t) hats refl (beside s c.requires t fits (key ∷ []) (λ f. ap (fold (insert_key text_cmp) []) (withdrawal_touches s c.requires face id r home h there key c.in-Some-key_at.ensures)) refl refl (λ f o on. on)) in
     let g =
     withdrawal_gathers s c.requires face id r home h there key c.in-Some-key_at.ensures i.hats hats told c.in_ok-found.ensures.told (ears_of i.ears) (ap (λ (x : State). x.core.ears) v)
-    i.interests (ap (λ (x : State). x.core.interests) v) dues (c.as_slice.ensures ∙ c.in_ok-found.ensures.dues (accepted s.core t) (sym (ap (λ (x : State). x.core.faces) v)) changed) in
+    i.interests (ap (λ (x : State). x.core.interests) v) dues (c.as_slice.ensures ∙ c.in_ok-found.ensures.dues (accepted s.core t) (sym (ap (λ (x : State). x.core.faces) v)) changed apart) in
     let ts = told_with (ears_of i.ears) dues told in
     let are = gathered_due s.core t refl (ears_of i.ears) dues told g in
     let handed =
