@@ -36,7 +36,7 @@ some_flies k (r ∷ rs) h = by (or_cases (has_reply k r) (is_in_flight k rs) h) 
     by (inl here) ih = (r.number, (λ j. (eq-eqb r.number r.number refl j && here j) || flies r.number k rs))
     by (inr there) ih = let w = ih there in (w.0, or_right ((r.number == w.0) && has_reply k r) (flies w.0 k rs) w.1)
 
-flies_in : (n k : ℕ) (rs : List Record) → flies n k rs ≡ true → is_in_flight k rs ≡ true
+pub flies_in : (n k : ℕ) (rs : List Record) → flies n k rs ≡ true → is_in_flight k rs ≡ true
 flies_in n k [] h = absurd (false≢true h)
 flies_in n k (r ∷ rs) h = by (or_cases ((r.number == n) && has_reply k r) (flies n k rs) h) (flies_in n k rs)
   where
@@ -45,7 +45,7 @@ flies_in n k (r ∷ rs) h = by (or_cases ((r.number == n) && has_reply k r) (fli
     by (inr there) ih = or_right (has_reply k r) (is_in_flight k rs) (ih there)
 
 -- a reply that is in flight stands in the list of all
-all_have : (k : ℕ) (rs : List Record) → is_in_flight k rs ≡ list_any (is_reply k) (all_in_flight rs)
+pub all_have : (k : ℕ) (rs : List Record) → is_in_flight k rs ≡ list_any (is_reply k) (all_in_flight rs)
 all_have k rs = any_flat (is_reply k) in_flight_of rs
 
 -- a reply that is handed stands among the replies
@@ -84,7 +84,7 @@ module _ (config : Settings) (calls : List Call) where
   pub settings : here.core.config ≡ config
   settings = (headline config calls).settings
 
-  once : Distinct (flights here)
+  pub once : Distinct (flights here)
   once = (headline config calls).agrees.numbered.flights
 
   pub quiet : (c : Call) → list_any replies_to (step here c).handed ≡ false → replies_of (step here c) ≡ []
@@ -131,7 +131,7 @@ module _ (config : Settings) (calls : List Call) where
         by true e h = refl
         by false e h = absurd (false≢true (sym (ap (λ (t : Step). is_accepted t.outcome) h.0) ∙ accepts))
 
-    none_handed : (n j : ℕ) → list_any (hands_reply n j) (step here report).handed ≡ false
+    pub none_handed : (n j : ℕ) → list_any (hands_reply n j) (step here report).handed ≡ false
     none_handed n j = by (list_any (hands_reply n j) (step here report).handed) refl
       where
         by : (b : Bool) → list_any (hands_reply n j) (step here report).handed ≡ b → b ≡ false

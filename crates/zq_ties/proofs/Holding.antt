@@ -35,7 +35,7 @@ places_none k hs i d inside other none =
     omega (arith, more, no, none)
 
 -- ---- a request owns one slot
-has_owner : (n : ℕ) (owners : List (Option ℕ)) (k : ℕ) → owner_at owners k ≡ Some n → 0 < owned n owners
+pub has_owner : (n : ℕ) (owners : List (Option ℕ)) (k : ℕ) → owner_at owners k ≡ Some n → 0 < owned n owners
 has_owner n [] k e = absurd (cc)
 has_owner n (x ∷ xs) zero e = let mine = ap (stood n) e in let one = ap weight (eq-eqb n n refl) in omega (arith, mine, one)
 has_owner n (x ∷ xs) (suc k) e = let ih = has_owner n xs k e in omega (arith, ih)

@@ -23,23 +23,23 @@ use Rattle.zq_ties.specs.Ties.{IsNearlyTied, IsSending, IsTied, is_used}
 use Rattle.zq_ties.proofs.Frames.{request_of}
 use Rattle.zq_ties.proofs.Moves.{flies_stays, next_given, next_grows, open_before, waits_before, waits_stays, waits_still}
 
-zero_if : (x : ℕ) → (0 < x → ⊥) → x ≡ 0
+pub zero_if : (x : ℕ) → (0 < x → ⊥) → x ≡ 0
 zero_if zero none = refl
 zero_if (suc x) none = absurd (none (omega arith))
 
 -- ---- marks, once one of them changes
-other_mark : (m : Mark) (marks : List Mark) (k : ℕ) (w : Mark) (j : ℕ) → j ≢ k → HasMark m (set marks k w) j → HasMark m marks j
+pub other_mark : (m : Mark) (marks : List Mark) (k : ℕ) (w : Mark) (j : ℕ) → j ≢ k → HasMark m (set marks k w) j → HasMark m marks j
 other_mark m marks k w j ne has = (subst (λ n. j < n) (length-set marks k w) has.0, sym (get_or-set_other marks k j w Vacant ne) ∙ has.1)
 
-mark_is : (m : Mark) (marks : List Mark) (k : ℕ) (w : Mark) → k < length marks → HasMark m (set marks k w) k → w ≡ m
+pub mark_is : (m : Mark) (marks : List Mark) (k : ℕ) (w : Mark) → k < length marks → HasMark m (set marks k w) k → w ≡ m
 mark_is m marks k w inside has = sym (get_or-set_same marks k w Vacant inside) ∙ has.1
 
-counted_set : (marks : List Mark) (k : ℕ) (w : Mark) → k < length marks → count is_used (set marks k w) + cond (is_used (mark_at marks k)) 1 0 ≡ count is_used marks + cond (is_used w) 1 0
+pub counted_set : (marks : List Mark) (k : ℕ) (w : Mark) → k < length marks → count is_used (set marks k w) + cond (is_used (mark_at marks k)) 1 0 ≡ count is_used marks + cond (is_used w) 1 0
 counted_set [] k w h = absurd (omega arith)
 counted_set (x ∷ xs) zero w h = let old = count_more is_used x xs in let new = count_more is_used w xs in omega (arith, old, new)
 counted_set (x ∷ xs) (suc k) w h = let ih = counted_set xs k w (omega arith) in let old = count_more is_used x xs in let new = count_more is_used x (set xs k w) in omega (arith, ih, old, new)
 
-requests_more : (cs : List Call) (c : Call) → requests_in (cs ++ c ∷ []) ≡ requests_in cs + cond (asks_request c) 1 0
+pub requests_more : (cs : List Call) (c : Call) → requests_in (cs ++ c ∷ []) ≡ requests_in cs + cond (asks_request c) 1 0
 requests_more cs c = let both = count_append asks_request cs (c ∷ []) in let one = count_more asks_request c [] in omega (arith, both, one)
 
 -- ---- a call is stored that asks nothing and reports nothing

@@ -31,6 +31,8 @@ pub fn hold_for(slots: &mut Slots, seat: &mut HoldSeat, held: &mut Vec<Slot>, nu
     ensures same { AreHeld held.new.items seat.new.held }
     ensures more { (k : ℕ) → 0 < times k seat.old.held → 0 < times k seat.new.held }
     ensures holds { (k : ℕ) → owner_at slots.old.owners k ≡ Some number → 0 < times k seat.new.held }
+    ensures only { (k : ℕ) → 0 < times k seat.new.held → (0 < times k seat.old.held) ⊎ (owner_at slots.old.owners k ≡ Some number) }
+    ensures once { ((k : ℕ) → times k seat.old.held ≤ 1) → (k : ℕ) → times k seat.new.held ≤ 1 }
     ensures room { (vec_len held.new ≤ vec_len held.old + 1) × (vec_capacity held.new ≡ vec_capacity held.old) }
 {
     slots.recall();

@@ -20,6 +20,15 @@ impl Model for LastList {
 }
 
 impl LastList {
+    /// None, and no room for any.
+    pub fn new(alloc: Global) -> LastList
+        ensures { result.ended ≡ [] }
+    {
+        LastList {
+            lasts: Vec::new(alloc),
+        }
+    }
+
     /// None yet, with room for that many.
     pub fn with_room(alloc: Global, count: usize) -> Result<LastList, AllocError>
         ensures none { IfOk result (λ l. l.ended ≡ []) }

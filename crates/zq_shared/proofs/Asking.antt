@@ -1,0 +1,93 @@
+-- A request and its slot.
+use Rattle.std.proofs.Common.{◌≡◌, ◌≢◌, ℕ, ◌+◌, ◌<◌, ◌≤◌, Bool, true, false, cond, List, [], ◌∷◌, length, Option, Some, None, refl, sym, ap, ◌∙◌, subst, arith, inl, inr}
+use Rattle.std.specs.Prelude.{◌⊎◌, IfNone, IfSome}
+use Rattle.std.specs.List.{filter, list_any}
+use Rattle.std.proofs.lemmas.Bool.{false≢true}
+use Rattle.zq_hold.specs.declared.slot.Mark.{Mark}
+use Rattle.zq_hold.specs.declared.slot.Mark.TheVariants.{Spare, Kept, Gone, Vacant}
+use Rattle.zq_hold.specs.Marks.{AllAllotted, HasMark, IsNext, mark_at}
+use Rattle.zq_hold.specs.Slots.{times}
+use Rattle.zq_slots.specs.Owners.{IsSlotted, Slotted, owned, owner_at, with_mark, with_owner}
+use Rattle.zq_slots.proofs.Owning.{unowned}
+use Rattle.zq_query.specs.Records.{is_reply}
+use Rattle.zq_machine.specs.declared.call.Call.{Call}
+use Rattle.zq_machine.specs.declared.call.Call.TheVariants as call
+use Rattle.zq_machine.specs.declared.call.Outcome.{Outcome}
+use Rattle.zq_machine.specs.declared.call.Outcome.TheVariants as outcome
+use Rattle.zq_machine.specs.declared.call.Step.{Step}
+use Rattle.zq_machine.specs.Configs.{Settings}
+use Rattle.zq_machine.specs.Machine.{state_after, step}
+use Rattle.zq_machine.specs.State.{opening_state}
+use Rattle.zq_machine.specs.Waiting.{hands_reply}
+use Rattle.zq_ties.specs.Stored.{IsOpen, Stored, answer_to, asks_request, waiting, with_call}
+use Rattle.zq_ties.specs.Ties.{IsTied, Sharing, is_used}
+use Rattle.zq_ties.proofs.Flights.{handed_in, promises, quiet}
+use Rattle.zq_ties.proofs.Frames.{request_of}
+use Rattle.zq_ties.proofs.Journals.{answer_is}
+use Rattle.zq_ties.proofs.Moves.{flying_is, next_given, waiting_is}
+use Rattle.zq_ties.proofs.Ties.{back_tied, given_tied, quiet_tied}
+use Rattle.zq_shared.specs.Sharing.{HasReply, HoldsReplies, IsFull, IsSameHolds, MaySpare}
+
+-- ---- before any call
+pub none_open : (config : Settings) (n : ℕ) → IsOpen (record { config = config; calls = [] }) n → ⊥
+none_open config n (inl some) = let none = waiting_is (record { config = config; calls = [] }) n in omega (arith, some, none)
+none_open config n (inr flown) = false≢true (sym (flying_is (record { config = config; calls = [] }) n flown.0) ∙ flown.1)
+
+-- ---- marks
+-- slots that are all allotted are all used
+pub all_used : (marks : List Mark) → AllAllotted marks → length (filter is_used marks) ≡ length marks
+all_used [] all = refl
+all_used (m ∷ ms) all = by m (all.0 0 (omega arith)) (all_used ms ((λ j inside is. all.0 (j + 1) (omega (arith, inside)) is), (λ j inside is. all.1 (j + 1) (omega (arith, inside)) is)))
+  where
+    by : (w : Mark) → (w ≡ Spare → ⊥) → length (filter is_used ms) ≡ length ms → length (cond (is_used w) (w ∷ filter is_used ms) (filter is_used ms)) ≡ length (w ∷ ms)
+    by Spare none ih = absurd (none refl)
+    by Kept none ih = omega (arith, ih)
+    by Gone none ih = omega (arith, ih)
+    by Vacant none ih = omega (arith, ih)
+
+-- where a slot is next, not all are allotted
+pub next_free : (marks : List Mark) (k : ℕ) → IsNext marks k → AllAllotted marks → ⊥
+next_free marks k (inl least) all = all.0 k least.0.0 least.0.1
+next_free marks k (inr none) all = all.1 k none.1.0.0 none.1.0.1
+
+pub next_inside : (marks : List Mark) (k : ℕ) → IsNext marks k → k < length marks
+next_inside marks k (inl least) = least.0.0
+next_inside marks k (inr none) = none.1.0.0
+
+-- ---- a request is made
+-- it hands no reply
+pub asks_silently : (s : Stored) (c : Call) → asks_request c ≡ true → (n r : ℕ) → list_any (hands_reply n r) (answer_to s c).handed ≡ false
+asks_silently s c asks n r = by (list_any (hands_reply n r) (answer_to s c).handed) refl
+  where
+    none : (face : _) (q : _) (now : ℕ) → list_any (hands_reply n r) (answer_to s (call.Request face q now)).handed ≡ true → ⊥
+    none face q now h =
+        let here = state_after (opening_state s.config) s.calls in
+        let c = call.Request face q now in
+        let at = ap (λ (t : Step). list_any (hands_reply n r) t.handed) (sym (answer_is s c)) ∙ h in
+        false≢true (sym (ap (list_any (is_reply r)) (quiet s.config s.calls c (promises s.config s.calls c).replies)) ∙ handed_in n r (step here c).handed at)
+
+    by : (b : Bool) → list_any (hands_reply n r) (answer_to s c).handed ≡ b → b ≡ false
+    by false e = refl
+    by true e = let q = request_of c asks in absurd (none q.0 q.1 q.2 (ap (λ (y : Call). list_any (hands_reply n r) (answer_to s y).handed) (sym q.3) ∙ e))
+
+module _ (s : Stored) (c : Call) (m : Slotted) (tied : IsTied s m) (asks : asks_request c ≡ true) where
+  -- the request that is asked owns nothing yet
+  pub new_unowned : (n : ℕ) → (answer_to s c).outcome ≡ outcome.Asked n → owned n m.owners ≡ 0
+  new_unowned n is = unowned n m.owners (λ k inside owner. (let next = (next_given s c n asks is).0 in let was = tied.nearly.asked k n owner in absurd (omega (arith, next, was))))
+
+  -- it hands no reply, so the seat holds nothing
+  pub asks_holds : (m' : Slotted) (held : List ℕ) → held ≡ [] → HoldsReplies (answer_to s c).handed m' held
+  asks_holds m' held none = record {
+    each = λ k has. absurd (false≢true (sym (asks_silently s c asks has.0 has.1) ∙ has.3));
+    only = λ k some. (let zeroth = ap (times k) none in absurd (omega (arith, some, zeroth)));
+    once = λ k. (let zeroth = ap (times k) none in omega (arith, zeroth));
+  }
+
+  module _ (k : ℕ) (slotted : IsSlotted m.keeper.marks m.owners) (next : IsNext m.keeper.marks k) (free : owner_at m.owners k ≡ None) (unlent : times k m.keeper.lent ≡ 0) where
+    -- it waits for something, and owns the slot; or the slot is spare
+    pub asked_tied : (owner : Option ℕ) (m' : Slotted) → IfSome owner (λ n. ((answer_to s c).outcome ≡ outcome.Asked n) × (0 < waiting (with_call s c) n)) → IfNone owner ((n : ℕ) → (answer_to s c).outcome ≡ outcome.Asked n → waiting (with_call s c) n ≡ 0)
+        → IfSome owner (λ n. m' ≡ with_owner (with_mark m k Kept) k (Some n)) → IfNone owner (m' ≡ with_mark (with_mark m k Kept) k Spare) → IsTied (with_call s c) m'
+    asked_tied None m' some none given back =
+        subst (IsTied (with_call s c)) (sym back) (back_tied (with_call s c) m (quiet_tied s c m tied asks none) k (next_inside m.keeper.marks k next))
+    asked_tied (Some n) m' some none given back =
+        subst (IsTied (with_call s c)) (sym given) (given_tied s c m tied asks k n (next_inside m.keeper.marks k next) slotted.wide free unlent some.0 some.1)

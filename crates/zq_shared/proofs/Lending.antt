@@ -1,0 +1,233 @@
+-- Replies that are held, and slots that are let go.
+use Rattle.std.proofs.Common.{◌≡◌, ◌≢◌, ℕ, ◌+◌, ◌<◌, ◌≤◌, Bool, true, false, zero, suc, List, [], ◌∷◌, ◌++◌, length, set, Option, Some, None, refl, sym, ap, ◌∙◌, subst, arith, inl, inr, length-append, length-set}
+use mathlib.Core.Logic.{dite}
+use native.Mathlib.Decide.{ℕ_discrete}
+use Rattle.std.specs.Prelude.{◌⊎◌, ◌||◌, ◌&&◌, ◌==◌, All}
+use Rattle.std.specs.List.{list_any}
+use Rattle.std.specs.Option.{option_map_or}
+use Rattle.std.proofs.lemmas.Bool.{and_parts, false≢true, or_cases, or_left, or_right}
+use Rattle.std.proofs.lemmas.List.Elements.{All-push}
+use Rattle.std.proofs.lemmas.List.Folds.{list_any-append}
+use Rattle.zq_hold.specs.declared.slot.Mark.{Mark}
+use Rattle.zq_hold.specs.declared.slot.Mark.TheVariants.{Spare, Kept, Gone, Vacant}
+use Rattle.zq_hold.specs.Marks.{HasMark, mark_at}
+use Rattle.zq_hold.specs.Seats.{Ended, Holder}
+use Rattle.zq_hold.specs.Slots.{times}
+use Rattle.zq_slots.specs.Owners.{IsSlotted, MayOwn, Slotted, owned, owner_at}
+use Rattle.zq_machine.specs.declared.call.Call.{Call}
+use Rattle.zq_machine.specs.Handing.{Handed}
+use Rattle.zq_machine.specs.Waiting.{hands_reply}
+use Rattle.zq_ties.specs.Holding.{OwnsKept}
+use Rattle.zq_ties.specs.Stored.{Stored, answer_to, in_flight, waiting, with_call}
+use Rattle.zq_ties.specs.Ties.{AreWaiting, IsNearlyTied, IsTied}
+use Rattle.zq_ties.proofs.Moves.{handed_waits}
+use Rattle.zq_ties.proofs.Ties.{mark_is, other_mark, released_nearly}
+use Rattle.zq_shared.specs.Lending.{Lends, LetsGo}
+use Rattle.zq_shared.specs.Sharing.{HasReply, HoldsReplies}
+
+-- ---- the slots of replies are held
+one_reply : (n r : ℕ) (h : Handed) → list_any (hands_reply n r) (h ∷ []) ≡ true → hands_reply n r h ≡ true
+one_reply n r h is = by (or_cases (hands_reply n r h) false is)
+  where
+    by : ((hands_reply n r h ≡ true) ⊎ (false ≡ true)) → hands_reply n r h ≡ true
+    by (inl here) = here
+    by (inr none) = absurd (false≢true none)
+
+pub lends_start : (m : Slotted) (seat : Holder) → Lends [] m m seat seat
+lends_start m seat = record {
+  slots = refl;
+  lent = λ k some. inl some;
+  home = refl;
+  more = λ k some. some;
+  each = λ k has. absurd (false≢true has.3);
+  only = λ k some. inl some;
+  once = λ one k. one k;
+}
+
+pub lends_none : (h : Handed) (m : Slotted) (seat : Holder) → ((n r : ℕ) → hands_reply n r h ≡ false) → Lends (h ∷ []) m m seat seat
+lends_none h m seat none = record {
+  slots = refl;
+  lent = λ k some. inl some;
+  home = refl;
+  more = λ k some. some;
+  each = λ k has. absurd (false≢true (sym (none has.0 has.1) ∙ one_reply has.0 has.1 h has.3));
+  only = λ k some. inl some;
+  once = λ one k. one k;
+}
+
+pub lends_one : (h : Handed) (m m' : Slotted) (seat seat' : Holder) (n : ℕ) → ((r : ℕ) × (hands_reply n r h ≡ true)) → ((i r : ℕ) → hands_reply i r h ≡ true → i ≡ n)
+    → m' ≡ record m { keeper = record m.keeper { lent = m'.keeper.lent } } → ((k : ℕ) → 0 < times k m'.keeper.lent → (0 < times k m.keeper.lent) ⊎ (owner_at m.owners k ≡ Some n))
+    → seat' ≡ record seat { held = seat'.held } → ((k : ℕ) → 0 < times k seat.held → 0 < times k seat'.held) → ((k : ℕ) → owner_at m.owners k ≡ Some n → 0 < times k seat'.held)
+    → ((k : ℕ) → 0 < times k seat'.held → (0 < times k seat.held) ⊎ (owner_at m.owners k ≡ Some n)) → (((k : ℕ) → times k seat.held ≤ 1) → (k : ℕ) → times k seat'.held ≤ 1)
+    → Lends (h ∷ []) m m' seat seat'
+lends_one h m m' seat seat' n is alone slots lent same more holds only once = record {
+  slots = slots;
+  lent = λ k some. to k (lent k some);
+  home = ap (λ (x : Holder). x.home) same;
+  more = more;
+  each = λ k has. holds k (has.2 ∙ ap (λ i. Some i) (alone has.0 has.1 (one_reply has.0 has.1 h has.3)));
+  only = λ k some. to k (only k some);
+  once = once;
+}
+  where
+    to : (k : ℕ) {P : Type 0} → P ⊎ (owner_at m.owners k ≡ Some n) → P ⊎ HasReply (h ∷ []) m k
+    to k (inl old) = inl old
+    to k (inr owner) = inr (n, is.0, owner, or_left (hands_reply n is.0 h) false is.1)
+
+module _ (hs : List Handed) (h : Handed) (m m' m'' : Slotted) (seat seat' seat'' : Holder) (first : Lends hs m m' seat seat') (then : Lends (h ∷ []) m' m'' seat' seat'') where
+  owners_same : m'.owners ≡ m.owners
+  owners_same = ap (λ (x : Slotted). x.owners) first.slots
+
+  earlier : (k : ℕ) → HasReply hs m k → HasReply (hs ++ h ∷ []) m k
+  earlier k has = (has.0, has.1, has.2, list_any-append (hands_reply has.0 has.1) hs (h ∷ []) ∙ or_left (list_any (hands_reply has.0 has.1) hs) (list_any (hands_reply has.0 has.1) (h ∷ [])) has.3)
+
+  later : (k : ℕ) → HasReply (h ∷ []) m' k → HasReply (hs ++ h ∷ []) m k
+  later k has = (has.0, has.1, ap (λ os. owner_at os k) (sym owners_same) ∙ has.2, list_any-append (hands_reply has.0 has.1) hs (h ∷ []) ∙ or_right (list_any (hands_reply has.0 has.1) hs) (list_any (hands_reply has.0 has.1) (h ∷ [])) has.3)
+
+  pub lends_more : Lends (hs ++ h ∷ []) m m'' seat seat''
+  lends_more = record {
+    slots = then.slots ∙ ap (λ (x : Slotted). record x { keeper = record x.keeper { lent = m''.keeper.lent } }) first.slots;
+    lent = λ k some. lent k (then.lent k some);
+    home = then.home ∙ first.home;
+    more = λ k some. then.more k (first.more k some);
+    each = λ k has. each k has (or_cases (list_any (hands_reply has.0 has.1) hs) (list_any (hands_reply has.0 has.1) (h ∷ [])) (sym (list_any-append (hands_reply has.0 has.1) hs (h ∷ [])) ∙ has.3));
+    only = λ k some. only k (then.only k some);
+    once = λ one. then.once (first.once one);
+  }
+    where
+      lent : (k : ℕ) → (0 < times k m'.keeper.lent) ⊎ HasReply (h ∷ []) m' k → (0 < times k m.keeper.lent) ⊎ HasReply (hs ++ h ∷ []) m k
+      lent k (inr new) = inr (later k new)
+      lent k (inl old) = by (first.lent k old)
+        where
+          by : (0 < times k m.keeper.lent) ⊎ HasReply hs m k → (0 < times k m.keeper.lent) ⊎ HasReply (hs ++ h ∷ []) m k
+          by (inl before) = inl before
+          by (inr has) = inr (earlier k has)
+
+      only : (k : ℕ) → (0 < times k seat'.held) ⊎ HasReply (h ∷ []) m' k → (0 < times k seat.held) ⊎ HasReply (hs ++ h ∷ []) m k
+      only k (inr new) = inr (later k new)
+      only k (inl old) = by (first.only k old)
+        where
+          by : (0 < times k seat.held) ⊎ HasReply hs m k → (0 < times k seat.held) ⊎ HasReply (hs ++ h ∷ []) m k
+          by (inl before) = inl before
+          by (inr has) = inr (earlier k has)
+
+      each : (k : ℕ) (has : HasReply (hs ++ h ∷ []) m k) → ((list_any (hands_reply has.0 has.1) hs ≡ true) ⊎ (list_any (hands_reply has.0 has.1) (h ∷ []) ≡ true)) → 0 < times k seat''.held
+      each k has (inl before) = then.more k (first.each k (has.0, has.1, has.2, before))
+      each k has (inr new) = then.each k (has.0, has.1, ap (λ os. owner_at os k) owners_same ∙ has.2, new)
+
+module _ (hs : List Handed) (m m' : Slotted) (seat seat' : Holder) (lends : Lends hs m m' seat seat') where
+  -- a seat that held nothing holds the slots of the replies and no others; whatever else changes of the slots but their owners
+  pub lends_holds : (new : Slotted) → new.owners ≡ m'.owners → seat.held ≡ [] → HoldsReplies hs new seat'.held
+  lends_holds new same none = record {
+    each = λ k has. lends.each k (has.0, has.1, ap (λ os. owner_at os k) (sym owners) ∙ has.2, has.3);
+    only = λ k some. only k (lends.only k some);
+    once = lends.once (λ k. (let zeroth = ap (times k) none in omega (arith, zeroth)));
+  }
+    where
+      owners : new.owners ≡ m.owners
+      owners = same ∙ ap (λ (x : Slotted). x.owners) lends.slots
+
+      only : (k : ℕ) → (0 < times k seat.held) ⊎ HasReply hs m k → HasReply hs new k
+      only k (inl some) = let zeroth = ap (times k) none in absurd (omega (arith, some, zeroth))
+      only k (inr has) = (has.0, has.1, ap (λ os. owner_at os k) owners ∙ has.2, has.3)
+
+  pub lends_nearly : (s : Stored) → IsNearlyTied None s m → ((n r : ℕ) → list_any (hands_reply n r) hs ≡ true → in_flight s n r ≡ true) → IsNearlyTied None s m'
+  lends_nearly s t flown = subst (IsNearlyTied None s) (sym lends.slots) (record {
+    kept = t.kept;
+    gone = t.gone;
+    asked = t.asked;
+    opened = t.opened;
+    lent = λ k some. by k (lends.lent k some);
+    used = t.used;
+  })
+    where
+      by : (k : ℕ) → (0 < times k m.keeper.lent) ⊎ HasReply hs m k → (n : ℕ) × (owner_at m.owners k ≡ Some n) × (r : ℕ) × (in_flight s n r ≡ true)
+      by k (inl old) = t.lent k old
+      by k (inr has) = (has.0, has.2, has.1, flown has.0 has.1 has.3)
+
+-- ---- the request of a reply that is handed owns a slot, which the keeper holds
+inside_owner : (owners : List (Option ℕ)) (k n : ℕ) → owner_at owners k ≡ Some n → k < length owners
+inside_owner [] k n owner = let clash : ◌≡◌ {A = Option ℕ} None (Some n) = owner in absurd (cc)
+inside_owner (o ∷ os) zero n owner = omega arith
+inside_owner (o ∷ os) (suc k) n owner = let ih = inside_owner os k n owner in omega (arith, ih)
+
+module _ (s : Stored) (m : Slotted) (t : IsTied s m) (slotted : IsSlotted m.keeper.marks m.owners) where
+  is_kept : (k n : ℕ) → 0 < waiting s n → owner_at m.owners k ≡ Some n → HasMark Kept m.keeper.marks k
+  is_kept k n some owner = by (mark_at m.keeper.marks k) refl (subst (MayOwn (mark_at m.keeper.marks k)) owner (slotted.each k inside))
+    where
+      inside : k < length m.keeper.marks
+      inside = let at = inside_owner m.owners k n owner in let wide = slotted.wide in omega (arith, at, wide)
+
+      by : (w : Mark) → mark_at m.keeper.marks k ≡ w → MayOwn (mark_at m.keeper.marks k) (Some n) → HasMark Kept m.keeper.marks k
+      by Kept e may = (inside, e)
+      by Gone e may = let none = t.nearly.gone k n (inside, e) owner in absurd (omega (arith, some, none))
+      by Spare e may = let clash : ◌≡◌ {A = Option ℕ} (Some n) None = subst (λ w. MayOwn w (Some n)) e may in absurd (cc)
+      by Vacant e may = let clash : ◌≡◌ {A = Option ℕ} (Some n) None = subst (λ w. MayOwn w (Some n)) e may in absurd (cc)
+
+  pub replied_owns : (c : Call) (n r : ℕ) → list_any (hands_reply n r) (answer_to s c).handed ≡ true → OwnsKept n m
+  replied_owns c n r h =
+      let some = (handed_waits s c n r h).1 in
+      record {
+        some = (let owns = t.nearly.opened n (inl some) in omega (arith, owns));
+        kept = λ k owner. is_kept k n some owner;
+      }
+
+-- ---- slots are let go
+module _ (s : Stored) (m : Slotted) where
+  pub lets_start : IsNearlyTied None s m → LetsGo s m m [] 0
+  lets_start t = record {
+    nearly = t;
+    slots = refl;
+    wide = refl;
+    waits = λ k n inside. absurd (omega (arith, inside));
+    few = omega arith;
+    home = λ k d inside. absurd (omega (arith, inside));
+  }
+
+  module _ (m' : Slotted) (lasts : List Ended) (i : ℕ) (go : LetsGo s m m' lasts i) where
+    -- the slot stays
+    pub lets_stay : ((n : ℕ) → HasMark Kept m'.keeper.marks i → owner_at m'.owners i ≡ Some n → 0 < waiting s n) → LetsGo s m m' lasts (i + 1)
+    lets_stay waits = record {
+      nearly = go.nearly;
+      slots = go.slots;
+      wide = go.wide;
+      waits = λ k n inside mark owner. (dite (ℕ_discrete k i)
+          (λ (e : k ≡ i). waits n (subst (HasMark Kept m'.keeper.marks) e mark) (ap (owner_at m'.owners) (sym e) ∙ owner))
+          (λ (ne : k ≢ i). go.waits k n (omega (arith, inside, ne)) mark owner));
+      few = (let few = go.few in omega (arith, few));
+      home = go.home;
+    }
+
+    -- it is let go
+    module _ (n left : ℕ) (m'' : Slotted) (mark : HasMark Kept m'.keeper.marks i) (owner : owner_at m'.owners i ≡ Some n) (none : waiting s n ≡ 0)
+        (is : m'' ≡ record m' { keeper = record m'.keeper { marks = set m'.keeper.marks i Gone; left = left } }) where
+      abbrev gone : Slotted
+      gone = record m' { keeper = record m'.keeper { marks = set m'.keeper.marks i Gone; left = left } }
+
+      with_lasts : (ls : List Ended) → length ls ≤ i + 1 → All (λ (l : Ended). l.home ≡ m.keeper.home) ls → LetsGo s m m'' ls (i + 1)
+      with_lasts ls few home = subst (λ x. LetsGo s m x ls (i + 1)) (sym is) (record {
+        nearly = released_nearly s m' go.nearly i n left mark owner none;
+        slots = ap (λ (x : Slotted). record x { keeper = record x.keeper { marks = set m'.keeper.marks i Gone; left = left } }) go.slots;
+        wide = length-set m'.keeper.marks i Gone ∙ go.wide;
+        waits = λ k o inside has owns. (dite (ℕ_discrete k i)
+            (λ (e : k ≡ i). (let clash : Gone ≡ Kept = mark_is Kept m'.keeper.marks i Gone mark.0 (subst (λ j. HasMark Kept (set m'.keeper.marks i Gone) j) e has) in absurd (cc)))
+            (λ (ne : k ≢ i). go.waits k o (omega (arith, inside, ne)) (other_mark Kept m'.keeper.marks i Gone k ne has) owns));
+        few = few;
+        home = home;
+      })
+
+      pub lets_go : LetsGo s m m'' lasts (i + 1)
+      lets_go = with_lasts lasts (let few = go.few in omega (arith, few)) go.home
+
+      pub lets_last : (l : Ended) → l.home ≡ m'.keeper.home → LetsGo s m m'' (lasts ++ l ∷ []) (i + 1)
+      lets_last l home =
+          let few = go.few in
+          let long = length-append lasts (l ∷ []) in
+          with_lasts (lasts ++ l ∷ []) (omega (arith, few, long)) (All-push (λ (x : Ended). x.home ≡ m.keeper.home) lasts l go.home (home ∙ ap (λ (x : Slotted). x.keeper.home) go.slots))
+
+  -- once all slots were looked at, they are tied
+  pub lets_end : (m' : Slotted) (lasts : List Ended) → LetsGo s m m' lasts (length m.keeper.marks) → IsTied s m'
+  lets_end m' lasts go = record {
+    nearly = go.nearly;
+    waits = λ k n mark owner. (let wide = go.wide in let inside = mark.0 in go.waits k n (omega (arith, inside, wide)) mark owner);
+  }

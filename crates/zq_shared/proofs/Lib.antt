@@ -1,0 +1,4 @@
+pub mod Asking
+pub mod Lending
+pub mod Reporting
+pub mod Settling

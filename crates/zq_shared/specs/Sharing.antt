@@ -1,0 +1,75 @@
+-- What a step and a settling make of a gateway beside its calls, and of the slots of its requests.
+use Rattle.std.specs.Prelude.{◌≡◌, ◌⊎◌, ℕ, ◌<◌, ◌≤◌, true, List, [], ◌∷◌, ◌++◌, length, map, replicate, slice_set, Option, Some, None}
+use Rattle.std.specs.List.{cons_option, list_any}
+use Rattle.std.specs.List.Sorted.{IsStrictlySortedBy}
+use Rattle.std.specs.Ordering.{nat_cmp}
+use Rattle.atomic_table.specs.Seated.{TableId}
+use Rattle.zq_hold.specs.declared.slot.Mark.TheVariants.{Spare, Vacant}
+use Rattle.zq_hold.specs.Marks.{AllAllotted, IsNext}
+use Rattle.zq_hold.specs.Slots.{times, without}
+use Rattle.zq_slots.specs.Owners.{Slotted, owner_at, with_mark}
+use Rattle.zq_query.specs.Records.{is_reply}
+use Rattle.zq_machine.specs.declared.call.Call.{Call}
+use Rattle.zq_machine.specs.declared.call.Call.TheVariants as call
+use Rattle.zq_machine.specs.Handing.{Handed}
+use Rattle.zq_machine.specs.Machine.{done}
+use Rattle.zq_machine.specs.Waiting.{hands_reply}
+use Rattle.zq_ties.specs.Stored.{Stored, answer_to, asks_request, in_flight, requests_in}
+use Rattle.zq_ties.specs.Ties.{Sharing}
+use Rattle.zq_shared.specs.declared.shared.StepRefusal.{StepRefusal}
+use Rattle.zq_shared.specs.declared.shared.StepRefusal.TheVariants as refusal
+
+-- the same holds, with as many slots
+abbrev pub IsSameHolds : Slotted → Slotted → Type 0
+IsSameHolds old new = (new.keeper.home ≡ old.keeper.home) × (length new.keeper.marks ≡ length old.keeper.marks)
+
+-- that many slots of these holds, each spare and without an owner
+abbrev pub all_spare : TableId → ℕ → Slotted
+all_spare home n = record { keeper = record { home = home; marks = replicate n Spare; lent = []; left = 0; joined = 0 }; owners = replicate n None }
+
+-- the request that owns the slot has a reply among these messages
+abbrev pub HasReply : List Handed → Slotted → ℕ → Type 0
+HasReply hs m k = (n : ℕ) × (r : ℕ) × (owner_at m.owners k ≡ Some n) × (list_any (hands_reply n r) hs ≡ true)
+
+-- the slots of the requests of the replies among these messages are held, each once, and no others
+pub record HoldsReplies (hs : List Handed) (m : Slotted) (held : List ℕ) : Type 0 where
+  pub each : (k : ℕ) → HasReply hs m k → 0 < times k held
+  pub only : (k : ℕ) → 0 < times k held → HasReply hs m k
+  pub once : (k : ℕ) → times k held ≤ 1
+
+-- the call is a request, and every slot is allotted
+abbrev pub IsFull : Sharing → Call → Type 0
+IsFull x c = (asks_request c ≡ true) × AllAllotted x.slots.keeper.marks
+
+-- all is as it was, but for the next slot, which may be spare
+abbrev pub MaySpare : Sharing → Sharing → Type 0
+MaySpare old new = (new ≡ old) ⊎ ((k : ℕ) × IsNext old.slots.keeper.marks k × (new ≡ record old { slots = with_mark old.slots k Spare }))
+
+-- why a step is refused, and what it leaves: where a request finds every slot allotted, and so as many requests were made as there are slots, all is as it was; where memory is lacking, all but for a slot that may be spare
+abbrev pub Refuses : Sharing → Call → StepRefusal → Sharing → Type 0
+Refuses old c (refusal.Full full) new = IsFull old c × (length old.slots.keeper.marks ≤ requests_in old.stored.calls) × (new ≡ old)
+Refuses old c refusal.OutOfMemory new = (IsFull old c → ⊥) × MaySpare old new
+
+-- the reports of these replies are stored too
+abbrev pub with_reports : Stored → List ℕ → Stored
+with_reports s ks = record s { calls = s.calls ++ map (λ k. call.Sent k) ks }
+
+-- what the last of these reports is answered: the final, if it comes; and nothing where nothing is reported
+abbrev pub EndsIn : Stored → List ℕ → Option Handed → Type 0
+EndsIn s ks answer = ((ks ≡ []) × (answer ≡ None)) ⊎ ((before : List ℕ) × (k : ℕ) × (ks ≡ before ++ k ∷ []) × (answer_to (with_reports s before) (call.Sent k) ≡ done (cons_option answer [])))
+
+-- all replies of the request that are in flight are reported, in order of number
+pub record Reports (s : Stored) (n : ℕ) (answer : Option Handed) (new : Stored) (ks : List ℕ) : Type 0 where
+  pub all : (k : ℕ) → in_flight s n k ≡ list_any (is_reply k) ks
+  pub rising : IsStrictlySortedBy nat_cmp ks
+  pub stored : new ≡ with_reports s ks
+  pub ends : EndsIn s ks answer
+
+-- the same of the request that owns a slot; nothing is reported where none does
+abbrev pub Settles : Option ℕ → Stored → Option Handed → Stored → Type 0
+Settles None s answer new = (answer ≡ None) × (new ≡ s)
+Settles (Some n) s answer new = (ks : List ℕ) × Reports s n answer new ks
+
+-- the slot is no longer allotted, owned or lent
+abbrev pub vacated : Slotted → ℕ → Slotted
+vacated m k = record { keeper = record m.keeper { marks = slice_set m.keeper.marks k Vacant; lent = without k m.keeper.lent }; owners = slice_set m.owners k None }

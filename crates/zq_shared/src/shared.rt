@@ -1,0 +1,157 @@
+//! The state that many threads share, under one lock.
+ghost use Rattle.std.specs.Prelude.{◌≡◌, ◌<◌, ◌≤◌, [], All, false, true, IfErr, IfOk, OnErr, OnOk};
+ghost use Rattle.zq_hold.specs.declared.slot.Mark.TheVariants.{Gone};
+ghost use Rattle.zq_hold.specs.Marks.{HasMark};
+ghost use Rattle.zq_slots.specs.Owners.{owner_at};
+ghost use Rattle.zq_machine.specs.Calls.{is_sent};
+ghost use Rattle.zq_ties.specs.Holding.{AreHeld};
+ghost use Rattle.zq_ties.specs.Stored.{answer_to, asks_request, with_call};
+ghost use Rattle.zq_shared.specs.Sharing.{HoldsReplies, IsFull, IsSameHolds, Refuses, Settles, all_spare, vacated};
+
+use crate::asking::ask;
+use crate::journal::Journal;
+use crate::settling::report_all;
+use crate::telling::tell;
+use std::alloc::Global;
+use std::marker::Model;
+use zq_key::memory::OutOfMemory;
+use zq_machine::call::{Call, Step};
+use zq_machine::config::Config;
+use zq_machine::handed::Handed;
+use zq_slots::{HoldSeat, Last, NoSlot, SeatList, Slot, Slots};
+use zq_ties::LastList;
+
+/// A gateway beside the calls that were made on it, and the slots of its requests.
+#[derive(Drop)]
+pub struct Shared {
+    alloc: Global,
+    journal: Journal,
+    slots: Slots,
+}
+
+impl Model for Shared {
+    ghost use Rattle.zq_ties.specs.Ties.{IsTied, Sharing};
+
+    ghost Value = { Sharing };
+
+    ghost view = { λ s. record { stored = s.journal; slots = s.slots } };
+
+    ghost invariant = { λ s. IsTied s.journal s.slots };
+}
+
+/// What a step gives: what the call is answered, the slots that the seat holds for the replies that it put in flight, and what it released last.
+/// Each of `lasts` has to be taken, and given to `Shared::settle`; then the list is ended.
+pub struct Stepped {
+    pub step: Step,
+    pub held: Vec<Slot>,
+    pub lasts: LastList,
+}
+
+/// Why a call was not made.
+#[derive(Drop)]
+pub enum StepRefusal {
+    /// Every slot is allotted.
+    Full(NoSlot),
+    /// There is no memory.
+    OutOfMemory,
+}
+
+/// Whether the call asks a request.
+fn asks_request(call: &Call) -> bool
+    ensures { result ≡ asks_request call.now }
+{
+    matches!(call, Call::Request { .. })
+}
+
+impl Shared {
+    /// A new gateway and no calls, with that many slots, each spare, and that many seats, which hold nothing.
+    pub fn new(
+        alloc: Global,
+        config: &Config,
+        slots: u16,
+        seats: u8,
+    ) -> Result<(Shared, SeatList), OutOfMemory>
+        requires slots { (0 < slots) × (slots ≤ 1024) }
+        requires seats { (0 < seats) × (seats ≤ 63) }
+        ensures stored { IfOk result (λ r. r.0.stored ≡ record { config = config.now; calls = [] }) }
+        ensures slots { IfOk result (λ r. r.0.slots ≡ all_spare r.0.slots.keeper.home slots) }
+        ensures seats { IfOk result (λ r. r.1 ≡ record { home = r.0.slots.keeper.home; count = seats }) }
+    {
+        let journal = Journal::new(alloc, config)?;
+        let (slots, seats) = Slots::new(alloc, slots, seats)?;
+        Ok((
+            Shared {
+                alloc,
+                journal,
+                slots,
+            },
+            seats,
+        ))
+    }
+
+    /// The calls that were made, in order.
+    pub fn calls(&self) -> &[Call]
+        ensures { result.now ≡ self.now.stored.calls }
+    {
+        self.journal.calls()
+    }
+
+    /// What the gateway was made with.
+    pub fn config(&self) -> &Config
+        ensures { result.now ≡ self.now.stored.config }
+    {
+        self.journal.config()
+    }
+
+    /// Makes one call that is no report, and stores it. A request that is asked and waits for something owns a slot from then on; `Full` exactly
+    /// where every slot is allotted. The seat holds the slot of the request of each reply that the call puts in flight, until it releases it. The
+    /// slots of requests that wait for nothing any more are let go; a moment, a closing and a final look at each slot for that, of which there are at most
+    /// 1024, and no other call does. Where memory is lacking all but one slot, which may be spare then, is as it was; room for the reports is made here.
+    pub fn step(&mut self, seat: &mut HoldSeat, call: Call) -> Result<Stepped, StepRefusal>
+        requires home { self.old.slots.keeper.home ≡ seat.old.home }
+        requires empty { seat.old.held ≡ [] }
+        requires unsent { is_sent call ≡ false }
+        ensures step { IfOk result (λ t. t.step ≡ answer_to self.old.stored call) }
+        ensures stored { OnOk result (self.new.stored ≡ with_call self.old.stored call) }
+        ensures room { OnOk result (IsFull self.old call → ⊥) }
+        ensures holds { IfOk result (λ t. HoldsReplies t.step.handed self.new.slots seat.new.held) }
+        ensures held { IfOk result (λ t. AreHeld t.held.items seat.new.held) }
+        ensures lasts { IfOk result (λ t. All (λ l. l.home ≡ self.old.slots.keeper.home) t.lasts.ended) }
+        ensures refused { IfErr result (λ e. Refuses self.old call e self.new) }
+        ensures seat { seat.new.home ≡ seat.old.home }
+        ensures free { OnErr result (seat.new ≡ seat.old) }
+        ensures same { IsSameHolds self.old.slots self.new.slots }
+    {
+        let Shared {
+            alloc,
+            journal,
+            slots,
+        } = self;
+        if asks_request(&call) {
+            return ask(*alloc, journal, slots, call);
+        }
+        match tell(*alloc, journal, slots, seat, call) {
+            Ok(stepped) => Ok(stepped),
+            Err(OutOfMemory) => Err(StepRefusal::OutOfMemory),
+        }
+    }
+
+    /// Reports all replies in flight of the request that owns the slot, in order of number, and stores the reports; the slot is free then. The final
+    /// to the asker comes of the last of them, or none. It takes no memory.
+    pub fn settle(&mut self, last: Last) -> Option<Handed>
+        requires home { last.home ≡ self.old.slots.keeper.home }
+        ensures gone { HasMark Gone self.old.slots.keeper.marks last.slot }
+        ensures reports { Settles (owner_at self.old.slots.owners last.slot) self.old.stored result self.new.stored }
+        ensures slots { self.new.slots ≡ vacated self.old.slots last.slot }
+        ensures same { IsSameHolds self.old.slots self.new.slots }
+    {
+        let Shared {
+            alloc: _,
+            journal,
+            slots,
+        } = self;
+        slots.recall();
+        let number = slots.vacate(last)?;
+        report_all(journal, number)
+    }
+}
