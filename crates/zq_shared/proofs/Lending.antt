@@ -1,11 +1,11 @@
 -- Replies that are held, and slots that are let go.
-use Rattle.std.proofs.Common.{◌≡◌, ◌≢◌, ℕ, ◌+◌, ◌<◌, ◌≤◌, Bool, true, false, zero, suc, List, [], ◌∷◌, ◌++◌, length, set, Option, Some, None, refl, sym, ap, ◌∙◌, subst, arith, inl, inr, length-append, length-set}
+use Rattle.std.proofs.Common.{◌≡◌, ◌≢◌, ℕ, ◌+◌, ◌<◌, ◌≤◌, Bool, true, false, cond, zero, suc, List, [], ◌∷◌, ◌++◌, length, set, Option, Some, None, refl, sym, ap, ◌∙◌, subst, arith, inl, inr, length-append, length-set}
 use mathlib.Core.Logic.{dite}
 use native.Mathlib.Decide.{ℕ_discrete}
 use Rattle.std.specs.Prelude.{◌⊎◌, ◌||◌, ◌&&◌, ◌==◌, All}
 use Rattle.std.specs.List.{list_any}
-use Rattle.std.specs.Option.{option_map_or}
-use Rattle.std.proofs.lemmas.Bool.{and_parts, false≢true, or_cases, or_left, or_right}
+use Rattle.std.specs.Option.{IfSome, is_some, option_map_or}
+use Rattle.std.proofs.lemmas.Bool.{eq-eqb, false≢true, or_cases, or_left, or_right}
 use Rattle.std.proofs.lemmas.List.Elements.{All-push}
 use Rattle.std.proofs.lemmas.List.Folds.{list_any-append}
 use Rattle.zq_hold.specs.declared.slot.Mark.{Mark}
@@ -16,14 +16,30 @@ use Rattle.zq_hold.specs.Slots.{times}
 use Rattle.zq_slots.specs.Owners.{IsSlotted, MayOwn, Slotted, owned, owner_at}
 use Rattle.zq_machine.specs.declared.call.Call.{Call}
 use Rattle.zq_machine.specs.Handing.{Handed}
-use Rattle.zq_machine.specs.Waiting.{hands_reply}
+use Rattle.zq_query.specs.Records.{Pending, is_reply}
+use Rattle.zq_machine.specs.Waiting.{ends_entry, hands_reply, is_of}
 use Rattle.zq_ties.specs.Holding.{OwnsKept}
-use Rattle.zq_ties.specs.Stored.{Stored, answer_to, in_flight, waiting, with_call}
+use Rattle.zq_ties.specs.Stored.{Stored, answer_to, in_flight, is_flying, waiting, with_call}
 use Rattle.zq_ties.specs.Ties.{AreWaiting, IsNearlyTied, IsTied}
-use Rattle.zq_ties.proofs.Moves.{handed_waits}
+use Rattle.zq_ties.proofs.Moves.{handed_waits, waits_stays}
 use Rattle.zq_ties.proofs.Ties.{mark_is, other_mark, released_nearly}
 use Rattle.zq_shared.specs.Lending.{Lends, LetsGo}
 use Rattle.zq_shared.specs.Sharing.{HasReply, HoldsReplies}
+
+-- ---- replies
+-- a message with a number of its own is a reply of its request
+pub replied_some : (h : Handed) (o p : Option ℕ) → o ≡ h.reply → p ≡ h.number → is_some o ≡ true → IfSome p (λ n. (is_flying h ≡ true) × ((r : ℕ) × (hands_reply n r h ≡ true)))
+replied_some h o None reply number some = tt
+replied_some h None (Some n) reply number some = absurd (false≢true some)
+replied_some h (Some r) (Some n) reply number some =
+    let of : is_of n h ≡ true = ap (λ x. option_map_or (λ m. m == n) x false) (sym number) ∙ eq-eqb n n refl in
+    let is : option_map_or (is_reply r) h.reply false ≡ true = ap (λ x. option_map_or (is_reply r) x false) (sym reply) ∙ eq-eqb r r refl in
+    (ap is_some (sym reply), (r, (λ i. of i && is i)))
+
+-- one message more
+pub few_more : (b : Bool) (before after len len' : ℕ) → cond b (before + 1) before ≡ after → len' ≤ len + cond b 1 0 → len ≤ before → len' ≤ after
+few_more true before after len len' e more few = omega (arith, e, more, few)
+few_more false before after len len' e more few = omega (arith, e, more, few)
 
 -- ---- the slots of replies are held
 one_reply : (n r : ℕ) (h : Handed) → list_any (hands_reply n r) (h ∷ []) ≡ true → hands_reply n r h ≡ true
@@ -144,6 +160,15 @@ module _ (hs : List Handed) (m m' : Slotted) (seat seat' : Holder) (lends : Lend
       by : (k : ℕ) → (0 < times k m.keeper.lent) ⊎ HasReply hs m k → (n : ℕ) × (owner_at m.owners k ≡ Some n) × (r : ℕ) × (in_flight s n r ≡ true)
       by k (inl old) = t.lent k old
       by k (inr has) = (has.0, has.2, has.1, flown has.0 has.1 has.3)
+
+  -- requests that waited still do, where the call ends nothing
+  pub lends_waits : (s : Stored) (c : Call) → ((e : Pending) → ends_entry c e ≡ false) → AreWaiting s m → AreWaiting (with_call s c) m'
+  lends_waits s c none waits k n mark owner =
+      waits_stays s c none n (waits k n (subst (λ x. HasMark Kept x.keeper.marks k) lends.slots mark) (ap (λ (x : Slotted). owner_at x.owners k) (sym lends.slots) ∙ owner))
+
+  -- who owned a slot that the keeper holds still does
+  pub lends_owns : (n : ℕ) → OwnsKept n m → OwnsKept n m'
+  lends_owns n owns = subst (OwnsKept n) (sym lends.slots) (record { some = owns.some; kept = owns.kept })
 
 -- ---- the request of a reply that is handed owns a slot, which the keeper holds
 inside_owner : (owners : List (Option ℕ)) (k n : ℕ) → owner_at owners k ≡ Some n → k < length owners

@@ -1,4 +1,4 @@
-pub mod Asking
+pub mod Asked
 pub mod Lending
 pub mod Reporting
-pub mod Settling
+pub mod Settled

@@ -36,7 +36,7 @@ use Rattle.zq_shared.specs.Keeping.{KeepsTies}
 one_request : (k n m : ℕ) (rs : List Record) → count (is_reply k) (all_in_flight rs) ≤ 1 → flies n k rs ≡ true → flies m k rs ≡ true → n ≡ m
 one_request k n m [] few first second = absurd (false≢true first)
 one_request k n m (r ∷ rs) few first second =
-    by (or_cases ((r.number == n) && has_reply k r) (flies n k rs) first) (or_cases ((r.number == m) && has_reply k r) (flies m k rs) second)
+    by (or_cases ((r.number == n) && has_reply k r) (flies n k rs) first) (or_cases ((r.number == m) && has_reply k r) (flies m k rs) second) (one_request k n m rs (let sum = count_append (is_reply k) r.in_flight (all_in_flight rs) in omega (arith, few, sum)))
   where
     both : count (is_reply k) r.in_flight + count (is_reply k) (all_in_flight rs) ≤ 1
     both = let sum = count_append (is_reply k) r.in_flight (all_in_flight rs) in omega (arith, few, sum)
@@ -44,22 +44,22 @@ one_request k n m (r ∷ rs) few first second =
     behind : (i : ℕ) → flies i k rs ≡ true → 0 < count (is_reply k) (all_in_flight rs)
     behind i there = count_some (is_reply k) (all_in_flight rs) (sym (all_have k rs) ∙ flies_in i k rs there)
 
-    by : ((((r.number == n) && has_reply k r) ≡ true) ⊎ (flies n k rs ≡ true)) → ((((r.number == m) && has_reply k r) ≡ true) ⊎ (flies m k rs ≡ true)) → n ≡ m
-    by (inl here) (inl now) =
+    by : ((((r.number == n) && has_reply k r) ≡ true) ⊎ (flies n k rs ≡ true)) → ((((r.number == m) && has_reply k r) ≡ true) ⊎ (flies m k rs ≡ true)) → (flies n k rs ≡ true → flies m k rs ≡ true → n ≡ m) → n ≡ m
+    by (inl here) (inl now) ih =
         let a = eqb-true r.number n (and_parts (r.number == n) (has_reply k r) here).0 in
         let b = eqb-true r.number m (and_parts (r.number == m) (has_reply k r) now).0 in
         sym a ∙ b
-    by (inl here) (inr there) =
+    by (inl here) (inr there) ih =
         let some = count_some (is_reply k) r.in_flight (and_parts (r.number == n) (has_reply k r) here).1 in
         let more = behind m there in
         let sum = both in
         absurd (omega (arith, some, more, sum))
-    by (inr there) (inl here) =
+    by (inr there) (inl here) ih =
         let some = count_some (is_reply k) r.in_flight (and_parts (r.number == m) (has_reply k r) here).1 in
         let more = behind n there in
         let sum = both in
         absurd (omega (arith, some, more, sum))
-    by (inr there) (inr now) = one_request k n m rs (let sum = both in omega (arith, sum)) there now
+    by (inr there) (inr now) ih = ih there now
 
 module _ (s : Stored) (k : ℕ) where
   abbrev here : State
@@ -112,20 +112,23 @@ module _ (s : Stored) (k : ℕ) where
     module _ (n : ℕ) (flown : in_flight s n k ≡ true) where
       other_stays : (m j : ℕ) → m ≢ n → in_flight s m j ≡ true → in_flight (with_call s report) m j ≡ true
       other_stays m j other flies_on =
-          landed m j ∙ (λ i. flies_on i && not (ne_eqb k j apart i))
+          landed m j ∙ (λ i. flies_on i && not (ne_eqb j k apart i))
         where
-          apart : k ≢ j
-          apart e = other (one_request j m n here.core.queries.records (once s.config s.calls j) (sym (flying_is s m j) ∙ flies_on) (sym (flying_is s n j) ∙ (ap (in_flight s n) (sym e) ∙ flown)))
+          apart : j ≢ k
+          apart e = other (one_request j m n here.core.queries.records (once s.config s.calls j) (sym (flying_is s m j) ∙ flies_on) (sym (flying_is s n j) ∙ (ap (in_flight s n) e ∙ flown)))
 
       pub report_keeps : KeepsTies s n (with_call s report)
-      report_keeps m t waits unowned = (record {
-        kept = t.kept;
-        gone = λ i o mark owner. zero_if (waiting (with_call s report) o) (λ some. (let old = waits_still s report refl o some in let was = t.gone i o mark owner in absurd (omega (arith, old, was))));
-        asked = λ i o owner. (let grows = next_grows s report in let was = t.asked i o owner in omega (arith, grows, was));
-        opened = λ o stands. opened o (open_before s report o stands);
-        lent = λ i some. lent i (t.lent i some);
-        used = (let more = requests_more s.calls report in let was = t.used in omega (arith, more, was));
-      }, λ i o mark owner. waits_stays s report (λ e. refl) o (waits i o mark owner))
+      report_keeps m t waits unowned = (
+        record {
+          kept = t.kept;
+          gone = λ i o mark owner. zero_if (waiting (with_call s report) o) (λ some. (let old = waits_still s report refl o some in let was = t.gone i o mark owner in absurd (omega (arith, old, was))));
+          asked = λ i o owner. (let grows = next_grows s report in let was = t.asked i o owner in omega (arith, grows, was));
+          opened = λ o stands. opened o (open_before s report o stands);
+          lent = λ i some. lent i (t.lent i some);
+          used = (let more = requests_more s.calls report in let was = t.used in omega (arith, more, was));
+        },
+        λ i o mark owner. waits_stays s report (λ e. refl) o (waits i o mark owner),
+      )
         where
           opened : (o : ℕ) → IsOpen s o ⊎ ((asks_request report ≡ true) × ((answer_to s report).outcome ≡ outcome.Asked o) × (0 < waiting (with_call s report) o)) → 0 < owned o m.owners + stood o (Some n)
           opened o (inl old) = t.opened o old

@@ -1,10 +1,10 @@
 //! A request gets its slot.
-ghost use Rattle.std.specs.Prelude.{◌≡◌, ◌<◌, ◌≤◌, [], true, None, Some, IfErr, IfNone, IfOk, IfSome, OnErr, OnOk};
+ghost use Rattle.std.specs.Prelude.{◌≡◌, ℕ, ◌<◌, ◌≤◌, [], true, None, Some, IfErr, IfNone, IfOk, IfSome, OnErr, OnOk};
 ghost use Rattle.zq_hold.specs.declared.slot.Mark.TheVariants.{Kept, Spare};
 ghost use Rattle.zq_hold.specs.Marks.{HasMark};
 ghost use Rattle.zq_hold.specs.Slots.{times};
 ghost use Rattle.zq_slots.specs.Owners.{owned, owner_at, with_mark, with_owner};
-ghost use Rattle.zq_machine.specs.declared.call.Outcome.TheVariants as outcome;
+ghost use Rattle.zq_machine.specs.declared.call.Outcome.TheVariants.{Asked};
 ghost use Rattle.zq_ties.specs.Stored.{answer_to, asks_request, waiting, with_call};
 ghost use Rattle.zq_ties.specs.Ties.{IsTied};
 ghost use Rattle.zq_shared.specs.Sharing.{IsFull, IsSameHolds, Refuses};
@@ -18,8 +18,8 @@ use zq_ties::LastList;
 
 /// The number of the request that waits for something, if the outcome asks one.
 fn number_of(journal: &Journal, outcome: Outcome) -> Option<u64>
-    ensures some { IfSome result (λ n. (outcome ≡ outcome.Asked n) × (0 < waiting journal.now n)) }
-    ensures none { IfNone result ((n : ℕ) → outcome ≡ outcome.Asked n → waiting journal.now n ≡ 0) }
+    ensures some { IfSome result (λ n. (outcome ≡ Asked n) × (0 < waiting journal.now n)) }
+    ensures none { IfNone result ((n : ℕ) → outcome ≡ Asked n → waiting journal.now n ≡ 0) }
 {
     let Outcome::Asked(number) = outcome else {
         return None;

@@ -36,10 +36,14 @@ use Rattle.zq_shared.proofs.Reporting.{landed, report_keeps}
 same_stored : (s : Stored) → s ≡ with_reports s []
 same_stored s = ap (λ (l : List Call). record s { calls = l }) (sym (append-nil s.calls))
 
+sorted_nil : IsStrictlySortedBy nat_cmp []
+unfolding IsStrictlySortedBy
+sorted_nil = tt
+
 pub reported_none : (s : Stored) (n : ℕ) → Reported s n None s []
 reported_none s n = record {
   all = λ k. refl;
-  rising = tt;
+  rising = sorted_nil;
   behind = λ j k none. absurd (false≢true none);
   stored = same_stored s;
   ends = inl (refl, refl);
@@ -65,7 +69,7 @@ module _ (s : Stored) (n : ℕ) (answer : Option Handed) (now : Stored) (ks : Li
 
   pub reported_more : Reported s n next new (ks ++ k ∷ [])
   reported_more = record {
-    all = λ j. done_so_far.all j ∙ (all j (k == j) refl ∙ (λ i. sym (list_any-append (is_reply j) ks (k ∷ [])) i || sym (after_report j) i));
+    all = λ j. done_so_far.all j ∙ (all j (j == k) refl ∙ (λ i. sym (list_any-append (is_reply j) ks (k ∷ [])) i || sym (after_report j) i));
     rising = sorted_more k ks done_so_far.rising (below_all (λ j. j < k) ks (λ j there. done_so_far.behind j k there flown));
     behind = λ i j there flies_on. behind i j (or_cases (list_any (is_reply i) ks) (list_any (is_reply i) (k ∷ [])) (sym (list_any-append (is_reply i) ks (k ∷ [])) ∙ there)) (and_parts (in_flight now n j) (not (is_reply k j)) (sym (after_report j) ∙ flies_on));
     stored = is ∙ (ap (λ x. with_call x (call.Sent k)) done_so_far.stored ∙ with_one s ks k);
@@ -74,21 +78,25 @@ module _ (s : Stored) (n : ℕ) (answer : Option Handed) (now : Stored) (ks : Li
     quiet = λ none. zero_if (waiting new n) (λ some. (let old = waits_still now (call.Sent k) refl n (subst (λ x. 0 < waiting x n) is some) in let was = done_so_far.quiet none in absurd (omega (arith, old, was))));
   }
     where
-      all : (j : ℕ) (b : Bool) → (k == j) ≡ b → (list_any (is_reply j) ks || in_flight now n j) ≡ ((list_any (is_reply j) ks || ((k == j) || false)) || (in_flight now n j && not (k == j)))
+      all : (j : ℕ) (b : Bool) → (j == k) ≡ b → (list_any (is_reply j) ks || in_flight now n j) ≡ ((list_any (is_reply j) ks || ((k == j) || false)) || (in_flight now n j && not (j == k)))
       all j true e =
-          let here : in_flight now n j ≡ true = ap (in_flight now n) (sym (eqb-true k j e)) ∙ flown in
+          let same = eqb-true j k e in
+          let here : in_flight now n j ≡ true = ap (in_flight now n) same ∙ flown in
           or_right (list_any (is_reply j) ks) (in_flight now n j) here
-          ∙ sym (or_left (list_any (is_reply j) ks || ((k == j) || false)) (in_flight now n j && not (k == j)) (or_right (list_any (is_reply j) ks) ((k == j) || false) (or_left (k == j) false e)))
+          ∙ sym (or_left (list_any (is_reply j) ks || ((k == j) || false)) (in_flight now n j && not (j == k)) (or_right (list_any (is_reply j) ks) ((k == j) || false) (or_left (k == j) false (eq-eqb k j (sym same)))))
       all j false e =
           (λ i. sym (or-false (list_any (is_reply j) ks)) i || sym (and_one (in_flight now n j)) i)
-          ∙ (λ i. (list_any (is_reply j) ks || (sym e i || false)) || (in_flight now n j && not (sym e i)))
+          ∙ (λ i. (list_any (is_reply j) ks || (sym turned i || false)) || (in_flight now n j && not (sym e i)))
         where
+          turned : (k == j) ≡ false
+          turned = ne_eqb k j (λ same. false≢true (sym e ∙ eq-eqb j k (sym same)))
+
           and_one : (b : Bool) → (b && true) ≡ b
           and_one true = refl
           and_one false = refl
 
-      apart : (j : ℕ) → not (k == j) ≡ true → k ≢ j
-      apart j h e = false≢true (sym (ap not (eq-eqb k j e)) ∙ h)
+      apart : (j : ℕ) → not (j == k) ≡ true → k ≢ j
+      apart j h e = false≢true (sym (ap not (eq-eqb j k (sym e))) ∙ h)
 
       behind : (i j : ℕ) → ((list_any (is_reply i) ks ≡ true) ⊎ (list_any (is_reply i) (k ∷ []) ≡ true)) → (in_flight now n j ≡ true) × (not (is_reply k j) ≡ true) → i < j
       behind i j (inl there) flies_on = done_so_far.behind i j there flies_on.0

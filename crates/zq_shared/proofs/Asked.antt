@@ -1,8 +1,9 @@
 -- A request and its slot.
-use Rattle.std.proofs.Common.{◌≡◌, ◌≢◌, ℕ, ◌+◌, ◌<◌, ◌≤◌, Bool, true, false, cond, List, [], ◌∷◌, length, Option, Some, None, refl, sym, ap, ◌∙◌, subst, arith, inl, inr}
+use Rattle.std.proofs.Common.{◌≡◌, ◌≢◌, ℕ, ◌+◌, ◌<◌, ◌≤◌, Bool, true, false, cond, zero, suc, List, [], ◌∷◌, length, Option, Some, None, refl, sym, ap, ◌∙◌, subst, arith, inl, inr}
 use Rattle.std.specs.Prelude.{◌⊎◌, IfNone, IfSome}
 use Rattle.std.specs.List.{filter, list_any}
 use Rattle.std.proofs.lemmas.Bool.{false≢true}
+use Rattle.std.proofs.lemmas.List.{set-set}
 use Rattle.zq_hold.specs.declared.slot.Mark.{Mark}
 use Rattle.zq_hold.specs.declared.slot.Mark.TheVariants.{Spare, Kept, Gone, Vacant}
 use Rattle.zq_hold.specs.Marks.{AllAllotted, HasMark, IsNext, mark_at}
@@ -37,7 +38,7 @@ none_open config n (inr flown) = false≢true (sym (flying_is (record { config =
 -- slots that are all allotted are all used
 pub all_used : (marks : List Mark) → AllAllotted marks → length (filter is_used marks) ≡ length marks
 all_used [] all = refl
-all_used (m ∷ ms) all = by m (all.0 0 (omega arith)) (all_used ms ((λ j inside is. all.0 (j + 1) (omega (arith, inside)) is), (λ j inside is. all.1 (j + 1) (omega (arith, inside)) is)))
+all_used (m ∷ ms) all = by m (all.0 zero (omega arith)) (all_used ms ((λ j inside is. all.0 (suc j) (omega (arith, inside)) is), (λ j inside is. all.1 (suc j) (omega (arith, inside)) is)))
   where
     by : (w : Mark) → (w ≡ Spare → ⊥) → length (filter is_used ms) ≡ length ms → length (cond (is_used w) (w ∷ filter is_used ms) (filter is_used ms)) ≡ length (w ∷ ms)
     by Spare none ih = absurd (none refl)
@@ -91,3 +92,16 @@ module _ (s : Stored) (c : Call) (m : Slotted) (tied : IsTied s m) (asks : asks_
         subst (IsTied (with_call s c)) (sym back) (back_tied (with_call s c) m (quiet_tied s c m tied asks none) k (next_inside m.keeper.marks k next))
     asked_tied (Some n) m' some none given back =
         subst (IsTied (with_call s c)) (sym given) (given_tied s c m tied asks k n (next_inside m.keeper.marks k next) slotted.wide free unlent some.0 some.1)
+
+    -- the same of what the calls made of the slots and of the stored calls
+    pub asked_after : (m1 m' : Slotted) (s1 : Stored) (t : Step) (owner : Option ℕ) → m1 ≡ with_mark m k Kept → s1 ≡ with_call s c → t ≡ answer_to s c
+        → IfSome owner (λ n. (t.outcome ≡ outcome.Asked n) × (0 < waiting s1 n)) → IfNone owner ((n : ℕ) → t.outcome ≡ outcome.Asked n → waiting s1 n ≡ 0)
+        → IfSome owner (λ n. m' ≡ with_owner m1 k (Some n)) → IfNone owner (m' ≡ with_mark m1 k Spare) → IsTied s1 m'
+    asked_after m1 m' s1 t None marked stored answered some none given back =
+        subst (λ x. IsTied x m') (sym stored) (asked_tied None m' tt (λ n is. (ap (λ (x : Stored). waiting x n) (sym stored) ∙ none n (ap (λ (x : Step). x.outcome) answered ∙ is))) tt (back ∙ ap (λ (x : Slotted). with_mark x k Spare) marked))
+    asked_after m1 m' s1 t (Some n) marked stored answered some none given back =
+        subst (λ x. IsTied x m') (sym stored) (asked_tied (Some n) m' (ap (λ (x : Step). x.outcome) (sym answered) ∙ some.0, subst (λ x. 0 < waiting x n) stored some.1) tt (given ∙ ap (λ (x : Slotted). with_owner x k (Some n)) marked) tt)
+
+-- a slot that was allotted in vain may be spare
+pub back_is : (m : Slotted) (k : ℕ) → with_mark (with_mark m k Kept) k Spare ≡ with_mark m k Spare
+back_is m k = ap (λ (l : List Mark). record m { keeper = record m.keeper { marks = l } }) (set-set m.keeper.marks k Kept Spare)
