@@ -2,3 +2,4 @@ pub mod Asked
 pub mod Lending
 pub mod Reporting
 pub mod Settled
+pub mod Storing

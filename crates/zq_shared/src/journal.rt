@@ -165,11 +165,9 @@ impl Journal {
         ensures stored { OnOk result (self.new ≡ with_call self.old call) }
         ensures same { OnErr result (self.new ≡ self.old) }
     {
-        let made = make(&mut self.gateway, &mut self.calls, &mut self.flying, &call);
-        if made.is_ok() {
-            self.calls.push_reserved(call);
-        }
-        made
+        let step = make(&mut self.gateway, &mut self.calls, &mut self.flying, &call)?;
+        self.calls.push_reserved(call);
+        Ok(step)
     }
 
     /// Reports that a reply was sent, and stores the report; the final to the asker comes of it, or none. It takes no memory.

@@ -29,9 +29,10 @@ pub returns-in_default-clause-refused : goal.returns-in_default-clause-refused
 returns-in_default-clause-refused c =
     let next = c.in-Ok.ensures.ok in
     let back = c.put_back.ensures ∙ (ap (λ (m : Slotted). with_mark m c.in-Ok.slot.0 Spare) next.1 ∙ back_is c.args.slots.now c.in-Ok.slot.0) in
-    let same = c.in_default.ensures.same in
-    (λ full. next_free c.args.slots.now.keeper.marks c.in-Ok.slot.0 next.0 full.1,
-    inr (c.in-Ok.slot.0, next.0, (λ i. record { stored = same i; slots = back i })))
+    let same = c.in_default.ensures.same in (
+      λ full. next_free c.args.slots.now.keeper.marks c.in-Ok.slot.0 next.0 full.1,
+      inr (c.in-Ok.slot.0, next.0, (λ i. record { stored = same i; slots = back i })),
+    )
 
 pub give_to-requires-clause-new : goal.give_to-requires-clause-new
 give_to-requires-clause-new c =

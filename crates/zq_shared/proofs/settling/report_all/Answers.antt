@@ -15,6 +15,8 @@ replies-smaller c =
 
 pub replies-preserved : goal.replies-preserved
 replies-preserved c =
-    let so_far = c.replies.invariant in
-    (so_far.0 ++ c.in-Some.reply ∷ [], reported_more c.args.journal.now c.args.number c.replies.last c.replies.journal so_far.0 so_far.1
-    c.in-Some.reply c.in-Some.ensures.there c.in-Some.ensures.least c.in-Ok.handed c.in-Ok.ensures.answer c.sent.new.self c.in-Ok.ensures.stored)
+    let so_far = c.replies.invariant in (
+      so_far.0 ++ c.in-Some.reply ∷ [],
+      reported_more c.args.journal.now c.args.number c.replies.last c.replies.journal so_far.0 so_far.1
+          c.in-Some.reply c.in-Some.ensures.there c.in-Some.ensures.least c.in-Ok.handed c.in-Ok.ensures.answer c.sent.new.self c.in-Ok.ensures.stored,
+    )

@@ -24,10 +24,10 @@ messages-preserved c =
     let more = take_more hs i h c.messages-test.true ∙ ap (λ (x : Handed). take i hs ++ x ∷ []) (sym c.message-item.is) in
     record {
       lends = subst (λ (l : List Handed). Lends l c.args.slots.now c.hold_one.new.slots c.args.seat.now c.hold_one.new.seat) (sym more)
-      (lends_more (take i hs) h c.args.slots.now c.messages.slots c.hold_one.new.slots c.args.seat.now c.messages.seat c.hold_one.new.seat c.messages.invariant.lends c.hold_one.ensures.lends);
+          (lends_more (take i hs) h c.args.slots.now c.messages.slots c.hold_one.new.slots c.args.seat.now c.messages.seat c.hold_one.new.seat c.messages.invariant.lends c.hold_one.ensures.lends);
       same = c.hold_one.ensures.same;
       few = few_more (is_flying h) (count_by is_flying (take i hs)) (count_by is_flying (take (i + 1) hs)) (vec_len c.messages.held) (vec_len c.hold_one.new.held)
-      (ap (λ (x : Handed). cond (is_flying x) (count_by is_flying (take i hs) + 1) (count_by is_flying (take i hs))) c.message-item.is ∙ counted_more hs i h c.messages-test.true)
-      c.hold_one.ensures.few c.messages.invariant.few;
+          (ap (λ (x : Handed). cond (is_flying x) (count_by is_flying (take i hs) + 1) (count_by is_flying (take i hs))) c.message-item.is ∙ counted_more hs i h c.messages-test.true)
+          c.hold_one.ensures.few c.messages.invariant.few;
       room = c.hold_one.ensures.room ∙ c.messages.invariant.room;
     }

@@ -6,8 +6,9 @@ use Rattle.zq_machine.specs.declared.call.Step.{Step}
 use Rattle.zq_machine.specs.Deciding.{is_accepted}
 use Rattle.zq_machine.specs.Machine.{step}
 use Rattle.zq_machine.specs.State.{State}
-use Rattle.zq_ties.specs.Stored.{IsStored, Stored, answer_to}
+use Rattle.zq_ties.specs.Stored.{IsStored, Stored, answer_to, in_flight}
 use Rattle.zq_ties.proofs.Journals.{answer_is, flying_some, stored_less, stored_same}
+use Rattle.zq_shared.proofs.Reporting.{refused_unflown}
 use Rattle.zq_shared.proofs.journal.Journal.sent.Goals as goal
 
 pub overflow_sub-self : goal.overflow_sub-self
@@ -43,3 +44,9 @@ returns-in-Ok-clause-answer c =
     ap (λ (s : Stored). answer_to s (call.Sent c.args.reply)) (sym c.self.view_is)
     ∙ (answer_is (record { config = c.self.inside.config; calls = c.self.inside.calls.items }) (call.Sent c.args.reply)
     ∙ (ap (λ (s : State). step s (call.Sent c.args.reply)) (sym c.self.invariant.stands) ∙ c.in-Ok.ensures.handed))
+
+pub returns-in-Err-clause-refused : goal.returns-in-Err-clause-refused
+returns-in-Err-clause-refused c = (λ n.
+    (let inside : Stored = record { config = c.self.inside.config; calls = c.self.inside.calls.items } in
+    let refused = answer_is inside (call.Sent c.args.reply) ∙ (ap (λ (s : State). step s (call.Sent c.args.reply)) (sym c.self.invariant.stands) ∙ c.in-Err.ensures.refused) in
+    sym (ap (λ (s : Stored). in_flight s n c.args.reply) c.self.view_is) ∙ refused_unflown inside c.args.reply _ refused n))
