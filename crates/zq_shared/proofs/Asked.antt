@@ -1,19 +1,18 @@
 -- A request and its slot.
-use Rattle.std.proofs.Common.{◌≡◌, ◌≢◌, ℕ, ◌+◌, ◌<◌, ◌≤◌, Bool, true, false, cond, zero, suc, List, [], ◌∷◌, length, Option, Some, None, refl, sym, ap, ◌∙◌, subst, arith, inl, inr}
-use Rattle.std.specs.Prelude.{◌⊎◌, IfNone, IfSome}
+use Rattle.std.proofs.Common.{◌≡◌, ℕ, ◌<◌, Bool, true, false, cond, zero, suc, List, [], ◌∷◌, length, Option, Some, None, refl, sym, ap, ◌∙◌, subst, arith, inl, inr}
+use Rattle.std.specs.Prelude.{IfNone, IfSome}
 use Rattle.std.specs.List.{filter, list_any}
 use Rattle.std.proofs.lemmas.Bool.{false≢true}
 use Rattle.std.proofs.lemmas.List.{set-set}
 use Rattle.zq_hold.specs.declared.slot.Mark.{Mark}
 use Rattle.zq_hold.specs.declared.slot.Mark.TheVariants.{Spare, Kept, Gone, Vacant}
-use Rattle.zq_hold.specs.Marks.{AllAllotted, HasMark, IsNext, mark_at}
+use Rattle.zq_hold.specs.Marks.{AllAllotted, IsNext}
 use Rattle.zq_hold.specs.Slots.{times}
 use Rattle.zq_slots.specs.Owners.{IsSlotted, Slotted, owned, owner_at, with_mark, with_owner}
 use Rattle.zq_slots.proofs.Owning.{unowned}
 use Rattle.zq_query.specs.Records.{is_reply}
 use Rattle.zq_machine.specs.declared.call.Call.{Call}
 use Rattle.zq_machine.specs.declared.call.Call.TheVariants as call
-use Rattle.zq_machine.specs.declared.call.Outcome.{Outcome}
 use Rattle.zq_machine.specs.declared.call.Outcome.TheVariants as outcome
 use Rattle.zq_machine.specs.declared.call.Step.{Step}
 use Rattle.zq_machine.specs.Configs.{Settings}
@@ -21,13 +20,13 @@ use Rattle.zq_machine.specs.Machine.{state_after, step}
 use Rattle.zq_machine.specs.State.{opening_state}
 use Rattle.zq_machine.specs.Waiting.{hands_reply}
 use Rattle.zq_ties.specs.Stored.{IsOpen, Stored, answer_to, asks_request, waiting, with_call}
-use Rattle.zq_ties.specs.Ties.{IsTied, Sharing, is_used}
+use Rattle.zq_ties.specs.Ties.{IsTied, is_used}
 use Rattle.zq_ties.proofs.Flights.{handed_in, promises, quiet}
 use Rattle.zq_ties.proofs.Frames.{request_of}
 use Rattle.zq_ties.proofs.Journals.{answer_is}
 use Rattle.zq_ties.proofs.Moves.{flying_is, next_given, waiting_is}
 use Rattle.zq_ties.proofs.Ties.{back_tied, given_tied, quiet_tied}
-use Rattle.zq_shared.specs.Sharing.{HasReply, HoldsReplies, IsFull, IsSameHolds, MaySpare}
+use Rattle.zq_shared.specs.Sharing.{HoldsReplies}
 
 -- ---- before any call
 pub none_open : (config : Settings) (n : ℕ) → IsOpen (record { config = config; calls = [] }) n → ⊥

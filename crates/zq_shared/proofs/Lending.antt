@@ -2,7 +2,7 @@
 use Rattle.std.proofs.Common.{◌≡◌, ◌≢◌, ℕ, ◌+◌, ◌<◌, ◌≤◌, Bool, true, false, cond, zero, suc, List, [], ◌∷◌, ◌++◌, length, set, Option, Some, None, refl, sym, ap, ◌∙◌, subst, arith, inl, inr, length-append, length-set}
 use mathlib.Core.Logic.{dite}
 use native.Mathlib.Decide.{ℕ_discrete}
-use Rattle.std.specs.Prelude.{◌⊎◌, ◌||◌, ◌&&◌, ◌==◌, All}
+use Rattle.std.specs.Prelude.{◌⊎◌, ◌&&◌, ◌==◌, All}
 use Rattle.std.specs.List.{list_any}
 use Rattle.std.specs.Option.{IfSome, is_some, option_map_or}
 use Rattle.std.proofs.lemmas.Bool.{eq-eqb, false≢true, or_cases, or_left, or_right}
@@ -13,7 +13,7 @@ use Rattle.zq_hold.specs.declared.slot.Mark.TheVariants.{Spare, Kept, Gone, Vaca
 use Rattle.zq_hold.specs.Marks.{HasMark, mark_at}
 use Rattle.zq_hold.specs.Seats.{Ended, Holder}
 use Rattle.zq_hold.specs.Slots.{times}
-use Rattle.zq_slots.specs.Owners.{IsSlotted, MayOwn, Slotted, owned, owner_at}
+use Rattle.zq_slots.specs.Owners.{IsSlotted, MayOwn, Slotted, owner_at}
 use Rattle.zq_machine.specs.declared.call.Call.{Call}
 use Rattle.zq_machine.specs.Handing.{Handed}
 use Rattle.zq_query.specs.Records.{Pending, is_reply}

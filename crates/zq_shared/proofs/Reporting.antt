@@ -1,12 +1,11 @@
 -- What one report makes of what requests wait for.
-use Rattle.std.proofs.Common.{◌≡◌, ◌≢◌, ℕ, ◌+◌, ◌<◌, ◌≤◌, Bool, true, false, cond, not, List, [], ◌∷◌, ◌++◌, length, Option, Some, None, refl, sym, ap, ◌∙◌, subst, arith, inl, inr, length-append, eqb-true, ne_eqb}
+use Rattle.std.proofs.Common.{◌≡◌, ◌≢◌, ℕ, ◌+◌, ◌<◌, ◌≤◌, Bool, true, false, cond, not, List, [], ◌∷◌, length, Some, None, refl, sym, ap, ◌∙◌, arith, inl, inr, eqb-true, ne_eqb}
 use Rattle.std.specs.Prelude.{◌⊎◌, ◌||◌, ◌&&◌, ◌==◌}
-use Rattle.std.specs.List.{list_any}
 use Rattle.std.proofs.Math.Bool.{or-false}
-use Rattle.std.proofs.lemmas.Bool.{and_parts, eq-eqb, false≢true, or_cases}
-use Rattle.zq_query.specs.Records.{Record, flies, has_reply, is_in_flight, is_reply, pending_count}
+use Rattle.std.proofs.lemmas.Bool.{and_parts, false≢true, or_cases}
+use Rattle.zq_query.specs.Records.{Record, flies, has_reply, is_in_flight, is_reply}
 use Rattle.zq_hold.specs.Slots.{stood}
-use Rattle.zq_slots.specs.Owners.{Slotted, owned, owner_at}
+use Rattle.zq_slots.specs.Owners.{owned}
 use Rattle.zq_machine.specs.declared.call.Call.{Call}
 use Rattle.zq_machine.specs.declared.call.Call.TheVariants as call
 use Rattle.zq_machine.specs.declared.call.Outcome.TheVariants as outcome
@@ -17,13 +16,12 @@ use Rattle.zq_machine.specs.Agreeing.{all_in_flight}
 use Rattle.zq_machine.specs.Deciding.{is_accepted}
 use Rattle.zq_machine.specs.Handing.{Handed}
 use Rattle.zq_machine.specs.Headline.{RefusesBy}
-use Rattle.zq_machine.specs.Machine.{after, done, refused_step, state_after, step}
+use Rattle.zq_machine.specs.Machine.{done, refused_step, state_after, step}
 use Rattle.zq_machine.specs.State.{State, opening_state}
-use Rattle.zq_machine.specs.Waiting.{hands_reply}
 use Rattle.zq_machine.proofs.Children.{after_both}
 use Rattle.zq_machine.proofs.Lists.{count, count_append}
 use Rattle.zq_ties.specs.Stored.{IsOpen, Stored, answer_to, asks_request, flights, in_flight, standing, waiting, with_call}
-use Rattle.zq_ties.specs.Ties.{AreWaiting, IsNearlyTied, IsSending, IsTied}
+use Rattle.zq_ties.specs.Ties.{IsSending}
 use Rattle.zq_ties.proofs.Distinct.{count_some}
 use Rattle.zq_ties.proofs.Flights.{all_have, flies_in, flights_less, none_handed, once, promises}
 use Rattle.zq_ties.proofs.Holding.{has_owner}

@@ -1,9 +1,9 @@
 -- The reports of all replies of a request, and the slot that is free then.
-use Rattle.std.proofs.Common.{◌≡◌, ◌≢◌, ℕ, ◌+◌, ◌<◌, ◌≤◌, Bool, true, false, cond, not, List, [], ◌∷◌, ◌++◌, map, length, set, Option, Some, None, refl, sym, ap, ◌∙◌, subst, arith, inl, inr, append-nil, append_assoc, eqb-true, ne_eqb, eq-eqb, length-set, get_or-set_same, get_or-set_other}
+use Rattle.std.proofs.Common.{◌≡◌, ◌≢◌, ℕ, ◌+◌, ◌<◌, Bool, true, false, cond, not, List, [], ◌∷◌, ◌++◌, map, length, set, Option, Some, None, refl, sym, ap, ◌∙◌, subst, arith, inl, inr, append-nil, append_assoc, eqb-true, ne_eqb, eq-eqb, get_or-set_same, get_or-set_other}
 use mathlib.Core.Logic.{dite}
 use native.Mathlib.Decide.{ℕ_discrete}
 use Rattle.std.specs.Prelude.{◌⊎◌, ◌||◌, ◌&&◌, ◌==◌}
-use Rattle.std.specs.List.{AllByRecursion, cons_option, filter, list_any}
+use Rattle.std.specs.List.{AllByRecursion, cons_option, list_any}
 use Rattle.std.specs.List.Sorted.{IsStrictlySortedBy}
 use Rattle.std.specs.Ordering.{nat_cmp}
 use Rattle.std.proofs.Math.Bool.{or-false}
@@ -11,7 +11,7 @@ use Rattle.std.proofs.lemmas.Bool.{and_parts, false≢true, or_cases, or_left, o
 use Rattle.std.proofs.lemmas.List.{map-append}
 use Rattle.std.proofs.lemmas.List.Folds.{list_any-append}
 use Rattle.zq_hold.specs.declared.slot.Mark.{Mark}
-use Rattle.zq_hold.specs.declared.slot.Mark.TheVariants.{Spare, Kept, Gone, Vacant}
+use Rattle.zq_hold.specs.declared.slot.Mark.TheVariants.{Kept, Gone, Vacant}
 use Rattle.zq_hold.specs.Marks.{HasMark, mark_at}
 use Rattle.zq_hold.specs.Slots.{stood, times, weight, without}
 use Rattle.zq_hold.proofs.Totals.{times_without_other, times_without_same}
@@ -22,14 +22,13 @@ use Rattle.zq_machine.specs.declared.call.Call.{Call}
 use Rattle.zq_machine.specs.declared.call.Call.TheVariants as call
 use Rattle.zq_machine.specs.Handing.{Handed}
 use Rattle.zq_machine.specs.Machine.{done}
-use Rattle.zq_machine.proofs.Lists.{count, sorted_more}
+use Rattle.zq_machine.proofs.Lists.{sorted_more}
 use Rattle.zq_ties.specs.Stored.{IsOpen, Stored, answer_to, in_flight, waiting, with_call}
-use Rattle.zq_ties.specs.Ties.{AreWaiting, IsNearlyTied, IsSending, IsTied, is_used}
-use Rattle.zq_ties.proofs.Holding.{one_owner}
+use Rattle.zq_ties.specs.Ties.{AreWaiting, IsNearlyTied, IsTied, is_used}
 use Rattle.zq_ties.proofs.Moves.{waits_still}
 use Rattle.zq_ties.proofs.Ties.{counted_set, mark_is, other_mark, zero_if}
 use Rattle.zq_shared.specs.Keeping.{KeepsTies, Reported}
-use Rattle.zq_shared.specs.Sharing.{EndsIn, Reports, vacated, with_reports}
+use Rattle.zq_shared.specs.Sharing.{Reports, vacated, with_reports}
 use Rattle.zq_shared.proofs.Reporting.{landed, report_keeps}
 
 -- ---- one report after another

@@ -1,5 +1,5 @@
 //! A request gets its slot.
-ghost use Rattle.std.specs.Prelude.{◌≡◌, ℕ, ◌<◌, ◌≤◌, [], true, None, Some, IfErr, IfNone, IfOk, IfSome, OnErr, OnOk};
+ghost use Rattle.std.specs.Prelude.{◌≡◌, ℕ, ◌<◌, [], true, None, Some, IfErr, IfNone, IfOk, IfSome, OnOk};
 ghost use Rattle.zq_hold.specs.declared.slot.Mark.TheVariants.{Kept, Spare};
 ghost use Rattle.zq_hold.specs.Marks.{HasMark};
 ghost use Rattle.zq_hold.specs.Slots.{times};
@@ -13,7 +13,7 @@ use crate::journal::Journal;
 use crate::shared::{StepRefusal, Stepped};
 use std::alloc::Global;
 use zq_machine::call::{Call, Outcome};
-use zq_slots::{NoSlot, Slot, Slots};
+use zq_slots::{Slot, Slots};
 use zq_ties::LastList;
 
 /// The number of the request that waits for something, if the outcome asks one.

@@ -1,6 +1,6 @@
-use Rattle.std.proofs.Common.{◌≡◌, ◌∙◌, ℕ, ◌<◌, true, Some, None, ap, sym, subst, arith, inr}
+use Rattle.std.proofs.Common.{◌∙◌, ap, sym, subst, arith, inr}
 use Rattle.std.proofs.lemmas.Option.{IfSome_then}
-use Rattle.zq_hold.specs.declared.slot.Mark.TheVariants.{Kept, Spare}
+use Rattle.zq_hold.specs.declared.slot.Mark.TheVariants.{Spare}
 use Rattle.zq_hold.specs.Slots.{times}
 use Rattle.zq_slots.specs.Owners.{Slotted, owned, owner_at, with_mark}
 use Rattle.zq_machine.specs.declared.call.Step.{Step}

@@ -1,9 +1,8 @@
-use Rattle.std.proofs.Common.{◌≡◌, ℕ, ◌+◌, List, length, ◌∙◌, ap, subst, sym, Fits, w64, arith}
+use Rattle.std.proofs.Common.{ℕ, ◌+◌, List, length, ◌∙◌, ap, arith}
 use Rattle.std.specs.List.{count_by}
 use Rattle.zq_machine.specs.declared.call.Step.{Step}
 use Rattle.zq_machine.specs.Asked.{replies_of}
 use Rattle.zq_machine.specs.Handing.{Handed}
-use Rattle.zq_machine.specs.Machine.{step}
 use Rattle.zq_ties.specs.Stored.{is_flying}
 use Rattle.zq_ties.proofs.Journals.{all_counted}
 use Rattle.zq_shared.proofs.journal.perform.Goals as goal

@@ -1,4 +1,4 @@
-use Rattle.std.proofs.Common.{◌≡◌, ◌<◌, ◌∷◌, ◌++◌, [], ap, sym, subst, length}
+use Rattle.std.proofs.Common.{◌<◌, ◌∷◌, ◌++◌, [], sym, subst, length}
 use Rattle.std.specs.List.{cons_option}
 use Rattle.zq_ties.specs.Stored.{Stored, flights, standing}
 use Rattle.zq_shared.proofs.Reporting.{fewer}

@@ -1,4 +1,4 @@
-use Rattle.std.proofs.Common.{◌≡◌, ◌+◌, ◌∷◌, ◌++◌, [], List, cond, take, get_or, ap, sym, ◌∙◌, subst}
+use Rattle.std.proofs.Common.{◌+◌, ◌∷◌, ◌++◌, [], List, cond, take, ap, sym, ◌∙◌, subst}
 use Rattle.std.specs.Prelude.{vec_len}
 use Rattle.std.specs.List.{count_by}
 use Rattle.std.proofs.lemmas.List.{take_more}

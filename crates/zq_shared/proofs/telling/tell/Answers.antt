@@ -1,9 +1,9 @@
-use Rattle.std.proofs.Common.{◌≡◌, ◌∙◌, true, List, None, ap, sym, subst}
+use Rattle.std.proofs.Common.{◌∙◌, List, None, ap, sym, subst}
 use Rattle.std.specs.List.{list_any}
 use Rattle.zq_machine.specs.declared.call.Step.{Step}
 use Rattle.zq_machine.specs.Handing.{Handed}
 use Rattle.zq_machine.specs.Waiting.{hands_reply}
-use Rattle.zq_ties.specs.Stored.{Stored, answer_to, in_flight, with_call}
+use Rattle.zq_ties.specs.Stored.{Stored, with_call}
 use Rattle.zq_ties.specs.Ties.{AreWaiting, IsNearlyTied}
 use Rattle.zq_ties.proofs.Moves.{handed_waits}
 use Rattle.zq_ties.proofs.Ties.{told_nearly}

@@ -1,4 +1,4 @@
-use Rattle.std.proofs.Common.{◌≡◌, ℕ, ◌<◌, Bool, true, false, Option, Some, None, ◌∙◌, ap, sym}
+use Rattle.std.proofs.Common.{Option, Some, None, ◌∙◌, ap, sym}
 use Rattle.std.specs.Option.{IfNone}
 use Rattle.std.proofs.lemmas.Option.{IfSome_then}
 use Rattle.zq_query.specs.Records.{flies}

@@ -1,4 +1,4 @@
-use Rattle.std.proofs.Common.{◌≡◌, ◌≤◌, ℕ, length, ◌∙◌, ap, subst, sym}
+use Rattle.std.proofs.Common.{◌≤◌, length, ◌∙◌, ap, subst, sym}
 use Rattle.std.proofs.lemmas.Result.{IfOk-weaker}
 use Rattle.zq_machine.specs.declared.call.Step.{Step}
 use Rattle.zq_machine.specs.Asked.{replies_of}

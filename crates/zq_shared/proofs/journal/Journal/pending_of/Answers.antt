@@ -1,4 +1,4 @@
-use Rattle.std.proofs.Common.{◌≡◌, ℕ, ◌∙◌, ap, sym}
+use Rattle.std.proofs.Common.{ℕ, ◌∙◌, ap, sym}
 use Rattle.zq_query.specs.Records.{pending_count}
 use Rattle.zq_machine.specs.State.{State}
 use Rattle.zq_ties.specs.Stored.{Stored, waiting}

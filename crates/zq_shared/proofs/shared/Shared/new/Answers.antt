@@ -1,4 +1,4 @@
-use Rattle.std.proofs.Common.{◌≡◌, ap, sym, subst}
+use Rattle.std.proofs.Common.{ap, sym, subst}
 use Rattle.zq_slots.specs.Owners.{Slotted}
 use Rattle.zq_ties.specs.Stored.{Stored}
 use Rattle.zq_ties.specs.Ties.{IsTied}

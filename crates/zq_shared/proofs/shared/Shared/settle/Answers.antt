@@ -1,4 +1,4 @@
-use Rattle.std.proofs.Common.{◌≡◌, sym, subst}
+use Rattle.std.proofs.Common.{sym, subst}
 use Rattle.zq_slots.specs.Owners.{Slotted}
 use Rattle.zq_ties.specs.Ties.{IsTied}
 use Rattle.zq_shared.proofs.Settled.{vacated_tied, vacated_unowned}
