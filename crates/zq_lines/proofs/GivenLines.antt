@@ -11,7 +11,7 @@ use Rattle.zq_words.specs.Words.{len_to, pieces}
 use Rattle.zq_words.specs.Values.{most_8, most_16, most_32, most_64, mode_of, bound_of, target_of, flag_of}
 use Rattle.zq_words.specs.Fits.{IsBytes, IsText, FitsZid, FitsOption}
 use Rattle.zq_lines.specs.declared.lines.Deny.{Deny}
-use Rattle.zq_lines.specs.Lines.{deny_side, deny_of, denies_of, at_side, deny_text, opening_of, close_of, key_of, unkey_of, info_at, queryable_of, unqueryable_of, interest_of, uninterest_of, mark_by, mark_at, finalize_of, manner_at, ask_of, body_by, body_at, by_of, responder_of, reply_of, final_of, sent_of, poll_of, gateways_of, network_of, nodes_of, call_by, other_by, call_of}
+use Rattle.zq_lines.specs.Lines.{deny_side, deny_of, denies_of, at_side, deny_text, opening_of, close_of, key_of, unkey_of, info_at, queryable_of, unqueryable_of, aggregate_of, interest_of, uninterest_of, mark_by, mark_at, finalize_of, manner_at, ask_of, body_by, body_at, by_of, responder_of, reply_of, final_of, sent_of, poll_of, gateways_of, network_of, nodes_of, call_by, other_by, call_of}
 use Rattle.zq_lines.specs.Fits.{FitsMark, FitsBody, FitsCall}
 use Rattle.zq_lines.proofs.Given.{Given, no_one, one, bind, either, FieldFits, field_given, some_given, free_given, any_given, end_given, number_given, face_given, zid_given, bytes_given, text_given, cut_given, behind_given, wire_given, option_given, region_given, name_given, pieces_bytes, each_given, list_given, zids_given, entry_given, all_given, tree_given}
 
@@ -53,7 +53,8 @@ interest_given : (bytes : List ℕ) → IsBytes bytes → Given FitsCall (intere
 unfolding interest_of
 interest_given bytes a =
     bind (field_given face_given bytes a) (λ face p. bind (field_given (number_given most_32) face.1 p.rest) (λ id q. bind (field_given (option_given wire_given) id.1 q.rest) (λ wire r.
-    bind (free_given (flag_of (codes "k") (codes "n")) wire.1 r.rest) (λ keys u. end_given keys.1 _ (record { face = p.value; id = q.value }, r.value)))))
+    bind (free_given (flag_of (codes "k") (codes "n")) wire.1 r.rest) (λ keys u. bind (any_given (aggregate_of keys.1)) (λ aggregate v.
+    one (record { face = p.value; id = q.value }, r.value))))))
 
 uninterest_given : (bytes : List ℕ) → IsBytes bytes → Given FitsCall (uninterest_of bytes)
 unfolding uninterest_of

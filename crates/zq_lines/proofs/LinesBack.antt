@@ -26,8 +26,8 @@ use Rattle.zq_machine.specs.declared.call.Call.TheVariants as call
 use Rattle.zq_words.specs.Words.{◌>>=◌, field, lacks, bytes_of, number, read_at, text_of, payload_of, payload_word, list_word, option_of, option_word}
 use Rattle.zq_words.specs.Values.{most_8, most_16, most_32, most_64, flag_of, flag_word, face_word, zid_word, wire_of, wire_word, target_word, region_word, mode_word, bound_word, zids_word, all_word}
 use Rattle.zq_lines.specs.Tables.{entry_word, tree_word}
-use Rattle.zq_lines.specs.Lines.{deny_of, denies_of, at_side, deny_text, opening_of, close_of, key_of, unkey_of, info_at, queryable_of, unqueryable_of, interest_of, uninterest_of, mark_by, mark_at, finalize_of, manner_at, ask_of, body_at, by_of, responder_of, reply_of, final_of, sent_of, poll_of, gateways_of, network_of, nodes_of, call_by, other_by, by_first, call_of}
-use Rattle.zq_lines.specs.CallLines.{deny_item, denies_words, info_words, mark_words, body_words, by_words, call_words}
+use Rattle.zq_lines.specs.Lines.{deny_of, denies_of, at_side, deny_text, opening_of, close_of, key_of, unkey_of, info_at, queryable_of, unqueryable_of, aggregate_of, interest_of, uninterest_of, mark_by, mark_at, finalize_of, manner_at, ask_of, body_at, by_of, responder_of, reply_of, final_of, sent_of, poll_of, gateways_of, network_of, nodes_of, call_by, other_by, by_first, call_of}
+use Rattle.zq_lines.specs.CallLines.{aggregate_words, deny_item, denies_words, info_words, mark_words, body_words, by_words, call_words}
 use Rattle.zq_words.specs.Fits.{IsText, IsBytes, FitsFace, FitsZid, FitsWire, FitsOption, FitsRegion}
 use Rattle.zq_lines.specs.Fits.{IsNamespace, FitsOpening, FitsIds, FitsRequest, FitsResponse, FitsBody, FitsMark, FitsGateways, FitsNetwork, FitsCall}
 use Rattle.zq_words.proofs.Back.{lacks_append, len_stop, take_front, drop_front, Ends, Reads, then, read_back, number_reads, text_reads, text_back, same_bytes, payload_back, payload_lacks, payload_some, space_escaped}
@@ -112,10 +112,21 @@ unqueryable_back : (face : FaceId) (id : ℕ) (wire : Option WireExpr) (node : �
 unfolding unqueryable_of
 unqueryable_back face id wire node f g n = then _ (face_reads face f.face) refl (then _ (number_reads most_32 id f.id (omega arith)) refl (then _ (option_wire wire g) refl (then_last _ (number_reads most_16 node n (omega arith)) refl)))
 
-interest_back : (face : FaceId) (id : ℕ) (keys : Bool) (wire : Option WireExpr) → FitsIds face id most_32 → FitsOption FitsWire wire
-    → interest_of (field (face_word face) ++ (field (decimal id) ++ (field (option_word wire_word wire) ++ (field (flag_word (codes "k") (codes "n") keys))))) ≡ Some (call.Interest face id keys wire)
+aggregate_back : (aggregate : Bool) → aggregate_of (aggregate_words aggregate) ≡ Some aggregate
+unfolding aggregate_of
+aggregate_back false = refl
+aggregate_back true = refl
+
+aggregate_ends : (aggregate : Bool) → Ends (aggregate_words aggregate)
+aggregate_ends false = tt
+aggregate_ends true = refl
+
+interest_back : (face : FaceId) (id : ℕ) (keys aggregate : Bool) (wire : Option WireExpr) → FitsIds face id most_32 → FitsOption FitsWire wire
+    → interest_of (field (face_word face) ++ (field (decimal id) ++ (field (option_word wire_word wire) ++ (field (flag_word (codes "k") (codes "n") keys) ++ aggregate_words aggregate)))) ≡ Some (call.Interest face id keys aggregate wire)
 unfolding interest_of
-interest_back face id keys wire f g = then _ (face_reads face f.face) refl (then _ (number_reads most_32 id f.id (omega arith)) refl (then _ (option_wire wire g) refl (then_last _ (k_reads keys) refl)))
+interest_back face id keys aggregate wire f g =
+    then _ (face_reads face f.face) refl (then _ (number_reads most_32 id f.id (omega arith)) refl (then _ (option_wire wire g) refl
+    (then _ (k_reads keys) (aggregate_ends aggregate) (on _ (aggregate_back aggregate) refl))))
 
 -- words that are joined from the left, joined from the right
 pub nest3 : (n a b c : List ℕ) → ((n ++ a) ++ b) ++ c ≡ n ++ (a ++ (b ++ c))
@@ -356,7 +367,9 @@ call_back (call.DeclareKeyExpr face id wire) f = ap call_of (nest3 (codes "key")
 call_back (call.UndeclareKeyExpr face id) f = ap call_of (append_assoc (codes "unkey") (field (face_word face)) (field (decimal id))) ∙ first_back call_by (codes "unkey") _ refl ∙ unkey_back face id f
 call_back (call.DeclareQueryable face id wire info node) f = ap call_of (nest5 (codes "queryable") (field (face_word face)) (field (decimal id)) (field (wire_word wire)) (info_words info) (field (decimal node))) ∙ first_back call_by (codes "queryable") _ refl ∙ queryable_back face id wire info node f.0 f.1 f.2 f.3
 call_back (call.UndeclareQueryable face id wire node) f = ap call_of (nest4 (codes "unqueryable") (field (face_word face)) (field (decimal id)) (field (option_word wire_word wire)) (field (decimal node))) ∙ first_back call_by (codes "unqueryable") _ refl ∙ unqueryable_back face id wire node f.0 f.1 f.2
-call_back (call.Interest face id keys wire) f = ap call_of (nest4 (codes "interest") (field (face_word face)) (field (decimal id)) (field (option_word wire_word wire)) (field (flag_word (codes "k") (codes "n") keys))) ∙ first_back call_by (codes "interest") _ refl ∙ interest_back face id keys wire f.0 f.1
+call_back (call.Interest face id keys aggregate wire) f =
+    ap call_of (nest5 (codes "interest") (field (face_word face)) (field (decimal id)) (field (option_word wire_word wire)) (field (flag_word (codes "k") (codes "n") keys)) (aggregate_words aggregate)) ∙ first_back call_by (codes "interest") _ refl
+    ∙ interest_back face id keys aggregate wire f.0 f.1
 call_back (call.InterestFinal face id) f = ap call_of (append_assoc (codes "uninterest") (field (face_word face)) (field (decimal id))) ∙ first_back call_by (codes "uninterest") _ refl ∙ uninterest_back face id f
 call_back (call.FinalizeInterest face what set) f = ap call_of (nest3 (codes "finalize") (field (face_word face)) (mark_words what) (field (flag_word (codes "1") (codes "0") set))) ∙ first_back call_by (codes "finalize") _ refl ∙ finalize_back face what set f.0 f.1
 call_back (call.Request face r now) f = ap call_of (nest9 (codes "ask") (field (face_word face)) (field (decimal r.id)) (field (wire_word r.wire)) (field (target_word r.target)) (field (option_word decimal r.timeout)) (field (decimal r.node)) (field (decimal r.qos)) (field (payload_word r.payload)) (field (decimal now))) ∙ first_back call_by (codes "ask") _ refl ∙ ask_back face r now f.0 f.1 f.2
