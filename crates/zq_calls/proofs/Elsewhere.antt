@@ -24,8 +24,9 @@ use Rattle.zq_told.specs.declared.types.Planned.{Planned}
 use Rattle.zq_machine.specs.declared.call.Refusal.{Refusal}
 use Rattle.zq_machine.specs.declared.call.Refusal.TheVariants as refusal
 use Rattle.zq_machine.specs.declared.face.OpenFace.{OpenFace}
-use Rattle.zq_machine.specs.Deciding.{accepted, lacks_told, refusal_of}
+use Rattle.zq_machine.specs.Deciding.{accepted, changed, interests_for, lacks_told, refusal_of}
 use Rattle.zq_machine.specs.Due.{heard, heard_as, heard_touched}
+use Rattle.zq_machine.specs.Neighbours.{looked_at}
 use Rattle.zq_machine.specs.State.{Core, State, at, clashes_in, face_region, hat_at, hat_of, is_open}
 use Rattle.zq_machine.specs.TextCalls.{TextCall, closing, declaring}
 use Rattle.zq_machine.specs.Trees.{touched}
@@ -59,11 +60,11 @@ module _ (s : State) (i : IsReached s) where
       (same_hats : (accepted quiet.core t).hats ≡ (accepted s.core t).hats) (same_faces : (accepted quiet.core t).faces ≡ (accepted s.core t).faces)
       (stays : (face : ℕ) (o : OpenFace) → at face (accepted s.core t).faces ≡ Some o → at face s.core.faces ≡ Some o) where
     pub beside : IsBeside (accepted s.core t) s.core.hats keys
-    beside face o open key off =
-        heard_here (accepted s.core t) face o open key
+    beside face o seen key off =
+        heard_here (accepted s.core t) face o seen key
         ∙ sym (λ j. option_and_then (heard_as face key (same_hats j)) (at face (same_faces j)))
-        ∙ heard_kept i.config quiet quiet_order [] face t fits (ap is_some (ap (at face) same_faces ∙ open)) key (ap (has_text key) (touches face) ∙ off)
-        ∙ sym (heard_here s.core face o (stays face o open) key)
+        ∙ heard_kept i.config quiet quiet_order [] face t fits (ap is_some (ap (at face) same_faces ∙ seen)) key (ap (has_text key) (touches face) ∙ off)
+        ∙ sym (heard_here s.core face o (stays face o seen) key)
 
 -- ---- a declaration that nothing else refuses
 module _ (s : State) (face : FaceId) (id : ℕ) (r : Region) (home : face_region face.0 s.core ≡ Some r) (h : HatState) (there : hat_at r s.core.hats ≡ Some h) (text : List ℕ) (info : QueryableInfoType) (node : ℕ) where
@@ -81,11 +82,11 @@ module _ (s : State) (face : FaceId) (id : ℕ) (r : Region) (home : face_region
       ∙ ap (λ b. cond (not b) (Some refusal.InvalidKeyExpr) clashes) valid
       ∙ ap (λ x. cond (clashes_in face.0 id text x) (Some refusal.IdInUse) lacks) (hat_home face.0 r s.core home ∙ there)
       ∙ ap (λ b. cond b (Some refusal.IdInUse) lacks) free
-      ∙ ap (λ b. cond b (Some refusal.NoFreeId) None) (none_lacks Unasked _)
+      ∙ ap (λ b. cond b (Some refusal.NoFreeId) None) (none_lacks Unasked (looked_at silent (changed silent t) (interests_for silent t) t))
 
 -- the same by the hats and the keys that a body has
 pub beside_at : (c : Core) {hats now : List (ℕ × HatState)} {keys texts : List (List ℕ)} → hats ≡ now → keys ≡ texts → IsBeside c now texts → IsBeside c hats keys
-beside_at c hats keys b = λ face o open key off. b face o open key (ap (has_text key) (sym keys) ∙ off) ∙ sym (ap (λ l. heard_as face key l o) hats)
+beside_at c hats keys b = λ face o seen key off. b face o seen key (ap (has_text key) (sym keys) ∙ off) ∙ sym (ap (λ l. heard_as face key l o) hats)
 
 -- ---- a closing
 -- its keys are those that the face declared
@@ -94,11 +95,11 @@ closing_touches s face r home keys are = ap (λ (o : Option HatState). option_ma
 
 -- a face that is open after it was so before
 pub closing_stays : (s : State) → IsReached s → (face f : ℕ) (o : OpenFace) → at f (remove_entry (is_at (nat_cmp face)) s.core.faces) ≡ Some o → at f s.core.faces ≡ Some o
-closing_stays s i face f o open = by (is_at (nat_cmp face) f) refl
+closing_stays s i face f o seen = by (is_at (nat_cmp face) f) refl
   where
     found : at f (remove_entry (is_at (nat_cmp face)) s.core.faces) ≡ cond (is_at (nat_cmp face) f) None (at f s.core.faces)
     found = found_after_removal nat_cmp_total exact_unsigned face f s.core.faces (reached_in_order s i).sound.sorted
 
     by : (b : Bool) → is_at (nat_cmp face) f ≡ b → at f s.core.faces ≡ Some o
-    by true e = absurd (let gap : None ≡ Some o = sym (found ∙ ap (λ b. cond b None (at f s.core.faces)) e) ∙ open in cc)
-    by false e = sym (found ∙ ap (λ b. cond b None (at f s.core.faces)) e) ∙ open
+    by true e = absurd (let gap : None ≡ Some o = sym (found ∙ ap (λ b. cond b None (at f s.core.faces)) e) ∙ seen in cc)
+    by false e = sym (found ∙ ap (λ b. cond b None (at f s.core.faces)) e) ∙ seen

@@ -32,7 +32,7 @@ use Rattle.zq_machine.specs.declared.call.Outcome.TheVariants as outcome
 use Rattle.zq_machine.specs.declared.call.Step.{Step}
 use Rattle.zq_machine.specs.declared.call.Refusal.{Refusal}
 use Rattle.zq_machine.specs.declared.call.Refusal.TheVariants as refusal
-use Rattle.zq_machine.specs.Deciding.{accepted, announced_by, changed, entry_by, entry_of, granted, kept, lacks_router, lacks_told, refusal_of, regated, renamed, retracted_by}
+use Rattle.zq_machine.specs.Deciding.{accepted, announced_by, changed, entry_by, entry_of, granted, interests_for, kept, lacks_router, lacks_told, refusal_of, regated, renamed, retracted_by}
 use Rattle.zq_machine.specs.Handing.{Handed}
 use Rattle.zq_machine.specs.Gates.{Gates}
 use Rattle.zq_machine.specs.Messages.{from_hat}
@@ -274,9 +274,12 @@ module _ (s : State) (reached : IsReached s) (face : FaceId) (sd : Said) (info :
       (beside s reached (entering face sd info node) (entry_fits (quiet s reached).core face sd info node opens key says valid r home h there router is (lacks_none info) has) (key ∷ [])
       (touches_at info (touches s.core face sd info node opens key says valid r home h there router is)) (same_hats info) (same_faces info) (stay info))
     where
+      looks : Option QueryableInfoType → List FaceDues
+      looks o = let c = (quiet s reached).core in looked_at c (changed c (entering face sd o node)) (interests_for c (entering face sd o node)) (entering face sd o node)
+
       lacks_none : (o : Option QueryableInfoType) → lacks_told (quiet s reached).core (entering face sd o node) ≡ false
-      lacks_none None = none_lacks Unasked _
-      lacks_none (Some i) = none_lacks Unasked _
+      lacks_none None = none_lacks Unasked (looks None)
+      lacks_none (Some i) = none_lacks Unasked (looks (Some i))
 
       touches_at : (o : Option QueryableInfoType) → touched s.core (entering face sd o node) ≡ key ∷ [] → (f : ℕ) → heard_touched (quiet s reached).core (entering face sd o node) f ≡ key ∷ []
       touches_at None e f = ap (fold (insert_key text_cmp) []) e

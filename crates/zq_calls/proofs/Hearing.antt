@@ -14,7 +14,8 @@ use Rattle.zq_machine.specs.Receivers.{AllHear, makes_due}
 use Rattle.zq_machine.specs.State.{Core, State, is_open}
 use Rattle.zq_machine.specs.TextCalls.{TextCall, announcing, declaring, opening}
 use Rattle.zq_machine.proofs.Agreed.{InOrder}
-use Rattle.zq_machine.proofs.DueLess.{accepted_less, brings, listens_kept}
+use Rattle.zq_machine.proofs.DueLess.{brings, listens_kept}
+use Rattle.zq_machine.proofs.DueWhole.{accepted_less}
 use Rattle.zq_machine.proofs.Granted.{settled_of, settled_to}
 use Rattle.zq_machine.proofs.Keeping.{is_plain, lacks_is, same_looked}
 use Rattle.zq_machine.proofs.NeighbourAll.{new_sound}

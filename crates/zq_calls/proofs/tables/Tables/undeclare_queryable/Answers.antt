@@ -58,7 +58,7 @@ tell_all-requires c enough =
     let there : hat_at r s.core.hats ≡ Some h = ap (hat_at r) (sym hats) ∙ c.home-hat.ensures.hat in
     let fits = withdrawal_fits s c.requires face id r home h there key c.in-Some-key_at.ensures in
     let changed = ap (change_hat r (unregistered face.0 id)) hats ∙ sym (changed_home face.0 r s.core home (unregistered face.0 id)) in
-    let apart = beside_at (accepted s.core t) hats refl (beside s c.requires t fits (key ∷ []) (λ f. ap (fold (insert_key text_cmp) []) (withdrawal_touches s c.requires face id r home h there key c.in-Some-key_at.ensures)) refl refl (λ f o on. on)) in
+    let apart = beside_at (accepted s.core t) {keys = key ∷ []} hats refl (beside s c.requires t fits (key ∷ []) (λ f. ap (fold (insert_key text_cmp) []) (withdrawal_touches s c.requires face id r home h there key c.in-Some-key_at.ensures)) refl refl (λ f o on. on)) in
     let g =
     withdrawal_gathers s c.requires face id r home h there key c.in-Some-key_at.ensures i.hats hats c.in_ok-found.found.told c.in_ok-found.ensures.told (ears_of i.ears) (ap (λ (x : State). x.core.ears) v)
     i.interests (ap (λ (x : State). x.core.interests) v) c.as_slice.result.now (c.as_slice.ensures ∙ c.in_ok-found.ensures.dues (accepted s.core t) (sym (ap (λ (x : State). x.core.faces) v)) changed apart) in
@@ -80,7 +80,7 @@ unreachable-requires c =
     let there : hat_at r s.core.hats ≡ Some h = ap (hat_at r) (sym hats) ∙ c.home-hat.ensures.hat in
     let fits = withdrawal_fits s c.requires face id r home h there key c.in-Some-key_at.ensures in
     let changed = ap (change_hat r (unregistered face.0 id)) hats ∙ sym (changed_home face.0 r s.core home (unregistered face.0 id)) in
-    let apart = beside_at (accepted s.core t) hats refl (beside s c.requires t fits (key ∷ []) (λ f. ap (fold (insert_key text_cmp) []) (withdrawal_touches s c.requires face id r home h there key c.in-Some-key_at.ensures)) refl refl (λ f o on. on)) in
+    let apart = beside_at (accepted s.core t) {keys = key ∷ []} hats refl (beside s c.requires t fits (key ∷ []) (λ f. ap (fold (insert_key text_cmp) []) (withdrawal_touches s c.requires face id r home h there key c.in-Some-key_at.ensures)) refl refl (λ f o on. on)) in
     let g =
     withdrawal_gathers s c.requires face id r home h there key c.in-Some-key_at.ensures i.hats hats c.in_ok-found.found.told c.in_ok-found.ensures.told (ears_of i.ears) (ap (λ (x : State). x.core.ears) v)
     i.interests (ap (λ (x : State). x.core.interests) v) c.as_slice.result.now (c.as_slice.ensures ∙ c.in_ok-found.ensures.dues (accepted s.core t) (sym (ap (λ (x : State). x.core.faces) v)) changed apart) in
@@ -116,7 +116,7 @@ returns-in-Ok-withdraw_told c =
     let changed = ap (change_hat r (unregistered face.0 id)) hats ∙ sym (changed_home face.0 r s.core home (unregistered face.0 id)) in
     let told = c.in_ok-found.found.told in
     let dues = c.as_slice.result.now in
-    let apart = beside_at (accepted s.core t) hats refl (beside s c.requires t fits (key ∷ []) (λ f. ap (fold (insert_key text_cmp) []) (withdrawal_touches s c.requires face id r home h there key c.in-Some-key_at.ensures)) refl refl (λ f o on. on)) in
+    let apart = beside_at (accepted s.core t) {keys = key ∷ []} hats refl (beside s c.requires t fits (key ∷ []) (λ f. ap (fold (insert_key text_cmp) []) (withdrawal_touches s c.requires face id r home h there key c.in-Some-key_at.ensures)) refl refl (λ f o on. on)) in
     let g =
     withdrawal_gathers s c.requires face id r home h there key c.in-Some-key_at.ensures i.hats hats told c.in_ok-found.ensures.told (ears_of i.ears) (ap (λ (x : State). x.core.ears) v)
     i.interests (ap (λ (x : State). x.core.interests) v) dues (c.as_slice.ensures ∙ c.in_ok-found.ensures.dues (accepted s.core t) (sym (ap (λ (x : State). x.core.faces) v)) changed apart) in
