@@ -1,0 +1,3 @@
+pub mod Mails
+pub mod Locks
+pub mod Holds
