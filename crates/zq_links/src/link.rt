@@ -29,6 +29,7 @@ pub fn send_all<L: Link>(link: &mut L, handed: &[Handed]) -> Result<u64, u64>
     ensures few { IfErr result (λ n. n ≤ length (leaving handed.now)) }
     ensures front { IfErr result (λ n. L.taken link.new ≡ with_taken (L.taken link.old) (take n (leaving handed.now))) }
     ensures fault { OnErr result (Rose (L.faults link.old) (L.faults link.new)) }
+    ensures later { L.faults link.old ≤ L.faults link.new }
 {
     let mut sent: u64 = 0;
     'messages: for message in handed {

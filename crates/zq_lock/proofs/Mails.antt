@@ -6,10 +6,9 @@ use Rattle.std.proofs.Math.Seq.{take-append-add}
 use Rattle.zq_machine.specs.declared.call.Call.{Call}
 use Rattle.zq_machine.specs.Configs.{Settings}
 use Rattle.zq_machine.specs.Handing.{Handed}
-use Rattle.zq_streams.specs.Streams.{Rose}
 use Rattle.zq_links.specs.Links.{leaves, leaving, with_taken}
 use Rattle.zq_lock.specs.Answers.{AllFinals, IsFinal}
-use Rattle.zq_lock.specs.Sending.{Mail, Breaks, Delivers, DeliversFinals, GoesOn, Sends, Takes, counted}
+use Rattle.zq_lock.specs.Sending.{Mail, Breaks, Delivers, DeliversFinals, Fails, GoesOn, Sends, Takes, counted}
 
 taken_more : (o : Option (List Handed)) (xs ys : List Handed) → with_taken (with_taken o xs) ys ≡ with_taken o (xs ++ ys)
 taken_more None xs ys = refl
@@ -32,7 +31,7 @@ takes_on n m hs gs a b c (Err p) h k =
       omega (arith, length-append hs gs),
       omega arith,
       k.3 ∙ (ap (λ o. with_taken o (take k.0 gs)) h.1 ∙ (taken_more a.taken hs (take k.0 gs) ∙ ap (with_taken a.taken) (sym (take-append-add hs gs k.0)))),
-      subst (λ f. Rose f c.faults) h.2 k.4,
+      subst (λ f. Fails f c.faults) h.2 k.4,
     )
 
 goes_on : (hs gs : List Handed) (a b c : Mail) (r s : Result ℕ ℕ) → a.sent ≡ r → b.sent ≡ s → GoesOn r hs a b → GoesOn s gs b c → GoesOn r (hs ++ gs) a c
@@ -86,7 +85,7 @@ module _ (config : Settings) (list : Option (List Call)) where
         let took : Takes 0 (leaving (handed ++ h.0)) a d (Ok n) = subst (Takes 0 (leaving (handed ++ h.0)) a d) e (subst (λ (r : Result ℕ ℕ). GoesOn r (leaving (handed ++ h.0)) a d) start h.2) in
         ((h.0, h.1, took.1), took.2)
 
-    pub breaks_at : (n : ℕ) → d.sent ≡ Err n → (fs : List Handed) × AllFinals config list fs × Delivers (handed ++ fs) a d → Rose a.faults d.faults × Breaks config list handed n a.taken d.taken
+    pub breaks_at : (n : ℕ) → d.sent ≡ Err n → (fs : List Handed) × AllFinals config list fs × Delivers (handed ++ fs) a d → Fails a.faults d.faults × Breaks config list handed n a.taken d.taken
     breaks_at n e h =
         let took : Takes 0 (leaving (handed ++ h.0)) a d (Err n) = subst (Takes 0 (leaving (handed ++ h.0)) a d) e (subst (λ (r : Result ℕ ℕ). GoesOn r (leaving (handed ++ h.0)) a d) start h.2) in
         let many = took.2 in

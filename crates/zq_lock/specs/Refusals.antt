@@ -1,16 +1,16 @@
 -- What a refusal says.
-use Rattle.std.specs.Prelude.{◌≡◌, ℕ, List, Option}
+use Rattle.std.specs.Prelude.{◌≡◌, ℕ, true, List, Option}
 use Rattle.zq_machine.specs.declared.call.Call.{Call}
 use Rattle.zq_machine.specs.declared.call.Step.{Step}
 use Rattle.zq_machine.specs.Configs.{Settings}
 use Rattle.zq_machine.specs.Handing.{Handed}
-use Rattle.zq_streams.specs.Streams.{Rose}
 use Rattle.zq_shared.specs.declared.shared.StepRefusal.{StepRefusal}
 use Rattle.zq_shared.specs.declared.shared.StepRefusal.TheVariants as step_refusal
 use Rattle.zq_lock.specs.declared.refusal.CallRefusal.{CallRefusal}
 use Rattle.zq_lock.specs.declared.refusal.CallRefusal.TheVariants as refusal
+use Rattle.zq_ties.specs.Stored.{asks_request}
 use Rattle.zq_lock.specs.Answers.{IsAnswer}
-use Rattle.zq_lock.specs.Sending.{Breaks}
+use Rattle.zq_lock.specs.Sending.{Breaks, Fails}
 use Rattle.zq_lock.specs.Tallies.{Tallied, with_full, with_stored}
 
 -- the refusal of a call whose step was refused so
@@ -18,14 +18,14 @@ abbrev pub refused : StepRefusal → CallRefusal
 refused (step_refusal.Full none) = refusal.Full none
 refused step_refusal.OutOfMemory = refusal.OutOfMemory
 
--- what a caller counts where a step is refused
-abbrev pub StepCounts : StepRefusal → Tallied → Tallied → Type 0
-StepCounts (step_refusal.Full none) old new = new ≡ with_full old
-StepCounts step_refusal.OutOfMemory old new = new ≡ old
+-- what a caller counts where the step of a call is refused; only a request finds every slot allotted
+abbrev pub StepCounts : Call → StepRefusal → Tallied → Tallied → Type 0
+StepCounts c (step_refusal.Full none) old new = (asks_request c ≡ true) × (new ≡ with_full old)
+StepCounts c step_refusal.OutOfMemory old new = new ≡ old
 
--- what a caller counts where its call is refused: a call whose link failed is stored
+-- what a caller counts where its call is refused: a call whose link failed is stored; only a request finds every slot allotted
 abbrev pub Counts : Call → CallRefusal → Tallied → Tallied → Type 0
-Counts c (refusal.Full none) old new = new ≡ with_full old
+Counts c (refusal.Full none) old new = (asks_request c ≡ true) × (new ≡ with_full old)
 Counts c (refusal.LinkFault outcome sent) old new = new ≡ with_stored c old
 Counts c refusal.OutOfMemory old new = new ≡ old
 
@@ -36,5 +36,5 @@ IsQuiet before now faults faults' = (now ≡ before) × (faults' ≡ faults)
 -- what a refusal says of the link: a fault comes only where its count rose, and then it took a beginning of the messages that leave: those of the step that the call was answered, and then finals
 abbrev pub Refuses : Settings → Option (List Call) → Call → CallRefusal → Option (List Handed) → Option (List Handed) → ℕ → ℕ → Type 0
 Refuses config list c (refusal.Full none) before now faults faults' = IsQuiet before now faults faults'
-Refuses config list c (refusal.LinkFault outcome sent) before now faults faults' = Rose faults faults' × (s : Step) × IsAnswer config list c s × (s.outcome ≡ outcome) × Breaks config list s.handed sent before now
+Refuses config list c (refusal.LinkFault outcome sent) before now faults faults' = Fails faults faults' × (s : Step) × IsAnswer config list c s × (s.outcome ≡ outcome) × Breaks config list s.handed sent before now
 Refuses config list c refusal.OutOfMemory before now faults faults' = IsQuiet before now faults faults'

@@ -17,10 +17,14 @@ pub record Mail : Type 0 where
 abbrev pub counted : ℕ → ℕ
 counted n = min n (2 ^ 64 - 1)
 
+-- the count of faults rose, and did not fall
+abbrev pub Fails : ℕ → ℕ → Type 0
+Fails before now = Rose before now × (before ≤ now)
+
 -- all of the messages were taken, or those before a fault
 abbrev pub Takes : ℕ → List Handed → Mail → Mail → Result ℕ ℕ → Type 0
 Takes n hs old new (Ok m) = (counted m ≡ counted (n + length hs)) × (new.taken ≡ with_taken old.taken hs) × (new.faults ≡ old.faults)
-Takes n hs old new (Err m) = (k : ℕ) × (k ≤ length hs) × (m ≡ counted (n + k)) × (new.taken ≡ with_taken old.taken (take k hs)) × Rose old.faults new.faults
+Takes n hs old new (Err m) = (k : ℕ) × (k ≤ length hs) × (m ≡ counted (n + k)) × (new.taken ≡ with_taken old.taken (take k hs)) × Fails old.faults new.faults
 
 -- the messages were sent, if there was no fault before
 abbrev pub GoesOn : Result ℕ ℕ → List Handed → Mail → Mail → Type 0

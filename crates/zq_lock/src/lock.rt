@@ -90,7 +90,7 @@ impl<H: Home, C: Ledger, Q: Ledger, P: Ledger> TablesLock<H, C, Q, P> {
         ensures free { OnErr result (seat.new.held ≡ []) }
         ensures seat { seat.new.home ≡ H.holds }
         ensures made { OnOk result (tally.new ≡ with_stored call tally.old) }
-        ensures refused { IfErr result (λ e. StepCounts e tally.old tally.new) }
+        ensures refused { IfErr result (λ e. StepCounts call e tally.old tally.new) }
     {
         self.inner.lock(rt).step(alloc, seat, tally, call)
     }
@@ -173,6 +173,7 @@ impl<H: Home, C: Ledger, Q: Ledger, P: Ledger> TablesLock<H, C, Q, P> {
         ensures step { IfOk result (λ s. IsAnswer H.config H.list call s) }
         ensures sends { IfOk result (λ s. Sends H.config H.list s.handed (L.taken link.old) (L.taken link.new)) }
         ensures quiet { OnOk result (L.faults link.new ≡ L.faults link.old) }
+        ensures later { L.faults link.old ≤ L.faults link.new }
         ensures refused { IfErr result (λ e. Refuses H.config H.list call e (L.taken link.old) (L.taken link.new) (L.faults link.old) (L.faults link.new)) }
         ensures made { OnOk result (tally.new ≡ with_stored call tally.old) }
         ensures counts { IfErr result (λ e. Counts call e tally.old tally.new) }

@@ -76,7 +76,7 @@ impl<H: Home, C: Ledger, Q: Ledger, P: Ledger> Locked<H, C, Q, P> {
         ensures free { OnErr result (seat.new.held ≡ []) }
         ensures seat { seat.new.home ≡ H.holds }
         ensures made { OnOk result (tally.new ≡ with_stored call tally.old) }
-        ensures refused { IfErr result (λ e. StepCounts e tally.old tally.new) }
+        ensures refused { IfErr result (λ e. StepCounts call e tally.old tally.new) }
     {
         let asks = asks(&call);
         match self.shared.step(seat, call) {
@@ -143,7 +143,7 @@ impl<H: Home, C: Ledger, Q: Ledger, P: Ledger> Locked<H, C, Q, P> {
         ensures free { OnErr result (seat.new.held ≡ []) }
         ensures seat { seat.new.home ≡ H.holds }
         ensures made { OnOk result (tally.new ≡ with_stored call tally.old) }
-        ensures refused { IfErr result (λ e. StepCounts e tally.old tally.new) }
+        ensures refused { IfErr result (λ e. StepCounts call e tally.old tally.new) }
     {
         let Stepped {
             step,
