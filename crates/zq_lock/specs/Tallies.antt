@@ -16,6 +16,18 @@ pub record Tallied : Type 0 where
   pub parts : Counts
   pub made : Counts
 
+-- the same of each
+abbrev pub each : ℕ → Counts
+each n = record { calls = n; asks = n; full = n }
+
+-- two counts together
+abbrev pub plus : Counts → Counts → Counts
+plus a b = record { calls = a.calls + b.calls; asks = a.asks + b.asks; full = a.full + b.full }
+
+-- what two callers have together
+abbrev pub merged : Tallied → Tallied → Tallied
+merged t u = record { parts = plus t.parts u.parts; made = plus t.made u.made }
+
 -- some part of each ledger
 pub record HasParts (t : Tallied) : Type 0 where
   pub calls : 0 < t.parts.calls

@@ -1,6 +1,6 @@
 //! What each caller keeps, by which stored calls are counted over all callers.
 ghost use Rattle.std.specs.Prelude.{◌≡◌, ◌<◌, ◌+◌};
-ghost use Rattle.zq_lock.specs.Tallies.{with_ask, with_full, with_other};
+ghost use Rattle.zq_lock.specs.Tallies.{HasParts, each, merged, with_ask, with_full, with_other};
 
 use std::marker::Model;
 use std::sync::ledger::{Book, Ledger, Share};
@@ -51,5 +51,41 @@ impl<C: Ledger, Q: Ledger, P: Ledger> Tally<C, Q, P> {
         ensures tally { self.new ≡ with_full self.old }
     {
         book.add(&mut self.full, 1);
+    }
+
+    /// One part of each ledger, with nothing made yet.
+    pub fn split_one(&mut self) -> Tally<C, Q, P>
+        requires parts { HasParts self.old }
+        requires fresh { self.old.made ≡ each 0 }
+        ensures one { result ≡ record { parts = each 1; made = each 0 } }
+        ensures rest { merged self.new result ≡ self.old }
+    {
+        Tally {
+            calls: self.calls.split_off(1, 0),
+            asks: self.asks.split_off(1, 0),
+            full: self.full.split_off(1, 0),
+        }
+    }
+
+    /// Takes what another has.
+    pub fn merge(&mut self, other: Tally<C, Q, P>)
+        ensures { self.new ≡ merged self.old other }
+    {
+        let Tally { calls, asks, full } = other;
+        self.calls.merge(calls);
+        self.asks.merge(asks);
+        self.full.merge(full);
+    }
+
+    /// Tells a proof that who has every part of the ledgers made all that their books count. It does nothing.
+    pub fn audit(&mut self, calls: &mut Book<C>, asks: &mut Book<Q>, full: &mut Book<P>)
+        requires { self.old.parts ≡ record { calls = C.parts; asks = Q.parts; full = P.parts } }
+        ensures tally { self.new ≡ self.old }
+        ensures books { (calls.new.total ≡ calls.old.total) × (asks.new.total ≡ asks.old.total) × (full.new.total ≡ full.old.total) }
+        ensures made { self.old.made ≡ record { calls = calls.old.total; asks = asks.old.total; full = full.old.total } }
+    {
+        calls.audit(&mut self.calls);
+        asks.audit(&mut self.asks);
+        full.audit(&mut self.full);
     }
 }
