@@ -4,6 +4,11 @@
 ghost use Rattle.std.specs.Prelude.{◌≡◌};
 ghost use Rattle.zq_main.specs.Words.{asked_of};
 
+mod bad;
+mod kept;
+
+use bad::said_of;
+use kept::{KeptSink, KeptSource};
 use std::alloc::Global;
 use std::process::ExitCode;
 use std::rt::Env;
@@ -81,10 +86,24 @@ fn sentence(status: Status) -> &'static str {
 }
 
 fn run_words(rt: &HostRuntime, alloc: Global, words: &[Text]) -> ExitCode {
-    let mut source = ReadSource::new(rt.stdin());
-    let mut sink = WriteSink::new(rt.stdout());
+    let mut source = KeptSource::new(alloc, ReadSource::new(rt.stdin()));
+    let mut sink = KeptSink::new(alloc, WriteSink::new(rt.stdout()));
     let status = run(alloc, words, &mut source, &mut sink);
-    ended(rt, status)
+    let (print, script) = (sink.kept.as_slice(), source.kept.as_slice());
+    match (status, said_of(alloc, print, script)) {
+        (Status::Script, Ok(Some(sentence))) => ended_with(rt, status, sentence),
+        _ => ended(rt, status),
+    }
+}
+
+fn ended_with(rt: &HostRuntime, status: Status, sentence: Vec<u8>) -> ExitCode {
+    match String::from_utf8(sentence) {
+        Ok(sentence) => {
+            let _ = eprintln!(rt; "{sentence}");
+            ExitCode::from(status.code())
+        }
+        Err(_) => ended(rt, status),
+    }
 }
 
 fn ended(rt: &HostRuntime, status: Status) -> ExitCode {

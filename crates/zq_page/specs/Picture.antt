@@ -139,7 +139,7 @@ rect_words event x y height = rect_class event ++ attribute (codes "x") x ++ att
 
 -- where the bar of a row begins, from the left; bars that lie side by side are moved apart
 abbrev pub bar_x : List ℕ → ℕ → Row → ℕ
-bar_x lanes number row = lane_x (lane_of lanes row.face) + 7 * (number % 4)
+bar_x lanes number row = lane_x (lane_of lanes row.face) + 6 * (number % 8)
 
 -- the bar that begins with a row, where one does
 unfoldable pub bar_words : List ℕ → ℕ → Row → List Row → List ℕ
@@ -178,6 +178,6 @@ open_words width height =
 -- the picture of rows, with a lane for each of these faces
 unfoldable pub picture_words : List ℕ → List Row → List ℕ
 picture_words lanes rows =
-    let width = 240 + 150 * length lanes in
+    let width = 310 + 150 * length lanes in
     let height = 80 + 30 * length rows in
     open_words width height ++ lanes_words height lanes ++ bars_words lanes rows ++ rows_words lanes width rows ++ codes "</svg>" ++ 10 ∷ []

@@ -9,7 +9,7 @@ use std::alloc::{AllocError, Global};
 use zq_words::words::{push_byte, push_text};
 
 /// The bytes that a label in a picture has at most.
-pub const LABEL: usize = 44;
+pub const LABEL: usize = 52;
 
 /// Writes a byte, or the entity in its place.
 fn push_entity(out: &mut Vec<u8>, byte: u8) -> Result<(), AllocError>

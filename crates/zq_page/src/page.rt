@@ -80,7 +80,7 @@ ul,ol{padding-left:1.25rem;margin:.25rem 0}p{margin:.25rem 0}
 .lines code{display:block;max-height:9rem;overflow:auto}.no{color:var(--bad);font-weight:600}.said{color:var(--soft)}
 .picture{overflow:auto;max-height:85vh;background:var(--card);border:1px solid var(--rule);border-radius:6px}
 svg{display:block}svg text{font:12px ui-monospace,monospace;fill:var(--ink);paint-order:stroke;stroke:var(--card);stroke-width:4px}
-svg .name{font-weight:600;text-anchor:middle}svg .number{fill:var(--link)}svg a:target text{font-weight:700}
+svg .name{font-weight:600;text-anchor:middle}svg .number{fill:var(--link)}svg a:target text{font-weight:700}p code{font-size:inherit}
 path{fill:none;stroke:var(--ink);stroke-width:1.5}.lane{stroke:var(--rule)}.ask{stroke-width:2.5}.reply{stroke-dasharray:9 4}.final{stroke-dasharray:2 4}
 .tell{stroke:var(--soft);stroke-width:1}.time{stroke:var(--soft);stroke-dasharray:14 4 2 4}.head{fill:var(--ink);stroke:none}.cross{stroke:var(--bad);stroke-width:2.5}
 .dot{stroke-width:8;stroke-linecap:round}.pending{fill:var(--soft)}.flight{fill:var(--card);stroke:var(--ink)}
@@ -91,7 +91,7 @@ path{fill:none;stroke:var(--ink);stroke-width:1.5}.lane{stroke:var(--rule)}.ask{
 
 /// How the picture is read.
 pub const LEGEND: &str =
-    "<p class='said'>Arrows: a thick line is a request, a dashed one a reply, a dotted one a final, a thin one a declaration; a cross is a refusal. A filled bar is a request that is pending at the face, a hollow one a reply in flight. A rule across is a moment that came. Numbers are those of the script's lines.</p>
+    "<p class='said'>Time goes down. Arrows: a thick line is a request, a dashed one a reply, a dotted one a final, a thin one a declaration; a cross in place of a head is a refusal. A filled bar beside a face is a request that is pending there, a hollow one a reply in flight. A rule across is a moment that came. At the left are the numbers of the script's lines, linked with what is said of them below; <code>#N</code> is the number of a request in this run, and the number behind a message's name the id by which its face knows it.</p>
 <div class='picture'>
 ";
 

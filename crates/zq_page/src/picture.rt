@@ -298,7 +298,7 @@ fn push_rect(
 fn bar_x(lanes: &[u32], number: usize, row: &Row) -> u128
     ensures { result ≡ bar_x lanes.now number row.now }
 {
-    lane_x(lane_of(lanes, row.face)) + 7 * (number as u128 % 4)
+    lane_x(lane_of(lanes, row.face)) + 6 * (number as u128 % 8)
 }
 
 /// Writes the bar that begins with a row, where one does.
@@ -415,7 +415,7 @@ pub fn push_picture(
 ) -> Result<(), AllocError>
     ensures { OnOk result (out.new.items ≡ out.old.items ++ picture_words lanes.now rows.now) }
 {
-    let width = 240 + 150 * lanes.len() as u128;
+    let width = 310 + 150 * lanes.len() as u128;
     let height = 80 + 30 * rows.len() as u128;
     push_open(out, width, height)?;
     push_lanes(out, height, lanes)?;

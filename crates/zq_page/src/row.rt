@@ -26,18 +26,38 @@ pub enum Kind {
 pub enum Event {
     /// Nothing.
     Nothing,
-    /// A request is pending at a face, under an id.
-    Pending { face: u32, id: u32, request: u64 },
+    /// A request is pending at a face, under an id, up to a moment.
+    Pending {
+        face: u32,
+        id: u32,
+        request: u64,
+        until: u64,
+    },
     /// A reply is in flight.
-    InFlight { reply: u64 },
+    InFlight {
+        reply: u64,
+    },
     /// A face has no more to say to the request of an id.
-    Finished { face: u32, id: u32 },
+    Finished {
+        face: u32,
+        id: u32,
+    },
     /// A request ended for the one who asked.
-    Over { request: u64 },
+    Over {
+        request: u64,
+    },
     /// A face closed.
-    Closed { face: u32 },
+    Closed {
+        face: u32,
+    },
     /// A reply was sent.
-    Sent { reply: u64 },
+    Sent {
+        reply: u64,
+    },
+    /// A moment came.
+    Moment {
+        now: u64,
+    },
 }
 
 impl Event {
@@ -62,6 +82,7 @@ impl Event {
             ) => face == by && id == ended,
             (Event::Pending { request, .. }, Event::Over { request: over }) => request == over,
             (Event::Pending { face, .. }, Event::Closed { face: closed }) => face == closed,
+            (Event::Pending { until, .. }, Event::Moment { now }) => until <= now,
             (Event::InFlight { reply }, Event::Sent { reply: sent }) => reply == sent,
             _ => false,
         }

@@ -45,7 +45,7 @@ replied_words (Some n) = named (codes "replied: reply ") n
 -- what a call was answered; of a refusal with its cause
 abbrev pub answer_words : Outcome → List ℕ
 answer_words (outcome.Opened face) = named (codes "opened: face ") face.0
-answer_words (outcome.Asked n) = named (codes "asked: request ") n
+answer_words (outcome.Asked n) = named (codes "asked: request #") n
 answer_words (outcome.Replied reply) = replied_words reply
 answer_words outcome.Done = codes "done"
 answer_words (outcome.Refused r) = codes "refused: " ++ cause_words r
@@ -59,6 +59,20 @@ abbrev pub gone_words : List ℕ → Option Message → List ℕ
 gone_words words None = codes ", of which nothing leaves"
 gone_words words (Some m) = other_words words (message_words m)
 
--- a message that is handed: to whom, its words, and what leaves of it where that is not the same
+-- the number of a request, if there is one
+abbrev pub number_tag : Option ℕ → List ℕ
+number_tag None = []
+number_tag (Some n) = named (codes "#") n ++ codes " "
+
+-- the number of a reply, if there is one
+abbrev pub reply_tag : Option ℕ → List ℕ
+reply_tag None = []
+reply_tag (Some n) = named (codes "reply ") n ++ codes ": "
+
+-- the numbers of the request and of the reply that a message is of
+abbrev pub tag_words : Handed → List ℕ
+tag_words h = number_tag h.number ++ reply_tag h.reply
+
+-- a message that is handed: to whom, of which request and as which reply, its words, and what leaves of it where that is not the same
 abbrev pub handed_text : Handed → List ℕ
-handed_text h = named (codes "to face ") h.to.0 ++ codes ": " ++ message_words h.message ++ gone_words (message_words h.message) h.leaves
+handed_text h = named (codes "to face ") h.to.0 ++ codes ": " ++ tag_words h ++ message_words h.message ++ gone_words (message_words h.message) h.leaves

@@ -1,6 +1,7 @@
 -- The rows of a picture: one for a call, and one for each message that it hands.
-use Rattle.std.specs.Prelude.{ℕ, Bool, true, false, List, [], ◌∷◌, ◌++◌, Option, Some, None, if◌then◌else◌, map}
+use Rattle.std.specs.Prelude.{ℕ, ◌+◌, ◌-◌, ◌^◌, Bool, true, false, List, [], ◌∷◌, ◌++◌, Option, Some, None, codes, if◌then◌else◌, map, min}
 use Rattle.std.specs.List.{flat_map}
+use Rattle.std.specs.Option.{unwrap_or}
 use Rattle.zq_message.specs.declared.message.Message.{Message}
 use Rattle.zq_message.specs.declared.message.Message.TheVariants as message
 use Rattle.zq_machine.specs.declared.call.Call.{Call}
@@ -17,7 +18,7 @@ use Rattle.zq_page.specs.declared.row.Kind.{Kind}
 use Rattle.zq_page.specs.declared.row.Kind.TheVariants as kind
 use Rattle.zq_page.specs.declared.row.Row.{Row}
 use Rattle.zq_show.specs.declared.entry.Entry.{Entry}
-use Rattle.zq_show.specs.Answer.{is_refused}
+use Rattle.zq_show.specs.Answer.{is_refused, number_tag, tag_words}
 
 -- the stroke of a call
 abbrev pub call_kind : Call → Kind
@@ -60,6 +61,7 @@ abbrev pub ending : Call → Event
 ending (call.ResponseFinal face rid) = event.Finished face.0 rid
 ending (call.Close face) = event.Closed face.0
 ending (call.Sent reply) = event.Sent reply
+ending (call.Poll now) = event.Moment now
 ending _ = event.Nothing
 
 -- what ends with a call that is not refused
@@ -80,6 +82,15 @@ request_by _ handed = first_number handed
 abbrev pub request_of : Step → Option ℕ
 request_of t = request_by t.outcome t.handed
 
+-- the number of the request that an answer numbered
+abbrev pub asked_tag : Outcome → List ℕ
+asked_tag (outcome.Asked n) = number_tag (Some n)
+asked_tag _ = []
+
+-- what stands beside the arrow of a call: its words, behind the number of the request that it made
+abbrev pub call_label : Call → Outcome → List ℕ
+call_label c o = asked_tag o ++ call_words c
+
 -- the row of a call
 abbrev pub call_row : Entry → Row
 call_row entry =
@@ -91,7 +102,7 @@ call_row entry =
       refused = is_refused entry.step.outcome;
       event = call_event (is_refused entry.step.outcome) entry.call;
       request = request_of entry.step;
-      label = call_words entry.call;
+      label = call_label entry.call entry.step.outcome;
     }
 
 -- the stroke of a message
@@ -101,10 +112,20 @@ kind_of (message.Response r) = kind.Reply
 kind_of (message.ResponseFinal f) = kind.Final
 kind_of _ = kind.Declaration
 
--- a request is pending at a face from here on, if it has a number
-abbrev pub pending_from : ℕ → ℕ → Option ℕ → Event
-pending_from face id None = event.Nothing
-pending_from face id (Some request) = event.Pending face id request
+-- the moment up to which the requests that a call hands are pending; a request that gives no timeout has this one
+abbrev pub until : ℕ → Call → ℕ
+until timeout (call.Request face request now) = min (now + unwrap_or request.timeout timeout) (2 ^ 64 - 1)
+until timeout _ = 0
+
+-- a request is pending from here on, if it leaves and has a number
+abbrev pub pending_by : Option Message → Option ℕ → ℕ → ℕ → ℕ → Event
+pending_by (Some m) (Some request) face id until = event.Pending face id request until
+pending_by (Some m) None face id until = event.Nothing
+pending_by None number face id until = event.Nothing
+
+-- a request is pending at a face under an id from here on up to a moment, if it leaves and has a number
+abbrev pub pending_from : Handed → ℕ → ℕ → Event
+pending_from h id until = pending_by h.leaves h.number h.to.0 id until
 
 -- a reply is in flight from here on, if it has a number
 abbrev pub flight_from : Option ℕ → Event
@@ -116,39 +137,48 @@ abbrev pub over_at : Option ℕ → Event
 over_at None = event.Nothing
 over_at (Some request) = event.Over request
 
--- what begins or ends with a message to a face, of a request and as a reply of these numbers
-abbrev pub event_by : Message → ℕ → Option ℕ → Option ℕ → Event
-event_by (message.Request r) to request reply = pending_from to r.id request
-event_by (message.Response r) to request reply = flight_from reply
-event_by (message.ResponseFinal f) to request reply = over_at request
-event_by _ to request reply = event.Nothing
+-- what begins or ends with a message, where requests are pending up to a moment
+abbrev pub event_by : Message → ℕ → Handed → Event
+event_by (message.Request r) until h = pending_from h r.id until
+event_by (message.Response r) until h = flight_from h.reply
+event_by (message.ResponseFinal f) until h = over_at h.number
+event_by _ until h = event.Nothing
 
--- what begins or ends with a message
-abbrev pub handed_event : Handed → Event
-handed_event h = event_by h.message h.to.0 h.number h.reply
+-- what begins or ends with a message that is handed
+abbrev pub handed_event : ℕ → Handed → Event
+handed_event until h = event_by h.message until h
 
--- the row of a message that a line's call handed
-abbrev pub handed_row : ℕ → Handed → Row
-handed_row number h =
+-- whether nothing leaves of a message
+abbrev pub leaves_tag : Option Message → List ℕ
+leaves_tag None = codes "(does not leave) "
+leaves_tag (Some m) = []
+
+-- what stands beside the arrow of a message: its words, behind the numbers that it is of
+abbrev pub handed_label : Handed → List ℕ
+handed_label h = leaves_tag h.leaves ++ tag_words h ++ message_words h.message
+
+-- the row of a message that a line's call handed, whose requests are pending up to a moment
+abbrev pub handed_row : ℕ → ℕ → Handed → Row
+handed_row number until h =
     record {
       line = number;
       kind = kind_of h.message;
       face = Some h.to.0;
       handed = true;
       refused = false;
-      event = handed_event h;
+      event = handed_event until h;
       request = h.number;
-      label = message_words h.message;
+      label = handed_label h;
     }
 
 -- the rows of messages
-abbrev pub handed_rows : ℕ → List Handed → List Row
-handed_rows line handed = map (handed_row line) handed
+abbrev pub handed_rows : ℕ → ℕ → List Handed → List Row
+handed_rows line until handed = map (handed_row line until) handed
 
 -- the rows of a call: its own, and one for each message that it handed, in order
-abbrev pub rows_of : Entry → List Row
-rows_of entry = call_row entry ∷ [] ++ handed_rows entry.number entry.step.handed
+abbrev pub rows_of : ℕ → Entry → List Row
+rows_of timeout entry = call_row entry ∷ [] ++ handed_rows entry.number (until timeout entry.call) entry.step.handed
 
--- the rows of calls, in order
-abbrev pub all_rows : List Entry → List Row
-all_rows entries = flat_map rows_of entries
+-- the rows of calls, in order; a request that gives no timeout has this one
+abbrev pub all_rows : ℕ → List Entry → List Row
+all_rows timeout entries = flat_map (rows_of timeout) entries

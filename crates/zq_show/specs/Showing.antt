@@ -55,14 +55,14 @@ abbrev pub face_lines : List Entry → List (List ℕ)
 face_lines entries = flat_map face_texts entries
 
 -- the rows of the picture: of the first calls, or of those that concern a request
-abbrev pub rows_shown : Option ℕ → List Entry → List Row
-rows_shown None entries = all_rows (take DRAWN entries)
-rows_shown (Some request) entries = chosen request (all_rows entries)
+abbrev pub rows_shown : Option ℕ → ℕ → List Entry → List Row
+rows_shown None timeout entries = all_rows timeout (take DRAWN entries)
+rows_shown (Some request) timeout entries = chosen request (all_rows timeout entries)
 
 -- which of the calls a picture shows
 abbrev pub scope_words : Option ℕ → ℕ → List ℕ
-scope_words (Some request) calls = codes "The picture shows the calls that concern request " ++ decimal request
-scope_words None calls = if nat_le calls DRAWN then codes "The picture shows all calls" else codes "The picture shows the first 100 calls"
+scope_words (Some request) calls = codes "The picture shows the calls that concern request #" ++ decimal request ++ codes "."
+scope_words None calls = if nat_le calls DRAWN then codes "The picture shows all calls." else codes "The picture shows the first 100 calls; `zq show --request N` draws those of request #N."
 
 -- what is shown of a run
 abbrev pub shown_of : Run → Option ℕ → Shown
@@ -73,5 +73,5 @@ shown_of run request =
       lines = lines_of run.entries;
       bad = run.bad;
       scope = scope_words request (length run.entries);
-      rows = rows_shown request run.entries;
+      rows = rows_shown request run.timeout run.entries;
     }

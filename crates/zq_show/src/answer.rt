@@ -1,6 +1,6 @@
 //! What a call was answered, as a text.
 ghost use Rattle.std.specs.Prelude.{◌≡◌, ◌++◌, IfOk, OnOk};
-ghost use Rattle.zq_show.specs.Answer.{answer_words, cause_words, gone_words, handed_text, is_refused, named, other_words, replied_words};
+ghost use Rattle.zq_show.specs.Answer.{answer_words, cause_words, gone_words, handed_text, is_refused, named, number_tag, other_words, replied_words, reply_tag, tag_words};
 ghost use Rattle.std.specs.Option.{option_copied};
 
 use std::alloc::{AllocError, Global};
@@ -62,7 +62,7 @@ fn push_answer(out: &mut Vec<u8>, outcome: Outcome) -> Result<(), AllocError>
 {
     match outcome {
         Outcome::Opened(face) => push_named(out, "opened: face ", u64::from(face.0)),
-        Outcome::Asked(number) => push_named(out, "asked: request ", number),
+        Outcome::Asked(number) => push_named(out, "asked: request #", number),
         Outcome::Replied(reply) => push_replied(out, reply),
         Outcome::Done => push_text(out, "done"),
         Outcome::Refused(refusal) => {
@@ -118,13 +118,45 @@ fn push_gone(
     Ok(())
 }
 
-/// A message that is handed: to whom, its words, and what leaves of it where that is not the same.
+/// Writes the number of a request, if there is one.
+pub fn push_number_tag(out: &mut Vec<u8>, number: Option<u64>) -> Result<(), AllocError>
+    ensures { OnOk result (out.new.items ≡ out.old.items ++ number_tag number) }
+{
+    if let Some(number) = number {
+        push_named(out, "#", number)?;
+        push_text(out, " ")?;
+    }
+    Ok(())
+}
+
+/// Writes the number of a reply, if there is one.
+fn push_reply_tag(out: &mut Vec<u8>, reply: Option<u64>) -> Result<(), AllocError>
+    ensures { OnOk result (out.new.items ≡ out.old.items ++ reply_tag reply) }
+{
+    if let Some(number) = reply {
+        push_named(out, "reply ", number)?;
+        push_text(out, ": ")?;
+    }
+    Ok(())
+}
+
+/// Writes the numbers of the request and of the reply that a message is of.
+pub fn push_tag(out: &mut Vec<u8>, handed: &Handed) -> Result<(), AllocError>
+    ensures { OnOk result (out.new.items ≡ out.old.items ++ tag_words handed.now) }
+{
+    push_number_tag(out, handed.number())?;
+    push_reply_tag(out, handed.reply())
+}
+
+/// A message that is handed: to whom, of which request and as which reply, its words, and what
+/// leaves of it where that is not the same.
 pub fn handed_text(alloc: Global, handed: &Handed) -> Result<Bytes, OutOfMemory>
     ensures { IfOk result (λ b. b ≡ handed_text handed.now) }
 {
     let mut out = Vec::new(alloc);
     push_named(&mut out, "to face ", u64::from(handed.to().0))?;
     push_text(&mut out, ": ")?;
+    push_tag(&mut out, handed)?;
     let words = print_message(alloc, handed.message())?;
     out.extend_from_slice(words.as_slice())?;
     push_gone(alloc, &mut out, handed.leaves(), words.as_slice())?;

@@ -1,6 +1,6 @@
 //! Which offers stood for a request, and whom its mode asked.
 ghost use Rattle.std.specs.Prelude.{◌≡◌, ◌++◌, IfOk, OnOk};
-ghost use Rattle.zq_show.specs.Notes.{asked_note, faces_words, is_request, mode_words, note_list, notes_of, numbers_words, offers_note, picked};
+ghost use Rattle.zq_show.specs.Notes.{asked_note, asked_words, faces_words, is_among, is_request, mode_words, note_list, notes_of, numbers_words, offers_note, others, picked};
 
 use crate::entry::{Entry, FaceList, Offers};
 use std::alloc::{AllocError, Global};
@@ -33,6 +33,26 @@ pub fn picked(alloc: Global, handed: &[Handed]) -> Result<FaceList, OutOfMemory>
     Ok(faces)
 }
 
+/// Whether the face is among these.
+fn is_among(faces: &[FaceId], face: FaceId) -> bool
+    ensures { result ≡ is_among faces.now face }
+{
+    faces.iter().any(|other| other.0 == face.0)
+}
+
+/// The faces that are not among others, in order.
+fn others(alloc: Global, faces: &[FaceId], among: &[FaceId]) -> Result<FaceList, OutOfMemory>
+    ensures { IfOk result (λ l. l ≡ others among.now faces.now) }
+{
+    let mut left = Items::new(alloc);
+    for face in faces {
+        if !is_among(among, *face) {
+            left.push(*face)?;
+        }
+    }
+    Ok(left)
+}
+
 /// Writes the numbers of faces.
 fn push_numbers(out: &mut Vec<u8>, faces: &[FaceId]) -> Result<(), AllocError>
     ensures { OnOk result (out.new.items ≡ out.old.items ++ numbers_words faces.now) }
@@ -53,14 +73,15 @@ fn push_faces(out: &mut Vec<u8>, faces: &[FaceId]) -> Result<(), AllocError>
     push_numbers(out, faces)
 }
 
-/// Which offers stood: whose faces they are of, and which of them are complete.
+/// Which offers stood: of which faces, and which of them are complete, or are of faces that did not
+/// say.
 fn offers_note(alloc: Global, offers: &Offers) -> Result<Bytes, OutOfMemory>
     ensures { IfOk result (λ b. b ≡ offers_note offers.now) }
 {
     let mut out = Vec::new(alloc);
-    push_text(&mut out, "offers stood of these faces:")?;
+    push_text(&mut out, "faces with an offer on this key:")?;
     push_faces(&mut out, offers.all.as_slice())?;
-    push_text(&mut out, "; complete ones of:")?;
+    push_text(&mut out, "; complete, or not known to be:")?;
     push_faces(&mut out, offers.complete.as_slice())?;
     Ok(Bytes::from_vec(out))
 }
@@ -70,21 +91,45 @@ fn mode(target: QueryTarget) -> &'static str
     ensures { result.now ≡ mode_words target }
 {
     match target {
-        QueryTarget::All => "`all` takes each offer of a region; asked:",
-        QueryTarget::AllComplete => "`complete` takes the complete offers of a region; asked:",
+        QueryTarget::All => "`all` asks each; asked faces:",
+        QueryTarget::AllComplete => {
+            "`complete` asks those that are complete, or not known to be; asked faces:"
+        }
         QueryTarget::BestMatching => {
-            "`best` takes the first complete offer of a region, or all where none is complete; asked:"
+            "`best` asks in each region the nearest complete one, or all where none is known to be complete; asked faces:"
         }
     }
 }
 
-/// Whom the mode asked of those.
-fn asked_note(alloc: Global, target: QueryTarget, faces: &[FaceId]) -> Result<Bytes, OutOfMemory>
-    ensures { IfOk result (λ b. b ≡ asked_note target faces.now) }
+/// Writes the faces that were asked, and those of the offers that were not.
+#[tactic(auto, unfolding(crate::specs::Notes::asked_words))]
+fn push_asked(
+    alloc: Global,
+    out: &mut Vec<u8>,
+    offers: &[FaceId],
+    faces: &[FaceId],
+) -> Result<(), OutOfMemory>
+    ensures { OnOk result (out.new.items ≡ out.old.items ++ asked_words offers.now faces.now) }
+{
+    let rest = others(alloc, offers, faces)?;
+    push_faces(out, faces)?;
+    push_text(out, "; not asked:")?;
+    push_faces(out, rest.as_slice())?;
+    Ok(())
+}
+
+/// Whom the mode asked of those, and whom not.
+fn asked_note(
+    alloc: Global,
+    target: QueryTarget,
+    offers: &[FaceId],
+    faces: &[FaceId],
+) -> Result<Bytes, OutOfMemory>
+    ensures { IfOk result (λ b. b ≡ asked_note target offers.now faces.now) }
 {
     let mut out = Vec::new(alloc);
     push_text(&mut out, mode(target))?;
-    push_faces(&mut out, faces)?;
+    push_asked(alloc, &mut out, offers, faces)?;
     Ok(Bytes::from_vec(out))
 }
 
@@ -100,7 +145,7 @@ fn note_list(
     let mut notes = Items::new(alloc);
     notes.push(offers_note(alloc, offers)?)?;
     let faces = picked(alloc, handed)?;
-    notes.push(asked_note(alloc, target, faces.as_slice())?)?;
+    notes.push(asked_note(alloc, target, offers.all.as_slice(), faces.as_slice())?)?;
     Ok(notes)
 }
 

@@ -1,19 +1,22 @@
 //! The rows of a picture: one for a call, and one for each message that it hands.
 ghost use Rattle.std.specs.Prelude.{◌≡◌, IfOk, OnOk, ◌++◌};
-ghost use Rattle.zq_show.specs.Rows.{call_event, call_face, call_kind, call_row, handed_event, handed_row, handed_rows, kind_of, opened, request_of, rows_of, all_rows};
+ghost use Rattle.std.specs.Option.{option_copied};
+ghost use Rattle.zq_show.specs.Rows.{call_event, call_face, call_kind, call_label, call_row, handed_event, handed_label, handed_row, handed_rows, kind_of, leaves_tag, opened, pending_from, request_of, rows_of, until, all_rows};
 
-use crate::answer::is_refused;
+use crate::answer::{is_refused, push_number_tag, push_tag};
 use crate::entry::Entry;
-use std::alloc::Global;
+use std::alloc::{AllocError, Global};
 use zq_key::items::Items;
 use zq_key::memory::OutOfMemory;
 use zq_key::message::Message;
+use zq_key::text::Bytes;
 use zq_lines::calls::print_call;
 use zq_machine::call::{Call, Outcome, Step};
 use zq_machine::handed::Handed;
 use zq_page::choice::RowList;
 use zq_page::row::{Event, Kind, Row};
 use zq_prints::steps::print_message;
+use zq_words::words::push_text;
 
 /// The stroke of a call.
 fn call_kind(call: &Call) -> Kind
@@ -76,6 +79,7 @@ fn call_event(call: &Call, refused: bool) -> Event
         },
         Call::Close { face } => Event::Closed { face: face.0 },
         Call::Sent { reply } => Event::Sent { reply: *reply },
+        Call::Poll { now } => Event::Moment { now: *now },
         _ => Event::Nothing,
     }
 }
@@ -93,6 +97,18 @@ fn request_of(step: &Step) -> Option<u64>
     }
 }
 
+/// What stands beside the arrow of a call: its words, behind the number of the request that it made.
+fn call_label(alloc: Global, call: &Call, outcome: Outcome) -> Result<Bytes, OutOfMemory>
+    ensures { IfOk result (λ b. b ≡ call_label call.now outcome) }
+{
+    let mut out = Vec::new(alloc);
+    if let Outcome::Asked(number) = outcome {
+        push_number_tag(&mut out, Some(number))?;
+    }
+    out.extend_from_slice(print_call(alloc, call)?.as_slice())?;
+    Ok(Bytes::from_vec(out))
+}
+
 /// The row of a call.
 fn call_row(alloc: Global, entry: &Entry) -> Result<Row, OutOfMemory>
     ensures { IfOk result (λ r. r ≡ call_row entry.now) }
@@ -106,7 +122,7 @@ fn call_row(alloc: Global, entry: &Entry) -> Result<Row, OutOfMemory>
         refused,
         event: call_event(&entry.call, refused),
         request: request_of(&entry.step),
-        label: print_call(alloc, &entry.call)?,
+        label: call_label(alloc, &entry.call, entry.step.outcome)?,
     })
 }
 
@@ -122,25 +138,69 @@ fn kind_of(message: &Message) -> Kind
     }
 }
 
-/// What begins or ends with a message.
-fn handed_event(handed: &Handed) -> Event
-    ensures { result ≡ handed_event handed.now }
+/// The moment up to which the requests that a call hands are pending.
+fn until(timeout: u64, call: &Call) -> u64
+    ensures { result ≡ until timeout call.now }
+{
+    match call {
+        Call::Request { request, now, .. } => now.saturating_add(
+            request.timeout.unwrap_or(timeout),
+        ),
+        _ => 0,
+    }
+}
+
+/// A request is pending at a face up to a moment, if it leaves and has a number.
+fn pending_from(handed: &Handed, id: u32, until: u64) -> Event
+    ensures { result ≡ pending_from handed.now id until }
+{
+    match (handed.leaves(), handed.number()) {
+        (Some(_), Some(request)) => Event::Pending {
+            face: handed.to().0,
+            id,
+            request,
+            until,
+        },
+        _ => Event::Nothing,
+    }
+}
+
+/// What begins or ends with a message, where requests are pending up to a moment.
+fn handed_event(handed: &Handed, until: u64) -> Event
+    ensures { result ≡ handed_event until handed.now }
 {
     match (handed.message(), handed.number(), handed.reply()) {
-        (Message::Request(asked), Some(request), _) => Event::Pending {
-            face: handed.to().0,
-            id: asked.id,
-            request,
-        },
+        (Message::Request(asked), _, _) => pending_from(handed, asked.id, until),
         (Message::Response(_), _, Some(reply)) => Event::InFlight { reply },
         (Message::ResponseFinal(_), Some(request), _) => Event::Over { request },
         _ => Event::Nothing,
     }
 }
 
-/// The row of a message that a line's call handed.
-fn handed_row(alloc: Global, line: u64, handed: &Handed) -> Result<Row, OutOfMemory>
-    ensures { IfOk result (λ r. r ≡ handed_row line handed.now) }
+/// Writes that nothing leaves of a message, if that is so.
+fn push_leaves_tag(out: &mut Vec<u8>, leaves: Option<&Message>) -> Result<(), AllocError>
+    ensures { OnOk result (out.new.items ≡ out.old.items ++ leaves_tag (option_copied leaves.entry)) }
+{
+    match leaves {
+        Some(_) => Ok(()),
+        None => push_text(out, "(does not leave) "),
+    }
+}
+
+/// What stands beside the arrow of a message: its words, behind the numbers that it is of.
+fn handed_label(alloc: Global, handed: &Handed) -> Result<Bytes, OutOfMemory>
+    ensures { IfOk result (λ b. b ≡ handed_label handed.now) }
+{
+    let mut out = Vec::new(alloc);
+    push_leaves_tag(&mut out, handed.leaves())?;
+    push_tag(&mut out, handed)?;
+    out.extend_from_slice(print_message(alloc, handed.message())?.as_slice())?;
+    Ok(Bytes::from_vec(out))
+}
+
+/// The row of a message that a line's call handed, whose requests are pending up to a moment.
+fn handed_row(alloc: Global, line: u64, until: u64, handed: &Handed) -> Result<Row, OutOfMemory>
+    ensures { IfOk result (λ r. r ≡ handed_row line until handed.now) }
 {
     Ok(Row {
         line,
@@ -148,9 +208,9 @@ fn handed_row(alloc: Global, line: u64, handed: &Handed) -> Result<Row, OutOfMem
         face: Some(handed.to().0),
         handed: true,
         refused: false,
-        event: handed_event(handed),
+        event: handed_event(handed, until),
         request: handed.number(),
-        label: print_message(alloc, handed.message())?,
+        label: handed_label(alloc, handed)?,
     })
 }
 
@@ -159,31 +219,44 @@ fn push_handed(
     alloc: Global,
     rows: &mut RowList,
     line: u64,
+    until: u64,
     handed: &[Handed],
 ) -> Result<(), OutOfMemory>
-    ensures { OnOk result (rows.new ≡ rows.old ++ handed_rows line handed.now) }
+    ensures { OnOk result (rows.new ≡ rows.old ++ handed_rows line until handed.now) }
 {
     for message in handed {
-        rows.push(handed_row(alloc, line, message)?)?;
+        rows.push(handed_row(alloc, line, until, message)?)?;
     }
     Ok(())
 }
 
 /// Adds the rows of a call: its own, and one for each message that it handed, in order.
-fn push_rows(alloc: Global, rows: &mut RowList, entry: &Entry) -> Result<(), OutOfMemory>
-    ensures { OnOk result (rows.new ≡ rows.old ++ rows_of entry.now) }
+fn push_rows(
+    alloc: Global,
+    rows: &mut RowList,
+    timeout: u64,
+    entry: &Entry,
+) -> Result<(), OutOfMemory>
+    ensures { OnOk result (rows.new ≡ rows.old ++ rows_of timeout entry.now) }
 {
     rows.push(call_row(alloc, entry)?)?;
-    push_handed(alloc, rows, entry.number, entry.step.handed.as_slice())
+    let until = until(timeout, &entry.call);
+    push_handed(
+        alloc,
+        rows,
+        entry.number,
+        until,
+        entry.step.handed.as_slice(),
+    )
 }
 
-/// The rows of calls, in order.
-pub fn all_rows(alloc: Global, entries: &[Entry]) -> Result<RowList, OutOfMemory>
-    ensures { IfOk result (λ l. l ≡ all_rows entries.now) }
+/// The rows of calls, in order; a request that gives no timeout has this one.
+pub fn all_rows(alloc: Global, timeout: u64, entries: &[Entry]) -> Result<RowList, OutOfMemory>
+    ensures { IfOk result (λ l. l ≡ all_rows timeout entries.now) }
 {
     let mut rows = Items::new(alloc);
     for entry in entries {
-        push_rows(alloc, &mut rows, entry)?;
+        push_rows(alloc, &mut rows, timeout, entry)?;
     }
     Ok(rows)
 }

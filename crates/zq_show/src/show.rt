@@ -28,6 +28,8 @@ pub const DRAWN: usize = 100;
 pub struct Run {
     /// The lines before the calls, as they stand in the script.
     pub head: BytesList,
+    /// The timeout in milliseconds of a request that gives none.
+    pub timeout: u64,
     /// The calls, in order.
     pub entries: Items<Entry>,
     /// The line at which the script ends because it could not be read, if there is one.
@@ -118,13 +120,14 @@ fn first_calls(entries: &[Entry]) -> &[Entry]
 fn rows_shown(
     alloc: Global,
     request: Option<u64>,
+    timeout: u64,
     entries: &[Entry],
 ) -> Result<RowList, OutOfMemory>
-    ensures { IfOk result (λ l. l ≡ rows_shown request entries.now) }
+    ensures { IfOk result (λ l. l ≡ rows_shown request timeout entries.now) }
 {
     match request {
-        Some(number) => chosen(alloc, number, all_rows(alloc, entries)?),
-        None => all_rows(alloc, first_calls(entries)),
+        Some(number) => chosen(alloc, number, all_rows(alloc, timeout, entries)?),
+        None => all_rows(alloc, timeout, first_calls(entries)),
     }
 }
 
@@ -137,12 +140,16 @@ fn scope(alloc: Global, request: Option<u64>, calls: usize) -> Result<Bytes, Out
         Some(number) => {
             push_text(
                 &mut out,
-                "The picture shows the calls that concern request ",
+                "The picture shows the calls that concern request #",
             )?;
             push_number(&mut out, number)?;
+            push_text(&mut out, ".")?;
         }
-        None if calls <= DRAWN => push_text(&mut out, "The picture shows all calls")?,
-        None => push_text(&mut out, "The picture shows the first 100 calls")?,
+        None if calls <= DRAWN => push_text(&mut out, "The picture shows all calls.")?,
+        None => push_text(
+            &mut out,
+            "The picture shows the first 100 calls; `zq show --request N` draws those of request #N.",
+        )?,
     }
     Ok(Bytes::from_vec(out))
 }
@@ -152,7 +159,12 @@ fn scope(alloc: Global, request: Option<u64>, calls: usize) -> Result<Bytes, Out
 fn shown_of(alloc: Global, run: Run, request: Option<u64>) -> Result<Shown, OutOfMemory>
     ensures value { IfOk result (λ s. s ≡ shown_of run request) }
 {
-    let Run { head, entries, bad } = run;
+    let Run {
+        head,
+        timeout,
+        entries,
+        bad,
+    } = run;
     let calls = entries.as_slice();
     Ok(Shown {
         head,
@@ -160,7 +172,7 @@ fn shown_of(alloc: Global, run: Run, request: Option<u64>) -> Result<Shown, OutO
         lines: lines_of(alloc, calls)?,
         bad,
         scope: scope(alloc, request, calls.len())?,
-        rows: rows_shown(alloc, request, calls)?,
+        rows: rows_shown(alloc, request, timeout, calls)?,
     })
 }
 

@@ -28,11 +28,11 @@ fn texts_bring_no_markup(rt: HostRuntime) -> Result<(), Fail> {
 fn labels_are_cut_off(rt: HostRuntime) -> Result<(), Fail> {
     let label = in_picture(
         rt.alloc(),
-        b"0123456789012345678901234567890123456789012<45",
+        b"012345678901234567890123456789012345678901234567890<53",
     )?;
     assert_eq!(rt;
         label.as_slice(),
-        b"0123456789012345678901234567890123456789012&lt;&#8230;".as_slice()
+        b"012345678901234567890123456789012345678901234567890&lt;&#8230;".as_slice()
     );
     Ok(())
 }

@@ -22,7 +22,8 @@ fn bad_lines_have_a_reason(rt: HostRuntime) -> Result<(), Fail> {
         ),
         ("key 0 70000 0:s:k", "`70000` is no number below 2^16"),
         ("answer 1", "`answer` is no call"),
-        ("", "`` is no call"),
+        ("", "the line has no first word"),
+        ("start 1 2 3", "`start` has 6 words, this has 4"),
     ] {
         let said = why(rt.alloc(), 2, line.as_bytes())?;
         assert_eq!(rt; said.as_slice(), sentence.as_bytes());

@@ -1,10 +1,10 @@
 -- The words of each call, behind its name.
-use Rattle.std.specs.Prelude.{ℕ, ◌||◌, List, Option, Some, None, codes, if◌then◌else◌}
+use Rattle.std.specs.Prelude.{ℕ, ◌==◌, Bool, ◌&&◌, ◌||◌, List, Option, Some, None, codes, if◌then◌else◌}
 use Rattle.std.specs.Str.{bytes_eq}
 use Rattle.zq_why.specs.declared.kind.Kind.{Kind}
 use Rattle.zq_why.specs.declared.form.Span.{Span}
 use Rattle.zq_why.specs.declared.form.Span.TheVariants as span
-use Rattle.zq_why.specs.declared.form.TheConstants.{OPEN, FACE, IDS, KEY, UNKEY, QUERYABLE, UNQUERYABLE, INTEREST, FINALIZE, ASK, REPLY, LONG, GATEWAYS, NETWORK, NODES}
+use Rattle.zq_why.specs.declared.form.TheConstants.{START, OPEN, FACE, IDS, KEY, UNKEY, QUERYABLE, UNQUERYABLE, INTEREST, FINALIZE, ASK, REPLY, LONG, GATEWAYS, NETWORK, NODES}
 
 -- the words of a call that speaks of keys and queryables
 abbrev pub declaring_form : List ℕ → Option (List Kind)
@@ -36,6 +36,10 @@ form_of name =
     else (if bytes_eq name (codes "final") then Some IDS.now
     else (if bytes_eq name (codes "sent") || bytes_eq name (codes "poll") then Some LONG.now
     else other_form name)))
+
+-- the words of a line of a number and a name, if there are such: of a call, or of the counters, which may stand second
+abbrev pub form_at : ℕ → List ℕ → Option (List Kind)
+form_at number name = if number == 2 && bytes_eq name (codes "start") then Some START.now else form_of name
 
 -- how many words the call of a name may have: further ones, or one less, or just its own
 abbrev pub span_of : List ℕ → Span

@@ -3,10 +3,10 @@ use Rattle.std.specs.Prelude.{ℕ, ◌+◌, ◌==◌, Bool, ◌||◌, List, [], 
 use Rattle.std.specs.Fmt.{decimal}
 use Rattle.zq_words.specs.Words.{len_to, word_at}
 use Rattle.zq_why.specs.declared.kind.Kind.{Kind}
-use Rattle.zq_why.specs.declared.why.TheConstants.{CONFIG, FORM}
+use Rattle.zq_why.specs.declared.why.TheConstants.{CONFIG, FORM, NAMELESS}
 use Rattle.zq_why.specs.declared.form.Span.{Span}
 use Rattle.zq_why.specs.declared.form.Span.TheVariants as span
-use Rattle.zq_why.specs.Forms.{form_of, span_of}
+use Rattle.zq_why.specs.Forms.{form_at, span_of}
 use Rattle.zq_why.specs.Kinds.{expected, is_kind}
 
 -- the name of a line: what stands before its first space
@@ -29,7 +29,7 @@ quoted bytes = codes "`" ++ bytes ++ codes "`"
 
 -- a name that is that of no call
 abbrev pub unknown_words : List ℕ → List ℕ
-unknown_words name = quoted name ++ codes " is no call"
+unknown_words name = if length name == 0 then NAMELESS.now else quoted name ++ codes " is no call"
 
 -- how many words a call has, its name among them, where so many can stand behind the name
 unfoldable pub number_words : ℕ → Span → List ℕ
@@ -81,4 +81,4 @@ rest_of line = drop (len_to 32 line) line
 
 -- what is said of a bad line of this number
 abbrev pub reason : ℕ → List ℕ → List ℕ
-reason number line = if number == 1 then CONFIG.now else name_reason (name_of line) (rest_of line) (form_of (name_of line))
+reason number line = if number == 1 then CONFIG.now else name_reason (name_of line) (rest_of line) (form_at number (name_of line))

@@ -1,11 +1,13 @@
 //! The words of each call, behind its name.
 ghost use Rattle.std.specs.Prelude.{◌≡◌};
 ghost use Rattle.std.specs.Option.{option_map};
-ghost use Rattle.zq_why.specs.Forms.{declaring_form, form_of, other_form, span_of};
+ghost use Rattle.zq_why.specs.Forms.{declaring_form, form_at, form_of, other_form, span_of};
 
 use crate::kind::Kind;
 use zq_words::words::is;
 
+/// The words of `start`, the counters.
+pub const START: &[Kind] = &[Kind::Int, Kind::Long, Kind::Long, Kind::Int, Kind::Int];
 /// The words of `open`; deny lists may follow.
 pub const OPEN: &[Kind] = &[
     Kind::Region,
@@ -110,7 +112,7 @@ fn other_form(name: &[u8]) -> Option<&'static [Kind]>
 
 /// The words of the call of a name, if there is one: all, those that it has at least, or those that it has
 /// at most.
-pub fn form_of(name: &[u8]) -> Option<&'static [Kind]>
+fn form_of(name: &[u8]) -> Option<&'static [Kind]>
     ensures { option_map (λ k. k.now) result ≡ form_of name.now }
 {
     if is(name, "ask") {
@@ -124,6 +126,17 @@ pub fn form_of(name: &[u8]) -> Option<&'static [Kind]>
     } else {
         other_form(name)
     }
+}
+
+/// The words of a line of a number and a name, if there are such: of a call, or of the counters,
+/// which may stand second.
+pub fn form_at(number: u64, name: &[u8]) -> Option<&'static [Kind]>
+    ensures { option_map (λ k. k.now) result ≡ form_at number name.now }
+{
+    if number == 2 && is(name, "start") {
+        return Some(START);
+    }
+    form_of(name)
 }
 
 /// How many words a call may have.

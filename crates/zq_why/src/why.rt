@@ -3,7 +3,7 @@ ghost use Rattle.std.specs.Prelude.{◌≡◌, ◌++◌, IfOk, OnOk};
 ghost use Rattle.std.specs.Option.{option_map};
 ghost use Rattle.zq_why.specs.Why.{call_reason, count_words, first_wrong, fits_count, has_words, number_words, quoted, reason, unknown_words, words_of, wrong_words};
 
-use crate::form::{Span, form_of, span_of};
+use crate::form::{Span, form_at, span_of};
 use crate::kind::{Kind, expected, is_kind};
 use std::alloc::{AllocError, Global};
 use zq_message::memory::OutOfMemory;
@@ -66,10 +66,16 @@ fn push_quoted(out: &mut Vec<u8>, bytes: &[u8]) -> Result<(), AllocError>
     push_text(out, "`")
 }
 
+/// What is said of a line that is empty, or begins with a space.
+pub const NAMELESS: &str = "the line has no first word";
+
 /// A name that is that of no call.
 fn unknown(alloc: Global, name: &[u8]) -> Result<Bytes, OutOfMemory>
     ensures { IfOk result (λ b. b ≡ unknown_words name.now) }
 {
+    if name.is_empty() {
+        return Ok(Bytes::new(alloc, NAMELESS.as_bytes())?);
+    }
     let mut out = Vec::new(alloc);
     push_quoted(&mut out, name)?;
     push_text(&mut out, " is no call")?;
@@ -158,7 +164,7 @@ pub fn why(alloc: Global, number: u64, line: &[u8]) -> Result<Bytes, OutOfMemory
         return Ok(Bytes::new(alloc, CONFIG.as_bytes())?);
     }
     let (name, rest) = line.split_at(len_to(b' ', line));
-    match form_of(name) {
+    match form_at(number, name) {
         Some(kinds) => why_call(alloc, name, kinds, rest),
         None => unknown(alloc, name),
     }
