@@ -85,7 +85,16 @@ fn local(alloc: Global) -> Result<Hat, OutOfMemory> {
 fn asked(alloc: Global) -> Result<Interests, OutOfMemory> {
     let mut asked = Interests::new(alloc);
     let key = Some(key_of(alloc, "a/*")?);
-    match asked.put(alloc, FaceId(1), 5, InterestEntry { key, keys: false, aggregate: false }) {
+    match asked.put(
+        alloc,
+        FaceId(1),
+        5,
+        InterestEntry {
+            key,
+            keys: false,
+            aggregate: false,
+        },
+    ) {
         Ok(()) => {}
         Err(error) => return Err(error),
     }

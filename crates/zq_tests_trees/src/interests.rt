@@ -28,7 +28,16 @@ fn ask(
     keys: bool,
 ) -> Result<(), OutOfMemory> {
     let key = key_of(alloc, text)?;
-    match asked.put(alloc, FaceId(face), id, InterestEntry { key, keys, aggregate: false }) {
+    match asked.put(
+        alloc,
+        FaceId(face),
+        id,
+        InterestEntry {
+            key,
+            keys,
+            aggregate: false,
+        },
+    ) {
         Ok(()) => Ok(()),
         Err(error) => Err(error),
     }
@@ -186,7 +195,11 @@ fn numbers_with(
 ) -> Result<[Option<bool>; 4], OutOfMemory> {
     let interests = three_ask(alloc)?;
     let key = key_of(alloc, text)?;
-    let entry = InterestEntry { key, keys, aggregate: false };
+    let entry = InterestEntry {
+        key,
+        keys,
+        aggregate: false,
+    };
     let with = WithInterest {
         interests: &interests,
         face: FaceId(face),
