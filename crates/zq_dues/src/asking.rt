@@ -166,7 +166,11 @@ pub fn is_widened(interests: &Interests, face: FaceId, keys: &[Text]) -> bool
 }
 
 /// A key joins others.
-pub(crate) fn put_key(texts: &mut BTreeSet<String>, alloc: Global, key: &str) -> Result<(), OutOfMemory>
+pub(crate) fn put_key(
+    texts: &mut BTreeSet<String>,
+    alloc: Global,
+    key: &str,
+) -> Result<(), OutOfMemory>
     requires { IsTrue (is_key key.now) }
     ensures joined { OnOk result (map string_bytes texts.new.keys ≡ insert_key text_cmp (map string_bytes texts.old.keys) key.now) }
     ensures valid { AreKeys (map string_bytes texts.old.keys) → OnOk result (AreKeys (map string_bytes texts.new.keys)) }

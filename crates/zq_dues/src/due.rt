@@ -210,16 +210,7 @@ pub fn due_as(
     ensures { IfOk result (λ i. i ≡ due_as asking (option_copied next.entry) (map string_bytes touched.now.keys) face.0 opened hats.now key.now) }
 {
     if listens(hats, opened, asking.asks) {
-        meant(
-            alloc,
-            hats,
-            next,
-            touched,
-            face,
-            opened,
-            asking.folds,
-            key,
-        )
+        meant(alloc, hats, next, touched, face, opened, asking.folds, key)
     } else {
         Ok(None)
     }

@@ -150,7 +150,5 @@ pub fn folded(
     ensures { IfOk result (λ i. i ≡ folded_as (option_copied next.entry) (map string_bytes touched.now.keys) face.0 opened hats.now key.now) }
 {
     let parts = parts_of(alloc, hats, touched, key)?;
-    Ok(merged_over(
-        hats, next, touched, face, opened, key, &parts,
-    ))
+    Ok(merged_over(hats, next, touched, face, opened, key, &parts))
 }

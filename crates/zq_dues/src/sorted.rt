@@ -12,7 +12,11 @@ use zq_key::message::TextList;
 use zq_key::text::Text;
 
 /// The keys join the texts.
-pub(crate) fn put_texts(texts: &mut BTreeSet<String>, alloc: Global, keys: &[Text]) -> Result<(), OutOfMemory>
+pub(crate) fn put_texts(
+    texts: &mut BTreeSet<String>,
+    alloc: Global,
+    keys: &[Text],
+) -> Result<(), OutOfMemory>
     ensures { OnOk result (map string_bytes texts.new.keys ≡ fold (insert_key text_cmp) (map string_bytes texts.old.keys) keys.now) }
 {
     for key in keys {
