@@ -101,6 +101,7 @@ fn asked(alloc: Global) -> Result<Interests, OutOfMemory> {
     let all = InterestEntry {
         key: None,
         keys: true,
+        aggregate: false,
     };
     match asked.put(alloc, FaceId(1), 6, all) {
         Ok(()) => Ok(asked),

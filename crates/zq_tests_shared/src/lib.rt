@@ -1,5 +1,0 @@
-//! Tests of the state that threads share.
-#![tactic(auto)]
-
-#[cfg(test)]
-mod shared;
