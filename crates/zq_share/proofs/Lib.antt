@@ -1,0 +1,4 @@
+pub mod Making
+pub mod Faults
+pub mod Gathering
+pub mod Crews
