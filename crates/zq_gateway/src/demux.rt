@@ -69,7 +69,7 @@ impl DeMux {
                 face,
                 id: interest.id,
                 keys: interest.keys,
-                aggregate: false,
+                aggregate: interest.aggregate,
                 wire: interest.wire,
             }),
             Message::InterestFinal(id) => Some(Call::InterestFinal { face, id }),

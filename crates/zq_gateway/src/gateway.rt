@@ -123,14 +123,15 @@ impl Gateway {
     }
 
     /// A face asks to hear of the queryables on the keys that meet its interest's, or on all keys, from
-    /// now on, and is answered by all that is due there, and by the end of declarations (upstream's
-    /// `Primitives::send_interest`). `IdInUse` where the id stands for an interest in another key; one
-    /// in the same key is replaced, and answered anew.
+    /// now on, or on its key alone, as one entry that stands for all keys that meet it, and is answered by
+    /// all that is due there, and by the end of declarations (upstream's `Primitives::send_interest`).
+    /// `IdInUse` where the id stands for an interest in another key; one in the same key is replaced, and
+    /// answered anew.
     pub fn send_interest(&mut self, face: FaceId, msg: &Interest) -> Result<Step, OutOfMemory>
-        ensures { Performs self.old self.new (call.Interest face msg.now.id msg.now.keys false msg.now.wire) result }
+        ensures { Performs self.old self.new (call.Interest face msg.now.id msg.now.keys msg.now.aggregate msg.now.wire) result }
     {
         self.tables
-            .register_interest(face, msg.id, msg.keys, false, &msg.wire)
+            .register_interest(face, msg.id, msg.keys, msg.aggregate, &msg.wire)
     }
 
     /// A face asks no longer under the id; it is handed what stays due on the interest's key with other

@@ -112,12 +112,12 @@ unqueryable_back : (face : FaceId) (id : ℕ) (wire : Option WireExpr) (node : �
 unfolding unqueryable_of
 unqueryable_back face id wire node f g n = then _ (face_reads face f.face) refl (then _ (number_reads most_32 id f.id (omega arith)) refl (then _ (option_wire wire g) refl (then_last _ (number_reads most_16 node n (omega arith)) refl)))
 
-aggregate_back : (aggregate : Bool) → aggregate_of (aggregate_words aggregate) ≡ Some aggregate
+pub aggregate_back : (aggregate : Bool) → aggregate_of (aggregate_words aggregate) ≡ Some aggregate
 unfolding aggregate_of
 aggregate_back false = refl
 aggregate_back true = refl
 
-aggregate_ends : (aggregate : Bool) → Ends (aggregate_words aggregate)
+pub aggregate_ends : (aggregate : Bool) → Ends (aggregate_words aggregate)
 aggregate_ends false = tt
 aggregate_ends true = refl
 

@@ -94,7 +94,8 @@ fn push_by(out: &mut Vec<u8>, responder: &Option<Zid>) -> Result<(), AllocError>
     }
 }
 
-fn push_aggregate(out: &mut Vec<u8>, aggregate: bool) -> Result<(), AllocError>
+/// Writes a last word, where an interest is aggregating.
+pub fn push_aggregate(out: &mut Vec<u8>, aggregate: bool) -> Result<(), AllocError>
     ensures { OnOk result (out.new.items ≡ out.old.items ++ aggregate_words aggregate) }
 {
     if aggregate {

@@ -54,7 +54,7 @@ declared_call face d = declaring_call face d.node d.interest d.body
 
 -- the call that a message of a face makes at a moment; the end of declarations makes one where it answers the interest 0
 abbrev pub message_call : FaceId → Message → ℕ → Option Call
-message_call face (message.Interest i) now = Some (call.Interest face i.id i.keys false i.wire)
+message_call face (message.Interest i) now = Some (call.Interest face i.id i.keys i.aggregate i.wire)
 message_call face (message.InterestFinal id) now = Some (call.InterestFinal face id)
 message_call face (message.Declare d) now = declared_call face d
 message_call face (message.Request r) now = Some (call.Request face r now)

@@ -161,6 +161,7 @@ impl Namespace {
             Message::Interest(interest) => Ok(Message::Interest(Interest {
                 id: interest.id,
                 keys: interest.keys,
+                aggregate: interest.aggregate,
                 wire: self.enter_option(&interest.wire)?,
             })),
             Message::InterestFinal(id) => Ok(Message::InterestFinal(*id)),

@@ -84,6 +84,7 @@ impl ENamespace {
             Out::Other(wire) => Ok(Out::Other(Message::Interest(Interest {
                 id: interest.id,
                 keys: interest.keys,
+                aggregate: interest.aggregate,
                 wire,
             }))),
             Out::Nothing => Ok(Out::Nothing),

@@ -137,17 +137,18 @@ final_same a b =
     (λ e. (ap (λ (x : ResponseFinal). x.rid) e, ap (λ (x : ResponseFinal). x.qos) e))
     (Decides-and _ _ (Decides-eqb a.rid b.rid) (Decides-eqb a.qos b.qos))
 
-interest_from : (a b : Interest) → a.id ≡ b.id → a.keys ≡ b.keys → a.wire ≡ b.wire → a ≡ b
-interest_from a b e0 e1 e2 =
-    ap (λ (x : ℕ). record { id = x; keys = a.keys; wire = a.wire }) e0
-    ∙ ap (λ (x : Bool). record { id = b.id; keys = x; wire = a.wire }) e1
-    ∙ ap (λ (x : Option WireExpr). record { id = b.id; keys = b.keys; wire = x }) e2
+interest_from : (a b : Interest) → a.id ≡ b.id → a.keys ≡ b.keys → a.aggregate ≡ b.aggregate → a.wire ≡ b.wire → a ≡ b
+interest_from a b e0 e1 e2 e3 =
+    ap (λ (x : ℕ). record { id = x; keys = a.keys; aggregate = a.aggregate; wire = a.wire }) e0
+    ∙ ap (λ (x : Bool). record { id = b.id; keys = x; aggregate = a.aggregate; wire = a.wire }) e1
+    ∙ ap (λ (x : Bool). record { id = b.id; keys = b.keys; aggregate = x; wire = a.wire }) e2
+    ∙ ap (λ (x : Option WireExpr). record { id = b.id; keys = b.keys; aggregate = b.aggregate; wire = x }) e3
 
 pub interest_same : (a b : Interest) → Decides (same_interest a b) (a ≡ b)
 interest_same a b =
-    Decides-like _ (λ h. interest_from a b (h.0.0) (h.0.1) (h.1))
-    (λ e. ((ap (λ (x : Interest). x.id) e, ap (λ (x : Interest). x.keys) e), ap (λ (x : Interest). x.wire) e))
-    (Decides-and _ _ (Decides-and _ _ (Decides-eqb a.id b.id) (flag_same a.keys b.keys)) (option_same same_wire wire_same a.wire b.wire))
+    Decides-like _ (λ h. interest_from a b (h.0.0.0) (h.0.0.1) (h.0.1) (h.1))
+    (λ e. (((ap (λ (x : Interest). x.id) e, ap (λ (x : Interest). x.keys) e), ap (λ (x : Interest). x.aggregate) e), ap (λ (x : Interest). x.wire) e))
+    (Decides-and _ _ (Decides-and _ _ (Decides-and _ _ (Decides-eqb a.id b.id) (flag_same a.keys b.keys)) (flag_same a.aggregate b.aggregate)) (option_same same_wire wire_same a.wire b.wire))
 
 body_same : (a b : DeclareBody) → Decides (same_body a b) (a ≡ b)
 body_same (body.DeclareKeyExpr id wire) (body.DeclareKeyExpr id2 wire2) = Decides-like _ (λ h. cc) (λ e. (cc, cc)) (Decides-and _ _ (Decides-eqb id id2) (wire_same wire wire2))

@@ -32,7 +32,7 @@ use Rattle.zq_words.specs.Fits.{FitsZid, FitsWire, FitsOption}
 use Rattle.zq_words.proofs.Back.{lacks_append, cut_back, Reads, then, number_reads, decimal_lacks, payload_is_word}
 use Rattle.zq_words.proofs.Lists.{not_name, OptionReads, option_reads}
 use Rattle.zq_words.proofs.ValuesBack.{face_reads, zid_reads, wire_reads}
-use Rattle.zq_lines.specs.CallLines.{info_words, body_words}
+use Rattle.zq_lines.specs.CallLines.{aggregate_words, info_words, body_words}
 use Rattle.zq_lines.specs.Fits.{FitsRequest, FitsResponse}
 use Rattle.zq_prints.specs.Same.{same_message}
 use Rattle.zq_lines.specs.Lines.{by_first}
@@ -40,7 +40,7 @@ use Rattle.zq_lines.specs.Split.{lines_of}
 use Rattle.zq_prints.specs.Steps.{request_words, response_words, interest_words, declare_words, message_words, refusal_name, outcome_words, leaving_words, handed_words, step_words, steps_words}
 use Rattle.zq_prints.specs.StepsRead.{last_at, request_of, response_of, final_of, interest_of, uninterest_of, declared, key_of, unkey_of, queryable_of, unqueryable_of, declfinal_of, message_by, message_of, refusal_of, outcome_by, outcome_of, leaves_by, handed_of, Told, answered, told_by, told_of, steps_of}
 use Rattle.zq_prints.specs.StepsFit.{FitsFinal, FitsInterest, FitsDeclare, FitsMessage, FitsOutcome, FitsHanded, FitsStep}
-use Rattle.zq_lines.proofs.LinesBack.{then_last, first_back, on, k_reads, info_back, option_wire, option_number, option_plain, bytes_reads, manner_back, body_back, body_ends, nest3, nest5, nest7}
+use Rattle.zq_lines.proofs.LinesBack.{then_last, first_back, on, k_reads, info_back, option_wire, option_number, option_plain, bytes_reads, manner_back, body_back, body_ends, aggregate_back, aggregate_ends, nest3, nest4, nest5, nest7}
 use Rattle.zq_lines.proofs.Splitting.{lines_cut}
 use Rattle.zq_prints.proofs.Sameness.{message_same}
 
@@ -70,9 +70,9 @@ final_back : (f : ResponseFinal) → FitsFinal f → final_of (field (decimal f.
 unfolding final_of
 final_back f g = then _ (number_reads most_32 f.rid g.rid (omega arith)) refl (last_back _ (number_reads most_8 f.qos g.qos (omega arith)) refl)
 
-interest_back : (i : Interest) → FitsInterest i → interest_of (field (decimal i.id) ++ (field (option_word wire_word i.wire) ++ field (flag_word (codes "k") (codes "n") i.keys))) ≡ Some (message.Interest i)
+interest_back : (i : Interest) → FitsInterest i → interest_of (field (decimal i.id) ++ (field (option_word wire_word i.wire) ++ (field (flag_word (codes "k") (codes "n") i.keys) ++ aggregate_words i.aggregate))) ≡ Some (message.Interest i)
 unfolding interest_of
-interest_back i f = then _ (number_reads most_32 i.id f.id (omega arith)) refl (then _ (option_wire i.wire f.wire) refl (last_back _ (k_reads i.keys) refl))
+interest_back i f = then _ (number_reads most_32 i.id f.id (omega arith)) refl (then _ (option_wire i.wire f.wire) refl (then _ (k_reads i.keys) (aggregate_ends i.aggregate) (on _ (aggregate_back i.aggregate) refl)))
 
 uninterest_back : (id : ℕ) → id ≤ most_32 → uninterest_of (field (decimal id)) ≡ Some (message.InterestFinal id)
 unfolding uninterest_of
@@ -135,7 +135,7 @@ message_back (message.Response r) f =
 message_back (message.ResponseFinal l) f = ap message_of (append_assoc (codes "final") (field (decimal l.rid)) (field (decimal l.qos))) ∙ first_back message_by (codes "final") _ refl ∙ final_back l f
 message_back (message.Declare d) f = declare_back d.interest d.node d.body f
 message_back (message.Interest i) f =
-    ap message_of (nest3 (codes "interest") (field (decimal i.id)) (field (option_word wire_word i.wire)) (field (flag_word (codes "k") (codes "n") i.keys)))
+    ap message_of (nest4 (codes "interest") (field (decimal i.id)) (field (option_word wire_word i.wire)) (field (flag_word (codes "k") (codes "n") i.keys)) (aggregate_words i.aggregate))
     ∙ first_back message_by (codes "interest") _ refl ∙ interest_back i f
 message_back (message.InterestFinal id) f = first_back message_by (codes "uninterest") _ refl ∙ uninterest_back id f
 
@@ -237,11 +237,15 @@ response_flat r f =
     all_flat (codes "response") (field (decimal r.rid) ∷ field (wire_word r.wire) ∷ field (decimal r.qos) ∷ body_words r.payload ∷ field (option_word zid_word r.responder) ∷ []) refl
     (decimal_lacks 10 r.rid (omega (arith, f.rid)) refl, (wire_flat r.wire f.wire, (decimal_lacks 10 r.qos (omega (arith, f.qos)) refl, (body_flat r.payload, (option_flat FitsZid zid_word r.responder (λ zid l. decimal_lacks 10 zid.0 (omega arith) refl) f.responder, tt)))))
 
+aggregate_flat : (aggregate : Bool) → Flat (aggregate_words aggregate)
+aggregate_flat true = refl
+aggregate_flat false = refl
+
 interest_flat : (i : Interest) → FitsInterest i → Flat (interest_words i)
 unfolding joined
 interest_flat i f =
-    all_flat (codes "interest") (field (decimal i.id) ∷ field (option_word wire_word i.wire) ∷ field (flag_word (codes "k") (codes "n") i.keys) ∷ []) refl
-    (decimal_lacks 10 i.id (omega (arith, f.id)) refl, (wires_flat i.wire f.wire, (keys_flat i.keys, tt)))
+    all_flat (codes "interest") (field (decimal i.id) ∷ field (option_word wire_word i.wire) ∷ field (flag_word (codes "k") (codes "n") i.keys) ∷ aggregate_words i.aggregate ∷ []) refl
+    (decimal_lacks 10 i.id (omega (arith, f.id)) refl, (wires_flat i.wire f.wire, (keys_flat i.keys, (aggregate_flat i.aggregate, tt))))
 
 interests_flat : (o : Option ℕ) → FitsOption (λ n. n ≤ most_32) o → Flat (option_word decimal o)
 interests_flat o f = option_flat (λ n. n ≤ most_32) decimal o (λ n l. decimal_lacks 10 n (omega arith) refl) f

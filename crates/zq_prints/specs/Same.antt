@@ -80,7 +80,7 @@ same_final a b = a.rid == b.rid && a.qos == b.qos
 
 -- each field is the same
 abbrev pub same_interest : Interest → Interest → Bool
-same_interest a b = a.id == b.id && same_flag a.keys b.keys && option_eq same_wire a.wire b.wire
+same_interest a b = a.id == b.id && same_flag a.keys b.keys && same_flag a.aggregate b.aggregate && option_eq same_wire a.wire b.wire
 
 -- the same declaration
 abbrev pub same_body : DeclareBody → DeclareBody → Bool

@@ -17,7 +17,7 @@ use Rattle.zq_machine.specs.Handing.{Handed}
 use Rattle.zq_machine.specs.declared.call.Step.{Step}
 use Rattle.zq_words.specs.Words.{field, payload_word, option_word}
 use Rattle.zq_words.specs.Values.{zid_word, target_word, wire_word, flag_word}
-use Rattle.zq_lines.specs.CallLines.{info_words, body_words}
+use Rattle.zq_lines.specs.CallLines.{aggregate_words, info_words, body_words}
 use Rattle.zq_prints.specs.Same.{same_message}
 
 -- the words of a request
@@ -33,7 +33,7 @@ response_words r =
 
 -- the words of an interest, which the gateway hands to no one
 abbrev pub interest_words : Interest → List ℕ
-interest_words i = codes "interest" ++ field (decimal i.id) ++ field (option_word wire_word i.wire) ++ field (flag_word (codes "k") (codes "n") i.keys)
+interest_words i = codes "interest" ++ field (decimal i.id) ++ field (option_word wire_word i.wire) ++ field (flag_word (codes "k") (codes "n") i.keys) ++ aggregate_words i.aggregate
 
 -- the words of a declaration, for an interest or for none, from a node
 abbrev pub declare_words : Option ℕ → ℕ → DeclareBody → List ℕ

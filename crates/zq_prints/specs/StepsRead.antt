@@ -13,7 +13,7 @@ use Rattle.zq_machine.specs.Handing.{Handed}
 use Rattle.zq_machine.specs.declared.call.Step.{Step}
 use Rattle.zq_words.specs.Words.{◌>>=◌, number, read_at, at_end, bytes_of, option_of}
 use Rattle.zq_words.specs.Values.{most_8, most_16, most_32, most_64, flag_of, face_of, zid_of, wire_of}
-use Rattle.zq_lines.specs.Lines.{info_at, manner_at, body_at, by_first}
+use Rattle.zq_lines.specs.Lines.{aggregate_of, info_at, manner_at, body_at, by_first}
 use Rattle.zq_lines.specs.Split.{lines_of}
 
 -- a space, and then the whole rest of the line
@@ -51,13 +51,14 @@ final_of bytes = do
   qos ← last_at (number most_8) rid.1
   Some (message.ResponseFinal (record { rid = rid.0; qos = qos }))
 
--- `interest ID OPT-WIRE k`, or `n`
+-- `interest ID OPT-WIRE k`, or `n`, and maybe `a`
 unfoldable pub interest_of : List ℕ → Option Message
 interest_of bytes = do
   id ← read_at (number most_32) bytes
   wire ← read_at (option_of wire_of) id.1
-  keys ← last_at (flag_of (codes "k") (codes "n")) wire.1
-  Some (message.Interest (record { id = id.0; keys = keys; wire = wire.0 }))
+  keys ← read_at (flag_of (codes "k") (codes "n")) wire.1
+  aggregate ← aggregate_of keys.1
+  Some (message.Interest (record { id = id.0; keys = keys.0; aggregate = aggregate; wire = wire.0 }))
 
 -- `uninterest ID`
 unfoldable pub uninterest_of : List ℕ → Option Message

@@ -87,7 +87,10 @@ fn same_response(a: &Response, b: &Response) -> bool
 fn same_interest(a: &Interest, b: &Interest) -> bool
     ensures { result ≡ same_interest a.now b.now }
 {
-    a.id == b.id && a.keys == b.keys && same_option_wire(&a.wire, &b.wire)
+    a.id == b.id
+        && a.keys == b.keys
+        && a.aggregate == b.aggregate
+        && same_option_wire(&a.wire, &b.wire)
 }
 
 fn same_body(a: &DeclareBody, b: &DeclareBody) -> bool

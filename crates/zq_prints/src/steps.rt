@@ -14,7 +14,7 @@ use std::alloc::{AllocError, Global};
 use zq_key::memory::OutOfMemory;
 use zq_key::message::{Declare, DeclareBody, Interest, Message, Request, Response};
 use zq_key::text::Bytes;
-use zq_lines::calls::{push_body, push_info};
+use zq_lines::calls::{push_aggregate, push_body, push_info};
 use zq_machine::call::{Outcome, Refusal, Step};
 use zq_machine::handed::{Handed, Leaves};
 use zq_words::show::{Shown, push_field, push_flag};
@@ -60,7 +60,8 @@ fn push_interest(out: &mut Vec<u8>, interest: &Interest) -> Result<(), AllocErro
     push_text(out, "interest")?;
     push_field(out, &interest.id)?;
     push_field(out, &interest.wire)?;
-    push_flag(out, "k", "n", interest.keys)
+    push_flag(out, "k", "n", interest.keys)?;
+    push_aggregate(out, interest.aggregate)
 }
 
 fn push_declare(out: &mut Vec<u8>, declare: &Declare) -> Result<(), AllocError>

@@ -177,6 +177,7 @@ fn listens(gateway: &mut Gateway, id: u32, face: u32) -> Seen {
     let interest = Interest {
         id,
         keys: false,
+        aggregate: false,
         wire: None,
     };
     seen(gateway.send_interest(FaceId(face), &interest))

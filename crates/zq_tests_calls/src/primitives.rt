@@ -80,6 +80,7 @@ fn message(alloc: Global, at: usize) -> Result<Message, OutOfMemory> {
         2 => Ok(Message::Interest(Interest {
             id: 5,
             keys: false,
+            aggregate: false,
             wire: None,
         })),
         3 => request(alloc),
