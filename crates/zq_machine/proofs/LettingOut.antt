@@ -52,12 +52,13 @@ body_same d (body.UndeclareQueryable id None) = (no_expr, refl)
 body_same d (body.UndeclareQueryable id (Some w)) = (w, refl)
 body_same d body.DeclareFinal = (no_expr, refl)
 
-interest_same : (id : ℕ) (keys : Bool) (w : Option WireExpr) → IsRewritten (message.Interest (record { id = id; keys = keys; wire = w })) (message.Interest (record { id = id; keys = keys; wire = w }))
-interest_same id keys None = (no_expr, refl)
-interest_same id keys (Some w) = (w, refl)
+interest_same : (id : ℕ) (keys aggregate : Bool) (w : Option WireExpr)
+    → IsRewritten (message.Interest (record { id = id; keys = keys; aggregate = aggregate; wire = w })) (message.Interest (record { id = id; keys = keys; aggregate = aggregate; wire = w }))
+interest_same id keys aggregate None = (no_expr, refl)
+interest_same id keys aggregate (Some w) = (w, refl)
 
 same : (m : Message) → IsRewritten m m
-same (message.Interest i) = interest_same i.id i.keys i.wire
+same (message.Interest i) = interest_same i.id i.keys i.aggregate i.wire
 same (message.InterestFinal id) = (no_expr, refl)
 same (message.Declare d) = body_same d d.body
 same (message.Request r) = (r.wire, refl)
@@ -65,11 +66,11 @@ same (message.Response r) = (r.wire, refl)
 same (message.ResponseFinal f) = (no_expr, refl)
 
 module _ (e : ExitState) where
-  interest_rest : (id : ℕ) (keys : Bool) (w : Option WireExpr)
-      → IfSome (option_map (interest_with (record { id = id; keys = keys; wire = w })) (option_out e.ns e.heads w)) (IsRewritten (message.Interest (record { id = id; keys = keys; wire = w })))
-  interest_rest id keys None = (no_expr, refl)
-  interest_rest id keys (Some w) =
-      let i : Interest = record { id = id; keys = keys; wire = Some w } in
+  interest_rest : (id : ℕ) (keys aggregate : Bool) (w : Option WireExpr)
+      → IfSome (option_map (interest_with (record { id = id; keys = keys; aggregate = aggregate; wire = w })) (option_out e.ns e.heads w)) (IsRewritten (message.Interest (record { id = id; keys = keys; aggregate = aggregate; wire = w })))
+  interest_rest id keys aggregate None = (no_expr, refl)
+  interest_rest id keys aggregate (Some w) =
+      let i : Interest = record { id = id; keys = keys; aggregate = aggregate; wire = Some w } in
       put_in (message.Interest i) (interest_with i) (λ v. Some v) (λ v. (v, refl)) (wire_out e.ns e.heads w)
 
   -- a declaration without an expression
@@ -86,7 +87,7 @@ module _ (e : ExitState) where
   body_rest d body.DeclareFinal = (no_expr, refl)
 
   message_rest : (m : Message) → IfSome (leaves e m) (IsRewritten m)
-  message_rest (message.Interest i) = interest_rest i.id i.keys i.wire
+  message_rest (message.Interest i) = interest_rest i.id i.keys i.aggregate i.wire
   message_rest (message.InterestFinal id) = either (message.InterestFinal id) (no_expr, refl) (has_id id e.interests)
   message_rest (message.Declare d) = body_rest d d.body
   message_rest (message.Request r) = put (message.Request r) (request_with r) (λ v. (v, refl)) (wire_out e.ns e.heads r.wire)

@@ -1,0 +1,9 @@
+//! What a gateway asks of the hat of a region, as one trait.
+//!
+//! - `queries`: `HatQueriesTrait`, and `Hat` as one that has it
+#![tactic(auto)]
+
+mod queries;
+
+pub use queries::HatQueriesTrait;
+pub use zq_hat::hat::Hat;
