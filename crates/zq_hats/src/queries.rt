@@ -77,8 +77,7 @@ pub trait HatQueriesTrait {
     ) -> Result<TellingList, OutOfMemory>
         ensures { IfOk result (λ ts. ts ≡ in_routers (strategy_at (hat self.now)) (own_told key.now before None (hat self.now)) []) };
 
-    /// The same where the last queryable on the key is not the gateway's own. Upstream tells then whom the last one is not of; here an own
-    /// entry that ends is told alike.
+    /// The same where the last queryable on the key is of this region: the other regions have nothing there.
     fn unpropagate_last_non_owned_queryable(
         &self,
         key: &str,

@@ -9,7 +9,7 @@ use Rattle.std.specs.Ordering.{is_eq, match_ordering, nat_cmp}
 use Rattle.std.specs.Str.{bytes_eq}
 use Rattle.std.specs.declared.cmp.Ordering.{Ordering}
 use Rattle.std.specs.declared.cmp.Ordering.TheVariants.{Less, Equal, Greater}
-use Rattle.std.proofs.lemmas.Bool.{false≢true, true≢false}
+use Rattle.std.proofs.lemmas.Bool.{false≢true}
 use Rattle.std.proofs.lemmas.Map.Views.{any-filter_same}
 use Rattle.std.proofs.lemmas.Slice.Eq.{bytes_eq-Decides}
 use Rattle.zq_message.specs.declared.message.QueryableInfoType.{QueryableInfoType}
@@ -102,11 +102,13 @@ module _ (c : Core) (ints : Interests) (asker id : ℕ) (asked : InterestEntry) 
       by false is = interests_alone c more ints face key (comes ∙ ap (listed ints asker (with_one asker id asked ints) face) is)
 
 -- ---- the keys that an interest looks at
+-- those of which it looks at some: where something may be due to its face, and its own
+abbrev around : Core → Interests → (asker : ℕ) → InterestEntry → List (List ℕ)
+around c ints asker asked = fold (insert_key text_cmp) (face_keys c ints asker) (option_to_list asked.key)
+
 pub asked_exactly : (c : Core) (ints : Interests) (asker : ℕ) (asked : InterestEntry) (key : List ℕ)
     → list_any (λ k. bytes_eq k key) (asked_keys c ints asker asked) ≡ (is_looked c ints asker asked key && (list_any (λ k. bytes_eq k key) (option_to_list asked.key) || list_any (λ k. bytes_eq k key) (face_keys c ints asker)))
 asked_exactly c ints asker asked key =
-    any-filter_same (λ k. bytes_eq k key) (is_looked c ints asker asked) (is_looked c ints asker asked key) (λ k is. ap (is_looked c ints asker asked) ((bytes_eq-Decides k key).0 is)) all
-    ∙ ap (λ b. is_looked c ints asker asked key && b) (among key all ∙ all_put key (face_keys c ints asker) (option_to_list asked.key) ∙ (λ j. sym (among key (option_to_list asked.key)) j || sym (among key (face_keys c ints asker)) j))
-  where
-    abbrev all : List (List ℕ)
-    all = fold (insert_key text_cmp) (face_keys c ints asker) (option_to_list asked.key)
+    any-filter_same (λ k. bytes_eq k key) (is_looked c ints asker asked) (is_looked c ints asker asked key) (λ k is. ap (is_looked c ints asker asked) ((bytes_eq-Decides k key).0 is)) (around c ints asker asked)
+    ∙ ap (λ b. is_looked c ints asker asked key && b)
+    (among key (around c ints asker asked) ∙ all_put key (face_keys c ints asker) (option_to_list asked.key) ∙ (λ j. sym (among key (option_to_list asked.key)) j || sym (among key (face_keys c ints asker)) j))
