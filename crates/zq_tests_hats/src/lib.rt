@@ -5,6 +5,8 @@
 #[cfg(test)]
 mod hat;
 #[cfg(test)]
+mod hats;
+#[cfg(test)]
 mod route;
 #[cfg(test)]
 mod sources;
