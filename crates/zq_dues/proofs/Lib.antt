@@ -3,6 +3,8 @@ pub mod KeysGathered
 pub mod KeysMet
 pub mod Heard
 pub mod Widened
+pub mod Owning
+pub mod Plainly
 pub mod Overs
 pub mod Listening
 pub mod Joining

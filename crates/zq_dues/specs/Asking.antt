@@ -1,5 +1,5 @@
 -- What a face asks of a key, and which keys of its aggregating interests join others.
-use Rattle.std.specs.Prelude.{ℕ, Bool, true, false, not, ◌&&◌, ◌||◌, List, Option, Some, None, if◌then◌else◌}
+use Rattle.std.specs.Prelude.{ℕ, Bool, true, not, ◌&&◌, List, Option, Some, None, is_none, if◌then◌else◌}
 use Rattle.std.specs.BTreeMap.{is_at}
 use Rattle.std.specs.BTreeSet.{insert_key}
 use Rattle.std.specs.Option.{option_map_or}
@@ -7,7 +7,6 @@ use Rattle.std.specs.Ordering.{nat_cmp}
 use Rattle.zq_index.specs.Texts.{text_cmp}
 use Rattle.zq_interests.specs.declared.types.InterestEntry.{InterestEntry}
 use Rattle.zq_interests.specs.Interests.{Interests, asks_folded, asks_for, meets, own_key}
-use Rattle.zq_machine.specs.Due.{is_met_by}
 use Rattle.zq_dues.specs.declared.asking.Asking.{Asking}
 
 -- the interest under the id stays
@@ -19,25 +18,13 @@ is_left (Some other) id = not (is_at (nat_cmp other) id)
 abbrev pub asking_in : Interests → ℕ → List ℕ → Asking
 asking_in ints face key = record { asks = asks_for face key ints; folds = asks_folded face key ints }
 
--- the interest is aggregating, and one of the keys meets its own
-abbrev pub met_own : List (List ℕ) → InterestEntry → Bool
-met_own keys e = option_map_or (is_met_by keys) (own_key e) false
+-- the interest is not aggregating, or has no key, and asks for the key
+abbrev pub asked_plainly : InterestEntry → List ℕ → Bool
+asked_plainly i key = is_none (own_key i) && meets i.key key
 
--- the same of one under an id
-abbrev pub has_met : List (List ℕ) → ℕ × InterestEntry → Bool
-has_met keys i = met_own keys i.1
-
--- a key joins others, if one of the keys meets it
-abbrev pub put_if_met : List (List ℕ) → List (List ℕ) → List ℕ → List (List ℕ)
-put_if_met keys texts k = if is_met_by keys k then insert_key text_cmp texts k else texts
-
--- so does the key of an aggregating interest
-abbrev pub met_with : List (List ℕ) → List (List ℕ) → InterestEntry → List (List ℕ)
-met_with keys texts e = option_map_or (put_if_met keys texts) (own_key e) texts
-
--- so does that of one under an id
-abbrev pub with_met : List (List ℕ) → List (List ℕ) → ℕ × InterestEntry → List (List ℕ)
-with_met keys texts i = met_with keys texts i.1
+-- so does one under an id
+abbrev pub wants_plainly : List ℕ → ℕ × InterestEntry → Bool
+wants_plainly key i = asked_plainly i.1 key
 
 -- a key joins others, if it meets what is asked for
 abbrev pub put_if_asked : Option (List ℕ) → List (List ℕ) → List ℕ → List (List ℕ)

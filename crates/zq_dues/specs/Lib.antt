@@ -3,3 +3,4 @@ pub mod Asking
 pub mod Dues
 pub mod Listeners
 pub mod Over
+pub mod Owns

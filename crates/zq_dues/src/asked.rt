@@ -18,7 +18,7 @@ ghost use Rattle.zq_dues.specs.Asked.{AreInformed, keys_asked, looked_due};
 ghost use Rattle.zq_dues.specs.Asking.{asking_in};
 ghost use Rattle.zq_dues.specs.Dues.{AreKeys, row_as, was_told};
 
-use crate::asking::{asks_besides, asks_with, put_key, put_owns_asked, wants};
+use crate::asking::{asks_besides, asks_with, put_key, put_owns_asked};
 use crate::due::due_as;
 use crate::dues::put_due;
 use crate::keys::met_texts;
@@ -102,7 +102,7 @@ fn put_looked(
     let asks = asks_with(interests, face, id, entry, key);
     let touched = BTreeSet::new(alloc);
     let due = due_as(alloc, hats, None, &touched, face, opened, asks, key)?;
-    if wants(entry, key) || due.is_none() {
+    if entry.asks_for(key) || due.is_none() {
         dues.push((Text::new(alloc, key)?, due))?;
     }
     Ok(())

@@ -1,6 +1,6 @@
 //! What a face asks of keys by its interests: as they are, without one that ends, or with one that is not
 //! put yet in the place of another under its id.
-ghost use Rattle.std.specs.Prelude.{◌≡◌, ℕ, OnOk, IsTrue, filter, fold, map, option_copied, string_bytes};
+ghost use Rattle.std.specs.Prelude.{◌≡◌, ℕ, OnOk, IsTrue, fold, map, option_copied, string_bytes};
 ghost use Rattle.std.specs.BTreeSet.{insert_key};
 ghost use Rattle.std.specs.List.{AllByRecursion, list_any};
 ghost use Rattle.std.specs.Option.{option_map};
@@ -9,20 +9,19 @@ ghost use Rattle.zq_index.specs.Texts.{text_cmp};
 ghost use Rattle.std.specs.List.Sorted.{IsStrictlySortedBy};
 ghost use Rattle.std.specs.Map.{keys_of};
 ghost use Rattle.std.specs.Ordering.{nat_cmp};
-ghost use Rattle.zq_interests.specs.Interests.{asked_for, interests_of, meets, own_key, with_interest, without_interest};
-ghost use Rattle.zq_machine.specs.Due.{is_met_by};
-ghost use Rattle.zq_dues.specs.Asking.{asking_in, has_met, is_left, met_own, met_with, put_if_asked, put_if_met, with_met, with_own};
+ghost use Rattle.zq_interests.specs.Interests.{asks_folded, interests_of, meets, own_key, with_interest, without_interest};
+ghost use Rattle.zq_dues.specs.Asking.{asked_plainly, asking_in, is_left, put_if_asked, wants_plainly, with_own};
 ghost use Rattle.zq_dues.specs.Dues.{AreKeys};
+ghost use Rattle.zq_dues.specs.Owns.{has_own};
 
+use crate::owns::OwnKeys;
 use std::alloc::Global;
-use std::cmp::Ordering;
 use std::collections::{BTreeMap, BTreeSet};
-use zq_index::text_set::{compare_texts, put_text};
+use zq_index::text_set::put_text;
 use zq_interests::interests::Interests;
 use zq_interests::types::InterestEntry;
 use zq_key::memory::OutOfMemory;
 use zq_key::message::FaceId;
-use zq_key::text::Text;
 use zq_key::{Key, intersects};
 
 /// What a face asks of a key.
@@ -45,28 +44,6 @@ fn meets(asked: Option<&Key>, key: &str) -> bool
     }
 }
 
-// The key of an aggregating interest; one without a key counts as not aggregating.
-fn own_key(entry: &InterestEntry) -> Option<&Key>
-    ensures { option_copied result ≡ own_key entry.now }
-{
-    if entry.aggregate {
-        entry.key.as_ref()
-    } else {
-        None
-    }
-}
-
-/// Whether the interest asks for the key: its own, if it is aggregating, and else each that it meets.
-pub fn wants(entry: &InterestEntry, key: &str) -> bool
-    requires { IsTrue (is_key key.now) }
-    ensures { result ≡ asked_for entry.now key.now }
-{
-    match own_key(entry) {
-        Some(own) => compare_texts(own.as_str(), key) == Ordering::Equal,
-        None => meets(entry.key.as_ref(), key),
-    }
-}
-
 // Whether the interest under the id stays.
 fn is_left(but: Option<u32>, id: u32) -> bool
     ensures { result ≡ is_left but id }
@@ -77,18 +54,69 @@ fn is_left(but: Option<u32>, id: u32) -> bool
     }
 }
 
-/// What the face asks of the key by its interests. It looks at this face's interests alone.
-pub fn asks_now(interests: &Interests, face: FaceId, key: &str) -> Asking
+// Whether the interest asks for the key, and not as one that is aggregating.
+fn asks_plainly(entry: &InterestEntry, key: &str) -> bool
     requires { IsTrue (is_key key.now) }
-    ensures { result ≡ asking_in interests.now face.0 key.now }
+    ensures { result ≡ asked_plainly entry.now key.now }
 {
-    Asking {
-        asks: interests.asks_for(face, key),
-        folds: interests.folds(face, key),
+    entry.own_key().is_none() && meets(entry.key.as_ref(), key)
+}
+
+// Whether one of the interests does.
+fn any_plainly(entries: &BTreeMap<u32, InterestEntry>, key: &str) -> bool
+    requires { IsTrue (is_key key.now) }
+    ensures { result ≡ list_any (wants_plainly key.now) entries.now.entries }
+{
+    for (_, entry) in entries {
+        if asks_plainly(entry, key) {
+            return true;
+        }
+    }
+    false
+}
+
+// Whether one of the face's interests does.
+fn face_plainly(interests: &Interests, face: FaceId, key: &str) -> bool
+    requires { IsTrue (is_key key.now) }
+    ensures { result ≡ list_any (wants_plainly key.now) (interests_of face.0 interests.now) }
+{
+    match interests.asked_by(face) {
+        Some(entries) => any_plainly(entries, key),
+        None => false,
     }
 }
 
-/// The same once the one under the id has ended.
+// Whether the key is among these, if there are any.
+fn has_own(owns: Option<&OwnKeys>, key: &str) -> bool
+    ensures { result ≡ has_own (option_copied owns.entry) key.now }
+{
+    match owns {
+        Some(owns) => owns.has(key),
+        None => false,
+    }
+}
+
+/// What the face asks of the key by its interests, where it asks for it as one entry just if it is among
+/// these.
+pub(crate) fn asks_among(
+    interests: &Interests,
+    owns: Option<&OwnKeys>,
+    face: FaceId,
+    key: &str,
+) -> Asking
+    requires key { IsTrue (is_key key.now) }
+    requires folded { has_own (option_copied owns) key.now ≡ asks_folded face.0 key.now interests.now }
+    ensures { result ≡ asking_in interests.now face.0 key.now }
+{
+    let folds = has_own(owns, key);
+    Asking {
+        asks: folds || face_plainly(interests, face, key),
+        folds,
+    }
+}
+
+/// What the face asks of the key by its interests, once the one under the id has ended. It looks at this
+/// face's interests alone.
 pub fn asks_besides(interests: &Interests, face: FaceId, id: u32, key: &str) -> Asking
     requires { IsTrue (is_key key.now) }
     ensures { result ≡ asking_in (without_interest face.0 id interests.now) face.0 key.now }
@@ -116,55 +144,6 @@ pub fn asks_with(
     }
 }
 
-// Whether one of the keys meets the key.
-fn is_met_by(keys: &[Text], key: &str) -> bool
-    requires keys { AreKeys keys.now }
-    requires key { IsTrue (is_key key.now) }
-    ensures { result ≡ is_met_by keys.now key.now }
-{
-    for k in keys {
-        if intersects(k.as_str(), key) {
-            return true;
-        }
-    }
-    false
-}
-
-// Whether the interest is aggregating, and one of the keys meets its own.
-fn has_met(entry: &InterestEntry, keys: &[Text]) -> bool
-    requires { AreKeys keys.now }
-    ensures { result ≡ met_own keys.now entry.now }
-{
-    match own_key(entry) {
-        Some(own) => is_met_by(keys, own.as_str()),
-        None => false,
-    }
-}
-
-// Whether one of the interests is so.
-fn any_met(entries: &BTreeMap<u32, InterestEntry>, keys: &[Text]) -> bool
-    requires { AreKeys keys.now }
-    ensures { result ≡ list_any (has_met keys.now) entries.now.entries }
-{
-    for (_, entry) in entries {
-        if has_met(entry, keys) {
-            return true;
-        }
-    }
-    false
-}
-
-/// Whether one of the keys meets the key of an aggregating interest of the face.
-pub fn is_widened(interests: &Interests, face: FaceId, keys: &[Text]) -> bool
-    requires { AreKeys keys.now }
-    ensures { result ≡ list_any (has_met keys.now) (interests_of face.0 interests.now) }
-{
-    match interests.asked_by(face) {
-        Some(entries) => any_met(entries, keys),
-        None => false,
-    }
-}
-
 /// A key joins others.
 pub(crate) fn put_key(
     texts: &mut BTreeSet<String>,
@@ -176,25 +155,6 @@ pub(crate) fn put_key(
     ensures valid { AreKeys (map string_bytes texts.old.keys) → OnOk result (AreKeys (map string_bytes texts.new.keys)) }
 {
     put_text(texts, alloc, key)
-}
-
-// It joins them, if one of the keys meets it.
-fn put_if_met(
-    texts: &mut BTreeSet<String>,
-    alloc: Global,
-    own: &str,
-    keys: &[Text],
-) -> Result<(), OutOfMemory>
-    requires keys { AreKeys keys.now }
-    requires key { IsTrue (is_key own.now) }
-    ensures joined { OnOk result (map string_bytes texts.new.keys ≡ put_if_met keys.now (map string_bytes texts.old.keys) own.now) }
-    ensures valid { AreKeys (map string_bytes texts.old.keys) → OnOk result (AreKeys (map string_bytes texts.new.keys)) }
-{
-    if is_met_by(keys, own) {
-        put_key(texts, alloc, own)
-    } else {
-        Ok(())
-    }
 }
 
 // It joins them, if it meets what is asked for.
@@ -215,58 +175,6 @@ fn put_asked(
     }
 }
 
-// The key of an aggregating interest that one of the keys meets joins others.
-fn put_met(
-    texts: &mut BTreeSet<String>,
-    alloc: Global,
-    entry: &InterestEntry,
-    keys: &[Text],
-) -> Result<(), OutOfMemory>
-    requires { AreKeys keys.now }
-    ensures joined { OnOk result (map string_bytes texts.new.keys ≡ met_with keys.now (map string_bytes texts.old.keys) entry.now) }
-    ensures valid { AreKeys (map string_bytes texts.old.keys) → OnOk result (AreKeys (map string_bytes texts.new.keys)) }
-{
-    match own_key(entry) {
-        Some(own) => put_if_met(texts, alloc, own.as_str(), keys),
-        None => Ok(()),
-    }
-}
-
-// The same of each of the interests.
-fn put_each_met(
-    texts: &mut BTreeSet<String>,
-    alloc: Global,
-    entries: &BTreeMap<u32, InterestEntry>,
-    keys: &[Text],
-) -> Result<(), OutOfMemory>
-    requires { AreKeys keys.now }
-    ensures joined { OnOk result (map string_bytes texts.new.keys ≡ fold (with_met keys.now) (map string_bytes texts.old.keys) entries.now.entries) }
-    ensures valid { AreKeys (map string_bytes texts.old.keys) → OnOk result (AreKeys (map string_bytes texts.new.keys)) }
-{
-    for (_, entry) in entries {
-        put_met(texts, alloc, entry, keys)?;
-    }
-    Ok(())
-}
-
-/// Of the keys of the face's aggregating interests those join others that one of the keys meets.
-pub fn put_owns_met(
-    texts: &mut BTreeSet<String>,
-    alloc: Global,
-    interests: &Interests,
-    face: FaceId,
-    keys: &[Text],
-) -> Result<(), OutOfMemory>
-    requires { AreKeys keys.now }
-    ensures joined { OnOk result (map string_bytes texts.new.keys ≡ fold (with_met keys.now) (map string_bytes texts.old.keys) (interests_of face.0 interests.now)) }
-    ensures valid { AreKeys (map string_bytes texts.old.keys) → OnOk result (AreKeys (map string_bytes texts.new.keys)) }
-{
-    match interests.asked_by(face) {
-        Some(entries) => put_each_met(texts, alloc, entries, keys),
-        None => Ok(()),
-    }
-}
-
 // The key of an aggregating interest that stays joins others, if it meets what is asked for.
 fn put_own(
     texts: &mut BTreeSet<String>,
@@ -282,7 +190,7 @@ fn put_own(
     if !is_left(but, id) {
         return Ok(());
     }
-    match own_key(entry) {
+    match entry.own_key() {
         Some(own) => put_asked(texts, alloc, own.as_str(), asked),
         None => Ok(()),
     }

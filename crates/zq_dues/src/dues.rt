@@ -2,11 +2,14 @@
 ghost use Rattle.std.specs.Prelude.{◌≡◌, ◌++◌, ◌∷◌, [], IfOk, IsTrue, None, OnOk, map, option_copied, string_bytes, false};
 ghost use Rattle.std.specs.List.{flat_map};
 ghost use Rattle.zq_key.specs.Key.{is_key};
+ghost use Rattle.zq_interests.specs.Interests.{asks_folded};
 ghost use Rattle.zq_dues.specs.Asking.{asking_in};
 ghost use Rattle.zq_dues.specs.Dues.{AreKeys, due_as, listed_due, row_as};
+ghost use Rattle.zq_dues.specs.Owns.{AreFolded, has_own};
 
-use crate::asking::{Asking, asks_now};
+use crate::asking::{Asking, asks_among};
 use crate::due::{due_as, listens};
+use crate::owns::OwnKeys;
 use crate::types::HatChange;
 use std::alloc::Global;
 use std::collections::BTreeSet;
@@ -42,7 +45,8 @@ pub fn put_due(
     Ok(())
 }
 
-// The same of a key that the face asks for by its interests, if it listens there.
+// The same of a key that the face asks for by its interests, if it listens there; it asks for it as one
+// entry just if it is among these.
 fn list_due(
     dues: &mut KeyDues,
     alloc: Global,
@@ -50,15 +54,17 @@ fn list_due(
     next: Option<&HatChange>,
     touched: &BTreeSet<String>,
     interests: &Interests,
+    owns: Option<&OwnKeys>,
     face: FaceId,
     opened: OpenFace,
     key: &str,
 ) -> Result<(), OutOfMemory>
     requires touched { AreKeys (map string_bytes touched.now.keys) }
     requires key { IsTrue (is_key key.now) }
+    requires folded { has_own (option_copied owns) key.now ≡ asks_folded face.0 key.now interests.now }
     ensures { OnOk result (dues.new ≡ dues.old ++ listed_due (asking_in interests.now face.0) (option_copied next.entry) (map string_bytes touched.now.keys) face.0 opened hats.now key.now) }
 {
-    let asks = asks_now(interests, face, key);
+    let asks = asks_among(interests, owns, face, key);
     if listens(hats, opened, asks.asks) {
         put_due(dues, alloc, hats, next, touched, face, opened, asks, key)
     } else {
@@ -67,27 +73,29 @@ fn list_due(
 }
 
 /// Those of the keys on which an open face will listen once a hat has changed, which changes what is heard
-/// on the touched keys alone, with what will be due to it there; where none changes, as they are. Refused
-/// only where memory is lacking.
-pub fn dues_of_face(
+/// on the touched keys alone, with what will be due to it there; where none changes, as they are. It asks
+/// for those among its own as one entry, and for no others. Refused only where memory is lacking.
+pub(crate) fn dues_of_face(
     alloc: Global,
     hats: &RegionMap<Hat>,
     next: Option<&HatChange>,
     touched: &BTreeSet<String>,
     interests: &Interests,
+    owns: Option<&OwnKeys>,
     face: FaceId,
     opened: OpenFace,
     keys: &[Text],
 ) -> Result<KeyDues, OutOfMemory>
     requires touched { AreKeys (map string_bytes touched.now.keys) }
     requires keys { AreKeys keys.now }
+    requires folded { AreFolded interests.now face.0 (option_copied owns) keys.now }
     ensures { IfOk result (λ ds. ds ≡ flat_map (listed_due (asking_in interests.now face.0) (option_copied next.entry) (map string_bytes touched.now.keys) face.0 opened hats.now) keys.now) }
 {
     let mut dues = Items::new(alloc);
     for key in keys {
         let text = key.as_str();
         list_due(
-            &mut dues, alloc, hats, next, touched, interests, face, opened, text,
+            &mut dues, alloc, hats, next, touched, interests, owns, face, opened, text,
         )?;
     }
     Ok(dues)

@@ -9,6 +9,7 @@
 //! - `asked`: what an interest of a face looks at, and what its end looks at
 //! - `listeners`: which faces can listen on some of the keys
 //! - `keys`: the keys on which regions have information
+//! - `owns`: the keys of aggregating interests that some keys meet, by face
 //! - `sorted`: keys in order, each once
 //! - `over`: what a whole call looks at
 //! - `changes`: the same of a call that changes a hat
@@ -23,5 +24,6 @@ pub mod folded;
 pub mod keys;
 pub mod listeners;
 pub mod over;
+mod owns;
 pub mod sorted;
 pub mod types;

@@ -1,24 +1,25 @@
 //! What a whole call looks at: at each face that is open after it those of its keys on which the
 //! face listens; at a new face those of all keys.
-ghost use Rattle.std.specs.Prelude.{◌≡◌, ◌++◌, [], IfOk, OnOk, map, option_copied, string_bytes};
+ghost use Rattle.std.specs.Prelude.{◌≡◌, ◌++◌, [], IfOk, OnOk, fold, map, option_copied, string_bytes};
+ghost use Rattle.std.specs.BTreeSet.{insert_key};
 ghost use Rattle.std.specs.List.{flat_map};
 ghost use Rattle.std.specs.List.Sorted.{IsStrictlySortedBy};
 ghost use Rattle.zq_index.specs.Texts.{text_cmp};
 ghost use Rattle.zq_interests.specs.Interests.{Interests};
 ghost use Rattle.zq_machine.specs.declared.call.Opening.{Opening};
 ghost use Rattle.zq_machine.specs.Deciding.{with_face};
-ghost use Rattle.zq_machine.specs.Due.{widened};
 ghost use Rattle.zq_machine.specs.Neighbours.{looked_at, looked_over, with_dues};
 ghost use Rattle.zq_machine.specs.State.{Core};
 ghost use Rattle.zq_machine.specs.TextCalls.{opening};
 ghost use Rattle.zq_dues.specs.Dues.{AreKeys, IsAfter};
 ghost use Rattle.zq_dues.specs.Over.{AreSeated, IsOpening, dues_there, faces_but, is_gone, looked_there, open_but};
+ghost use Rattle.zq_dues.specs.Owns.{AllKeys, AreOwns};
 
-use crate::asking::{is_widened, put_owns_met};
 use crate::due::listens;
 use crate::dues::{dues_of_face, dues_on_each};
 use crate::keys::met_keys;
 use crate::listeners::listeners;
+use crate::owns::{OwnKeys, Owns, owns_met};
 use crate::sorted::{list_of, set_of};
 use crate::types::{DuesList, HatChange};
 use std::alloc::Global;
@@ -65,20 +66,16 @@ pub(crate) fn list_face(list: &mut DuesList, face: FaceId, dues: KeyDues) -> Res
     Ok(())
 }
 
-// The keys in order, with those of the face's aggregating interests that one of them meets.
-fn widened(
-    alloc: Global,
-    interests: &Interests,
-    face: FaceId,
-    keys: &[Text],
-) -> Result<TextList, OutOfMemory>
-    requires valid { AreKeys keys.now }
+// The keys in order, with those of the face's aggregating interests.
+fn widened(alloc: Global, keys: &[Text], owns: &OwnKeys) -> Result<TextList, OutOfMemory>
+    requires keys { AreKeys keys.now }
+    requires owns { AreKeys owns.now }
     requires rise { IsStrictlySortedBy text_cmp keys.now }
-    ensures keys { IfOk result (λ ks. ks ≡ widened face.0 interests.now keys.now) }
+    ensures keys { IfOk result (λ ks. ks ≡ fold (insert_key text_cmp) keys.now owns.now) }
     ensures valid { IfOk result (λ ks. AreKeys ks) }
 {
     let mut texts = set_of(alloc, keys)?;
-    put_owns_met(&mut texts, alloc, interests, face, keys)?;
+    owns.join(&mut texts, alloc)?;
     list_of(alloc, &texts)
 }
 
@@ -90,21 +87,36 @@ fn dues_there(
     next: Option<&HatChange>,
     touched: &BTreeSet<String>,
     interests: &Interests,
+    owns: &Owns,
     face: FaceId,
     opened: OpenFace,
     keys: &[Text],
 ) -> Result<KeyDues, OutOfMemory>
     requires same { map string_bytes touched.now.keys ≡ keys.now }
+    requires met { AreOwns keys.now interests.now owns.now.entries }
+    requires owns { AllKeys owns.now.entries }
     requires valid { AreKeys keys.now }
     requires rise { IsStrictlySortedBy text_cmp keys.now }
     ensures { IfOk result (λ ds. ds ≡ dues_there interests.now (option_copied next.entry) hats.now keys.now (face.0, opened)) }
 {
-    if !is_widened(interests, face, keys) {
-        return dues_of_face(alloc, hats, next, touched, interests, face, opened, keys);
-    }
-    let wide = widened(alloc, interests, face, keys)?;
+    let Some(own) = owns.get(&face.0) else {
+        return dues_of_face(
+            alloc, hats, next, touched, interests, None, face, opened, keys,
+        );
+    };
+    let wide = widened(alloc, keys, own)?;
     let all = wide.as_slice();
-    dues_of_face(alloc, hats, next, touched, interests, face, opened, all)
+    dues_of_face(
+        alloc,
+        hats,
+        next,
+        touched,
+        interests,
+        Some(own),
+        face,
+        opened,
+        all,
+    )
 }
 
 // The face joins the list with what will be due to it, if it is open after the call and anything is.
@@ -117,10 +129,13 @@ fn look_there(
     next: Option<&HatChange>,
     touched: &BTreeSet<String>,
     interests: &Interests,
+    owns: &Owns,
     face: FaceId,
     keys: &[Text],
 ) -> Result<(), OutOfMemory>
     requires same { map string_bytes touched.now.keys ≡ keys.now }
+    requires met { AreOwns keys.now interests.now owns.now.entries }
+    requires owns { AllKeys owns.now.entries }
     requires valid { AreKeys keys.now }
     requires rise { IsStrictlySortedBy text_cmp keys.now }
     ensures { OnOk result (list.new ≡ list.old ++ looked_there interests.now (option_copied next.entry) hats.now keys.now but faces.now.entries face.0) }
@@ -128,7 +143,9 @@ fn look_there(
     let Some(opened) = open_but(faces, but, face) else {
         return Ok(());
     };
-    let dues = dues_there(alloc, hats, next, touched, interests, face, opened, keys)?;
+    let dues = dues_there(
+        alloc, hats, next, touched, interests, owns, face, opened, keys,
+    )?;
     list_face(list, face, dues)
 }
 
@@ -141,10 +158,13 @@ fn look_at(
     next: Option<&HatChange>,
     touched: &BTreeSet<String>,
     interests: &Interests,
+    owns: &Owns,
     listeners: &BTreeSet<u32>,
     keys: &[Text],
 ) -> Result<DuesList, OutOfMemory>
     requires same { map string_bytes touched.now.keys ≡ keys.now }
+    requires met { AreOwns keys.now interests.now owns.now.entries }
+    requires owns { AllKeys owns.now.entries }
     requires valid { AreKeys keys.now }
     requires rise { IsStrictlySortedBy text_cmp keys.now }
     ensures { IfOk result (λ ds. ds ≡ flat_map (looked_there interests.now (option_copied next.entry) hats.now keys.now but faces.now.entries) listeners.now.keys) }
@@ -153,7 +173,7 @@ fn look_at(
     for number in listeners {
         let face = FaceId(*number);
         look_there(
-            &mut list, alloc, faces, but, hats, next, touched, interests, face, keys,
+            &mut list, alloc, faces, but, hats, next, touched, interests, owns, face, keys,
         )?;
     }
     Ok(list)
@@ -163,8 +183,8 @@ fn look_at(
 /// alone: on those of them on which it listens, and on those of its aggregating interests' keys that one
 /// of them meets. In order of the faces' numbers, all but one that a closing takes away; a face that
 /// listens on none is left out. Only those are looked at that can listen: the faces of regions whose faces
-/// listen unasked, and those of which an interest meets one of the keys. Refused only where memory is
-/// lacking, and then nothing is changed.
+/// listen unasked, and those of which an interest meets one of the keys; and of aggregating interests those
+/// that one of the keys meets. Refused only where memory is lacking, and then nothing is changed.
 pub fn dues_over(
     alloc: Global,
     faces: &BTreeMap<u32, OpenFace>,
@@ -187,8 +207,9 @@ pub fn dues_over(
     }
     let touched = set_of(alloc, keys)?;
     let listeners = listeners(alloc, hats, interests, keys)?;
+    let owns = owns_met(alloc, interests, keys)?;
     look_at(
-        alloc, faces, but, hats, next, &touched, interests, &listeners, keys,
+        alloc, faces, but, hats, next, &touched, interests, &owns, &listeners, keys,
     )
 }
 
