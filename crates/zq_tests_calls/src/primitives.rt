@@ -19,7 +19,7 @@ use zq_prints::steps::print_steps;
 const SAID: [(u32, &str); 10] = [
     (0, "key 0 1 0:s:k"),
     (0, "queryable 0 1 0:s:k c 0 0"),
-    (1, "interest 1 5 - n"),
+    (1, "interest 1 5 0:s:k/** n a"),
     (1, "ask 1 7 0:s:k best 5 0 0 hi 3"),
     (0, "reply 0 1 0:s:k ok yo"),
     (0, "final 0 1"),
@@ -80,8 +80,8 @@ fn message(alloc: Global, at: usize) -> Result<Message, OutOfMemory> {
         2 => Ok(Message::Interest(Interest {
             id: 5,
             keys: false,
-            aggregate: false,
-            wire: None,
+            aggregate: true,
+            wire: Some(wire(alloc, 0, "k/**")?),
         })),
         3 => request(alloc),
         4 => response(alloc),
@@ -167,7 +167,7 @@ fn lined(alloc: Global) -> Result<Bytes, OutOfMemory> {
 const PRINT: &str = "= done\n\
      = done\n\
      = done\n\
-     > 1 - - queryable 1 0:s:k c 0 0 5\n\
+     > 1 - - queryable 1 0:s:k/** p 0 0 5\n\
      > 1 - - declfinal 5\n\
      = asked 0\n\
      > 0 0 - request 1 1:r:- best 5 0 0 hi\n\
