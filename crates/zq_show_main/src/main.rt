@@ -1,0 +1,9 @@
+//! The command `zq show`. Here it is run for a page; `zq_tests_text` runs it for a text.
+#![tactic(auto)]
+
+use std::process::ExitCode;
+use zq_seen::command::command;
+
+fn main(rt: HostRuntime) -> ExitCode {
+    command(&rt)
+}
