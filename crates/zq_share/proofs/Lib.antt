@@ -1,0 +1,6 @@
+pub mod Making
+pub mod Faults
+pub mod Gathering
+pub mod Crews
+pub mod Listed
+pub mod Storing

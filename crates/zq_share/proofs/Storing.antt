@@ -1,0 +1,29 @@
+-- What is stored of calls that were made.
+use Rattle.std.proofs.Common.{◌≡◌, ◌⊎◌, ℕ, ◌+◌, ◌<◌, ◌≤◌, List, length, zero, suc, refl, ap, subst, inl, inr, arith, Some}
+use Rattle.std.specs.Prelude.{Option}
+use Rattle.atomic_table.specs.Seated.{TableId}
+use Rattle.zq_machine.specs.declared.call.Call.{Call}
+use Rattle.zq_machine.specs.Configs.{Settings}
+use Rattle.zq_ties.specs.Stored.{requests_in}
+use Rattle.zq_ties.specs.Ties.{Sharing}
+use Rattle.zq_lock.specs.Answers.{AllListed}
+use Rattle.zq_lock.specs.Locking.{IsLocked}
+use Rattle.zq_lock.specs.Tallies.{Counts, each, others_in}
+use Rattle.zq_share.specs.Shares.{HasStored}
+use Rattle.zq_share.specs.Working.{HasMade}
+
+module _ (config : Settings) (holds : TableId) (slots : ℕ) (list : Option (List Call)) (s : Sharing) (totals : Counts) (calls : List Call) (locked : IsLocked config holds slots list s totals) (made : HasMade calls (each 0) totals) where
+  asked_or_full : (n : ℕ) → totals.full ≡ n → (requests_in s.stored.calls ≡ requests_in calls) ⊎ ((requests_in s.stored.calls < requests_in calls) × (slots ≤ requests_in s.stored.calls))
+  asked_or_full zero e = inl (let a = locked.asked in let m = made.asked in omega arith)
+  asked_or_full (suc n) e =
+      let a = locked.asked in let m = made.asked in
+      inr (omega arith, locked.full (omega arith))
+
+  pub stored_of : (marks : ℕ) → slots ≡ marks → list ≡ Some calls → HasStored marks calls s.stored.calls
+  stored_of marks e l =
+      subst (λ (n : ℕ). HasStored n calls s.stored.calls) e
+      (record {
+        others = (let o = locked.others in let m = made.others in omega arith);
+        asked = asked_or_full totals.full refl;
+        among = subst (λ (o : Option (List Call)). AllListed o s.stored.calls) l locked.listed;
+      })

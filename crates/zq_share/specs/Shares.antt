@@ -1,0 +1,22 @@
+-- What a script leaves that several workers ran on one gateway.
+use Rattle.std.specs.Prelude.{◌≡◌, ◌⊎◌, ℕ, ◌<◌, ◌≤◌, List, fold, Some}
+use Rattle.std.specs.List.{flat_map}
+use Rattle.zq_machine.specs.declared.call.Call.{Call}
+use Rattle.zq_ties.specs.Stored.{requests_in}
+use Rattle.zq_lock.specs.Answers.{AllListed}
+use Rattle.zq_lock.specs.Tallies.{Tallied, merged, others_in}
+use Rattle.zq_share.specs.Working.{Working}
+
+-- the calls of all parts
+abbrev pub all_calls : List (List Call) → List Call
+all_calls parts = flat_map (λ (p : List Call). p) parts
+
+-- what a caller has with what workers have
+abbrev pub gathered : Tallied → List Working → Tallied
+gathered t ws = fold (λ (u : Tallied) (w : Working). merged u w.tally) t ws
+
+-- what is stored of these calls, on that many slots: as many calls that are neither requests nor reports; as many requests, or fewer and then at least as many as there are slots; and each stored call reports a reply or is one of them
+pub record HasStored (slots : ℕ) (calls stored : List Call) : Type 0 where
+  pub others : others_in stored ≡ others_in calls
+  pub asked : (requests_in stored ≡ requests_in calls) ⊎ ((requests_in stored < requests_in calls) × (slots ≤ requests_in stored))
+  pub among : AllListed (Some calls) stored

@@ -1,0 +1,155 @@
+//! The workers of a script.
+ghost use Rattle.std.specs.Prelude.{◌≡◌, ◌<◌, ◌≤◌, ◌+◌, All, ◌&&◌, IfOk, OnOk, length, map, vec_len};
+ghost use Rattle.std.specs.List.{AllZip, list_all};
+ghost use Rattle.std.specs.Thread.{IsSync};
+ghost use Rattle.zq_lock.specs.Tallies.{each};
+ghost use Rattle.zq_share.specs.Shares.{gathered};
+ghost use Rattle.zq_share.specs.Working.{HasFaults, HaveFaults, IsReady, Worked, all_sent, all_whole, new_worker};
+
+use crate::worker::{Ended, Worker, Works};
+use std::alloc::Global;
+use std::sync::Wait;
+use std::sync::ledger::Ledger;
+use std::thread::{Threads, join_mut};
+use zq_key::memory::OutOfMemory;
+use zq_links::Link;
+use zq_lock::{Home, SeatList, TablesLock, Tally};
+use zq_machine::call::Call;
+use zq_message::items::Items;
+
+/// A worker for each part of a script.
+pub(crate) fn make_crew<C: Ledger, Q: Ledger, P: Ledger>(
+    alloc: Global,
+    seats: &mut SeatList,
+    tally: &mut Tally<C, Q, P>,
+    parts: Vec<Items<Call>>,
+) -> Result<Vec<Worker<C, Q, P>>, OutOfMemory>
+    requires seats { vec_len parts ≤ seats.old.count }
+    requires tally { tally.old ≡ record { parts = each (vec_len parts); made = each 0 } }
+    ensures crew { IfOk result (λ v. v.items ≡ map (new_worker seats.old.home) parts.items) }
+    ensures tally { OnOk result (tally.new ≡ record { parts = each 0; made = each 0 }) }
+{
+    let mut crew = Vec::new(alloc);
+    for part in parts {
+        let Some(seat) = seats.take() else {
+            unreachable!()
+        };
+        crew.push(Worker {
+            alloc,
+            seat,
+            tally: tally.split_one(),
+            calls: part.into_vec(),
+            whole: true,
+            sent: true,
+        })?;
+    }
+    Ok(crew)
+}
+
+/// Each of the workers makes its calls, over a link of its own and in a thread of its own.
+pub(crate) fn work_all<K: Works<W> + Sync, W: Send, L: Link + Send, R: Threads + Wait + Sync>(
+    rt: &R,
+    desk: &K,
+    crew: &mut [W],
+    links: &mut [L],
+)
+    requires ready { All K.ready crew.old }
+    requires links { length crew.old ≤ length links.old }
+    ensures worked { AllZip K.worked crew.old crew.new }
+    ensures faults { HaveFaults (list_all K.sent crew.new) (map L.faults links.old) (map L.faults links.new) }
+{
+    let Some((first, rest)) = crew.split_first_mut() else {
+        return;
+    };
+    let Some((link, others)) = links.split_first_mut() else {
+        unreachable!()
+    };
+    join_mut(
+        rt,
+        &mut ||
+            requires ready { K.ready first.now }
+            ensures worked { K.worked first.entry.now first.exit.now }
+            ensures faults { HasFaults (K.sent first.exit.now) (L.faults link.entry.now) (L.faults link.exit.now) }
+        { desk.run(rt, first, link) },
+        &mut ||
+            requires sync { IsSync R.row }
+            requires ready { All K.ready rest.now }
+            requires links { length rest.now ≤ length others.now }
+            ensures worked { AllZip K.worked rest.entry.now rest.exit.now }
+            ensures faults { HaveFaults (list_all K.sent rest.exit.now) (map L.faults others.entry.now) (map L.faults others.exit.now) }
+        { work_all(rt, desk, rest, others) },
+    );
+}
+
+/// The first worker makes its calls in this thread, and then the others theirs, each in its own.
+pub(crate) fn work_parts<K: Works<W> + Sync, W: Send, L: Link + Send, R: Threads + Wait + Sync>(
+    rt: &R,
+    desk: &K,
+    crew: &mut [W],
+    links: &mut [L],
+)
+    requires ready { All K.ready crew.old }
+    requires some { 0 < length links.old }
+    requires links { length crew.old ≤ length links.old + 1 }
+    ensures worked { AllZip K.worked crew.old crew.new }
+    ensures faults { HaveFaults (list_all K.sent crew.new) (map L.faults links.old) (map L.faults links.new) }
+{
+    let Some((first, rest)) = crew.split_first_mut() else {
+        return;
+    };
+    desk.run(rt, first, &mut links[0]);
+    work_all(rt, desk, rest, links);
+}
+
+/// The workers make their calls on the gateway under the lock.
+pub(crate) fn run_crew<
+    H: Home + Send + Sync,
+    C: Ledger + Send + Sync,
+    Q: Ledger + Send + Sync,
+    P: Ledger + Send + Sync,
+    L: Link + Send,
+    R: Threads + Wait + Sync,
+>(
+    rt: &R,
+    lock: &TablesLock<H, C, Q, P>,
+    mut crew: Vec<Worker<C, Q, P>>,
+    links: &mut [L],
+) -> Vec<Worker<C, Q, P>>
+    requires ready { All (IsReady H.holds H.list) crew.items }
+    requires links { (0 < length links.old) × (vec_len crew ≤ length links.old + 1) }
+    ensures worked { AllZip Worked crew.items result.items }
+    ensures faults { HaveFaults (all_sent result.items) (map L.faults links.old) (map L.faults links.new) }
+{
+    work_parts(rt, lock, crew.as_mut_slice(), links);
+    crew
+}
+
+/// What the workers have counted, and how they ended.
+pub(crate) fn gather<C: Ledger, Q: Ledger, P: Ledger>(
+    crew: Vec<Worker<C, Q, P>>,
+    tally: &mut Tally<C, Q, P>,
+) -> Ended
+    ensures tally { tally.new ≡ gathered tally.old crew.items }
+    ensures ended { (result.whole ≡ all_whole crew.items) × (result.sent ≡ all_sent crew.items) }
+{
+    let mut ended = Ended {
+        whole: true,
+        sent: true,
+    };
+    for worker in crew {
+        let Worker {
+            alloc: _,
+            seat: _,
+            tally: own,
+            calls: _,
+            whole,
+            sent,
+        } = worker;
+        tally.merge(own);
+        ended = Ended {
+            whole: ended.whole && whole,
+            sent: ended.sent && sent,
+        };
+    }
+    ended
+}
