@@ -239,6 +239,32 @@ takes_last n id other v w is idle role empty bare s q at apart_from there =
           (λ j e. e),
     )
 
+-- a seat takes in the view of a `Last`
+pub seat_takes_last : (n id other : ℕ) (v w : HoldView) → v.role ≡ Seat → v.stands ≡ None → w.role ≡ Last → w.held ≡ [] → w.shows ≡ None
+    → Joins (IsKept n) id v other w (record v { stands = w.stands }) nobody
+seat_takes_last n id other v w sits idle role empty bare s q at apart_from there =
+    let keeper : ℕ = q.0 in
+    let view : HoldView = q.1 in
+    let r = q.2 in
+    let both : HoldView = record v { stands = w.stands } in
+    let views = set (set s.views id both) other nobody in
+    let was : get_elem? s.views other ≡ some w = sym (set_else s.views id other both apart_from) ∙ there in
+    let not_v : v.role ≢ Keeper = λ e. absurd (cc) in
+    let not_w : w.role ≢ Keeper = λ e. absurd (cc) in (
+      keeper,
+      view,
+      quiet n s keeper view r view views
+          (set_else (set s.views id both) other keeper nobody (apart n s keeper view r other w was not_w) ∙ (set_else s.views id keeper both (apart n s keeper view r id v at not_v) ∙ r.there)) r.keeps refl refl refl
+          (each_join (Sound keeper) s.views id other both nobody (r.only id v at, r.once id v at) ((λ e. absurd (cc)), λ k. omega arith) (sound n s keeper view r))
+          (λ j. let a = total_join (λ u. times j u.held) s.views id other v both w nobody at there in let b : times j w.held ≡ 0 = ap (times j) empty in omega arith)
+          (let a = total_join (λ u. live u.role) s.views id other v both w nobody at there in let b = r.seats in let c : live w.role ≡ 0 = ap live role in omega arith)
+          r.made
+          (λ j. let a = total_join (λ u. stood j u.stands) s.views id other v both w nobody at there in let b : stood j v.stands ≡ 0 = ap (stood j) idle in omega arith)
+          (λ j. let a = total_join (λ u. stood j u.shows) s.views id other v both w nobody at there in let b = r.shown j in let c : stood j w.shows ≡ 0 = ap (stood j) bare in omega arith)
+          r.pledged
+          (λ j e. e),
+    )
+
 -- a seat that holds nothing ends
 pub leaves : (n id other : ℕ) (v w : HoldView) → v.role ≡ Keeper → w.role ≡ Seat → w.held ≡ [] → w.shows ≡ None → w.stands ≡ None
     → Joins (IsKept n) id v other w (joined_one v) nobody

@@ -5,13 +5,14 @@ use mathlib.Core.Logic.{dite}
 use native.Mathlib.Decide.{ℕ_discrete}
 use lib.ListN.{get_elem?}
 use Rattle.atomic_table.specs.Table.{step, keeps, Allows}
-use Rattle.atomic_table.proofs.Lists.{at_set, set_else}
+use lib.Seq.{set-get_or}
+use Rattle.atomic_table.proofs.Lists.{at_set, set_else, set_again}
 use Rattle.zq_hold.specs.declared.view.HoldView.{HoldView}
 use Rattle.zq_hold.specs.declared.view.Role.TheVariants.{Keeper, Seat}
 use Rattle.zq_hold.specs.Slots.{weight, times, stood}
 use Rattle.zq_hold.specs.Views.{gained, released}
 use Rattle.zq_hold.specs.Rule.{HoldState, live, holders, standing, showing, seated, IsKeptBy, IsKept}
-use Rattle.zq_hold.specs.Steps.{Mine, Gains, Releases}
+use Rattle.zq_hold.specs.Steps.{Mine, Gains, Releases, SeesEnd}
 use Rattle.zq_hold.proofs.Totals.{total_set, total_one, total_two, total_le, weight_same, weight_one, weight_other, times_without_same, times_without_other}
 
 -- at most 64 seats hold a slot
@@ -139,6 +140,25 @@ hold_allowed n slots id me k inside sits shows free s q _ at small =
             (λ (ne : k ≢ j). let a = weight_other k j ne in let b = sum j in let c = r.unlent j used out in omega arith)),
       ),
       refl,
+    )
+
+-- a look by a seat that stands for the slot: nobody holds it
+pub look_allowed : (n slots id : ℕ) (me : Mine) (k : ℕ) → me.0.stands ≡ Some k → Allows (IsKept n) slots id me k (λ x. x) (SeesEnd (step slots k 0 0 none) me)
+look_allowed n slots id me k ends s q _ at small =
+    let v = me.0 in
+    let r = q.2 in
+    let one : stood k v.stands ≡ 1 = ap (stood k) ends ∙ weight_same k in
+    let up = total_one (λ u. stood k u.stands) s.views id v at in
+    let held = total_one (λ u. times k u.held) s.views id v at in
+    let over = r.ended k (omega arith) in
+    let none_held = over.1 in
+    let words_same = set-get_or s.words k 0 in
+    let views_same = set_again s.views id v at in (
+      v,
+      keeps,
+      tt,
+      subst (λ (z : List ℕ × List HoldView). IsKept n record { words = z.0; homes = s.homes; views = z.1 }) (λ i. (sym words_same i, sym views_same i)) q,
+      (refl, omega arith),
     )
 
 -- what a release at the number x leaves the view standing for

@@ -3,17 +3,17 @@ use Rattle.std.proofs.Common.{◌≡◌, ◌≢◌, ℕ, ◌+◌, ◌-◌, ◌%�
 use mathlib.Core.Option.{none}
 use mathlib.Core.Logic.{dite}
 use native.Mathlib.Decide.{ℕ_discrete}
-use Rattle.atomic_table.specs.Table.{step, Allows, Splits}
+use Rattle.atomic_table.specs.Table.{step, Allows, Splits, Joins}
 use Rattle.atomic_table.specs.Seated.{TableId}
 use Rattle.zq_hold.specs.declared.view.HoldView.{HoldView}
 use Rattle.zq_hold.specs.Slots.{times, without}
-use Rattle.zq_hold.specs.Views.{last_of, released}
+use Rattle.zq_hold.specs.Views.{nobody, last_of, released}
 use Rattle.zq_hold.specs.Rule.{IsKept}
-use Rattle.zq_hold.specs.Steps.{Mine, Releases}
+use Rattle.zq_hold.specs.Steps.{Mine, Releases, SeesEnd}
 use Rattle.zq_hold.specs.Seats.{TableSeat, WordTable, IsSeat, IsLast}
 use Rattle.zq_hold.proofs.Totals.{times_without_same, times_without_other}
-use Rattle.zq_hold.proofs.SeatSteps.{release_allowed}
-use Rattle.zq_hold.proofs.Cuts.{seat_ends}
+use Rattle.zq_hold.proofs.SeatSteps.{release_allowed, look_allowed}
+use Rattle.zq_hold.proofs.Cuts.{seat_ends, seat_takes_last}
 
 pub release_asks : (seat : TableSeat) (table : WordTable) (k : ℕ) → IsSeat seat table → 0 < times k seat.me.0.held
     → (seat.table_id ≡ table.table_id) × (k < table.table_id.words) × Allows (IsKept table.key) table.table_id.slots seat.id seat.me k (λ x. (x + (2 ^ 64 - 1)) % 2 ^ 64) (Releases (step table.table_id.slots k 1 0 none) seat.me)
@@ -80,3 +80,28 @@ module _ (seat new : TableSeat) (table : WordTable) (k found : ℕ) (h : IsSeat 
       },
       cut.3 ∙ (home ∙ h.here),
     )
+
+-- a seat takes a `Last` in, looks at its slot, and gives it back
+module _ (seat : TableSeat) (table : WordTable) (h : IsSeat seat table) (last : TableSeat) (k : ℕ) (is : IsLast last k) (home : last.table_id ≡ table.table_id) where
+  in_words : k < table.table_id.words
+  in_words = subst (λ (z : TableId). k < z.words) home is.within
+
+  pub takes_asks : (seat.table_id ≡ table.table_id) × (last.table_id ≡ table.table_id) × (last.me.1 ≡ []) × (0 < table.table_id.words) × Joins (IsKept table.key) seat.id seat.me.0 last.id last.me.0 (record seat.me.0 { stands = last.me.0.stands }) nobody
+  takes_asks = (
+    h.here,
+    home,
+    is.out,
+    h.some,
+    seat_takes_last table.key seat.id last.id seat.me.0 last.me.0 h.sits h.stands (ap (λ (v : HoldView). v.role) is.is) (ap (λ (v : HoldView). v.held) is.is) (ap (λ (v : HoldView). v.shows) is.is),
+  )
+
+  module _ (between : TableSeat) (home' : between.table_id ≡ seat.table_id) (me : between.me ≡ (record seat.me.0 { stands = last.me.0.stands }, seat.me.1)) where
+    stands_now : between.me.0.stands ≡ Some k
+    stands_now = ap (λ (m : Mine). m.0.stands) me ∙ ap (λ (v : HoldView). v.stands) is.is
+
+    pub look_asks : (between.table_id ≡ table.table_id) × (k < table.table_id.words) × Allows (IsKept table.key) table.table_id.slots between.id between.me k (λ x. x) (SeesEnd (step table.table_id.slots k 0 0 none) between.me)
+    look_asks = (home' ∙ h.here, in_words, look_allowed table.key table.table_id.slots between.id between.me k stands_now)
+
+    pub gives_asks : (looked : TableSeat) → looked.table_id ≡ between.table_id → looked.me ≡ between.me
+        → (looked.table_id ≡ table.table_id) × (0 < table.table_id.words) × Splits (IsKept table.key) looked.id looked.me.0 (record looked.me.0 { stands = None }) (last_of looked.me.0.stands)
+    gives_asks looked home'' same = (home'' ∙ (home' ∙ h.here), h.some, seat_ends table.key looked.id looked.me.0 (ap (λ (m : Mine). m.0.role) same ∙ (ap (λ (m : Mine). m.0.role) me ∙ h.sits)))

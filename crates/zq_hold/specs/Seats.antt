@@ -31,12 +31,13 @@ pub record Ended : Type 0 where
   pub home : TableId
   pub slot : ℕ
 
--- the keeper: of which holds it is, the mark of each slot, the slots that are lent, how many held the slot that it released last, right afterwards, and how many seats were joined back
+-- the keeper: of which holds it is, the mark of each slot, the slots that are lent, how many held the slot that it released last, right afterwards, and how many seats were made and how many joined back
 pub record Keeping : Type 0 where
   pub home : TableId
   pub marks : List Mark
   pub lent : List ℕ
   pub left : ℕ
+  pub made : ℕ
   pub joined : ℕ
 
 -- a seat at a table of words

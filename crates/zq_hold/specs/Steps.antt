@@ -28,3 +28,7 @@ Opens st m found m' = (found ≡ 0) × (m' ≡ (opened m.0 st.word, m.1))
 -- a look by the keeper, which stands for the slot: it does not hold the slot, which was not vacated and is now
 abbrev pub Vacates : Step (Unit {0}) → Mine → ℕ → Mine → Type 0
 Vacates st m found m' = (m' ≡ (closed m.0 st.word, m.1)) × (times st.word m.0.held ≡ 0) × (0 < times st.word m.0.used)
+
+-- a look by a seat, which stands for the slot: it does not hold the slot
+abbrev pub SeesEnd : Step (Unit {0}) → Mine → ℕ → Mine → Type 0
+SeesEnd st m found m' = (m' ≡ m) × (times st.word m.0.held ≡ 0)

@@ -27,7 +27,7 @@ impl Model for Keeper {
 
     ghost Value = { Keeping };
 
-    ghost view = { λ k. record { home = k.seat.table_id; marks = k.marks.items; lent = k.seat.me.0.lent; left = k.seat.me.0.left; joined = k.seat.me.0.joined } };
+    ghost view = { λ k. record { home = k.seat.table_id; marks = k.marks.items; lent = k.seat.me.0.lent; left = k.seat.me.0.left; made = k.seat.me.0.made; joined = k.seat.me.0.joined } };
 
     ghost invariant = { λ k. IsKeeper k.seat (arc_value k.table).shared k.marks.items };
 }

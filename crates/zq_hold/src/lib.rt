@@ -4,7 +4,7 @@
 //!
 //! - `slot`: `Slot`, and `Mark`, how a slot stands with the keeper
 //! - `holds`: `Holds::new`, which makes the keeper and the seats
-//! - `seat`: `HoldSeat` with `release`, and `SeatList`
+//! - `seat`: `HoldSeat` with `release` and the law `apart`, and `SeatList`
 //! - `keeper`: `Keeper` with `put_back`, `vacate` and `join`; `hold` and `release_kept`
 //! - `allotting`: `allot`, and `NoSlot`, which it alone makes
 //! - `last`: `Last`, which has to be spent, by `vacate`
@@ -35,5 +35,5 @@ pub use allotting::{NoSlot, allot};
 pub use holds::Holds;
 pub use keeper::{Keeper, hold, release_kept};
 pub use last::Last;
-pub use seat::{HoldSeat, SeatList, release};
+pub use seat::{HoldSeat, SeatList, apart, release};
 pub use slot::{Mark, Slot};

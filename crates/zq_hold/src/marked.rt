@@ -47,7 +47,7 @@ pub(crate) fn release_marked(
     requires kept { HasMark Kept marks.old slot.0 }
     ensures keeper { IsKeeper keeper.new table.now.shared marks.new }
     ensures marks { marks.new ≡ slice_set marks.old slot.0 Gone }
-    ensures view { (keeper.new.me.0.lent ≡ keeper.old.me.0.lent) × (keeper.new.me.0.joined ≡ keeper.old.me.0.joined) }
+    ensures view { (keeper.new.me.0.lent ≡ keeper.old.me.0.lent) × (keeper.new.me.0.made ≡ keeper.old.me.0.made) × (keeper.new.me.0.joined ≡ keeper.old.me.0.joined) }
     ensures last { IfSome result (λ l. (l ≡ record { home = table.now.shared.table_id; slot = slot.0 }) × (keeper.new.me.0.left ≡ 0)) }
     ensures none { IfNone result ((0 < keeper.new.me.0.left) × (0 < times slot.0 keeper.old.me.0.lent)) }
 {

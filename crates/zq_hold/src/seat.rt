@@ -5,7 +5,7 @@ ghost use Rattle.zq_hold.specs.Seats.{unused_seat};
 
 use crate::last::Last;
 use crate::slot::Slot;
-use crate::table::{CountSeat, CountTable, release_slot};
+use crate::table::{CountSeat, CountTable, release_slot, see_end};
 use std::alloc::Global;
 use std::marker::Model;
 use std::sync::Arc;
@@ -37,6 +37,17 @@ pub fn release(seat: &mut HoldSeat, slot: Slot) -> Option<Last>
 {
     let HoldSeat { table, seat } = seat;
     release_slot(&**table, seat, slot)
+}
+
+/// Tells a proof that a seat does not hold the slot that a `Last` stands for. It changes nothing, and takes no memory.
+pub fn apart(seat: &mut HoldSeat, last: Last) -> Last
+    requires { seat.old.home ≡ last.home }
+    ensures seat { seat.new ≡ seat.old }
+    ensures last { result ≡ last }
+    ensures apart { times last.slot seat.old.held ≡ 0 }
+{
+    let HoldSeat { table, seat } = seat;
+    see_end(&**table, seat, last)
 }
 
 /// The seats that are still to be taken, each of which holds nothing.

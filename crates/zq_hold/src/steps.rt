@@ -59,6 +59,15 @@ impl Play<(), HoldView> for Vacates {
     ghost then = { Vacates };
 }
 
+/// A seat that took a `Last` in looks at its slot.
+pub struct SeesEnd;
+
+impl Play<(), HoldView> for SeesEnd {
+    ghost use Rattle.zq_hold.specs.Steps.{SeesEnd};
+
+    ghost then = { SeesEnd };
+}
+
 /// The keeper makes a seat.
 pub struct MakesSeat;
 
@@ -116,7 +125,7 @@ impl Join<HoldView> for TakesBack {
     ghost spent = { nobody };
 }
 
-/// The view of a `Last` is split off the one whose step was last, or joined to the keeper.
+/// The view of a `Last` is split off the one that stands for its slot, or joined to the keeper or to a seat.
 pub struct Ends;
 
 impl Split<HoldView> for Ends {

@@ -6,7 +6,9 @@ ghost use Rattle.zq_hold.specs.Seats.{IsKeeperSeat, IsSeat};
 
 use crate::last::Last;
 use crate::slot::Slot;
-use crate::steps::{Ends, Gains, Leaves, MakesSeat, Pledges, Releases, Shows, SlotName, TakesBack};
+use crate::steps::{
+    Ends, Gains, Leaves, MakesSeat, Pledges, Releases, SeesEnd, Shows, SlotName, TakesBack,
+};
 use crate::view::{Counts, HoldView};
 use atomic_table::{Seat, Table};
 use std::alloc::Global;
@@ -92,4 +94,19 @@ pub(crate) fn release_slot(table: &CountTable, seat: &mut CountSeat, slot: Slot)
     }
     let end = table.shared.split_seat::<Ends>(seat);
     Some(Last { seat: end, slot })
+}
+
+/// A seat takes a `Last` in, learns by a look that it does not hold its slot, and gives the `Last` back.
+pub(crate) fn see_end(table: &CountTable, seat: &mut CountSeat, last: Last) -> Last
+    requires seat { IsSeat seat.old table.now.shared }
+    requires home { last.home ≡ table.now.shared.table_id }
+    ensures seat { IsSeat seat.new table.now.shared × (seat.new.me.0.held ≡ seat.old.me.0.held) × (seat.new.me.0.left ≡ seat.old.me.0.left) }
+    ensures last { result ≡ last }
+    ensures apart { times last.slot seat.old.me.0.held ≡ 0 }
+{
+    let Last { seat: end, slot } = last;
+    table.shared.join_seat::<Ends>(seat, end);
+    table.shared.load::<SeesEnd>(seat, slot.0 as usize);
+    let end = table.shared.split_seat::<Ends>(seat);
+    Last { seat: end, slot }
 }

@@ -23,9 +23,9 @@ use Rattle.zq_shared.specs.declared.shared.StepRefusal.TheVariants as refusal
 abbrev pub IsSameHolds : Slotted → Slotted → Type 0
 IsSameHolds old new = (new.keeper.home ≡ old.keeper.home) × (length new.keeper.marks ≡ length old.keeper.marks)
 
--- that many slots of these holds, each spare and without an owner
-abbrev pub all_spare : TableId → ℕ → Slotted
-all_spare home n = record { keeper = record { home = home; marks = replicate n Spare; lent = []; left = 0; joined = 0 }; owners = replicate n None }
+-- that many slots of these holds, each spare and without an owner, and so many seats made
+abbrev pub all_spare : TableId → ℕ → ℕ → Slotted
+all_spare home n seats = record { keeper = record { home = home; marks = replicate n Spare; lent = []; left = 0; made = seats; joined = 0 }; owners = replicate n None }
 
 -- the request that owns the slot has a reply among these messages
 abbrev pub HasReply : List Handed → Slotted → ℕ → Type 0

@@ -74,7 +74,7 @@ impl Shared {
         requires slots { (0 < slots) × (slots ≤ 1024) }
         requires seats { (0 < seats) × (seats ≤ 63) }
         ensures stored { IfOk result (λ r. r.0.stored ≡ record { config = config.now; calls = [] }) }
-        ensures slots { IfOk result (λ r. r.0.slots ≡ all_spare r.0.slots.keeper.home slots) }
+        ensures slots { IfOk result (λ r. r.0.slots ≡ all_spare r.0.slots.keeper.home slots seats) }
         ensures seats { IfOk result (λ r. r.1 ≡ record { home = r.0.slots.keeper.home; count = seats }) }
     {
         let journal = Journal::new(alloc, config)?;

@@ -8,4 +8,4 @@ mod find;
 mod slots;
 
 pub use slots::Slots;
-pub use zq_hold::{HoldSeat, Last, Mark, NoSlot, SeatList, Slot, release};
+pub use zq_hold::{HoldSeat, Last, Mark, NoSlot, SeatList, Slot, apart, release};

@@ -28,11 +28,11 @@ impl Model for Slots {
 }
 
 impl Slots {
-    /// That many slots, each spare, and that many seats, which hold nothing.
+    /// That many slots, each spare, and that many seats, which hold nothing; no other seat is made.
     pub fn new(alloc: Global, slots: u16, seats: u8) -> Result<(Slots, SeatList), AllocError>
         requires slots { (0 < slots) × (slots ≤ 1024) }
         requires seats { (0 < seats) × (seats ≤ 63) }
-        ensures slots { IfOk result (λ r. r.0 ≡ record { keeper = record { home = r.0.keeper.home; marks = replicate slots Spare; lent = []; left = 0; joined = 0 }; owners = replicate slots None }) }
+        ensures slots { IfOk result (λ r. r.0 ≡ record { keeper = record { home = r.0.keeper.home; marks = replicate slots Spare; lent = []; left = 0; made = seats; joined = 0 }; owners = replicate slots None }) }
         ensures seats { IfOk result (λ r. r.1 ≡ record { home = r.0.keeper.home; count = seats }) }
     {
         let owners = no_owners(alloc, slots as usize)?;
