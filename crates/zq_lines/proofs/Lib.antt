@@ -3,3 +3,4 @@ pub mod TablesBack
 pub mod Given
 pub mod GivenLines
 pub mod LinesBack
+pub mod Flat

@@ -1,6 +1,7 @@
 //! How calls are written.
-ghost use Rattle.std.specs.Prelude.{◌≡◌, ◌++◌, IfOk, OnOk, Some};
+ghost use Rattle.std.specs.Prelude.{◌≡◌, ◌++◌, IfOk, OnOk, Some, true};
 ghost use Rattle.std.specs.List.{flat_map};
+ghost use Rattle.zq_words.specs.Words.{lacks};
 ghost use Rattle.zq_lines.specs.Lines.{call_of};
 ghost use Rattle.zq_machine.specs.declared.call.Call.TheVariants as call;
 ghost use Rattle.zq_lines.specs.Fits.{FitsCall};
@@ -260,10 +261,11 @@ pub fn push_call(out: &mut Vec<u8>, call: &Call) -> Result<(), AllocError>
     }
 }
 
-/// The line of a call.
-#[tactic(auto, using(crate::proofs::LinesBack::call_back))]
+/// The line of a call, without the newline that ends it in a script.
+#[tactic(auto, using(crate::proofs::Flat::call_flat, crate::proofs::LinesBack::call_back))]
 pub fn print_call(alloc: Global, call: &Call) -> Result<Bytes, OutOfMemory>
     ensures words { IfOk result (λ b. b ≡ call_words call.now) }
+    ensures newline { IfOk result (λ b. lacks 10 b ≡ true) }
     ensures back { FitsCall call.now → call_of (call_words call.now) ≡ Some call.now }
 {
     let mut out = Vec::new(alloc);

@@ -4,18 +4,12 @@ use Rattle.std.specs.Prelude.{codes}
 use Rattle.std.specs.Fmt.{decimal}
 use Rattle.std.specs.List.{AllByRecursion, flat_map}
 use Rattle.zq_message.specs.declared.message.Zid.{Zid}
-use Rattle.zq_message.specs.declared.message.Mapping.{Mapping}
-use Rattle.zq_message.specs.declared.message.Mapping.TheVariants as mapping
 use Rattle.zq_message.specs.declared.message.WireExpr.{WireExpr}
-use Rattle.zq_message.specs.declared.message.QueryTarget.{QueryTarget}
-use Rattle.zq_message.specs.declared.message.QueryTarget.TheVariants as target
 use Rattle.zq_message.specs.declared.message.QueryableInfoType.{QueryableInfoType}
 use Rattle.zq_message.specs.declared.message.Request.{Request}
 use Rattle.zq_message.specs.declared.message.Response.{Response}
 use Rattle.zq_message.specs.declared.message.ResponseFinal.{ResponseFinal}
 use Rattle.zq_message.specs.declared.message.Interest.{Interest}
-use Rattle.zq_message.specs.declared.message.ReplyBody.{ReplyBody}
-use Rattle.zq_message.specs.declared.message.ReplyBody.TheVariants as reply
 use Rattle.zq_message.specs.declared.message.DeclareBody.{DeclareBody}
 use Rattle.zq_message.specs.declared.message.DeclareBody.TheVariants as body
 use Rattle.zq_message.specs.declared.message.Message.{Message}
@@ -27,9 +21,9 @@ use Rattle.zq_machine.specs.declared.call.Refusal.TheVariants as refusal
 use Rattle.zq_machine.specs.Handing.{Handed}
 use Rattle.zq_machine.specs.declared.call.Step.{Step}
 use Rattle.zq_words.specs.Words.{◌>>=◌, field, lacks, payload_word, option_of, option_word}
-use Rattle.zq_words.specs.Values.{most_8, most_16, most_32, most_64, flag_word, zid_of, zid_word, mapping_word, target_word, wire_word}
+use Rattle.zq_words.specs.Values.{most_8, most_16, most_32, most_64, flag_word, zid_of, zid_word, target_word, wire_word}
 use Rattle.zq_words.specs.Fits.{FitsZid, FitsWire, FitsOption}
-use Rattle.zq_words.proofs.Back.{lacks_append, cut_back, Reads, then, number_reads, decimal_lacks, payload_is_word}
+use Rattle.zq_words.proofs.Back.{cut_back, Reads, then, number_reads}
 use Rattle.zq_words.proofs.Lists.{not_name, OptionReads, option_reads}
 use Rattle.zq_words.proofs.ValuesBack.{face_reads, zid_reads, wire_reads}
 use Rattle.zq_lines.specs.CallLines.{aggregate_words, info_words, body_words}
@@ -42,6 +36,7 @@ use Rattle.zq_prints.specs.StepsRead.{last_at, request_of, response_of, final_of
 use Rattle.zq_prints.specs.StepsFit.{FitsFinal, FitsInterest, FitsDeclare, FitsMessage, FitsOutcome, FitsHanded, FitsStep}
 use Rattle.zq_lines.proofs.LinesBack.{then_last, first_back, on, k_reads, info_back, option_wire, option_number, option_plain, bytes_reads, manner_back, body_back, body_ends, aggregate_back, aggregate_ends, nest3, nest4, nest5, nest7}
 use Rattle.zq_lines.proofs.Splitting.{lines_cut}
+use Rattle.zq_lines.proofs.Flat.{Flat, all_flat, decimal_flat, payload_flat, option_flat, zid_flat, target_flat, wire_flat, flag_flat, info_flat, body_flat, aggregate_flat}
 use Rattle.zq_prints.proofs.Sameness.{message_same}
 
 -- the last word of a line
@@ -163,112 +158,46 @@ outcome_back (outcome.Replied reply) f = first_back outcome_by (codes "replied")
 outcome_back outcome.Done f = refl
 outcome_back (outcome.Refused r) f = first_back outcome_by (codes "refused") _ refl ∙ last_back _ (refusal_reads r).0 refl
 
--- no newline stands in words
-abbrev Flat : List ℕ → Type 0
-Flat words = lacks 10 words ≡ true
+-- no newline stands in a line
+outcome_flat : (o : Outcome) → Flat (outcome_words o)
+outcome_flat (outcome.Opened face) = decimal_flat face.0
+outcome_flat (outcome.Asked n) = decimal_flat n
+outcome_flat (outcome.Replied reply) = option_flat decimal reply decimal_flat
+outcome_flat outcome.Done = refl
+outcome_flat (outcome.Refused r) = (refusal_reads r).1
 
-option_flat : {X : Type 0} (P : X → Type 0) (write : X → List ℕ) (o : Option X) → ((x : X) → P x → Flat (write x)) → FitsOption P o → Flat (option_word write o)
-option_flat P write None k f = refl
-option_flat P write (Some x) k f = k x f
-
-numbers_flat : (o : Option ℕ) → FitsOption (λ n. n ≤ most_64) o → Flat (option_word decimal o)
-numbers_flat o f = option_flat (λ n. n ≤ most_64) decimal o (λ n l. decimal_lacks 10 n (omega arith) refl) f
-
-outcome_flat : (o : Outcome) → FitsOutcome o → Flat (outcome_words o)
-outcome_flat (outcome.Opened face) f = decimal_lacks 10 face.0 (omega arith) refl
-outcome_flat (outcome.Asked n) f = decimal_lacks 10 n (omega arith) refl
-outcome_flat (outcome.Replied reply) f = numbers_flat reply f
-outcome_flat outcome.Done f = refl
-outcome_flat (outcome.Refused r) f = (refusal_reads r).1
-
--- words, joined from the left
-joined : List ℕ → List (List ℕ) → List ℕ
-joined words [] = words
-joined words (w ∷ ws) = joined (words ++ w) ws
-
-all_flat : (words : List ℕ) (ws : List (List ℕ)) → Flat words → AllByRecursion Flat ws → Flat (joined words ws)
-unfolding joined
-all_flat words [] e a = e
-all_flat words (w ∷ ws) e a = all_flat (words ++ w) ws (lacks_append 10 words w e a.0) a.1
-
-mapping_flat : (m : Mapping) → Flat (58 ∷ mapping_word m)
-mapping_flat mapping.Sender = refl
-mapping_flat mapping.Receiver = refl
-
-target_flat : (t : QueryTarget) → Flat (target_word t)
-target_flat target.All = refl
-target_flat target.AllComplete = refl
-target_flat target.BestMatching = refl
-
-payload_flat : (bytes : List ℕ) → Flat (payload_word bytes)
-payload_flat bytes = (payload_is_word bytes).newline
-
-wire_flat : (w : WireExpr) → FitsWire w → Flat (wire_word w)
-unfolding joined
-wire_flat w f = all_flat (decimal w.scope) ((58 ∷ mapping_word w.mapping) ∷ (58 ∷ payload_word w.suffix) ∷ []) (decimal_lacks 10 w.scope (omega (arith, f.scope)) refl) (mapping_flat w.mapping, (payload_flat w.suffix, tt))
-
-wires_flat : (o : Option WireExpr) → FitsOption FitsWire o → Flat (option_word wire_word o)
-wires_flat o f = option_flat FitsWire wire_word o wire_flat f
-
-info_flat : (info : QueryableInfoType) → info.distance ≤ most_16 → Flat (info_words info)
-info_flat info f = lacks_append 10 (field (flag_word (codes "c") (codes "p") info.complete)) (field (decimal info.distance)) (flag_flat info.complete) (decimal_lacks 10 info.distance (omega arith) refl)
-  where
-    flag_flat : (b : Bool) → Flat (field (flag_word (codes "c") (codes "p") b))
-    flag_flat true = refl
-    flag_flat false = refl
-
-keys_flat : (b : Bool) → Flat (flag_word (codes "k") (codes "n") b)
-keys_flat true = refl
-keys_flat false = refl
-
-body_flat : (b : ReplyBody) → Flat (body_words b)
-body_flat (reply.Reply payload) = payload_flat payload
-body_flat (reply.Err payload) = payload_flat payload
-
-request_flat : (r : Request) → FitsRequest r → Flat (request_words r)
-unfolding joined
-request_flat r f =
+request_flat : (r : Request) → Flat (request_words r)
+request_flat r =
     all_flat (codes "request") (field (decimal r.id) ∷ field (wire_word r.wire) ∷ field (target_word r.target) ∷ field (option_word decimal r.timeout) ∷ field (decimal r.node) ∷ field (decimal r.qos) ∷ field (payload_word r.payload) ∷ []) refl
-    (decimal_lacks 10 r.id (omega (arith, f.id)) refl, (wire_flat r.wire f.wire, (target_flat r.target, (numbers_flat r.timeout f.timeout, (decimal_lacks 10 r.node (omega (arith, f.node)) refl, (decimal_lacks 10 r.qos (omega (arith, f.qos)) refl, (payload_flat r.payload, tt)))))))
+    (decimal_flat r.id, (wire_flat r.wire, (target_flat r.target, (option_flat decimal r.timeout decimal_flat, (decimal_flat r.node, (decimal_flat r.qos, (payload_flat r.payload, tt)))))))
 
-response_flat : (r : Response) → FitsResponse most_8 r → Flat (response_words r)
-unfolding joined
-response_flat r f =
+response_flat : (r : Response) → Flat (response_words r)
+response_flat r =
     all_flat (codes "response") (field (decimal r.rid) ∷ field (wire_word r.wire) ∷ field (decimal r.qos) ∷ body_words r.payload ∷ field (option_word zid_word r.responder) ∷ []) refl
-    (decimal_lacks 10 r.rid (omega (arith, f.rid)) refl, (wire_flat r.wire f.wire, (decimal_lacks 10 r.qos (omega (arith, f.qos)) refl, (body_flat r.payload, (option_flat FitsZid zid_word r.responder (λ zid l. decimal_lacks 10 zid.0 (omega arith) refl) f.responder, tt)))))
+    (decimal_flat r.rid, (wire_flat r.wire, (decimal_flat r.qos, (body_flat r.payload, (option_flat zid_word r.responder zid_flat, tt)))))
 
-aggregate_flat : (aggregate : Bool) → Flat (aggregate_words aggregate)
-aggregate_flat true = refl
-aggregate_flat false = refl
-
-interest_flat : (i : Interest) → FitsInterest i → Flat (interest_words i)
-unfolding joined
-interest_flat i f =
+interest_flat : (i : Interest) → Flat (interest_words i)
+interest_flat i =
     all_flat (codes "interest") (field (decimal i.id) ∷ field (option_word wire_word i.wire) ∷ field (flag_word (codes "k") (codes "n") i.keys) ∷ aggregate_words i.aggregate ∷ []) refl
-    (decimal_lacks 10 i.id (omega (arith, f.id)) refl, (wires_flat i.wire f.wire, (keys_flat i.keys, (aggregate_flat i.aggregate, tt))))
+    (decimal_flat i.id, (option_flat wire_word i.wire wire_flat, (flag_flat (codes "k") (codes "n") i.keys refl refl, (aggregate_flat i.aggregate, tt))))
 
-interests_flat : (o : Option ℕ) → FitsOption (λ n. n ≤ most_32) o → Flat (option_word decimal o)
-interests_flat o f = option_flat (λ n. n ≤ most_32) decimal o (λ n l. decimal_lacks 10 n (omega arith) refl) f
-
-declare_flat : (interest : Option ℕ) (node : ℕ) (b : DeclareBody) → FitsDeclare interest node b → Flat (declare_words interest node b)
-unfolding joined
-declare_flat interest node (body.DeclareKeyExpr id wire) f = all_flat (codes "key") (field (decimal id) ∷ field (wire_word wire) ∷ []) refl (decimal_lacks 10 id (omega (arith, f.body.0)) refl, (wire_flat wire f.body.1, tt))
-declare_flat interest node (body.UndeclareKeyExpr id) f = decimal_lacks 10 id (omega (arith, f.body)) refl
-declare_flat interest node (body.DeclareQueryable id wire info) f =
+declare_flat : (interest : Option ℕ) (node : ℕ) (b : DeclareBody) → Flat (declare_words interest node b)
+declare_flat interest node (body.DeclareKeyExpr id wire) = all_flat (codes "key") (field (decimal id) ∷ field (wire_word wire) ∷ []) refl (decimal_flat id, (wire_flat wire, tt))
+declare_flat interest node (body.UndeclareKeyExpr id) = decimal_flat id
+declare_flat interest node (body.DeclareQueryable id wire info) =
     all_flat (codes "queryable") (field (decimal id) ∷ field (wire_word wire) ∷ info_words info ∷ field (decimal node) ∷ field (option_word decimal interest) ∷ []) refl
-    (decimal_lacks 10 id (omega (arith, f.body.0)) refl, (wire_flat wire f.body.1, (info_flat info f.body.2, (decimal_lacks 10 node (omega (arith, f.node)) refl, (interests_flat interest f.interest, tt)))))
-declare_flat interest node (body.UndeclareQueryable id wire) f =
-    all_flat (codes "unqueryable") (field (decimal id) ∷ field (option_word wire_word wire) ∷ field (decimal node) ∷ []) refl
-    (decimal_lacks 10 id (omega (arith, f.body.0)) refl, (wires_flat wire f.body.1, (decimal_lacks 10 node (omega (arith, f.node)) refl, tt)))
-declare_flat interest node body.DeclareFinal f = interests_flat interest f.interest
+    (decimal_flat id, (wire_flat wire, (info_flat info, (decimal_flat node, (option_flat decimal interest decimal_flat, tt)))))
+declare_flat interest node (body.UndeclareQueryable id wire) =
+    all_flat (codes "unqueryable") (field (decimal id) ∷ field (option_word wire_word wire) ∷ field (decimal node) ∷ []) refl (decimal_flat id, (option_flat wire_word wire wire_flat, (decimal_flat node, tt)))
+declare_flat interest node body.DeclareFinal = option_flat decimal interest decimal_flat
 
-message_flat : (m : Message) → FitsMessage m → Flat (message_words m)
-message_flat (message.Request r) f = request_flat r f
-message_flat (message.Response r) f = response_flat r f
-message_flat (message.ResponseFinal l) f = lacks_append 10 (codes "final" ++ field (decimal l.rid)) (field (decimal l.qos)) (decimal_lacks 10 l.rid (omega (arith, f.rid)) refl) (decimal_lacks 10 l.qos (omega (arith, f.qos)) refl)
-message_flat (message.Declare d) f = declare_flat d.interest d.node d.body f
-message_flat (message.Interest i) f = interest_flat i f
-message_flat (message.InterestFinal id) f = decimal_lacks 10 id (omega arith) refl
+pub message_flat : (m : Message) → Flat (message_words m)
+message_flat (message.Request r) = request_flat r
+message_flat (message.Response r) = response_flat r
+message_flat (message.ResponseFinal l) = all_flat (codes "final") (field (decimal l.rid) ∷ field (decimal l.qos) ∷ []) refl (decimal_flat l.rid, (decimal_flat l.qos, tt))
+message_flat (message.Declare d) = declare_flat d.interest d.node d.body
+message_flat (message.Interest i) = interest_flat i
+message_flat (message.InterestFinal id) = decimal_flat id
 
 -- what lines say that don't begin with what leaves
 abbrev behind : List Handed → List Step → Told
@@ -308,7 +237,7 @@ leaving_back m (Some n) rest handed steps f t = by (same_message m n)
   where
     by : (same : Bool) → told_of (lines_of (cond same [] (codes "< " ++ message_words n ++ 10 ∷ []) ++ rest)) ≡ Some (record { leaving = next_by same n; handed = handed; steps = steps })
     by true = t
-    by false = line_back (codes "< " ++ message_words n) rest (behind handed steps) _ (message_flat n f) t (first_back (told_by (behind handed steps)) (codes "<") (message_words n) refl ∙ on _ (message_plain n f) refl)
+    by false = line_back (codes "< " ++ message_words n) rest (behind handed steps) _ (message_flat n) t (first_back (told_by (behind handed steps)) (codes "<") (message_words n) refl ∙ on _ (message_plain n f) refl)
 
 -- a message that is handed, with what leaves
 handed_back : (h : Handed) (next : Option (Option Message)) → FitsHanded h → leaves_by h.message next ≡ h.leaves
@@ -317,11 +246,10 @@ unfolding handed_of
 handed_back h next f e =
     then _ (face_reads h.to f.to) refl (then _ (option_number most_64 h.number (omega arith) f.asked) refl (then _ (option_number most_64 h.reply (omega arith) f.reply) refl (on _ (message_back h.message f.message) (ap (λ (l : Option Message). Some (record h { leaves = l })) e))))
 
-handed_flat : (h : Handed) → FitsHanded h → Flat (codes "> " ++ decimal h.to.0 ++ field (option_word decimal h.number) ++ field (option_word decimal h.reply) ++ codes " " ++ message_words h.message)
-unfolding joined
-handed_flat h f =
+handed_flat : (h : Handed) → Flat (codes "> " ++ decimal h.to.0 ++ field (option_word decimal h.number) ++ field (option_word decimal h.reply) ++ codes " " ++ message_words h.message)
+handed_flat h =
     all_flat (codes "> ") (decimal h.to.0 ∷ field (option_word decimal h.number) ∷ field (option_word decimal h.reply) ∷ codes " " ∷ message_words h.message ∷ []) refl
-    (decimal_lacks 10 h.to.0 (omega (arith, f.to)) refl, (numbers_flat h.number f.asked, (numbers_flat h.reply f.reply, (refl, (message_flat h.message f.message, tt)))))
+    (decimal_flat h.to.0, (option_flat decimal h.number decimal_flat, (option_flat decimal h.reply decimal_flat, (refl, (message_flat h.message, tt)))))
 
 one_back : (h : Handed) (rest : List ℕ) (handed : List Handed) (steps : List Step) → FitsHanded h → told_of (lines_of rest) ≡ Some (behind handed steps) → told_of (lines_of (handed_words h ++ rest)) ≡ Some (behind (h ∷ handed) steps)
 unfolding told_by
@@ -330,7 +258,7 @@ one_back h rest handed steps f t =
     let next : Option (Option Message) = next_of h.message h.leaves in
     let told : Told = record { leaving = next; handed = handed; steps = steps } in
     ap (λ b. told_of (lines_of b)) (append_assoc (line ++ 10 ∷ []) (leaving_words h.message h.leaves) rest)
-    ∙ line_back line _ told _ (handed_flat h f) (leaving_back h.message h.leaves rest handed steps f.leaves t)
+    ∙ line_back line _ told _ (handed_flat h) (leaving_back h.message h.leaves rest handed steps f.leaves t)
     (ap (by_first (told_by told)) (nest5 (codes "> ") (decimal h.to.0) (field (option_word decimal h.number)) (field (option_word decimal h.reply)) (codes " ") (message_words h.message))
     ∙ first_back (told_by told) (codes ">") _ refl ∙ on _ (handed_back h next f (leaves_back h.message h.leaves)) refl)
 
@@ -343,7 +271,7 @@ unfolding told_by
 step_back s rest steps f t =
     let told : Told = behind s.handed steps in
     ap (λ b. told_of (lines_of b)) (append_assoc (codes "= " ++ outcome_words s.outcome ++ 10 ∷ []) (flat_map handed_words s.handed) rest)
-    ∙ line_back (codes "= " ++ outcome_words s.outcome) _ told _ (outcome_flat s.outcome f.outcome) (all_back s.handed rest steps f.handed t)
+    ∙ line_back (codes "= " ++ outcome_words s.outcome) _ told _ (outcome_flat s.outcome) (all_back s.handed rest steps f.handed t)
     (first_back (told_by told) (codes "=") (outcome_words s.outcome) refl ∙ on (answered told) (outcome_back s.outcome f.outcome) refl)
 
 told_back : (steps : List Step) → AllByRecursion FitsStep steps → told_of (lines_of (steps_words steps)) ≡ Some (behind [] steps)

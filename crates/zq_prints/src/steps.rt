@@ -1,9 +1,9 @@
 //! How messages and steps are printed.
-ghost use Rattle.std.specs.Prelude.{◌≡◌, ◌++◌, ◌∷◌, [], IfOk, OnOk, Some};
+ghost use Rattle.std.specs.Prelude.{◌≡◌, ◌++◌, ◌∷◌, [], IfOk, OnOk, Some, true};
 ghost use Rattle.std.specs.Fmt.{decimal};
 ghost use Rattle.std.specs.List.{AllByRecursion};
 ghost use Rattle.zq_machine.specs.Handing.{left};
-ghost use Rattle.zq_words.specs.Words.{field, option_word};
+ghost use Rattle.zq_words.specs.Words.{field, lacks, option_word};
 ghost use Rattle.zq_prints.specs.Steps.{request_words, response_words, interest_words, declare_words, message_words, refusal_name, outcome_words, leaving_words, handed_words, step_words, steps_words};
 ghost use Rattle.zq_prints.specs.StepsRead.{message_of, steps_of};
 ghost use Rattle.zq_prints.specs.StepsFit.{ShowsMessage, ShowsStep};
@@ -119,10 +119,12 @@ fn push_message(out: &mut Vec<u8>, message: &Message) -> Result<(), AllocError>
     }
 }
 
-/// The words of a message, which are read back as that message where they show all of it.
-#[tactic(auto, using(crate::proofs::StepsBack::message_back))]
+/// The words of a message, without a newline, which are read back as that message where they show
+/// all of it.
+#[tactic(auto, using(crate::proofs::StepsBack::message_flat, crate::proofs::StepsBack::message_back))]
 pub fn print_message(alloc: Global, message: &Message) -> Result<Bytes, OutOfMemory>
     ensures words { IfOk result (λ b. b ≡ message_words message.now) }
+    ensures newline { IfOk result (λ b. lacks 10 b ≡ true) }
     ensures back { IfOk result (λ b. ShowsMessage message.now → message_of b ≡ Some message.now) }
 {
     message_fits(message);
