@@ -1,5 +1,5 @@
 -- A request and its slot.
-use Rattle.std.proofs.Common.{◌≡◌, ℕ, ◌<◌, Bool, true, false, cond, zero, suc, List, [], ◌∷◌, length, Option, Some, None, refl, sym, ap, ◌∙◌, subst, arith, inl, inr}
+use Rattle.std.proofs.Common.{◌≡◌, ◌≢◌, ℕ, ◌<◌, Bool, true, false, cond, zero, suc, List, [], ◌∷◌, length, Option, Some, None, refl, sym, ap, ◌∙◌, subst, arith, inl, inr, get_or-set_other}
 use Rattle.std.specs.Prelude.{IfNone, IfSome}
 use Rattle.std.specs.List.{filter, list_any}
 use Rattle.std.proofs.lemmas.Bool.{false≢true}
@@ -15,18 +15,19 @@ use Rattle.zq_machine.specs.declared.call.Call.{Call}
 use Rattle.zq_machine.specs.declared.call.Call.TheVariants as call
 use Rattle.zq_machine.specs.declared.call.Outcome.TheVariants as outcome
 use Rattle.zq_machine.specs.declared.call.Step.{Step}
+use Rattle.zq_machine.specs.Calls.{is_sent}
 use Rattle.zq_machine.specs.Configs.{Settings}
 use Rattle.zq_machine.specs.Machine.{state_after, step}
 use Rattle.zq_machine.specs.State.{opening_state}
 use Rattle.zq_machine.specs.Waiting.{hands_reply}
-use Rattle.zq_ties.specs.Stored.{IsOpen, Stored, answer_to, asks_request, waiting, with_call}
+use Rattle.zq_ties.specs.Stored.{IsOpen, Stored, answer_to, asks_request, in_flight, waiting, with_call}
 use Rattle.zq_ties.specs.Ties.{IsTied, is_used}
 use Rattle.zq_ties.proofs.Flights.{handed_in, promises, quiet}
 use Rattle.zq_ties.proofs.Frames.{request_of}
 use Rattle.zq_ties.proofs.Journals.{answer_is}
-use Rattle.zq_ties.proofs.Moves.{flying_is, next_given, waiting_is}
+use Rattle.zq_ties.proofs.Moves.{flies_stays, flying_is, next_given, waiting_is}
 use Rattle.zq_ties.proofs.Ties.{back_tied, given_tied, quiet_tied}
-use Rattle.zq_shared.specs.Sharing.{HoldsReplies}
+use Rattle.zq_shared.specs.Sharing.{HoldsReplies, KeepsFlights}
 
 -- ---- before any call
 pub none_open : (config : Settings) (n : ℕ) → IsOpen (record { config = config; calls = [] }) n → ⊥
@@ -53,6 +54,16 @@ next_free marks k (inr none) all = all.1 k none.1.0.0 none.1.0.1
 pub next_inside : (marks : List Mark) (k : ℕ) → IsNext marks k → k < length marks
 next_inside marks k (inl least) = least.0.0
 next_inside marks k (inr none) = none.1.0.0
+
+-- ---- replies in flight keep their slots' owners
+-- while nothing is stored
+pub still_flights : (s s1 : Stored) → s1 ≡ s → (m m' : Slotted) → m'.owners ≡ m.owners → KeepsFlights None (record { stored = s; slots = m }) (record { stored = s1; slots = m' })
+still_flights s s1 stored m m' same k n r but owner flown = (ap (λ os. owner_at os k) same ∙ owner, ap (λ (x : Stored). in_flight x n r) stored ∙ flown)
+
+-- once a call is stored that reports nothing, where owners stay
+pub stored_flights : (s : Stored) (c : Call) (s1 : Stored) → s1 ≡ with_call s c → is_sent c ≡ false → (m m' : Slotted)
+    → ((k n : ℕ) → owner_at m.owners k ≡ Some n → owner_at m'.owners k ≡ Some n) → KeepsFlights None (record { stored = s; slots = m }) (record { stored = s1; slots = m' })
+stored_flights s c s1 stored unsent m m' stays k n r but owner flown = (stays k n owner, ap (λ (x : Stored). in_flight x n r) stored ∙ flies_stays s c unsent n r flown)
 
 -- ---- a request is made
 -- it hands no reply
@@ -100,6 +111,21 @@ module _ (s : Stored) (c : Call) (m : Slotted) (tied : IsTied s m) (asks : asks_
         subst (λ x. IsTied x m') (sym stored) (asked_tied None m' tt (λ n is. (ap (λ (x : Stored). waiting x n) (sym stored) ∙ none n (ap (λ (x : Step). x.outcome) answered ∙ is))) tt (back ∙ ap (λ (x : Slotted). with_mark x k Spare) marked))
     asked_after m1 m' s1 t (Some n) marked stored answered some none given back =
         subst (λ x. IsTied x m') (sym stored) (asked_tied (Some n) m' (ap (λ (x : Step). x.outcome) (sym answered) ∙ some.0, subst (λ x. 0 < waiting x n) stored some.1) tt (given ∙ ap (λ (x : Slotted). with_owner x k (Some n)) marked) tt)
+
+    -- who owned a slot still does
+    owners_stay : (m1 m' : Slotted) (owner : Option ℕ) → m1 ≡ with_mark m k Kept → IfSome owner (λ n. m' ≡ with_owner m1 k (Some n)) → IfNone owner (m' ≡ with_mark m1 k Spare)
+        → (j n : ℕ) → owner_at m.owners j ≡ Some n → owner_at m'.owners j ≡ Some n
+    owners_stay m1 m' None marked given back j n owns = ap (λ (x : Slotted). owner_at x.owners j) (back ∙ ap (λ (x : Slotted). with_mark x k Spare) marked) ∙ owns
+    owners_stay m1 m' (Some o) marked given back j n owns =
+        ap (λ (x : Slotted). owner_at x.owners j) (given ∙ ap (λ (x : Slotted). with_owner x k (Some o)) marked) ∙ (get_or-set_other m.owners k j (Some o) None apart ∙ owns)
+      where
+        apart : j ≢ k
+        apart e = let clash : ◌≡◌ {A = Option ℕ} None (Some n) = sym free ∙ (ap (owner_at m.owners) (sym e) ∙ owns) in absurd (cc)
+
+    pub asked_flights : (m1 m' : Slotted) (s1 : Stored) (owner : Option ℕ) → m1 ≡ with_mark m k Kept → s1 ≡ with_call s c
+        → IfSome owner (λ n. m' ≡ with_owner m1 k (Some n)) → IfNone owner (m' ≡ with_mark m1 k Spare) → KeepsFlights None (record { stored = s; slots = m }) (record { stored = s1; slots = m' })
+    asked_flights m1 m' s1 owner marked stored given back =
+        stored_flights s c s1 stored (ap is_sent (request_of c asks).3) m m' (owners_stay m1 m' owner marked given back)
 
 -- a slot that was allotted in vain may be spare
 pub back_is : (m : Slotted) (k : ℕ) → with_mark (with_mark m k Kept) k Spare ≡ with_mark m k Spare

@@ -108,7 +108,7 @@ module _ (s : Stored) (k : ℕ) where
 
     -- slots that were tied but for its request, which owns none, still are
     module _ (n : ℕ) (flown : in_flight s n k ≡ true) where
-      other_stays : (m j : ℕ) → m ≢ n → in_flight s m j ≡ true → in_flight (with_call s report) m j ≡ true
+      pub other_stays : (m j : ℕ) → m ≢ n → in_flight s m j ≡ true → in_flight (with_call s report) m j ≡ true
       other_stays m j other flies_on =
           landed m j ∙ (λ i. flies_on i && not (ne_eqb j k apart i))
         where

@@ -25,11 +25,12 @@ use Rattle.zq_machine.specs.Machine.{done}
 use Rattle.zq_machine.proofs.Lists.{sorted_more}
 use Rattle.zq_ties.specs.Stored.{IsOpen, Stored, answer_to, in_flight, waiting, with_call}
 use Rattle.zq_ties.specs.Ties.{AreWaiting, IsNearlyTied, IsTied, is_used}
+use Rattle.zq_ties.proofs.Holding.{has_owner}
 use Rattle.zq_ties.proofs.Moves.{waits_still}
 use Rattle.zq_ties.proofs.Ties.{counted_set, mark_is, other_mark, zero_if}
-use Rattle.zq_shared.specs.Keeping.{KeepsTies, Reported}
-use Rattle.zq_shared.specs.Sharing.{Reports, vacated, with_reports}
-use Rattle.zq_shared.proofs.Reporting.{landed, report_keeps}
+use Rattle.zq_shared.specs.Keeping.{KeepsOthers, KeepsTies, Reported}
+use Rattle.zq_shared.specs.Sharing.{KeepsFlights, Reports, vacated, with_reports}
+use Rattle.zq_shared.proofs.Reporting.{landed, other_stays, report_keeps}
 
 -- ---- one report after another
 same_stored : (s : Stored) → s ≡ with_reports s []
@@ -47,6 +48,7 @@ reported_none s n = record {
   stored = same_stored s;
   ends = inl (refl, refl);
   keeps = λ m t waits unowned. (t, waits);
+  others = λ m r other flown. flown;
   quiet = λ none. none;
 }
 
@@ -74,6 +76,7 @@ module _ (s : Stored) (n : ℕ) (answer : Option Handed) (now : Stored) (ks : Li
     stored = is ∙ (ap (λ x. with_call x (call.Sent k)) done_so_far.stored ∙ with_one s ks k);
     ends = inr (ks, k, refl, ap (λ x. answer_to x (call.Sent k)) (sym done_so_far.stored) ∙ answers);
     keeps = λ m t waits unowned. (let before = done_so_far.keeps m t waits unowned in subst (λ x. IsNearlyTied (Some n) x m × AreWaiting x m) (sym is) (report_keeps now k (cons_option next []) answers n flown m before.0 before.1 unowned));
+    others = λ m r other flies_on. ap (λ (x : Stored). in_flight x m r) is ∙ other_stays now k (cons_option next []) answers n flown m r other (done_so_far.others m r other flies_on);
     quiet = λ none. zero_if (waiting new n) (λ some. (let old = waits_still now (call.Sent k) refl n (subst (λ x. 0 < waiting x n) is some) in let was = done_so_far.quiet none in absurd (omega (arith, old, was))));
   }
     where
@@ -154,7 +157,14 @@ module _ (s : Stored) (m : Slotted) (t : IsTied s m) (k : ℕ) (mark : HasMark G
   vacated_waits : AreWaiting s (vacated m k)
   vacated_waits j n has owner = let old = other Kept j (λ e. cc) has in t.waits j n old.1 (other_owner j n owner).1
 
+  -- a reply in flight of another slot keeps its slot's owner
+  other_owned : (j n : ℕ) → (◌≡◌ {A = Option ℕ} (Some k) (Some j) → ⊥) → owner_at m.owners j ≡ Some n → owner_at (set m.owners k None) j ≡ Some n
+  other_owned j n but owner = still_owner j n (λ e. but (ap (λ i. Some i) (sym e))) owner
+
   -- nobody owned it
+  pub unowned_flights : KeepsFlights (Some k) (record { stored = s; slots = m }) (record { stored = s; slots = vacated m k })
+  unowned_flights j n r but owner flown = (other_owned j n but owner, flown)
+
   pub vacated_unowned : owner_at m.owners k ≡ None → IsTied s (vacated m k)
   vacated_unowned free = record {
     nearly = vacated_nearly None (λ n stands. (let set = owned_set n m.owners k None inside in let none = ap (stood n) free in let was = t.nearly.opened n stands in omega (arith, set, none, was)));
@@ -165,6 +175,11 @@ module _ (s : Stored) (m : Slotted) (t : IsTied s m) (k : ℕ) (mark : HasMark G
   module _ (n : ℕ) (owner : owner_at m.owners k ≡ Some n) where
     alone : owned n (set m.owners k None) ≡ 0
     alone = let set = owned_set n m.owners k None inside in let one : stood n (owner_at m.owners k) ≡ 1 = ap (stood n) owner ∙ ap weight (eq-eqb n n refl) in let once = slotted.once n in omega (arith, set, one, once)
+
+    pub vacated_flights : (new : Stored) → KeepsOthers s n new → KeepsFlights (Some k) (record { stored = s; slots = m }) (record { stored = new; slots = vacated m k })
+    vacated_flights new others j o r but owns flown =
+        let still = other_owned j o but owns in
+        (still, others o r (λ e. (let some = has_owner o (set m.owners k None) j still in let same = ap (λ i. owned i (set m.owners k None)) e in let none = alone in omega (arith, some, same, none))) flown)
 
     pub vacated_tied : (new : Stored) → KeepsTies s n new → (waiting s n ≡ 0 → waiting new n ≡ 0) → ((r : ℕ) → in_flight new n r ≡ false) → IsTied new (vacated m k)
     vacated_tied new keeps quiet none = record {

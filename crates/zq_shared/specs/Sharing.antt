@@ -37,6 +37,10 @@ pub record HoldsReplies (hs : List Handed) (m : Slotted) (held : List ℕ) : Typ
   pub only : (k : ℕ) → 0 < times k held → HasReply hs m k
   pub once : (k : ℕ) → times k held ≤ 1
 
+-- a reply in flight keeps its slot's owner, and stays in flight, unless its slot is the one left out
+abbrev pub KeepsFlights : Option ℕ → Sharing → Sharing → Type 0
+KeepsFlights but old new = (k n r : ℕ) → (but ≡ Some k → ⊥) → owner_at old.slots.owners k ≡ Some n → in_flight old.stored n r ≡ true → (owner_at new.slots.owners k ≡ Some n) × (in_flight new.stored n r ≡ true)
+
 -- the call is a request, and every slot is allotted
 abbrev pub IsFull : Sharing → Call → Type 0
 IsFull x c = (asks_request c ≡ true) × AllAllotted x.slots.keeper.marks

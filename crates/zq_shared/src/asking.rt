@@ -7,7 +7,7 @@ ghost use Rattle.zq_slots.specs.Owners.{owned, owner_at, with_mark, with_owner};
 ghost use Rattle.zq_machine.specs.declared.call.Outcome.TheVariants.{Asked};
 ghost use Rattle.zq_ties.specs.Stored.{answer_to, asks_request, waiting, with_call};
 ghost use Rattle.zq_ties.specs.Ties.{IsTied};
-ghost use Rattle.zq_shared.specs.Sharing.{IsFull, IsSameHolds, Refuses};
+ghost use Rattle.zq_shared.specs.Sharing.{IsFull, IsSameHolds, KeepsFlights, Refuses};
 
 use crate::journal::Journal;
 use crate::shared::{StepRefusal, Stepped};
@@ -61,6 +61,7 @@ pub(crate) fn ask(
     ensures held { IfOk result (λ t. t.held.items ≡ []) }
     ensures lasts { IfOk result (λ t. t.lasts.ended ≡ []) }
     ensures refused { IfErr result (λ e. Refuses (record { stored = journal.old; slots = slots.old }) call e (record { stored = journal.new; slots = slots.new })) }
+    ensures flights { KeepsFlights None (record { stored = journal.old; slots = slots.old }) (record { stored = journal.new; slots = slots.new }) }
     ensures same { IsSameHolds slots.old slots.new }
 {
     slots.recall();

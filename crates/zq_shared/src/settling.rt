@@ -1,7 +1,7 @@
 //! The replies of a request are reported.
 ghost use Rattle.std.specs.Prelude.{◌≡◌, ℕ, List, false};
 ghost use Rattle.zq_ties.specs.Stored.{in_flight, waiting};
-ghost use Rattle.zq_shared.specs.Keeping.{KeepsTies};
+ghost use Rattle.zq_shared.specs.Keeping.{KeepsOthers, KeepsTies};
 ghost use Rattle.zq_shared.specs.Sharing.{Reports};
 
 use crate::journal::Journal;
@@ -11,6 +11,7 @@ use zq_machine::handed::Handed;
 pub(crate) fn report_all(journal: &mut Journal, number: u64) -> Option<Handed>
     ensures reports { (ks : List ℕ) × Reports journal.old number result journal.new ks }
     ensures keeps { KeepsTies journal.old number journal.new }
+    ensures others { KeepsOthers journal.old number journal.new }
     ensures quiet { waiting journal.old number ≡ 0 → waiting journal.new number ≡ 0 }
     ensures none { (k : ℕ) → in_flight journal.new number k ≡ false }
 {

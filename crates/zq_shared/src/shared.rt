@@ -1,12 +1,12 @@
 //! The state that many threads share, under one lock.
-ghost use Rattle.std.specs.Prelude.{◌≡◌, ◌<◌, ◌≤◌, [], All, false, IfErr, IfOk, OnErr, OnOk};
+ghost use Rattle.std.specs.Prelude.{◌≡◌, ◌<◌, ◌≤◌, [], All, false, None, Some, IfErr, IfOk, OnErr, OnOk};
 ghost use Rattle.zq_hold.specs.declared.slot.Mark.TheVariants.{Gone};
 ghost use Rattle.zq_hold.specs.Marks.{HasMark};
 ghost use Rattle.zq_slots.specs.Owners.{owner_at};
 ghost use Rattle.zq_machine.specs.Calls.{is_sent};
 ghost use Rattle.zq_ties.specs.Holding.{AreHeld};
 ghost use Rattle.zq_ties.specs.Stored.{answer_to, asks_request, with_call};
-ghost use Rattle.zq_shared.specs.Sharing.{HoldsReplies, IsFull, IsSameHolds, Refuses, Settles, all_spare, vacated};
+ghost use Rattle.zq_shared.specs.Sharing.{HoldsReplies, IsFull, IsSameHolds, KeepsFlights, Refuses, Settles, all_spare, vacated};
 
 use crate::asking::ask;
 use crate::journal::Journal;
@@ -104,9 +104,10 @@ impl Shared {
     }
 
     /// Makes one call that is no report, and stores it. A request that is asked and waits for something owns a slot from then on; `Full` exactly
-    /// where every slot is allotted. The seat holds the slot of the request of each reply that the call puts in flight, until it releases it. The
-    /// slots of requests that wait for nothing any more are let go; a moment, a closing and a final look at each slot for that, of which there are at most
-    /// 1024, and no other call does. Where memory is lacking all but one slot, which may be spare then, is as it was; room for the reports is made here.
+    /// where every slot is allotted. The seat holds the slot of the request of each reply that the call puts in flight, until it releases it. A
+    /// reply that was in flight before keeps its slot's owner, and stays in flight. The slots of requests that wait for nothing any more are let go; a moment,
+    /// a closing and a final look at each slot for that, of which there are at most 1024, and no other call does. Where memory is lacking all but one slot,
+    /// which may be spare then, is as it was; room for the reports is made here.
     pub fn step(&mut self, seat: &mut HoldSeat, call: Call) -> Result<Stepped, StepRefusal>
         requires home { self.old.slots.keeper.home ≡ seat.old.home }
         requires empty { seat.old.held ≡ [] }
@@ -118,6 +119,7 @@ impl Shared {
         ensures held { IfOk result (λ t. AreHeld t.held.items seat.new.held) }
         ensures lasts { IfOk result (λ t. All (λ l. l.home ≡ self.old.slots.keeper.home) t.lasts.ended) }
         ensures refused { IfErr result (λ e. Refuses self.old call e self.new) }
+        ensures flights { KeepsFlights None self.old self.new }
         ensures seat { seat.new.home ≡ seat.old.home }
         ensures free { OnErr result (seat.new ≡ seat.old) }
         ensures same { IsSameHolds self.old.slots self.new.slots }
@@ -136,13 +138,14 @@ impl Shared {
         }
     }
 
-    /// Reports all replies in flight of the request that owns the slot, in order of number, and stores the reports; the slot is free then. The final
-    /// to the asker comes of the last of them, or none. It takes no memory.
+    /// Reports all replies in flight of the request that owns the slot, in order of number, and stores the reports; the slot is free then. Any
+    /// other reply in flight keeps its slot's owner, and stays in flight. The final to the asker comes of the last of the reports, or none. It takes no memory.
     pub fn settle(&mut self, last: Last) -> Option<Handed>
         requires home { last.home ≡ self.old.slots.keeper.home }
         ensures gone { HasMark Gone self.old.slots.keeper.marks last.slot }
         ensures reports { Settles (owner_at self.old.slots.owners last.slot) self.old.stored result self.new.stored }
         ensures slots { self.new.slots ≡ vacated self.old.slots last.slot }
+        ensures flights { KeepsFlights (Some last.slot) self.old self.new }
         ensures same { IsSameHolds self.old.slots self.new.slots }
     {
         let Shared {

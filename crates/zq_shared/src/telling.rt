@@ -8,7 +8,7 @@ ghost use Rattle.zq_machine.specs.Waiting.{ends_entry, hands_reply};
 ghost use Rattle.zq_ties.specs.Holding.{AreHeld, OwnsKept};
 ghost use Rattle.zq_ties.specs.Stored.{answer_to, asks_request, is_flying, with_call};
 ghost use Rattle.zq_ties.specs.Ties.{AreWaiting, IsNearlyTied, IsTied};
-ghost use Rattle.zq_shared.specs.Sharing.{HoldsReplies, IsSameHolds};
+ghost use Rattle.zq_shared.specs.Sharing.{HoldsReplies, IsSameHolds, KeepsFlights};
 ghost use Rattle.zq_shared.specs.Lending.{Lends, LetsGo};
 
 use crate::journal::Journal;
@@ -155,6 +155,7 @@ pub(crate) fn tell(
     ensures held { IfOk result (λ t. AreHeld t.held.items seat.new.held) }
     ensures lasts { IfOk result (λ t. All (λ l. l.home ≡ slots.old.keeper.home) t.lasts.ended) }
     ensures same { OnErr result ((journal.new ≡ journal.old) × (slots.new ≡ slots.old) × (seat.new ≡ seat.old)) }
+    ensures flights { KeepsFlights None (record { stored = journal.old; slots = slots.old }) (record { stored = journal.new; slots = slots.new }) }
     ensures seat { seat.new.home ≡ seat.old.home }
     ensures wide { IsSameHolds slots.old slots.new }
 {

@@ -1,4 +1,4 @@
-use Rattle.std.proofs.Common.{◌∙◌, ap, sym, subst, arith, inr}
+use Rattle.std.proofs.Common.{◌∙◌, refl, ap, sym, subst, arith, inr}
 use Rattle.std.proofs.lemmas.Option.{IfSome_then}
 use Rattle.zq_hold.specs.declared.slot.Mark.TheVariants.{Spare}
 use Rattle.zq_hold.specs.Slots.{times}
@@ -7,7 +7,7 @@ use Rattle.zq_machine.specs.declared.call.Step.{Step}
 use Rattle.zq_ties.specs.Stored.{Stored}
 use Rattle.zq_ties.specs.Ties.{IsTied, Sharing}
 use Rattle.zq_ties.proofs.Ties.{back_tied}
-use Rattle.zq_shared.proofs.Asked.{all_used, asked_after, back_is, new_unowned, next_free, next_inside}
+use Rattle.zq_shared.proofs.Asked.{all_used, asked_after, asked_flights, back_is, new_unowned, next_free, next_inside, still_flights}
 use Rattle.zq_shared.proofs.asking.ask.Goals as goal
 
 pub returns-in-Err-clause-refused : goal.returns-in-Err-clause-refused
@@ -16,6 +16,15 @@ returns-in-Err-clause-refused c =
     let used = all_used c.args.slots.now.keeper.marks all in
     let few = c.requires.tied.nearly.used in
     ((c.requires.asks, all), omega (arith, used, few), ap {B = Sharing} (λ (m : Slotted). record { stored = c.args.journal.now; slots = m }) c.in-Err.ensures.err.0)
+
+pub returns-in-Err-clause-flights : goal.returns-in-Err-clause-flights
+returns-in-Err-clause-flights c =
+    still_flights c.args.journal.now c.args.journal.now refl c.args.slots.now c.allot.new.self (ap (λ (m : Slotted). m.owners) c.in-Err.ensures.err.0)
+
+pub returns-in_default-clause-flights : goal.returns-in_default-clause-flights
+returns-in_default-clause-flights c =
+    still_flights c.args.journal.now c.step.new.self c.in_default.ensures.same c.args.slots.now c.put_back.new.self
+    (ap (λ (m : Slotted). m.owners) (c.put_back.ensures ∙ ap (λ (m : Slotted). with_mark m c.in-Ok.slot.0 Spare) c.in-Ok.ensures.ok.1))
 
 pub returns-in_default-clause-tied : goal.returns-in_default-clause-tied
 returns-in_default-clause-tied c =
@@ -48,3 +57,11 @@ returns-clause-tied c =
     (ap (λ (m : Slotted). times c.in-Ok.slot.0 m.keeper.lent) (sym next.1) ∙ c.in-Ok.ensures.lent)
     c.allot.new.self c.give_to.new.slots c.step.new.self c.in-Ok-step.step c.number_of.result next.1 c.in-Ok-step.ensures.stored c.in-Ok-step.ensures.step
     c.number_of.ensures.some c.number_of.ensures.none c.give_to.ensures.given c.give_to.ensures.back
+
+pub returns-clause-flights : goal.returns-clause-flights
+returns-clause-flights c =
+    let next = c.in-Ok.ensures.ok in
+    asked_flights c.args.journal.now c.args.call c.args.slots.now c.requires.tied c.requires.asks c.in-Ok.slot.0 c.recall.ensures next.0
+    (ap (λ (m : Slotted). owner_at m.owners c.in-Ok.slot.0) (sym next.1) ∙ c.in-Ok.ensures.free)
+    (ap (λ (m : Slotted). times c.in-Ok.slot.0 m.keeper.lent) (sym next.1) ∙ c.in-Ok.ensures.lent)
+    c.allot.new.self c.give_to.new.slots c.step.new.self c.number_of.result next.1 c.in-Ok-step.ensures.stored c.give_to.ensures.given c.give_to.ensures.back

@@ -1,7 +1,8 @@
-use Rattle.std.proofs.Common.{sym, subst}
+use Rattle.std.proofs.Common.{Some, sym, subst}
 use Rattle.zq_slots.specs.Owners.{Slotted}
-use Rattle.zq_ties.specs.Ties.{IsTied}
-use Rattle.zq_shared.proofs.Settled.{vacated_tied, vacated_unowned}
+use Rattle.zq_ties.specs.Ties.{IsTied, Sharing}
+use Rattle.zq_shared.specs.Sharing.{KeepsFlights}
+use Rattle.zq_shared.proofs.Settled.{unowned_flights, vacated_flights, vacated_tied, vacated_unowned}
 use Rattle.zq_shared.proofs.shared.Shared.settle.Goals as goal
 
 pub invariant_of-self : goal.invariant_of-self
@@ -15,3 +16,15 @@ invariant_of-self-2 c =
     subst (λ (m : Slotted). IsTied c.report_all.new.journal m) (sym c.vacate.ensures.new)
     (vacated_tied c.self.inside.journal c.self.inside.slots c.self.invariant c.args.last.slot c.vacate.ensures.gone c.recall.ensures c.in_ok-number.number (sym c.in_ok-number.ensures.owner)
     c.report_all.new.journal r.keeps r.quiet r.none)
+
+pub returns-in_err-number-clause-flights : goal.returns-in_err-number-clause-flights
+returns-in_err-number-clause-flights c =
+    subst (λ (x : Sharing). KeepsFlights (Some c.args.last.slot) x (record { stored = c.self.inside.journal; slots = c.vacate.new.self })) c.self.view_is
+    (subst (λ (m : Slotted). KeepsFlights (Some c.args.last.slot) (record { stored = c.self.inside.journal; slots = c.self.inside.slots }) (record { stored = c.self.inside.journal; slots = m })) (sym c.vacate.ensures.new)
+    (unowned_flights c.self.inside.journal c.self.inside.slots c.self.invariant c.args.last.slot c.vacate.ensures.gone c.recall.ensures))
+
+pub returns-clause-flights : goal.returns-clause-flights
+returns-clause-flights c =
+    subst (λ (x : Sharing). KeepsFlights (Some c.args.last.slot) x (record { stored = c.report_all.new.journal; slots = c.vacate.new.self })) c.self.view_is
+    (subst (λ (m : Slotted). KeepsFlights (Some c.args.last.slot) (record { stored = c.self.inside.journal; slots = c.self.inside.slots }) (record { stored = c.report_all.new.journal; slots = m })) (sym c.vacate.ensures.new)
+    (vacated_flights c.self.inside.journal c.self.inside.slots c.self.invariant c.args.last.slot c.vacate.ensures.gone c.recall.ensures c.in_ok-number.number (sym c.in_ok-number.ensures.owner) c.report_all.new.journal c.report_all.ensures.others))

@@ -1,8 +1,9 @@
-use Rattle.std.proofs.Common.{◌≡◌, sym, subst}
+use Rattle.std.proofs.Common.{◌≡◌, None, sym, subst}
 use Rattle.std.proofs.lemmas.Result.{IfOk-weaker}
 use Rattle.zq_machine.specs.declared.call.Step.{Step}
 use Rattle.zq_ties.specs.Stored.{answer_to}
-use Rattle.zq_shared.specs.Sharing.{HoldsReplies}
+use Rattle.zq_ties.specs.Ties.{Sharing}
+use Rattle.zq_shared.specs.Sharing.{HoldsReplies, KeepsFlights}
 use Rattle.zq_shared.proofs.Asked.{asks_holds}
 use Rattle.zq_shared.proofs.shared.Shared.step.Goals as goal
 
@@ -12,3 +13,11 @@ returns-then-asks_request-clause-holds c =
     (λ t is. subst (λ (x : Step). HoldsReplies x.handed c.ask.new.slots c.args.seat.now.held) (sym is)
     (asks_holds c.self.inside.journal c.args.call c.self.inside.slots c.self.invariant (sym c.if-asks_request.ensures) c.ask.new.slots c.args.seat.now.held c.requires.empty))
     c.ask.ensures.step
+
+pub returns-then-asks_request-clause-flights : goal.returns-then-asks_request-clause-flights
+returns-then-asks_request-clause-flights c =
+    subst (λ (x : Sharing). KeepsFlights None x (record { stored = c.ask.new.journal; slots = c.ask.new.slots })) c.self.view_is c.ask.ensures.flights
+
+pub returns-clause-flights : goal.returns-clause-flights
+returns-clause-flights c =
+    subst (λ (x : Sharing). KeepsFlights None x (record { stored = c.tell.new.journal; slots = c.tell.new.slots })) c.self.view_is c.tell.ensures.flights
