@@ -14,7 +14,7 @@ use Rattle.zq_machine.specs.Machine.{done}
 use Rattle.zq_ties.specs.Stored.{Stored, answer_to, asks_request, requests_in, with_call}
 use Rattle.zq_ties.specs.Ties.{Sharing}
 use Rattle.zq_shared.specs.Sharing.{EndsIn, IsSameHolds, Settles, with_reports}
-use Rattle.zq_lock.specs.Answers.{AllListed, IsAnswer, IsFinal, IsListed, MayStand, behind}
+use Rattle.zq_lock.specs.Answers.{AllListed, IsAnswer, IsFinal, IsListed, MayPrecede, MayStand, behind}
 use Rattle.zq_lock.specs.Locking.{IsLocked}
 use Rattle.zq_lock.specs.Tallies.{Counts, is_other, others_in}
 
@@ -92,8 +92,13 @@ module _ (config : Settings) (holds : TableId) (slots : ℕ) (list : Option (Lis
   pub settled_final : (o : Option ℕ) (a : Option Handed) → IsLocked config holds slots list old totals → Settles o old.stored a new.stored → IfSome a (IsFinal config list)
   settled_final o a h s = let r = settles_reports o old.stored a new.stored s in final_comes config list old.stored r.0 a h.means h.listed r.2
 
-  pub answered : (c : Call) → IsLocked config holds slots list old totals → IsAnswer config list c (answer_to old.stored c)
-  answered c h = (old.stored.calls, ap (λ (s : Settings). answer_to (behind s old.stored.calls) c) h.means, h.listed)
+  -- what a caller made is counted by the books, and so among the stored calls
+  module _ (made : Counts) (h : IsLocked config holds slots list old totals) (calls : made.calls ≤ totals.calls) (asks : made.asks ≤ totals.asks) where
+    precedes : MayPrecede list made old.stored.calls
+    precedes = let o = h.others in let a = h.asked in (h.listed, omega arith, omega arith)
+
+    pub answered : (c : Call) → IsAnswer config list made c (answer_to old.stored c)
+    answered c = (old.stored.calls, ap (λ (s : Settings). answer_to (behind s old.stored.calls) c) h.means, precedes)
 
   -- nothing more is stored
   pub locked_same : IsLocked config holds slots list old totals → new.stored ≡ old.stored → IsSameHolds old.slots new.slots → IsLocked config holds slots list new totals

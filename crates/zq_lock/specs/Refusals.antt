@@ -9,7 +9,7 @@ use Rattle.zq_shared.specs.declared.shared.StepRefusal.TheVariants as step_refus
 use Rattle.zq_lock.specs.declared.refusal.CallRefusal.{CallRefusal}
 use Rattle.zq_lock.specs.declared.refusal.CallRefusal.TheVariants as refusal
 use Rattle.zq_ties.specs.Stored.{asks_request}
-use Rattle.zq_lock.specs.Answers.{IsAnswer}
+use Rattle.zq_lock.specs.Answers.{IsAnswer, MayBeFull}
 use Rattle.zq_lock.specs.Sending.{Breaks, Fails}
 use Rattle.zq_lock.specs.Tallies.{Tallied, with_full, with_stored}
 
@@ -17,6 +17,11 @@ use Rattle.zq_lock.specs.Tallies.{Tallied, with_full, with_stored}
 abbrev pub refused : StepRefusal → CallRefusal
 refused (step_refusal.Full none) = refusal.Full none
 refused step_refusal.OutOfMemory = refusal.OutOfMemory
+
+-- what the refusal of a step says of the stored calls: every slot is allotted only behind as many requests as there are slots
+abbrev pub StepRefuses : Option (List Call) → ℕ → Tallied → StepRefusal → Type 0
+StepRefuses list slots old (step_refusal.Full none) = MayBeFull list old.made slots
+StepRefuses list slots old step_refusal.OutOfMemory = Unit {0}
 
 -- what a caller counts where the step of a call is refused; only a request finds every slot allotted
 abbrev pub StepCounts : Call → StepRefusal → Tallied → Tallied → Type 0
@@ -33,8 +38,8 @@ Counts c refusal.OutOfMemory old new = new ≡ old
 abbrev pub IsQuiet : Option (List Handed) → Option (List Handed) → ℕ → ℕ → Type 0
 IsQuiet before now faults faults' = (now ≡ before) × (faults' ≡ faults)
 
--- what a refusal says of the link: a fault comes only where its count rose, and then it took a beginning of the messages that leave: those of the step that the call was answered, and then finals
-abbrev pub Refuses : Settings → Option (List Call) → Call → CallRefusal → Option (List Handed) → Option (List Handed) → ℕ → ℕ → Type 0
-Refuses config list c (refusal.Full none) before now faults faults' = IsQuiet before now faults faults'
-Refuses config list c (refusal.LinkFault outcome sent) before now faults faults' = Fails faults faults' × (s : Step) × IsAnswer config list c s × (s.outcome ≡ outcome) × Breaks config list s.handed sent before now
-Refuses config list c refusal.OutOfMemory before now faults faults' = IsQuiet before now faults faults'
+-- what a refusal says of the stored calls and of the link: every slot is allotted only behind as many requests as there are slots; a fault comes only where its count rose, and then it took a beginning of the messages that leave: those of the step that the call was answered, and then finals
+abbrev pub Refuses : Settings → Option (List Call) → ℕ → Tallied → Call → CallRefusal → Option (List Handed) → Option (List Handed) → ℕ → ℕ → Type 0
+Refuses config list slots old c (refusal.Full none) before now faults faults' = IsQuiet before now faults faults' × MayBeFull list old.made slots
+Refuses config list slots old c (refusal.LinkFault outcome sent) before now faults faults' = Fails faults faults' × (s : Step) × IsAnswer config list old.made c s × (s.outcome ≡ outcome) × Breaks config list s.handed sent before now
+Refuses config list slots old c refusal.OutOfMemory before now faults faults' = IsQuiet before now faults faults'

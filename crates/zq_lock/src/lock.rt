@@ -5,7 +5,7 @@ ghost use Rattle.zq_machine.specs.Calls.{is_sent};
 ghost use Rattle.zq_ties.specs.Holding.{AreHeld};
 ghost use Rattle.zq_lock.specs.Answers.{AllFinals, IsAnswer, IsFinal, IsListed};
 ghost use Rattle.zq_lock.specs.Locking.{IsLocked};
-ghost use Rattle.zq_lock.specs.Refusals.{Counts, Refuses, StepCounts};
+ghost use Rattle.zq_lock.specs.Refusals.{Counts, Refuses, StepCounts, StepRefuses};
 ghost use Rattle.zq_lock.specs.Sending.{DeliversFinals, Sends};
 ghost use Rattle.zq_lock.specs.Tallies.{HasParts, with_stored};
 
@@ -82,7 +82,7 @@ impl<H: Home, C: Ledger, Q: Ledger, P: Ledger> TablesLock<H, C, Q, P> {
         requires unsent { is_sent call ≡ false }
         requires listed { IsListed H.list call }
         requires parts { HasParts tally.old }
-        ensures step { IfOk result (λ m. IsAnswer H.config H.list call m.step) }
+        ensures step { IfOk result (λ m. IsAnswer H.config H.list tally.old.made call m.step) }
         ensures held { IfOk result (λ m. AreHeld m.held.items seat.new.held) }
         ensures once { OnOk result ((k : ℕ) → times k seat.new.held ≤ 1) }
         ensures lasts { IfOk result (λ m. All (λ l. l.home ≡ H.holds) m.lasts.ended) }
@@ -91,6 +91,7 @@ impl<H: Home, C: Ledger, Q: Ledger, P: Ledger> TablesLock<H, C, Q, P> {
         ensures seat { seat.new.home ≡ H.holds }
         ensures made { OnOk result (tally.new ≡ with_stored call tally.old) }
         ensures refused { IfErr result (λ e. StepCounts call e tally.old tally.new) }
+        ensures full { IfErr result (StepRefuses H.list H.slots tally.old) }
     {
         self.inner.lock(rt).step(alloc, seat, tally, call)
     }
@@ -170,11 +171,11 @@ impl<H: Home, C: Ledger, Q: Ledger, P: Ledger> TablesLock<H, C, Q, P> {
         requires unsent { is_sent call ≡ false }
         requires listed { IsListed H.list call }
         requires parts { HasParts tally.old }
-        ensures step { IfOk result (λ s. IsAnswer H.config H.list call s) }
+        ensures step { IfOk result (λ s. IsAnswer H.config H.list tally.old.made call s) }
         ensures sends { IfOk result (λ s. Sends H.config H.list s.handed (L.taken link.old) (L.taken link.new)) }
         ensures quiet { OnOk result (L.faults link.new ≡ L.faults link.old) }
         ensures later { L.faults link.old ≤ L.faults link.new }
-        ensures refused { IfErr result (λ e. Refuses H.config H.list call e (L.taken link.old) (L.taken link.new) (L.faults link.old) (L.faults link.new)) }
+        ensures refused { IfErr result (λ e. Refuses H.config H.list H.slots tally.old call e (L.taken link.old) (L.taken link.new) (L.faults link.old) (L.faults link.new)) }
         ensures made { OnOk result (tally.new ≡ with_stored call tally.old) }
         ensures counts { IfErr result (λ e. Counts call e tally.old tally.new) }
         ensures seat { seat.new.home ≡ H.holds }

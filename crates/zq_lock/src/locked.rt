@@ -5,7 +5,7 @@ ghost use Rattle.zq_machine.specs.Calls.{is_sent};
 ghost use Rattle.zq_ties.specs.Holding.{AreHeld};
 ghost use Rattle.zq_ties.specs.Stored.{asks_request};
 ghost use Rattle.zq_lock.specs.Answers.{AllFinals, IsAnswer, IsFinal, IsListed};
-ghost use Rattle.zq_lock.specs.Refusals.{StepCounts};
+ghost use Rattle.zq_lock.specs.Refusals.{StepCounts, StepRefuses};
 ghost use Rattle.zq_lock.specs.Tallies.{HasParts, with_stored};
 
 use crate::home::Home;
@@ -69,7 +69,7 @@ impl<H: Home, C: Ledger, Q: Ledger, P: Ledger> Locked<H, C, Q, P> {
         requires unsent { is_sent call ≡ false }
         requires listed { IsListed H.list call }
         requires parts { HasParts tally.old }
-        ensures step { IfOk result (λ t. IsAnswer H.config H.list call t.step) }
+        ensures step { IfOk result (λ t. IsAnswer H.config H.list tally.old.made call t.step) }
         ensures held { IfOk result (λ t. AreHeld t.held.items seat.new.held) }
         ensures once { OnOk result ((k : ℕ) → times k seat.new.held ≤ 1) }
         ensures lasts { IfOk result (λ t. All (λ l. l.home ≡ H.holds) t.lasts.ended) }
@@ -77,7 +77,9 @@ impl<H: Home, C: Ledger, Q: Ledger, P: Ledger> Locked<H, C, Q, P> {
         ensures seat { seat.new.home ≡ H.holds }
         ensures made { OnOk result (tally.new ≡ with_stored call tally.old) }
         ensures refused { IfErr result (λ e. StepCounts call e tally.old tally.new) }
+        ensures full { IfErr result (StepRefuses H.list H.slots tally.old) }
     {
+        tally.bound(&mut self.calls, &mut self.asks);
         let asks = asks(&call);
         match self.shared.step(seat, call) {
             Ok(stepped) => {
@@ -135,7 +137,7 @@ impl<H: Home, C: Ledger, Q: Ledger, P: Ledger> Locked<H, C, Q, P> {
         requires unsent { is_sent call ≡ false }
         requires listed { IsListed H.list call }
         requires parts { HasParts tally.old }
-        ensures step { IfOk result (λ m. IsAnswer H.config H.list call m.step) }
+        ensures step { IfOk result (λ m. IsAnswer H.config H.list tally.old.made call m.step) }
         ensures held { IfOk result (λ m. AreHeld m.held.items seat.new.held) }
         ensures once { OnOk result ((k : ℕ) → times k seat.new.held ≤ 1) }
         ensures lasts { IfOk result (λ m. All (λ l. l.home ≡ H.holds) m.lasts.ended) }
@@ -144,6 +146,7 @@ impl<H: Home, C: Ledger, Q: Ledger, P: Ledger> Locked<H, C, Q, P> {
         ensures seat { seat.new.home ≡ H.holds }
         ensures made { OnOk result (tally.new ≡ with_stored call tally.old) }
         ensures refused { IfErr result (λ e. StepCounts call e tally.old tally.new) }
+        ensures full { IfErr result (StepRefuses H.list H.slots tally.old) }
     {
         let Stepped {
             step,

@@ -1,5 +1,5 @@
 //! What each caller keeps, by which stored calls are counted over all callers.
-ghost use Rattle.std.specs.Prelude.{◌≡◌, ◌<◌, ◌+◌};
+ghost use Rattle.std.specs.Prelude.{◌≡◌, ◌<◌, ◌≤◌, ◌+◌};
 ghost use Rattle.zq_lock.specs.Tallies.{HasParts, each, merged, with_ask, with_full, with_other};
 
 use std::marker::Model;
@@ -51,6 +51,16 @@ impl<C: Ledger, Q: Ledger, P: Ledger> Tally<C, Q, P> {
         ensures tally { self.new ≡ with_full self.old }
     {
         book.add(&mut self.full, 1);
+    }
+
+    /// Tells a proof that the books count at least what this caller made. It does nothing.
+    pub(crate) fn bound(&mut self, calls: &mut Book<C>, asks: &mut Book<Q>)
+        ensures tally { self.new ≡ self.old }
+        ensures books { (calls.new.total ≡ calls.old.total) × (asks.new.total ≡ asks.old.total) }
+        ensures made { (self.old.made.calls ≤ calls.old.total) × (self.old.made.asks ≤ asks.old.total) }
+    {
+        calls.audit(&mut self.calls);
+        asks.audit(&mut self.asks);
     }
 
     /// One part of each ledger, with nothing made yet.
