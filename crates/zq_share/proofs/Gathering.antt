@@ -15,6 +15,10 @@ use Rattle.zq_share.specs.Shares.{all_calls, gathered}
 use Rattle.zq_share.specs.Working.{HasMade, IsReady, MayMake, Worked, Working, all_whole, new_worker}
 use Rattle.zq_share.proofs.Making.{made_none, made_on}
 
+-- counts from their numbers
+abbrev counts : ℕ → ℕ → ℕ → Counts
+counts c q p = record { calls = c; asks = q; full = p }
+
 both_true : (a b : Bool) → (a && b) ≡ true → (a ≡ true) × (b ≡ true)
 both_true true b e = (refl, e)
 both_true false b e = absurd (cc)
@@ -59,9 +63,10 @@ module _ (home : TableId) (parts : List (List Call)) (crew : List Working) (made
         let a : 0 + length parts ≡ c = omega arith in
         let b : 0 + length parts ≡ q = omega arith in
         let d : 0 + length parts ≡ p = omega arith in
-        let first = ap (λ (n : ℕ). record { calls = n; asks = 0 + length parts; full = 0 + length parts } as Counts) a in
-        let then = ap (λ (n : ℕ). record { calls = c; asks = n; full = 0 + length parts } as Counts) b in
-        let last = ap (λ (n : ℕ). record { calls = c; asks = q; full = n } as Counts) d in
+        let n = 0 + length parts in
+        let first = ap (λ (k : ℕ). counts k n n) a in
+        let then = ap (λ (k : ℕ). counts c k n) b in
+        let last = ap (λ (k : ℕ). counts c q k) d in
         ap (λ (u : Tallied). u.parts) together ∙ (crew_counted.1 ∙ (first ∙ (then ∙ last)))
 
     pub crew_made : HasMade (all_calls parts) (each 0) t'.made

@@ -4,3 +4,4 @@ pub mod Gathering
 pub mod Crews
 pub mod Listed
 pub mod Storing
+pub mod Crossing
