@@ -3,13 +3,14 @@
 
 Checks what `share W SLOTS` printed of a script: the lines before the calls, the stored calls, a line `--`, and the steps of their replay.
 Each stored call but the reports is one of the script; those of the first part come first, and those of each worker stand in its order. Only
-requests may be missing, and then at least SLOTS of them are stored. The steps are those that `model.py` answers. It shares nothing with the
+requests may be missing, and then at least SLOTS of them are stored. The replies of a request are reported in one row, by number, when no face
+owes a final any more, and at the end none is left to be reported. The steps are those that `model.py` answers. It shares nothing with the
 program. Exits with 0, or says what is wrong and exits with 1."""
 
 import sys
 
-from model import replay
-from words import read_call
+from model import Gateway, replay
+from words import BadLine, read_call, read_script
 
 
 def call(line):
@@ -68,6 +69,24 @@ def first_made(first, made):
     return len(made)
 
 
+def reported_wrong(config, calls):
+    """What is wrong with the reports among the calls, or None."""
+    gateway, row = Gateway(config), None
+    for kind, values in calls:
+        query = next((query for query in gateway.queries if kind == 'sent' and values[0] in query.in_flight), None)
+        if kind == 'sent' and query is None:
+            return 'a report is of no reply in flight'
+        if row and query is not row:
+            return 'a call stands among the reports of a request'
+        if query and query.pending:
+            return 'a report stands where a face owes a final'
+        if query and values[0] != min(query.in_flight):
+            return 'reports are out of order'
+        gateway.call(kind, values)
+        row = query if query and query.in_flight else None
+    return None if all(query.pending for query in gateway.queries) else 'a reply is not reported'
+
+
 def wrong(script, slots, printed):
     """What is wrong with the print, or None."""
     head, parts = parts_of(script.removesuffix(b'\n').split(b'\n'))
@@ -77,7 +96,10 @@ def wrong(script, slots, printed):
     lines = stored.removesuffix(b'\n').split(b'\n')
     if lines[:len(head)] != head:
         return 'the lines before the calls differ'
-    calls = [call(line) for line in lines[len(head):]]
+    try:
+        config, calls = read_script(lines)
+    except BadLine as at:
+        return f'line {at} is no call'
     made = [read for read in calls if read[0] != 'sent']
     given = [read for part in parts for read in part]
     if sum(not is_ask(read) for read in made) != sum(not is_ask(read) for read in given):
@@ -88,6 +110,9 @@ def wrong(script, slots, printed):
     begun = first_made(parts[0], made)
     if not is_woven([parts[0]], made[:begun]) or not is_woven(parts[1:], made[begun:]):
         return 'the calls are not those of the parts, each in order'
+    said = reported_wrong(config, calls)
+    if said:
+        return said
     run = replay(stored)
     if run.status != 0 or run.print != steps:
         return 'the steps are not those of the replay'

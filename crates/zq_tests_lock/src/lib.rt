@@ -1,5 +1,5 @@
-//! Tests of one gateway in several threads: who lets a slot go last (`seats`), what a lock answers and sends (`locks`), that messages are
-//! sent outside it (`gates`), and scripts that workers run (`shares`).
+//! Tests of one gateway that several call: who lets a slot go last (`seats`), what a lock answers and sends (`locks`), and what another
+//! caller is answered while a send is held (`gates`).
 #![tactic(auto)]
 
 #[cfg(test)]
@@ -12,5 +12,3 @@ mod given;
 mod locks;
 #[cfg(test)]
 mod seats;
-#[cfg(test)]
-mod shares;

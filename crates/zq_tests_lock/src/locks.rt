@@ -1,7 +1,7 @@
 //! What a lock answers and sends.
-ghost use Rattle.std.specs.Prelude.{◌≡◌, ◌≤◌, [], None, length};
+ghost use Rattle.std.specs.Prelude.{◌≡◌, [], None, length};
 
-use crate::callers::make_calls;
+use crate::callers::{make_calls, open_two};
 use crate::given::{parts_of, print_calls, print_leaving};
 use std::alloc::Global;
 use std::marker::Brand;
@@ -9,7 +9,7 @@ use std::sync::Wait;
 use std::sync::ledger::{Blank, Ledger};
 use std::test::Fail;
 use zq_links::MemoryLink;
-use zq_lock::{Home, SeatList, Shared, TablesLock, Tally};
+use zq_lock::{Home, SeatList, Shared};
 use zq_machine::call::Call;
 use zq_message::items::Items;
 
@@ -22,12 +22,12 @@ const CALLS: &str = "config 1 10000 north:client local\n\
     reply 0 1 0:s:k ok yo\n\
     final 0 1\n";
 
-/// Two seats, one after the other; what they are answered, what their links take, and what is stored.
-fn two_seats<H: Home, C: Ledger, Q: Ledger, P: Ledger, R: Wait>(
+/// Two callers, one after the other; what they are answered, what their links take, and what is stored.
+fn two_callers<H: Home, C: Ledger, Q: Ledger, P: Ledger, R: Wait>(
     rt: &R,
     alloc: Global,
     shared: Shared,
-    mut seats: SeatList,
+    seats: SeatList,
     blanks: (Blank, Blank, Blank),
     mut parts: Vec<Items<Call>>,
 ) -> Result<Vec<Vec<u8>>, Fail>
@@ -39,25 +39,16 @@ fn two_seats<H: Home, C: Ledger, Q: Ledger, P: Ledger, R: Wait>(
     requires asks { (blanks.1.name ≡ Q.name) × (blanks.1.parts ≡ Q.parts) × (Q.parts ≡ 2) }
     requires full { (blanks.2.name ≡ P.name) × (blanks.2.parts ≡ P.parts) × (P.parts ≡ 2) }
 {
-    let (calls, all_calls) = blanks.0.open::<C>();
-    let (asks, all_asks) = blanks.1.open::<Q>();
-    let (full, all_full) = blanks.2.open::<P>();
-    let lock = TablesLock::<H, C, Q, P>::new(shared, calls, asks, full);
-    let mut other = Tally {
-        calls: all_calls,
-        asks: all_asks,
-        full: all_full,
-    };
-    let mut mine = other.split_one();
-    let mut first = seats.take().ok_or("a seat")?;
-    let mut second = seats.take().ok_or("a seat")?;
+    let (lock, mut first, mut second) = open_two::<H, C, Q, P>(shared, seats, blanks)?;
     let later = parts.pop().ok_or("a second part")?;
     let earlier = parts.pop().ok_or("a first part")?;
     let mut one = MemoryLink::new(alloc, Vec::new(alloc));
     let mut two = MemoryLink::new(alloc, Vec::new(alloc));
     let mut prints = Vec::new(alloc);
-    prints.push(make_calls(rt, alloc, &lock, &mut first, &mut mine, &mut one, earlier)?)?;
-    prints.push(make_calls(rt, alloc, &lock, &mut second, &mut other, &mut two, later)?)?;
+    let asked = make_calls(rt, alloc, &lock, &mut first, &mut one, earlier);
+    prints.push(asked.ok_or("steps")?)?;
+    let answered = make_calls(rt, alloc, &lock, &mut second, &mut two, later);
+    prints.push(answered.ok_or("steps")?)?;
     prints.push(print_leaving(alloc, one.taken())?)?;
     prints.push(print_leaving(alloc, two.taken())?)?;
     let (shared, _, _, _) = lock.into_shared();
@@ -68,7 +59,7 @@ fn two_seats<H: Home, C: Ledger, Q: Ledger, P: Ledger, R: Wait>(
 fn prints_of<R: Wait>(rt: &R, alloc: Global) -> Result<Vec<Vec<u8>>, Fail> {
     let (config, parts) = parts_of(alloc, CALLS)?;
     let (shared, seats) = Shared::new(alloc, &config, 8, 2)?;
-    two_seats::<Brand, Brand, Brand, Brand, R>(
+    two_callers::<Brand, Brand, Brand, Brand, R>(
         rt,
         alloc,
         shared,

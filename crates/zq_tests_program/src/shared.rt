@@ -1,4 +1,11 @@
-use crate::given::{Fails, NONE, ends_as};
+use crate::given::{Fails, NONE, ends_as, ends_over, links};
+use std::alloc::Global;
+use std::sync::Wait;
+use std::sync::atomic::AtomicU64;
+use std::thread::Threads;
+use zq_given_links::GateLink;
+use zq_key::memory::OutOfMemory;
+use zq_links::MemoryLink;
 use zq_script::run::Status;
 
 const ASKED: &str = "config 1 10000 north:client local\n\
@@ -30,20 +37,86 @@ const PRINT: &str = "config 1 10000 north:client local\n\
     = done\n\
     > 1 0 - final 7 0\n";
 
+/// Whether a shared run ends so, where that send of each link fails, and the first link took so many messages.
+fn takes<R: Threads + Wait + Sync>(
+    rt: &R,
+    alloc: Global,
+    send: u64,
+    status: Status,
+    count: usize,
+) -> Result<bool, OutOfMemory> {
+    let mut links = links(alloc, send)?;
+    let words = ["share", "2", "8"];
+    let wanted = (status, PRINT);
+    let ended = ends_over(rt, alloc, &words, ASKED, links.as_mut_slice(), NONE, wanted)?;
+    let taken = match links.first() {
+        Some(link) => link.taken().len(),
+        None => 0,
+    };
+    Ok(ended && taken == count)
+}
+
+/// The request, the reply and the final are sent, but for the send that fails.
 #[test]
 fn asked_and_answered(rt: HostRuntime) {
-    for (send, status) in [(u64::MAX, Status::Done), (0, Status::LinkFault)] {
-        let fails = Fails { send, ..NONE };
-        let ended = ends_as(
-            &rt,
-            rt.alloc(),
-            &["share", "2", "8"],
-            ASKED,
-            fails,
-            (status, PRINT),
-        );
+    for (send, status, count) in [(u64::MAX, Status::Done, 3), (0, Status::LinkFault, 2)] {
+        let ended = takes(&rt, rt.alloc(), send, status, count);
         assert_eq!(rt; ended, Ok(true));
     }
+}
+
+const ASKERS: &str = "config 1 10000 north:client local\n\
+    open local 10 client north -\n\
+    open local 11 client north -\n\
+    queryable 0 1 0:s:k c 0 0\n\
+    worker\n\
+    ask 1 7 0:s:k all - 0 0 hi 0\n\
+    worker\n\
+    ask 1 7 0:s:k all - 0 0 hi 0\n";
+
+const BOTH: &str = "config 1 10000 north:client local\n\
+    open local 10 client north -\n\
+    open local 11 client north -\n\
+    queryable 0 1 0:s:k c 0 0\n\
+    ask 1 7 0:s:k all - 0 0 hi 0\n\
+    ask 1 7 0:s:k all - 0 0 hi 0\n\
+    --\n\
+    = opened 0\n\
+    = opened 1\n\
+    = done\n\
+    = asked 0\n\
+    > 0 0 - request 1 0:s:k all - 0 0 hi\n\
+    = asked 1\n\
+    > 0 1 - request 2 0:s:k all - 0 0 hi\n";
+
+/// Whether two workers, each of whose sends is held until the other's has begun, make their calls, and each sends over its own link.
+fn both_send<R: Threads + Wait + Sync>(rt: &R, alloc: Global) -> Result<bool, OutOfMemory> {
+    let (one, two) = (AtomicU64::new(0), AtomicU64::new(0));
+    let mut links = [
+        GateLink::new(MemoryLink::new(alloc, Vec::new(alloc)), &one, &two),
+        GateLink::new(MemoryLink::new(alloc, Vec::new(alloc)), &two, &one),
+    ];
+    let wanted = (Status::Done, BOTH);
+    let ended = ends_over(
+        rt,
+        alloc,
+        &["share", "2", "8"],
+        ASKERS,
+        &mut links,
+        NONE,
+        wanted,
+    )?;
+    let mut each = ended;
+    for link in &links {
+        each = each && !link.is_late() && link.inner().taken().len() == 1;
+    }
+    Ok(each)
+}
+
+#[test]
+fn held_by_each_other(rt: HostRuntime) {
+    let sent = both_send(&rt, rt.alloc());
+    assert_eq!(rt; sent, Ok(true));
 }
 
 #[test]
@@ -53,11 +126,7 @@ fn faults_end(rt: HostRuntime) {
         (u64::MAX, 1, Status::WriteFault, "config 1"),
         (u64::MAX, 0, Status::WriteFault, ""),
     ] {
-        let fails = Fails {
-            read,
-            write,
-            ..NONE
-        };
+        let fails = Fails { read, write };
         let ended = ends_as(
             &rt,
             rt.alloc(),
