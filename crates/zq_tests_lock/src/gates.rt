@@ -68,6 +68,7 @@ fn call_meanwhile<H: Home, C: Ledger, Q: Ledger, P: Ledger, L: Link, R: Wait>(
 }
 
 /// Two callers at once: the second makes its calls while the first send of the first is held. It prints what their links take.
+#[tactic(auto, using(zq_share::proofs::Crossing::lock_sync))]
 fn both_call<
     H: Home + Send + Sync,
     C: Ledger + Send + Sync,
@@ -91,20 +92,20 @@ fn both_call<
     let two = MemoryLink::new(alloc, Vec::new(alloc));
     let (first, second) = callers;
     let (ours, theirs) = calls;
-    let ((made, one), (also, two)) = join(
+    let ((made, two), (also, one)) = join(
         rt,
-        || -> (bool, GateLink<MemoryLink>)
-            requires list { H.list ≡ None }
-            requires home { first.seat.home ≡ H.holds }
-            requires empty { first.seat.held ≡ [] }
-            requires parts { HasParts first.tally }
-        { call_all(rt, alloc, lock, first, one, ours) },
         || -> (bool, MemoryLink)
             requires list { H.list ≡ None }
             requires home { second.seat.home ≡ H.holds }
             requires empty { second.seat.held ≡ [] }
             requires parts { HasParts second.tally }
         { call_meanwhile(rt, alloc, lock, second, two, theirs, (&begun, &opened)) },
+        || -> (bool, GateLink<MemoryLink>)
+            requires list { H.list ≡ None }
+            requires home { first.seat.home ≡ H.holds }
+            requires empty { first.seat.held ≡ [] }
+            requires parts { HasParts first.tally }
+        { call_all(rt, alloc, lock, first, one, ours) },
     );
     if !made || !also || one.is_late() {
         return Err(Fail::from("all is sent in time"));
