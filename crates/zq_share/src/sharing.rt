@@ -45,6 +45,7 @@ fn share_named<
     requires parts { All (All (MayMake H.list)) parts.items }
     requires links { (0 < length links.old) × (vec_len parts ≤ length links.old + 1) }
     ensures config { IfOk result (λ r. r.0.stored.config ≡ shared.stored.config) }
+    ensures wide { IfOk result (λ r. length r.0.slots.keeper.marks ≡ length shared.slots.keeper.marks) }
     ensures stored { IfOk result (λ r. HasStored (length shared.slots.keeper.marks) (all_calls parts.items) r.0.stored.calls) }
     ensures faults { IfOk result (λ r. HaveFaults r.1 (map L.faults links.old) (map L.faults links.new)) }
     ensures later { NeverFell (map L.faults links.old) (map L.faults links.new) }
@@ -88,6 +89,7 @@ pub fn share<L: Link + Send, R: Threads + Wait + Sync>(
     requires calls { All (All (MayMake (Some (all_calls parts.items)))) parts.items }
     requires links { (0 < length links.old) × (vec_len parts ≤ length links.old + 1) }
     ensures config { IfOk result (λ r. r.0.stored.config ≡ config.now) }
+    ensures wide { IfOk result (λ r. length r.0.slots.keeper.marks ≡ slots) }
     ensures stored { IfOk result (λ r. HasStored slots (all_calls parts.items) r.0.stored.calls) }
     ensures faults { IfOk result (λ r. HaveFaults r.1 (map L.faults links.old) (map L.faults links.new)) }
     ensures later { NeverFell (map L.faults links.old) (map L.faults links.new) }

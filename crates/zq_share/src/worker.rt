@@ -22,6 +22,7 @@ pub(crate) struct Ended {
 }
 
 /// Makes a call.
+#[tactic(auto, using(crate::proofs::Making::made_stored, crate::proofs::Making::made_full))]
 pub(crate) fn make_call<H: Home, C: Ledger, Q: Ledger, P: Ledger, L: Link, R: Wait>(
     rt: &R,
     alloc: Global,
