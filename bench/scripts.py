@@ -400,7 +400,6 @@ def nearly_alike(part, size=1_024):
         yield f'ask 1 {i} 0:s:{text}y/e all - 0 0 - 0'
 
 
-
 if __name__ == '__main__':
     made = {name: it for name, it in globals().items() if inspect.isgeneratorfunction(it)}
     if len(sys.argv) < 2 or sys.argv[1] not in made:
