@@ -192,31 +192,49 @@ keeper_ends n id v is s q at =
           (λ k e. e),
     )
 
--- a seat takes in a pledge
-pub takes_pledge : (n id other : ℕ) (v w : HoldView) → v.role ≡ Seat → v.shows ≡ None → w.role ≡ Pledge → w.held ≡ [] → w.stands ≡ None
-    → Joins (IsKept n) id v other w (record v { shows = w.shows }) nobody
-takes_pledge n id other v w sits bare role empty idle s q at apart_from there =
+-- a seat's join keeps the rule, where it keeps what the seat holds
+seat_joins : (n id other : ℕ) (v w both : HoldView) → v.role ≡ Seat → both.role ≡ Seat → live w.role ≡ 0 → w.role ≢ Keeper → both.held ≡ v.held → w.held ≡ []
+    → ((k : ℕ) → stood k both.stands ≡ stood k v.stands + stood k w.stands) → ((k : ℕ) → stood k both.shows ≡ stood k v.shows + stood k w.shows)
+    → Joins (IsKept n) id v other w both nobody
+seat_joins n id other v w both sits sits' dead not_w same empty stands shows s q at apart_from there =
     let keeper : ℕ = q.0 in
     let view : HoldView = q.1 in
     let r = q.2 in
-    let both : HoldView = record v { shows = w.shows } in
     let views = set (set s.views id both) other nobody in
     let was : get_elem? s.views other ≡ some w = sym (set_else s.views id other both apart_from) ∙ there in
     let not_v : v.role ≢ Keeper = λ e. absurd (cc) in
-    let not_w : w.role ≢ Keeper = λ e. absurd (cc) in (
+    let held_same : (k : ℕ) → times k both.held ≡ times k v.held = λ k. ap (times k) same in
+    let none_held : (k : ℕ) → times k w.held ≡ 0 = λ k. ap (times k) empty in
+    let role_same : live both.role ≡ live v.role = ap live (sits' ∙ sym sits) in (
       keeper,
       view,
       quiet n s keeper view r view views
           (set_else (set s.views id both) other keeper nobody (apart n s keeper view r other w was not_w) ∙ (set_else s.views id keeper both (apart n s keeper view r id v at not_v) ∙ r.there)) r.keeps refl refl refl
-          (each_join (Sound keeper) s.views id other both nobody (r.only id v at, r.once id v at) ((λ e. absurd (cc)), λ k. omega arith) (sound n s keeper view r))
-          (λ j. let a = total_join (λ u. times j u.held) s.views id other v both w nobody at there in let b : times j w.held ≡ 0 = ap (times j) empty in omega arith)
-          (let a = total_join (λ u. live u.role) s.views id other v both w nobody at there in let b = r.seats in let c : live w.role ≡ 0 = ap live role in omega arith)
+          (each_join (Sound keeper) s.views id other both nobody
+          ((λ e. absurd (cc)), λ k. let a = r.once id v at k in let b = held_same k in omega arith)
+          ((λ e. absurd (cc)), λ k. omega arith) (sound n s keeper view r))
+          (λ k. let a = total_join (λ u. times k u.held) s.views id other v both w nobody at there in let b = held_same k in let c = none_held k in omega arith)
+          (let a = total_join (λ u. live u.role) s.views id other v both w nobody at there in let b = r.seats in omega arith)
           r.made
-          (λ j. let a = total_join (λ u. stood j u.stands) s.views id other v both w nobody at there in let b : stood j w.stands ≡ 0 = ap (stood j) idle in omega arith)
-          (λ j. let a = total_join (λ u. stood j u.shows) s.views id other v both w nobody at there in let b = r.shown j in let c : stood j v.shows ≡ 0 = ap (stood j) bare in omega arith)
+          (λ k. let a = total_join (λ u. stood k u.stands) s.views id other v both w nobody at there in let b = stands k in omega arith)
+          (λ k. let a = total_join (λ u. stood k u.shows) s.views id other v both w nobody at there in let b = shows k in let c = r.shown k in omega arith)
           r.pledged
-          (λ j e. e),
+          (λ k e. e),
     )
+
+-- a seat takes in a pledge
+pub takes_pledge : (n id other : ℕ) (v w : HoldView) → v.role ≡ Seat → v.shows ≡ None → w.role ≡ Pledge → w.held ≡ [] → w.stands ≡ None
+    → Joins (IsKept n) id v other w (record v { shows = w.shows }) nobody
+takes_pledge n id other v w sits bare role empty idle = seat_joins n id other v w (record v { shows = w.shows }) sits sits (ap live role) (λ e. absurd (cc)) refl empty
+    (λ k. let a : stood k w.stands ≡ 0 = ap (stood k) idle in omega arith)
+    (λ k. let a : stood k v.shows ≡ 0 = ap (stood k) bare in omega arith)
+
+-- a seat takes in the view of a `Last`
+pub seat_takes_last : (n id other : ℕ) (v w : HoldView) → v.role ≡ Seat → v.stands ≡ None → w.role ≡ Last → w.held ≡ [] → w.shows ≡ None
+    → Joins (IsKept n) id v other w (record v { stands = w.stands }) nobody
+seat_takes_last n id other v w sits idle role empty bare = seat_joins n id other v w (record v { stands = w.stands }) sits sits (ap live role) (λ e. absurd (cc)) refl empty
+    (λ k. let a : stood k v.stands ≡ 0 = ap (stood k) idle in omega arith)
+    (λ k. let a : stood k w.shows ≡ 0 = ap (stood k) bare in omega arith)
 
 -- the keeper takes in the view of a `Last`
 pub takes_last : (n id other : ℕ) (v w : HoldView) → v.role ≡ Keeper → v.stands ≡ None → w.role ≡ Last → w.held ≡ [] → w.shows ≡ None
@@ -230,32 +248,6 @@ takes_last n id other v w is idle role empty bare s q at apart_from there =
       quiet n s id v r both views
           (set_else (set s.views id both) other id nobody (λ e. apart_from (sym e)) ∙ now_there s.views id v both at) is refl refl refl
           (each_join (Sound id) s.views id other both nobody (r.only id v at, r.once id v at) ((λ e. absurd (cc)), λ k. omega arith) (sound n s id v r))
-          (λ j. let a = total_join (λ u. times j u.held) s.views id other v both w nobody at there in let b : times j w.held ≡ 0 = ap (times j) empty in omega arith)
-          (let a = total_join (λ u. live u.role) s.views id other v both w nobody at there in let b = r.seats in let c : live w.role ≡ 0 = ap live role in omega arith)
-          r.made
-          (λ j. let a = total_join (λ u. stood j u.stands) s.views id other v both w nobody at there in let b : stood j v.stands ≡ 0 = ap (stood j) idle in omega arith)
-          (λ j. let a = total_join (λ u. stood j u.shows) s.views id other v both w nobody at there in let b = r.shown j in let c : stood j w.shows ≡ 0 = ap (stood j) bare in omega arith)
-          r.pledged
-          (λ j e. e),
-    )
-
--- a seat takes in the view of a `Last`
-pub seat_takes_last : (n id other : ℕ) (v w : HoldView) → v.role ≡ Seat → v.stands ≡ None → w.role ≡ Last → w.held ≡ [] → w.shows ≡ None
-    → Joins (IsKept n) id v other w (record v { stands = w.stands }) nobody
-seat_takes_last n id other v w sits idle role empty bare s q at apart_from there =
-    let keeper : ℕ = q.0 in
-    let view : HoldView = q.1 in
-    let r = q.2 in
-    let both : HoldView = record v { stands = w.stands } in
-    let views = set (set s.views id both) other nobody in
-    let was : get_elem? s.views other ≡ some w = sym (set_else s.views id other both apart_from) ∙ there in
-    let not_v : v.role ≢ Keeper = λ e. absurd (cc) in
-    let not_w : w.role ≢ Keeper = λ e. absurd (cc) in (
-      keeper,
-      view,
-      quiet n s keeper view r view views
-          (set_else (set s.views id both) other keeper nobody (apart n s keeper view r other w was not_w) ∙ (set_else s.views id keeper both (apart n s keeper view r id v at not_v) ∙ r.there)) r.keeps refl refl refl
-          (each_join (Sound keeper) s.views id other both nobody (r.only id v at, r.once id v at) ((λ e. absurd (cc)), λ k. omega arith) (sound n s keeper view r))
           (λ j. let a = total_join (λ u. times j u.held) s.views id other v both w nobody at there in let b : times j w.held ≡ 0 = ap (times j) empty in omega arith)
           (let a = total_join (λ u. live u.role) s.views id other v both w nobody at there in let b = r.seats in let c : live w.role ≡ 0 = ap live role in omega arith)
           r.made
