@@ -1,9 +1,9 @@
 -- The parts of a script that has lines `worker`.
-use Rattle.std.proofs.Common.{◌≡◌, ℕ, ◌+◌, ◌-◌, ◌<◌, ◌≤◌, List, [], ◌∷◌, ◌++◌, Option, Some, None, Bool, true, false, cond, refl, subst, length, arith, All, Contains}
+use Rattle.std.proofs.Common.{◌≡◌, ℕ, ◌+◌, ◌-◌, ◌<◌, ◌≤◌, List, [], ◌∷◌, Option, Some, None, Bool, true, false, cond, refl, subst, length, arith, All}
 use Rattle.std.specs.Prelude.{nat_lt, codes, IfOk, Result, Ok, Err}
 use Rattle.std.specs.Str.{bytes_eq}
 use Rattle.std.proofs.lemmas.Bool.Decides.{nat_tests}
-use Rattle.std.proofs.lemmas.List.Elements.{All-contains_itself, All-cons, All-nil, All-weaker, Contains-append_left, Contains-append_right}
+use Rattle.std.proofs.lemmas.List.Elements.{All-cons, All-nil}
 use Rattle.zq_machine.specs.declared.call.Call.{Call}
 use Rattle.zq_machine.specs.Calls.{is_sent}
 use Rattle.zq_words.specs.Words.{◌>>=◌}
@@ -12,8 +12,6 @@ use Rattle.zq_script.specs.Head.{Head, head_of}
 use Rattle.zq_script.specs.Script.{Gives, Parts, made, new_part, onto, onto_parts, parts_from, script_call, script_of, unless_sent, with_line, with_parts}
 use Rattle.zq_script.specs.declared.refusal.ScriptRefusal.{ScriptRefusal}
 use Rattle.zq_script.specs.declared.script.Script.{Script}
-use Rattle.zq_share.specs.Shares.{all_calls}
-use Rattle.zq_share.specs.Working.{MayMake}
 use Rattle.zq_program.specs.Parts.{ArePartsFor}
 
 -- the call reports nothing
@@ -68,26 +66,6 @@ lines_are n workers (line ∷ lines) =
     (worker_are (nat_lt 0 workers) workers n _ refl (lines_are (n + 1) (workers - 1) lines))
     (line_are workers n (script_call true line) _ (line_unsent (call_of line)) (lines_are (n + 1) workers lines))
 
--- ---- each call of a part is one of all
-part_among : (p : List Call) (ps : List (List Call)) → All (Contains (all_calls (p ∷ ps))) p
-part_among p ps =
-    All-weaker (Contains p) (Contains (p ++ all_calls ps)) (λ c. Contains-append_left p (all_calls ps) c) p (All-contains_itself p)
-
-parts_among : (parts : List (List Call)) → All (All (Contains (all_calls parts))) parts
-parts_among [] = All-nil (All (Contains []))
-parts_among (p ∷ ps) =
-    All-cons (All (Contains (all_calls (p ∷ ps)))) p ps (part_among p ps)
-    (All-weaker (All (Contains (all_calls ps))) (All (Contains (p ++ all_calls ps)))
-    (λ q h. All-weaker (Contains (all_calls ps)) (Contains (p ++ all_calls ps)) (λ c. Contains-append_right p (all_calls ps) c) q h) ps (parts_among ps))
-
--- both of each element
-both : {X : Type 0} (P Q : X → Type 0) (xs : List X) → All P xs → All Q xs → All (λ x. P x × Q x) xs
-both P Q xs p q = λ k d lt. (p k d lt, q k d lt)
-
-parts_may : (list : List Call) (parts : List (List Call)) → All (All Unsent) parts → All (All (Contains list)) parts → All (All (MayMake (Some list))) parts
-parts_may list parts p q =
-    All-weaker (λ x. All Unsent x × All (Contains list) x) (All (MayMake (Some list))) (λ x h. both Unsent (Contains list) x h.0 h.1) parts (both (All Unsent) (All (Contains list)) parts p q)
-
 -- ---- the script
 abbrev AreMade : ℕ → Result Script ℕ → Type 0
 AreMade workers (Ok s) = ArePartsFor workers s.parts
@@ -99,7 +77,7 @@ made_are workers head (Ok parts) p =
     record {
       first = omega arith;
       others = omega arith;
-      calls = parts_may (all_calls (parts.0 ∷ parts.1)) (parts.0 ∷ parts.1) (All-cons (All Unsent) parts.0 parts.1 p.0 p.1) (parts_among (parts.0 ∷ parts.1));
+      calls = All-cons (All Unsent) parts.0 parts.1 p.0 p.1;
     }
 made_are workers head (Err n) p = tt
 

@@ -1,5 +1,6 @@
 //! The parts of a script, made by as many workers on one gateway.
-ghost use Rattle.std.specs.Prelude.{◌≡◌, ◌<◌, ◌≤◌, ◌+◌, All, [], Some, IfOk, length, map, vec_len};
+ghost use Rattle.std.specs.Prelude.{◌≡◌, ◌<◌, ◌≤◌, ◌+◌, All, [], Some, IfOk, false, length, map, vec_len};
+ghost use Rattle.zq_machine.specs.Calls.{is_sent};
 ghost use Rattle.zq_lock.specs.Answers.{AllListed};
 ghost use Rattle.zq_share.specs.Shares.{HasStored, all_calls};
 ghost use Rattle.zq_share.specs.Working.{HaveFaults, MayMake, NeverFell};
@@ -75,7 +76,7 @@ fn share_named<
 /// a link of its own, all on one gateway with that many slots. A call that finds every slot allotted is passed over. Whoever finds no memory
 /// makes no further calls; the others go on, and the answer is `OutOfMemory`. Otherwise it answers the gateway with its stored calls, and
 /// whether no link failed.
-#[tactic(auto, using(crate::proofs::Faults::fell_none))]
+#[tactic(auto, using(crate::proofs::Faults::fell_none, crate::proofs::Listed::all_may_make))]
 pub fn share<L: Link + Send, R: Threads + Wait + Sync>(
     rt: &R,
     alloc: Global,
@@ -86,7 +87,7 @@ pub fn share<L: Link + Send, R: Threads + Wait + Sync>(
 ) -> Result<(Shared, bool), OutOfMemory>
     requires slots { (0 < slots) × (slots ≤ 1024) }
     requires parts { (0 < vec_len parts) × (vec_len parts ≤ 63) }
-    requires calls { All (All (MayMake (Some (all_calls parts.items)))) parts.items }
+    requires calls { All (All (λ c. is_sent c ≡ false)) parts.items }
     requires links { (0 < length links.old) × (vec_len parts ≤ length links.old + 1) }
     ensures config { IfOk result (λ r. r.0.stored.config ≡ config.now) }
     ensures wide { IfOk result (λ r. length r.0.slots.keeper.marks ≡ slots) }
