@@ -42,7 +42,7 @@ pub fn program<S: Source, K: Sink, L: Link + Send, R: Threads + Wait + Sync>(
     ensures whole { (load_of words.now ≡ None) → is_whole result ≡ true → IsAtEnd (S.left source.new) }
     ensures read { result ≡ Status.ReadFault → Rose (S.faults source.old) (S.faults source.new) }
     ensures write { result ≡ Status.WriteFault → Rose (K.faults sink.old) (K.faults sink.new) }
-    ensures quiet { IfSome (sharing_of (length links.old) words.now) (λ _. result ≢ Status.WriteFault → K.faults sink.new ≡ K.faults sink.old) }
+    ensures quiet { result ≢ Status.WriteFault → K.faults sink.new ≡ K.faults sink.old }
     ensures unwritten { is_unwritten result ≡ true → sink.new ≡ sink.old }
     ensures sent { result ≡ Status.Done → map L.faults links.new ≡ map L.faults links.old }
     ensures linked { result ≡ Status.LinkFault → SomeRose (map L.faults links.old) (map L.faults links.new) }

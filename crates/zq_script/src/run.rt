@@ -145,6 +145,7 @@ fn replay<S: Source, K: Sink>(alloc: Global, source: &mut S, sink: &mut K) -> St
     ensures whole { (result ≡ Status.Done) ⊎ (result ≡ Status.Script) → IsAtEnd (S.left source.new) }
     ensures read { result ≡ Status.ReadFault → Rose (S.faults source.old) (S.faults source.new) }
     ensures write { result ≡ Status.WriteFault → Rose (K.faults sink.old) (K.faults sink.new) }
+    ensures quiet { result ≢ Status.WriteFault → K.faults sink.new ≡ K.faults sink.old }
     ensures unwritten { wrote result ≡ false → sink.new ≡ sink.old }
     ensures ends { (result ≢ Status.Words) × (result ≢ Status.LinkFault) }
     ensures complete { IfSome (S.left source.old) (λ input. IsFit input → (Rose (S.faults source.old) (S.faults source.new) → ⊥) → (Rose (K.faults sink.old) (K.faults sink.new) → ⊥) → EndsWell result) }
@@ -161,6 +162,7 @@ fn replay<S: Source, K: Sink>(alloc: Global, source: &mut S, sink: &mut K) -> St
 fn load<K: Sink>(alloc: Global, amount: u16, sink: &mut K) -> Status
     ensures leaves { LeavesLoad result amount (K.taken sink.old) (K.taken sink.new) }
     ensures write { result ≡ Status.WriteFault → Rose (K.faults sink.old) (K.faults sink.new) }
+    ensures quiet { result ≢ Status.WriteFault → K.faults sink.new ≡ K.faults sink.old }
     ensures unwritten { wrote result ≡ false → sink.new ≡ sink.old }
 {
     let Ok(line) = print_load(alloc, amount) else {
@@ -191,6 +193,7 @@ pub fn run<S: Source, K: Sink>(
     ensures load { IfSome (load_of words.now) (λ n. (source.new ≡ source.old) × LeavesLoad result n (K.taken sink.old) (K.taken sink.new)) }
     ensures read { result ≡ Status.ReadFault → Rose (S.faults source.old) (S.faults source.new) }
     ensures write { result ≡ Status.WriteFault → Rose (K.faults sink.old) (K.faults sink.new) }
+    ensures quiet { result ≢ Status.WriteFault → K.faults sink.new ≡ K.faults sink.old }
     ensures unwritten { wrote result ≡ false → sink.new ≡ sink.old }
     ensures linked { result ≢ Status.LinkFault }
     ensures complete { IsReplay words.now → IfSome (S.left source.old) (λ input. IsFit input → (Rose (S.faults source.old) (S.faults source.new) → ⊥) → (Rose (K.faults sink.old) (K.faults sink.new) → ⊥) → EndsWell result) }
