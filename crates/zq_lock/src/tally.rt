@@ -9,8 +9,11 @@ use std::sync::ledger::{Book, Ledger, Share};
 /// calls that found every slot allotted.
 #[derive(Drop)]
 pub struct Tally<C: Ledger, Q: Ledger, P: Ledger> {
+    /// Its part of the ledger of stored calls other than requests and reports.
     pub calls: Share<C>,
+    /// Its part of the ledger of stored requests.
     pub asks: Share<Q>,
+    /// Its part of the ledger of calls that found every slot allotted.
     pub full: Share<P>,
 }
 

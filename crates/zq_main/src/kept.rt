@@ -46,6 +46,7 @@ impl Kept {
 #[derive(Drop)]
 pub struct KeptSource<S: Drop> {
     inner: S,
+    /// What it gave so far.
     pub kept: Kept,
 }
 
@@ -77,6 +78,7 @@ impl<S: Source + Drop> Source for KeptSource<S> {
 #[derive(Drop)]
 pub struct KeptSink<K: Drop> {
     inner: K,
+    /// The front of what it took.
     pub kept: Kept,
 }
 

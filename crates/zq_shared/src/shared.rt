@@ -42,8 +42,11 @@ impl Model for Shared {
 /// What a step gives: what the call is answered, the slots that the seat holds for the replies that it put in flight, and what it released last.
 /// Each of `lasts` has to be taken, and given to `Shared::settle`; then the list is ended.
 pub struct Stepped {
+    /// What the call is answered, and the messages that it hands.
     pub step: Step,
+    /// The slots of the requests of which the seat sends replies, each once. Each has to be released behind its replies.
     pub held: Vec<Slot>,
+    /// What was let go last, each to be settled.
     pub lasts: LastList,
 }
 
