@@ -23,7 +23,7 @@ use Rattle.zq_machine.specs.Deciding.{accepted, lacks_told, refusal_of, renamed}
 use Rattle.zq_machine.specs.Handing.{Handed}
 use Rattle.zq_machine.specs.Machine.{accepted_state}
 use Rattle.zq_machine.specs.Messages.{Telling, answered_by, from_hat}
-use Rattle.zq_machine.specs.Neighbours.{asked_at, ended_at}
+use Rattle.zq_machine.specs.Neighbours.{ended_at}
 use Rattle.zq_machine.specs.Selecting.{Manner, asked_by, full_text, is_unscoped, says_key}
 use Rattle.zq_machine.specs.State.{Core, State, is_open}
 use Rattle.zq_machine.specs.TextCalls.{TextCall, hearing, unhearing}
@@ -34,7 +34,8 @@ use Rattle.zq_machine.proofs.NeighbourLaws.{ending_keeps}
 use Rattle.zq_machine.proofs.NeighboursTold.{due_keys}
 use Rattle.zq_machine.proofs.Writing.{plain_answer, plain_settle, with_told}
 use Rattle.zq_handing.specs.Neighbours.{asking}
-use Rattle.zq_calls.specs.Asking.{asking_refusal}
+use Rattle.zq_calls.specs.Asking.{asking_refusal, interest_looks, said_key}
+use Rattle.zq_calls.specs.Gathering.{OnlyIdsLack}
 use Rattle.zq_calls.specs.Making.{IsReached}
 use Rattle.zq_calls.proofs.Beside.{IsBeside, changed_after, ended_beside, told_beside}
 use Rattle.zq_calls.proofs.Due.{all_from, key_refuses}
@@ -87,23 +88,22 @@ module _ (c : Core) (face : FaceId) (id : ℕ) (m : Manner) (sd : Option Said) w
       hearing_used used = past_key ∙ ap (λ b. cond b (Some refusal.IdInUse) (cond (lacks_told c (hearing face id m sd)) (Some refusal.NoFreeId) None)) used
 
       module _ (free : asks_another face.0 id asked.key c.interests ≡ false) where
-        past_id : refusal_of c (hearing face id m sd) ≡ cond (lacks_told c (hearing face id m sd)) (Some refusal.NoFreeId) None
-        past_id = past_key ∙ ap (λ b. cond b (Some refusal.IdInUse) (cond (lacks_told c (hearing face id m sd)) (Some refusal.NoFreeId) None)) free
+        -- nothing refuses it but ids that lack
+        pub hearing_only : OnlyIdsLack c (hearing face id m sd)
+        hearing_only = past_key ∙ ap (λ b. cond b (Some refusal.IdInUse) (cond (lacks_told c (hearing face id m sd)) (Some refusal.NoFreeId) None)) free
 
-        pub hearing_lacks : lacks_told c (hearing face id m sd) ≡ true → refusal_of c (hearing face id m sd) ≡ Some refusal.NoFreeId
-        hearing_lacks lacks = past_id ∙ ap (λ b. cond b (Some refusal.NoFreeId) None) lacks
-
-        pub hearing_fits : lacks_told c (hearing face id m sd) ≡ false → refusal_of c (hearing face id m sd) ≡ None
-        hearing_fits enough = past_id ∙ ap (λ b. cond b (Some refusal.NoFreeId) None) enough
+-- ---- the key that is said for it
+pub key_again : (key : Option (List ℕ)) → key ≡ option_map full_text (said_key key)
+key_again None = refl
+key_again (Some text) = refl
 
 -- ---- what an interest is answered, and what it leaves
 module _ (s : State) (i : IsReached s) (face : FaceId) (id : ℕ) (m : Manner) (sd : Option Said) where
   abbrev t : TextCall
   t = hearing face id m sd
 
-  -- what it looks at
-  abbrev pub looked : List FaceDues
-  looked = asked_at (accepted s.core t) (accepted s.core t).interests face.0 (asked_by m sd)
+  abbrev looked : List FaceDues
+  looked = interest_looks s.core face id m sd
 
   module _ (ears : Ears) (heard : ears ≡ s.core.ears) (dues : List FaceDues) (are : dues ≡ looked) where
     pub asked_lacks : lacks_ids Answering ears dues ≡ lacks_told s.core t

@@ -61,6 +61,7 @@ use Rattle.zq_handing.specs.Reading.{key_refusal}
 use Rattle.zq_handing.specs.Telling.{behind}
 use Rattle.zq_handing.specs.Neighbours.{told_with}
 use Rattle.zq_outgoing.specs.Gone.{AreOut}
+use Rattle.zq_calls.specs.Gathering.{Gathers, OnlyIdsLack, along_trees, looked}
 use Rattle.zq_calls.specs.Making.{IsReached}
 use Rattle.zq_calls.proofs.GoneOut.{IsAway, finals_away, told_to_faces}
 use Rattle.zq_calls.proofs.Beside.{IsBeside, changed_after, left_beside, released_beside, told_beside}
@@ -89,23 +90,9 @@ pub all_from : {X : Type 0} (P : X → Type 0) (xs : List X) → AllByRecursion 
 all_from P [] all = All-nil P
 all_from P (x ∷ xs) all = All-cons P x xs all.0 (all_from P xs all.1)
 
--- what a call tells along trees, in no order
-abbrev pub along_trees : Core → TextCall → List TreeTelling
-along_trees c t = tree_told c (accepted c t) t ++ all_own_told c.hats (accepted c t).hats (touched c t)
-
--- what it looks at
-abbrev pub looked : Core → TextCall → List FaceDues
-looked c t = looked_at c (accepted c t) c.interests t
-
 -- what it tells at all: neighbours too
 abbrev pub due : Core → TextCall → List TreeTelling
 due c t = told_with (kept c t) (looked c t) (along_trees c t)
-
--- what a body gathers for a call: what is kept of faces, what is looked at, and what is told along trees
-pub record Gathers (c : Core) (t : TextCall) (ears : Ears) (dues : List FaceDues) (told : List TreeTelling) : Type 0 where
-  pub is_kept : ears ≡ kept c t
-  pub is_looked : dues ≡ looked c t
-  pub is_told : told ≡ along_trees c t
 
 -- what a call tells, where it is no interest nor the end of one
 told_is : (c : Core) (t : TextCall) → is_plain t ≡ true → told_of c t ≡ map from_hat (ordered (due c t))
@@ -281,6 +268,14 @@ closing_gathers s face r home hats same keys are ts is ears kept_is ints asked d
           ∙ (λ j. all_own_told s.core.hats (sym (changed_home face.0 r s.core home (without_face face.0)) j) (keys_are j));
     }
 
+-- ---- a call that nothing refuses but ids that lack
+module _ (c : Core) (t : TextCall) (only : OnlyIdsLack c t) where
+  pub only_fits : lacks_told c t ≡ false → refusal_of c t ≡ None
+  only_fits enough = only ∙ ap (λ b. cond b (Some refusal.NoFreeId) None) enough
+
+  pub only_lacks : lacks_told c t ≡ true → refusal_of c t ≡ Some refusal.NoFreeId
+  only_lacks lacks = only ∙ ap (λ b. cond b (Some refusal.NoFreeId) None) lacks
+
 -- ---- what refuses a call for its key
 -- whatever may refuse it behind that
 pub key_refuses : (sd : Said) (behind_key : Option Refusal) (x : Refusal) → key_refusal sd ≡ Some x
@@ -369,17 +364,9 @@ module _ (s : State) (i : IsReached s) (face : FaceId) (id : ℕ) (r : Region) (
         ∙ ap (λ b. cond (not b) (Some refusal.InvalidKeyExpr) clashes) valid
         ∙ ap (λ x. cond (clashes_in face.0 id text x) (Some refusal.IdInUse) lacks) hat_there
 
-    pub declaration_fits : is_key text ≡ true → clashes_at face.0 id text h ≡ false → lacks_told s.core declared_call ≡ false → refusal_of s.core (declaring face id (said.Full text) info node) ≡ None
-    declaration_fits valid free enough =
-        past_key valid
-        ∙ ap (λ b. cond b (Some refusal.IdInUse) (cond (lacks_told s.core declared_call) (Some refusal.NoFreeId) None)) free
-        ∙ ap (λ b. cond b (Some refusal.NoFreeId) None) enough
-
-    pub declaration_lacks : is_key text ≡ true → clashes_at face.0 id text h ≡ false → lacks_told s.core declared_call ≡ true → refusal_of s.core (declaring face id (said.Full text) info node) ≡ Some refusal.NoFreeId
-    declaration_lacks valid free lacks =
-        past_key valid
-        ∙ ap (λ b. cond b (Some refusal.IdInUse) (cond (lacks_told s.core declared_call) (Some refusal.NoFreeId) None)) free
-        ∙ ap (λ b. cond b (Some refusal.NoFreeId) None) lacks
+    -- nothing refuses it but ids that lack
+    pub declaration_only : is_key text ≡ true → clashes_at face.0 id text h ≡ false → OnlyIdsLack s.core (declaring face id (said.Full text) info node)
+    declaration_only valid free = past_key valid ∙ ap (λ b. cond b (Some refusal.IdInUse) (cond (lacks_told s.core declared_call) (Some refusal.NoFreeId) None)) free
 
     pub declaration_clashes : is_key text ≡ true → clashes_at face.0 id text h ≡ true → refusal_of s.core (declaring face id (said.Full text) info node) ≡ Some refusal.IdInUse
     declaration_clashes valid used = past_key valid ∙ ap (λ b. cond b (Some refusal.IdInUse) (cond (lacks_told s.core declared_call) (Some refusal.NoFreeId) None)) used

@@ -2,7 +2,7 @@
 use Rattle.std.proofs.Common.{◌≡◌, ◌∙◌, refl, sym, ap, ℕ, Bool, true, false, cond, not, List, [], ◌∷◌, ◌++◌, map, fold, Option, Some, None}
 use Rattle.std.specs.Option.{is_none, option_and_then, option_map_or}
 use Rattle.std.specs.BTreeSet.{insert_key}
-use Rattle.std.proofs.lemmas.Bool.{false≢true, true≢false}
+use Rattle.std.proofs.lemmas.Bool.{false≢true}
 use Rattle.zq_message.specs.declared.message.FaceId.{FaceId}
 use Rattle.zq_message.specs.declared.message.QueryableInfoType.{QueryableInfoType}
 use Rattle.zq_message.specs.declared.message.Region.{Region}
@@ -45,6 +45,7 @@ use Rattle.zq_tables.specs.Naming.{NamingState}
 use Rattle.zq_handing.specs.Telling.{behind}
 use Rattle.zq_handing.specs.Reading.{key_refusal}
 use Rattle.zq_own.specs.Routers.{entered, entry_change, other_router}
+use Rattle.zq_calls.specs.Gathering.{Gathers, OnlyIdsLack, looked}
 use Rattle.zq_calls.specs.Making.{IsReached}
 use Rattle.zq_calls.specs.Routing.{entering}
 use Rattle.zq_machine.proofs.Keeping.{is_plain}
@@ -53,7 +54,7 @@ use Rattle.zq_machine.specs.declared.face.OpenFace.{OpenFace}
 use Rattle.zq_dues.specs.Dues.{IsBeside}
 use Rattle.zq_machine.specs.Due.{heard_touched}
 use Rattle.zq_calls.proofs.Elsewhere.{beside, beside_at, none_lacks, quiet}
-use Rattle.zq_calls.proofs.Due.{Gathers, changed_home, due, hat_home, key_along, key_looked, key_refuses, looked, told_answered, told_left}
+use Rattle.zq_calls.proofs.Due.{changed_home, due, hat_home, key_along, key_looked, key_refuses, told_answered, told_left}
 
 -- in a region of routers
 in_routing : {X : Type 0} (k : Strategy) (a b : X) → in_routers k true false ≡ true → in_routers k a b ≡ a
@@ -160,15 +161,17 @@ module _ (c : Core) (face : FaceId) (sd : Said) (info : Option QueryableInfoType
               by (Some i) e f = ap (λ b. cond b (Some refusal.NoFreeId) None) e
               by None e f = ap (λ b. cond b (Some refusal.UnknownId) None) (ap is_none entry_is ∙ f refl)
 
-          -- ids that it lacks refuse it, where it may lack some
-          pub entry_lacks : lacks_told c (entering face sd info node) ≡ true → (refusal_of c (entering face sd info node) ≡ None → makes_due (entering face sd info node) ≡ false → lacks_told c (entering face sd info node) ≡ false)
-              → (info ≡ None → is_none (entry_at router.0 key h) ≡ false) → refusal_of c (entering face sd info node) ≡ Some refusal.NoFreeId
-          entry_lacks lacks less has = past_router ∙ by info lacks (λ fits. less (past_router ∙ fits)) has
+          -- nothing refuses it but ids that lack, where it may lack some
+          pub entry_only : (refusal_of c (entering face sd info node) ≡ None → makes_due (entering face sd info node) ≡ false → lacks_told c (entering face sd info node) ≡ false)
+              → (info ≡ None → is_none (entry_at router.0 key h) ≡ false) → OnlyIdsLack c (entering face sd info node)
+          entry_only less has = past_router ∙ by info (λ fits. less (past_router ∙ fits)) has
             where
-              by : (o : Option QueryableInfoType) → lacks_told c (entering face sd o node) ≡ true → (last_refusal o ≡ None → makes_due (entering face sd o node) ≡ false → lacks_told c (entering face sd o node) ≡ false)
-                  → (o ≡ None → is_none (entry_at router.0 key h) ≡ false) → last_refusal o ≡ Some refusal.NoFreeId
-              by (Some i) e l f = ap (λ b. cond b (Some refusal.NoFreeId) None) e
-              by None e l f = absurd (true≢false (sym e ∙ l (ap (λ b. cond b (Some refusal.UnknownId) None) (ap is_none entry_is ∙ f refl)) refl))
+              by : (o : Option QueryableInfoType) → (last_refusal o ≡ None → makes_due (entering face sd o node) ≡ false → lacks_told c (entering face sd o node) ≡ false)
+                  → (o ≡ None → is_none (entry_at router.0 key h) ≡ false) → last_refusal o ≡ cond (lacks_told c (entering face sd o node)) (Some refusal.NoFreeId) None
+              by (Some i) l f = refl
+              by None l f =
+                  let there : last_refusal None ≡ None = ap (λ b. cond b (Some refusal.UnknownId) None) (ap is_none entry_is ∙ f refl) in
+                  there ∙ sym (ap (λ b. cond b (Some refusal.NoFreeId) None) (l there refl))
 
           changes : (accepted c (entering face sd info node)).hats ≡ change_hat r (entered router key info) c.hats
           changes = by info
@@ -229,6 +232,11 @@ module _ (s : State) (face : FaceId) (sd : Said) (node : ℕ) where
   pub entering_core : (info : Option QueryableInfoType) → accepted s.core (entering face sd info node) ≡ record s.core { hats = (accepted s.core (entering face sd info node)).hats; ears = (accepted s.core (entering face sd info node)).ears }
   entering_core None = refl
   entering_core (Some i) = refl
+
+-- and no face
+pub entering_faces : (c : Core) (face : FaceId) (sd : Said) (info : Option QueryableInfoType) (node : ℕ) → (accepted c (entering face sd info node)).faces ≡ c.faces
+entering_faces c face sd None node = refl
+entering_faces c face sd (Some i) node = refl
 
 -- a change of an entry neither opens nor closes a face
 pub entering_ears : (s : State) (face : FaceId) (sd : Said) (node : ℕ) (info : Option QueryableInfoType) → tell_due Unasked (kept s.core (entering face sd info node)) (looked_at s.core (changed s.core (entering face sd info node)) s.core.interests (entering face sd info node)) ≡ (accepted s.core (entering face sd info node)).ears
@@ -301,20 +309,20 @@ module _ (s : State) (reached : IsReached s) (face : FaceId) (sd : Said) (info :
   pub entering_changes : (accepted s.core (entering face sd info node)).hats ≡ change_hat r (entered router key info) s.core.hats
   entering_changes = changes s.core face sd info node opens key says valid r home h there router is
 
-  pub entering_faces : (accepted s.core (entering face sd info node)).faces ≡ s.core.faces
-  entering_faces = ap (λ (x : Core). x.faces) (entering_core s face sd node info)
+-- what the body is answered and leaves, by what its tellings are told
+module _ (s : State) (reached : IsReached s) (face : FaceId) (sd : Said) (info : Option QueryableInfoType) (node : ℕ) (fits : refusal_of s.core (entering face sd info node) ≡ None)
+    (ts : List TreeTelling) (are : ts ≡ due s.core (entering face sd info node)) (l : List Handed) (new : NamingState)
+    (told : behind [] (tell (accepted s.core (entering face sd info node)) (map from_hat (in_order ts)) s.names) ≡ record { handed = l; names = new }) where
+  its_told : behind [] (tell (accepted s.core (entering face sd info node)) (map from_hat (in_order ts)) (renamed s (entering face sd info node))) ≡ record { handed = l; names = new }
+  its_told = ap (λ n. behind [] (tell (accepted s.core (entering face sd info node)) (map from_hat (in_order ts)) n)) (entering_names s face sd node info) ∙ told
 
-  module _ (fits : refusal_of s.core (entering face sd info node) ≡ None) (ts : List TreeTelling) (are : ts ≡ due s.core (entering face sd info node)) (l : List Handed) (new : NamingState)
-      (told : behind [] (tell (accepted s.core (entering face sd info node)) (map from_hat (in_order ts)) s.names) ≡ record { handed = l; names = new }) where
-    its_told : behind [] (tell (accepted s.core (entering face sd info node)) (map from_hat (in_order ts)) (renamed s (entering face sd info node))) ≡ record { handed = l; names = new }
-    its_told = ap (λ n. behind [] (tell (accepted s.core (entering face sd info node)) (map from_hat (in_order ts)) n)) (entering_names s face sd node info) ∙ told
+  pub entering_answered : ◌≡◌ {A = Step} (record { outcome = outcome.Done; handed = l }) (plain_answer s (entering face sd info node))
+  entering_answered = ap (λ o. record { outcome = o; handed = l }) (sym (entering_done s face sd node info)) ∙ told_answered s reached (entering face sd info node) (entering_plain face sd info node) fits ts are l new its_told (entering_quiet s face sd node info)
 
-    pub entering_answered : ◌≡◌ {A = Step} (record { outcome = outcome.Done; handed = l }) (plain_answer s (entering face sd info node))
-    entering_answered = ap (λ o. record { outcome = o; handed = l }) (sym (entering_done s face sd node info)) ∙ told_answered s reached (entering face sd info node) (entering_plain face sd info node) fits ts are l new its_told (entering_quiet s face sd node info)
-
-    pub entering_left : plain_settle s (entering face sd info node) ≡ record { core = record s.core { hats = change_hat r (entered router key info) s.core.hats; ears = (accepted s.core (entering face sd info node)).ears }; names = new; gates = s.gates }
-    entering_left =
-        told_left s reached (entering face sd info node) (entering_plain face sd info node) fits ts are l new its_told
-        ∙ ap (λ (g : Gates). record { core = accepted s.core (entering face sd info node); names = new; gates = g }) (entering_gates s face sd node info)
-        ∙ ap (λ (x : Core). record { core = x; names = new; gates = s.gates }) (entering_core s face sd node info)
-        ∙ ap (λ hats. record { core = record s.core { hats = hats; ears = (accepted s.core (entering face sd info node)).ears }; names = new; gates = s.gates }) (changes s.core face sd info node opens key says valid r home h there router is)
+  pub entering_left : (hats : List (ℕ × HatState)) → (accepted s.core (entering face sd info node)).hats ≡ hats
+      → plain_settle s (entering face sd info node) ≡ record { core = record s.core { hats = hats; ears = (accepted s.core (entering face sd info node)).ears }; names = new; gates = s.gates }
+  entering_left hats changes =
+      told_left s reached (entering face sd info node) (entering_plain face sd info node) fits ts are l new its_told
+      ∙ ap (λ (g : Gates). record { core = accepted s.core (entering face sd info node); names = new; gates = g }) (entering_gates s face sd node info)
+      ∙ ap (λ (x : Core). record { core = x; names = new; gates = s.gates }) (entering_core s face sd node info)
+      ∙ ap (λ x. record { core = record s.core { hats = x; ears = (accepted s.core (entering face sd info node)).ears }; names = new; gates = s.gates }) changes

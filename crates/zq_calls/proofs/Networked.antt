@@ -1,5 +1,5 @@
 -- What a network that is put in place hands, as the body gathers it.
-use Rattle.std.proofs.Common.{◌≡◌, ◌∙◌, sym, ap, subst, ℕ, cond, not, List, [], ◌++◌, fold, Option, Some, None}
+use Rattle.std.proofs.Common.{◌≡◌, ◌∙◌, sym, ap, subst, ℕ, true, cond, not, List, [], ◌++◌, fold, Option, Some, None}
 use Rattle.std.specs.Option.{is_some, option_map_or}
 use Rattle.zq_message.specs.declared.message.Region.{Region}
 use Rattle.std.specs.BTreeSet.{insert_key}
@@ -14,17 +14,17 @@ use Rattle.zq_hat.specs.Routers.{losing, networked}
 use Rattle.zq_hat.specs.State.{HatState}
 use Rattle.zq_machine.specs.declared.call.Refusal.TheVariants as refusal
 use Rattle.zq_machine.specs.Deciding.{accepted, refusal_of}
-use Rattle.zq_machine.specs.State.{State, change_hat, hat_at}
+use Rattle.zq_machine.specs.State.{State, change_hat, has_hat, hat_at}
 use Rattle.zq_machine.specs.TextCalls.{networking}
 use Rattle.zq_machine.specs.Trees.{all_own_told, networked_told}
 use Rattle.zq_machine.proofs.DueHeard.{AreTexts, touched_texts}
+use Rattle.zq_calls.specs.Gathering.{Gathers}
 use Rattle.zq_calls.specs.Making.{IsReached}
 use Rattle.zq_calls.proofs.Reached.{reached_in_order}
-use Rattle.zq_calls.proofs.Due.{Gathers}
 
 -- the region has a hat: nothing refuses
-pub network_fits : (s : State) (r : Region) (net : Network) (first : HatState) → hat_at r s.core.hats ≡ Some first → refusal_of s.core (networking r net) ≡ None
-network_fits s r net first there = ap (λ (o : Option HatState). cond (not (is_some o)) (Some refusal.UnknownRegion) None) there
+pub network_fits : (s : State) (r : Region) (net : Network) → has_hat r s.core ≡ true → refusal_of s.core (networking r net) ≡ None
+network_fits s r net there = ap (λ b. cond (not b) (Some refusal.UnknownRegion) None) there
 
 -- what its body gathers
 pub network_gathers : (s : State) (r : Region) (net : Network) (hats : List (ℕ × HatState)) → hats ≡ s.core.hats → (first : HatState) → hat_at r hats ≡ Some first
@@ -48,4 +48,4 @@ network_gathers s r net hats same first there tree ts is_tree is ears kept_is in
 -- the keys that it looks at are keys
 pub network_keys : (s : State) → IsReached s → (r : Region) (net : Network) (first : HatState) → hat_at r s.core.hats ≡ Some first → (keys : List (List ℕ)) → keys ≡ losing net first → AreTexts keys
 network_keys s i r net first there keys are =
-    subst AreTexts (ap (λ (o : Option HatState). option_map_or (losing net) o []) there ∙ sym are) (touched_texts s.core (reached_in_order s i).worded (networking r net) (network_fits s r net first there))
+    subst AreTexts (ap (λ (o : Option HatState). option_map_or (losing net) o []) there ∙ sym are) (touched_texts s.core (reached_in_order s i).worded (networking r net) (network_fits s r net (ap is_some there)))

@@ -1,5 +1,5 @@
 -- What refuses an opening, what it is told, and what it leaves.
-use Rattle.std.proofs.Common.{◌≡◌, ◌∙◌, refl, sym, ap, true, false, not, cond, List, [], ◌∷◌, map, Some, None}
+use Rattle.std.proofs.Common.{◌≡◌, ◌∙◌, refl, sym, ap, true, false, not, List, [], ◌∷◌, map, None}
 use Rattle.zq_trees.specs.declared.types.Telling.{Telling as TreeTelling}
 use Rattle.zq_trees.specs.Tellings.{in_order}
 use Rattle.zq_tables.specs.Naming.{NamingState}
@@ -19,8 +19,9 @@ use Rattle.zq_machine.specs.State.{State, has_hat, is_full_region}
 use Rattle.zq_machine.specs.TextCalls.{opening}
 use Rattle.zq_machine.specs.Writing.{tell}
 use Rattle.zq_handing.specs.Telling.{behind}
+use Rattle.zq_calls.specs.Gathering.{Gathers, OnlyIdsLack}
 use Rattle.zq_calls.specs.Making.{IsReached}
-use Rattle.zq_calls.proofs.Due.{Gathers, due, told_answered, told_left}
+use Rattle.zq_calls.proofs.Due.{due, told_answered, told_left}
 use Rattle.zq_calls.proofs.Reached.{reached_in_order}
 use Rattle.zq_machine.proofs.Gates.{none_next}
 use Rattle.zq_machine.proofs.Keeping.{same_looked}
@@ -32,15 +33,10 @@ reached_ungated s i = none_next s.gates s.core.next_face (reached_in_order s i).
 
 module _ (s : State) (i : IsReached s) (o : Opening) where
   module _ (there : has_hat o.region s.core ≡ true) (sound : is_sound o ≡ true) (room : is_full_region o.region s.core ≡ false) (free : lacks_face_number s.core ≡ false) where
-    past_number : refusal_of s.core (opening o) ≡ cond (lacks_told s.core (opening o)) (Some refusal.NoFreeId) None
-    past_number =
+    -- nothing refuses it but ids that lack
+    pub opening_only : OnlyIdsLack s.core (opening o)
+    opening_only =
         λ j. first_of ((not (there j), refusal.UnknownRegion) ∷ (not (sound j), refusal.InvalidKeyExpr) ∷ (room j, refusal.UpstreamInUse) ∷ (free j, refusal.NoFreeId) ∷ (lacks_told s.core (opening o), refusal.NoFreeId) ∷ [])
-
-    pub opening_fits : lacks_told s.core (opening o) ≡ false → refusal_of s.core (opening o) ≡ None
-    opening_fits enough = past_number ∙ ap (λ b. cond b (Some refusal.NoFreeId) None) enough
-
-    pub opening_lacks : lacks_told s.core (opening o) ≡ true → refusal_of s.core (opening o) ≡ Some refusal.NoFreeId
-    opening_lacks lacks = past_number ∙ ap (λ b. cond b (Some refusal.NoFreeId) None) lacks
 
   -- what its body gathers: nothing is told along trees
   pub opening_gathers : (ears : Ears) → ears ≡ opened s.core.next_face s.core.config.start.told s.core.ears → (ints : Interests) → ints ≡ s.core.interests

@@ -1,10 +1,14 @@
 //! Faces that come and go.
-ghost use Rattle.std.specs.Prelude.{Some};
+ghost use Rattle.std.specs.Prelude.{◌≡◌, ◌<◌, ◌+◌, ◌^◌, true, IfOk, Some};
+ghost use Rattle.zq_machine.specs.Gates.{is_sound};
+ghost use Rattle.zq_machine.specs.State.{face_region, has_hat};
 ghost use Rattle.zq_machine.specs.TextCalls.{closing, opening};
+ghost use Rattle.zq_calls.specs.Gathering.{Gathers, OnlyIdsLack};
 ghost use Rattle.zq_calls.specs.Making.{IsReached, Settles};
 
+use crate::leaving::done_telling;
 use crate::tables::Tables;
-use zq_dues::changes::dues_left;
+use zq_dues::changes::{Gathered, dues_left};
 use zq_dues::over::dues_at_opening;
 use zq_gates::FaceGate;
 use zq_gates::gate::is_sound;
@@ -13,7 +17,7 @@ use zq_handing::opening::{join_and_tell, take_back_joined};
 use zq_handing::write::written_finals;
 use zq_key::items::Items;
 use zq_key::memory::OutOfMemory;
-use zq_key::message::FaceId;
+use zq_key::message::{FaceId, Region};
 use zq_machine::call::{Opening, Outcome, Refusal, Step};
 use zq_outgoing::{close_told, enter_told};
 use zq_own::hats;
@@ -39,6 +43,18 @@ impl Tables {
         if self.next_face == u32::MAX {
             return Ok(self.refused(Refusal::NoFreeId));
         }
+        self.enter(asked)
+    }
+
+    // A face that nothing refuses but ids that lack joins the others, is told, and enters its hat.
+    fn enter(&mut self, asked: &Opening) -> Result<Step, OutOfMemory>
+        requires reached { IsReached self.old }
+        requires there { has_hat asked.now.region self.old.core ≡ true }
+        requires sound { is_sound asked.now ≡ true }
+        requires number { self.old.core.next_face + 1 < 2 ^ 32 }
+        requires ids { OnlyIdsLack self.old.core (opening asked.now) }
+        ensures { Settles self.old self.new (opening asked.now) result }
+    {
         let face = FaceId(self.next_face);
         let gate = FaceGate::for_opening(self.alloc, asked)?;
         let dues = dues_at_opening(self.alloc, &self.hats, face, opened(asked))?;
@@ -80,18 +96,12 @@ impl Tables {
         }
     }
 
-    /// A face is closed: its entries are let go, it gives up its numbers, and own entries that it
-    /// changes are told.
-    pub fn close(&mut self, face: FaceId) -> Result<Step, OutOfMemory>
-        requires { IsReached self.old }
-        ensures { Settles self.old self.new (closing face) result }
+    // What the closing of a face tells.
+    fn closing_found(&self, region: Region, face: FaceId) -> Result<Gathered, OutOfMemory>
+        requires reached { IsReached self.now }
+        requires home { face_region face.0 self.now.core ≡ Some region }
+        ensures { IfOk result (λ f. Gathers self.now.core (closing face) self.now.core.ears f.dues f.told) }
     {
-        let Some(region) = self.region_of(face) else {
-            return Ok(self.refused(Refusal::UnknownFace));
-        };
-        let last = self.queries.would_close(face)?;
-        let finals = written_finals(self.alloc, last.as_slice())?;
-        let count = finals.len();
         let hat = hats::home(&self.hats, region, face);
         let mut told = Items::new(self.alloc);
         tell_left(&self.hats, region, hat, face, &mut told)?;
@@ -104,6 +114,23 @@ impl Tables {
             hat,
             face,
         )?;
+        Ok(Gathered { told, dues })
+    }
+
+    /// A face is closed: its entries are let go, it gives up its numbers, and own entries that it
+    /// changes are told.
+    pub fn close(&mut self, face: FaceId) -> Result<Step, OutOfMemory>
+        requires { IsReached self.old }
+        ensures { Settles self.old self.new (closing face) result }
+    {
+        let Some(region) = self.region_of(face) else {
+            return Ok(self.refused(Refusal::UnknownFace));
+        };
+        let last = self.queries.would_close(face)?;
+        let finals = written_finals(self.alloc, last.as_slice())?;
+        let count = finals.len();
+        let found = self.closing_found(region, face)?;
+        let Gathered { told, dues } = found;
         let all = match tell_all(
             self.alloc,
             &self.faces,
@@ -124,11 +151,10 @@ impl Tables {
                 let _ = self.faces.remove(&face.0);
                 self.interests.close(face);
                 self.names.close(face);
-                self.ears.put(all.plan.as_slice());
-                self.ears.close(face);
                 self.gates.close(face);
-                let gone = self.gates.pass(all.handed, exits);
-                Ok(self.told(gone))
+                let step = done_telling(&mut self.ears, &mut self.gates, all, exits);
+                self.ears.close(face);
+                Ok(step)
             }
             Err(_) => {
                 take_back(&mut self.names, &mut self.ears, &all, count);

@@ -5,12 +5,15 @@ ghost use Rattle.zq_machine.specs.declared.call.Call.TheVariants as call;
 ghost use Rattle.zq_machine.specs.Selecting.{full_text};
 ghost use Rattle.zq_machine.specs.TextCalls.{hearing, unhearing};
 ghost use Rattle.zq_handing.specs.Neighbours.{is_fresh};
-ghost use Rattle.zq_calls.specs.Asking.{asking_refusal};
+ghost use Rattle.zq_calls.specs.Asking.{asking_refusal, interest_looks, manner_of, said_by, said_key};
+ghost use Rattle.zq_calls.specs.Gathering.{OnlyIdsLack};
 ghost use Rattle.zq_calls.specs.Making.{IsReached, Performs, Settles};
 
+use crate::leaving::done_telling;
 use crate::tables::Tables;
 use std::alloc::Global;
 use zq_dues::asked::{dues_asked, dues_ended};
+use zq_dues::types::DuesList;
 use zq_handing::answers::{hold_and_answer, take_back_answered, tell_end};
 use zq_handing::neighbours::take_back;
 use zq_handing::read::key_said;
@@ -31,6 +34,7 @@ fn key_asked(
     said: &Option<Said>,
 ) -> Result<Result<Option<Key>, Refusal>, OutOfMemory>
     ensures key { IfOk result (λ r. IfOk r (λ k. k ≡ option_map full_text said.now)) }
+    ensures says { IfOk result (λ r. IfOk r (λ k. said.now ≡ said_key k)) }
     ensures valid { IfOk result (λ r. IfOk r (λ k. asking_refusal said.now ≡ None)) }
     ensures refused { IfOk result (λ r. IfErr r (λ x. asking_refusal said.now ≡ Some x)) }
 {
@@ -91,6 +95,23 @@ impl Tables {
             opened,
             &entry,
         )?;
+        self.answer_interest(face, id, entry, dues)
+    }
+
+    // An interest that nothing refuses but ids that lack is answered by what it looks at, and is put in
+    // place.
+    fn answer_interest(
+        &mut self,
+        face: FaceId,
+        id: u32,
+        entry: InterestEntry,
+        dues: DuesList,
+    ) -> Result<Step, OutOfMemory>
+        requires reached { IsReached self.old }
+        requires ids { OnlyIdsLack self.old.core (hearing face id (manner_of entry) (said_by entry)) }
+        requires dues { dues ≡ interest_looks self.old.core face id (manner_of entry) (said_by entry) }
+        ensures { Settles self.old self.new (hearing face id (manner_of entry) (said_by entry)) result }
+    {
         let held = entry.key.as_ref();
         let fresh = self.is_fresh(face, id, held);
         let asked = WithInterest {
@@ -123,11 +144,7 @@ impl Tables {
             id,
             entry,
         ) {
-            Ok(exits) => {
-                self.ears.put(all.plan.as_slice());
-                let gone = self.gates.pass(all.handed, exits);
-                Ok(self.told(gone))
-            }
+            Ok(exits) => Ok(done_telling(&mut self.ears, &mut self.gates, all, exits)),
             Err(_) => {
                 take_back_answered(&mut self.names, &mut self.ears, &all, face, id, fresh);
                 Err(OutOfMemory)
@@ -190,9 +207,7 @@ impl Tables {
             Ok(exits) => {
                 self.interests.end(face, id);
                 self.names.release_interest(face, id);
-                self.ears.put(all.plan.as_slice());
-                let gone = self.gates.pass(all.handed, exits);
-                Ok(self.told(gone))
+                Ok(done_telling(&mut self.ears, &mut self.gates, all, exits))
             }
             Err(_) => {
                 take_back(&mut self.names, &mut self.ears, &all, 0);

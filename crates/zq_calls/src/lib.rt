@@ -5,7 +5,7 @@
 //! - `faces`: faces that come and go
 //! - `interests`: what faces ask to hear
 //! - `keys`: numbers that faces declare for keys
-//! - `leaving`: messages of requests, replies and finals go out through the gates of their faces
+//! - `leaving`: messages go out through the gates of their faces
 //! - `networks`: networks of regions of routers, and what node numbers stand for
 //! - `queryables`: queryables that faces declare and withdraw, and marks of what they have declared
 //! - `routers`: what routers announce and retract

@@ -1,12 +1,19 @@
 //! Networks of regions of routers, and what the node numbers of faces stand for.
+ghost use Rattle.std.specs.Prelude.{◌≡◌, true, Some};
+ghost use Rattle.zq_trees.specs.Entries.{staying, without_routers};
+ghost use Rattle.zq_trees.specs.Nets.{is_listed};
+ghost use Rattle.zq_hat.specs.State.{HatState};
+ghost use Rattle.zq_machine.specs.State.{has_hat, hat_at};
 ghost use Rattle.zq_machine.specs.TextCalls.{networking, tabling};
+ghost use Rattle.zq_calls.specs.Gathering.{Gathers};
 ghost use Rattle.zq_calls.specs.Making.{IsReached, Settles};
 
+use crate::leaving::done_telling;
 use crate::tables::Tables;
-use zq_dues::changes::dues_on_all;
+use zq_dues::changes::{Gathered, dues_on_all};
 use zq_dues::types::HatChange;
 use zq_handing::neighbours::{take_back, tell_all};
-use zq_hat::types::{Change, Network, NodeIds};
+use zq_hat::types::{Change, Network, NodeIds, ZidList};
 use zq_key::items::Items;
 use zq_key::memory::OutOfMemory;
 use zq_key::message::{FaceId, Region};
@@ -58,6 +65,28 @@ impl Tables {
             &self.interests,
             keys.as_slice(),
         )?;
+        match next.change {
+            Change::Networked(net) => self.put_network(region, net, gone, Gathered { told, dues }),
+            _ => unreachable!(),
+        }
+    }
+
+    // A network tells what it changes, and is put in place; the entries go of the routers that it does
+    // not list.
+    fn put_network(
+        &mut self,
+        region: Region,
+        net: Net,
+        gone: ZidList,
+        found: Gathered,
+    ) -> Result<Step, OutOfMemory>
+        requires reached { IsReached self.old }
+        requires there { has_hat region self.old.core ≡ true }
+        requires gone { (h : HatState) → hat_at region self.old.core.hats ≡ Some h → without_routers gone h.entries ≡ staying (is_listed net) h.entries }
+        requires found { Gathers self.old.core (networking region net) self.old.core.ears found.dues found.told }
+        ensures { Settles self.old self.new (networking region net) result }
+    {
+        let Gathered { told, dues } = found;
         let none = Items::new(self.alloc);
         let all = match tell_all(
             self.alloc,
@@ -73,21 +102,15 @@ impl Tables {
             Err(TellRefusal::NoFreeId) => unreachable!(),
             Err(TellRefusal::OutOfMemory) => return Err(OutOfMemory),
         };
-        let exits = match let_told_out(&mut self.gates, &all.handed) {
-            Ok(exits) => exits,
-            Err(error) => {
-                take_back(&mut self.names, &mut self.ears, &all, 0);
-                return Err(error);
-            }
-        };
-        match next.change {
-            Change::Networked(net) => {
+        match let_told_out(&mut self.gates, &all.handed) {
+            Ok(exits) => {
                 hats::put_network(&mut self.hats, region, net, gone.as_slice());
-                self.ears.put(all.plan.as_slice());
-                let passed = self.gates.pass(all.handed, exits);
-                Ok(self.told(passed))
+                Ok(done_telling(&mut self.ears, &mut self.gates, all, exits))
             }
-            _ => unreachable!(),
+            Err(_) => {
+                take_back(&mut self.names, &mut self.ears, &all, 0);
+                Err(OutOfMemory)
+            }
         }
     }
 }

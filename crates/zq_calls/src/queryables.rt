@@ -1,17 +1,22 @@
 //! Queryables that faces declare and withdraw, and marks of what they have declared.
-ghost use Rattle.std.specs.Prelude.{Some};
+ghost use Rattle.std.specs.Prelude.{◌≡◌, None, Some};
 ghost use Rattle.zq_machine.specs.declared.call.Call.TheVariants as call;
+ghost use Rattle.zq_machine.specs.Deciding.{refusal_of};
+ghost use Rattle.zq_machine.specs.State.{face_region};
 ghost use Rattle.zq_machine.specs.TextCalls.{declaring, finalizing, withdrawing};
+ghost use Rattle.zq_calls.specs.Gathering.{Gathers, OnlyIdsLack};
 ghost use Rattle.zq_calls.specs.Making.{IsReached, Performs, Settles};
 
+use crate::leaving::done_telling;
 use crate::tables::Tables;
-use zq_dues::changes::gather;
+use zq_dues::changes::{Gathered, gather};
 use zq_handing::neighbours::{hold_and_tell, take_back, take_back_held, tell_all};
 use zq_handing::read::{key_said, marks_key};
 use zq_hat::types::{Change, FinalMark};
+use zq_key::Key;
 use zq_key::items::Items;
 use zq_key::memory::OutOfMemory;
-use zq_key::message::{FaceId, QueryableInfoType, WireExpr};
+use zq_key::message::{FaceId, QueryableInfoType, Region, WireExpr};
 use zq_machine::call::{Refusal, Step};
 use zq_outgoing::{register_told, withdraw_told};
 use zq_own::hats;
@@ -53,8 +58,27 @@ impl Tables {
             change,
             key.as_str(),
         )?;
-        let told = found.told;
-        let dues = found.dues;
+        self.put_queryable(region, face, id, &key, info, node, found)
+    }
+
+    // A queryable that nothing refuses but ids that lack is held and told, and put in place.
+    fn put_queryable(
+        &mut self,
+        region: Region,
+        face: FaceId,
+        id: u32,
+        key: &Key,
+        info: QueryableInfoType,
+        node: u16,
+        found: Gathered,
+    ) -> Result<Step, OutOfMemory>
+        requires reached { IsReached self.old }
+        requires home { face_region face.0 self.old.core ≡ Some region }
+        requires ids { OnlyIdsLack self.old.core (declaring face id (Said.Full key.now) info node) }
+        requires found { Gathers self.old.core (declaring face id (Said.Full key.now) info node) self.old.core.ears found.dues found.told }
+        ensures { Settles self.old self.new (declaring face id (Said.Full key.now) info node) result }
+    {
+        let Gathered { told, dues } = found;
         let fresh = !self.names.holds_queryable(face, id);
         let all = match hold_and_tell(
             self.alloc,
@@ -64,7 +88,7 @@ impl Tables {
             &mut self.ears,
             face,
             id,
-            &key,
+            key,
             dues.as_slice(),
             told,
         ) {
@@ -79,15 +103,11 @@ impl Tables {
             region,
             face,
             id,
-            &key,
+            key,
             node,
             info,
         ) {
-            Ok(exits) => {
-                self.ears.put(all.plan.as_slice());
-                let gone = self.gates.pass(all.handed, exits);
-                Ok(self.told(gone))
-            }
+            Ok(exits) => Ok(done_telling(&mut self.ears, &mut self.gates, all, exits)),
             Err(_) => {
                 take_back_held(&mut self.names, &mut self.ears, &all, face, id, fresh);
                 Err(OutOfMemory)
@@ -123,8 +143,25 @@ impl Tables {
             change,
             key,
         )?;
-        let told = found.told;
-        let dues = found.dues;
+        self.remove_queryable(region, face, id, node, found)
+    }
+
+    // A queryable that nothing refuses to withdraw is told to be gone, and is let go.
+    fn remove_queryable(
+        &mut self,
+        region: Region,
+        face: FaceId,
+        id: u32,
+        node: u16,
+        found: Gathered,
+    ) -> Result<Step, OutOfMemory>
+        requires reached { IsReached self.old }
+        requires home { face_region face.0 self.old.core ≡ Some region }
+        requires fits { refusal_of self.old.core (withdrawing face id) ≡ None }
+        requires found { Gathers self.old.core (withdrawing face id) self.old.core.ears found.dues found.told }
+        ensures { Settles self.old self.new (withdrawing face id) result }
+    {
+        let Gathered { told, dues } = found;
         let none = Items::new(self.alloc);
         let all = match tell_all(
             self.alloc,
@@ -151,9 +188,7 @@ impl Tables {
         ) {
             Ok(exits) => {
                 self.names.release_queryable(face, id);
-                self.ears.put(all.plan.as_slice());
-                let gone = self.gates.pass(all.handed, exits);
-                Ok(self.told(gone))
+                Ok(done_telling(&mut self.ears, &mut self.gates, all, exits))
             }
             Err(_) => {
                 take_back(&mut self.names, &mut self.ears, &all, 0);

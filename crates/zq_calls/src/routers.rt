@@ -1,23 +1,42 @@
 //! What routers announce and retract.
-ghost use Rattle.std.specs.Prelude.{◌≡◌, true};
-ghost use Rattle.zq_machine.specs.State.{hat_at};
+ghost use Rattle.std.specs.Prelude.{◌≡◌, true, IfErr, IfOk, Some};
+ghost use Rattle.std.specs.Option.{is_some};
+ghost use Rattle.zq_machine.specs.Deciding.{accepted, refusal_of};
+ghost use Rattle.zq_machine.specs.State.{change_hat, hat_at};
 ghost use Rattle.zq_machine.specs.TextCalls.{by_router};
+ghost use Rattle.zq_own.specs.Routers.{entered};
+ghost use Rattle.zq_calls.specs.Gathering.{Gathers, OnlyIdsLack};
 ghost use Rattle.zq_calls.specs.Making.{IsReached, Settles};
 ghost use Rattle.zq_calls.specs.Routing.{entering};
 
+use crate::leaving::done_telling;
 use crate::tables::Tables;
 use zq_dues::changes::dues_on;
+use zq_dues::types::DuesList;
 use zq_handing::neighbours::{take_back, tell_all};
 use zq_handing::read::key_said;
+use zq_hat::types::TellingList;
+use zq_key::Key;
 use zq_key::items::Items;
 use zq_key::memory::OutOfMemory;
-use zq_key::message::{FaceId, NodeId, QueryableInfoType};
+use zq_key::message::{FaceId, NodeId, QueryableInfoType, Region, Zid};
 use zq_machine::call::{Refusal, Step};
 use zq_outgoing::put_entry_told;
 use zq_own::hats;
 use zq_own::routers::{entry_change, entry_tellings, lacks_entry, router_of};
 use zq_tables::said::Said;
 use zq_told::types::TellRefusal;
+
+// A change of a router's entry on a key, in a region, and what it tells: along trees, and of what
+// will be due to faces.
+#[derive(Drop)]
+struct EntryFound {
+    region: Region,
+    router: Zid,
+    key: Key,
+    told: TellingList,
+    dues: DuesList,
+}
 
 impl Tables {
     // Whether the face's region is one of routers.
@@ -33,6 +52,55 @@ impl Tables {
         }
     }
 
+    // What a change of a router's entry tells, or what refuses it before ids are given for that.
+    fn entry_found(
+        &self,
+        face: FaceId,
+        said: &Said,
+        info: Option<QueryableInfoType>,
+        node: NodeId,
+    ) -> Result<Result<EntryFound, Refusal>, OutOfMemory>
+        requires reached { IsReached self.now }
+        requires routing { by_router face self.now.core ≡ true }
+        ensures refused { IfOk result (λ r. IfErr r (λ x. refusal_of self.now.core (entering face said.now info node) ≡ Some x)) }
+        ensures ids { IfOk result (λ r. IfOk r (λ f. OnlyIdsLack self.now.core (entering face said.now info node))) }
+        ensures found { IfOk result (λ r. IfOk r (λ f. Gathers self.now.core (entering face said.now info node) self.now.core.ears f.dues f.told)) }
+        ensures hats { IfOk result (λ r. IfOk r (λ f. (accepted self.now.core (entering face said.now info node)).hats ≡ change_hat f.region (entered f.router f.key info) self.now.core.hats)) }
+        ensures there { IfOk result (λ r. IfOk r (λ f. is_some (hat_at f.region self.now.core.hats) ≡ true)) }
+    {
+        let Some(region) = self.region_of(face) else {
+            return Ok(Err(Refusal::UnknownFace));
+        };
+        let key = match key_said(self.alloc, said)? {
+            Ok(key) => key,
+            Err(refusal) => return Ok(Err(refusal)),
+        };
+        let hat = hats::home(&self.hats, region, face);
+        let Some(router) = router_of(hat, self.config.zid(), face, node) else {
+            return Ok(Err(Refusal::UnknownRouter));
+        };
+        if lacks_entry(hat, router, key.as_str(), info) {
+            return Ok(Err(Refusal::UnknownId));
+        }
+        let told = entry_tellings(&self.hats, region, hat, face, router, key.as_str(), info)?;
+        let dues = dues_on(
+            self.alloc,
+            &self.faces,
+            &self.hats,
+            &self.interests,
+            region,
+            entry_change(router, info),
+            key.as_str(),
+        )?;
+        Ok(Ok(EntryFound {
+            region,
+            router,
+            key,
+            told,
+            dues,
+        }))
+    }
+
     // A router has this entry on a key from now on, or has none.
     pub(crate) fn change_entry(
         &mut self,
@@ -45,30 +113,17 @@ impl Tables {
         requires routing { by_router face self.old.core ≡ true }
         ensures { Settles self.old self.new (entering face said.now info node) result }
     {
-        let Some(region) = self.region_of(face) else {
-            return Ok(self.refused(Refusal::UnknownFace));
-        };
-        let key = match key_said(self.alloc, said)? {
-            Ok(key) => key,
+        let found = match self.entry_found(face, said, info, node)? {
+            Ok(found) => found,
             Err(refusal) => return Ok(self.refused(refusal)),
         };
-        let hat = hats::home(&self.hats, region, face);
-        let Some(router) = router_of(hat, self.config.zid(), face, node) else {
-            return Ok(self.refused(Refusal::UnknownRouter));
-        };
-        if lacks_entry(hat, router, key.as_str(), info) {
-            return Ok(self.refused(Refusal::UnknownId));
-        }
-        let told = entry_tellings(&self.hats, region, hat, face, router, key.as_str(), info)?;
-        let dues = dues_on(
-            self.alloc,
-            &self.faces,
-            &self.hats,
-            &self.interests,
+        let EntryFound {
             region,
-            entry_change(router, info),
-            key.as_str(),
-        )?;
+            router,
+            key,
+            told,
+            dues,
+        } = found;
         let all = match tell_all(
             self.alloc,
             &self.faces,
@@ -92,11 +147,7 @@ impl Tables {
             &key,
             info,
         ) {
-            Ok(exits) => {
-                self.ears.put(all.plan.as_slice());
-                let gone = self.gates.pass(all.handed, exits);
-                Ok(self.told(gone))
-            }
+            Ok(exits) => Ok(done_telling(&mut self.ears, &mut self.gates, all, exits)),
             Err(_) => {
                 take_back(&mut self.names, &mut self.ears, &all, 0);
                 Err(OutOfMemory)

@@ -4,7 +4,7 @@ ghost use Rattle.zq_query.specs.Records.{flies, pending_count};
 ghost use Rattle.zq_machine.specs.Asked.{replies_of};
 ghost use Rattle.std.specs.List.{cons_option};
 ghost use Rattle.zq_machine.specs.declared.call.Call.TheVariants as call;
-ghost use Rattle.zq_machine.specs.Calls.{declared_call, declaring_call};
+ghost use Rattle.zq_machine.specs.Calls.{declared_call};
 ghost use Rattle.zq_machine.specs.Machine.{after, done, refused_step, step};
 ghost use Rattle.zq_machine.specs.State.{at, face_region, is_open, opening_state};
 ghost use Rattle.zq_machine.specs.TextCalls.{listing};
@@ -25,7 +25,7 @@ use zq_key::message::{Declare, DeclareBody, FaceId, Region, Request, Response};
 use zq_machine::call::{Call, Outcome, Refusal, Step};
 use zq_machine::config::Config;
 use zq_machine::face::OpenFace;
-use zq_machine::handed::{Handed, HandedList};
+use zq_machine::handed::Handed;
 use zq_own::hats;
 use zq_query::queries::Queries;
 use zq_query::records::PollRefusal;
@@ -199,7 +199,20 @@ impl Tables {
         requires reached { IsReached self.old }
         ensures { MayPerform self.old self.new (declared_call face msg.now) result }
     {
-        self.declare(face, msg.node, msg.interest, &msg.body)
+        match &msg.body {
+            DeclareBody::DeclareKeyExpr { id, wire } => self.name_key(face, *id, wire),
+            DeclareBody::UndeclareKeyExpr { id } => self.undeclare_key(face, *id),
+            DeclareBody::DeclareQueryable { id, wire, info } => {
+                self.register(face, *id, wire, *info, msg.node)
+            }
+            DeclareBody::UndeclareQueryable { id, wire } => {
+                self.unregister(face, *id, wire, msg.node)
+            }
+            DeclareBody::DeclareFinal => match msg.interest {
+                Some(0) => self.finalize(face, &FinalMark::Initial, true),
+                _ => Ok(self.done()),
+            },
+        }
     }
 
     /// A target ends a query. It takes no memory.
@@ -249,25 +262,17 @@ impl Tables {
         self.queries.first_in_flight(number)
     }
 
-    // How many entries a moment would let go: a call at it hands no more replies than that.
-    #[tactic(auto, using(crate::proofs::Passing::passing_hands, crate::proofs::Passing::lacking_hands))]
-    fn late_entries(&self, now: u64) -> Result<usize, OutOfMemory>
-        ensures { IfOk result (λ n. length (replies_of (step self.now (call.Poll now))) ≤ n) }
-    {
-        match self.queries.would_poll(now) {
-            Ok(timeouts) => Ok(timeouts.as_slice().len()),
-            Err(PollRefusal::NoFreeId) => Ok(0),
-            Err(PollRefusal::OutOfMemory) => Err(OutOfMemory),
-        }
-    }
-
     /// At most how many replies the call would hand, and so put in flight.
-    #[tactic(auto, using(crate::proofs::Passing::response_hands, crate::proofs::Passing::others_hand))]
+    #[tactic(auto, using(crate::proofs::Passing::passing_hands, crate::proofs::Passing::lacking_hands, crate::proofs::Passing::response_hands, crate::proofs::Passing::others_hand))]
     pub fn most_replies(&self, call: &Call) -> Result<usize, OutOfMemory>
         ensures { IfOk result (λ n. length (replies_of (step self.now call.now)) ≤ n) }
     {
         match call {
-            Call::Poll { now } => self.late_entries(*now),
+            Call::Poll { now } => match self.queries.would_poll(*now) {
+                Ok(timeouts) => Ok(timeouts.as_slice().len()),
+                Err(PollRefusal::NoFreeId) => Ok(0),
+                Err(PollRefusal::OutOfMemory) => Err(OutOfMemory),
+            },
             Call::Response { .. } => Ok(1),
             _ => Ok(0),
         }
@@ -285,15 +290,9 @@ impl Tables {
     pub(crate) fn done(&self) -> Step
         ensures { result ≡ done [] }
     {
-        self.told(Items::new(self.alloc))
-    }
-
-    pub(crate) fn told(&self, handed: HandedList) -> Step
-        ensures { result ≡ done handed }
-    {
         Step {
             outcome: Outcome::Done,
-            handed,
+            handed: Items::new(self.alloc),
         }
     }
 
@@ -326,31 +325,6 @@ impl Tables {
         match self.faces.get(&face.0) {
             Some(opened) => Some(*opened),
             None => None,
-        }
-    }
-
-    // A declaration, by its kind.
-    pub(crate) fn declare(
-        &mut self,
-        face: FaceId,
-        node: u16,
-        interest: Option<u32>,
-        body: &DeclareBody,
-    ) -> Result<Step, OutOfMemory>
-        requires reached { IsReached self.old }
-        ensures { MayPerform self.old self.new (declaring_call face node interest body.now) result }
-    {
-        match body {
-            DeclareBody::DeclareKeyExpr { id, wire } => self.name_key(face, *id, wire),
-            DeclareBody::UndeclareKeyExpr { id } => self.undeclare_key(face, *id),
-            DeclareBody::DeclareQueryable { id, wire, info } => {
-                self.register(face, *id, wire, *info, node)
-            }
-            DeclareBody::UndeclareQueryable { id, wire } => self.unregister(face, *id, wire, node),
-            DeclareBody::DeclareFinal => match interest {
-                Some(0) => self.finalize(face, &FinalMark::Initial, true),
-                _ => Ok(self.done()),
-            },
         }
     }
 

@@ -1,44 +1,28 @@
-use Rattle.std.proofs.Common.{◌≡◌, ◌∙◌, refl, sym, ap, subst, ℕ, false, true, List, map, Option, Some, None, Result, Err}
-use Rattle.std.specs.Prelude.{IfOk, option_copied}
-use Rattle.std.specs.List.{AllByRecursion}
+use Rattle.std.proofs.Common.{◌≡◌, ◌∙◌, sym, ap, subst, ℕ, false, true, List, Option, Some, None, Result}
+use Rattle.std.specs.Prelude.{IfOk}
 use Rattle.std.specs.Option.{is_some, option_map}
 use Rattle.zq_tables.specs.declared.said.Said.{Said}
-use Rattle.zq_interests.specs.Interests.{asks_another, has_keyed, with_interest}
-use Rattle.zq_told.specs.Rooms.{ears_of}
-use Rattle.zq_told.specs.declared.types.Way.TheVariants.{Answering}
-use Rattle.zq_told.specs.Telling.{put_plan, tell_faces}
-use Rattle.zq_trees.specs.Tellings.{in_order}
+use Rattle.zq_interests.specs.Interests.{asks_another, with_interest}
 use Rattle.zq_machine.specs.declared.call.Refusal.{Refusal}
-use Rattle.zq_machine.specs.declared.call.Refusal.TheVariants as refusal
 use Rattle.zq_machine.specs.Deciding.{accepted}
 use Rattle.zq_machine.specs.Selecting.{Manner, asked_by, full_text}
-use Rattle.zq_machine.specs.declared.call.Outcome.TheVariants as outcome
-use Rattle.zq_machine.specs.Machine.{done}
-use Rattle.zq_machine.specs.Messages.{answered_by, from_hat}
 use Rattle.zq_machine.specs.Neighbours.{asked_at}
-use Rattle.zq_machine.specs.Writing.{Told}
-use Rattle.zq_machine.specs.State.{Core, State, at, is_open}
+use Rattle.zq_machine.specs.State.{State, at, is_open}
 use Rattle.zq_machine.specs.TextCalls.{hearing}
-use Rattle.zq_handing.specs.Neighbours.{asked_back, asking}
-use Rattle.zq_handing.proofs.Held.{asked_out}
-use Rattle.zq_calls.specs.Asking.{asking_refusal}
-use Rattle.zq_calls.proofs.Asking.{asked_answered, asked_keys, asked_lacks, asked_left, asked_settled, hearing_fits, hearing_lacks, looked}
-use Rattle.zq_calls.proofs.Due.{refused_answered, refused_left}
-use Rattle.zq_calls.proofs.GoneOut.{each_told, goes_out, stays_out}
-use Rattle.zq_outgoing.specs.Gone.{IsTold}
-use Rattle.zq_machine.proofs.Asks.{is_asking}
+use Rattle.zq_calls.specs.Asking.{asking_refusal, interest_looks, said_key}
+use Rattle.zq_calls.specs.Gathering.{OnlyIdsLack}
+use Rattle.zq_calls.specs.Making.{Settles}
+use Rattle.zq_calls.proofs.Asking.{hearing_only}
 use Rattle.zq_calls.proofs.tables.Tables.ask_to_hear.Goals as goal
 
-pub hold_and_answer-requires : goal.hold_and_answer-requires
-hold_and_answer-requires c enough =
+pub answer_interest-requires-clause-ids : goal.answer_interest-requires-clause-ids
+answer_interest-requires-clause-ids c =
     let s : State = c.args.self.now in
-    let i = c.self.inside in
     let v = c.self.view_is in
     let face = c.args.face in
     let id = c.args.id in
     let m : Manner = record { keys = c.args.keys; aggregate = c.args.aggregate } in
     let sd : Option Said = c.args.said.now in
-    let t = hearing face id m sd in
     let home : at face.0 s.core.faces ≡ Some c.in-Some.opened = sym c.in-Some.ensures.found in
     let opens : is_open face.0 s.core ≡ true = ap is_some home in
     let key : Option (List ℕ) = c.in-Ok.key in
@@ -47,19 +31,12 @@ hold_and_answer-requires c enough =
     let held = ap (λ (x : State). x.core.interests) v in
     let free : asks_another face.0 id (asked_by m sd).key s.core.interests ≡ false =
     (λ j. asks_another face.0 id (sym (c.as_ref.ensures.value ∙ is) j) (sym held j)) ∙ sym c.asks_another.ensures ∙ c.if-asks_another.false in
-    let dues = c.as_slice.result.now in
-    let are : dues ≡ looked s c.requires face id m sd =
-    c.as_slice.ensures
-    ∙ c.in_ok-dues.ensures (accepted s.core t) home (ap (λ (x : State). x.core.hats) v)
-    ∙ (λ j. asked_at (accepted s.core t) (with_interest face.0 id (record { key = is j; keys = c.args.keys; aggregate = c.args.aggregate }) (held j)) face.0 (record { key = is j; keys = c.args.keys; aggregate = c.args.aggregate })) in
-    let heard : ears_of i.ears ≡ s.core.ears = ap (λ (x : State). x.core.ears) v in
-    let lacks = asked_lacks s c.requires face id m sd (ears_of i.ears) heard dues are in
-    asked_keys s c.requires face id m sd (ears_of i.ears) heard dues are (hearing_fits s.core face id m sd opens valid free (sym lacks ∙ enough))
+    let says : sd ≡ said_key key = subst (λ (x : Result (Option (List ℕ)) Refusal). IfOk x (λ k. sd ≡ said_key k)) c.in-Ok.is c.in_ok-key.ensures.says in
+    subst (λ o. OnlyIdsLack s.core (hearing face id m o)) says (hearing_only s.core face id m sd opens valid free)
 
-pub returns-in-Err-NoFreeId : goal.returns-in-Err-NoFreeId
-returns-in-Err-NoFreeId c =
+pub answer_interest-requires-clause-dues : goal.answer_interest-requires-clause-dues
+answer_interest-requires-clause-dues c =
     let s : State = c.args.self.now in
-    let i = c.self.inside in
     let v = c.self.view_is in
     let face = c.args.face in
     let id = c.args.id in
@@ -67,126 +44,21 @@ returns-in-Err-NoFreeId c =
     let sd : Option Said = c.args.said.now in
     let t = hearing face id m sd in
     let home : at face.0 s.core.faces ≡ Some c.in-Some.opened = sym c.in-Some.ensures.found in
-    let opens : is_open face.0 s.core ≡ true = ap is_some home in
     let key : Option (List ℕ) = c.in-Ok.key in
     let is : key ≡ option_map full_text sd = subst (λ (x : Result (Option (List ℕ)) Refusal). IfOk x (λ k. k ≡ option_map full_text sd)) c.in-Ok.is c.in_ok-key.ensures.key in
-    let valid : asking_refusal sd ≡ None = subst (λ (x : Result (Option (List ℕ)) Refusal). IfOk x (λ k. asking_refusal sd ≡ None)) c.in-Ok.is c.in_ok-key.ensures.valid in
     let held = ap (λ (x : State). x.core.interests) v in
-    let free : asks_another face.0 id (asked_by m sd).key s.core.interests ≡ false =
-    (λ j. asks_another face.0 id (sym (c.as_ref.ensures.value ∙ is) j) (sym held j)) ∙ sym c.asks_another.ensures ∙ c.if-asks_another.false in
-    let dues = c.as_slice.result.now in
-    let are : dues ≡ looked s c.requires face id m sd =
-    c.as_slice.ensures
-    ∙ c.in_ok-dues.ensures (accepted s.core t) home (ap (λ (x : State). x.core.hats) v)
+    let dues = c.in_ok-dues.dues in
+    let are : dues ≡ interest_looks s.core face id m sd =
+    c.in_ok-dues.ensures (accepted s.core t) home (ap (λ (x : State). x.core.hats) v)
     ∙ (λ j. asked_at (accepted s.core t) (with_interest face.0 id (record { key = is j; keys = c.args.keys; aggregate = c.args.aggregate }) (held j)) face.0 (record { key = is j; keys = c.args.keys; aggregate = c.args.aggregate })) in
-    let heard : ears_of i.ears ≡ s.core.ears = ap (λ (x : State). x.core.ears) v in
-    let lacks = asked_lacks s c.requires face id m sd (ears_of i.ears) heard dues are in
-    let e = hearing_lacks s.core face id m sd opens valid free (sym lacks ∙ c.in-Err-NoFreeId.ensures.no_free (ap (λ e. Err e) c.in-Err-NoFreeId.field-0-is)) in
-    let names_back = c.in-Err-NoFreeId.ensures.err ∙ ap (λ (x : State). x.names) v in
-    let ears_back = c.hold_and_answer.ensures.ears ∙ heard in
-    record {
-      step = c.refused-in-Err-NoFreeId.ensures ∙ refused_answered s t refusal.NoFreeId e;
-      after =
-          (λ j. record {
-            core = record { config = (v j).core.config; faces = (v j).core.faces; next_face = (v j).core.next_face; hats = (v j).core.hats; tables = (v j).core.tables; queries = (v j).core.queries; interests = (v j).core.interests; ears = ears_back j };
-            names = names_back j;
-            gates = (v j).gates;
-          })
-          ∙ sym (refused_left s t refusal.NoFreeId e);
-      err = tt;
-    }
-
-pub ask_told-requires : goal.ask_told-requires
-ask_told-requires c =
-    let s : State = c.args.self.now in
-    let i = c.self.inside in
-    let face = c.args.face in
-    let id = c.args.id in
-    let w : Core = record s.core { faces = i.faces.entries; interests = with_interest face.0 id (record { key = c.in-Ok.key; keys = c.args.keys; aggregate = c.args.aggregate }) i.interests } in
-    let ts = answered_by face id (map from_hat (in_order (tell_faces Answering (ears_of i.ears) c.as_slice.result.now).tellings)) in
-    subst (λ (x : Told). AllByRecursion IsTold x.handed) (c.in-Ok-hold_and_answer.ensures.ok w refl (λ f k. refl))
-    (each_told w ts (asking face.0 id (option_copied c.as_ref-held.result) i.names))
-
-pub returns-in-Ok-ask_told : goal.returns-in-Ok-ask_told
-unfolding is_asking
-returns-in-Ok-ask_told c =
-    let s : State = c.args.self.now in
-    let i = c.self.inside in
-    let v = c.self.view_is in
-    let face = c.args.face in
-    let id = c.args.id in
-    let m : Manner = record { keys = c.args.keys; aggregate = c.args.aggregate } in
-    let sd : Option Said = c.args.said.now in
-    let t = hearing face id m sd in
-    let home : at face.0 s.core.faces ≡ Some c.in-Some.opened = sym c.in-Some.ensures.found in
-    let opens : is_open face.0 s.core ≡ true = ap is_some home in
-    let key : Option (List ℕ) = c.in-Ok.key in
-    let is : key ≡ option_map full_text sd = subst (λ (x : Result (Option (List ℕ)) Refusal). IfOk x (λ k. k ≡ option_map full_text sd)) c.in-Ok.is c.in_ok-key.ensures.key in
-    let valid : asking_refusal sd ≡ None = subst (λ (x : Result (Option (List ℕ)) Refusal). IfOk x (λ k. asking_refusal sd ≡ None)) c.in-Ok.is c.in_ok-key.ensures.valid in
-    let held = ap (λ (x : State). x.core.interests) v in
-    let free : asks_another face.0 id (asked_by m sd).key s.core.interests ≡ false =
-    (λ j. asks_another face.0 id (sym (c.as_ref.ensures.value ∙ is) j) (sym held j)) ∙ sym c.asks_another.ensures ∙ c.if-asks_another.false in
-    let dues = c.as_slice.result.now in
-    let are : dues ≡ looked s c.requires face id m sd =
-    c.as_slice.ensures
-    ∙ c.in_ok-dues.ensures (accepted s.core t) home (ap (λ (x : State). x.core.hats) v)
-    ∙ (λ j. asked_at (accepted s.core t) (with_interest face.0 id (record { key = is j; keys = c.args.keys; aggregate = c.args.aggregate }) (held j)) face.0 (record { key = is j; keys = c.args.keys; aggregate = c.args.aggregate })) in
-    let heard : ears_of i.ears ≡ s.core.ears = ap (λ (x : State). x.core.ears) v in
-    let lacks = asked_lacks s c.requires face id m sd (ears_of i.ears) heard dues are in
-    let fits = hearing_fits s.core face id m sd opens valid free (sym lacks ∙ c.in-Ok-hold_and_answer.ensures.free) in
-    let all = c.in-Ok-hold_and_answer.all in
-    let names = ap (λ (x : State). x.names) v in
-    let told =
-    c.in-Ok-hold_and_answer.ensures.ok (accepted s.core t) (sym (ap (λ (x : State). x.core.faces) v))
-    (λ f k. λ j. has_keyed f k (with_interest face.0 id (record { key = is j; keys = c.args.keys; aggregate = c.args.aggregate }) (held j))) in
-    let more = c.in-Ok-ask_told.ensures.ok ∙ (λ j. with_interest face.0 id (record { key = is j; keys = c.args.keys; aggregate = c.args.aggregate }) (held j)) in
-    let kept =
-    c.put.ensures.ears ∙ ap (put_plan c.as_slice-in-Ok-ask_told.result.now) c.hold_and_answer.ensures.ears
-    ∙ asked_left s c.requires face id m sd (ears_of i.ears) heard dues are c.as_slice-in-Ok-ask_told.result.now (c.as_slice-in-Ok-ask_told.ensures ∙ c.in-Ok-hold_and_answer.ensures.plan) in
-    let its_key = c.as_ref-held.ensures.value ∙ is in
-    let held_by = option_copied c.as_ref-held.result in
-    let plain = asked_answered s c.requires face id m sd (ears_of i.ears) heard dues are fits i.names names held_by its_key all.handed c.hold_and_answer.new.names told in
-    let stays = asked_settled s c.requires face id m sd (ears_of i.ears) heard dues are fits i.names names held_by its_key all.handed c.hold_and_answer.new.names told in
-    let w : State = record { core = accepted s.core t; names = c.hold_and_answer.new.names; gates = s.gates } in
-    let same = ap (λ (x : State). x.gates) v in
-    let es = c.in-Ok-ask_told.exits.items in
-    let after = c.ask_told.new.gates in
-    let out = c.in-Ok-ask_told.ensures.out in
-    record {
-      step = c.told.ensures ∙ ap done c.pass-gone.ensures.handed ∙ goes_out s t refl outcome.Done all.handed w plain stays i.gates same es after out;
-      after =
-          (λ j. record {
-            core = record { config = (v j).core.config; faces = (v j).core.faces; next_face = (v j).core.next_face; hats = (v j).core.hats; tables = (v j).core.tables; queries = (v j).core.queries; interests = more j; ears = kept j };
-            names = c.hold_and_answer.new.names;
-            gates = c.pass-gone.ensures.gates j;
-          })
-          ∙ sym (stays_out s t refl outcome.Done all.handed w plain stays i.gates same es after out);
-      err = tt;
-    }
+    let says : sd ≡ said_key key = subst (λ (x : Result (Option (List ℕ)) Refusal). IfOk x (λ k. sd ≡ said_key k)) c.in-Ok.is c.in_ok-key.ensures.says in
+    subst (λ o. dues ≡ interest_looks s.core face id m o) says are
 
 pub returns : goal.returns
 returns c =
     let s : State = c.args.self.now in
-    let i = c.self.inside in
-    let v = c.self.view_is in
-    let face = c.args.face in
-    let id = c.args.id in
-    let names = ap (λ (x : State). x.names) v in
-    let held_by = option_copied c.as_ref-held.result in
-    let fresh = c.is_fresh-fresh.result in
-    let back =
-    c.take_back_answered.ensures.names
-    ∙ ap (asked_back face.0 id fresh) (c.in-Ok-hold_and_answer.ensures.back ∙ ap (asking face.0 id held_by) names)
-    ∙ asked_out face.0 id held_by fresh s.names c.is_fresh-fresh.ensures in
-    let held = c.in-Err-ask_told.ensures.no_interests ∙ ap (λ (x : State). x.core.interests) v in
-    let gates_back = c.in-Err-ask_told.ensures.no_gates ∙ ap (λ (x : State). x.gates) v in
-    let kept = c.take_back_answered.ensures.ears ∙ c.hold_and_answer.ensures.ears ∙ ap (λ (x : State). x.core.ears) v in
-    record {
-      step = tt;
-      after = tt;
-      err = λ j. record {
-        core = record { config = (v j).core.config; faces = (v j).core.faces; next_face = (v j).core.next_face; hats = (v j).core.hats; tables = (v j).core.tables; queries = (v j).core.queries; interests = held j; ears = kept j };
-        names = back j;
-        gates = gates_back j;
-      };
-    }
+    let m : Manner = record { keys = c.args.keys; aggregate = c.args.aggregate } in
+    let sd : Option Said = c.args.said.now in
+    let key : Option (List ℕ) = c.in-Ok.key in
+    let says : sd ≡ said_key key = subst (λ (x : Result (Option (List ℕ)) Refusal). IfOk x (λ k. sd ≡ said_key k)) c.in-Ok.is c.in_ok-key.ensures.says in
+    subst (λ (o : Option Said). Settles s c.answer_interest.new.self (hearing c.args.face c.args.id m o) c.answer_interest.result) (sym says) c.answer_interest.ensures

@@ -1,12 +1,10 @@
-use Rattle.std.proofs.Common.{◌≡◌, ◌∙◌, refl, sym, ap, subst, Err, List, [], ◌++◌, fold, map, Some, true≢false}
+use Rattle.std.proofs.Common.{◌≡◌, ◌∙◌, refl, sym, ap, subst, Err, List, fold, map, Some, true≢false}
 use Rattle.std.specs.BTreeMap.{is_at}
 use Rattle.std.specs.List.{AllByRecursion}
 use Rattle.std.specs.Map.{remove_entry}
-use Rattle.std.specs.Option.{option_map_or}
 use Rattle.std.specs.Ordering.{nat_cmp}
-use Rattle.zq_trees.specs.declared.types.Telling.{Telling as TreeTelling}
 use Rattle.zq_trees.specs.Tellings.{in_order}
-use Rattle.zq_hat.specs.Kept.{keys_of_face, without_face}
+use Rattle.zq_hat.specs.Kept.{without_face}
 use Rattle.zq_interests.specs.Interests.{closed_face, has_keyed}
 use Rattle.zq_query.specs.Closing.{after_close, closing_finals}
 use Rattle.zq_query.specs.Records.{QueryState}
@@ -18,30 +16,21 @@ use Rattle.zq_machine.specs.Deciding.{accepted}
 use Rattle.zq_machine.specs.declared.call.Outcome.TheVariants as outcome
 use Rattle.zq_machine.specs.Gates.{Gates, without_ended}
 use Rattle.zq_machine.specs.Handing.{Handed}
-use Rattle.zq_machine.specs.Machine.{done}
 use Rattle.zq_machine.specs.Messages.{from_hat}
-use Rattle.zq_machine.specs.State.{Core, State, change_hat, face_region, hat_at}
+use Rattle.zq_machine.specs.State.{Core, State, change_hat, face_region}
 use Rattle.zq_machine.specs.TextCalls.{closing}
-use Rattle.zq_machine.specs.Trees.{all_own_told}
 use Rattle.zq_machine.specs.Writing.{Told, sent_final, tell}
 use Rattle.zq_machine.proofs.Writing.{close_fits}
 use Rattle.zq_handing.specs.Neighbours.{told_with}
 use Rattle.zq_handing.specs.Telling.{behind}
-use Rattle.zq_calls.proofs.Seated.{reached_in_place}
 use Rattle.zq_machine.proofs.Asks.{is_asking}
 use Rattle.zq_gates.specs.Exits.{left_by, without_gate}
 use Rattle.zq_outgoing.specs.Gone.{IsTold}
-use Rattle.zq_calls.specs.Making.{IsReached}
-use Rattle.std.specs.BTreeSet.{insert_key}
-use Rattle.zq_index.specs.Texts.{text_cmp}
-use Rattle.zq_calls.proofs.Elsewhere.{beside, beside_at, closing_stays, closing_touches}
-use Rattle.zq_calls.proofs.Due.{Gathers, changed_home, closed_answered, closed_left, closed_out, closing_gathers, due_of_keys, gathered_due, gathered_lacks, gathered_left}
+use Rattle.zq_calls.specs.Gathering.{Gathers}
+use Rattle.zq_calls.proofs.Due.{changed_home, closed_answered, closed_left, closed_out, due_of_keys, gathered_due, gathered_lacks, gathered_left}
 use Rattle.zq_calls.proofs.Reached.{reached_enough}
 use Rattle.zq_calls.proofs.GoneOut.{goes_out, stays_out, told_behind}
 use Rattle.zq_calls.proofs.tables.Tables.close.Goals as goal
-
-pub dues_left-requires-clause-seated : goal.dues_left-requires-clause-seated
-dues_left-requires-clause-seated c = reached_in_place _ (subst IsReached (sym c.self.view_is) c.requires)
 
 pub tell_all-requires : goal.tell_all-requires
 tell_all-requires c enough =
@@ -54,15 +43,9 @@ tell_all-requires c enough =
     let fits = close_fits s face r home in
     let t = closing face in
     let hats = ap (λ (x : State). x.core.hats) v in
-    let keys = keys_of_face face.0 c.home-hat.result.now in
-    let told = c.in_ok-tell_left.ensures ∙ ap (λ (l : List TreeTelling). l ++ all_own_told i.hats (change_hat r (without_face face.0) i.hats) keys) c.new-told.ensures in
-    let ts = c.tell_left.new.told in
+    let ts = c.in_ok-found.found.told in
     let dues = c.as_slice-2.result.now in
-    let changed = ap (change_hat r (without_face face.0)) hats ∙ sym (changed_home face.0 r s.core home (without_face face.0)) in
-    let apart = beside_at (accepted s.core t) hats refl (beside s c.requires t fits (fold (insert_key text_cmp) [] keys) (λ f. ap (fold (insert_key text_cmp) []) (closing_touches s face r home keys (ap (λ o. option_map_or (keys_of_face face.0) o []) (sym (ap (hat_at r) (sym hats) ∙ c.home-hat.ensures.hat))))) refl refl (λ f o on. closing_stays s c.requires face.0 f o on)) in
-    let g : Gathers s.core t (ears_of i.ears) dues ts =
-    closing_gathers s face r home i.hats hats keys (ap (λ o. option_map_or (keys_of_face face.0) o []) (sym c.home-hat.ensures.hat)) ts told (ears_of i.ears) (ap (λ (x : State). x.core.ears) v) i.interests (ap (λ (x : State). x.core.interests) v) dues
-    (c.as_slice-2.ensures ∙ c.in_ok-dues.ensures (accepted s.core t) (sym (ap (λ (x : State). remove_entry (is_at (nat_cmp face.0)) x.core.faces) v)) changed apart) in
+    let g : Gathers s.core t (ears_of i.ears) dues ts = record { is_kept = ap (λ (x : State). x.core.ears) v ∙ c.in_ok-found.ensures.is_kept; is_looked = c.as_slice-2.ensures ∙ c.in_ok-found.ensures.is_looked; is_told = c.in_ok-found.ensures.is_told } in
     due_of_keys s c.requires t refl fits (told_with (ears_of i.ears) dues ts) (gathered_due s.core t refl (ears_of i.ears) dues ts g)
 
 pub unreachable-requires : goal.unreachable-requires
@@ -76,15 +59,9 @@ unreachable-requires c =
     let fits = close_fits s face r home in
     let t = closing face in
     let hats = ap (λ (x : State). x.core.hats) v in
-    let keys = keys_of_face face.0 c.home-hat.result.now in
-    let told = c.in_ok-tell_left.ensures ∙ ap (λ (l : List TreeTelling). l ++ all_own_told i.hats (change_hat r (without_face face.0) i.hats) keys) c.new-told.ensures in
-    let ts = c.tell_left.new.told in
+    let ts = c.in_ok-found.found.told in
     let dues = c.as_slice-2.result.now in
-    let changed = ap (change_hat r (without_face face.0)) hats ∙ sym (changed_home face.0 r s.core home (without_face face.0)) in
-    let apart = beside_at (accepted s.core t) hats refl (beside s c.requires t fits (fold (insert_key text_cmp) [] keys) (λ f. ap (fold (insert_key text_cmp) []) (closing_touches s face r home keys (ap (λ o. option_map_or (keys_of_face face.0) o []) (sym (ap (hat_at r) (sym hats) ∙ c.home-hat.ensures.hat))))) refl refl (λ f o on. closing_stays s c.requires face.0 f o on)) in
-    let g : Gathers s.core t (ears_of i.ears) dues ts =
-    closing_gathers s face r home i.hats hats keys (ap (λ o. option_map_or (keys_of_face face.0) o []) (sym c.home-hat.ensures.hat)) ts told (ears_of i.ears) (ap (λ (x : State). x.core.ears) v) i.interests (ap (λ (x : State). x.core.interests) v) dues
-    (c.as_slice-2.ensures ∙ c.in_ok-dues.ensures (accepted s.core t) (sym (ap (λ (x : State). remove_entry (is_at (nat_cmp face.0)) x.core.faces) v)) changed apart) in
+    let g : Gathers s.core t (ears_of i.ears) dues ts = record { is_kept = ap (λ (x : State). x.core.ears) v ∙ c.in_ok-found.ensures.is_kept; is_looked = c.as_slice-2.ensures ∙ c.in_ok-found.ensures.is_looked; is_told = c.in_ok-found.ensures.is_told } in
     let lacks = sym (gathered_lacks s.core t refl (ears_of i.ears) dues ts g) ∙ c.in-Err-NoFreeId.ensures.no_free (ap (λ e. Err e) c.in-Err-NoFreeId.field-0-is) in
     true≢false (sym lacks ∙ reached_enough s c.requires t fits refl refl)
 
@@ -94,7 +71,7 @@ close_told-requires c =
     let i = c.self.inside in
     let fs = c.in_ok-last.last in
     let w : Core = record s.core { faces = i.faces.entries; interests = i.interests } in
-    let ts = told_with (ears_of i.ears) c.as_slice-2.result.now c.tell_left.new.told in
+    let ts = told_with (ears_of i.ears) c.as_slice-2.result.now c.in_ok-found.found.told in
     let finals = c.in_ok-finals.ensures ∙ ap (map sent_final) c.as_slice.ensures in
     subst (λ (x : Told). AllByRecursion IsTold x.handed)
     (ap (λ (f : List Handed). behind f (tell w (map from_hat (in_order ts)) i.names)) (sym finals) ∙ c.in-Ok.ensures.ok w refl (λ f k. refl))
@@ -112,15 +89,9 @@ returns-in-Ok-close_told c =
     let fits = close_fits s face r home in
     let t = closing face in
     let hats = ap (λ (x : State). x.core.hats) v in
-    let keys = keys_of_face face.0 c.home-hat.result.now in
-    let told = c.in_ok-tell_left.ensures ∙ ap (λ (l : List TreeTelling). l ++ all_own_told i.hats (change_hat r (without_face face.0) i.hats) keys) c.new-told.ensures in
-    let ts = c.tell_left.new.told in
+    let ts = c.in_ok-found.found.told in
     let dues = c.as_slice-2.result.now in
-    let changed = ap (change_hat r (without_face face.0)) hats ∙ sym (changed_home face.0 r s.core home (without_face face.0)) in
-    let apart = beside_at (accepted s.core t) hats refl (beside s c.requires t fits (fold (insert_key text_cmp) [] keys) (λ f. ap (fold (insert_key text_cmp) []) (closing_touches s face r home keys (ap (λ o. option_map_or (keys_of_face face.0) o []) (sym (ap (hat_at r) (sym hats) ∙ c.home-hat.ensures.hat))))) refl refl (λ f o on. closing_stays s c.requires face.0 f o on)) in
-    let g : Gathers s.core t (ears_of i.ears) dues ts =
-    closing_gathers s face r home i.hats hats keys (ap (λ o. option_map_or (keys_of_face face.0) o []) (sym c.home-hat.ensures.hat)) ts told (ears_of i.ears) (ap (λ (x : State). x.core.ears) v) i.interests (ap (λ (x : State). x.core.interests) v) dues
-    (c.as_slice-2.ensures ∙ c.in_ok-dues.ensures (accepted s.core t) (sym (ap (λ (x : State). remove_entry (is_at (nat_cmp face.0)) x.core.faces) v)) changed apart) in
+    let g : Gathers s.core t (ears_of i.ears) dues ts = record { is_kept = ap (λ (x : State). x.core.ears) v ∙ c.in_ok-found.ensures.is_kept; is_looked = c.as_slice-2.ensures ∙ c.in_ok-found.ensures.is_looked; is_told = c.in_ok-found.ensures.is_told } in
     let queries : i.queries ≡ s.core.queries = ap (λ (x : State). x.core.queries) v in
     let us = told_with (ears_of i.ears) dues ts in
     let are = gathered_due s.core t refl (ears_of i.ears) dues ts g in
@@ -128,10 +99,10 @@ returns-in-Ok-close_told c =
     let all = c.in-Ok.all in
     let handed = ap (λ (n : NamingState). behind finals (tell s.core (map from_hat (in_order us)) n)) (sym (ap (λ (x : State). x.names) v)) ∙ c.in-Ok.ensures.ok s.core (sym (ap (λ (x : State). x.core.faces) v)) (λ f k. ap (λ (x : State). has_keyed f k x.core.interests) v) in
     let gone = c.remove.ensures.entries ∙ ap (remove_entry (is_at (nat_cmp face.0))) (ap (λ (x : State). x.core.faces) v) in
-    let left = c.leave.ensures ∙ changed in
+    let left = c.leave.ensures ∙ ap (change_hat r (without_face face.0)) hats ∙ sym (changed_home face.0 r s.core home (without_face face.0)) in
     let closed = c.in-Ok-close_told.ensures.ok ∙ ap (after_close face.0) queries in
     let asked = c.close.ensures ∙ ap (λ (x : State). closed_face face.0 x.core.interests) v in
-    let kept = c.close-in-Ok-close_told-2.ensures.ears ∙ ap (unheard face.0) (c.put.ensures.ears ∙ ap (put_plan c.as_slice-in-Ok-close_told.result.now) c.tell_all.ensures.ears ∙ gathered_left s.core t refl (ears_of i.ears) dues ts g c.as_slice-in-Ok-close_told.result.now (c.as_slice-in-Ok-close_told.ensures ∙ c.in-Ok.ensures.plan)) in
+    let kept = c.close-in-Ok-close_told-3.ensures.ears ∙ ap (unheard face.0) (c.done_telling-step.ensures.ears ∙ ap (put_plan all.plan) c.tell_all.ensures.ears ∙ gathered_left s.core t refl (ears_of i.ears) dues ts g all.plan c.in-Ok.ensures.plan) in
     let finals_are = c.in_ok-finals.ensures ∙ ap (map sent_final) (c.as_slice.ensures ∙ c.in_ok-last.ensures ∙ ap (λ (q : QueryState). closing_finals face.0 q) queries) in
     let plain = closed_answered s c.requires face r home fits us are finals all.handed c.tell_all.new.names handed finals_are in
     let stays = closed_left s c.requires face r home fits us are finals all.handed c.tell_all.new.names handed in
@@ -139,9 +110,9 @@ returns-in-Ok-close_told c =
     let es = c.in-Ok-close_told.exits.items in
     let after = c.close_told.new.gates in
     let out = closed_out s c.requires face r home fits us are finals all.handed c.tell_all.new.names handed finals_are i.gates (ap (λ (x : State). x.gates) v) es after c.in-Ok-close_told.ensures.out in
-    let passed = c.pass-gone.ensures.gates ∙ ap (λ (g : Gates). fold without_ended g (left_by es all.handed)) c.close-in-Ok-close_told-3.ensures in
+    let passed = c.done_telling-step.ensures.gates ∙ ap (λ (g : Gates). fold without_ended g (left_by es all.handed)) c.close-in-Ok-close_told-2.ensures in
     record {
-      step = c.told-in-Ok-close_told.ensures ∙ ap done c.pass-gone.ensures.handed ∙ goes_out s t refl outcome.Done all.handed w plain stays w.gates refl es (without_gate face.0 after) out;
+      step = c.done_telling-step.ensures.step ∙ goes_out s t refl outcome.Done all.handed w plain stays w.gates refl es (without_gate face.0 after) out;
       after =
           (λ j. record {
             core = record { config = (v j).core.config; faces = gone j; next_face = (v j).core.next_face; hats = left j; tables = (v j).core.tables; queries = closed j; interests = asked j; ears = kept j };

@@ -13,7 +13,6 @@ use Rattle.zq_machine.specs.Neighbours.{ended_at}
 use Rattle.zq_machine.specs.State.{Core, State, at, is_open}
 use Rattle.zq_trees.specs.Tellings.{in_order}
 use Rattle.zq_machine.specs.declared.call.Outcome.TheVariants as outcome
-use Rattle.zq_machine.specs.Machine.{done}
 use Rattle.zq_machine.specs.Messages.{from_hat}
 use Rattle.zq_machine.specs.Writing.{Told, tell}
 use Rattle.zq_machine.specs.TextCalls.{unhearing}
@@ -108,8 +107,8 @@ returns-in-Ok c =
     ap (λ (n : NamingState). tell (accepted s.core e) ts n) (sym (ap (λ (x : State). x.names) v))
     ∙ c.in_ok-all.ensures.ok (accepted s.core e) (sym (ap (λ (x : State). x.core.faces) v)) (λ f k. ap (λ (x : State). has_keyed f k (without_interest face.0 id x.core.interests)) v) in
     let kept =
-    c.put.ensures.ears ∙ ap (put_plan c.as_slice-in-Ok.result.now) c.tell_end.ensures.ears
-    ∙ ending_left s c.requires face id opens asked there (ears_of i.ears) heard dues are c.as_slice-in-Ok.result.now (c.as_slice-in-Ok.ensures ∙ c.in_ok-all.ensures.plan) in
+    c.done_telling.ensures.ears ∙ ap (put_plan c.in_ok-all.all.plan) c.tell_end.ensures.ears
+    ∙ ending_left s c.requires face id opens asked there (ears_of i.ears) heard dues are c.in_ok-all.all.plan c.in_ok-all.ensures.plan in
     let l = c.in_ok-all.all.handed in
     let names = c.tell_end.new.names in
     let plain = ending_answered s c.requires face id opens asked there (ears_of i.ears) heard dues are l names handed in
@@ -120,12 +119,12 @@ returns-in-Ok c =
     let after = c.let_told_out.new.gates in
     let out = c.in-Ok.ensures.out in
     record {
-      step = c.told.ensures ∙ ap done c.pass-gone.ensures.handed ∙ goes_out s e refl outcome.Done l w plain stays i.gates same es after out;
+      step = c.done_telling.ensures.step ∙ goes_out s e refl outcome.Done l w plain stays i.gates same es after out;
       after =
           (λ j. record {
             core = record { config = (v j).core.config; faces = (v j).core.faces; next_face = (v j).core.next_face; hats = (v j).core.hats; tables = (v j).core.tables; queries = (v j).core.queries; interests = gone j; ears = kept j };
             names = c.release_interest.ensures j;
-            gates = c.pass-gone.ensures.gates j;
+            gates = c.done_telling.ensures.gates j;
           })
           ∙ sym (stays_out s e refl outcome.Done l w plain stays i.gates same es after out);
       err = tt;

@@ -1,4 +1,4 @@
-use Rattle.zq_calls.proofs.tables.Tables.declare.Goals as goal
+use Rattle.zq_calls.proofs.tables.Tables.send_declare.Goals as goal
 
 pub returns-in-DeclareKeyExpr : goal.returns-in-DeclareKeyExpr
 returns-in-DeclareKeyExpr c = rw c.in-DeclareKeyExpr.is c.name_key.ensures
