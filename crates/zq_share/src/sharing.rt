@@ -76,7 +76,7 @@ fn share_named<
 /// a link of its own, all on one gateway with that many slots. A call that finds every slot allotted is passed over. Whoever finds no memory
 /// makes no further calls; the others go on, and the answer is `OutOfMemory`. Otherwise it answers the gateway with its stored calls, and
 /// whether no link failed.
-#[tactic(auto, using(crate::proofs::Faults::fell_none, crate::proofs::Listed::all_may_make))]
+#[tactic(auto, using(crate::proofs::Faults::fell_none))]
 pub fn share<L: Link + Send, R: Threads + Wait + Sync>(
     rt: &R,
     alloc: Global,
