@@ -38,7 +38,7 @@ struct WorkingLink<'a> {
 }
 
 /// Goes on for so many turns.
-fn work(turns: u64) {
+fn spin(turns: u64) {
     for _turn in 0..turns {
         spin_loop();
     }
@@ -56,9 +56,9 @@ fn enter(door: &AtomicU64) -> bool {
 }
 
 /// Goes on for so many turns once no other does that took the door, or after a long wait.
-fn work_behind(door: &AtomicU64, turns: u64) {
+fn spin_behind(door: &AtomicU64, turns: u64) {
     let taken = enter(door);
-    work(turns);
+    spin(turns);
     if taken {
         door.store(0, Ordering::SeqCst);
     }
@@ -71,8 +71,8 @@ impl<'a> Link for WorkingLink<'a> {
 
     fn send(&mut self, _handed: &Handed) -> Result<(), Failed> {
         match self.door {
-            Some(door) => work_behind(door, self.turns),
-            None => work(self.turns),
+            Some(door) => spin_behind(door, self.turns),
+            None => spin(self.turns),
         }
         Ok(())
     }
