@@ -1,0 +1,186 @@
+//! One gateway that seats share, on one thread: one slot, and who is the last to hold it.
+ghost use Rattle.std.specs.Prelude.{◌≡◌, [], All, IfOk, IfSome, OnOk, false, true};
+ghost use Rattle.zq_machine.specs.Calls.{is_sent};
+ghost use Rattle.zq_ties.specs.Holding.{AreHeld};
+
+use crate::given::{parts_of, print_calls, print_leaving};
+use std::alloc::Global;
+use std::test::Fail;
+use zq_lock::{HoldSeat, Shared, Slot, StepRefusal, Stepped};
+use zq_machine::call::{Call, Step};
+use zq_prints::steps::push_step;
+use zq_slots::{Last, release};
+use zq_ties::LastList;
+
+const ONE_SLOT: &str = "config 1 10000 north:client local\n\
+    open local 10 client north -\n\
+    open local 11 client north -\n\
+    queryable 0 1 0:s:k c 0 0\n\
+    ask 1 7 0:s:k all - 0 0 hi 0\n\
+    ask 1 8 0:s:k all - 0 0 hi 0\n\
+    final 0 1\n\
+    ask 1 8 0:s:k all - 0 0 hi 0\n\
+    reply 0 2 0:s:k ok yo\n\
+    final 0 2\n";
+
+/// What a call gives: its step, if a slot was spare; how many slots it let go last, and how many finals came of these; and the slots
+/// that its seat holds.
+#[derive(Drop)]
+struct Given {
+    step: Option<Step>,
+    lasts: u64,
+    finals: u64,
+    held: Vec<Slot>,
+}
+
+/// Settles what was released last. It says whether a final came of it.
+fn settle_one(shared: &mut Shared, last: Last) -> bool
+    requires { last.home ≡ shared.old.slots.keeper.home }
+    ensures { shared.new.slots.keeper.home ≡ shared.old.slots.keeper.home }
+{
+    shared.settle(last).is_some()
+}
+
+/// Settles all that was released last. It counts these, and the finals that come of them.
+fn settle_all(shared: &mut Shared, mut lasts: LastList) -> (u64, u64)
+    requires { All (λ l. l.home ≡ shared.old.slots.keeper.home) lasts.ended }
+    ensures { shared.new.slots.keeper.home ≡ shared.old.slots.keeper.home }
+{
+    let mut counts = (0u64, 0u64);
+    'lasts: while let Some(last) = lasts.take() {
+        let ends = settle_one(shared, last);
+        counts = (
+            counts.0.saturating_add(1),
+            counts.1.saturating_add(u64::from(ends)),
+        );
+    }
+    lasts.end();
+    counts
+}
+
+/// Makes a call, and settles what it released last.
+fn give(alloc: Global, shared: &mut Shared, seat: &mut HoldSeat, call: Call) -> Result<Given, Fail>
+    requires home { seat.old.home ≡ shared.old.slots.keeper.home }
+    requires empty { seat.old.held ≡ [] }
+    ensures home { (seat.new.home ≡ seat.old.home) × (shared.new.slots.keeper.home ≡ shared.old.slots.keeper.home) }
+    ensures held { IfOk result (λ g. AreHeld g.held.items seat.new.held) }
+{
+    if call.is_sent() {
+        return Err(Fail::from("no report"));
+    }
+    match shared.step(seat, call) {
+        Ok(Stepped { step, held, lasts }) => {
+            let (lasts, finals) = settle_all(shared, lasts);
+            Ok(Given {
+                step: Some(step),
+                lasts,
+                finals,
+                held,
+            })
+        }
+        Err(StepRefusal::Full(_)) => Ok(Given {
+            step: None,
+            lasts: 0,
+            finals: 0,
+            held: Vec::new(alloc),
+        }),
+        Err(StepRefusal::OutOfMemory) => Err(Fail::from("memory")),
+    }
+}
+
+fn push_times(print: &mut Vec<u8>, times: u64, line: &str) -> Result<(), Fail> {
+    for _i in 0..times {
+        print.extend_from_slice(line.as_bytes())?;
+    }
+    Ok(())
+}
+
+/// The step or `full`, and then a line `last` for each slot that was let go last, and a line `end` for each final that came of it.
+fn push_given(print: &mut Vec<u8>, given: &Given) -> Result<(), Fail> {
+    match &given.step {
+        Some(step) => push_step(print, step)?,
+        None => print.extend_from_slice(b"full\n")?,
+    }
+    push_times(print, given.lasts, "last\n")?;
+    push_times(print, given.finals, "end\n")
+}
+
+/// Whether a seat that holds these slots holds nothing.
+fn holds_nothing(held: &[Slot], seat: &HoldSeat) -> bool
+    requires { AreHeld held.now seat.now.held }
+    ensures { result ≡ true → seat.now.held ≡ [] }
+{
+    let _ = seat;
+    held.is_empty()
+}
+
+/// Makes calls that put nothing in flight.
+fn give_all(
+    alloc: Global,
+    shared: &mut Shared,
+    seat: &mut HoldSeat,
+    print: &mut Vec<u8>,
+    calls: Vec<Call>,
+) -> Result<(), Fail>
+    requires home { seat.old.home ≡ shared.old.slots.keeper.home }
+    requires empty { seat.old.held ≡ [] }
+    ensures home { OnOk result ((seat.new.home ≡ seat.old.home) × (shared.new.slots.keeper.home ≡ shared.old.slots.keeper.home)) }
+    ensures empty { OnOk result (seat.new.held ≡ []) }
+{
+    for call in calls {
+        let given = give(alloc, shared, seat, call)?;
+        push_given(print, &given)?;
+        if !holds_nothing(given.held.as_slice(), seat) {
+            return Err(Fail::from("nothing in flight"));
+        }
+    }
+    Ok(())
+}
+
+/// The seat lets go one of the slots that it holds. It gives the slot's `Last`, where the seat was the last to hold it.
+fn let_go(seat: &mut HoldSeat, mut held: Vec<Slot>) -> Option<Last>
+    requires { AreHeld held.items seat.old.held }
+    ensures { IfSome result (λ l. l.home ≡ seat.old.home) }
+{
+    let Some(slot) = held.pop() else {
+        return None;
+    };
+    release(seat, slot)
+}
+
+/// The first seat replies, the second ends the request, and the first lets go last; what all this gives, and what is stored.
+fn one_slot(alloc: Global) -> Result<Vec<u8>, Fail> {
+    let (config, mut parts) = parts_of(alloc, ONE_SLOT)?;
+    let mut calls = parts.pop().ok_or("a part")?.into_vec();
+    let (mut shared, mut seats) = Shared::new(alloc, &config, 1, 2)?;
+    let mut one = seats.take().ok_or("a seat")?;
+    let mut two = seats.take().ok_or("a seat")?;
+    let ends = calls.pop().ok_or("a final")?;
+    let replies = calls.pop().ok_or("a reply")?;
+    let mut print = Vec::new(alloc);
+    give_all(alloc, &mut shared, &mut one, &mut print, calls)?;
+    let replied = give(alloc, &mut shared, &mut one, replies)?;
+    push_given(&mut print, &replied)?;
+    let ended = give(alloc, &mut shared, &mut two, ends)?;
+    push_given(&mut print, &ended)?;
+    let last = let_go(&mut one, replied.held).ok_or("the last")?;
+    let Some(end) = shared.settle(last) else {
+        return Err(Fail::from("a final"));
+    };
+    print.extend_from_slice(print_leaving(alloc, &[end])?.as_slice())?;
+    print.extend_from_slice(print_calls(alloc, shared.calls())?.as_slice())?;
+    Ok(print)
+}
+
+#[test]
+fn one_slot_two_seats(rt: HostRuntime) -> Result<(), Fail> {
+    let print = one_slot(rt.alloc())?;
+    let wanted =
+        "= opened 0\n= opened 1\n= done\n= asked 0\n> 0 0 - request 1 0:s:k all - 0 0 hi\nfull\n= done\n> 1 0 - final 7 0\nlast\n\
+        = asked 1\n> 0 1 - request 2 0:s:k all - 0 0 hi\n\
+        = replied 0\n> 1 1 0 response 8 0:s:k 0 ok yo -\n= done\nfinal 8 0\n\
+        open local 10 client north -\nopen local 11 client north -\nqueryable 0 1 0:s:k c 0 0\nask 1 7 0:s:k all - 0 0 hi 0\nfinal 0 1\n\
+        ask 1 8 0:s:k all - 0 0 hi 0\nreply 0 2 0:s:k ok yo\nfinal 0 2\nsent 0\n";
+    assert_eq!(rt; print.as_slice(), wanted.as_bytes());
+    Ok(())
+}
