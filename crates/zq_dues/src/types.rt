@@ -7,7 +7,9 @@ use zq_told::types::FaceDues;
 /// The hat of a region changes.
 #[derive(Drop)]
 pub struct HatChange {
+    /// The region whose hat changes.
     pub region: Region,
+    /// What the call changes there.
     pub change: Change,
 }
 

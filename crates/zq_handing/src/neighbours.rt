@@ -32,7 +32,9 @@ use zq_told::types::{FaceDues, Plan, Planned, TellRefusal, Way};
 /// What a call tells, as messages, and what it leaves of neighbours; there is room for that.
 #[derive(Drop)]
 pub struct ToldAll {
+    /// What the call leaves of neighbours, to be put when nothing can fail any more.
     pub plan: Plan,
+    /// The messages that came first, and behind them what is told.
     pub handed: HandedList,
 }
 

@@ -59,10 +59,15 @@ pub fn targets_of(alloc: Global, offers: &[QueryTargetQabl]) -> Result<Vec<FaceI
 /// Who asks, and what decides between regions.
 #[derive(Drop)]
 pub struct Asker<'a> {
+    /// The open faces, by number.
     pub faces: &'a BTreeMap<u32, OpenFace>,
+    /// For each region the gateways that its nodes have.
     pub tables: &'a RegionMap<Gateways>,
+    /// The gateway's own id.
     pub own: Zid,
+    /// The face that asks.
     pub face: FaceId,
+    /// How it was opened.
     pub opened: OpenFace,
     /// The router that the request comes from; outside regions of routers the asker itself.
     pub source: Option<Zid>,

@@ -32,7 +32,9 @@ use zq_trees::tellings::in_order;
 /// An interest: the face that asks, and the id under which it does.
 #[derive(Clone, Copy, Debug)]
 pub struct InterestId {
+    /// The face that asks to be told.
     pub face: FaceId,
+    /// The id that it gave the interest.
     pub id: u32,
 }
 

@@ -139,12 +139,14 @@ impl Hat {
         self.region
     }
 
+    /// How the region keeps and offers queryables.
     pub fn strategy(&self) -> Strategy
         ensures { result ≡ strategy_at self.now }
     {
         strategy_of(self.region, self.north_mode)
     }
 
+    /// Whether the face is open in the region.
     pub fn has_face(&self, face: FaceId) -> bool
         ensures { result ≡ has_face face.0 self.now }
     {

@@ -25,9 +25,13 @@ pub enum Mode {
 /// key.
 #[derive(Clone, Copy)]
 pub struct Parting {
+    /// The place in the text of the byte by which it parts.
     pub at: usize,
+    /// The place in the key at which it goes on there.
     pub place: usize,
+    /// The byte with which the key goes on there.
     pub wanted: u8,
+    /// The first place of the text from which on a greater byte leads to no match, at most `at`.
     pub held: usize,
 }
 

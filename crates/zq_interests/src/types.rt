@@ -9,8 +9,11 @@ use zq_key::text::Text;
 /// for all keys that meet it, if it has a key.
 #[derive(Drop)]
 pub struct InterestEntry {
+    /// The key that queryables have to meet; with none all are asked for.
     pub key: Option<Key>,
+    /// Whether numbers may be declared for the keys that are told.
     pub keys: bool,
+    /// Whether its own key alone is to be told, if it has one.
     pub aggregate: bool,
 }
 
@@ -29,7 +32,9 @@ pub type FaceList = Items<FaceId>;
 /// A face, and the key of one of its aggregating interests.
 #[derive(Debug, Drop)]
 pub struct FaceKey {
+    /// The face that asks.
     pub face: FaceId,
+    /// The key of its aggregating interest.
     pub key: Text,
 }
 

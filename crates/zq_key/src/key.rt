@@ -14,7 +14,9 @@ use crate::matching::{Cursor, covers, meets};
 /// How two chunks are compared.
 #[derive(Clone, Copy)]
 pub enum Relation {
+    /// By whether they meet, as for `intersects`.
     Meets,
+    /// By whether the first covers the second, as for `includes`.
     Covers,
 }
 

@@ -27,11 +27,14 @@ impl Model for Key {
 /// Why a text gave no key.
 #[derive(Debug, Drop)]
 pub enum KeyError {
+    /// The text is no key.
     Invalid,
+    /// No memory was found.
     OutOfMemory,
 }
 
 impl Key {
+    /// The text as a key. `Invalid` where it is no key.
     pub fn new(alloc: Global, text: &str) -> Result<Key, KeyError>
         ensures { MatchResult result (λ key. (key ≡ text.now) × (key_of text.now ≡ true)) (λ e. IsRefusal e text.now) }
     {
@@ -53,6 +56,7 @@ impl Key {
         })
     }
 
+    /// The text of the key.
     pub fn as_str(&self) -> &str
         ensures text { result.now ≡ self.now }
         ensures key { key_of result.now ≡ true }

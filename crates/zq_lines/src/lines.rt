@@ -23,7 +23,9 @@ use zq_words::words::{Word, at_end, cut, is, len_to, read_at, read_each, text_of
 /// An entry of one of the two deny lists.
 #[derive(Debug, Drop)]
 pub struct Deny {
+    /// Whether it is of the list for what the face asks (`in:`), not for what it is asked (`out:`).
     pub entry: bool,
+    /// A key: what it includes is denied.
     pub text: Text,
 }
 

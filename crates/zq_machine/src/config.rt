@@ -17,18 +17,26 @@ pub const SOUTH_IDS: u32 = 255;
 /// and last given to each new face. All are 0 by default.
 #[derive(Clone, Copy, Default)]
 pub struct Counters {
+    /// The number of the next face; 2^32 - 1 is given to none.
     pub faces: u32,
+    /// The number of the next request; 2^64 - 1 is given to none.
     pub requests: u64,
+    /// The number of the next reply; 2^64 - 1 is given to none.
     pub replies: u64,
+    /// The id before the first under which a new face is told of a key.
     pub told: u32,
+    /// The id before the first under which a new face is handed a request.
     pub request_ids: u32,
 }
 
 /// A region of the configuration.
 #[derive(Clone, Copy, Debug, PartialEq, Eq)]
 pub enum Entry {
+    /// The side of the rest of the network, in which the gateway is of this mode.
     North(Mode),
+    /// The applications on this machine.
     Local,
+    /// Nodes of a mode behind the gateway; the id is at most `SOUTH_IDS`.
     South { id: u32, mode: Mode },
 }
 
@@ -38,15 +46,20 @@ pub type EntryList = Items<Entry>;
 /// What is wrong with a list of entries: the first bad one, its id before its repetition.
 #[derive(Clone, Copy, Debug, PartialEq, Eq)]
 pub enum BadConfig {
+    /// This id of a South region is above `SOUTH_IDS`.
     IdAbove(u32),
+    /// This region stands twice.
     Twice(Region),
+    /// No entry is North.
     NoNorth,
 }
 
 /// Why entries gave no configuration.
 #[derive(Clone, Copy, Debug, PartialEq, Eq)]
 pub enum ConfigRefusal {
+    /// The entries are not valid.
     BadConfig(BadConfig),
+    /// No memory was found.
     OutOfMemory,
 }
 

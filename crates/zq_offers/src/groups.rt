@@ -132,7 +132,9 @@ fn add_groups(
 /// What the faces of a region offer.
 #[derive(Drop)]
 pub struct FaceOffers {
+    /// The allocator of the offers' texts.
     pub alloc: Global,
+    /// The region that the faces are of.
     pub region: Region,
 }
 

@@ -17,7 +17,9 @@ use zq_key::message::{FaceId, QueryableInfoType};
 /// What is left out of the declarations of a face: that of an id, or all.
 #[derive(Clone, Copy)]
 pub struct Leaving {
+    /// The face of the declarations.
     pub face: FaceId,
+    /// The id of the one that is left out; with none all are.
     pub id: Option<u32>,
 }
 

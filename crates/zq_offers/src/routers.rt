@@ -24,10 +24,15 @@ use zq_trees::seats::Seats;
 /// What the routers of a region offer, on the ways from a source.
 #[derive(Drop)]
 pub struct RouterOffers<'a> {
+    /// The allocator of the offers' texts.
     pub alloc: Global,
+    /// The region that the routers are of.
     pub region: Region,
+    /// The region's network, with the ways and the distances.
     pub net: &'a Net,
+    /// Which open faces have which ids.
     pub seats: &'a Seats,
+    /// The place in the network of the source, whose tree gives the ways.
     pub source: NodeId,
 }
 

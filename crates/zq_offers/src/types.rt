@@ -10,10 +10,15 @@ use zq_key::text::Text;
 /// An offer of a face (upstream's `QueryTargetQabl`): who would answer a key, and how completely.
 #[derive(Debug, Drop)]
 pub struct QueryTargetQabl {
+    /// The face that would be asked (upstream's `dir`).
     pub face: FaceId,
+    /// How completely it answers, and how far it is; none where no declaration stands behind it.
     pub info: Option<QueryableInfoType>,
+    /// The key that was declared; without an information the key that is asked for.
     pub key: Text,
+    /// The region that the face is of.
     pub region: Region,
+    /// The node number of a request to it: with routers the place of its source, else 0.
     pub node: u16,
 }
 

@@ -22,7 +22,9 @@ use zq_trees::entries::StandingList;
 /// What a region will have on a key.
 #[derive(Clone, Copy)]
 pub struct NewInfo {
+    /// The region of which it is said.
     pub region: Region,
+    /// What it will have; none where nothing is left.
     pub info: Option<QueryableInfoType>,
 }
 

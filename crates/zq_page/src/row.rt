@@ -28,34 +28,45 @@ pub enum Event {
     Nothing,
     /// A request is pending at a face, under an id, up to a moment.
     Pending {
+        /// The number of the face that is asked.
         face: u32,
+        /// The id that the request has there.
         id: u32,
+        /// The number of the request.
         request: u64,
+        /// The moment that ends the wait, in milliseconds.
         until: u64,
     },
     /// A reply is in flight.
     InFlight {
+        /// The number of the reply.
         reply: u64,
     },
     /// A face has no more to say to the request of an id.
     Finished {
+        /// The number of the face that was asked.
         face: u32,
+        /// The id that the request had there.
         id: u32,
     },
     /// A request ended for the one who asked.
     Over {
+        /// The number of the request.
         request: u64,
     },
     /// A face closed.
     Closed {
+        /// The number of the face.
         face: u32,
     },
     /// A reply was sent.
     Sent {
+        /// The number of the reply.
         reply: u64,
     },
     /// A moment came.
     Moment {
+        /// The moment, in milliseconds.
         now: u64,
     },
 }

@@ -27,20 +27,28 @@ use zq_message::message::FaceId;
 /// An open request, with the counts of what is left of it.
 #[derive(Clone, Copy)]
 pub struct Open {
+    /// The face that asked.
     pub asker: FaceId,
+    /// The id that the asker gave.
     pub id: u32,
+    /// The quality byte that the asker gave.
     pub qos: u8,
+    /// How many targets still owe their final.
     pub pending: u64,
+    /// How many of its replies are not yet reported as sent.
     pub in_flight: u64,
 }
 
 /// What a target owes.
 #[derive(Clone, Copy)]
 pub struct Owed {
+    /// The number of the request.
     pub number: u64,
+    /// The moment that ends the wait for it, in milliseconds.
     pub deadline: u64,
 }
 
+/// All open requests, and what is left of each (upstream's `pending_queries` of all faces).
 #[derive(Drop)]
 pub struct Queries {
     alloc: Global,

@@ -29,6 +29,7 @@ impl<T> Model for RouteBuilder<T> {
 }
 
 impl<T> RouteBuilder<T> {
+    /// A route without elements.
     pub fn new(alloc: Global) -> RouteBuilder<T>
         ensures { result ≡ [] }
     {

@@ -16,10 +16,15 @@ use zq_regions::RegionMap;
 /// `src_zid` asked and the face of `fwd_zid` brought it, to the face of `dst_zid` in `dst`.
 #[derive(Clone, Copy, Debug, PartialEq, Eq)]
 pub struct InterRegionFilter {
+    /// The region of the asker.
     pub src: Region,
+    /// The region of the face that may be asked.
     pub dst: Region,
+    /// The node that asked, if it is known.
     pub src_zid: Option<Zid>,
+    /// The node at the other end of the face that brought the request.
     pub fwd_zid: Option<Zid>,
+    /// The node at the other end of the face that may be asked.
     pub dst_zid: Option<Zid>,
 }
 

@@ -10,7 +10,9 @@ use zq_key::message::Zid;
 /// The gateways of one node.
 #[derive(Debug, Drop)]
 pub struct GatewayEntry {
+    /// The node that has them.
     pub node: Zid,
+    /// The ids of its gateways; with none each gateway may carry its requests.
     pub gateways: ZidList,
 }
 
@@ -21,7 +23,9 @@ pub type GatewayEntryList = Items<GatewayEntry>;
 /// whole region where they are known.
 #[derive(Debug, Drop)]
 pub struct Gateways {
+    /// The gateways of each node that is known.
     pub of: GatewayEntryList,
+    /// The gateways of the whole region, for a node that is not known.
     pub all: Option<ZidList>,
 }
 

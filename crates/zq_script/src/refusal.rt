@@ -12,8 +12,10 @@ use zq_words::stop::Stop;
 /// found.
 #[derive(Clone, Copy, Debug, PartialEq, Eq, Error)]
 pub enum ScriptRefusal {
+    /// The number of the first bad line, from 1 on.
     #[error("BadLine")]
     BadLine(u64),
+    /// No memory was found.
     #[error("OutOfMemory")]
     OutOfMemory,
 }

@@ -15,10 +15,13 @@ pub const LIMIT: usize = 16_777_216;
 /// Why a source wasn't read whole: it failed, gave more than the limit, or no memory was found.
 #[derive(Clone, Copy, Debug, PartialEq, Eq, Error)]
 pub enum ReadRefusal {
+    /// The source failed.
     #[error("ReadFault")]
     ReadFault,
+    /// The source gave more than `LIMIT` bytes.
     #[error("TooLong")]
     TooLong,
+    /// No memory was found.
     #[error("OutOfMemory")]
     OutOfMemory,
 }

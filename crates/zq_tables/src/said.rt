@@ -5,7 +5,10 @@ use zq_key::text::Text;
 /// number stands for nothing there.
 #[derive(Debug, Drop)]
 pub enum Said {
+    /// Its number stands for nothing there.
     Unscoped,
+    /// It has neither a number nor a suffix.
     Empty,
+    /// Its whole text: that of its number, and behind it the suffix.
     Full(Text),
 }

@@ -7,7 +7,9 @@ use zq_trees::types::TellingList;
 /// What a face was told of a key: the id, and the information under it.
 #[derive(Clone, Copy, Debug)]
 pub struct ToldEntry {
+    /// The id that the face was given for the key.
     pub id: u32,
+    /// The information that it was told last.
     pub info: QueryableInfoType,
 }
 
@@ -15,8 +17,11 @@ pub struct ToldEntry {
 /// or an interest of the face ended.
 #[derive(Clone, Copy, Debug)]
 pub enum Way {
+    /// What became different is told, and a key that ended is withdrawn.
     Unasked,
+    /// All that is due on the keys is told, as if it had not been told before.
     Answering,
+    /// The keys that are not due any more are forgotten untold; other information of a key is told.
     Ending,
 }
 
@@ -26,7 +31,9 @@ pub type KeyDues = Items<(Text, Option<QueryableInfoType>)>;
 /// The keys that a call looks at for a face.
 #[derive(Debug, Drop)]
 pub struct FaceDues {
+    /// The face that may be told of them.
     pub face: FaceId,
+    /// The keys, and what is due to it on each.
     pub keys: KeyDues,
 }
 
@@ -47,13 +54,17 @@ pub type Plan = Items<FacePlan>;
 /// What a call leaves of faces, and what they are told.
 #[derive(Debug, Drop)]
 pub struct Planned {
+    /// What the call leaves of the faces, to be put when nothing can fail any more.
     pub plan: Plan,
+    /// What the faces are told of the keys that the call looks at.
     pub tellings: TellingList,
 }
 
 /// Why faces are not told: one of them needs an id above the last of 32 bits, or memory is lacking.
 #[derive(Clone, Copy, Debug, PartialEq, Eq)]
 pub enum TellRefusal {
+    /// A face needs an id above 2^32 - 1.
     NoFreeId,
+    /// No memory was found.
     OutOfMemory,
 }

@@ -22,11 +22,17 @@ use zq_key::text::Text;
 /// entries, of a router what it announced.
 #[derive(Drop)]
 pub struct NetworkChange<'a> {
+    /// The network as it was, to which new children are compared.
     pub before: &'a Net,
+    /// The network as it will be.
     pub net: &'a Net,
+    /// Which open faces have which ids.
     pub seats: &'a Seats,
+    /// The gateway's own id.
     pub own: Zid,
+    /// What stands of the gateway itself: its own entries on keys.
     pub own_entries: &'a StandingList,
+    /// What stands of the routers: what each announced.
     pub entries: &'a Entries,
 }
 

@@ -11,10 +11,15 @@ use zq_key::text::Text;
 /// A declaration to a face; with no information its withdrawal.
 #[derive(Debug, Drop)]
 pub struct Telling {
+    /// The face that is told.
     pub face: FaceId,
+    /// The id of the key at the face; along trees of routers 0.
     pub id: u32,
+    /// The key that is told of.
     pub key: Text,
+    /// What stands on the key from then on; none where nothing does.
     pub info: Option<QueryableInfoType>,
+    /// Along trees the place of the router in the network; else 0.
     pub node: u16,
 }
 
@@ -36,7 +41,9 @@ pub type DirectionList = Items<Option<u32>>;
 /// A tree of a network, as one node sees it.
 #[derive(Debug, Drop)]
 pub struct Tree {
+    /// The places of the routers to which this node passes on what is of the tree's root.
     pub children: U32List,
+    /// For the router at each place the place of the next one on the way there, or none.
     pub directions: DirectionList,
 }
 
@@ -58,8 +65,11 @@ pub type TreeList = Items<Tree>;
 /// The routers of a region: their ids, a tree for each, and how far each is.
 #[derive(Debug, Drop)]
 pub struct Network {
+    /// The ids of the routers, the gateway's own among them.
     pub nodes: ZidList,
+    /// The tree of the router at each place, as the gateway sees it.
     pub trees: TreeList,
+    /// How far the router at each place is.
     pub distances: U16List,
 }
 
@@ -108,6 +118,7 @@ impl Network {
 /// What the node numbers of a face stand for.
 #[derive(Debug, Drop)]
 pub struct NodeIds {
+    /// The id that each number stands for, from the number 0 on.
     pub ids: ZidList,
 }
 

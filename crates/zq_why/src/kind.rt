@@ -28,9 +28,13 @@ pub enum Kind {
     Id,
     /// Ids of nodes.
     Ids,
+    /// A region: `north`, `local` or `south:NUM:MODE`.
     Region,
+    /// What a node is: `router`, `peer` or `client`.
     Mode,
+    /// A side: `north` or `south`.
     Bound,
+    /// Whom a request asks for: `all`, `complete` or `best`.
     Target,
     /// An expression.
     Wire,
