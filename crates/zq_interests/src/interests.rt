@@ -155,8 +155,8 @@ impl Interests {
         face_asks_another(&self.faces, face.0, id, asked)
     }
 
-    /// Whether an interest of the face asks for the key, and numbers may be declared for keys. It looks at
-    /// this face's interests alone.
+    /// Whether an interest of the face meets the key, and numbers may be declared for keys. It looks at this
+    /// face's interests alone.
     pub fn has_keyed(&self, face: FaceId, key: &str) -> bool
         requires { IsTrue (is_key key.now) }
         ensures { result ≡ has_keyed face.0 key.now self.now }
@@ -178,8 +178,8 @@ impl Interests {
         face_any_with(&self.faces, face.0, id, entry, Test::Keyed, key)
     }
 
-    /// The faces that ask for the key, in order of their numbers, each once. They are found by the texts of
-    /// keys: interests in keys whose first bytes show that they do not meet this one are passed over.
+    /// The faces with an interest that meets the key, in order of their numbers, each once. They are found by
+    /// the texts of keys: interests in keys whose first bytes show that they do not meet this one are passed over.
     pub fn askers(&self, alloc: Global, key: &str) -> Result<FaceList, OutOfMemory>
         requires { IsTrue (is_key key.now) }
         ensures { IfOk result (λ l. l ≡ askers key.now self.now) }

@@ -107,7 +107,7 @@ fn list_faces(alloc: Global, numbers: &BTreeSet<u32>) -> Result<FaceList, OutOfM
     Ok(faces)
 }
 
-/// The faces that ask for the key, found by where interests are kept.
+/// The faces with an interest that meets the key, found by where interests are kept.
 pub(crate) fn kept_askers(
     faces: &AskedMap,
     shelf: &Shelf,

@@ -10,7 +10,7 @@ use zq_key::message::FaceId;
 pub trait Keyed {
     ghost keyed: { Self → ℕ → List ℕ → Bool };
 
-    /// Whether an interest of the face asks for the key, and numbers may be declared for keys.
+    /// Whether an interest of the face meets the key, and numbers may be declared for keys.
     fn has_keyed(&self, face: FaceId, key: &str) -> bool
         requires { IsTrue (is_key key.now) }
         ensures { result ≡ keyed self.now face.0 key.now };

@@ -1,6 +1,6 @@
 //! Laws of keys, each as the contract of a call.
 ghost use Rattle.std.specs.Prelude.{◌≡◌, true, IsTrue};
-ghost use Rattle.zq_key.specs.Key.{is_key as key_of};
+ghost use Rattle.zq_key.specs.Key.{is_key as key_of, intersects as intersects_of, includes as includes_of};
 ghost use Rattle.zq_key.specs.Space.{PlainIsTransparent};
 
 use crate::{includes, intersects};
@@ -10,7 +10,8 @@ use crate::{includes, intersects};
 pub fn intersect_alike(a: &str, b: &str) -> bool
     requires first { IsTrue (key_of a.now) }
     requires second { IsTrue (key_of b.now) }
-    ensures { result ≡ true }
+    ensures holds { result ≡ true }
+    ensures law { intersects_of a.now b.now ≡ intersects_of b.now a.now }
 {
     intersects(a, b) == intersects(b, a)
 }
@@ -19,7 +20,8 @@ pub fn intersect_alike(a: &str, b: &str) -> bool
 #[tactic(auto, using(crate::proofs::Lawful::itself))]
 pub fn intersects_itself(key: &str) -> bool
     requires { IsTrue (key_of key.now) }
-    ensures { result ≡ true }
+    ensures holds { result ≡ true }
+    ensures law { intersects_of key.now key.now ≡ true }
 {
     intersects(key, key)
 }
@@ -28,7 +30,8 @@ pub fn intersects_itself(key: &str) -> bool
 #[tactic(auto, using(crate::proofs::Lawful::itself))]
 pub fn includes_itself(key: &str) -> bool
     requires { IsTrue (key_of key.now) }
-    ensures { result ≡ true }
+    ensures holds { result ≡ true }
+    ensures law { includes_of key.now key.now ≡ true }
 {
     includes(key, key)
 }
@@ -38,7 +41,8 @@ pub fn includes_itself(key: &str) -> bool
 pub fn intersects_what_it_includes(a: &str, b: &str) -> bool
     requires first { IsTrue (key_of a.now) }
     requires second { IsTrue (key_of b.now) }
-    ensures { result ≡ true }
+    ensures holds { result ≡ true }
+    ensures law { includes_of a.now b.now ≡ true → intersects_of a.now b.now ≡ true }
 {
     if includes(a, b) {
         return intersects(a, b);

@@ -57,7 +57,8 @@ fn mode_at(n: usize) -> Mode
 /// The law that a region comes back from its index.
 pub fn round_trip(r: &Region) -> Region
     requires { HasIndex r.now }
-    ensures { result ≡ r.now }
+    ensures region { result ≡ r.now }
+    ensures law { region_at (region_index r.now) ≡ r.now }
 {
     index_to_region(region_to_index(r))
 }
