@@ -400,6 +400,17 @@ def nearly_alike(part, size=1_024):
         yield f'ask 1 {i} 0:s:{text}y/e all - 0 0 - 0'
 
 
+def shared(workers, requests=20_000):
+    """Each worker asks, replies and ends, at an asker and a target of its own; all ask as often, and all together so many times."""
+    yield from faces(2 * workers)
+    for worker in range(workers):
+        yield f'queryable {worker} 1 0:s:load/{worker}/** c 0 0'
+    for worker in range(workers):
+        yield 'worker'
+        for i in range(requests // workers):
+            yield from exchange(workers + worker, worker, i, i + 1, 0, f'load/{worker}/{i}')[:3]
+
+
 if __name__ == '__main__':
     made = {name: it for name, it in globals().items() if inspect.isgeneratorfunction(it)}
     if len(sys.argv) < 2 or sys.argv[1] not in made:
