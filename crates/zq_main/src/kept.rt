@@ -1,5 +1,5 @@
 //! A source and a sink that keep what went through them, so that a bad line can be told.
-ghost use Rattle.std.specs.Prelude.{◌≡◌, [], IfSome, Some};
+ghost use Rattle.std.specs.Prelude.{◌≡◌, ◌++◌, [], IfSome, IfNone, Some};
 
 use std::alloc::Global;
 use zq_streams::streams::{Failed, Sink, Source};
@@ -24,7 +24,9 @@ impl Kept {
     }
 
     /// Keeps bytes behind the others.
-    fn push(&mut self, piece: &[u8]) {
+    fn push(&mut self, piece: &[u8])
+        ensures { IfSome self.new.bytes (λ v. IfSome self.old.bytes (λ w. v.items ≡ w.items ++ piece.now)) }
+    {
         let Some(bytes) = &mut self.bytes else {
             return;
         };
@@ -34,7 +36,10 @@ impl Kept {
     }
 
     /// What was kept; nothing where no memory was found.
-    pub fn as_slice(&self) -> &[u8] {
+    pub fn as_slice(&self) -> &[u8]
+        ensures kept { IfSome self.now.bytes (λ v. result.now ≡ v.items) }
+        ensures none { IfNone self.now.bytes (result.now ≡ []) }
+    {
         match &self.bytes {
             Some(bytes) => bytes.as_slice(),
             None => &[],

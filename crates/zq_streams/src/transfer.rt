@@ -1,5 +1,5 @@
 //! Whole transfers.
-ghost use Rattle.std.specs.Prelude.{◌≡◌, ◌≤◌, length, OnOk, OnErr, IfOk, Err};
+ghost use Rattle.std.specs.Prelude.{◌≡◌, ◌≤◌, ℕ, List, length, OnOk, OnErr, IfOk, Err};
 ghost use Rattle.std.specs.Io.KnownBytes.{Consumes, Appends, IsAtEnd};
 ghost use Rattle.zq_streams.specs.declared.transfer.TheConstants.{LIMIT};
 ghost use Rattle.zq_streams.specs.Streams.{Rose, IsLonger, AppendsPrefix};
@@ -34,6 +34,7 @@ pub struct WriteFault;
 #[tactic(auto, using(crate::proofs::Transfers::consumes_more, crate::proofs::Transfers::consumes_none, crate::proofs::Transfers::longer))]
 pub fn read_all<S: Source>(alloc: Global, source: &mut S) -> Result<Bytes, ReadRefusal>
     ensures whole { IfOk result (λ b. Consumes (S.left source.old) (S.left source.new) b × IsAtEnd (S.left source.new)) }
+    ensures front { (b : List ℕ) × Consumes (S.left source.old) (S.left source.new) b }
     ensures short { IfOk result (λ b. length b ≤ LIMIT) }
     ensures fault { result ≡ Err ReadRefusal.ReadFault → Rose (S.faults source.old) (S.faults source.new) }
     ensures quiet { OnOk result (S.faults source.new ≡ S.faults source.old) }

@@ -10,7 +10,7 @@ use zq_prints::steps::print_message;
 use zq_script::script::{Script, read_script};
 
 /// The configuration and the parts of a script.
-pub fn parts_of(alloc: Global, text: &str) -> Result<(Config, Vec<Items<Call>>), Fail> {
+pub(crate) fn parts_of(alloc: Global, text: &str) -> Result<(Config, Vec<Items<Call>>), Fail> {
     match read_script(alloc, text.as_bytes(), 2) {
         Ok(
             Script {
@@ -24,12 +24,12 @@ pub fn parts_of(alloc: Global, text: &str) -> Result<(Config, Vec<Items<Call>>),
 }
 
 /// The last part of a script.
-pub fn last_part(parts: &mut Vec<Items<Call>>) -> Result<Vec<Call>, Fail> {
+pub(crate) fn last_part(parts: &mut Vec<Items<Call>>) -> Result<Vec<Call>, Fail> {
     Ok(parts.pop().ok_or("a part")?.into_vec())
 }
 
 /// What leaves of messages, one a line.
-pub fn print_leaving(alloc: Global, taken: &[Handed]) -> Result<Vec<u8>, Fail> {
+pub(crate) fn print_leaving(alloc: Global, taken: &[Handed]) -> Result<Vec<u8>, Fail> {
     let mut print = Vec::new(alloc);
     for handed in taken {
         let Some(message) = handed.leaves() else {
@@ -42,7 +42,7 @@ pub fn print_leaving(alloc: Global, taken: &[Handed]) -> Result<Vec<u8>, Fail> {
 }
 
 /// Calls, one a line.
-pub fn print_calls(alloc: Global, calls: &[Call]) -> Result<Vec<u8>, Fail> {
+pub(crate) fn print_calls(alloc: Global, calls: &[Call]) -> Result<Vec<u8>, Fail> {
     let mut print = Vec::new(alloc);
     for call in calls {
         print.extend_from_slice(print_call(alloc, call)?.as_slice())?;
