@@ -23,27 +23,31 @@ fn include(a: &str, b: &str) -> Option<bool> {
     }
 }
 
+const IS_KEY: [&str; 11] = [
+    "*/**",
+    "a$*",
+    "@a",
+    "**",
+    "a/b",
+    "*",
+    "$*a",
+    "a$*b$*",
+    "@a$*",
+    "Ȳ/😀",
+    "**/@a/**/b",
+];
+
+const IS_NO_KEY: [&str; 18] = [
+    "", "a//b", "/a", "a/", "a*", "$*", "**/*", "**/**", "$*$*", "a$*$*b", "a$", "$a", "a#b", "a?",
+    "***", "a/$*/b", "$", "/",
+];
+
 #[test]
 fn keys(rt: HostRuntime) {
-    for text in [
-        "*/**",
-        "a$*",
-        "@a",
-        "**",
-        "a/b",
-        "*",
-        "$*a",
-        "a$*b$*",
-        "@a$*",
-        "Ȳ/😀",
-        "**/@a/**/b",
-    ] {
+    for text in IS_KEY {
         assert!(rt; is_key(text), "{text}");
     }
-    for text in [
-        "", "a//b", "/a", "a/", "a*", "$*", "**/*", "**/**", "$*$*", "a$*$*b", "a$", "$a", "a#b",
-        "a?", "***", "a/$*/b", "$", "/",
-    ] {
+    for text in IS_NO_KEY {
         assert!(rt; !is_key(text), "{text}");
     }
     assert!(rt;
@@ -56,80 +60,85 @@ fn keys(rt: HostRuntime) {
     );
 }
 
+// Two keys, whether they meet, and whether the first includes the second.
+const RELATIONS: [(&str, &str, bool, bool); 38] = [
+    ("@a", "**/@a", true, false),
+    ("**/@a", "@a", true, true),
+    ("@a", "**", false, false),
+    ("**", "@a", false, false),
+    ("*", "@a", false, false),
+    ("**", "a/b", true, true),
+    ("*/**", "**/x", true, false),
+    ("**/x", "*/**", true, false),
+    ("a$*b", "a$*c$*b", true, true),
+    ("a$*c$*b", "a$*b", true, false),
+    ("a$*b", "ab", true, true),
+    ("a$*b", "*", true, false),
+    ("*", "a$*b", true, true),
+    ("**", "**", true, true),
+    ("**/a/**", "x/a/y/a", true, true),
+    ("x/**/@v/**/y", "**/@v/y", true, false),
+    ("x/**/@v/**/y", "x/a/@v/b/y", true, true),
+    ("x/**/@v/**/y", "**/@v/b/**", true, false),
+    ("**/a", "a/**", true, false),
+    ("**/a/**", "b/**/c", true, false),
+    ("a/**/b", "a/b", true, true),
+    ("a/**/b/c", "a/b/**", true, false),
+    ("@a$*", "@ab", false, false),
+    ("a$*", "@a", false, false),
+    ("$*a$*b", "$*b", true, false),
+    ("$*b", "$*a$*b", true, true),
+    ("a$*a", "a", false, false),
+    ("**/b", "a/**", true, false),
+    ("a", "b", false, false),
+    ("**/a$*b", "**/b$*ba", false, false),
+    ("**/@ab", "**/@bb", false, false),
+    ("$*ab", "bab", true, true),
+    ("$*xb", "a$*b", true, false),
+    ("**/xb", "**/b", false, false),
+    ("*/b", "a/b", true, true),
+    ("**/a/x", "**/b/x", false, false),
+    ("a/b", "ab", false, false),
+    ("**/a/x", "*/x", true, false),
+];
+
 #[test]
 fn relations(rt: HostRuntime) {
-    for (a, b, met, included) in [
-        ("@a", "**/@a", true, false),
-        ("**/@a", "@a", true, true),
-        ("@a", "**", false, false),
-        ("**", "@a", false, false),
-        ("*", "@a", false, false),
-        ("**", "a/b", true, true),
-        ("*/**", "**/x", true, false),
-        ("**/x", "*/**", true, false),
-        ("a$*b", "a$*c$*b", true, true),
-        ("a$*c$*b", "a$*b", true, false),
-        ("a$*b", "ab", true, true),
-        ("a$*b", "*", true, false),
-        ("*", "a$*b", true, true),
-        ("**", "**", true, true),
-        ("**/a/**", "x/a/y/a", true, true),
-        ("x/**/@v/**/y", "**/@v/y", true, false),
-        ("x/**/@v/**/y", "x/a/@v/b/y", true, true),
-        ("x/**/@v/**/y", "**/@v/b/**", true, false),
-        ("**/a", "a/**", true, false),
-        ("**/a/**", "b/**/c", true, false),
-        ("a/**/b", "a/b", true, true),
-        ("a/**/b/c", "a/b/**", true, false),
-        ("@a$*", "@ab", false, false),
-        ("a$*", "@a", false, false),
-        ("$*a$*b", "$*b", true, false),
-        ("$*b", "$*a$*b", true, true),
-        ("a$*a", "a", false, false),
-        ("**/b", "a/**", true, false),
-        ("a", "b", false, false),
-        ("**/a$*b", "**/b$*ba", false, false),
-        ("**/@ab", "**/@bb", false, false),
-        ("$*ab", "bab", true, true),
-        ("$*xb", "a$*b", true, false),
-        ("**/xb", "**/b", false, false),
-        ("*/b", "a/b", true, true),
-        ("**/a/x", "**/b/x", false, false),
-        ("a/b", "ab", false, false),
-        ("**/a/x", "*/x", true, false),
-    ] {
-        assert_eq!(rt; meet(a, b), Some(met), "{a} meets {b}");
-        assert_eq!(rt; include(a, b), Some(included), "{a} includes {b}");
+    for (a, b, met, included) in RELATIONS {
+        let found = (meet(a, b), include(a, b));
+        assert!(rt; found == (Some(met), Some(included)), "{a} and {b}");
     }
+}
+
+// Whether the key meets exactly the marked ones.
+fn meets_marked(a: &str, marks: &str) -> bool {
+    KEYS.iter()
+        .zip(marks.as_bytes())
+        .all(|((b, _), mark)| meet(a, b) == Some(*mark == b'x'))
 }
 
 #[test]
 fn each_against_each(rt: HostRuntime) {
-    for (a, met) in KEYS {
-        for ((b, _), mark) in KEYS.iter().zip(met.as_bytes()) {
-            assert_eq!(rt; meet(a, b), Some(*mark == b'x'), "{a} meets {b}");
-        }
+    for (a, marks) in KEYS {
+        assert!(rt; meets_marked(a, marks), "{a}");
     }
 }
+
+// A text, its first chunk, and the rest.
+const FIRST_CHUNKS: [(&str, &str, &str); 6] = [
+    ("/a/b", "/a", "/b"),
+    ("a/b", "a", "/b"),
+    ("/a", "/a", ""),
+    ("Ȳ/b", "Ȳ", "/b"),
+    ("Ȳ", "Ȳ", ""),
+    ("/Ȳ/😀", "/Ȳ", "/😀"),
+];
 
 #[test]
 fn first_chunks(rt: HostRuntime) {
     assert!(rt; split_first_chunk("").is_none());
-    for (text, chunk, rest) in [
-        ("/a/b", "/a", "/b"),
-        ("a/b", "a", "/b"),
-        ("/a", "/a", ""),
-        ("Ȳ/b", "Ȳ", "/b"),
-        ("Ȳ", "Ȳ", ""),
-        ("/Ȳ/😀", "/Ȳ", "/😀"),
-    ] {
-        match split_first_chunk(text) {
-            Some((first, after)) => {
-                assert_eq!(rt; first, chunk);
-                assert_eq!(rt; after, rest);
-            }
-            None => assert!(rt; false, "{text}"),
-        }
+    for (text, chunk, rest) in FIRST_CHUNKS {
+        assert!(rt; split_first_chunk(text) == Some((chunk, rest)), "{text}");
     }
 }
 
@@ -158,31 +167,53 @@ fn repeated(alloc: Global, part: &str, times: usize, end: &str) -> Result<String
     Ok(text)
 }
 
-// The ends tell of the first two alone.
-#[test]
-fn long_chunks(rt: HostRuntime) -> Result<(), Fail> {
-    let alloc = rt.alloc();
+// Whether the runs meet two others and include one, and themselves: the ends tell of the first two alone.
+fn long_relations(alloc: Global) -> Result<[Option<bool>; 4], Fail> {
     let runs = repeated(alloc, "a$*", 300, "b$*d")?;
     let others = repeated(alloc, "$*a", 300, "c")?;
     let plain = repeated(alloc, "a", 600, "cd")?;
-    assert_eq!(rt; meet(runs.as_str(), others.as_str()), Some(false));
-    assert_eq!(rt; meet(runs.as_str(), plain.as_str()), Some(false));
-    assert_eq!(rt; include(runs.as_str(), others.as_str()), Some(false));
-    assert_eq!(rt; include(runs.as_str(), runs.as_str()), Some(true));
+    Ok([
+        meet(runs.as_str(), others.as_str()),
+        meet(runs.as_str(), plain.as_str()),
+        include(runs.as_str(), others.as_str()),
+        include(runs.as_str(), runs.as_str()),
+    ])
+}
+
+#[test]
+fn long_chunks(rt: HostRuntime) -> Result<(), Fail> {
+    let found = long_relations(rt.alloc())?;
+    assert!(rt; found == [Some(false), Some(false), Some(false), Some(true)]);
     Ok(())
+}
+
+// The same of many chunks, of which they may include both.
+fn many_relations(alloc: Global) -> Result<[Option<bool>; 5], Fail> {
+    let stars = repeated(alloc, "**/a/", 300, "b/*")?;
+    let chunks = repeated(alloc, "a/**/", 300, "c/*")?;
+    let flat = repeated(alloc, "a/", 600, "c/*")?;
+    Ok([
+        meet(stars.as_str(), chunks.as_str()),
+        meet(stars.as_str(), flat.as_str()),
+        include(stars.as_str(), chunks.as_str()),
+        include(stars.as_str(), flat.as_str()),
+        include(stars.as_str(), stars.as_str()),
+    ])
 }
 
 #[test]
 fn many_chunks(rt: HostRuntime) -> Result<(), Fail> {
-    let alloc = rt.alloc();
-    let stars = repeated(alloc, "**/a/", 300, "b/*")?;
-    let chunks = repeated(alloc, "a/**/", 300, "c/*")?;
-    let flat = repeated(alloc, "a/", 600, "c/*")?;
-    assert_eq!(rt; meet(stars.as_str(), chunks.as_str()), Some(false));
-    assert_eq!(rt; meet(stars.as_str(), flat.as_str()), Some(false));
-    assert_eq!(rt; include(stars.as_str(), chunks.as_str()), Some(false));
-    assert_eq!(rt; include(stars.as_str(), flat.as_str()), Some(false));
-    assert_eq!(rt; include(stars.as_str(), stars.as_str()), Some(true));
+    let found = many_relations(rt.alloc())?;
+    assert!(rt;
+        found
+            == [
+                Some(false),
+                Some(false),
+                Some(false),
+                Some(false),
+                Some(true)
+            ]
+    );
     Ok(())
 }
 

@@ -1,5 +1,4 @@
 use std::alloc::Global;
-use std::test::Fail;
 use zq_given::CLIENTS;
 use zq_message::memory::OutOfMemory;
 use zq_message::message::{Mode, Region};
@@ -24,26 +23,39 @@ fn two(alloc: Global) -> Result<RegionMap<u32>, OutOfMemory> {
     Ok(map)
 }
 
-#[test]
-fn a_later_entry_stays(rt: HostRuntime) -> Result<(), Fail> {
-    let map = two(rt.alloc())?;
-    assert_eq!(rt; map.get(&Region::North).copied(), Some(5));
-    assert_eq!(rt; map.get(&CLIENTS).copied(), Some(7));
-    assert_eq!(rt; map.values().count(), 2);
-    Ok(())
+// What stands in North and in the clients, and how many entries there are.
+fn standing(alloc: Global) -> Result<(Option<u32>, Option<u32>, usize), OutOfMemory> {
+    let map = two(alloc)?;
+    Ok((
+        map.get(&Region::North).copied(),
+        map.get(&CLIENTS).copied(),
+        map.values().count(),
+    ))
 }
 
 #[test]
-fn one_and_the_others(rt: HostRuntime) -> Result<(), Fail> {
-    let map = two(rt.alloc())?;
-    assert!(rt; map.partition(rt.alloc(), &Region::Local)?.is_none());
-    assert!(rt; map.partition(rt.alloc(), &CLIENTS)?.is_some());
-    Ok(())
+fn a_later_entry_stays(rt: HostRuntime) {
+    assert!(rt; standing(rt.alloc()) == Ok((Some(5), Some(7), 2)));
+}
+
+// Whether a region can be parted from the others.
+fn is_parted(alloc: Global, region: &Region) -> Result<bool, OutOfMemory> {
+    Ok(two(alloc)?.partition(alloc, region)?.is_some())
 }
 
 #[test]
-fn each_changed(rt: HostRuntime) -> Result<(), Fail> {
-    let halved = two(rt.alloc())?.map_ref(rt.alloc(), |d| d / 2)?;
-    assert_eq!(rt; halved.get(&CLIENTS).copied(), Some(3));
-    Ok(())
+fn one_and_the_others(rt: HostRuntime) {
+    assert!(rt; is_parted(rt.alloc(), &Region::Local) == Ok(false));
+    assert!(rt; is_parted(rt.alloc(), &CLIENTS) == Ok(true));
+}
+
+// The half of what stands in the clients.
+fn half(alloc: Global) -> Result<Option<u32>, OutOfMemory> {
+    let halved = two(alloc)?.map_ref(alloc, |d| d / 2)?;
+    Ok(halved.get(&CLIENTS).copied())
+}
+
+#[test]
+fn each_changed(rt: HostRuntime) {
+    assert!(rt; half(rt.alloc()) == Ok(Some(3)));
 }

@@ -42,23 +42,29 @@ fn are_first(counters: &Counters) -> bool {
         && counters.request_ids == 0
 }
 
+// Whether the configuration has what it was made of.
+fn is_as_made(config: &Config) -> bool {
+    config.zid() == Zid(1)
+        && config.north() == Mode::Client
+        && config.has_local()
+        && config.has_region(Region::North)
+        && config.timeout() == 10_000
+        && are_first(config.counters())
+}
+
+// Whether the gateway has its id and its mode in North.
+fn is_of_it(gateway: &Gateway) -> bool {
+    gateway.zid() == Zid(1) && gateway.north() == Mode::Client
+}
+
 // Whether a configuration, and its gateway, have what it was made of.
-fn has_all(alloc: Global) -> Result<bool, OutOfMemory> {
+fn have_all(alloc: Global) -> Result<[bool; 2], OutOfMemory> {
     let config = config(alloc)?;
     let gateway = Gateway::new(alloc, &config)?;
-    Ok(
-        config.zid() == Zid(1)
-            && config.north() == Mode::Client
-            && config.has_local()
-            && config.has_region(Region::North)
-            && config.timeout() == 10_000
-            && are_first(config.counters())
-            && gateway.zid() == Zid(1)
-            && gateway.north() == Mode::Client,
-    )
+    Ok([is_as_made(&config), is_of_it(&gateway)])
 }
 
 #[test]
 fn configurations(rt: HostRuntime) {
-    assert!(rt; has_all(rt.alloc()) == Ok(true));
+    assert!(rt; have_all(rt.alloc()) == Ok([true, true]));
 }

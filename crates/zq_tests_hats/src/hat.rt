@@ -3,7 +3,7 @@ use zq_given::information;
 use zq_hat::hat::Hat;
 use zq_hat::types::{FaceRecord, FinalMark, HatRefusal, UnregisterEntityResult};
 use zq_key::Key;
-use zq_key::message::{Bound, FaceId, Mode, Region, Zid};
+use zq_key::message::{Bound, FaceId, Mode, QueryableInfoType, Region, Zid};
 use zq_key::text::Text;
 
 fn open(hat: &mut Hat, number: u32) -> bool {
@@ -78,47 +78,67 @@ fn first_offer(hat: &Hat, text: &str) -> Option<(usize, u32, bool, u16)> {
     Some((offers.len(), offer.face.0, info.complete, info.distance))
 }
 
-/// The local region with faces 0 and 1, which both declared `k`; face 1 declared `**`, too.
-fn local(alloc: Global) -> Option<Hat> {
+/// The local region with faces 0 and 1.
+fn opened(alloc: Global) -> Option<Hat> {
     let mut hat = Hat::new(alloc, Region::Local, Mode::Client, Zid(1), 0);
-    for number in [0, 1] {
-        if !open(&mut hat, number) {
-            return None;
-        }
+    if open(&mut hat, 0) && open(&mut hat, 1) {
+        Some(hat)
+    } else {
+        None
     }
+}
+
+/// Both faces declare `k`, and face 1 `**`, too.
+fn declare_all(hat: &mut Hat, alloc: Global) -> Option<()> {
     for (face, id, text, complete) in [(0, 1, "k", true), (1, 1, "k", false), (1, 2, "**", false)] {
-        declare(&mut hat, alloc, face, id, text, complete)?;
+        declare(hat, alloc, face, id, text, complete)?;
     }
+    Some(())
+}
+
+/// The local region with faces 0 and 1, which declared all that.
+fn local(alloc: Global) -> Option<Hat> {
+    let mut hat = opened(alloc)?;
+    declare_all(&mut hat, alloc)?;
     Some(hat)
+}
+
+/// An offer of the region as `first_offer` tells it.
+type Offered = Option<(usize, u32, bool, u16)>;
+
+/// The first offer of `k` in the region, and of `m` in a copy of it.
+fn first_offers(alloc: Global) -> Option<[Offered; 2]> {
+    let hat = local(alloc)?;
+    let copy = hat.copy(alloc).ok()?;
+    Some([first_offer(&hat, "k"), first_offer(&copy, "m")])
 }
 
 #[test]
 fn offers(rt: HostRuntime) {
-    let Some(hat) = local(rt.alloc()) else {
-        return assert!(rt; false);
-    };
-    let copied = hat.copy(rt.alloc());
-    let Ok(copy) = copied else {
-        return assert!(rt; false);
-    };
-    assert_eq!(rt; first_offer(&hat, "k"), Some((3, 1, false, 0)));
-    assert_eq!(rt; first_offer(&copy, "m"), Some((1, 1, false, 0)));
+    let first = [Some((3, 1, false, 0)), Some((1, 1, false, 0))];
+    assert!(rt; first_offers(rt.alloc()) == Some(first));
+}
+
+/// What the region has on `k` once face 0 has withdrawn it, where the other declaration stays.
+fn left_of(hat: &mut Hat) -> Option<QueryableInfoType> {
+    match withdraw(hat, 0, 1) {
+        Some(Ok(UnregisterEntityResult::InfoUpdate(_))) => hat.remote_queryables_of("k"),
+        _ => None,
+    }
+}
+
+/// What is left of `k` as face 0 withdraws it, how many keys face 1 had, and the offer of `k` then.
+fn withdrawn(alloc: Global) -> Option<(Option<QueryableInfoType>, Option<usize>, Offered)> {
+    let mut hat = local(alloc)?;
+    let left = left_of(&mut hat);
+    let keys = close(&mut hat, 1);
+    Some((left, keys, first_offer(&hat, "k")))
 }
 
 #[test]
 fn withdrawals(rt: HostRuntime) {
-    let Some(mut hat) = local(rt.alloc()) else {
-        return assert!(rt; false);
-    };
-    assert!(rt;
-        matches!(
-            withdraw(&mut hat, 0, 1),
-            Some(Ok(UnregisterEntityResult::InfoUpdate(_)))
-        )
-    );
-    assert_eq!(rt; hat.remote_queryables_of("k"), Some(information(false, 0)));
-    assert_eq!(rt; close(&mut hat, 1), Some(2));
-    assert_eq!(rt; first_offer(&hat, "k"), None);
+    let left = Some(information(false, 0));
+    assert!(rt; withdrawn(rt.alloc()) == Some((left, Some(2), None)));
 }
 
 /// How many offers an asker of the region finds on the key.
@@ -150,35 +170,49 @@ fn north(alloc: Global, mode: Mode) -> Option<Hat> {
     Some(hat)
 }
 
+/// How many offers a peer makes of `k`, to the local region and to its own, as it is marked and unmarked.
+fn offered_by_peer(alloc: Global) -> Option<[Option<usize>; 4]> {
+    let mut hat = north(alloc, Mode::Peer)?;
+    let at_first = offered(&hat, Region::Local, "k");
+    let at_home = offered(&hat, Region::North, "k");
+    if !mark(&mut hat, &FinalMark::Initial, true) {
+        return None;
+    }
+    let marked = offered(&hat, Region::Local, "k");
+    if !mark(&mut hat, &FinalMark::Initial, false) {
+        return None;
+    }
+    Some([at_first, at_home, marked, offered(&hat, Region::Local, "k")])
+}
+
 // A peer is offered without a declaration until all that it had at its opening has come.
 #[test]
 fn peers(rt: HostRuntime) {
-    let Some(mut hat) = north(rt.alloc(), Mode::Peer) else {
-        return assert!(rt; false);
-    };
-    assert_eq!(rt; offered(&hat, Region::Local, "k"), Some(1));
-    assert_eq!(rt; offered(&hat, Region::North, "k"), Some(0));
-    assert!(rt; mark(&mut hat, &FinalMark::Initial, true));
-    assert_eq!(rt; offered(&hat, Region::Local, "k"), Some(0));
-    assert!(rt; mark(&mut hat, &FinalMark::Initial, false));
-    assert_eq!(rt; offered(&hat, Region::Local, "k"), Some(1));
+    let found = [Some(1), Some(0), Some(0), Some(1)];
+    assert!(rt; offered_by_peer(rt.alloc()) == Some(found));
+}
+
+/// How many offers the upstream makes of `k` and `m` where `k` is marked, and of `k` where it no longer is.
+fn offered_upstream(hat: &mut Hat, key: &FinalMark) -> Option<[Option<usize>; 3]> {
+    if !hat.is_full() || !mark(hat, key, true) {
+        return None;
+    }
+    let marked = offered(hat, Region::Local, "k");
+    let other = offered(hat, Region::Local, "m");
+    if !mark(hat, key, false) {
+        return None;
+    }
+    Some([marked, other, offered(hat, Region::Local, "k")])
+}
+
+fn upstream_of(alloc: Global) -> Option<[Option<usize>; 3]> {
+    let mut hat = north(alloc, Mode::Client)?;
+    let key = FinalMark::Key(Text::new(alloc, "k").ok()?);
+    offered_upstream(&mut hat, &key)
 }
 
 // A client region has one face, which is offered on a key until the key is marked.
 #[test]
 fn upstream(rt: HostRuntime) {
-    let alloc = rt.alloc();
-    let Some(mut hat) = north(alloc, Mode::Client) else {
-        return assert!(rt; false);
-    };
-    let Ok(text) = Text::new(alloc, "k") else {
-        return assert!(rt; false);
-    };
-    assert!(rt; hat.is_full());
-    let key = FinalMark::Key(text);
-    assert!(rt; mark(&mut hat, &key, true));
-    assert_eq!(rt; offered(&hat, Region::Local, "k"), Some(0));
-    assert_eq!(rt; offered(&hat, Region::Local, "m"), Some(1));
-    assert!(rt; mark(&mut hat, &key, false));
-    assert_eq!(rt; offered(&hat, Region::Local, "k"), Some(1));
+    assert!(rt; upstream_of(rt.alloc()) == Some([Some(0), Some(1), Some(1)]));
 }

@@ -71,17 +71,29 @@ fn told<H: HatQueriesTrait>(hat: &H, key: &str) -> Result<usize, OutOfMemory> {
     Ok(changed.max(ended).max(last))
 }
 
+/// What the trait's methods answer of the region: what stands on the key, and how many of each there are.
+fn asked(alloc: Global, hat: &Hat, key: &Key) -> Option<([usize; 5], usize)> {
+    if HatQueriesTrait::remote_queryables_of(hat, "k") != Some(information(true, 0)) {
+        return None;
+    }
+    Some((counted(alloc, hat, key).ok()?, told(hat, "k").ok()?))
+}
+
+/// The same of a region whose face 1 declared the key, and withdraws it then.
+fn by_its_trait(alloc: Global) -> Option<([usize; 5], usize)> {
+    let mut hat = local(alloc)?;
+    let key = Key::new(alloc, "k").ok()?;
+    if !hat.has_face(FaceId(1)) || !declared(&mut hat, &key) {
+        return None;
+    }
+    let found = asked(alloc, &hat, &key)?;
+    if !hat.has_face(FaceId(1)) || !withdrawn(&mut hat) {
+        return None;
+    }
+    Some(found)
+}
+
 #[test]
 fn by_the_trait(rt: HostRuntime) {
-    let (Some(mut hat), Ok(key)) = (local(rt.alloc()), Key::new(rt.alloc(), "k")) else {
-        return assert!(rt; false);
-    };
-    assert!(rt; hat.has_face(FaceId(1)) && declared(&mut hat, &key));
-    assert_eq!(rt;
-        HatQueriesTrait::remote_queryables_of(&hat, "k"),
-        Some(information(true, 0))
-    );
-    assert!(rt; counted(rt.alloc(), &hat, &key) == Ok([1, 1, 1, 1, 0]));
-    assert!(rt; told(&hat, "k") == Ok(0));
-    assert!(rt; hat.has_face(FaceId(1)) && withdrawn(&mut hat));
+    assert!(rt; by_its_trait(rt.alloc()) == Some(([1, 1, 1, 1, 0], 0)));
 }

@@ -64,18 +64,20 @@ fn picked(alloc: Global, target: QueryTarget) -> Result<Vec<u32>, OutOfMemory> {
     Ok(faces)
 }
 
+/// Whether a target picks these faces of them.
+fn picks(alloc: Global, target: QueryTarget, want: &[u32]) -> Result<bool, OutOfMemory> {
+    Ok(picked(alloc, target)?.as_slice() == want)
+}
+
 #[test]
-fn picks_by_target(rt: HostRuntime) -> Result<(), Fail> {
-    let alloc = rt.alloc();
+fn picks_by_target(rt: HostRuntime) {
     for (target, want) in [
         (QueryTarget::All, [2, 3, 4].as_slice()),
         (QueryTarget::AllComplete, [3, 4, 2].as_slice()),
         (QueryTarget::BestMatching, [4].as_slice()),
     ] {
-        let faces = picked(alloc, target)?;
-        assert_eq!(rt; faces.as_slice(), want);
+        assert!(rt; picks(rt.alloc(), target, want) == Ok(true));
     }
-    Ok(())
 }
 
 /// A table of the clients that gives node 10 the gateways 3 and 4, and node 11 none.
@@ -92,26 +94,40 @@ fn table(alloc: Global) -> Result<RegionMap<Gateways>, OutOfMemory> {
     Ok(tables)
 }
 
+// The source of a query, the node before the gateway, the gateway, and whether it carries the query.
+const CARRIES: [(Option<u128>, Option<u128>, u128, bool); 7] = [
+    (Some(9), Some(10), 4, true),
+    (Some(9), Some(10), 3, false),
+    (Some(3), Some(10), 4, false),
+    (Some(9), Some(11), 3, true),
+    (Some(9), Some(12), 3, true),
+    (Some(9), None, 3, true),
+    (None, Some(10), 3, true),
+];
+
+/// Whether the gateway of that id carries from the clients to the upstream what came from the source by the
+/// node.
+fn carries(
+    tables: &RegionMap<Gateways>,
+    src_zid: Option<u128>,
+    fwd_zid: Option<u128>,
+    own: u128,
+) -> bool {
+    let filter = InterRegionFilter {
+        src: CLIENTS,
+        dst: Region::North,
+        src_zid: src_zid.map(|zid| Zid(zid)),
+        fwd_zid: fwd_zid.map(|zid| Zid(zid)),
+        dst_zid: Some(Zid(99)),
+    };
+    filter.resolve(tables, Zid(own))
+}
+
 #[test]
 fn carries_by_list(rt: HostRuntime) -> Result<(), Fail> {
     let tables = table(rt.alloc())?;
-    for (src_zid, fwd_zid, own, want) in [
-        (Some(9), Some(10), 4, true),
-        (Some(9), Some(10), 3, false),
-        (Some(3), Some(10), 4, false),
-        (Some(9), Some(11), 3, true),
-        (Some(9), Some(12), 3, true),
-        (Some(9), None, 3, true),
-        (None, Some(10), 3, true),
-    ] {
-        let filter = InterRegionFilter {
-            src: CLIENTS,
-            dst: Region::North,
-            src_zid: src_zid.map(|zid| Zid(zid)),
-            fwd_zid: fwd_zid.map(|zid| Zid(zid)),
-            dst_zid: Some(Zid(99)),
-        };
-        assert_eq!(rt; filter.resolve(&tables, Zid(own)), want);
+    for (src_zid, fwd_zid, own, want) in CARRIES {
+        assert_eq!(rt; carries(&tables, src_zid, fwd_zid, own), want);
     }
     Ok(())
 }

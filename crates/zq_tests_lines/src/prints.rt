@@ -44,10 +44,14 @@ fn steps_are_printed(rt: HostRuntime) {
     assert_eq!(rt; step_is_printed(rt.alloc(), want.as_slice()), Ok(true));
 }
 
+/// Whether the message is printed so.
+fn is_printed(alloc: Global, message: &Message, want: &[u8]) -> Result<bool, OutOfMemory> {
+    Ok(print_message(alloc, message)?.as_slice() == want)
+}
+
 /// Whether a final is printed so.
 fn final_is_printed(alloc: Global, want: &[u8]) -> Result<bool, OutOfMemory> {
-    let handed = handed(7, Leaves::Same);
-    Ok(print_message(alloc, handed.message())?.as_slice() == want)
+    is_printed(alloc, handed(7, Leaves::Same).message(), want)
 }
 
 #[test]

@@ -34,24 +34,27 @@ fn step(alloc: Global, declared: &str, key: &str, q: &str) -> Result<String, Out
     }
 }
 
+// A declared key, the key at which the search is, the request's key, and where the search goes on.
+const STEPS: [(&str, &str, &str, &str); 14] = [
+    ("k", "a", "a", "="),
+    ("k", "a", "b", "b"),
+    ("k", "b", "a", ""),
+    ("k/z$*", "k/a", "k/é", "k/\u{bf}"),
+    ("k/z$*", "k/a", "k/é/*", "k/\u{bf}"),
+    ("k/z$*", "k/a", "k/\u{80}", "k/\u{7f}"),
+    ("k/é$*", "k/è", "k/ê", "k/ê"),
+    ("k/é$*", "k/è/a", "k/ê/*", "k/ê"),
+    ("k/丮$*", "k/中", "k/乐", "k/丿"),
+    ("k/ab$*", "k/aa", "k/abc", "k/ab$*"),
+    ("k/ab$*", "k/aa", "k/ac", "k/ac"),
+    ("z/*", "z", "zzz", "z/*"),
+    ("z/*", "z/*", "zzz", "zzz"),
+    ("k/b/*", "k/a/b", "k/€€€€€€€€€€€€", "k/€€€€€€€€€€€"),
+];
+
 #[test]
 fn steps(rt: HostRuntime) -> Result<(), Fail> {
-    for (declared, key, q, want) in [
-        ("k", "a", "a", "="),
-        ("k", "a", "b", "b"),
-        ("k", "b", "a", ""),
-        ("k/z$*", "k/a", "k/é", "k/\u{bf}"),
-        ("k/z$*", "k/a", "k/é/*", "k/\u{bf}"),
-        ("k/z$*", "k/a", "k/\u{80}", "k/\u{7f}"),
-        ("k/é$*", "k/è", "k/ê", "k/ê"),
-        ("k/é$*", "k/è/a", "k/ê/*", "k/ê"),
-        ("k/丮$*", "k/中", "k/乐", "k/丿"),
-        ("k/ab$*", "k/aa", "k/abc", "k/ab$*"),
-        ("k/ab$*", "k/aa", "k/ac", "k/ac"),
-        ("z/*", "z", "zzz", "z/*"),
-        ("z/*", "z/*", "zzz", "zzz"),
-        ("k/b/*", "k/a/b", "k/€€€€€€€€€€€€", "k/€€€€€€€€€€€"),
-    ] {
+    for (declared, key, q, want) in STEPS {
         let at = step(rt.alloc(), declared, key, q)?;
         assert_eq!(rt; at.as_str(), want);
     }

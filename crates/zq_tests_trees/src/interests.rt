@@ -1,5 +1,4 @@
 use std::alloc::Global;
-use std::test::Fail;
 use zq_interests::interests::Interests;
 use zq_interests::numbers::{Keyed, WithInterest};
 use zq_interests::types::InterestEntry;
@@ -43,16 +42,25 @@ fn ask(
     }
 }
 
-/// The faces that ask for the key; a text that is no key has no answer.
-fn askers(asked: &Interests, alloc: Global, text: &str) -> Result<Vec<u32>, OutOfMemory> {
+/// Whether these are the faces that ask for the key; not of a text that is no key.
+fn are_askers(
+    asked: &Interests,
+    alloc: Global,
+    text: &str,
+    want: &[u32],
+) -> Result<bool, OutOfMemory> {
     if !is_key(text) {
-        return Err(OutOfMemory);
+        return Ok(false);
     }
-    let mut numbers = Vec::new(alloc);
-    for face in asked.askers(alloc, text)?.as_slice() {
-        numbers.push(face.0)?;
-    }
-    Ok(numbers)
+    let found = asked.askers(alloc, text)?;
+    let found = found.as_slice();
+    Ok(
+        found.len() == want.len()
+            && found
+                .iter()
+                .zip(want)
+                .all(|(face, number)| face.0 == *number),
+    )
 }
 
 /// Whether the face asks for the key, and whether numbers may be declared for keys there; none where the
@@ -83,57 +91,92 @@ fn three_ask(alloc: Global) -> Result<Interests, OutOfMemory> {
     Ok(asked)
 }
 
-#[test]
-fn faces_ask(rt: HostRuntime) -> Result<(), Fail> {
-    let alloc = rt.alloc();
+/// Whether those ask for keys who should.
+fn all_ask(alloc: Global) -> Result<[bool; 3], OutOfMemory> {
     let asked = three_ask(alloc)?;
-    assert_eq!(rt;
-        askers(&asked, alloc, "a/b")?.as_slice(),
-        [3, 5, 9].as_slice()
-    );
-    assert_eq!(rt;
-        askers(&asked, alloc, "a/b/c")?.as_slice(),
-        [3, 5].as_slice()
-    );
-    assert_eq!(rt; askers(&asked, alloc, "b")?.as_slice(), [5].as_slice());
-    Ok(())
+    Ok([
+        are_askers(&asked, alloc, "a/b", &[3, 5, 9])?,
+        are_askers(&asked, alloc, "a/b/c", &[3, 5])?,
+        are_askers(&asked, alloc, "b", &[5])?,
+    ])
 }
 
 #[test]
-fn a_face_asks(rt: HostRuntime) -> Result<(), Fail> {
-    let asked = three_ask(rt.alloc())?;
-    assert_eq!(rt; asks(&asked, 9, "a/c"), Some((true, true)));
-    assert_eq!(rt; asks(&asked, 3, "a/c"), Some((true, false)));
-    assert_eq!(rt; asks(&asked, 3, "b"), Some((false, false)));
-    assert!(rt; asked.get(FaceId(3), 2).is_some());
-    assert!(rt; asked.get(FaceId(3), 7).is_none());
-    assert_eq!(rt; count(&asked, 3), Some(2));
-    Ok(())
+fn faces_ask(rt: HostRuntime) {
+    assert_eq!(rt; all_ask(rt.alloc()), Ok([true, true, true]));
 }
 
-// Another interest under an id takes its place.
+/// What faces 9 and 3 ask for, and how many interests 3 has.
+fn asked_of_three(
+    alloc: Global,
+) -> Result<([Option<(bool, bool)>; 3], Option<usize>), OutOfMemory> {
+    let asked = three_ask(alloc)?;
+    let answers = [
+        asks(&asked, 9, "a/c"),
+        asks(&asked, 3, "a/c"),
+        asks(&asked, 3, "b"),
+    ];
+    Ok((answers, count(&asked, 3)))
+}
+
 #[test]
-fn interests_change(rt: HostRuntime) -> Result<(), Fail> {
-    let alloc = rt.alloc();
+fn a_face_asks(rt: HostRuntime) {
+    let answers = [
+        Some((true, true)),
+        Some((true, false)),
+        Some((false, false)),
+    ];
+    assert_eq!(rt; asked_of_three(rt.alloc()), Ok((answers, Some(2))));
+}
+
+/// Whether face 3 has an interest 2, and an interest 7.
+fn has_interests(alloc: Global) -> Result<[bool; 2], OutOfMemory> {
+    let asked = three_ask(alloc)?;
+    Ok([
+        asked.get(FaceId(3), 2).is_some(),
+        asked.get(FaceId(3), 7).is_some(),
+    ])
+}
+
+#[test]
+fn interests_are_found(rt: HostRuntime) {
+    assert_eq!(rt; has_interests(rt.alloc()), Ok([true, false]));
+}
+
+/// Whether another interest under an id takes its place.
+fn changed(alloc: Global) -> Result<[bool; 2], OutOfMemory> {
     let mut asked = three_ask(alloc)?;
     ask(&mut asked, alloc, 9, 1, Some("c"), false)?;
-    assert_eq!(rt; askers(&asked, alloc, "a/x")?.as_slice(), [3, 5].as_slice());
-    assert_eq!(rt; askers(&asked, alloc, "c")?.as_slice(), [5, 9].as_slice());
-    Ok(())
+    Ok([
+        are_askers(&asked, alloc, "a/x", &[3, 5])?,
+        are_askers(&asked, alloc, "c", &[5, 9])?,
+    ])
 }
 
 #[test]
-fn interests_end(rt: HostRuntime) -> Result<(), Fail> {
-    let alloc = rt.alloc();
+fn interests_change(rt: HostRuntime) {
+    assert_eq!(rt; changed(rt.alloc()), Ok([true, true]));
+}
+
+/// How many interests 3 and 8 have once some have ended, and whether those ask for a key whom a closed face
+/// leaves.
+fn ended(alloc: Global) -> Result<(Option<usize>, Option<usize>, bool), OutOfMemory> {
     let mut asked = three_ask(alloc)?;
     asked.end(FaceId(3), 2);
     asked.end(FaceId(3), 8);
     asked.end(FaceId(8), 1);
-    assert_eq!(rt; count(&asked, 3), Some(1));
-    assert_eq!(rt; count(&asked, 8), None);
+    let counts = (count(&asked, 3), count(&asked, 8));
     asked.close(FaceId(3));
-    assert_eq!(rt; askers(&asked, alloc, "a/b")?.as_slice(), [5, 9].as_slice());
-    Ok(())
+    Ok((
+        counts.0,
+        counts.1,
+        are_askers(&asked, alloc, "a/b", &[5, 9])?,
+    ))
+}
+
+#[test]
+fn interests_end(rt: HostRuntime) {
+    assert_eq!(rt; ended(rt.alloc()), Ok((Some(1), None, true)));
 }
 
 /// Whether the face asks for the key by other interests; none where the text is no key.
@@ -144,14 +187,21 @@ fn besides(asked: &Interests, face: u32, id: u32, text: &str) -> Option<bool> {
     Some(asked.asks_besides(FaceId(face), id, text))
 }
 
+/// Whether faces ask for keys by other interests than one.
+fn left_out(alloc: Global) -> Result<[Option<bool>; 4], OutOfMemory> {
+    let asked = three_ask(alloc)?;
+    Ok([
+        besides(&asked, 3, 1, "a/b"),
+        besides(&asked, 3, 2, "a/c"),
+        besides(&asked, 3, 8, "a/c"),
+        besides(&asked, 8, 1, "a/c"),
+    ])
+}
+
 #[test]
-fn an_interest_is_left_out(rt: HostRuntime) -> Result<(), Fail> {
-    let asked = three_ask(rt.alloc())?;
-    assert_eq!(rt; besides(&asked, 3, 1, "a/b"), Some(true));
-    assert_eq!(rt; besides(&asked, 3, 2, "a/c"), Some(false));
-    assert_eq!(rt; besides(&asked, 3, 8, "a/c"), Some(true));
-    assert_eq!(rt; besides(&asked, 8, 1, "a/c"), Some(false));
-    Ok(())
+fn an_interest_is_left_out(rt: HostRuntime) {
+    let found = [Some(true), Some(false), Some(true), Some(false)];
+    assert_eq!(rt; left_out(rt.alloc()), Ok(found));
 }
 
 /// Whether the face asks for something else under the id.
@@ -166,16 +216,22 @@ fn another(
     Ok(asked.asks_another(FaceId(face), id, key.as_ref()))
 }
 
-#[test]
-fn an_id_asks_for_another_key(rt: HostRuntime) -> Result<(), Fail> {
-    let alloc = rt.alloc();
+/// Whether the interests 1 of face 3, and 7 and 8 of face 5, are for something else.
+fn anothers(alloc: Global) -> Result<[bool; 5], OutOfMemory> {
     let asked = three_ask(alloc)?;
-    assert_eq!(rt; another(&asked, alloc, 3, 1, Some("a/b")), Ok(false));
-    assert_eq!(rt; another(&asked, alloc, 3, 1, Some("a/*")), Ok(true));
-    assert_eq!(rt; another(&asked, alloc, 5, 7, None), Ok(false));
-    assert_eq!(rt; another(&asked, alloc, 5, 7, Some("a")), Ok(true));
-    assert_eq!(rt; another(&asked, alloc, 5, 8, Some("a")), Ok(false));
-    Ok(())
+    Ok([
+        another(&asked, alloc, 3, 1, Some("a/b"))?,
+        another(&asked, alloc, 3, 1, Some("a/*"))?,
+        another(&asked, alloc, 5, 7, None)?,
+        another(&asked, alloc, 5, 7, Some("a"))?,
+        another(&asked, alloc, 5, 8, Some("a"))?,
+    ])
+}
+
+#[test]
+fn an_id_asks_for_another_key(rt: HostRuntime) {
+    let found = [false, true, false, true, false];
+    assert_eq!(rt; anothers(rt.alloc()), Ok(found));
 }
 
 /// Whether the face wants numbers for the key; none where the text is no key.
