@@ -1,5 +1,6 @@
 use crate::given::{application, config, gateway};
 use std::alloc::Global;
+use std::test::Fail;
 use zq_gateway::gateway::Gateway;
 use zq_gateway::runs::replay;
 use zq_given::{CLIENTS, information, wire};
@@ -136,41 +137,43 @@ const DONE: Seen = Some((Outcome::Done, 0));
 const UNKNOWN_FACE: Seen = Some((Outcome::Refused(Refusal::UnknownFace), 0));
 
 // What a face is answered that opens and declares.
-fn declared(alloc: Global) -> Result<[Seen; 4], OutOfMemory> {
-    let mut gateway = gateway(alloc)?;
-    Ok([
-        opens(&mut gateway, alloc, 10),
-        names_key(&mut gateway, alloc),
-        registers(&mut gateway, alloc),
-        declares(&mut gateway, DeclareBody::DeclareFinal),
-    ])
+fn declared(gateway: &mut Gateway, alloc: Global) -> [Seen; 4] {
+    [
+        opens(gateway, alloc, 10),
+        names_key(gateway, alloc),
+        registers(gateway, alloc),
+        declares(gateway, DeclareBody::DeclareFinal),
+    ]
 }
 
 #[test]
-fn declarations(rt: HostRuntime) {
+fn declarations(rt: HostRuntime) -> Result<(), Fail> {
     let opened = Some((Outcome::Opened(FaceId(0)), 0));
     let want = [opened, DONE, DONE, DONE];
-    assert!(rt; declared(rt.alloc()) == Ok(want));
+    let mut gateway = gateway(rt.alloc())?;
+    assert!(rt; declared(&mut gateway, rt.alloc()) == want);
+    Ok(())
 }
 
 // What a face is answered that withdraws what it declared, its number twice.
-fn withdrawn(alloc: Global) -> Result<[Seen; 3], OutOfMemory> {
-    let mut gateway = pair(alloc)?;
-    let _ = names_key(&mut gateway, alloc);
-    Ok([
+fn withdrawn(gateway: &mut Gateway, alloc: Global) -> [Seen; 3] {
+    let _ = names_key(gateway, alloc);
+    [
         declares(
-            &mut gateway,
+            gateway,
             DeclareBody::UndeclareQueryable { id: 1, wire: None },
         ),
-        declares(&mut gateway, DeclareBody::UndeclareKeyExpr { id: 1 }),
-        declares(&mut gateway, DeclareBody::UndeclareKeyExpr { id: 1 }),
-    ])
+        declares(gateway, DeclareBody::UndeclareKeyExpr { id: 1 }),
+        declares(gateway, DeclareBody::UndeclareKeyExpr { id: 1 }),
+    ]
 }
 
 #[test]
-fn withdrawals(rt: HostRuntime) {
+fn withdrawals(rt: HostRuntime) -> Result<(), Fail> {
     let again = Some((Outcome::Refused(Refusal::UnknownId), 0));
-    assert!(rt; withdrawn(rt.alloc()) == Ok([DONE, DONE, again]));
+    let mut gateway = pair(rt.alloc())?;
+    assert!(rt; withdrawn(&mut gateway, rt.alloc()) == [DONE, DONE, again]);
+    Ok(())
 }
 
 fn listens(gateway: &mut Gateway, id: u32, face: u32) -> Seen {
@@ -184,145 +187,149 @@ fn listens(gateway: &mut Gateway, id: u32, face: u32) -> Seen {
 }
 
 // What a face is answered that asks to hear, twice under one id, and ends that twice.
-fn listened(alloc: Global) -> Result<[Seen; 4], OutOfMemory> {
-    let mut gateway = pair(alloc)?;
-    Ok([
-        listens(&mut gateway, 5, 1),
-        listens(&mut gateway, 5, 0),
+fn listened(gateway: &mut Gateway) -> [Seen; 4] {
+    [
+        listens(gateway, 5, 1),
+        listens(gateway, 5, 0),
         seen(gateway.send_interest_final(FaceId(1), 5)),
         seen(gateway.send_interest_final(FaceId(1), 5)),
-    ])
+    ]
 }
 
 #[test]
-fn interests(rt: HostRuntime) {
+fn interests(rt: HostRuntime) -> Result<(), Fail> {
     let told = Some((Outcome::Done, 2));
     let alone = Some((Outcome::Done, 1));
     let again = Some((Outcome::Refused(Refusal::UnknownId), 0));
-    assert!(rt; listened(rt.alloc()) == Ok([told, alone, DONE, again]));
+    let mut gateway = pair(rt.alloc())?;
+    assert!(rt; listened(&mut gateway) == [told, alone, DONE, again]);
+    Ok(())
 }
 
 // How many ids count as clients on the first declared key, and how many keys are asked for.
-fn sourced(alloc: Global) -> Result<(Option<usize>, usize), OutOfMemory> {
-    let mut gateway = pair(alloc)?;
-    let _ = listens(&mut gateway, 5, 1);
-    let declared = gateway.sourced_queryables()?;
-    let asked = gateway.sourced_queriers()?;
-    match declared.get(0) {
-        Some(on) => Ok((Some(on.1.clients.len()), asked.len())),
-        None => Ok((None, asked.len())),
+fn sourced(gateway: &mut Gateway) -> Result<(Option<usize>, usize), OutOfMemory> {
+    let _ = listens(gateway, 5, 1);
+    let asked = gateway.sourced_queriers()?.len();
+    match gateway.sourced_queryables()?.get(0) {
+        Some(on) => Ok((Some(on.1.clients.len()), asked)),
+        None => Ok((None, asked)),
     }
 }
 
 #[test]
-fn sources(rt: HostRuntime) {
-    assert!(rt; sourced(rt.alloc()) == Ok((Some(2), 0)));
+fn sources(rt: HostRuntime) -> Result<(), Fail> {
+    let mut gateway = pair(rt.alloc())?;
+    assert!(rt; sourced(&mut gateway) == Ok((Some(2), 0)));
+    Ok(())
 }
 
 // What a request and its reply come to.
-fn answered(alloc: Global) -> Result<[Seen; 2], OutOfMemory> {
-    let mut gateway = pair(alloc)?;
-    Ok([
-        asks(&mut gateway, alloc, 7, 5),
-        replies(&mut gateway, alloc),
-    ])
+fn answered(gateway: &mut Gateway, alloc: Global) -> [Seen; 2] {
+    [asks(gateway, alloc, 7, 5), replies(gateway, alloc)]
 }
 
 #[test]
-fn a_query_and_its_reply(rt: HostRuntime) {
+fn a_query_and_its_reply(rt: HostRuntime) -> Result<(), Fail> {
     let asked = Some((Outcome::Asked(0), 1));
     let replied = Some((Outcome::Replied(Some(0)), 1));
-    assert!(rt; answered(rt.alloc()) == Ok([asked, replied]));
+    let mut gateway = pair(rt.alloc())?;
+    assert!(rt; answered(&mut gateway, rt.alloc()) == [asked, replied]);
+    Ok(())
 }
 
 // Whether the target's final and two reports of the reply hand the final to the asker.
-fn ended(alloc: Global) -> Result<[Option<bool>; 3], OutOfMemory> {
-    let mut gateway = pair(alloc)?;
-    let _ = asks(&mut gateway, alloc, 7, 5);
-    let _ = replies(&mut gateway, alloc);
-    Ok([
+fn ended(gateway: &mut Gateway, alloc: Global) -> [Option<bool>; 3] {
+    let _ = asks(gateway, alloc, 7, 5);
+    let _ = replies(gateway, alloc);
+    [
         hands_final(gateway.send_response_final(FaceId(0), 1)),
         hands_final(gateway.sent(0)),
         hands_final(gateway.sent(0)),
-    ])
+    ]
 }
 
 #[test]
-fn a_query_and_its_end(rt: HostRuntime) {
-    assert!(rt; ended(rt.alloc()) == Ok([Some(false), Some(true), None]));
+fn a_query_and_its_end(rt: HostRuntime) -> Result<(), Fail> {
+    let mut gateway = pair(rt.alloc())?;
+    assert!(rt; ended(&mut gateway, rt.alloc()) == [Some(false), Some(true), None]);
+    Ok(())
 }
 
 // What comes of a request that is out of time, of a list of gateways and of a closing.
-fn out_of_time(alloc: Global) -> Result<[Seen; 4], OutOfMemory> {
-    let mut gateway = pair(alloc)?;
-    Ok([
-        routes(&mut gateway, alloc),
+fn out_of_time(gateway: &mut Gateway, alloc: Global) -> [Seen; 4] {
+    [
+        routes(gateway, alloc),
         seen(gateway.poll(5)),
-        lists(&mut gateway, alloc),
+        lists(gateway, alloc),
         seen(gateway.send_close(FaceId(0))),
-    ])
+    ]
 }
 
 #[test]
-fn time_and_closing(rt: HostRuntime) {
+fn time_and_closing(rt: HostRuntime) -> Result<(), Fail> {
     let asked = Some((Outcome::Asked(0), 1));
     let ended = Some((Outcome::Done, 1));
-    assert!(rt; out_of_time(rt.alloc()) == Ok([asked, ended, DONE, DONE]));
+    let mut gateway = pair(rt.alloc())?;
+    assert!(rt; out_of_time(&mut gateway, rt.alloc()) == [asked, ended, DONE, DONE]);
+    Ok(())
 }
 
 // What comes of a face's initial mark, of that of a face that is not there, and of the end of what
 // was declared at the opening.
-fn marked(alloc: Global) -> Result<[Seen; 3], OutOfMemory> {
-    let mut gateway = pair(alloc)?;
+fn marked(gateway: &mut Gateway) -> [Seen; 3] {
     let mark = FinalMark::Initial;
     let end = Declare {
         interest: Some(0),
         node: 0,
         body: DeclareBody::DeclareFinal,
     };
-    Ok([
+    [
         seen(gateway.finalize_local_interest(FaceId(0), &mark, true)),
         seen(gateway.finalize_local_interest(FaceId(9), &mark, true)),
         seen(gateway.send_declare(FaceId(0), &end)),
-    ])
+    ]
 }
 
 #[test]
-fn marks(rt: HostRuntime) {
-    assert!(rt; marked(rt.alloc()) == Ok([DONE, UNKNOWN_FACE, DONE]));
+fn marks(rt: HostRuntime) -> Result<(), Fail> {
+    let mut gateway = pair(rt.alloc())?;
+    assert!(rt; marked(&mut gateway) == [DONE, UNKNOWN_FACE, DONE]);
+    Ok(())
 }
 
 // What comes of a network in North, and in a region that is not there.
-fn networks_put(alloc: Global) -> Result<[Seen; 2], OutOfMemory> {
-    let mut gateway = pair(alloc)?;
+fn networks_put(gateway: &mut Gateway, alloc: Global) -> [Seen; 2] {
     let net = Network::empty(alloc);
-    Ok([
+    [
         seen(gateway.set_network(Region::North, &net)),
         seen(gateway.set_network(CLIENTS, &net)),
-    ])
+    ]
 }
 
 // Outside regions of routers a network changes nothing.
 #[test]
-fn networks(rt: HostRuntime) {
+fn networks(rt: HostRuntime) -> Result<(), Fail> {
     let unknown = Some((Outcome::Refused(Refusal::UnknownRegion), 0));
-    assert!(rt; networks_put(rt.alloc()) == Ok([DONE, unknown]));
+    let mut gateway = pair(rt.alloc())?;
+    assert!(rt; networks_put(&mut gateway, rt.alloc()) == [DONE, unknown]);
+    Ok(())
 }
 
 // What comes of a table of nodes, and of one for a face that is not there.
-fn nodes_put(alloc: Global) -> Result<[Seen; 2], OutOfMemory> {
-    let mut gateway = pair(alloc)?;
+fn nodes_put(gateway: &mut Gateway, alloc: Global) -> [Seen; 2] {
     let ids = NodeIds::empty(alloc);
-    Ok([
+    [
         seen(gateway.set_node_ids(FaceId(0), &ids)),
         seen(gateway.set_node_ids(FaceId(9), &ids)),
-    ])
+    ]
 }
 
 // Nor does a table of nodes.
 #[test]
-fn node_tables(rt: HostRuntime) {
-    assert!(rt; nodes_put(rt.alloc()) == Ok([DONE, UNKNOWN_FACE]));
+fn node_tables(rt: HostRuntime) -> Result<(), Fail> {
+    let mut gateway = pair(rt.alloc())?;
+    assert!(rt; nodes_put(&mut gateway, rt.alloc()) == [DONE, UNKNOWN_FACE]);
+    Ok(())
 }
 
 // Whether each step, in order, has the outcome.
@@ -373,14 +380,15 @@ fn each_ends(gateway: &mut Gateway, count: u64) -> bool {
 }
 
 // Whether each of so many open requests ends by itself.
-fn deadlines(alloc: Global, count: u32) -> Result<bool, OutOfMemory> {
-    let mut gateway = pair(alloc)?;
-    asks_each(&mut gateway, alloc, count);
-    Ok(each_ends(&mut gateway, u64::from(count)))
+fn deadlines(gateway: &mut Gateway, alloc: Global, count: u32) -> bool {
+    asks_each(gateway, alloc, count);
+    each_ends(gateway, u64::from(count))
 }
 
 // What else is open costs nothing.
 #[test]
-fn many_deadlines(rt: HostRuntime) {
-    assert!(rt; deadlines(rt.alloc(), 100_000) == Ok(true));
+fn many_deadlines(rt: HostRuntime) -> Result<(), Fail> {
+    let mut gateway = pair(rt.alloc())?;
+    assert!(rt; deadlines(&mut gateway, rt.alloc(), 100_000));
+    Ok(())
 }

@@ -112,11 +112,20 @@ fn nothing(alloc: Global) -> Step {
     }
 }
 
+fn open(gateway: &mut Gateway, alloc: Global, zid: u128) -> Result<(), OutOfMemory> {
+    let _ = gateway.open_face(&application(alloc, zid))?;
+    Ok(())
+}
+
+fn open_two(gateway: &mut Gateway, alloc: Global) -> Result<(), OutOfMemory> {
+    open(gateway, alloc, 10)?;
+    open(gateway, alloc, 11)
+}
+
 // A gateway with two applications.
 fn pair(alloc: Global) -> Result<Gateway, OutOfMemory> {
     let mut gateway = gateway(alloc)?;
-    let _ = gateway.open_face(&application(alloc, 10))?;
-    let _ = gateway.open_face(&application(alloc, 11))?;
+    open_two(&mut gateway, alloc)?;
     Ok(gateway)
 }
 

@@ -1,6 +1,5 @@
 //! Worked scripts, each with the print that is wanted.
-use crate::given::run_on;
-use std::test::Fail;
+use crate::given::ends_as;
 use zq_script::run::Status;
 
 /// What a script tells of, its lines, its print, and how its run ends.
@@ -671,11 +670,10 @@ const ROWS: [(&str, &str, &str, Status); 32] = [
 ];
 
 #[test]
-fn rows(rt: HostRuntime) -> Result<(), Fail> {
-    for (name, script, print, status) in ROWS {
-        let (ended, sink) = run_on(rt.alloc(), &["replay"], script.as_bytes(), u64::MAX)?;
-        assert_eq!(rt; ended, status, "{name}");
-        assert_eq!(rt; sink.taken(), print.as_bytes(), "{name}");
+fn rows(rt: HostRuntime) {
+    for (name, script, print, status) in &ROWS {
+        let wanted = (*status, *print);
+        let ends = ends_as(rt.alloc(), &["replay"], script.as_bytes(), u64::MAX, wanted);
+        assert!(rt; ends == Ok(true), "{name}");
     }
-    Ok(())
 }
