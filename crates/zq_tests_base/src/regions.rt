@@ -38,15 +38,18 @@ fn a_later_entry_stays(rt: HostRuntime) {
     assert!(rt; standing(rt.alloc()) == Ok((Some(5), Some(7), 2)));
 }
 
-// Whether a region can be parted from the others.
-fn is_parted(alloc: Global, region: &Region) -> Result<bool, OutOfMemory> {
-    Ok(two(alloc)?.partition(alloc, region)?.is_some())
+// Whether a region that is not there can be parted from the others, and one that is.
+fn are_parted(alloc: Global) -> Result<[bool; 2], OutOfMemory> {
+    let map = two(alloc)?;
+    Ok([
+        map.partition(alloc, &Region::Local)?.is_some(),
+        map.partition(alloc, &CLIENTS)?.is_some(),
+    ])
 }
 
 #[test]
 fn one_and_the_others(rt: HostRuntime) {
-    assert!(rt; is_parted(rt.alloc(), &Region::Local) == Ok(false));
-    assert!(rt; is_parted(rt.alloc(), &CLIENTS) == Ok(true));
+    assert!(rt; are_parted(rt.alloc()) == Ok([false, true]));
 }
 
 // The half of what stands in the clients.
