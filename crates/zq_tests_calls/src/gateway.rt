@@ -1,6 +1,5 @@
 use crate::given::{application, config, gateway};
 use std::alloc::Global;
-use std::test::Fail;
 use zq_gateway::gateway::Gateway;
 use zq_gateway::runs::replay;
 use zq_given::{CLIENTS, information, wire};
@@ -132,6 +131,19 @@ fn pair(alloc: Global) -> Result<Gateway, OutOfMemory> {
     Ok(gateway)
 }
 
+/// What is done with a gateway, and what is found of it.
+trait Trial {
+    type Found;
+
+    fn found(gateway: &mut Gateway, alloc: Global) -> Self::Found;
+}
+
+// What a trial finds of a gateway with two faces. It is the one place where such a gateway is dropped.
+fn found<T: Trial>(alloc: Global) -> Result<T::Found, OutOfMemory> {
+    let mut gateway = pair(alloc)?;
+    Ok(T::found(&mut gateway, alloc))
+}
+
 const DONE: Seen = Some((Outcome::Done, 0));
 
 const UNKNOWN_FACE: Seen = Some((Outcome::Refused(Refusal::UnknownFace), 0));
@@ -146,34 +158,41 @@ fn declared(gateway: &mut Gateway, alloc: Global) -> [Seen; 4] {
     ]
 }
 
+fn declared_at_first(alloc: Global) -> Result<[Seen; 4], OutOfMemory> {
+    let mut gateway = gateway(alloc)?;
+    Ok(declared(&mut gateway, alloc))
+}
+
 #[test]
-fn declarations(rt: HostRuntime) -> Result<(), Fail> {
+fn declarations(rt: HostRuntime) {
     let opened = Some((Outcome::Opened(FaceId(0)), 0));
     let want = [opened, DONE, DONE, DONE];
-    let mut gateway = gateway(rt.alloc())?;
-    assert!(rt; declared(&mut gateway, rt.alloc()) == want);
-    Ok(())
+    assert!(rt; declared_at_first(rt.alloc()) == Ok(want));
 }
 
 // What a face is answered that withdraws what it declared, its number twice.
-fn withdrawn(gateway: &mut Gateway, alloc: Global) -> [Seen; 3] {
-    let _ = names_key(gateway, alloc);
-    [
-        declares(
-            gateway,
-            DeclareBody::UndeclareQueryable { id: 1, wire: None },
-        ),
-        declares(gateway, DeclareBody::UndeclareKeyExpr { id: 1 }),
-        declares(gateway, DeclareBody::UndeclareKeyExpr { id: 1 }),
-    ]
+struct Withdrawn;
+
+impl Trial for Withdrawn {
+    type Found = [Seen; 3];
+
+    fn found(gateway: &mut Gateway, alloc: Global) -> [Seen; 3] {
+        let _ = names_key(gateway, alloc);
+        [
+            declares(
+                gateway,
+                DeclareBody::UndeclareQueryable { id: 1, wire: None },
+            ),
+            declares(gateway, DeclareBody::UndeclareKeyExpr { id: 1 }),
+            declares(gateway, DeclareBody::UndeclareKeyExpr { id: 1 }),
+        ]
+    }
 }
 
 #[test]
-fn withdrawals(rt: HostRuntime) -> Result<(), Fail> {
+fn withdrawals(rt: HostRuntime) {
     let again = Some((Outcome::Refused(Refusal::UnknownId), 0));
-    let mut gateway = pair(rt.alloc())?;
-    assert!(rt; withdrawn(&mut gateway, rt.alloc()) == [DONE, DONE, again]);
-    Ok(())
+    assert!(rt; found::<Withdrawn>(rt.alloc()) == Ok([DONE, DONE, again]));
 }
 
 fn listens(gateway: &mut Gateway, id: u32, face: u32) -> Seen {
@@ -187,149 +206,181 @@ fn listens(gateway: &mut Gateway, id: u32, face: u32) -> Seen {
 }
 
 // What a face is answered that asks to hear, twice under one id, and ends that twice.
-fn listened(gateway: &mut Gateway) -> [Seen; 4] {
-    [
-        listens(gateway, 5, 1),
-        listens(gateway, 5, 0),
-        seen(gateway.send_interest_final(FaceId(1), 5)),
-        seen(gateway.send_interest_final(FaceId(1), 5)),
-    ]
-}
+struct Listened;
 
-#[test]
-fn interests(rt: HostRuntime) -> Result<(), Fail> {
-    let told = Some((Outcome::Done, 2));
-    let alone = Some((Outcome::Done, 1));
-    let again = Some((Outcome::Refused(Refusal::UnknownId), 0));
-    let mut gateway = pair(rt.alloc())?;
-    assert!(rt; listened(&mut gateway) == [told, alone, DONE, again]);
-    Ok(())
-}
+impl Trial for Listened {
+    type Found = [Seen; 4];
 
-// How many ids count as clients on the first declared key, and how many keys are asked for.
-fn sourced(gateway: &mut Gateway) -> Result<(Option<usize>, usize), OutOfMemory> {
-    let _ = listens(gateway, 5, 1);
-    let asked = gateway.sourced_queriers()?.len();
-    match gateway.sourced_queryables()?.get(0) {
-        Some(on) => Ok((Some(on.1.clients.len()), asked)),
-        None => Ok((None, asked)),
+    fn found(gateway: &mut Gateway, _: Global) -> [Seen; 4] {
+        [
+            listens(gateway, 5, 1),
+            listens(gateway, 5, 0),
+            seen(gateway.send_interest_final(FaceId(1), 5)),
+            seen(gateway.send_interest_final(FaceId(1), 5)),
+        ]
     }
 }
 
 #[test]
-fn sources(rt: HostRuntime) -> Result<(), Fail> {
-    let mut gateway = pair(rt.alloc())?;
-    assert!(rt; sourced(&mut gateway) == Ok((Some(2), 0)));
-    Ok(())
+fn interests(rt: HostRuntime) {
+    let told = Some((Outcome::Done, 2));
+    let alone = Some((Outcome::Done, 1));
+    let again = Some((Outcome::Refused(Refusal::UnknownId), 0));
+    assert!(rt; found::<Listened>(rt.alloc()) == Ok([told, alone, DONE, again]));
+}
+
+// How many ids count as clients on the first declared key, and how many keys are asked for.
+struct Sourced;
+
+impl Trial for Sourced {
+    type Found = Result<(Option<usize>, usize), OutOfMemory>;
+
+    fn found(gateway: &mut Gateway, _: Global) -> Result<(Option<usize>, usize), OutOfMemory> {
+        let _ = listens(gateway, 5, 1);
+        let asked = gateway.sourced_queriers()?.len();
+        match gateway.sourced_queryables()?.get(0) {
+            Some(on) => Ok((Some(on.1.clients.len()), asked)),
+            None => Ok((None, asked)),
+        }
+    }
+}
+
+#[test]
+fn sources(rt: HostRuntime) {
+    assert!(rt; found::<Sourced>(rt.alloc()) == Ok(Ok((Some(2), 0))));
 }
 
 // What a request and its reply come to.
-fn answered(gateway: &mut Gateway, alloc: Global) -> [Seen; 2] {
-    [asks(gateway, alloc, 7, 5), replies(gateway, alloc)]
+struct Answered;
+
+impl Trial for Answered {
+    type Found = [Seen; 2];
+
+    fn found(gateway: &mut Gateway, alloc: Global) -> [Seen; 2] {
+        [asks(gateway, alloc, 7, 5), replies(gateway, alloc)]
+    }
 }
 
 #[test]
-fn a_query_and_its_reply(rt: HostRuntime) -> Result<(), Fail> {
+fn a_query_and_its_reply(rt: HostRuntime) {
     let asked = Some((Outcome::Asked(0), 1));
     let replied = Some((Outcome::Replied(Some(0)), 1));
-    let mut gateway = pair(rt.alloc())?;
-    assert!(rt; answered(&mut gateway, rt.alloc()) == [asked, replied]);
-    Ok(())
+    assert!(rt; found::<Answered>(rt.alloc()) == Ok([asked, replied]));
 }
 
 // Whether the target's final and two reports of the reply hand the final to the asker.
-fn ended(gateway: &mut Gateway, alloc: Global) -> [Option<bool>; 3] {
-    let _ = asks(gateway, alloc, 7, 5);
-    let _ = replies(gateway, alloc);
-    [
-        hands_final(gateway.send_response_final(FaceId(0), 1)),
-        hands_final(gateway.sent(0)),
-        hands_final(gateway.sent(0)),
-    ]
+struct Ended;
+
+impl Trial for Ended {
+    type Found = [Option<bool>; 3];
+
+    fn found(gateway: &mut Gateway, alloc: Global) -> [Option<bool>; 3] {
+        let _ = asks(gateway, alloc, 7, 5);
+        let _ = replies(gateway, alloc);
+        [
+            hands_final(gateway.send_response_final(FaceId(0), 1)),
+            hands_final(gateway.sent(0)),
+            hands_final(gateway.sent(0)),
+        ]
+    }
 }
 
 #[test]
-fn a_query_and_its_end(rt: HostRuntime) -> Result<(), Fail> {
-    let mut gateway = pair(rt.alloc())?;
-    assert!(rt; ended(&mut gateway, rt.alloc()) == [Some(false), Some(true), None]);
-    Ok(())
+fn a_query_and_its_end(rt: HostRuntime) {
+    assert!(rt; found::<Ended>(rt.alloc()) == Ok([Some(false), Some(true), None]));
 }
 
 // What comes of a request that is out of time, of a list of gateways and of a closing.
-fn out_of_time(gateway: &mut Gateway, alloc: Global) -> [Seen; 4] {
-    [
-        routes(gateway, alloc),
-        seen(gateway.poll(5)),
-        lists(gateway, alloc),
-        seen(gateway.send_close(FaceId(0))),
-    ]
+struct OutOfTime;
+
+impl Trial for OutOfTime {
+    type Found = [Seen; 4];
+
+    fn found(gateway: &mut Gateway, alloc: Global) -> [Seen; 4] {
+        [
+            routes(gateway, alloc),
+            seen(gateway.poll(5)),
+            lists(gateway, alloc),
+            seen(gateway.send_close(FaceId(0))),
+        ]
+    }
 }
 
 #[test]
-fn time_and_closing(rt: HostRuntime) -> Result<(), Fail> {
+fn time_and_closing(rt: HostRuntime) {
     let asked = Some((Outcome::Asked(0), 1));
     let ended = Some((Outcome::Done, 1));
-    let mut gateway = pair(rt.alloc())?;
-    assert!(rt; out_of_time(&mut gateway, rt.alloc()) == [asked, ended, DONE, DONE]);
-    Ok(())
+    assert!(rt; found::<OutOfTime>(rt.alloc()) == Ok([asked, ended, DONE, DONE]));
 }
 
 // What comes of a face's initial mark, of that of a face that is not there, and of the end of what
 // was declared at the opening.
-fn marked(gateway: &mut Gateway) -> [Seen; 3] {
-    let mark = FinalMark::Initial;
-    let end = Declare {
-        interest: Some(0),
-        node: 0,
-        body: DeclareBody::DeclareFinal,
-    };
-    [
-        seen(gateway.finalize_local_interest(FaceId(0), &mark, true)),
-        seen(gateway.finalize_local_interest(FaceId(9), &mark, true)),
-        seen(gateway.send_declare(FaceId(0), &end)),
-    ]
+struct Marked;
+
+impl Trial for Marked {
+    type Found = [Seen; 3];
+
+    fn found(gateway: &mut Gateway, _: Global) -> [Seen; 3] {
+        let mark = FinalMark::Initial;
+        let end = Declare {
+            interest: Some(0),
+            node: 0,
+            body: DeclareBody::DeclareFinal,
+        };
+        [
+            seen(gateway.finalize_local_interest(FaceId(0), &mark, true)),
+            seen(gateway.finalize_local_interest(FaceId(9), &mark, true)),
+            seen(gateway.send_declare(FaceId(0), &end)),
+        ]
+    }
 }
 
 #[test]
-fn marks(rt: HostRuntime) -> Result<(), Fail> {
-    let mut gateway = pair(rt.alloc())?;
-    assert!(rt; marked(&mut gateway) == [DONE, UNKNOWN_FACE, DONE]);
-    Ok(())
+fn marks(rt: HostRuntime) {
+    assert!(rt; found::<Marked>(rt.alloc()) == Ok([DONE, UNKNOWN_FACE, DONE]));
 }
 
 // What comes of a network in North, and in a region that is not there.
-fn networks_put(gateway: &mut Gateway, alloc: Global) -> [Seen; 2] {
-    let net = Network::empty(alloc);
-    [
-        seen(gateway.set_network(Region::North, &net)),
-        seen(gateway.set_network(CLIENTS, &net)),
-    ]
+struct NetworksPut;
+
+impl Trial for NetworksPut {
+    type Found = [Seen; 2];
+
+    fn found(gateway: &mut Gateway, alloc: Global) -> [Seen; 2] {
+        let net = Network::empty(alloc);
+        [
+            seen(gateway.set_network(Region::North, &net)),
+            seen(gateway.set_network(CLIENTS, &net)),
+        ]
+    }
 }
 
 // Outside regions of routers a network changes nothing.
 #[test]
-fn networks(rt: HostRuntime) -> Result<(), Fail> {
+fn networks(rt: HostRuntime) {
     let unknown = Some((Outcome::Refused(Refusal::UnknownRegion), 0));
-    let mut gateway = pair(rt.alloc())?;
-    assert!(rt; networks_put(&mut gateway, rt.alloc()) == [DONE, unknown]);
-    Ok(())
+    assert!(rt; found::<NetworksPut>(rt.alloc()) == Ok([DONE, unknown]));
 }
 
 // What comes of a table of nodes, and of one for a face that is not there.
-fn nodes_put(gateway: &mut Gateway, alloc: Global) -> [Seen; 2] {
-    let ids = NodeIds::empty(alloc);
-    [
-        seen(gateway.set_node_ids(FaceId(0), &ids)),
-        seen(gateway.set_node_ids(FaceId(9), &ids)),
-    ]
+struct NodesPut;
+
+impl Trial for NodesPut {
+    type Found = [Seen; 2];
+
+    fn found(gateway: &mut Gateway, alloc: Global) -> [Seen; 2] {
+        let ids = NodeIds::empty(alloc);
+        [
+            seen(gateway.set_node_ids(FaceId(0), &ids)),
+            seen(gateway.set_node_ids(FaceId(9), &ids)),
+        ]
+    }
 }
 
 // Nor does a table of nodes.
 #[test]
-fn node_tables(rt: HostRuntime) -> Result<(), Fail> {
-    let mut gateway = pair(rt.alloc())?;
-    assert!(rt; nodes_put(&mut gateway, rt.alloc()) == [DONE, UNKNOWN_FACE]);
-    Ok(())
+fn node_tables(rt: HostRuntime) {
+    assert!(rt; found::<NodesPut>(rt.alloc()) == Ok([DONE, UNKNOWN_FACE]));
 }
 
 // Whether each step, in order, has the outcome.
@@ -380,15 +431,19 @@ fn each_ends(gateway: &mut Gateway, count: u64) -> bool {
 }
 
 // Whether each of so many open requests ends by itself.
-fn deadlines(gateway: &mut Gateway, alloc: Global, count: u32) -> bool {
-    asks_each(gateway, alloc, count);
-    each_ends(gateway, u64::from(count))
+struct Deadlines;
+
+impl Trial for Deadlines {
+    type Found = bool;
+
+    fn found(gateway: &mut Gateway, alloc: Global) -> bool {
+        asks_each(gateway, alloc, 100_000);
+        each_ends(gateway, 100_000)
+    }
 }
 
 // What else is open costs nothing.
 #[test]
-fn many_deadlines(rt: HostRuntime) -> Result<(), Fail> {
-    let mut gateway = pair(rt.alloc())?;
-    assert!(rt; deadlines(&mut gateway, rt.alloc(), 100_000));
-    Ok(())
+fn many_deadlines(rt: HostRuntime) {
+    assert!(rt; found::<Deadlines>(rt.alloc()) == Ok(true));
 }
