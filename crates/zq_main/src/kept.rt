@@ -1,5 +1,5 @@
 //! A source and a sink that keep what went through them, so that a bad line can be told.
-ghost use Rattle.std.specs.Prelude.{◌≡◌, ◌++◌, [], IfSome, IfNone, Some};
+ghost use Rattle.std.specs.Prelude.{◌≡◌, ◌++◌, [], IfSome, IfNone, Some, None};
 
 use std::alloc::Global;
 use zq_streams::streams::{Failed, Sink, Source};
@@ -23,9 +23,10 @@ impl Kept {
         }
     }
 
-    /// Keeps bytes behind the others.
+    /// Keeps bytes behind the others, where those were kept.
     fn push(&mut self, piece: &[u8])
-        ensures { IfSome self.new.bytes (λ v. IfSome self.old.bytes (λ w. v.items ≡ w.items ++ piece.now)) }
+        ensures kept { IfSome self.new.bytes (λ v. IfSome self.old.bytes (λ w. v.items ≡ w.items ++ piece.now)) }
+        ensures lost { IfNone self.old.bytes (self.new.bytes ≡ None) }
     {
         let Some(bytes) = &mut self.bytes else {
             return;
@@ -58,7 +59,8 @@ pub struct KeptSource<S: Drop> {
 impl<S: Source + Drop> KeptSource<S> {
     /// The source, of which nothing was read yet.
     pub fn new(alloc: Global, inner: S) -> KeptSource<S>
-        ensures { result.inner ≡ inner }
+        ensures inner { result.inner ≡ inner }
+        ensures kept { IfSome result.kept.bytes (λ v. v.items ≡ []) }
     {
         KeptSource {
             inner,
@@ -90,7 +92,8 @@ pub struct KeptSink<K: Drop> {
 impl<K: Sink + Drop> KeptSink<K> {
     /// The sink, which took nothing yet.
     pub fn new(alloc: Global, inner: K) -> KeptSink<K>
-        ensures { result.inner ≡ inner }
+        ensures inner { result.inner ≡ inner }
+        ensures kept { IfSome result.kept.bytes (λ v. v.items ≡ []) }
     {
         KeptSink {
             inner,
