@@ -167,7 +167,8 @@ fn repeated(alloc: Global, part: &str, times: usize, end: &str) -> Result<String
     Ok(text)
 }
 
-// Whether the runs meet two others and include one, and themselves: the ends tell of the first two alone.
+// Whether the runs meet two others, and whether they include one of them and themselves. The ends tell of the
+// first two alone.
 fn long_relations(alloc: Global) -> Result<[Option<bool>; 4], Fail> {
     let runs = repeated(alloc, "a$*", 300, "b$*d")?;
     let others = repeated(alloc, "$*a", 300, "c")?;
@@ -187,7 +188,7 @@ fn long_chunks(rt: HostRuntime) -> Result<(), Fail> {
     Ok(())
 }
 
-// The same of many chunks, of which they may include both.
+// Whether the chunks meet two others, and whether they include these and themselves.
 fn many_relations(alloc: Global) -> Result<[Option<bool>; 5], Fail> {
     let stars = repeated(alloc, "**/a/", 300, "b/*")?;
     let chunks = repeated(alloc, "a/**/", 300, "c/*")?;
