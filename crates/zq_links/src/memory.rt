@@ -102,6 +102,8 @@ impl Link for MemoryLink {
         ensures cause { HasCause self.old.faults self.new.faults result }
         ensures listed { OnErr result ((is_listed self.old.fails.items self.old.sends ≡ true) ⊎ Rose self.old.lacks self.new.lacks) }
         ensures taken { OnOk result ((is_listed self.old.fails.items self.old.sends ≡ false) × (self.new.lacks ≡ self.old.lacks)) }
+        ensures counted { OnErr result (self.new.faults ≡ min (self.old.faults + 1) (2 ^ 64 - 1)) }
+        ensures lacks { is_listed self.old.fails.items self.old.sends ≡ true → self.new.lacks ≡ self.old.lacks }
         ensures sends { self.new.sends ≡ min (self.old.sends + 1) (2 ^ 64 - 1) }
         ensures fails { self.new.fails.items ≡ self.old.fails.items }
     {

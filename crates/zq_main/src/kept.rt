@@ -1,5 +1,6 @@
 //! A source and a sink that keep what went through them, so that a bad line can be told.
 ghost use Rattle.std.specs.Prelude.{◌≡◌, ◌++◌, [], IfSome, IfNone, Some, None};
+ghost use Rattle.std.specs.Option.{option_map};
 
 use std::alloc::Global;
 use zq_streams::streams::{Failed, Sink, Source};
@@ -16,7 +17,7 @@ pub struct Kept {
 impl Kept {
     /// Nothing was kept yet.
     fn new(alloc: Global) -> Kept
-        ensures { IfSome result.bytes (λ v. v.items ≡ []) }
+        ensures { option_map (λ v. v.items) result.bytes ≡ Some [] }
     {
         Kept {
             bytes: Some(Vec::new(alloc)),
@@ -60,7 +61,7 @@ impl<S: Source + Drop> KeptSource<S> {
     /// The source, of which nothing was read yet.
     pub fn new(alloc: Global, inner: S) -> KeptSource<S>
         ensures inner { result.inner ≡ inner }
-        ensures kept { IfSome result.kept.bytes (λ v. v.items ≡ []) }
+        ensures kept { option_map (λ v. v.items) result.kept.bytes ≡ Some [] }
     {
         KeptSource {
             inner,
@@ -93,7 +94,7 @@ impl<K: Sink + Drop> KeptSink<K> {
     /// The sink, which took nothing yet.
     pub fn new(alloc: Global, inner: K) -> KeptSink<K>
         ensures inner { result.inner ≡ inner }
-        ensures kept { IfSome result.kept.bytes (λ v. v.items ≡ []) }
+        ensures kept { option_map (λ v. v.items) result.kept.bytes ≡ Some [] }
     {
         KeptSink {
             inner,

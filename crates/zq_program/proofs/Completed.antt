@@ -7,7 +7,9 @@ use Rattle.zq_streams.specs.Streams.{IsLonger}
 use Rattle.zq_script.specs.declared.run.Status.{Status}
 use Rattle.zq_script.specs.declared.run.Status.TheVariants as status
 use Rattle.zq_script.specs.declared.script.Script.{Script}
+use Rattle.zq_lines.specs.Split.{lines_of}
 use Rattle.zq_script.specs.Running.{EndsWell, IsBad, IsScript}
+use Rattle.zq_script.specs.Script.{script_of}
 use Rattle.zq_program.specs.Running.{IsFitFor, LeavesShared, shared_script}
 use Rattle.zq_program.specs.declared.words.Sharing.{Sharing}
 
@@ -45,3 +47,8 @@ too_long workers (Some input) Q R T long = λ fit q r t. absurd (omega (arith, l
 pub no_memory : (workers : ℕ) (given : Option (List ℕ)) (Q R T : Type 0) → IfSome given (λ input. IsFitFor workers input → Q → R → T → EndsWell status.Memory)
 no_memory workers None Q R T = tt
 no_memory workers (Some input) Q R T = λ fit q r t. tt
+
+-- links that are as they were are so whatever was read
+pub none_sent : {L : Type 0} (workers : ℕ) (given : Option (List ℕ)) (ls : List L) → IfSome given (λ input. IsBad (script_of workers (lines_of input)) → ls ≡ ls)
+none_sent workers None ls = tt
+none_sent workers (Some input) ls = λ bad. refl

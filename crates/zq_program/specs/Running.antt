@@ -2,7 +2,7 @@
 use Rattle.std.specs.Prelude.{ℕ, ◌<◌, ◌≤◌, Bool, true, false, List, Option, Result, length, if◌then◌else◌}
 use Rattle.std.specs.Io.KnownBytes.{Appends}
 use Rattle.zq_streams.specs.declared.transfer.TheConstants.{LIMIT}
-use Rattle.zq_streams.specs.Streams.{AppendsPrefix}
+use Rattle.zq_streams.specs.Streams.{AppendsFront}
 use Rattle.zq_lines.specs.Split.{lines_of}
 use Rattle.zq_script.specs.Running.{IsBad, IsScript}
 use Rattle.zq_script.specs.Script.{script_of}
@@ -22,7 +22,7 @@ TakesPrint s input old new = (print : List ℕ) × MayPrint s.slots (shared_scri
 
 -- the sink took a front of a print for these bytes
 abbrev pub TakesFront : Sharing → List ℕ → Option (List ℕ) → Option (List ℕ) → Type 0
-TakesFront s input old new = (print : List ℕ) × MayPrint s.slots (shared_script s input) print × AppendsPrefix old new print
+TakesFront s input old new = (print : List ℕ) × MayPrint s.slots (shared_script s input) print × AppendsFront old new print
 
 -- the status where the print is taken: `Done` or `LinkFault` for a script, `Script` for a bad line
 abbrev pub IsSharedEnd : Status → Result Script ℕ → Type 0

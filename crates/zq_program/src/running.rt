@@ -5,7 +5,7 @@ ghost use Rattle.zq_machine.specs.Headline.{RunPromise};
 ghost use Rattle.zq_streams.specs.Streams.{Rose};
 ghost use Rattle.zq_lines.specs.Split.{lines_of};
 ghost use Rattle.zq_script.specs.Script.{script_of};
-ghost use Rattle.zq_script.specs.Running.{EndsWell, IsFit, IsReplay, Leaves, LeavesLoad, ReadsBack, command_of, first_part, load_of};
+ghost use Rattle.zq_script.specs.Running.{EndsWell, IsBad, IsFit, IsReplay, Leaves, LeavesLoad, ReadsBack, command_of, first_part, load_of};
 ghost use Rattle.zq_share.specs.Working.{SomeRose};
 ghost use Rattle.zq_program.specs.Words.{sharing_of};
 ghost use Rattle.zq_program.specs.Running.{IsFitFor, LeavesShared, is_idle, is_unwritten, is_whole};
@@ -41,12 +41,14 @@ pub fn program<S: Source, K: Sink, L: Link + Send, R: Threads + Wait + Sync>(
     ensures shared { IfSome (sharing_of (length links.old) words.now) (λ s. IfSome (S.left source.old) (λ input. LeavesShared s result input (K.taken sink.old) (K.taken sink.new))) }
     ensures whole { (load_of words.now ≡ None) → is_whole result ≡ true → IsAtEnd (S.left source.new) }
     ensures read { result ≡ Status.ReadFault → Rose (S.faults source.old) (S.faults source.new) }
+    ensures steady { result ≢ Status.ReadFault → S.faults source.new ≡ S.faults source.old }
     ensures write { result ≡ Status.WriteFault → Rose (K.faults sink.old) (K.faults sink.new) }
     ensures quiet { result ≢ Status.WriteFault → K.faults sink.new ≡ K.faults sink.old }
     ensures unwritten { is_unwritten result ≡ true → sink.new ≡ sink.old }
     ensures sent { result ≡ Status.Done → map L.faults links.new ≡ map L.faults links.old }
     ensures linked { result ≡ Status.LinkFault → SomeRose (map L.faults links.old) (map L.faults links.new) }
     ensures idle { is_idle result ≡ true → links.new ≡ links.old }
+    ensures unsent { IfSome (sharing_of (length links.old) words.now) (λ s. IfSome (S.left source.old) (λ input. IsBad (script_of s.workers (lines_of input)) → links.new ≡ links.old)) }
     ensures complete { IsReplay words.now → IfSome (S.left source.old) (λ input. IsFit input → (Rose (S.faults source.old) (S.faults source.new) → ⊥) → (Rose (K.faults sink.old) (K.faults sink.new) → ⊥) → EndsWell result) }
     ensures completed { IfSome (sharing_of (length links.old) words.now) (λ s. IfSome (S.left source.old) (λ input. IsFitFor s.workers input → (Rose (S.faults source.old) (S.faults source.new) → ⊥) → (Rose (K.faults sink.old) (K.faults sink.new) → ⊥) → (SomeRose (map L.faults links.old) (map L.faults links.new) → ⊥) → EndsWell result)) }
     ensures headline { IfSome (S.left source.old) (λ input. IfOk (script_of 0 (lines_of input)) (λ s. RunPromise s.config (first_part s.parts))) }

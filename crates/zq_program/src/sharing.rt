@@ -5,7 +5,7 @@ ghost use Rattle.zq_streams.specs.declared.transfer.TheConstants.{LIMIT};
 ghost use Rattle.zq_streams.specs.Streams.{Rose};
 ghost use Rattle.zq_lines.specs.Split.{lines_of};
 ghost use Rattle.zq_script.specs.Script.{script_of};
-ghost use Rattle.zq_script.specs.Running.{EndsWell, IsScript};
+ghost use Rattle.zq_script.specs.Running.{EndsWell, IsBad, IsScript};
 ghost use Rattle.zq_share.specs.Working.{HaveFaults, SomeRose};
 ghost use Rattle.zq_program.specs.Words.{IsSharing};
 ghost use Rattle.zq_program.specs.Parts.{ArePartsFor};
@@ -77,6 +77,7 @@ fn print_of<L: Link + Send, R: Threads + Wait + Sync>(
     ensures sent { IfOk result (λ t. t.0 ≡ Status.Done → map L.faults links.new ≡ map L.faults links.old) }
     ensures linked { IfOk result (λ t. t.0 ≡ Status.LinkFault → SomeRose (map L.faults links.old) (map L.faults links.new)) }
     ensures idle { IfOk result (λ t. is_idle t.0 ≡ true → links.new ≡ links.old) }
+    ensures unsent { IsBad (script_of sharing.workers (lines_of bytes.now)) → links.new ≡ links.old }
 {
     match read_shared(alloc, bytes, sharing.workers) {
         Ok(script) => {
@@ -109,6 +110,7 @@ fn answer<K: Sink, L: Link + Send, R: Threads + Wait + Sync>(
     ensures sent { result ≡ Status.Done → map L.faults links.new ≡ map L.faults links.old }
     ensures linked { result ≡ Status.LinkFault → SomeRose (map L.faults links.old) (map L.faults links.new) }
     ensures idle { is_idle result ≡ true → links.new ≡ links.old }
+    ensures unsent { IsBad (script_of sharing.workers (lines_of bytes.now)) → links.new ≡ links.old }
     ensures ends { (result ≢ Status.Words) × (result ≢ Status.ReadFault) × (result ≢ Status.TooLong) }
     ensures complete { IsScript (script_of sharing.workers (lines_of bytes.now)) → (Rose (K.faults sink.old) (K.faults sink.new) → ⊥) → (SomeRose (map L.faults links.old) (map L.faults links.new) → ⊥) → EndsWell result }
 {
@@ -122,7 +124,7 @@ fn answer<K: Sink, L: Link + Send, R: Threads + Wait + Sync>(
 }
 
 /// Reads a script from the source, lets workers make its calls on one gateway, and gives the print of what is stored then to the sink.
-#[tactic(auto, using(crate::proofs::Completed::read_fails, crate::proofs::Completed::too_long, crate::proofs::Completed::no_memory))]
+#[tactic(auto, using(crate::proofs::Completed::read_fails, crate::proofs::Completed::too_long, crate::proofs::Completed::no_memory, crate::proofs::Completed::none_sent))]
 pub(crate) fn share_source<S: Source, K: Sink, L: Link + Send, R: Threads + Wait + Sync>(
     rt: &R,
     alloc: Global,
@@ -135,12 +137,14 @@ pub(crate) fn share_source<S: Source, K: Sink, L: Link + Send, R: Threads + Wait
     ensures leaves { IfSome (S.left source.old) (λ input. LeavesShared sharing result input (K.taken sink.old) (K.taken sink.new)) }
     ensures whole { is_whole result ≡ true → IsAtEnd (S.left source.new) }
     ensures read { result ≡ Status.ReadFault → Rose (S.faults source.old) (S.faults source.new) }
+    ensures steady { result ≢ Status.ReadFault → S.faults source.new ≡ S.faults source.old }
     ensures write { result ≡ Status.WriteFault → Rose (K.faults sink.old) (K.faults sink.new) }
     ensures quiet { result ≢ Status.WriteFault → K.faults sink.new ≡ K.faults sink.old }
     ensures unwritten { is_unwritten result ≡ true → sink.new ≡ sink.old }
     ensures sent { result ≡ Status.Done → map L.faults links.new ≡ map L.faults links.old }
     ensures linked { result ≡ Status.LinkFault → SomeRose (map L.faults links.old) (map L.faults links.new) }
     ensures idle { is_idle result ≡ true → links.new ≡ links.old }
+    ensures unsent { IfSome (S.left source.old) (λ input. IsBad (script_of sharing.workers (lines_of input)) → links.new ≡ links.old) }
     ensures ends { result ≢ Status.Words }
     ensures complete { IfSome (S.left source.old) (λ input. IsFitFor sharing.workers input → (Rose (S.faults source.old) (S.faults source.new) → ⊥) → (Rose (K.faults sink.old) (K.faults sink.new) → ⊥) → (SomeRose (map L.faults links.old) (map L.faults links.new) → ⊥) → EndsWell result) }
 {

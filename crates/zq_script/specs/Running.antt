@@ -6,7 +6,7 @@ use Rattle.std.specs.Io.KnownBytes.{Appends}
 use Rattle.zq_machine.specs.declared.call.Call.{Call}
 use Rattle.zq_machine.specs.Machine.{steps}
 use Rattle.zq_streams.specs.declared.transfer.TheConstants.{LIMIT}
-use Rattle.zq_streams.specs.Streams.{AppendsPrefix}
+use Rattle.zq_streams.specs.Streams.{AppendsFront}
 use Rattle.zq_words.specs.Words.{◌>>=◌, number}
 use Rattle.zq_load.specs.Load.{load_line}
 use Rattle.zq_lines.specs.Split.{lines_of}
@@ -94,7 +94,7 @@ Leaves status.Done input old new = IsScript (script_of 0 (lines_of input)) × (l
 Leaves status.Words input old new = Unit {0}
 Leaves status.Script input old new = IsBad (script_of 0 (lines_of input)) × (length input ≤ LIMIT) × Appends old new (print_of input)
 Leaves status.ReadFault input old new = Unit {0}
-Leaves status.WriteFault input old new = (length input ≤ LIMIT) × AppendsPrefix old new (print_of input)
+Leaves status.WriteFault input old new = (length input ≤ LIMIT) × AppendsFront old new (print_of input)
 Leaves status.Memory input old new = Unit {0}
 Leaves status.TooLong input old new = LIMIT < length input
 Leaves status.LinkFault input old new = ⊥
@@ -105,7 +105,7 @@ LeavesLoad status.Done amount old new = Appends old new (load_line amount)
 LeavesLoad status.Words amount old new = ⊥
 LeavesLoad status.Script amount old new = ⊥
 LeavesLoad status.ReadFault amount old new = ⊥
-LeavesLoad status.WriteFault amount old new = AppendsPrefix old new (load_line amount)
+LeavesLoad status.WriteFault amount old new = AppendsFront old new (load_line amount)
 LeavesLoad status.Memory amount old new = Unit {0}
 LeavesLoad status.TooLong amount old new = ⊥
 LeavesLoad status.LinkFault amount old new = ⊥

@@ -144,6 +144,7 @@ fn replay<S: Source, K: Sink>(alloc: Global, source: &mut S, sink: &mut K) -> St
     ensures back { IfSome (S.left source.old) (λ input. result ≡ Status.Done → IfOk (script_of 0 (lines_of input)) ReadsBack) }
     ensures whole { (result ≡ Status.Done) ⊎ (result ≡ Status.Script) → IsAtEnd (S.left source.new) }
     ensures read { result ≡ Status.ReadFault → Rose (S.faults source.old) (S.faults source.new) }
+    ensures steady { result ≢ Status.ReadFault → S.faults source.new ≡ S.faults source.old }
     ensures write { result ≡ Status.WriteFault → Rose (K.faults sink.old) (K.faults sink.new) }
     ensures quiet { result ≢ Status.WriteFault → K.faults sink.new ≡ K.faults sink.old }
     ensures unwritten { wrote result ≡ false → sink.new ≡ sink.old }
@@ -192,6 +193,7 @@ pub fn run<S: Source, K: Sink>(
     ensures whole { IsReplay words.now → (result ≡ Status.Done) ⊎ (result ≡ Status.Script) → IsAtEnd (S.left source.new) }
     ensures load { IfSome (load_of words.now) (λ n. (source.new ≡ source.old) × LeavesLoad result n (K.taken sink.old) (K.taken sink.new)) }
     ensures read { result ≡ Status.ReadFault → Rose (S.faults source.old) (S.faults source.new) }
+    ensures steady { result ≢ Status.ReadFault → S.faults source.new ≡ S.faults source.old }
     ensures write { result ≡ Status.WriteFault → Rose (K.faults sink.old) (K.faults sink.new) }
     ensures quiet { result ≢ Status.WriteFault → K.faults sink.new ≡ K.faults sink.old }
     ensures unwritten { wrote result ≡ false → sink.new ≡ sink.old }

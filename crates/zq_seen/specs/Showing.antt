@@ -2,7 +2,7 @@
 use Rattle.std.specs.Prelude.{ℕ, ◌<◌, ◌≤◌, List, Option, Some, None, length}
 use Rattle.std.specs.Io.KnownBytes.{Appends}
 use Rattle.zq_streams.specs.declared.transfer.TheConstants.{LIMIT}
-use Rattle.zq_streams.specs.Streams.{AppendsPrefix}
+use Rattle.zq_streams.specs.Streams.{AppendsFront}
 use Rattle.zq_lines.specs.Split.{lines_of}
 use Rattle.zq_page.specs.declared.page.BadLine.{BadLine}
 use Rattle.zq_page.specs.Page.{page_words}
@@ -37,7 +37,7 @@ LeavesShown status.Done form input old new = IsScript (script_of 0 (lines_of inp
 LeavesShown status.Words form input old new = ⊥
 LeavesShown status.Script form input old new = IsBad (script_of 0 (lines_of input)) × (length input ≤ LIMIT) × Appends old new (shown_words form input)
 LeavesShown status.ReadFault form input old new = Unit {0}
-LeavesShown status.WriteFault form input old new = (length input ≤ LIMIT) × AppendsPrefix old new (shown_words form input)
+LeavesShown status.WriteFault form input old new = (length input ≤ LIMIT) × AppendsFront old new (shown_words form input)
 LeavesShown status.Memory form input old new = Unit {0}
 LeavesShown status.TooLong form input old new = LIMIT < length input
 LeavesShown status.LinkFault form input old new = ⊥

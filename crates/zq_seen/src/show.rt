@@ -55,6 +55,7 @@ fn give<K: Sink>(alloc: Global, bytes: &[u8], form: Form, sink: &mut K) -> Statu
     requires { length bytes.now ≤ LIMIT }
     ensures leaves { LeavesShown result form bytes.now (K.taken sink.old) (K.taken sink.new) }
     ensures fault { result ≡ Status.WriteFault → Rose (K.faults sink.old) (K.faults sink.new) }
+    ensures quiet { result ≢ Status.WriteFault → K.faults sink.new ≡ K.faults sink.old }
     ensures unwritten { wrote result ≡ false → sink.new ≡ sink.old }
     ensures ends { (result ≢ Status.Words) × (result ≢ Status.ReadFault) × (result ≢ Status.TooLong) × (result ≢ Status.LinkFault) }
 {
@@ -72,7 +73,9 @@ fn give<K: Sink>(alloc: Global, bytes: &[u8], form: Form, sink: &mut K) -> Statu
 pub fn show<S: Source, K: Sink>(alloc: Global, form: Form, source: &mut S, sink: &mut K) -> Status
     ensures leaves { IfSome (S.left source.old) (λ input. LeavesShown result form input (K.taken sink.old) (K.taken sink.new)) }
     ensures read { result ≡ Status.ReadFault → Rose (S.faults source.old) (S.faults source.new) }
+    ensures steady { result ≢ Status.ReadFault → S.faults source.new ≡ S.faults source.old }
     ensures write { result ≡ Status.WriteFault → Rose (K.faults sink.old) (K.faults sink.new) }
+    ensures quiet { result ≢ Status.WriteFault → K.faults sink.new ≡ K.faults sink.old }
     ensures unwritten { wrote result ≡ false → sink.new ≡ sink.old }
     ensures ends { (result ≢ Status.Words) × (result ≢ Status.LinkFault) }
 {

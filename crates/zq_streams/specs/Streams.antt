@@ -26,6 +26,6 @@ abbrev pub IsLonger : ℕ → Option (List ℕ) → Type 0
 IsLonger limit None = Unit {0}
 IsLonger limit (Some xs) = limit < length xs
 
--- a front of the piece was taken
-abbrev pub AppendsPrefix : Option (List ℕ) → Option (List ℕ) → List ℕ → Type 0
-AppendsPrefix old new piece = (n : ℕ) × (n ≤ length piece) × Appends old new (take n piece)
+-- a front of the piece was taken, and not the whole of it
+abbrev pub AppendsFront : Option (List ℕ) → Option (List ℕ) → List ℕ → Type 0
+AppendsFront old new piece = (n : ℕ) × (n < length piece) × Appends old new (take n piece)

@@ -1,5 +1,5 @@
 //! Sources and sinks in memory, which fail where they are told to, and such that never fail.
-ghost use Rattle.std.specs.Prelude.{◌≡◌, ◌-◌, ◌+◌, ◌^◌, ◌<◌, ◌≤◌, min, length, IfOk, is_err, OnOk, IsOk, Ok, Some, None, drop, take, [], ◌||◌, ◌&&◌, ◌==◌, nat_lt, vec_capacity};
+ghost use Rattle.std.specs.Prelude.{◌≡◌, ◌-◌, ◌+◌, ◌^◌, ◌<◌, ◌≤◌, min, length, IfOk, is_err, OnOk, Ok, Some, None, drop, take, [], ◌||◌, ◌&&◌, ◌==◌, nat_lt, vec_capacity};
 ghost use Rattle.std.specs.Io.{ReadsAtMost, WritesAtMost};
 ghost use Rattle.std.specs.Io.KnownBytes.{ReadConsumes, WriteAppends};
 ghost use Rattle.zq_streams.specs.Streams.{HasCause, moved, is_listed};
@@ -68,6 +68,7 @@ impl Source for MemorySource {
         ensures fails { is_err result ≡ is_listed self.old.fails.items self.old.calls }
         ensures count { IfOk result (λ n. n ≡ moved self.old.piece (length buf.old) (length self.old.bytes - self.old.at)) }
         ensures calls { self.new.calls ≡ min (self.old.calls + 1) (2 ^ 64 - 1) }
+        ensures same { (self.new.fails.items ≡ self.old.fails.items) × (self.new.piece ≡ self.old.piece) × (self.new.bytes ≡ self.old.bytes) }
     {
         let listed = self.fails.contains(&self.calls);
         self.calls = self.calls.saturating_add(1);
@@ -144,6 +145,7 @@ impl Sink for MemorySink {
         ensures fails { is_err result ≡ (is_listed self.old.fails.items self.old.calls || (length self.old.bytes.items == self.old.room && nat_lt 0 (length piece.now))) }
         ensures count { IfOk result (λ n. n ≡ moved self.old.piece (length piece.now) (self.old.room - length self.old.bytes.items)) }
         ensures calls { self.new.calls ≡ min (self.old.calls + 1) (2 ^ 64 - 1) }
+        ensures same { (self.new.fails.items ≡ self.old.fails.items) × (self.new.piece ≡ self.old.piece) × (self.new.room ≡ self.old.room) }
     {
         let listed = self.fails.contains(&self.calls);
         self.calls = self.calls.saturating_add(1);
@@ -184,12 +186,12 @@ impl Source for SureSource {
 
     ghost faults = { λ s. 0 };
 
-    /// Never fails.
+    /// Gives as much as is left and the buffer holds, and never fails.
     fn read(&mut self, buf: &mut [u8]) -> Result<usize, Failed>
         ensures bound { ReadsAtMost result buf.new }
         ensures bytes { ReadConsumes (Some (drop self.old.at self.old.bytes)) (Some (drop self.new.at self.new.bytes)) result buf.new }
         ensures cause { HasCause 0 0 result }
-        ensures sure { IsOk result }
+        ensures sure { result ≡ Ok (min (length buf.old) (length self.old.bytes - self.old.at)) }
     {
         let rest = &self.bytes.as_slice()[self.at..];
         let count = give(rest, buf, rest.len());

@@ -1,8 +1,8 @@
 //! Whole transfers.
-ghost use Rattle.std.specs.Prelude.{◌≡◌, ◌≤◌, ℕ, List, length, OnOk, OnErr, IfOk, Err};
+ghost use Rattle.std.specs.Prelude.{◌≡◌, ◌≢◌, ◌≤◌, ℕ, List, length, OnOk, OnErr, IfOk, Err};
 ghost use Rattle.std.specs.Io.KnownBytes.{Consumes, Appends, IsAtEnd};
 ghost use Rattle.zq_streams.specs.declared.transfer.TheConstants.{LIMIT};
-ghost use Rattle.zq_streams.specs.Streams.{Rose, IsLonger, AppendsPrefix};
+ghost use Rattle.zq_streams.specs.Streams.{Rose, IsLonger, AppendsFront};
 
 use crate::streams::{Sink, Source};
 use std::alloc::Global;
@@ -37,7 +37,7 @@ pub fn read_all<S: Source>(alloc: Global, source: &mut S) -> Result<Bytes, ReadR
     ensures front { (b : List ℕ) × Consumes (S.left source.old) (S.left source.new) b }
     ensures short { IfOk result (λ b. length b ≤ LIMIT) }
     ensures fault { result ≡ Err ReadRefusal.ReadFault → Rose (S.faults source.old) (S.faults source.new) }
-    ensures quiet { OnOk result (S.faults source.new ≡ S.faults source.old) }
+    ensures quiet { result ≢ Err ReadRefusal.ReadFault → S.faults source.new ≡ S.faults source.old }
     ensures too_long { result ≡ Err ReadRefusal.TooLong → IsLonger LIMIT (S.left source.old) }
     ensures later { S.faults source.old ≤ S.faults source.new }
 {
@@ -61,7 +61,7 @@ pub fn read_all<S: Source>(alloc: Global, source: &mut S) -> Result<Bytes, ReadR
 #[tactic(auto, using(crate::proofs::Transfers::appends_on, crate::proofs::Transfers::appends_none))]
 pub fn write_all<K: Sink>(sink: &mut K, piece: &[u8]) -> Result<(), WriteFault>
     ensures whole { OnOk result (Appends (K.taken sink.old) (K.taken sink.new) piece.now) }
-    ensures prefix { AppendsPrefix (K.taken sink.old) (K.taken sink.new) piece.now }
+    ensures front { OnErr result (AppendsFront (K.taken sink.old) (K.taken sink.new) piece.now) }
     ensures fault { OnErr result (Rose (K.faults sink.old) (K.faults sink.new)) }
     ensures quiet { OnOk result (K.faults sink.new ≡ K.faults sink.old) }
     ensures later { K.faults sink.old ≤ K.faults sink.new }

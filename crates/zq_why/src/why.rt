@@ -14,8 +14,8 @@ use zq_words::words::{len_to, push_number, push_text, word_at};
 pub const CONFIG: &str =
     "the first line is `config`, an id, a timeout and the regions, of which one is north";
 
-/// What is said where each word is right.
-pub const FORM: &str = "each word is right, and the gateway takes no such call";
+/// What is said where no wrong word can be named: not each word is looked at.
+pub const FORM: &str = "a word is wrong or missing, or the gateway takes no such call";
 
 /// How many words stand behind the name of a line.
 fn words_behind(rest: &[u8]) -> usize
