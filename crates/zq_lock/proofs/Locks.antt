@@ -13,15 +13,13 @@ use Rattle.zq_machine.specs.Handing.{Handed}
 use Rattle.zq_machine.specs.Machine.{done}
 use Rattle.zq_ties.specs.Stored.{Stored, answer_to, asks_request, requests_in, with_call}
 use Rattle.zq_ties.specs.Ties.{Sharing}
-use Rattle.zq_shared.specs.Sharing.{EndsIn, IsSameHolds, Settles, with_reports}
+use Rattle.zq_shared.specs.Sharing.{AreDue, AreOrderly, EndsIn, IsSameHolds, IsWithin, Settles, reports, with_reports}
+use Rattle.zq_shared.proofs.Due.{orderly_append, orderly_end, orderly_other, orderly_reports}
 use Rattle.zq_lock.specs.Answers.{AllListed, IsAnswer, IsFinal, IsListed, MayPrecede, MayStand, behind}
 use Rattle.zq_lock.specs.Locking.{IsLocked}
 use Rattle.zq_lock.specs.Tallies.{Counts, is_other, others_in}
 
 -- ---- reports
-abbrev reports : List ℕ → List Call
-reports ks = map (λ k. call.Sent k) ks
-
 reports_listed : (list : Option (List Call)) (ks : List ℕ) → AllListed list (reports ks)
 reports_listed list [] = All-nil (MayStand list)
 reports_listed list (k ∷ ks) = All-cons (MayStand list) (call.Sent k) (reports ks) (inl refl) (reports_listed list ks)
@@ -54,9 +52,9 @@ requests_reported : (cs : List Call) (ks : List ℕ) → requests_in (cs ++ repo
 requests_reported cs ks = let more = count_more asks_request cs (reports ks) in let none = ap (λ (l : List Call). length l) (no_requests ks) in omega arith
 
 -- ---- what a settling stores
-settles_reports : (o : Option ℕ) (s : Stored) (a : Option Handed) (new : Stored) → Settles o s a new → (ks : List ℕ) × (new ≡ with_reports s ks) × EndsIn s ks a
-settles_reports None s a new h = ([], h.1 ∙ ap (behind s.config) (sym (append-nil s.calls)), inl (refl, h.0))
-settles_reports (Some n) s a new h = (h.0, h.1.stored, h.1.ends)
+settles_reports : (o : Option ℕ) (s : Stored) (a : Option Handed) (new : Stored) → Settles o s a new → (ks : List ℕ) × (new ≡ with_reports s ks) × EndsIn s ks a × AreDue s (reports ks)
+settles_reports None s a new h = ([], h.1 ∙ ap (behind s.config) (sym (append-nil s.calls)), inl (refl, h.0), tt)
+settles_reports (Some n) s a new h = (h.0, h.1.stored, h.1.ends, h.1.due)
 
 final_comes : (config : Settings) (list : Option (List Call)) (s : Stored) (ks : List ℕ) (a : Option Handed) → s.config ≡ config → AllListed list s.calls → EndsIn s ks a → IfSome a (IsFinal config list)
 final_comes config list s ks None means all e = tt
@@ -69,8 +67,8 @@ final_comes config list s ks (Some h) means all (inr e) = (
 )
 
 module _ (config : Settings) (holds : TableId) (slots : ℕ) (list : Option (List Call)) (old new : Sharing) (totals : Counts) where
-  locked_reports : (ks : List ℕ) → IsLocked config holds slots list old totals → new.stored ≡ with_reports old.stored ks → IsSameHolds old.slots new.slots → IsLocked config holds slots list new totals
-  locked_reports ks h stored same =
+  locked_reports : (ks : List ℕ) → AreDue old.stored (reports ks) → IsLocked config holds slots list old totals → new.stored ≡ with_reports old.stored ks → IsSameHolds old.slots new.slots → IsLocked config holds slots list new totals
+  locked_reports ks due h stored same =
       let others = others_reported old.stored.calls ks in
       let requests = requests_reported old.stored.calls ks in
       let calls = ap (λ (s : Stored). s.calls) stored in
@@ -81,13 +79,16 @@ module _ (config : Settings) (holds : TableId) (slots : ℕ) (list : Option (Lis
         home = same.0 ∙ h.home;
         wide = same.1 ∙ h.wide;
         listed = subst (AllListed list) (sym calls) (All-append (MayStand list) old.stored.calls (reports ks) h.listed (reports_listed list ks));
+        orderly = subst (AreOrderly slots (behind config [])) (sym calls)
+            (orderly_append slots (behind config []) old.stored.calls (reports ks) h.orderly
+            (orderly_reports slots (behind config old.stored.calls) ks (orderly_end slots (behind config []) old.stored.calls h.orderly) (subst (λ (c : Settings). AreDue (behind c old.stored.calls) (reports ks)) h.means due)));
         others = h.others ∙ sym (o ∙ others);
         asked = h.asked ∙ sym (r ∙ requests);
         full = λ some. let f = h.full some in omega arith;
       }
 
   pub locked_settled : (o : Option ℕ) (a : Option Handed) → IsLocked config holds slots list old totals → Settles o old.stored a new.stored → IsSameHolds old.slots new.slots → IsLocked config holds slots list new totals
-  locked_settled o a h s same = let r = settles_reports o old.stored a new.stored s in locked_reports r.0 h r.1 same
+  locked_settled o a h s same = let r = settles_reports o old.stored a new.stored s in locked_reports r.0 r.3 h r.1 same
 
   pub settled_final : (o : Option ℕ) (a : Option Handed) → IsLocked config holds slots list old totals → Settles o old.stored a new.stored → IfSome a (IsFinal config list)
   settled_final o a h s = let r = settles_reports o old.stored a new.stored s in final_comes config list old.stored r.0 a h.means h.listed r.2
@@ -111,13 +112,14 @@ module _ (config : Settings) (holds : TableId) (slots : ℕ) (list : Option (Lis
         home = same.0 ∙ h.home;
         wide = same.1 ∙ h.wide;
         listed = subst (AllListed list) (sym calls) h.listed;
+        orderly = subst (AreOrderly slots (behind config [])) (sym calls) h.orderly;
         others = h.others ∙ sym o;
         asked = h.asked ∙ sym r;
         full = λ some. let f = h.full some in omega arith;
       }
 
   -- a call more is stored, and counted
-  module _ (c : Call) (then : Counts) (h : IsLocked config holds slots list old totals) (unsent : is_sent c ≡ false) (listed : IsListed list c) (stored : new.stored ≡ with_call old.stored c) (same : IsSameHolds old.slots new.slots)
+  module _ (c : Call) (then : Counts) (h : IsLocked config holds slots list old totals) (unsent : is_sent c ≡ false) (listed : IsListed list c) (stored : new.stored ≡ with_call old.stored c) (same : IsSameHolds old.slots new.slots) (within : IsWithin slots new.stored)
       (others : then.calls ≡ totals.calls + length (filter is_other (c ∷ []))) (asked : then.asks ≡ totals.asks + length (filter asks_request (c ∷ []))) (full : then.full ≡ totals.full) where
     locked_more : IsLocked config holds slots list new then
     locked_more =
@@ -131,20 +133,24 @@ module _ (config : Settings) (holds : TableId) (slots : ℕ) (list : Option (Lis
           home = same.0 ∙ h.home;
           wide = same.1 ∙ h.wide;
           listed = subst (AllListed list) (sym calls) (All-append (MayStand list) old.stored.calls (c ∷ []) h.listed (All-cons (MayStand list) c [] (inr listed) (All-nil (MayStand list))));
+          orderly = subst (AreOrderly slots (behind config [])) (sym calls)
+              (orderly_append slots (behind config []) old.stored.calls (c ∷ []) h.orderly
+              (orderly_other slots (behind config old.stored.calls) c unsent (orderly_end slots (behind config []) old.stored.calls h.orderly)
+              (subst (λ (x : Stored). IsWithin slots x) (stored ∙ ap (λ (d : Settings). with_call (behind d old.stored.calls) c) h.means) within)));
           others = omega arith;
           asked = omega arith;
           full = λ some. let f = h.full (omega arith) in omega arith;
         }
 
-  module _ (c : Call) (then : Counts) (h : IsLocked config holds slots list old totals) (unsent : is_sent c ≡ false) (listed : IsListed list c) (stored : new.stored ≡ with_call old.stored c) (same : IsSameHolds old.slots new.slots) (full : then.full ≡ totals.full) where
+  module _ (c : Call) (then : Counts) (h : IsLocked config holds slots list old totals) (unsent : is_sent c ≡ false) (listed : IsListed list c) (stored : new.stored ≡ with_call old.stored c) (same : IsSameHolds old.slots new.slots) (within : IsWithin slots new.stored) (full : then.full ≡ totals.full) where
     pub locked_ask : asks_request c ≡ true → then.calls ≡ totals.calls → then.asks ≡ totals.asks + 1 → IsLocked config holds slots list new then
     locked_ask asks others asked =
         let one = count_if asks_request c true asks in
         let none = count_if is_other c false (ap (λ b. not b && not (is_sent c)) asks) in
-        locked_more c then h unsent listed stored same (omega arith) (omega arith) full
+        locked_more c then h unsent listed stored same within (omega arith) (omega arith) full
 
     pub locked_other : asks_request c ≡ false → then.calls ≡ totals.calls + 1 → then.asks ≡ totals.asks → IsLocked config holds slots list new then
     locked_other asks others asked =
         let none = count_if asks_request c false asks in
         let one = count_if is_other c true (ap (λ b. not b && not (is_sent c)) asks ∙ ap not unsent) in
-        locked_more c then h unsent listed stored same (omega arith) (omega arith) full
+        locked_more c then h unsent listed stored same within (omega arith) (omega arith) full

@@ -83,6 +83,7 @@ impl<H: Home, C: Ledger, Q: Ledger, P: Ledger> Locked<H, C, Q, P> {
         let asks = asks(&call);
         match self.shared.step(seat, call) {
             Ok(stepped) => {
+                self.shared.recall();
                 if asks {
                     tally.add_ask(&mut self.asks);
                 } else {

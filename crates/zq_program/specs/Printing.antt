@@ -22,7 +22,7 @@ shared_print head config calls = head ++ calls_words calls ++ ended (codes "--")
 
 -- the print of a shared run of the script: of some calls that may be stored of all its calls, on that many slots; their steps keep what each run promises
 abbrev pub IsSharedPrint : ℕ → Script → List ℕ → Type 0
-IsSharedPrint slots s print = (stored : List Call) × HasStored slots (all_calls s.parts) stored × RunPromise s.config stored × (print ≡ shared_print s.head s.config stored)
+IsSharedPrint slots s print = (stored : List Call) × HasStored s.config slots (all_calls s.parts) stored × RunPromise s.config stored × (print ≡ shared_print s.head s.config stored)
 
 -- what is printed for a script, or for the first bad line
 abbrev pub MayPrint : ℕ → Result Script ℕ → List ℕ → Type 0

@@ -19,11 +19,13 @@ module _ (config : Settings) (holds : TableId) (slots : ℕ) (list : Option (Lis
       let a = locked.asked in let m = made.asked in
       inr (omega arith, locked.full (omega arith))
 
-  pub stored_of : (marks : ℕ) → slots ≡ marks → list ≡ Some calls → HasStored marks calls s.stored.calls
-  stored_of marks e l =
-      subst (λ (n : ℕ). HasStored n calls s.stored.calls) e
+  pub stored_of : (made_with : Settings) (marks : ℕ) → config ≡ made_with → slots ≡ marks → list ≡ Some calls → HasStored made_with marks calls s.stored.calls
+  stored_of made_with marks c e l =
+      subst (λ (d : Settings). HasStored d marks calls s.stored.calls) c
+      (subst (λ (n : ℕ). HasStored config n calls s.stored.calls) e
       (record {
         others = (let o = locked.others in let m = made.others in omega arith);
         asked = asked_or_full totals.full refl;
         among = subst (λ (o : Option (List Call)). AllListed o s.stored.calls) l locked.listed;
-      })
+        orderly = locked.orderly;
+      }))

@@ -19,7 +19,7 @@ use zq_machine::config::Config;
 use zq_message::items::Items;
 
 /// The same over the gateway that the name means.
-#[tactic(auto, using(crate::proofs::Faults::fell_none, crate::proofs::Faults::fell_of))]
+#[tactic(auto, using(crate::proofs::Faults::fell_none, crate::proofs::Faults::fell_of, zq_shared::proofs::Due::orderly_none))]
 fn share_named<
     H: Home + Send + Sync,
     C: Ledger + Send + Sync,
@@ -47,7 +47,7 @@ fn share_named<
     requires links { (0 < length links.old) × (vec_len parts ≤ length links.old + 1) }
     ensures config { IfOk result (λ r. r.0.stored.config ≡ shared.stored.config) }
     ensures wide { IfOk result (λ r. length r.0.slots.keeper.marks ≡ length shared.slots.keeper.marks) }
-    ensures stored { IfOk result (λ r. HasStored (length shared.slots.keeper.marks) (all_calls parts.items) r.0.stored.calls) }
+    ensures stored { IfOk result (λ r. HasStored shared.stored.config (length shared.slots.keeper.marks) (all_calls parts.items) r.0.stored.calls) }
     ensures faults { IfOk result (λ r. HaveFaults r.1 (map L.faults links.old) (map L.faults links.new)) }
     ensures later { NeverFell (map L.faults links.old) (map L.faults links.new) }
 {
@@ -91,7 +91,7 @@ pub fn share<L: Link + Send, R: Threads + Wait + Sync>(
     requires links { (0 < length links.old) × (vec_len parts ≤ length links.old + 1) }
     ensures config { IfOk result (λ r. r.0.stored.config ≡ config.now) }
     ensures wide { IfOk result (λ r. length r.0.slots.keeper.marks ≡ slots) }
-    ensures stored { IfOk result (λ r. HasStored slots (all_calls parts.items) r.0.stored.calls) }
+    ensures stored { IfOk result (λ r. HasStored config.now slots (all_calls parts.items) r.0.stored.calls) }
     ensures faults { IfOk result (λ r. HaveFaults r.1 (map L.faults links.old) (map L.faults links.new)) }
     ensures later { NeverFell (map L.faults links.old) (map L.faults links.new) }
 {

@@ -1,5 +1,6 @@
 pub mod Asked
 pub mod Lending
 pub mod Reporting
+pub mod Due
 pub mod Settled
 pub mod Storing

@@ -29,8 +29,9 @@ use Rattle.zq_ties.proofs.Holding.{has_owner}
 use Rattle.zq_ties.proofs.Moves.{waits_still}
 use Rattle.zq_ties.proofs.Ties.{counted_set, mark_is, other_mark, zero_if}
 use Rattle.zq_shared.specs.Keeping.{KeepsOthers, KeepsTies, Reported}
-use Rattle.zq_shared.specs.Sharing.{KeepsFlights, Reports, vacated, with_reports}
+use Rattle.zq_shared.specs.Sharing.{AreDue, KeepsFlights, Reports, reports, vacated, with_reports}
 use Rattle.zq_shared.proofs.Reporting.{landed, other_stays, report_keeps}
+use Rattle.zq_shared.proofs.Due.{due_append, due_report}
 
 -- ---- one report after another
 same_stored : (s : Stored) → s ≡ with_reports s []
@@ -50,6 +51,7 @@ reported_none s n = record {
   keeps = λ m t waits unowned. (t, waits);
   others = λ m r other flown. flown;
   quiet = λ none. none;
+  due = λ none. tt;
 }
 
 -- what is among the numbers has what all of them have
@@ -78,6 +80,9 @@ module _ (s : Stored) (n : ℕ) (answer : Option Handed) (now : Stored) (ks : Li
     keeps = λ m t waits unowned. (let before = done_so_far.keeps m t waits unowned in subst (λ x. IsNearlyTied (Some n) x m × AreWaiting x m) (sym is) (report_keeps now k (cons_option next []) answers n flown m before.0 before.1 unowned));
     others = λ m r other flies_on. ap (λ (x : Stored). in_flight x m r) is ∙ other_stays now k (cons_option next []) answers n flown m r other (done_so_far.others m r other flies_on);
     quiet = λ none. zero_if (waiting new n) (λ some. (let old = waits_still now (call.Sent k) refl n (subst (λ x. 0 < waiting x n) is some) in let was = done_so_far.quiet none in absurd (omega (arith, old, was))));
+    due = λ none. subst (AreDue s) (sym (map-append (λ i. call.Sent i) ks (k ∷ [])))
+        (due_append s (reports ks) (call.Sent k ∷ []) (done_so_far.due none)
+        (subst (λ x. AreDue x (call.Sent k ∷ [])) done_so_far.stored (due_report now k n flown (done_so_far.quiet none))));
   }
     where
       all : (j : ℕ) (b : Bool) → (j == k) ≡ b → (list_any (is_reply j) ks || in_flight now n j) ≡ ((list_any (is_reply j) ks || ((k == j) || false)) || (in_flight now n j && not (j == k)))
@@ -112,8 +117,9 @@ module _ (s : Stored) (n : ℕ) (answer : Option Handed) (now : Stored) (ks : Li
           by (inr none) = absurd (false≢true none)
 
 -- once none is in flight, all were reported
-pub reported_all : (s : Stored) (n : ℕ) (answer : Option Handed) (now : Stored) (ks : List ℕ) → Reported s n answer now ks → ((k : ℕ) → in_flight now n k ≡ false) → Reports s n answer now ks
-reported_all s n answer now ks done_so_far none = record {
+pub reported_all : (s : Stored) (n : ℕ) (answer : Option Handed) (now : Stored) (ks : List ℕ) → Reported s n answer now ks → ((k : ℕ) → in_flight now n k ≡ false) → waiting s n ≡ 0 → Reports s n answer now ks
+reported_all s n answer now ks done_so_far none idle = record {
+  due = done_so_far.due idle;
   all = λ k. done_so_far.all k ∙ ((λ i. list_any (is_reply k) ks || none k i) ∙ or-false (list_any (is_reply k) ks));
   rising = done_so_far.rising;
   stored = done_so_far.stored;
@@ -181,7 +187,7 @@ module _ (s : Stored) (m : Slotted) (t : IsTied s m) (k : ℕ) (mark : HasMark G
         let still = other_owned j o but owns in
         (still, others o r (λ e. (let some = has_owner o (set m.owners k None) j still in let same = ap (λ i. owned i (set m.owners k None)) e in let none = alone in omega (arith, some, same, none))) flown)
 
-    pub vacated_tied : (new : Stored) → KeepsTies s n new → (waiting s n ≡ 0 → waiting new n ≡ 0) → ((r : ℕ) → in_flight new n r ≡ false) → IsTied new (vacated m k)
+    pub vacated_tied : (new : Stored) → KeepsTies s n new → waiting new n ≡ 0 → ((r : ℕ) → in_flight new n r ≡ false) → IsTied new (vacated m k)
     vacated_tied new keeps quiet none = record {
       nearly = record {
         kept = tied.0.kept;
@@ -205,7 +211,7 @@ module _ (s : Stored) (m : Slotted) (t : IsTied s m) (k : ℕ) (mark : HasMark G
         tied = keeps (vacated m k) (vacated_nearly (Some n) but) vacated_waits alone
 
         closed : IsOpen new n → ⊥
-        closed (inl some) = let zeroth = quiet (t.nearly.gone k n mark owner) in omega (arith, some, zeroth)
+        closed (inl some) = omega (arith, some, quiet)
         closed (inr flown) = false≢true (sym (none flown.0) ∙ flown.1)
 
         opened : (o : ℕ) → IsOpen new o → (b : Bool) → (n == o) ≡ b → 0 < owned o (set m.owners k None) + stood o (Some n) → 0 < owned o (set m.owners k None) + stood o None

@@ -14,7 +14,7 @@ use Rattle.zq_machine.specs.declared.call.Call.TheVariants as call
 use Rattle.zq_machine.specs.Handing.{Handed}
 use Rattle.zq_machine.specs.Machine.{done}
 use Rattle.zq_machine.specs.Waiting.{hands_reply}
-use Rattle.zq_ties.specs.Stored.{Stored, answer_to, asks_request, in_flight, requests_in}
+use Rattle.zq_ties.specs.Stored.{IsOpen, Stored, answer_to, asks_request, in_flight, requests_in, waiting, with_call}
 use Rattle.zq_ties.specs.Ties.{Sharing}
 use Rattle.zq_shared.specs.declared.shared.StepRefusal.{StepRefusal}
 use Rattle.zq_shared.specs.declared.shared.StepRefusal.TheVariants as refusal
@@ -54,16 +54,39 @@ abbrev pub Refuses : Sharing → Call → StepRefusal → Sharing → Type 0
 Refuses old c (refusal.Full full) new = IsFull old c × (length old.slots.keeper.marks ≤ requests_in old.stored.calls) × (new ≡ old)
 Refuses old c refusal.OutOfMemory new = (IsFull old c → ⊥) × MaySpare old new
 
--- the reports of these replies are stored too
+-- the reports of these replies
+abbrev pub reports : List ℕ → List Call
+reports ks = map (λ k. call.Sent k) ks
+
+-- they are stored too
 abbrev pub with_reports : Stored → List ℕ → Stored
-with_reports s ks = record s { calls = s.calls ++ map (λ k. call.Sent k) ks }
+with_reports s ks = record s { calls = s.calls ++ reports ks }
+
+-- the call is no report but of a reply in flight, of a request of which no entry is pending
+abbrev pub IsDue : Stored → Call → Type 0
+IsDue s c = (k : ℕ) → c ≡ call.Sent k → (n : ℕ) × (in_flight s n k ≡ true) × (waiting s n ≡ 0)
+
+-- so is each of these calls, made one after another
+abbrev pub AreDue : Stored → List Call → Type 0
+AreDue s [] = Unit {0}
+AreDue s (c ∷ cs) = IsDue s c × AreDue (with_call s c) cs
+
+-- no more requests wait for something than there are slots: of any different ones that do there are at most so many
+abbrev pub IsWithin : ℕ → Stored → Type 0
+IsWithin slots s = (ns : List ℕ) → ((n : ℕ) → times n ns ≤ 1) → ((n : ℕ) → 0 < times n ns → IsOpen s n) → length ns ≤ slots
+
+-- so it is at each point of these calls, made one after another, each of which is no report but a due one
+abbrev pub AreOrderly : ℕ → Stored → List Call → Type 0
+AreOrderly slots s [] = IsWithin slots s
+AreOrderly slots s (c ∷ cs) = IsWithin slots s × IsDue s c × AreOrderly slots (with_call s c) cs
 
 -- what the last of these reports is answered: the final, if it comes; and nothing where nothing is reported
 abbrev pub EndsIn : Stored → List ℕ → Option Handed → Type 0
 EndsIn s ks answer = ((ks ≡ []) × (answer ≡ None)) ⊎ ((before : List ℕ) × (k : ℕ) × (ks ≡ before ++ k ∷ []) × (answer_to (with_reports s before) (call.Sent k) ≡ done (cons_option answer [])))
 
--- all replies of the request that are in flight are reported, in order of number
+-- all replies of the request that are in flight are reported, in order of number, once no entry of it is pending
 pub record Reports (s : Stored) (n : ℕ) (answer : Option Handed) (new : Stored) (ks : List ℕ) : Type 0 where
+  pub due : AreDue s (reports ks)
   pub all : (k : ℕ) → in_flight s n k ≡ list_any (is_reply k) ks
   pub rising : IsStrictlySortedBy nat_cmp ks
   pub stored : new ≡ with_reports s ks

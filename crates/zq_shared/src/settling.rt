@@ -7,12 +7,13 @@ ghost use Rattle.zq_shared.specs.Sharing.{Reports};
 use crate::journal::Journal;
 use zq_machine::handed::Handed;
 
-/// Reports all replies in flight of the request, in order of number; the final to the asker comes of the last of them, or none. It takes no memory.
+/// Reports all replies in flight of the request, of which no entry is pending, in order of number; the final to the asker comes of the last of them, or none. It takes no memory.
 pub(crate) fn report_all(journal: &mut Journal, number: u64) -> Option<Handed>
+    requires { waiting journal.old number ≡ 0 }
     ensures reports { (ks : List ℕ) × Reports journal.old number result journal.new ks }
     ensures keeps { KeepsTies journal.old number journal.new }
     ensures others { KeepsOthers journal.old number journal.new }
-    ensures quiet { waiting journal.old number ≡ 0 → waiting journal.new number ≡ 0 }
+    ensures quiet { waiting journal.new number ≡ 0 }
     ensures none { (k : ℕ) → in_flight journal.new number k ≡ false }
 {
     let mut last = None;

@@ -1,12 +1,12 @@
 //! The state that many threads share, under one lock.
-ghost use Rattle.std.specs.Prelude.{◌≡◌, ◌<◌, ◌≤◌, [], All, false, None, Some, IfErr, IfOk, OnErr, OnOk};
+ghost use Rattle.std.specs.Prelude.{◌≡◌, ◌<◌, ◌≤◌, [], length, All, false, None, Some, IfErr, IfOk, OnErr, OnOk};
 ghost use Rattle.zq_hold.specs.declared.slot.Mark.TheVariants.{Gone};
 ghost use Rattle.zq_hold.specs.Marks.{HasMark};
 ghost use Rattle.zq_slots.specs.Owners.{owner_at};
 ghost use Rattle.zq_machine.specs.Calls.{is_sent};
 ghost use Rattle.zq_ties.specs.Holding.{AreHeld};
 ghost use Rattle.zq_ties.specs.Stored.{answer_to, asks_request, with_call};
-ghost use Rattle.zq_shared.specs.Sharing.{HoldsReplies, IsFull, IsSameHolds, KeepsFlights, Refuses, Settles, all_spare, vacated};
+ghost use Rattle.zq_shared.specs.Sharing.{HoldsReplies, IsFull, IsSameHolds, IsWithin, KeepsFlights, Refuses, Settles, all_spare, vacated};
 
 use crate::asking::ask;
 use crate::journal::Journal;
@@ -104,6 +104,13 @@ impl Shared {
         ensures { result.now ≡ self.now.stored.config }
     {
         self.journal.config()
+    }
+
+    /// Tells a proof that no more requests wait for something than there are slots. It does nothing.
+    pub fn recall(&self)
+        ensures { IsWithin (length self.now.slots.keeper.marks) self.now.stored }
+    {
+        self.slots.recall();
     }
 
     /// Makes one call that is no report, and stores it. A request that is asked and waits for something owns a slot from then on; `Full` exactly

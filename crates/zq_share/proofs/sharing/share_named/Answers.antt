@@ -28,7 +28,7 @@ returns-clause-stored g c =
     let made = crew_made c.args.seats.home c.args.parts.items c.in_ok-crew.crew.items c.in_ok-crew.ensures.crew c.run_crew-crew.result.items c.make_crew.new.tally c.gather-ended.new.tally c.run_crew-crew.ensures.worked whole c.in_ok-crew.ensures.tally c.gather-ended.ensures.tally in
     stored_of g.H.Home.config g.H.Home.holds g.H.Home.slots g.H.Home.list c.into_shared-shared.result.0 _ (all_calls c.args.parts.items) c.into_shared-shared.ensures
     (subst (λ (n : Counts). HasMade (all_calls c.args.parts.items) (each 0) n) c.audit.ensures.made made)
-    (length c.args.shared.slots.keeper.marks) c.requires.means.2 c.requires.list
+    c.args.shared.stored.config (length c.args.shared.slots.keeper.marks) c.requires.means.0 c.requires.means.2 c.requires.list
 
 pub returns-clause-later : goal.returns-clause-later
 returns-clause-later g c = fell_of (all_sent c.run_crew-crew.result.items) _ _ c.run_crew-crew.ensures.faults

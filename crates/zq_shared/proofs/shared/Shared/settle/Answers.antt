@@ -17,6 +17,9 @@ invariant_of-self-2 c =
     (vacated_tied c.self.inside.journal c.self.inside.slots c.self.invariant c.args.last.slot c.vacate.ensures.gone c.recall.ensures c.in_ok-number.number (sym c.in_ok-number.ensures.owner)
     c.report_all.new.journal r.keeps r.quiet r.none)
 
+pub report_all-requires : goal.report_all-requires
+report_all-requires c = c.self.invariant.nearly.gone c.args.last.slot c.in_ok-number.number c.vacate.ensures.gone (sym c.in_ok-number.ensures.owner)
+
 pub returns-in_err-number-clause-flights : goal.returns-in_err-number-clause-flights
 returns-in_err-number-clause-flights c =
     subst (λ (x : Sharing). KeepsFlights (Some c.args.last.slot) x (record { stored = c.self.inside.journal; slots = c.vacate.new.self })) c.self.view_is
