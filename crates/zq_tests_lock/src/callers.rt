@@ -139,6 +139,7 @@ fn halve<C: Ledger, Q: Ledger, P: Ledger>(
 }
 
 /// A gateway behind its lock, and what two that call it count.
+#[tactic(auto, using(zq_shared::proofs::Due::orderly_none))]
 fn lock_for_two<H: Home, C: Ledger, Q: Ledger, P: Ledger>(
     shared: Shared,
     blanks: (Blank, Blank, Blank),
