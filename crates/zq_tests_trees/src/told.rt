@@ -1,34 +1,99 @@
 use std::alloc::Global;
+use zq_given::information;
 use zq_key::items::Items;
 use zq_key::memory::OutOfMemory;
 use zq_key::message::{FaceId, QueryableInfoType};
 use zq_key::text::Text;
 use zq_told::ears::Ears;
-use zq_told::types::{FaceDues, TellRefusal, Way};
+use zq_told::types::{FaceDues, KeyDues, Planned, TellRefusal, Way};
+use zq_trees::types::Telling;
 
 const FACE: FaceId = FaceId(7);
 
-/// The keys that a call looks at, with the distance of what is due there.
-fn dues(alloc: Global, keys: &[(&str, Option<u16>)]) -> Result<FaceDues, OutOfMemory> {
-    let mut list = Items::new(alloc);
-    for (key, due) in keys {
-        let info = match due {
-            Some(distance) => Some(QueryableInfoType {
-                complete: true,
-                distance: *distance,
-            }),
-            None => None,
-        };
-        list.push((Text::new(alloc, key)?, info))?;
+/// What is due at a distance.
+fn at_distance(due: Option<u16>) -> Option<QueryableInfoType> {
+    match due {
+        Some(distance) => Some(information(true, distance)),
+        None => None,
     }
-    Ok(FaceDues {
-        face: FACE,
-        keys: list,
-    })
+}
+
+/// One more key that a call looks at, with the distance of what is due there.
+fn push_due(
+    list: &mut KeyDues,
+    alloc: Global,
+    key: &str,
+    due: Option<u16>,
+) -> Result<(), OutOfMemory> {
+    let key = Text::new(alloc, key)?;
+    list.push((key, at_distance(due)))
+}
+
+/// The keys that a call looks at, with the distance of what is due there.
+fn look_at(
+    list: &mut KeyDues,
+    alloc: Global,
+    keys: &[(&str, Option<u16>)],
+) -> Result<(), OutOfMemory> {
+    for (key, due) in keys {
+        push_due(list, alloc, key, *due)?;
+    }
+    Ok(())
 }
 
 /// How many tellings a call has, and of the last one the id and the distance that it tells.
 type Told = (usize, Option<(u32, Option<u16>)>);
+
+/// The id of the telling, and the distance that it tells.
+fn id_and_distance(telling: &Telling) -> (u32, Option<u16>) {
+    match telling.info {
+        Some(info) => (telling.id, Some(info.distance)),
+        None => (telling.id, None),
+    }
+}
+
+/// How many tellings there are, and what the last one tells.
+fn last_of(tellings: &[Telling]) -> Told {
+    match tellings.last() {
+        Some(telling) => (tellings.len(), Some(id_and_distance(telling))),
+        None => (tellings.len(), None),
+    }
+}
+
+/// The face is told what is planned.
+fn put(ears: &mut Ears, alloc: Global, planned: &Planned) -> Result<Told, OutOfMemory> {
+    ears.make_room(alloc, planned.plan.as_slice())?;
+    ears.put(planned.plan.as_slice());
+    Ok(last_of(planned.tellings.as_slice()))
+}
+
+/// What the face is told of what is due.
+fn tell(ears: &mut Ears, alloc: Global, way: Way, dues: &[FaceDues]) -> Result<Told, OutOfMemory> {
+    match ears.plan(alloc, way, dues) {
+        Ok(planned) => put(ears, alloc, &planned),
+        Err(_) => Err(OutOfMemory),
+    }
+}
+
+/// A call looks at no key of the face.
+fn no_dues(alloc: Global) -> [FaceDues; 1] {
+    [FaceDues {
+        face: FACE,
+        keys: Items::new(alloc),
+    }]
+}
+
+/// What the face is told of the keys, with room for what is due there.
+fn tell_keys(
+    ears: &mut Ears,
+    alloc: Global,
+    way: Way,
+    keys: &[(&str, Option<u16>)],
+    dues: &mut [FaceDues; 1],
+) -> Result<Told, OutOfMemory> {
+    look_at(&mut dues[0].keys, alloc, keys)?;
+    tell(ears, alloc, way, dues)
+}
 
 /// What the face is told of the keys.
 fn told(
@@ -37,20 +102,8 @@ fn told(
     way: Way,
     keys: &[(&str, Option<u16>)],
 ) -> Result<Told, OutOfMemory> {
-    let Ok(planned) = ears.plan(alloc, way, &[dues(alloc, keys)?]) else {
-        return Err(OutOfMemory);
-    };
-    ears.make_room(alloc, planned.plan.as_slice())?;
-    ears.put(planned.plan.as_slice());
-    let tellings = planned.tellings.as_slice();
-    let last = match tellings.last() {
-        Some(telling) => match telling.info {
-            Some(info) => Some((telling.id, Some(info.distance))),
-            None => Some((telling.id, None)),
-        },
-        None => None,
-    };
-    Ok((tellings.len(), last))
+    let mut dues = no_dues(alloc);
+    tell_keys(ears, alloc, way, keys, &mut dues)
 }
 
 /// What the face is told of changes that it did not ask for.
@@ -90,50 +143,68 @@ fn is_known(ears: &Ears) -> bool {
         && ears.told_of(FACE, "b").is_none()
 }
 
-/// Whether the text is the one key that the face was told.
-fn is_one(ears: &Ears, alloc: Global, text: &str) -> Result<bool, OutOfMemory> {
-    match ears.told_keys(alloc, FACE)?.as_slice() {
-        [key] => Ok(key.as_str() == text),
-        _ => Ok(false),
+/// Whether the text is the one key of these.
+fn is_only(keys: &[Text], text: &str) -> bool {
+    match keys {
+        [key] => key.as_str() == text,
+        _ => false,
     }
 }
 
+/// Whether the text is the one key that the face was told.
+fn is_one(ears: &Ears, alloc: Global, text: &str) -> Result<bool, OutOfMemory> {
+    let keys = ears.told_keys(alloc, FACE)?;
+    Ok(is_only(keys.as_slice(), text))
+}
+
 /// Whether the face is told the differences, and none of it is kept once it closed.
-fn tells_differences(alloc: Global) -> Result<bool, OutOfMemory> {
-    let mut ears = Ears::new(alloc);
+fn tells_differences(ears: &mut Ears, alloc: Global) -> Result<bool, OutOfMemory> {
     ears.open(alloc, FACE, 0)?;
-    let told = is_told_all(&mut ears, alloc) && is_known(&ears) && is_one(&ears, alloc, "a")?;
+    let told = is_told_all(ears, alloc) && is_known(ears) && is_one(ears, alloc, "a")?;
     ears.close(FACE);
     Ok(told && ears.last(FACE).is_none())
 }
 
 #[test]
 fn a_face_is_told_the_difference(rt: HostRuntime) {
-    assert_eq!(rt; tells_differences(rt.alloc()), Ok(true));
+    let mut ears = Ears::new(rt.alloc());
+    assert!(rt; tells_differences(&mut ears, rt.alloc()) == Ok(true));
 }
 
-/// Why no more is told.
-fn refusal(ears: &Ears, alloc: Global) -> Result<Option<TellRefusal>, OutOfMemory> {
-    let dues = dues(alloc, &[("b", Some(3))])?;
-    match ears.plan(alloc, Way::Unasked, &[dues]) {
-        Ok(_) => Ok(None),
-        Err(refusal) => Ok(Some(refusal)),
+/// Why no more is told of what is due.
+fn refusal_of(ears: &Ears, alloc: Global, dues: &[FaceDues]) -> Option<TellRefusal> {
+    match ears.plan(alloc, Way::Unasked, dues) {
+        Ok(_) => None,
+        Err(refusal) => Some(refusal),
     }
 }
 
+/// Why no more is told of a key, with room for what is due there.
+fn refusal(
+    ears: &Ears,
+    alloc: Global,
+    dues: &mut [FaceDues; 1],
+) -> Result<Option<TellRefusal>, OutOfMemory> {
+    look_at(&mut dues[0].keys, alloc, &[("b", Some(3))])?;
+    Ok(refusal_of(ears, alloc, dues))
+}
+
+/// Why no more is told.
+fn refused(ears: &Ears, alloc: Global) -> Result<Option<TellRefusal>, OutOfMemory> {
+    let mut dues = no_dues(alloc);
+    refusal(ears, alloc, &mut dues)
+}
+
 /// What the last id is used for, and why there is none after it.
-fn last_id(alloc: Global) -> Result<(Told, Option<TellRefusal>), OutOfMemory> {
-    let mut ears = Ears::new(alloc);
+fn last_id(ears: &mut Ears, alloc: Global) -> Result<(Told, Option<TellRefusal>), OutOfMemory> {
     ears.open(alloc, FACE, u32::MAX - 1)?;
-    let last = told(alloc, &mut ears, Way::Unasked, &[("a", Some(3))])?;
-    Ok((last, refusal(&ears, alloc)?))
+    let last = told(alloc, ears, Way::Unasked, &[("a", Some(3))])?;
+    Ok((last, refused(ears, alloc)?))
 }
 
 #[test]
 fn ids_end_with_those_of_32_bits(rt: HostRuntime) {
+    let mut ears = Ears::new(rt.alloc());
     let last = (1, Some((u32::MAX, Some(3))));
-    assert_eq!(rt;
-        last_id(rt.alloc()),
-        Ok((last, Some(TellRefusal::NoFreeId)))
-    );
+    assert!(rt; last_id(&mut ears, rt.alloc()) == Ok((last, Some(TellRefusal::NoFreeId))));
 }

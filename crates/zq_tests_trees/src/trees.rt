@@ -7,8 +7,9 @@ use zq_trees::children::{fresh_ids, tell_children};
 use zq_trees::nets::Net;
 use zq_trees::seats::Seats;
 use zq_trees::tellings::in_order;
-use zq_trees::types::{Network, Tree};
+use zq_trees::types::{Network, Telling, Tree};
 
+/// A tree of these.
 fn tree(alloc: Global, children: &[u32], directions: &[Option<u32>]) -> Result<Tree, OutOfMemory> {
     Ok(Tree {
         children: list(alloc, children)?,
@@ -30,30 +31,38 @@ fn small_net(alloc: Global) -> Result<Net, OutOfMemory> {
     Net::new(alloc, network)
 }
 
-/// The places of routers, of which the last is none.
-fn places_of(alloc: Global) -> Result<[Option<NodeId>; 4], OutOfMemory> {
-    let net = small_net(alloc)?;
-    Ok([
+/// The places of routers in the network, of which the last is none.
+fn places_in(net: &Net) -> [Option<NodeId>; 4] {
+    [
         net.place_of(Zid(1)),
         net.place_of(Zid(2)),
         net.place_of(Zid(3)),
         net.place_of(Zid(4)),
-    ])
+    ]
+}
+
+/// The same in the network of three routers.
+fn places_of(alloc: Global) -> Result<[Option<NodeId>; 4], OutOfMemory> {
+    match small_net(alloc) {
+        Ok(net) => Ok(places_in(&net)),
+        Err(error) => Err(error),
+    }
 }
 
 #[test]
 fn places(rt: HostRuntime) {
-    assert_eq!(rt;
-        places_of(rt.alloc()),
-        Ok([Some(0), Some(1), Some(2), None])
-    );
+    assert!(rt; places_of(rt.alloc()) == Ok([Some(0), Some(1), Some(2), None]));
 }
 
 /// The next router from a source towards another, and its distance.
 type Next = Option<(Zid, u16)>;
 
+/// How a router is reached from a source in that network.
 fn towards(alloc: Global, source: NodeId, router: u128) -> Result<Next, OutOfMemory> {
-    Ok(small_net(alloc)?.towards(source, Zid(router)))
+    match small_net(alloc) {
+        Ok(net) => Ok(net.towards(source, Zid(router))),
+        Err(error) => Err(error),
+    }
 }
 
 #[test]
@@ -66,28 +75,54 @@ fn ways(rt: HostRuntime) {
         (2, 3, None),
         (0, 4, None),
     ] {
-        assert_eq!(rt; towards(rt.alloc(), source, router), Ok(way));
+        assert!(rt;
+            towards(rt.alloc(), source, router) == Ok(way),
+            "{source} to {router}"
+        );
     }
 }
 
-fn seats(alloc: Global) -> Result<Seats, OutOfMemory> {
-    let mut seats = Seats::new(alloc);
-    for (zid, face) in [(3, 7), (2, 5), (2, 4)] {
-        seats.take(Zid(zid), FaceId(face))?;
+/// The router 3 is at face 7, and 2 at the faces 5 and 4.
+fn take_seats(seats: &mut Seats) -> Result<(), OutOfMemory> {
+    seats.take(Zid(3), FaceId(7))?;
+    seats.take(Zid(2), FaceId(5))?;
+    seats.take(Zid(2), FaceId(4))
+}
+
+/// How many tellings there are, and the face and the node of the first.
+fn first_of(tellings: &[Telling]) -> (usize, u32, u16) {
+    match tellings.first() {
+        Some(first) => (tellings.len(), first.face.0, first.node),
+        None => (0, 0, 0),
     }
-    Ok(seats)
+}
+
+/// The same once they are in order.
+fn first_in_order(alloc: Global, tellings: &[Telling]) -> Result<(usize, u32, u16), OutOfMemory> {
+    let tellings = in_order(alloc, tellings)?;
+    Ok(first_of(tellings.as_slice()))
+}
+
+/// The faces with seats that hear of `k` of the root, and the node of the first telling.
+fn told_from(
+    seats: &mut Seats,
+    alloc: Global,
+    net: &Net,
+    from: Option<FaceId>,
+    root: u128,
+) -> Result<(usize, u32, u16), OutOfMemory> {
+    take_seats(seats)?;
+    let info = Some(information(true, 0));
+    let tellings = tell_children(alloc, net, seats, from, Zid(root), "k", info)?;
+    first_in_order(alloc, tellings.as_slice())
 }
 
 /// The faces that hear of `k` of the root, and the node of the first telling.
 fn told(alloc: Global, from: Option<FaceId>, root: u128) -> Result<(usize, u32, u16), OutOfMemory> {
-    let net = small_net(alloc)?;
-    let seats = seats(alloc)?;
-    let info = Some(information(true, 0));
-    let tellings = tell_children(alloc, &net, &seats, from, Zid(root), "k", info)?;
-    let tellings = in_order(alloc, tellings.as_slice())?;
-    match tellings.get(0) {
-        Some(first) => Ok((tellings.len(), first.face.0, first.node)),
-        None => Ok((0, 0, 0)),
+    let mut seats = Seats::new(alloc);
+    match small_net(alloc) {
+        Ok(net) => told_from(&mut seats, alloc, &net, from, root),
+        Err(error) => Err(error),
     }
 }
 
@@ -101,17 +136,27 @@ fn children(rt: HostRuntime) {
         (None, 3, (0, 0, 0)),
         (None, 4, (0, 0, 0)),
     ] {
-        assert_eq!(rt; told(rt.alloc(), from, root), Ok(heard));
+        assert!(rt;
+            told(rt.alloc(), from, root) == Ok(heard),
+            "{from:?} of {root}"
+        );
     }
 }
 
 /// How many ids are new to the children of root 1.
+fn fresh_in(alloc: Global, net: &Net) -> Result<usize, OutOfMemory> {
+    Ok(fresh_ids(alloc, net, Zid(1), &[Zid(2), Zid(4), Zid(3)])?.len())
+}
+
+/// The same in the network of three routers.
 fn fresh(alloc: Global) -> Result<usize, OutOfMemory> {
-    let net = small_net(alloc)?;
-    Ok(fresh_ids(alloc, &net, Zid(1), &[Zid(2), Zid(4), Zid(3)])?.len())
+    match small_net(alloc) {
+        Ok(net) => fresh_in(alloc, &net),
+        Err(error) => Err(error),
+    }
 }
 
 #[test]
 fn fresh_children(rt: HostRuntime) {
-    assert_eq!(rt; fresh(rt.alloc()), Ok(1));
+    assert!(rt; fresh(rt.alloc()) == Ok(1));
 }
