@@ -1,113 +1,143 @@
-use std::alloc::Global;
-use std::test::Fail;
+use std::alloc::AllocError;
 use zq_given::KEYS;
 use zq_key::message::node_id_as_source;
 use zq_key::space::{split_first_chunk, strip};
 use zq_key::{includes, intersects, is_key, is_plain};
 
-// Whether the first meets the second; none where one is no key.
-fn meet(a: &str, b: &str) -> Option<bool> {
-    if is_key(a) && is_key(b) {
-        Some(intersects(a, b))
-    } else {
-        None
+// Texts, and what they are beside the empty one, which is none.
+const KINDS: &str = "\
+a/b plain
+a/b@c plain
+Ȳ/😀 plain
+a/@b key
+@a key
+a/* key
+a$* key
+*/** key
+** key
+* key
+$*a key
+a$*b$* key
+@a$* key
+**/@a/**/b key
+a//b none
+/a none
+a/ none
+a* none
+$* none
+**/* none
+**/** none
+$*$* none
+a$*$*b none
+a$ none
+$a none
+a#b none
+a? none
+*** none
+a/$*/b none
+$ none
+/ none";
+
+// What a text is.
+fn kind(text: &str) -> &'static str {
+    match (is_key(text), is_plain(text)) {
+        (true, true) => "plain",
+        (true, false) => "key",
+        (false, false) => "none",
+        (false, true) => "no key that is plain",
     }
 }
 
-// Whether the first includes the second; none where one is no key.
-fn include(a: &str, b: &str) -> Option<bool> {
-    if is_key(a) && is_key(b) {
-        Some(includes(a, b))
-    } else {
-        None
+// Whether the row of a text says what it is.
+fn says_kind(row: &str) -> bool {
+    let mut words = row.split(' ');
+    match (words.next(), words.next()) {
+        (Some(text), Some(said)) => kind(text) == said,
+        _ => false,
     }
 }
-
-const IS_KEY: [&str; 11] = [
-    "*/**",
-    "a$*",
-    "@a",
-    "**",
-    "a/b",
-    "*",
-    "$*a",
-    "a$*b$*",
-    "@a$*",
-    "Ȳ/😀",
-    "**/@a/**/b",
-];
-
-const IS_NO_KEY: [&str; 18] = [
-    "", "a//b", "/a", "a/", "a*", "$*", "**/*", "**/**", "$*$*", "a$*$*b", "a$", "$a", "a#b", "a?",
-    "***", "a/$*/b", "$", "/",
-];
 
 #[test]
 fn keys(rt: HostRuntime) {
-    for text in IS_KEY {
-        assert!(rt; is_key(text), "{text}");
+    assert!(rt; kind("") == "none");
+    for row in KINDS.lines() {
+        assert!(rt; says_kind(row), "{row}");
     }
-    for text in IS_NO_KEY {
-        assert!(rt; !is_key(text), "{text}");
-    }
-    assert!(rt;
-        is_plain("a/b@c")
-            && !is_plain("a/@b")
-            && !is_plain("a/*")
-            && !is_plain("a$*")
-            && !is_plain("")
-            && !is_plain("a/")
-    );
 }
 
-// Two keys, whether they meet, and whether the first includes the second.
-const RELATIONS: [(&str, &str, bool, bool); 38] = [
-    ("@a", "**/@a", true, false),
-    ("**/@a", "@a", true, true),
-    ("@a", "**", false, false),
-    ("**", "@a", false, false),
-    ("*", "@a", false, false),
-    ("**", "a/b", true, true),
-    ("*/**", "**/x", true, false),
-    ("**/x", "*/**", true, false),
-    ("a$*b", "a$*c$*b", true, true),
-    ("a$*c$*b", "a$*b", true, false),
-    ("a$*b", "ab", true, true),
-    ("a$*b", "*", true, false),
-    ("*", "a$*b", true, true),
-    ("**", "**", true, true),
-    ("**/a/**", "x/a/y/a", true, true),
-    ("x/**/@v/**/y", "**/@v/y", true, false),
-    ("x/**/@v/**/y", "x/a/@v/b/y", true, true),
-    ("x/**/@v/**/y", "**/@v/b/**", true, false),
-    ("**/a", "a/**", true, false),
-    ("**/a/**", "b/**/c", true, false),
-    ("a/**/b", "a/b", true, true),
-    ("a/**/b/c", "a/b/**", true, false),
-    ("@a$*", "@ab", false, false),
-    ("a$*", "@a", false, false),
-    ("$*a$*b", "$*b", true, false),
-    ("$*b", "$*a$*b", true, true),
-    ("a$*a", "a", false, false),
-    ("**/b", "a/**", true, false),
-    ("a", "b", false, false),
-    ("**/a$*b", "**/b$*ba", false, false),
-    ("**/@ab", "**/@bb", false, false),
-    ("$*ab", "bab", true, true),
-    ("$*xb", "a$*b", true, false),
-    ("**/xb", "**/b", false, false),
-    ("*/b", "a/b", true, true),
-    ("**/a/x", "**/b/x", false, false),
-    ("a/b", "ab", false, false),
-    ("**/a/x", "*/x", true, false),
-];
+// Two keys, and what the first is to the second.
+const RELATIONS: &str = "\
+@a **/@a meets
+**/@a @a includes
+@a ** apart
+** @a apart
+* @a apart
+** a/b includes
+*/** **/x meets
+**/x */** meets
+a$*b a$*c$*b includes
+a$*c$*b a$*b meets
+a$*b ab includes
+a$*b * meets
+* a$*b includes
+** ** includes
+**/a/** x/a/y/a includes
+x/**/@v/**/y **/@v/y meets
+x/**/@v/**/y x/a/@v/b/y includes
+x/**/@v/**/y **/@v/b/** meets
+**/a a/** meets
+**/a/** b/**/c meets
+a/**/b a/b includes
+a/**/b/c a/b/** meets
+@a$* @ab apart
+a$* @a apart
+$*a$*b $*b meets
+$*b $*a$*b includes
+a$*a a apart
+**/b a/** meets
+a b apart
+**/a$*b **/b$*ba apart
+**/@ab **/@bb apart
+$*ab bab includes
+$*xb a$*b meets
+**/xb **/b apart
+*/b a/b includes
+**/a/x **/b/x apart
+a/b ab apart
+**/a/x */x meets";
+
+// What the first is to the second; none where one is no key, or where it includes what it does not meet.
+fn relation(a: &str, b: &str) -> Option<&'static str> {
+    if !is_key(a) || !is_key(b) {
+        return None;
+    }
+    match (intersects(a, b), includes(a, b)) {
+        (true, true) => Some("includes"),
+        (true, false) => Some("meets"),
+        (false, false) => Some("apart"),
+        (false, true) => None,
+    }
+}
+
+// Whether the row of two keys says what the first is to the second.
+fn holds(row: &str) -> bool {
+    let mut words = row.split(' ');
+    match (words.next(), words.next(), words.next()) {
+        (Some(a), Some(b), Some(said)) => relation(a, b) == Some(said),
+        _ => false,
+    }
+}
 
 #[test]
 fn relations(rt: HostRuntime) {
-    for (a, b, met, included) in RELATIONS {
-        let found = (meet(a, b), include(a, b));
-        assert!(rt; found == (Some(met), Some(included)), "{a} and {b}");
+    for row in RELATIONS.lines() {
+        assert!(rt; holds(row), "{row}");
     }
+}
+
+// Whether the first meets the second; none where one is no key.
+fn meet(a: &str, b: &str) -> Option<bool> {
+    Some(relation(a, b)? != "apart")
 }
 
 // Whether the key meets exactly the marked ones.
@@ -124,21 +154,31 @@ fn each_against_each(rt: HostRuntime) {
     }
 }
 
-// A text, its first chunk, and the rest.
-const FIRST_CHUNKS: [(&str, &str, &str); 6] = [
-    ("/a/b", "/a", "/b"),
-    ("a/b", "a", "/b"),
-    ("/a", "/a", ""),
-    ("Ȳ/b", "Ȳ", "/b"),
-    ("Ȳ", "Ȳ", ""),
-    ("/Ȳ/😀", "/Ȳ", "/😀"),
-];
+// A text, its first chunk, and the rest, where there is one.
+const FIRST_CHUNKS: &str = "\
+/a/b /a /b
+a/b a /b
+/a /a
+Ȳ/b Ȳ /b
+Ȳ Ȳ
+/Ȳ/😀 /Ȳ /😀";
+
+// Whether the row of a text says how it is parted.
+fn is_parted(row: &str) -> bool {
+    let mut words = row.split(' ');
+    match (words.next(), words.next(), words.next()) {
+        (Some(text), Some(chunk), rest) => {
+            split_first_chunk(text) == Some((chunk, rest.unwrap_or("")))
+        }
+        _ => false,
+    }
+}
 
 #[test]
 fn first_chunks(rt: HostRuntime) {
     assert!(rt; split_first_chunk("").is_none());
-    for (text, chunk, rest) in FIRST_CHUNKS {
-        assert!(rt; split_first_chunk(text) == Some((chunk, rest)), "{text}");
+    for row in FIRST_CHUNKS.lines() {
+        assert!(rt; is_parted(row), "{row}");
     }
 }
 
@@ -157,69 +197,65 @@ fn what_is_behind_a_prefix(rt: HostRuntime) {
     assert!(rt; behind("n", "*/a") == Some("a"));
 }
 
-// The part so often, and then the end.
-fn repeated(alloc: Global, part: &str, times: usize, end: &str) -> Result<String, Fail> {
-    let mut text = String::new(alloc);
+// Writes the part so often, and then the end.
+fn repeat(text: &mut String, part: &str, times: usize, end: &str) -> Result<(), AllocError> {
     for _ in 0..times {
         text.push_str(part)?;
     }
-    text.push_str(end)?;
-    Ok(text)
+    text.push_str(end)
 }
 
-// Whether the runs meet two others, and whether they include one of them and themselves. The ends tell of the
-// first two alone.
-fn long_relations(alloc: Global) -> Result<[Option<bool>; 4], Fail> {
-    let runs = repeated(alloc, "a$*", 300, "b$*d")?;
-    let others = repeated(alloc, "$*a", 300, "c")?;
-    let plain = repeated(alloc, "a", 600, "cd")?;
+// What runs are to two others, of which the ends tell of the first two alone, and to themselves.
+fn long_relations(
+    runs: &mut String,
+    others: &mut String,
+    plain: &mut String,
+) -> Result<[Option<&'static str>; 3], AllocError> {
+    repeat(runs, "a$*", 300, "b$*d")?;
+    repeat(others, "$*a", 300, "c")?;
+    repeat(plain, "a", 600, "cd")?;
     Ok([
-        meet(runs.as_str(), others.as_str()),
-        meet(runs.as_str(), plain.as_str()),
-        include(runs.as_str(), others.as_str()),
-        include(runs.as_str(), runs.as_str()),
+        relation(runs.as_str(), others.as_str()),
+        relation(runs.as_str(), plain.as_str()),
+        relation(runs.as_str(), runs.as_str()),
     ])
 }
 
 #[test]
-fn long_chunks(rt: HostRuntime) -> Result<(), Fail> {
-    let found = long_relations(rt.alloc())?;
-    assert!(rt; found == [Some(false), Some(false), Some(false), Some(true)]);
-    Ok(())
+fn long_chunks(rt: HostRuntime) {
+    let mut runs = String::new(rt.alloc());
+    let mut others = String::new(rt.alloc());
+    let mut plain = String::new(rt.alloc());
+    let found = long_relations(&mut runs, &mut others, &mut plain);
+    assert!(rt; found == Ok([Some("apart"), Some("apart"), Some("includes")]));
 }
 
-// Whether the chunks meet two others, and whether they include these and themselves.
-fn many_relations(alloc: Global) -> Result<[Option<bool>; 5], Fail> {
-    let stars = repeated(alloc, "**/a/", 300, "b/*")?;
-    let chunks = repeated(alloc, "a/**/", 300, "c/*")?;
-    let flat = repeated(alloc, "a/", 600, "c/*")?;
+// What chunks are to two others, and to themselves.
+fn many_relations(
+    stars: &mut String,
+    chunks: &mut String,
+    flat: &mut String,
+) -> Result<[Option<&'static str>; 3], AllocError> {
+    repeat(stars, "**/a/", 300, "b/*")?;
+    repeat(chunks, "a/**/", 300, "c/*")?;
+    repeat(flat, "a/", 600, "c/*")?;
     Ok([
-        meet(stars.as_str(), chunks.as_str()),
-        meet(stars.as_str(), flat.as_str()),
-        include(stars.as_str(), chunks.as_str()),
-        include(stars.as_str(), flat.as_str()),
-        include(stars.as_str(), stars.as_str()),
+        relation(stars.as_str(), chunks.as_str()),
+        relation(stars.as_str(), flat.as_str()),
+        relation(stars.as_str(), stars.as_str()),
     ])
 }
 
 #[test]
-fn many_chunks(rt: HostRuntime) -> Result<(), Fail> {
-    let found = many_relations(rt.alloc())?;
-    assert!(rt;
-        found
-            == [
-                Some(false),
-                Some(false),
-                Some(false),
-                Some(false),
-                Some(true)
-            ]
-    );
-    Ok(())
+fn many_chunks(rt: HostRuntime) {
+    let mut stars = String::new(rt.alloc());
+    let mut chunks = String::new(rt.alloc());
+    let mut flat = String::new(rt.alloc());
+    let found = many_relations(&mut stars, &mut chunks, &mut flat);
+    assert!(rt; found == Ok([Some("apart"), Some("apart"), Some("includes")]));
 }
 
 #[test]
 fn nodes_as_sources(rt: HostRuntime) {
-    assert_eq!(rt; node_id_as_source(0), None);
-    assert_eq!(rt; node_id_as_source(3), Some(3));
+    assert!(rt; [node_id_as_source(0), node_id_as_source(3)] == [None, Some(3)]);
 }

@@ -1,11 +1,29 @@
 use std::alloc::Global;
-use std::test::Fail;
 use zq_given::wire;
 use zq_key::memory::OutOfMemory;
 use zq_key::message::{Message, QueryTarget, Request};
 use zq_key::text::Bytes;
 use zq_key::{Key, is_plain};
 use zq_namespace::{ENamespace, Namespace};
+
+// Whether an expression on the text enters as the other.
+fn enters(
+    entry: &Namespace,
+    alloc: Global,
+    text: &str,
+    entered: &str,
+) -> Result<bool, OutOfMemory> {
+    let wire = wire(alloc, 0, text)?;
+    Ok(entry.enter(&wire)?.suffix.as_str() == entered)
+}
+
+#[test]
+fn a_key_enters(rt: HostRuntime) {
+    let ns = Key::new(rt.alloc(), "acme/x").ok().expect(&rt, "a key");
+    assert!(rt; is_plain(ns.as_str()));
+    let entry = Namespace::new(rt.alloc(), ns);
+    assert_eq!(rt; enters(&entry, rt.alloc(), "a/*", "acme/x/a/*"), Ok(true));
+}
 
 // A request on a text.
 fn asking(alloc: Global, text: &str) -> Result<Message, OutOfMemory> {
@@ -20,35 +38,38 @@ fn asking(alloc: Global, text: &str) -> Result<Message, OutOfMemory> {
     }))
 }
 
-// Whether a request on the text left.
-fn asks(left: &Option<Message>, text: &str) -> bool {
+// Whether a request on the text is what left; where there is no text, whether nothing left.
+fn is_left(left: &Option<Message>, text: Option<&str>) -> bool {
     match left {
-        Some(Message::Request(request)) => request.wire.suffix.as_str() == text,
-        _ => false,
+        Some(Message::Request(request)) => text == Some(request.wire.suffix.as_str()),
+        Some(_) => false,
+        None => text.is_none(),
     }
 }
 
-// A text that is a key, as one.
-fn key(alloc: Global, text: &str) -> Result<Key, OutOfMemory> {
-    match Key::new(alloc, text) {
-        Ok(key) => Ok(key),
-        Err(_) => Err(OutOfMemory),
-    }
+// Whether a request on the text leaves like that.
+fn leaves(
+    exit: &mut ENamespace,
+    alloc: Global,
+    text: &str,
+    left: Option<&str>,
+) -> Result<bool, OutOfMemory> {
+    let request = asking(alloc, text)?;
+    Ok(is_left(&exit.leave(&request)?, left))
+}
+
+// Whether of two requests the one within the namespace leaves.
+fn leaves_within(exit: &mut ENamespace, alloc: Global) -> Result<[bool; 2], OutOfMemory> {
+    Ok([
+        leaves(exit, alloc, "acme/*/b", Some("b"))?,
+        leaves(exit, alloc, "acme/y/b", None)?,
+    ])
 }
 
 #[test]
-fn enters_and_leaves(rt: HostRuntime) -> Result<(), Fail> {
-    let alloc = rt.alloc();
-    let outer = key(alloc, "acme/x")?;
-    let inner = key(alloc, "acme/x")?;
-    if !is_plain(outer.as_str()) || !is_plain(inner.as_str()) {
-        return Err(Fail::from(OutOfMemory));
-    }
-    let entered = Namespace::new(alloc, outer).enter(&wire(alloc, 0, "a/*")?)?;
-    let mut exit = ENamespace::new(alloc, inner);
-    let inside = exit.leave(&asking(alloc, "acme/*/b")?)?;
-    let outside = exit.leave(&asking(alloc, "acme/y/b")?)?;
-    assert!(rt; entered.suffix.as_str() == "acme/x/a/*");
-    assert!(rt; asks(&inside, "b") && outside.is_none());
-    Ok(())
+fn a_key_leaves(rt: HostRuntime) {
+    let ns = Key::new(rt.alloc(), "acme/x").ok().expect(&rt, "a key");
+    assert!(rt; is_plain(ns.as_str()));
+    let mut exit = ENamespace::new(rt.alloc(), ns);
+    assert_eq!(rt; leaves_within(&mut exit, rt.alloc()), Ok([true, true]));
 }

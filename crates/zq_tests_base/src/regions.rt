@@ -1,31 +1,44 @@
+ghost use Rattle.zq_regions.specs.Region.{HasIndex};
+
 use std::alloc::Global;
 use zq_given::CLIENTS;
 use zq_message::memory::OutOfMemory;
 use zq_message::message::{Mode, Region};
 use zq_regions::{RegionMap, index_to_region, region_to_index};
 
+const PEERS: Region = Region::South {
+    id: 3,
+    mode: Mode::Peer,
+};
+
+const OTHER_CLIENTS: Region = Region::South {
+    id: 35,
+    mode: Mode::Client,
+};
+
 #[test]
 fn indices(rt: HostRuntime) {
-    for (id, mode, index) in [(3, Mode::Peer, 12), (35, Mode::Client, 109)] {
-        let region = Region::South { id, mode };
-        assert_eq!(rt; region_to_index(&region), index);
-        assert_eq!(rt; index_to_region(index), region);
-    }
-    assert_eq!(rt; index_to_region(0), Region::North);
-    assert_eq!(rt; index_to_region(1), Region::Local);
+    let indices = [region_to_index(&PEERS), region_to_index(&OTHER_CLIENTS)];
+    assert!(rt; indices == [12, 109]);
+    let regions = [
+        index_to_region(12),
+        index_to_region(109),
+        index_to_region(0),
+        index_to_region(1),
+    ];
+    assert!(rt; regions == [PEERS, OTHER_CLIENTS, Region::North, Region::Local]);
 }
 
-// Clients with 7, and then North with 5 before them.
-fn two(alloc: Global) -> Result<RegionMap<u32>, OutOfMemory> {
-    let mut map = RegionMap::new(alloc);
-    map.insert(CLIENTS, 7u32)?;
-    map.insert(Region::North, 5u32)?;
-    Ok(map)
+// Inserts clients with 7, and then North with 5 before them.
+fn insert_two(map: &mut RegionMap<u32>) -> Result<(), OutOfMemory> {
+    map.insert(CLIENTS, 7)?;
+    map.insert(Region::North, 5)?;
+    Ok(())
 }
 
 // What stands in North and in the clients, and how many entries there are.
-fn standing(alloc: Global) -> Result<(Option<u32>, Option<u32>, usize), OutOfMemory> {
-    let map = two(alloc)?;
+fn standing(map: &mut RegionMap<u32>) -> Result<(Option<u32>, Option<u32>, usize), OutOfMemory> {
+    insert_two(map)?;
     Ok((
         map.get(&Region::North).copied(),
         map.get(&CLIENTS).copied(),
@@ -35,30 +48,41 @@ fn standing(alloc: Global) -> Result<(Option<u32>, Option<u32>, usize), OutOfMem
 
 #[test]
 fn a_later_entry_stays(rt: HostRuntime) {
-    assert!(rt; standing(rt.alloc()) == Ok((Some(5), Some(7), 2)));
+    let mut map = RegionMap::new(rt.alloc());
+    assert!(rt; standing(&mut map) == Ok((Some(5), Some(7), 2)));
+}
+
+// Whether the region can be parted from the others.
+fn is_parted(map: &RegionMap<u32>, alloc: Global, region: &Region) -> Result<bool, OutOfMemory>
+    requires { HasIndex region.now }
+{
+    Ok(map.partition(alloc, region)?.is_some())
 }
 
 // Whether a region that is not there can be parted from the others, and one that is.
-fn are_parted(alloc: Global) -> Result<[bool; 2], OutOfMemory> {
-    let map = two(alloc)?;
+fn are_parted(map: &mut RegionMap<u32>, alloc: Global) -> Result<[bool; 2], OutOfMemory> {
+    insert_two(map)?;
     Ok([
-        map.partition(alloc, &Region::Local)?.is_some(),
-        map.partition(alloc, &CLIENTS)?.is_some(),
+        is_parted(map, alloc, &Region::Local)?,
+        is_parted(map, alloc, &CLIENTS)?,
     ])
 }
 
 #[test]
 fn one_and_the_others(rt: HostRuntime) {
-    assert!(rt; are_parted(rt.alloc()) == Ok([false, true]));
+    let mut map = RegionMap::new(rt.alloc());
+    assert!(rt; are_parted(&mut map, rt.alloc()) == Ok([false, true]));
 }
 
 // The half of what stands in the clients.
-fn half(alloc: Global) -> Result<Option<u32>, OutOfMemory> {
-    let halved = two(alloc)?.map_ref(alloc, |d| d / 2)?;
+fn half(map: &mut RegionMap<u32>, alloc: Global) -> Result<Option<u32>, OutOfMemory> {
+    insert_two(map)?;
+    let halved = map.map_ref(alloc, |d| d / 2)?;
     Ok(halved.get(&CLIENTS).copied())
 }
 
 #[test]
 fn each_changed(rt: HostRuntime) {
-    assert!(rt; half(rt.alloc()) == Ok(Some(3)));
+    let mut map = RegionMap::new(rt.alloc());
+    assert!(rt; half(&mut map, rt.alloc()) == Ok(Some(3)));
 }

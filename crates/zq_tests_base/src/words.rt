@@ -4,14 +4,22 @@ use zq_words::stop::Stop;
 use zq_words::values::flag_of;
 use zq_words::words::{print_word, read_word, text_of};
 
+// Whether the word is read as the bytes.
+fn is_read(alloc: Global, word: &str, bytes: &str) -> Result<bool, OutOfMemory> {
+    Ok(read_word(alloc, word.as_bytes())?.as_slice() == bytes.as_bytes())
+}
+
 // Whether the bytes are printed as the word.
 fn is_printed(alloc: Global, bytes: &str, word: &str) -> Result<bool, OutOfMemory> {
     Ok(print_word(alloc, bytes.as_bytes())?.as_slice() == word.as_bytes())
 }
 
-// Whether the word is read as the bytes.
-fn is_read(alloc: Global, word: &str, bytes: &str) -> Result<bool, OutOfMemory> {
-    Ok(read_word(alloc, word.as_bytes())?.as_slice() == bytes.as_bytes())
+// Whether the bytes are printed as the word, and are read from it.
+fn comes_back(alloc: Global, bytes: &str, word: &str) -> Result<[bool; 2], OutOfMemory> {
+    Ok([
+        is_printed(alloc, bytes, word)?,
+        is_read(alloc, word, bytes)?,
+    ])
 }
 
 #[test]
@@ -23,8 +31,10 @@ fn words_come_back(rt: HostRuntime) {
         ("\u{232}\n", "%C8%B2%0A"),
         ("--", "--"),
     ] {
-        assert_eq!(rt; is_printed(rt.alloc(), bytes, word), Ok(true));
-        assert_eq!(rt; is_read(rt.alloc(), word, bytes), Ok(true));
+        assert!(rt;
+            comes_back(rt.alloc(), bytes, word) == Ok([true, true]),
+            "{word}"
+        );
     }
 }
 
