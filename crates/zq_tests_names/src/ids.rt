@@ -5,7 +5,7 @@ use zq_ids::FaceNames;
 use zq_key::is_key;
 use zq_key::memory::OutOfMemory;
 use zq_key::message::Mapping;
-use zq_names::{NameRefusal, Names};
+use zq_names::{NameRefusal, Names, ResourceId};
 
 // A face with its names, whose ids are live.
 #[derive(Drop)]
@@ -30,12 +30,10 @@ fn numbered_text(alloc: Global, id: u16) -> Result<String, OutOfMemory> {
 }
 
 impl Known {
-    // A face without ids, among names of one text and its parts.
-    fn new(alloc: Global, text: &str) -> Result<Known, NameRefusal> {
-        let mut names = Names::new(alloc)?;
-        names.make_resource(names.root(), text)?;
+    // A face without ids, and no names.
+    fn new(alloc: Global) -> Result<Known, OutOfMemory> {
         Ok(Known {
-            names,
+            names: Names::new(alloc)?,
             face: FaceNames::new(alloc),
         })
     }
@@ -63,11 +61,16 @@ impl Known {
         Ok(key.declared)
     }
 
+    // The id under which a new text is declared.
+    fn declare_new(&mut self, alloc: Global, text: &str) -> Result<Option<u16>, NameRefusal> {
+        self.add(text)?;
+        Ok(self.declare(alloc, text)?)
+    }
+
     // Whether a new text, which has the id in it, is declared under that id.
     fn gives(&mut self, alloc: Global, id: u16) -> Result<bool, NameRefusal> {
         let text = numbered_text(alloc, id)?;
-        self.add(text.as_str())?;
-        Ok(self.declare(alloc, text.as_str())? == Some(id))
+        Ok(self.declare_new(alloc, text.as_str())? == Some(id))
     }
 
     fn best_is(&self, alloc: Global, row: &Row<'_>) -> Result<bool, OutOfMemory> {
@@ -88,16 +91,21 @@ impl Known {
             return Ok(false);
         }
         let found = self.names.get_matches(alloc, key)?;
+        Ok(self.are_marked(found.as_slice(), marks))
+    }
+
+    // Whether these are the names that the row marks.
+    fn are_marked(&self, found: &[ResourceId], marks: &str) -> bool {
         for ((other, _), mark) in KEYS.iter().zip(marks.as_bytes()) {
             let Some(r) = self.names.get_resource(self.names.root(), other) else {
-                return Ok(false);
+                return false;
             };
-            let is_found = found.as_slice().iter().any(|m| m.0 == r.0);
+            let is_found = found.iter().any(|m| m.0 == r.0);
             if is_found != (*mark == b'x') {
-                return Ok(false);
+                return false;
             }
         }
-        Ok(true)
+        true
     }
 
     // The first row that does not hold.
@@ -141,53 +149,42 @@ fn by_gateway<'a>(at: &'a str, suffix: &'a str, scope: u16, rest: &'a str) -> Ro
     }
 }
 
-// Which of these rows does not hold of what was made.
-fn wrong_of(
-    alloc: Global,
-    made: Result<Known, NameRefusal>,
-    rows: &[Row<'_>],
-) -> Result<Option<usize>, NameRefusal> {
-    let known = made?;
-    Ok(known.wrong_row(alloc, rows)?)
-}
-
-// A face that named `test/queryable/reply` by 11.
-fn replying(alloc: Global) -> Result<Known, NameRefusal> {
-    let mut known = Known::new(alloc, "a")?;
+// Which is another of a reply's key by a number of its queryable's, and one that only begins like it.
+fn wrong_reply(known: &mut Known, alloc: Global) -> Result<Option<usize>, NameRefusal> {
+    known.add("a")?;
     known.register(alloc, 11, "test/queryable/reply")?;
-    Ok(known)
-}
-
-// A reply's key by a number of its queryable's, and one that only begins like it.
-#[test]
-fn best_keys(rt: HostRuntime) {
     let rows = [
         by_face("", "test/queryable/reply/*", 11, "/*"),
         by_gateway("", "test/queryable/replying", 0, "test/queryable/replying"),
     ];
-    let alloc = rt.alloc();
-    assert_eq!(rt; wrong_of(alloc, replying(alloc), &rows), Ok(None));
+    Ok(known.wrong_row(alloc, &rows)?)
 }
 
-// What a new face answers to the id 0.
-fn named_by_0(alloc: Global) -> Result<(), NameRefusal> {
-    Known::new(alloc, "a")?.register(alloc, 0, "a")
+#[test]
+fn best_keys(rt: HostRuntime) {
+    let mut known = Known::new(rt.alloc()).ok().expect(&rt, "memory");
+    assert_eq!(rt; wrong_reply(&mut known, rt.alloc()), Ok(None));
+}
+
+// What the face answers to the id 0.
+fn name_by_0(known: &mut Known, alloc: Global) -> Result<(), NameRefusal> {
+    known.add("a")?;
+    known.register(alloc, 0, "a")
 }
 
 #[test]
 fn no_id_is_0(rt: HostRuntime) {
-    assert_eq!(rt; named_by_0(rt.alloc()), Err(NameRefusal::Remapped));
+    let mut known = Known::new(rt.alloc()).ok().expect(&rt, "memory");
+    assert_eq!(rt;
+        name_by_0(&mut known, rt.alloc()),
+        Err(NameRefusal::Remapped)
+    );
 }
 
-// A face that named `a`, the first of zenoh's own test of best keys.
-fn naming_one(alloc: Global) -> Result<Known, NameRefusal> {
-    let mut known = Known::new(alloc, "a/b/c")?;
+// Which is another of those of a face that named `a`, the first of zenoh's own test of best keys.
+fn wrong_of_one_id(known: &mut Known, alloc: Global) -> Result<Option<usize>, NameRefusal> {
+    known.add("a/b/c")?;
     known.register(alloc, 1, "a")?;
-    Ok(known)
-}
-
-#[test]
-fn best_keys_of_one_id(rt: HostRuntime) {
     let rows = [
         by_face("", "a", 1, ""),
         by_face("", "a/b", 1, "/b"),
@@ -196,20 +193,25 @@ fn best_keys_of_one_id(rt: HostRuntime) {
         by_face("a/b", "", 1, "/b"),
         by_gateway("", "e", 0, "e"),
     ];
-    let alloc = rt.alloc();
-    assert_eq!(rt; wrong_of(alloc, naming_one(alloc), &rows), Ok(None));
-}
-
-// A face that named `a/b` by 2 and `a/b/c` by 3, the second of that test.
-fn nested(alloc: Global) -> Result<Known, NameRefusal> {
-    let mut known = Known::new(alloc, "a/d")?;
-    known.register(alloc, 2, "a/b")?;
-    known.register(alloc, 3, "a/b/c")?;
-    Ok(known)
+    Ok(known.wrong_row(alloc, &rows)?)
 }
 
 #[test]
-fn best_keys_from_the_root(rt: HostRuntime) {
+fn best_keys_of_one_id(rt: HostRuntime) {
+    let mut known = Known::new(rt.alloc()).ok().expect(&rt, "memory");
+    assert_eq!(rt; wrong_of_one_id(&mut known, rt.alloc()), Ok(None));
+}
+
+// The second of that test: the face names `a/b` by 2 and `a/b/c` by 3.
+fn name_nested(known: &mut Known, alloc: Global) -> Result<(), NameRefusal> {
+    known.add("a/d")?;
+    known.register(alloc, 2, "a/b")?;
+    known.register(alloc, 3, "a/b/c")
+}
+
+// Which of the best keys from the root is another, of a face that names these.
+fn wrong_from_the_root(known: &mut Known, alloc: Global) -> Result<Option<usize>, NameRefusal> {
+    name_nested(known, alloc)?;
     let rows = [
         by_gateway("", "a", 0, "a"),
         by_face("", "a/b", 2, ""),
@@ -217,40 +219,47 @@ fn best_keys_from_the_root(rt: HostRuntime) {
         by_face("", "a/b/c/d", 3, "/d"),
         by_face("", "a/b/cd", 2, "/cd"),
     ];
-    let alloc = rt.alloc();
-    assert_eq!(rt; wrong_of(alloc, nested(alloc), &rows), Ok(None));
+    Ok(known.wrong_row(alloc, &rows)?)
 }
 
 #[test]
-fn best_keys_from_a_node(rt: HostRuntime) {
+fn best_keys_from_the_root(rt: HostRuntime) {
+    let mut known = Known::new(rt.alloc()).ok().expect(&rt, "memory");
+    assert_eq!(rt; wrong_from_the_root(&mut known, rt.alloc()), Ok(None));
+}
+
+// Which of those from a node is another.
+fn wrong_from_a_node(known: &mut Known, alloc: Global) -> Result<Option<usize>, NameRefusal> {
+    name_nested(known, alloc)?;
     let rows = [
         by_gateway("a", "", 0, "a"),
         by_face("a", "/b", 2, ""),
         by_gateway("a", "/d", 0, "a/d"),
         by_face("a/b", "", 2, ""),
     ];
-    let alloc = rt.alloc();
-    assert_eq!(rt; wrong_of(alloc, nested(alloc), &rows), Ok(None));
+    Ok(known.wrong_row(alloc, &rows)?)
+}
+
+#[test]
+fn best_keys_from_a_node(rt: HostRuntime) {
+    let mut known = Known::new(rt.alloc()).ok().expect(&rt, "memory");
+    assert_eq!(rt; wrong_from_a_node(&mut known, rt.alloc()), Ok(None));
 }
 
 // Whether the best key is the next shorter one each time that an id goes.
-fn shorter(known: &mut Known, alloc: Global) -> Result<bool, NameRefusal> {
+fn are_shorter(known: &mut Known, alloc: Global) -> Result<[bool; 2], NameRefusal> {
+    name_nested(known, alloc)?;
     known.unregister(3)?;
-    if !known.best_is(alloc, &by_face("a/b/c", "/d", 2, "/c/d"))? {
-        return Ok(false);
-    }
+    let by_one = known.best_is(alloc, &by_face("a/b/c", "/d", 2, "/c/d"))?;
     known.unregister(2)?;
-    Ok(known.best_is(alloc, &by_gateway("a/b/c", "/d", 0, "a/b/c/d"))?)
-}
-
-fn is_shorter(alloc: Global) -> Result<bool, NameRefusal> {
-    let mut known = nested(alloc)?;
-    shorter(&mut known, alloc)
+    let by_none = known.best_is(alloc, &by_gateway("a/b/c", "/d", 0, "a/b/c/d"))?;
+    Ok([by_one, by_none])
 }
 
 #[test]
 fn best_keys_as_ids_go(rt: HostRuntime) {
-    assert_eq!(rt; is_shorter(rt.alloc()), Ok(true));
+    let mut known = Known::new(rt.alloc()).ok().expect(&rt, "memory");
+    assert_eq!(rt; are_shorter(&mut known, rt.alloc()), Ok([true, true]));
 }
 
 // Whether the best key of `x/y/z` at `x` is by an id of the face's, once it has named `x/y` by this one.
@@ -265,27 +274,35 @@ fn is_by_gateway(known: &Known, alloc: Global) -> Result<bool, OutOfMemory> {
 }
 
 // Whether an id of the face goes before one of the gateway, and of several the least is taken.
-fn face_first(known: &mut Known, alloc: Global) -> Result<bool, NameRefusal> {
-    known.declare(alloc, "x/y/**")?;
-    Ok(is_by_gateway(known, alloc)? && is_by(known, alloc, 9, 9)? && is_by(known, alloc, 5, 5)?)
+fn face_first(known: &mut Known, alloc: Global) -> Result<[bool; 3], NameRefusal> {
+    known.declare_new(alloc, "x/y/**")?;
+    Ok([
+        is_by_gateway(known, alloc)?,
+        is_by(known, alloc, 9, 9)?,
+        is_by(known, alloc, 5, 5)?,
+    ])
 }
 
 // The same as the ids go again.
-fn gateway_last(known: &mut Known, alloc: Global) -> Result<bool, NameRefusal> {
+fn gateway_last(known: &mut Known, alloc: Global) -> Result<[bool; 2], NameRefusal> {
     known.unregister(5)?;
     let by_faces = known.best_is(alloc, &by_face("x", "/y/z", 9, "/z"))?;
     known.unregister(9)?;
-    Ok(by_faces && is_by_gateway(known, alloc)?)
+    Ok([by_faces, is_by_gateway(known, alloc)?])
 }
 
-fn is_of_both(alloc: Global) -> Result<bool, NameRefusal> {
-    let mut known = Known::new(alloc, "x/y/**")?;
-    Ok(face_first(&mut known, alloc)? && gateway_last(&mut known, alloc)?)
+// Whether both hold, one after the other.
+fn are_of_both(known: &mut Known, alloc: Global) -> Result<[bool; 2], NameRefusal> {
+    Ok([
+        face_first(known, alloc)? == [true, true, true],
+        gateway_last(known, alloc)? == [true, true],
+    ])
 }
 
 #[test]
 fn best_keys_of_both_sides(rt: HostRuntime) {
-    assert_eq!(rt; is_of_both(rt.alloc()), Ok(true));
+    let mut known = Known::new(rt.alloc()).ok().expect(&rt, "memory");
+    assert_eq!(rt; are_of_both(&mut known, rt.alloc()), Ok([true, true]));
 }
 
 // Lets the face name `a` by each id up to this.
@@ -306,16 +323,12 @@ fn gives_from(known: &mut Known, alloc: Global, first: u16) -> Result<bool, Name
     Ok(true)
 }
 
-// A face with all ids in use: those up to 65,000 by the face, and the others by the gateway, if they
-// were given in order.
-fn full(alloc: Global) -> Result<Option<Known>, NameRefusal> {
-    let mut known = Known::new(alloc, "n/m")?;
-    name_often(&mut known, alloc, 65000)?;
-    if gives_from(&mut known, alloc, 65001)? {
-        Ok(Some(known))
-    } else {
-        Ok(None)
-    }
+// Lets all ids be in use: those up to 65,000 by the face, and the others by the gateway. Whether these were
+// given in order.
+fn fill(known: &mut Known, alloc: Global) -> Result<bool, NameRefusal> {
+    known.add("n/m")?;
+    name_often(known, alloc, 65000)?;
+    gives_from(known, alloc, 65001)
 }
 
 // The ids under which `o` is declared while none is free, and once the face gave up 7 and 5.
@@ -330,31 +343,35 @@ fn ids_at_the_end(
     Ok((first, known.declare(alloc, "o")?))
 }
 
-fn last_ids(alloc: Global) -> Result<Option<(Option<u16>, Option<u16>)>, NameRefusal> {
-    match full(alloc)? {
-        Some(mut known) => Ok(Some(ids_at_the_end(&mut known, alloc)?)),
-        None => Ok(None),
+fn last_ids(
+    known: &mut Known,
+    alloc: Global,
+) -> Result<Option<(Option<u16>, Option<u16>)>, NameRefusal> {
+    if !fill(known, alloc)? {
+        return Ok(None);
     }
+    Ok(Some(ids_at_the_end(known, alloc)?))
 }
 
 // The gateway is given each id that the face has not, the least first, and then those that the face gives up.
 #[test]
 fn ids_until_none_is_free(rt: HostRuntime) {
-    assert_eq!(rt; last_ids(rt.alloc()), Ok(Some((None, Some(5)))));
+    let mut known = Known::new(rt.alloc()).ok().expect(&rt, "memory");
+    assert_eq!(rt; last_ids(&mut known, rt.alloc()), Ok(Some((None, Some(5)))));
 }
 
-// The keys at one face, under ids from 1.
-fn numbered(alloc: Global) -> Result<Known, NameRefusal> {
-    let mut known = Known::new(alloc, "a")?;
+// Lets the face name the keys, by ids from 1.
+fn name_keys(known: &mut Known, alloc: Global) -> Result<(), NameRefusal> {
+    known.add("a")?;
     for k in 0..KEYS.len() {
         known.register(alloc, k as u16 + 1, KEYS[k].0)?;
     }
-    Ok(known)
+    Ok(())
 }
 
 // The first key whose matches are not those that its row marks.
-fn wrong_key(alloc: Global) -> Result<Option<usize>, NameRefusal> {
-    let known = numbered(alloc)?;
+fn wrong_key(known: &mut Known, alloc: Global) -> Result<Option<usize>, NameRefusal> {
+    name_keys(known, alloc)?;
     for k in 0..KEYS.len() {
         if !known.meets(alloc, KEYS[k].0, KEYS[k].1)? {
             return Ok(Some(k));
@@ -365,5 +382,6 @@ fn wrong_key(alloc: Global) -> Result<Option<usize>, NameRefusal> {
 
 #[test]
 fn matches_of_numbered_keys(rt: HostRuntime) {
-    assert_eq!(rt; wrong_key(rt.alloc()), Ok(None));
+    let mut known = Known::new(rt.alloc()).ok().expect(&rt, "memory");
+    assert_eq!(rt; wrong_key(&mut known, rt.alloc()), Ok(None));
 }

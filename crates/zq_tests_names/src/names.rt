@@ -17,31 +17,33 @@ fn place(names: &Names, text: &str) -> Option<u64> {
 }
 
 // Whether a text is seen as its parts.
-fn has_parts(alloc: Global) -> Result<bool, NameRefusal> {
-    let mut names = Names::new(alloc)?;
+fn has_parts(names: &mut Names) -> Result<[bool; 6], NameRefusal> {
     let key = names.make_resource(names.root(), "Ȳ/a/b$*/c")?;
     let (prefix, rest) = names.nonwild_prefix(key);
-    Ok(
-        names.expr(key) == "Ȳ/a/b$*/c"
-            && names.suffix(key) == "/c"
-            && names.keyexpr(names.root()).is_none()
-            && names.has_context(key)
-            && rest == "/b$*/c"
-            && number(prefix) == place(&names, "Ȳ/a"),
-    )
+    Ok([
+        names.expr(key) == "Ȳ/a/b$*/c",
+        names.suffix(key) == "/c",
+        names.keyexpr(names.root()).is_none(),
+        names.has_context(key),
+        rest == "/b$*/c",
+        number(prefix) == place(names, "Ȳ/a"),
+    ])
 }
 
 #[test]
 fn texts_and_their_parts(rt: HostRuntime) {
-    assert_eq!(rt; has_parts(rt.alloc()), Ok(true));
+    let mut names = Names::new(rt.alloc()).ok().expect(&rt, "memory");
+    assert_eq!(rt;
+        has_parts(&mut names),
+        Ok([true, true, true, true, true, true])
+    );
 }
 
-// Two texts, which have two parts in common.
-fn make_two(alloc: Global) -> Result<Names, NameRefusal> {
-    let mut names = Names::new(alloc)?;
+// Makes two texts, which have two parts in common.
+fn make_two(names: &mut Names) -> Result<(), NameRefusal> {
     names.make_resource(names.root(), "Ȳ/a/😀")?;
     names.make_resource(names.root(), "Ȳ/a/b")?;
-    Ok(names)
+    Ok(())
 }
 
 // Lets the text go, if it is there.
@@ -62,48 +64,57 @@ fn there(names: &Names) -> [bool; 4] {
 }
 
 // Whether a text goes with those of its parts that no other text has, and comes again.
-fn come_and_go(alloc: Global) -> Result<bool, NameRefusal> {
-    let mut names = make_two(alloc)?;
-    let_go(&mut names, "Ȳ/a");
-    let both = there(&names) == [true, true, true, true];
-    let_go(&mut names, "Ȳ/a/😀");
-    let one = there(&names) == [true, true, false, true];
-    let_go(&mut names, "Ȳ/a/b");
-    let none = there(&names) == [false, false, false, false];
+fn come_and_go(names: &mut Names) -> Result<[bool; 4], NameRefusal> {
+    make_two(names)?;
+    let_go(names, "Ȳ/a");
+    let both = there(names) == [true, true, true, true];
+    let_go(names, "Ȳ/a/😀");
+    let one = there(names) == [true, true, false, true];
+    let_go(names, "Ȳ/a/b");
+    let none = there(names) == [false, false, false, false];
     names.make_resource(names.root(), "Ȳ/a/b")?;
-    Ok(both && one && none && there(&names) == [true, true, false, true])
+    Ok([both, one, none, there(names) == [true, true, false, true]])
 }
 
 #[test]
 fn texts_come_and_go(rt: HostRuntime) {
-    assert_eq!(rt; come_and_go(rt.alloc()), Ok(true));
+    let mut names = Names::new(rt.alloc()).ok().expect(&rt, "memory");
+    assert_eq!(rt; come_and_go(&mut names), Ok([true, true, true, true]));
 }
 
 // Whether a copy keeps what the other lets go.
-fn copy_keeps(alloc: Global) -> Result<bool, NameRefusal> {
-    let mut names = make_two(alloc)?;
+fn copy_keeps(names: &mut Names, alloc: Global) -> Result<bool, NameRefusal> {
+    make_two(names)?;
     let copy = names.copy(alloc)?;
-    let_go(&mut names, "Ȳ/a/😀");
+    let_go(names, "Ȳ/a/😀");
     Ok(there(&copy) == [true, true, true, true])
 }
 
 #[test]
 fn a_copy_stays_as_it_is(rt: HostRuntime) {
-    assert_eq!(rt; copy_keeps(rt.alloc()), Ok(true));
+    let mut names = Names::new(rt.alloc()).ok().expect(&rt, "memory");
+    assert_eq!(rt; copy_keeps(&mut names, rt.alloc()), Ok(true));
 }
 
-// Whether a new table refuses the text as no key.
-fn is_refused(alloc: Global, text: &str) -> Result<bool, OutOfMemory> {
-    let mut names = Names::new(alloc)?;
+// Whether the table refuses the text as no key.
+fn is_refused(names: &mut Names, text: &str) -> bool {
     let made = names.make_resource(names.root(), text);
-    Ok(matches!(made, Err(NameRefusal::InvalidKeyExpr)))
+    matches!(made, Err(NameRefusal::InvalidKeyExpr))
+}
+
+// Which of three texts that are no keys the table refuses.
+fn refused(names: &mut Names) -> [bool; 3] {
+    [
+        is_refused(names, ""),
+        is_refused(names, "a//b"),
+        is_refused(names, "a/"),
+    ]
 }
 
 #[test]
 fn no_keys_are_refused(rt: HostRuntime) {
-    for text in ["", "a//b", "a/"] {
-        assert_eq!(rt; is_refused(rt.alloc(), text), Ok(true), "{text}");
-    }
+    let mut names = Names::new(rt.alloc()).ok().expect(&rt, "memory");
+    assert_eq!(rt; refused(&mut names), [true, true, true]);
 }
 
 fn may_meet(names: &Names, r: ResourceId) -> bool
@@ -171,25 +182,28 @@ fn close(names: &mut Names, r: ResourceId) {
 }
 
 // Whether the matches of two are those that were set last, in both directions.
-fn are_met(alloc: Global, names: &mut Names, keys: Keys) -> bool {
-    met(alloc, names, keys.star, keys.b)
-        && met(alloc, names, keys.star, keys.b)
-        && counts(names, keys) == [1, 0, 1, 0]
-        && met(alloc, names, keys.star, keys.c)
-        && counts(names, keys) == [0, 1, 1, 1]
+fn are_met(alloc: Global, names: &mut Names, keys: Keys) -> [bool; 5] {
+    [
+        met(alloc, names, keys.star, keys.b),
+        met(alloc, names, keys.star, keys.b),
+        counts(names, keys) == [1, 0, 1, 0],
+        met(alloc, names, keys.star, keys.c),
+        counts(names, keys) == [0, 1, 1, 1],
+    ]
 }
 
-fn go_both_ways(alloc: Global) -> Result<bool, NameRefusal> {
-    let mut names = Names::new(alloc)?;
-    let keys = make_keys(&mut names)?;
-    let met = are_met(alloc, &mut names, keys);
-    close(&mut names, keys.star);
-    Ok(met && counts(&names, keys) == [0, 0, 0, 0])
+// Whether they are those, and none once the wild key is closed.
+fn go_both_ways(names: &mut Names, alloc: Global) -> Result<[bool; 2], NameRefusal> {
+    let keys = make_keys(names)?;
+    let are_set = are_met(alloc, names, keys) == [true, true, true, true, true];
+    close(names, keys.star);
+    Ok([are_set, counts(names, keys) == [0, 0, 0, 0]])
 }
 
 #[test]
 fn matches_go_both_ways(rt: HostRuntime) {
-    assert_eq!(rt; go_both_ways(rt.alloc()), Ok(true));
+    let mut names = Names::new(rt.alloc()).ok().expect(&rt, "memory");
+    assert_eq!(rt; go_both_ways(&mut names, rt.alloc()), Ok([true, true]));
 }
 
 fn moved<T: Send>(value: T) -> T {
