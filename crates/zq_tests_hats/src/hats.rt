@@ -1,6 +1,7 @@
 ghost use Rattle.std.specs.Prelude.{◌≡◌, true};
 ghost use Rattle.zq_hat.specs.Kept.{has_face};
 
+use crate::region::in_region;
 use std::alloc::Global;
 use zq_given::information;
 use zq_hat::types::{FaceRecord, UnregisterEntityResult};
@@ -10,9 +11,8 @@ use zq_key::Key;
 use zq_key::memory::OutOfMemory;
 use zq_key::message::{Bound, FaceId, Mode, Region, Zid};
 
-/// A local region with face 1.
-fn local(alloc: Global) -> Option<Hat> {
-    let mut hat = Hat::new(alloc, Region::Local, Mode::Client, Zid(1), 0);
+/// Face 1 opens.
+fn open(hat: &mut Hat) -> Option<()> {
     let face = FaceId(1);
     if hat.has_face(face) {
         return None;
@@ -23,8 +23,7 @@ fn local(alloc: Global) -> Option<Hat> {
         mode: Mode::Client,
         remote_bound: Bound::North,
     };
-    hat.new_face(opened).ok()?;
-    Some(hat)
+    hat.new_face(opened).ok()
 }
 
 /// Face 1 declares the key.
@@ -50,16 +49,26 @@ fn counted<H: HatQueriesTrait>(
     alloc: Global,
     hat: &H,
     key: &Key,
+    interests: &Interests,
+) -> Result<[usize; 5], OutOfMemory> {
+    let offers = hat
+        .compute_query_route(&Region::Local, key.as_str(), Some(0))?
+        .len();
+    let keys = hat.remote_queryables(alloc)?.len();
+    let matching = hat.remote_queryables_matching(alloc, Some(key))?.len();
+    let declared = hat.sourced_queryables(alloc)?.len();
+    let asked = hat.sourced_queriers(alloc, interests)?.len();
+    Ok([offers, keys, matching, declared, asked])
+}
+
+/// The same where nobody asks.
+fn counted_unasked<H: HatQueriesTrait>(
+    alloc: Global,
+    hat: &H,
+    key: &Key,
 ) -> Result<[usize; 5], OutOfMemory> {
     let interests = Interests::new(alloc);
-    Ok([
-        hat.compute_query_route(&Region::Local, key.as_str(), Some(0))?
-            .len(),
-        hat.remote_queryables(alloc)?.len(),
-        hat.remote_queryables_matching(alloc, Some(key))?.len(),
-        hat.sourced_queryables(alloc)?.len(),
-        hat.sourced_queriers(alloc, &interests)?.len(),
-    ])
+    counted(alloc, hat, key, &interests)
 }
 
 /// How much is told of the key: nothing in a region without routers.
@@ -71,29 +80,41 @@ fn told<H: HatQueriesTrait>(hat: &H, key: &str) -> Result<usize, OutOfMemory> {
     Ok(changed.max(ended).max(last))
 }
 
-/// What the trait's methods answer of the region: what stands on the key, and how many of each there are.
-fn asked(alloc: Global, hat: &Hat, key: &Key) -> Option<([usize; 5], usize)> {
+/// How many of each there are, and how much is told.
+type Answers = Option<([usize; 5], usize)>;
+
+/// What the trait's methods answer of the region, whose face declared the key.
+fn asked(alloc: Global, hat: &Hat, key: &Key) -> Answers {
     if HatQueriesTrait::remote_queryables_of(hat, "k") != Some(information(true, 0)) {
         return None;
     }
-    Some((counted(alloc, hat, key).ok()?, told(hat, "k").ok()?))
+    let found = counted_unasked(alloc, hat, key).ok()?;
+    Some((found, told(hat, "k").ok()?))
 }
 
-/// The same of a region whose face 1 declared the key, and withdraws it then.
-fn by_its_trait(alloc: Global) -> Option<([usize; 5], usize)> {
-    let mut hat = local(alloc)?;
-    let key = Key::new(alloc, "k").ok()?;
-    if !hat.has_face(FaceId(1)) || !declared(&mut hat, &key) {
+/// The same as face 1 declares the key, and withdraws it then.
+fn asked_between(hat: &mut Hat, alloc: Global, key: &Key) -> Answers {
+    if !hat.has_face(FaceId(1)) || !declared(hat, key) {
         return None;
     }
-    let found = asked(alloc, &hat, &key)?;
-    if !hat.has_face(FaceId(1)) || !withdrawn(&mut hat) {
+    let found = asked(alloc, hat, key)?;
+    if !hat.has_face(FaceId(1)) || !withdrawn(hat) {
         return None;
     }
     Some(found)
 }
 
+/// The same of the key `k`, once face 1 is open.
+fn by_its_trait(hat: &mut Hat, alloc: Global) -> Answers {
+    open(hat)?;
+    match Key::new(alloc, "k") {
+        Ok(key) => asked_between(hat, alloc, &key),
+        Err(_) => None,
+    }
+}
+
 #[test]
 fn by_the_trait(rt: HostRuntime) {
-    assert!(rt; by_its_trait(rt.alloc()) == Some(([1, 1, 1, 1, 0], 0)));
+    let found = in_region(rt.alloc(), Region::Local, Mode::Client, by_its_trait);
+    assert!(rt; found == Some(([1, 1, 1, 1, 0], 0)));
 }

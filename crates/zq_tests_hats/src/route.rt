@@ -1,5 +1,4 @@
 use std::alloc::Global;
-use std::test::Fail;
 use zq_given::{CLIENTS, information, list};
 use zq_hat::types::{OfferList, QueryTargetQabl};
 use zq_key::items::Items;
@@ -9,25 +8,24 @@ use zq_key::text::Text;
 use zq_regions::RegionMap;
 use zq_route::builder::RouteBuilder;
 use zq_route::filter::InterRegionFilter;
-use zq_route::gateways::{GatewayEntry, Gateways};
+use zq_route::gateways::{GatewayEntry, GatewayEntryList, Gateways};
 use zq_route::selection::compute_final_route;
 
 /// Letters for the faces 3, 3 and 4, for 5 that has none, and for 6.
-fn built(alloc: Global) -> Result<Vec<char>, OutOfMemory> {
-    let mut route = RouteBuilder::new(alloc);
+fn put_letters(route: &mut RouteBuilder<char>) -> Result<(), OutOfMemory> {
     for (face, letter) in [(3, 'a'), (3, 'b'), (4, 'c')] {
         route.insert(FaceId(face), || letter)?;
     }
     route.try_insert(FaceId(5), || None)?;
-    route.try_insert(FaceId(6), || Some('d'))?;
-    Ok(route.build())
+    route.try_insert(FaceId(6), || Some('d'))
 }
 
 #[test]
-fn builds_each_face_once(rt: HostRuntime) -> Result<(), Fail> {
-    let built = built(rt.alloc())?;
-    assert_eq!(rt; built.as_slice(), ['a', 'c', 'd'].as_slice());
-    Ok(())
+fn builds_each_face_once(rt: HostRuntime) {
+    let mut route = RouteBuilder::new(rt.alloc());
+    let put = put_letters(&mut route);
+    let built = route.build();
+    assert!(rt; (put, built.as_slice()) == (Ok(()), ['a', 'c', 'd'].as_slice()));
 }
 
 fn offer(alloc: Global, face: u32, complete: Option<bool>) -> Result<QueryTargetQabl, OutOfMemory> {
@@ -43,9 +41,8 @@ fn offer(alloc: Global, face: u32, complete: Option<bool>) -> Result<QueryTarget
     })
 }
 
-/// The faces that a target picks of five offers, of which that of face 9 does not pass.
-fn picked(alloc: Global, target: QueryTarget) -> Result<Vec<u32>, OutOfMemory> {
-    let mut offers: OfferList = Items::new(alloc);
+/// Five offers, of which that of face 9 does not pass.
+fn put_offers(offers: &mut OfferList, alloc: Global) -> Result<(), OutOfMemory> {
     for (face, info) in [
         (9, Some(true)),
         (2, Some(false)),
@@ -55,18 +52,39 @@ fn picked(alloc: Global, target: QueryTarget) -> Result<Vec<u32>, OutOfMemory> {
     ] {
         offers.push(offer(alloc, face, info)?)?;
     }
-    let mut route = RouteBuilder::new(alloc);
-    compute_final_route(alloc, target, &mut route, &offers, |o| o.face.0 != 9)?;
-    let mut faces = Vec::new(alloc);
-    for offer in route.build() {
-        faces.push(offer.face.0)?;
+    Ok(())
+}
+
+/// The route takes what the target picks of these offers.
+fn pick(
+    route: &mut RouteBuilder<QueryTargetQabl>,
+    offers: &mut OfferList,
+    alloc: Global,
+    target: QueryTarget,
+) -> Result<(), OutOfMemory> {
+    put_offers(offers, alloc)?;
+    compute_final_route(alloc, target, route, offers, |o| o.face.0 != 9)
+}
+
+/// Whether the picked offers are of these faces, in order.
+fn are_of(offers: &[QueryTargetQabl], faces: &[u32]) -> bool {
+    if offers.len() != faces.len() {
+        return false;
     }
-    Ok(faces)
+    for (offer, face) in offers.iter().zip(faces) {
+        if offer.face.0 != *face {
+            return false;
+        }
+    }
+    true
 }
 
 /// Whether a target picks these faces of them.
-fn picks(alloc: Global, target: QueryTarget, want: &[u32]) -> Result<bool, OutOfMemory> {
-    Ok(picked(alloc, target)?.as_slice() == want)
+fn picks(alloc: Global, target: QueryTarget, want: &[u32]) -> (Result<(), OutOfMemory>, bool) {
+    let mut offers = Items::new(alloc);
+    let mut route = RouteBuilder::new(alloc);
+    let picked = pick(&mut route, &mut offers, alloc, target);
+    (picked, are_of(&route.build(), want))
 }
 
 #[test]
@@ -76,22 +94,29 @@ fn picks_by_target(rt: HostRuntime) {
         (QueryTarget::AllComplete, [3, 4, 2].as_slice()),
         (QueryTarget::BestMatching, [4].as_slice()),
     ] {
-        assert!(rt; picks(rt.alloc(), target, want) == Ok(true));
+        assert!(rt; picks(rt.alloc(), target, want) == (Ok(()), true));
     }
 }
 
-/// A table of the clients that gives node 10 the gateways 3 and 4, and node 11 none.
-fn table(alloc: Global) -> Result<RegionMap<Gateways>, OutOfMemory> {
-    let mut of = Items::new(alloc);
+/// Node 10 has the gateways 3 and 4, and node 11 none.
+fn put_gateways(of: &mut GatewayEntryList, alloc: Global) -> Result<(), OutOfMemory> {
     for (node, gateways) in [(10, [Zid(3), Zid(4)].as_slice()), (11, &[])] {
         of.push(GatewayEntry {
             node: Zid(node),
             gateways: list(alloc, gateways)?,
         })?;
     }
-    let mut tables = RegionMap::new(alloc);
-    tables.insert(CLIENTS, Gateways { of, all: None })?;
-    Ok(tables)
+    Ok(())
+}
+
+/// The clients have these gateways.
+fn put_table(tables: &mut RegionMap<Gateways>, alloc: Global) -> Result<(), OutOfMemory> {
+    let mut of = Items::new(alloc);
+    let filled = put_gateways(&mut of, alloc);
+    match tables.insert(CLIENTS, Gateways { of, all: None }) {
+        Ok(_) => filled,
+        Err(error) => Err(error),
+    }
 }
 
 // The source of a query, the node before the gateway, the gateway, and whether it carries the query.
@@ -123,11 +148,19 @@ fn carries(
     filter.resolve(tables, Zid(own))
 }
 
-#[test]
-fn carries_by_list(rt: HostRuntime) -> Result<(), Fail> {
-    let tables = table(rt.alloc())?;
+/// The first row that does not hold.
+fn wrong(tables: &RegionMap<Gateways>) -> Option<(Option<u128>, Option<u128>, u128, bool)> {
     for (src_zid, fwd_zid, own, want) in CARRIES {
-        assert_eq!(rt; carries(&tables, src_zid, fwd_zid, own), want);
+        if carries(tables, src_zid, fwd_zid, own) != want {
+            return Some((src_zid, fwd_zid, own, want));
+        }
     }
-    Ok(())
+    None
+}
+
+#[test]
+fn carries_by_list(rt: HostRuntime) {
+    let mut tables = RegionMap::new(rt.alloc());
+    let put = put_table(&mut tables, rt.alloc());
+    assert!(rt; (put, wrong(&tables)) == (Ok(()), None));
 }

@@ -1,3 +1,4 @@
+use crate::region::in_region;
 use std::alloc::Global;
 use zq_given::{information, list};
 use zq_hat::hat::Hat;
@@ -70,65 +71,87 @@ fn declare(hat: &mut Hat, alloc: Global, number: u32, text: &str) -> Result<(), 
     }
 }
 
-/// The local region with the faces 0, 1 and 2 of 10, 11 and 12: the first declared `a/b`, the last `a/c`.
-fn local(alloc: Global) -> Result<Hat, OutOfMemory> {
-    let mut hat = Hat::new(alloc, Region::Local, Mode::Client, Zid(1), 0);
-    open(&mut hat, 0, 10)?;
-    open(&mut hat, 1, 11)?;
-    open(&mut hat, 2, 12)?;
-    declare(&mut hat, alloc, 0, "a/b")?;
-    declare(&mut hat, alloc, 2, "a/c")?;
-    Ok(hat)
+/// The faces 0, 1 and 2 of 10, 11 and 12 open: the first declares `a/b`, the last `a/c`.
+fn fill(hat: &mut Hat, alloc: Global) -> Result<(), OutOfMemory> {
+    open(hat, 0, 10)?;
+    open(hat, 1, 11)?;
+    open(hat, 2, 12)?;
+    declare(hat, alloc, 0, "a/b")?;
+    declare(hat, alloc, 2, "a/c")
 }
 
-/// Face 1 asks for `a/*`, and for all.
-fn asked(alloc: Global) -> Result<Interests, OutOfMemory> {
-    let mut asked = Interests::new(alloc);
-    let key = Some(key_of(alloc, "a/*")?);
-    match asked.put(
-        alloc,
-        FaceId(1),
-        5,
-        InterestEntry {
-            key,
-            keys: false,
-            aggregate: false,
-        },
-    ) {
-        Ok(()) => {}
-        Err(error) => return Err(error),
-    }
-    let all = InterestEntry {
-        key: None,
-        keys: true,
-        aggregate: false,
-    };
-    match asked.put(alloc, FaceId(1), 6, all) {
-        Ok(()) => Ok(asked),
+/// The filled local region joins the others.
+fn join(hats: &mut RegionMap<Hat>, alloc: Global) -> Result<(), OutOfMemory> {
+    let mut hat = Hat::new(alloc, Region::Local, Mode::Client, Zid(1), 0);
+    let filled = fill(&mut hat, alloc);
+    match hats.insert(Region::Local, hat) {
+        Ok(_) => filled,
         Err(error) => Err(error),
     }
 }
 
-/// Who declared `a/b` and `a/c`, and who asks for `a/*`.
-fn sourced(alloc: Global) -> Result<[Option<u128>; 3], OutOfMemory> {
-    let mut hats = RegionMap::new(alloc);
-    let _ = hats.insert(Region::Local, local(alloc)?)?;
+/// Face 1 asks for the key, or for all.
+fn ask(asked: &mut Interests, alloc: Global, id: u32, key: Option<Key>) -> Result<(), OutOfMemory> {
+    let keys = key.is_none();
+    let entry = InterestEntry {
+        key,
+        keys,
+        aggregate: false,
+    };
+    match asked.put(alloc, FaceId(1), id, entry) {
+        Ok(()) => Ok(()),
+        Err(error) => Err(error),
+    }
+}
+
+/// Face 1 asks for `a/*`, and for all.
+fn ask_both(asked: &mut Interests, alloc: Global) -> Result<(), OutOfMemory> {
+    ask(asked, alloc, 5, Some(key_of(alloc, "a/*")?))?;
+    ask(asked, alloc, 6, None)
+}
+
+/// Who declared `a/b` and `a/c`.
+fn declared(alloc: Global, hats: &RegionMap<Hat>) -> Result<[Option<u128>; 2], OutOfMemory> {
     let own = Source {
         zid: Zid(1),
         mode: Mode::Client,
     };
-    let declared = all_queryables(alloc, &hats, own)?;
-    let asking = all_queriers(alloc, &hats, &asked(alloc)?)?;
-    Ok([
-        clients_on(&declared, "a/b"),
-        clients_on(&declared, "a/c"),
-        clients_on(&asking, "a/*"),
-    ])
+    match all_queryables(alloc, hats, own) {
+        Ok(list) => Ok([clients_on(&list, "a/b"), clients_on(&list, "a/c")]),
+        Err(error) => Err(error),
+    }
+}
+
+/// Who asks for `a/*`.
+fn asking(
+    alloc: Global,
+    hats: &RegionMap<Hat>,
+    asked: &Interests,
+) -> Result<Option<u128>, OutOfMemory> {
+    match all_queriers(alloc, hats, asked) {
+        Ok(list) => Ok(clients_on(&list, "a/*")),
+        Err(error) => Err(error),
+    }
+}
+
+/// Who declared `a/b` and `a/c`, and who asks for `a/*`, once the region is there and face 1 has asked.
+fn sourced(
+    hats: &mut RegionMap<Hat>,
+    asked: &mut Interests,
+    alloc: Global,
+) -> Result<[Option<u128>; 3], OutOfMemory> {
+    join(hats, alloc)?;
+    ask_both(asked, alloc)?;
+    let [first, last] = declared(alloc, hats)?;
+    Ok([first, last, asking(alloc, hats, asked)?])
 }
 
 #[test]
 fn keys_have_sources(rt: HostRuntime) {
-    assert!(rt; sourced(rt.alloc()) == Ok([Some(10_01), Some(12_01), Some(11)]));
+    let mut hats = RegionMap::new(rt.alloc());
+    let mut asked = Interests::new(rt.alloc());
+    let want = Ok([Some(10_01), Some(12_01), Some(11)]);
+    assert!(rt; sourced(&mut hats, &mut asked, rt.alloc()) == want);
 }
 
 /// Whether the face has a match of a key, complete or not.
@@ -141,37 +164,58 @@ fn matched(hat: &Hat, alloc: Global, face: u32, locality: Locality, text: &str) 
 }
 
 /// The matches of `a/b` for face 1, there and elsewhere, and for face 0 there; and of `a/c`, which is not
-/// complete; with the number of keys of the region.
-fn statuses(alloc: Global) -> Result<([Option<bool>; 4], usize), OutOfMemory> {
-    let hat = local(alloc)?;
-    let keys = remote_queryables(alloc, &hat)?.len();
+/// complete; with the number of keys of the region, once it is filled.
+fn statuses(hat: &mut Hat, alloc: Global) -> Result<([Option<bool>; 4], usize), OutOfMemory> {
+    fill(hat, alloc)?;
+    let keys = remote_queryables(alloc, hat)?.len();
     let found = [
-        matched(&hat, alloc, 1, Locality::SessionLocal, "a/b"),
-        matched(&hat, alloc, 1, Locality::Remote, "a/b"),
-        matched(&hat, alloc, 0, Locality::SessionLocal, "a/b"),
-        matched(&hat, alloc, 1, Locality::Any, "a/c"),
+        matched(hat, alloc, 1, Locality::SessionLocal, "a/b"),
+        matched(hat, alloc, 1, Locality::Remote, "a/b"),
+        matched(hat, alloc, 0, Locality::SessionLocal, "a/b"),
+        matched(hat, alloc, 1, Locality::Any, "a/c"),
     ];
     Ok((found, keys))
 }
 
 #[test]
 fn keys_are_matched(rt: HostRuntime) {
-    let found = [Some(false), Some(true), Some(true), Some(false)];
-    assert!(rt; statuses(rt.alloc()) == Ok((found, 2)));
+    let found = in_region(rt.alloc(), Region::Local, Mode::Client, statuses);
+    assert!(rt; found == Ok(([Some(false), Some(true), Some(true), Some(false)], 2)));
 }
 
-/// One id under clients, followed by an equal value.
-fn doubled(alloc: Global) -> Result<u128, OutOfMemory> {
-    let one = list(alloc, [Zid(1)].as_slice())?;
-    let mut twice = Sources::empty(alloc).with_mode(alloc, &one, Mode::Client)?;
-    let again = Sources::empty(alloc).with_mode(alloc, &one, Mode::Client)?;
-    match twice.extend(alloc, &again) {
+/// The ids under clients, followed by those of the others.
+fn followed(twice: &mut Sources, alloc: Global, again: &Sources) -> Result<u128, OutOfMemory> {
+    match twice.extend(alloc, again) {
         Ok(()) => Ok(digits(&twice.clients)),
+        Err(error) => Err(error),
+    }
+}
+
+/// The ids under clients, followed by these.
+fn followed_by(twice: &mut Sources, alloc: Global, ids: &ZidList) -> Result<u128, OutOfMemory> {
+    match Sources::empty(alloc).with_mode(alloc, ids, Mode::Client) {
+        Ok(again) => followed(twice, alloc, &again),
+        Err(error) => Err(error),
+    }
+}
+
+/// The ids under clients, followed by an equal value.
+fn doubled(alloc: Global, ids: &ZidList) -> Result<u128, OutOfMemory> {
+    match Sources::empty(alloc).with_mode(alloc, ids, Mode::Client) {
+        Ok(mut twice) => followed_by(&mut twice, alloc, ids),
+        Err(error) => Err(error),
+    }
+}
+
+/// The same of one id.
+fn doubled_one(alloc: Global) -> Result<u128, OutOfMemory> {
+    match list(alloc, [Zid(1)].as_slice()) {
+        Ok(one) => doubled(alloc, &one),
         Err(error) => Err(error),
     }
 }
 
 #[test]
 fn sources_follow_one_another(rt: HostRuntime) {
-    assert!(rt; doubled(rt.alloc()) == Ok(1_01));
+    assert!(rt; doubled_one(rt.alloc()) == Ok(1_01));
 }
