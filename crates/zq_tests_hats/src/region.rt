@@ -15,5 +15,7 @@ where
     requires { F.IsAlwaysCallable find }
 {
     let mut hat = Hat::new(alloc, region, mode, Zid(1), 0);
-    find(&mut hat, alloc)
+    let found = find(&mut hat, alloc);
+    drop(hat);
+    found
 }
