@@ -1,13 +1,12 @@
-use crate::given::{FIRST, config};
+use crate::given::{FIRST, Trial, config, found};
 use std::alloc::Global;
 use zq_gateway::gateway::Gateway;
-use zq_key::memory::OutOfMemory;
 use zq_key::message::{Mode, Region, Zid};
 use zq_machine::config::{BadConfig, Config, ConfigRefusal, Counters, Entry};
 
 fn refusal(alloc: Global, entries: &[Entry]) -> Option<BadConfig> {
-    match Config::new(alloc, Zid(1), entries, 10_000, FIRST) {
-        Err(ConfigRefusal::BadConfig(found)) => Some(found),
+    match Config::new(alloc, Zid(1), entries, 10_000, FIRST).err() {
+        Some(ConfigRefusal::BadConfig(found)) => Some(found),
         _ => None,
     }
 }
@@ -52,19 +51,27 @@ fn is_as_made(config: &Config) -> bool {
         && are_first(config.counters())
 }
 
-// Whether the gateway has its id and its mode in North.
-fn is_of_it(gateway: &Gateway) -> bool {
-    gateway.zid() == Zid(1) && gateway.north() == Mode::Client
+// Whether a configuration has what it was made of.
+fn has_all(alloc: Global) -> bool {
+    match config(alloc) {
+        Ok(config) => is_as_made(&config),
+        Err(_) => false,
+    }
 }
 
-// Whether a configuration, and its gateway, have what it was made of.
-fn have_all(alloc: Global) -> Result<[bool; 2], OutOfMemory> {
-    let config = config(alloc)?;
-    let gateway = Gateway::new(alloc, &config)?;
-    Ok([is_as_made(&config), is_of_it(&gateway)])
+// The id of a gateway, and its mode in North.
+struct Named;
+
+impl Trial for Named {
+    type Found = (Zid, Mode);
+
+    fn found(gateway: &mut Gateway, _: Global) -> (Zid, Mode) {
+        (gateway.zid(), gateway.north())
+    }
 }
 
 #[test]
 fn configurations(rt: HostRuntime) {
-    assert!(rt; have_all(rt.alloc()) == Ok([true, true]));
+    assert!(rt; has_all(rt.alloc()));
+    assert!(rt; found::<Named>(rt.alloc()) == Ok((Zid(1), Mode::Client)));
 }

@@ -1,4 +1,4 @@
-use crate::given::{application, config, gateway};
+use crate::given::{Seen, Trial, config, found, opens, seen};
 use std::alloc::Global;
 use zq_gateway::gateway::Gateway;
 use zq_gateway::runs::replay;
@@ -12,18 +12,9 @@ use zq_key::message::{
 };
 use zq_key::text::Bytes;
 use zq_machine::call::{Call, Outcome, Refusal, Step};
+use zq_machine::config::Config;
 use zq_machine::handed::Handed;
 use zq_route::gateways::Gateways;
-
-// The outcome of a step, and how many messages it hands; none where it found no memory.
-type Seen = Option<(Outcome, usize)>;
-
-fn seen(step: Result<Step, OutOfMemory>) -> Seen {
-    match step {
-        Ok(step) => Some((step.outcome, step.handed.len())),
-        Err(_) => None,
-    }
-}
 
 fn declares(gateway: &mut Gateway, body: DeclareBody) -> Seen {
     let declared = Declare {
@@ -100,11 +91,6 @@ fn lists(gateway: &mut Gateway, alloc: Global) -> Seen {
     seen(gateway.set_gateways(Region::Local, &table))
 }
 
-fn opens(gateway: &mut Gateway, alloc: Global, zid: u128) -> Seen {
-    let opening = application(alloc, zid);
-    seen(gateway.open_face(&opening))
-}
-
 fn is_final(handed: &Option<Handed>) -> bool {
     match handed {
         Some(handed) => {
@@ -122,26 +108,11 @@ fn hands_final(last: Result<Option<Handed>, Refusal>) -> Option<bool> {
     }
 }
 
-// A gateway with a face that answers and one that asks.
-fn pair(alloc: Global) -> Result<Gateway, OutOfMemory> {
-    let mut gateway = gateway(alloc)?;
-    let _ = opens(&mut gateway, alloc, 10);
-    let _ = opens(&mut gateway, alloc, 11);
-    let _ = registers(&mut gateway, alloc);
-    Ok(gateway)
-}
-
-/// What is done with a gateway, and what is found of it.
-trait Trial {
-    type Found;
-
-    fn found(gateway: &mut Gateway, alloc: Global) -> Self::Found;
-}
-
-// What a trial finds of a gateway with two faces. It is the one place where such a gateway is dropped.
-fn found<T: Trial>(alloc: Global) -> Result<T::Found, OutOfMemory> {
-    let mut gateway = pair(alloc)?;
-    Ok(T::found(&mut gateway, alloc))
+// A face that answers is opened, and one that asks.
+fn open_two(gateway: &mut Gateway, alloc: Global) {
+    let _ = opens(gateway, alloc, 10);
+    let _ = opens(gateway, alloc, 11);
+    let _ = registers(gateway, alloc);
 }
 
 const DONE: Seen = Some((Outcome::Done, 0));
@@ -149,25 +120,26 @@ const DONE: Seen = Some((Outcome::Done, 0));
 const UNKNOWN_FACE: Seen = Some((Outcome::Refused(Refusal::UnknownFace), 0));
 
 // What a face is answered that opens and declares.
-fn declared(gateway: &mut Gateway, alloc: Global) -> [Seen; 4] {
-    [
-        opens(gateway, alloc, 10),
-        names_key(gateway, alloc),
-        registers(gateway, alloc),
-        declares(gateway, DeclareBody::DeclareFinal),
-    ]
-}
+struct Declared;
 
-fn declared_at_first(alloc: Global) -> Result<[Seen; 4], OutOfMemory> {
-    let mut gateway = gateway(alloc)?;
-    Ok(declared(&mut gateway, alloc))
+impl Trial for Declared {
+    type Found = [Seen; 4];
+
+    fn found(gateway: &mut Gateway, alloc: Global) -> [Seen; 4] {
+        [
+            opens(gateway, alloc, 10),
+            names_key(gateway, alloc),
+            registers(gateway, alloc),
+            declares(gateway, DeclareBody::DeclareFinal),
+        ]
+    }
 }
 
 #[test]
 fn declarations(rt: HostRuntime) {
     let opened = Some((Outcome::Opened(FaceId(0)), 0));
     let want = [opened, DONE, DONE, DONE];
-    assert!(rt; declared_at_first(rt.alloc()) == Ok(want));
+    assert!(rt; found::<Declared>(rt.alloc()) == Ok(want));
 }
 
 // What a face is answered that withdraws what it declared, its number twice.
@@ -177,6 +149,7 @@ impl Trial for Withdrawn {
     type Found = [Seen; 3];
 
     fn found(gateway: &mut Gateway, alloc: Global) -> [Seen; 3] {
+        open_two(gateway, alloc);
         let _ = names_key(gateway, alloc);
         [
             declares(
@@ -211,7 +184,8 @@ struct Listened;
 impl Trial for Listened {
     type Found = [Seen; 4];
 
-    fn found(gateway: &mut Gateway, _: Global) -> [Seen; 4] {
+    fn found(gateway: &mut Gateway, alloc: Global) -> [Seen; 4] {
+        open_two(gateway, alloc);
         [
             listens(gateway, 5, 1),
             listens(gateway, 5, 0),
@@ -229,65 +203,66 @@ fn interests(rt: HostRuntime) {
     assert!(rt; found::<Listened>(rt.alloc()) == Ok([told, alone, DONE, again]));
 }
 
+fn clients_of_first(gateway: &Gateway) -> Option<usize> {
+    match gateway.sourced_queryables() {
+        Ok(on) => match on.get(0) {
+            Some(first) => Some(first.1.clients.len()),
+            None => None,
+        },
+        Err(_) => None,
+    }
+}
+
+fn keys_asked_for(gateway: &Gateway) -> Option<usize> {
+    match gateway.sourced_queriers() {
+        Ok(on) => Some(on.len()),
+        Err(_) => None,
+    }
+}
+
 // How many ids count as clients on the first declared key, and how many keys are asked for.
 struct Sourced;
 
 impl Trial for Sourced {
-    type Found = Result<(Option<usize>, usize), OutOfMemory>;
+    type Found = [Option<usize>; 2];
 
-    fn found(gateway: &mut Gateway, _: Global) -> Result<(Option<usize>, usize), OutOfMemory> {
+    fn found(gateway: &mut Gateway, alloc: Global) -> [Option<usize>; 2] {
+        open_two(gateway, alloc);
         let _ = listens(gateway, 5, 1);
-        let asked = gateway.sourced_queriers()?.len();
-        match gateway.sourced_queryables()?.get(0) {
-            Some(on) => Ok((Some(on.1.clients.len()), asked)),
-            None => Ok((None, asked)),
-        }
+        [clients_of_first(gateway), keys_asked_for(gateway)]
     }
 }
 
 #[test]
 fn sources(rt: HostRuntime) {
-    assert!(rt; found::<Sourced>(rt.alloc()) == Ok(Ok((Some(2), 0))));
+    assert!(rt; found::<Sourced>(rt.alloc()) == Ok([Some(2), Some(0)]));
 }
 
-// What a request and its reply come to.
+// What a request and its reply come to, and whether the target's final and two reports of the reply
+// hand the final to the asker.
 struct Answered;
 
 impl Trial for Answered {
-    type Found = [Seen; 2];
+    type Found = ([Seen; 2], [Option<bool>; 3]);
 
-    fn found(gateway: &mut Gateway, alloc: Global) -> [Seen; 2] {
-        [asks(gateway, alloc, 7, 5), replies(gateway, alloc)]
-    }
-}
-
-#[test]
-fn a_query_and_its_reply(rt: HostRuntime) {
-    let asked = Some((Outcome::Asked(0), 1));
-    let replied = Some((Outcome::Replied(Some(0)), 1));
-    assert!(rt; found::<Answered>(rt.alloc()) == Ok([asked, replied]));
-}
-
-// Whether the target's final and two reports of the reply hand the final to the asker.
-struct Ended;
-
-impl Trial for Ended {
-    type Found = [Option<bool>; 3];
-
-    fn found(gateway: &mut Gateway, alloc: Global) -> [Option<bool>; 3] {
-        let _ = asks(gateway, alloc, 7, 5);
-        let _ = replies(gateway, alloc);
-        [
+    fn found(gateway: &mut Gateway, alloc: Global) -> ([Seen; 2], [Option<bool>; 3]) {
+        open_two(gateway, alloc);
+        let steps = [asks(gateway, alloc, 7, 5), replies(gateway, alloc)];
+        let finals = [
             hands_final(gateway.send_response_final(FaceId(0), 1)),
             hands_final(gateway.sent(0)),
             hands_final(gateway.sent(0)),
-        ]
+        ];
+        (steps, finals)
     }
 }
 
 #[test]
 fn a_query_and_its_end(rt: HostRuntime) {
-    assert!(rt; found::<Ended>(rt.alloc()) == Ok([Some(false), Some(true), None]));
+    let asked = Some((Outcome::Asked(0), 1));
+    let replied = Some((Outcome::Replied(Some(0)), 1));
+    let finals = [Some(false), Some(true), None];
+    assert!(rt; found::<Answered>(rt.alloc()) == Ok(([asked, replied], finals)));
 }
 
 // What comes of a request that is out of time, of a list of gateways and of a closing.
@@ -297,6 +272,7 @@ impl Trial for OutOfTime {
     type Found = [Seen; 4];
 
     fn found(gateway: &mut Gateway, alloc: Global) -> [Seen; 4] {
+        open_two(gateway, alloc);
         [
             routes(gateway, alloc),
             seen(gateway.poll(5)),
@@ -320,7 +296,8 @@ struct Marked;
 impl Trial for Marked {
     type Found = [Seen; 3];
 
-    fn found(gateway: &mut Gateway, _: Global) -> [Seen; 3] {
+    fn found(gateway: &mut Gateway, alloc: Global) -> [Seen; 3] {
+        open_two(gateway, alloc);
         let mark = FinalMark::Initial;
         let end = Declare {
             interest: Some(0),
@@ -347,6 +324,7 @@ impl Trial for NetworksPut {
     type Found = [Seen; 2];
 
     fn found(gateway: &mut Gateway, alloc: Global) -> [Seen; 2] {
+        open_two(gateway, alloc);
         let net = Network::empty(alloc);
         [
             seen(gateway.set_network(Region::North, &net)),
@@ -369,6 +347,7 @@ impl Trial for NodesPut {
     type Found = [Seen; 2];
 
     fn found(gateway: &mut Gateway, alloc: Global) -> [Seen; 2] {
+        open_two(gateway, alloc);
         let ids = NodeIds::empty(alloc);
         [
             seen(gateway.set_node_ids(FaceId(0), &ids)),
@@ -383,34 +362,54 @@ fn node_tables(rt: HostRuntime) {
     assert!(rt; found::<NodesPut>(rt.alloc()) == Ok([DONE, UNKNOWN_FACE]));
 }
 
-// Whether each step, in order, has the outcome.
-fn are(steps: &[Step], outcomes: &[Outcome]) -> bool {
-    steps.len() == outcomes.len()
-        && steps
-            .iter()
-            .zip(outcomes)
-            .all(|(step, outcome)| step.outcome == *outcome)
+fn outcome_at(steps: &[Step], at: usize) -> Option<Outcome> {
+    match steps.get(at) {
+        Some(step) => Some(step.outcome),
+        None => None,
+    }
 }
 
-// Whether a run of a poll, a report and a closing has steps of these outcomes.
-fn runs_to(alloc: Global, outcomes: &[Outcome]) -> Result<bool, OutOfMemory> {
-    let calls = vec![in alloc;
+// The outcomes of the first steps of a run; none past its end.
+fn outcomes_of(steps: &[Step]) -> [Option<Outcome>; 4] {
+    [
+        outcome_at(steps, 0),
+        outcome_at(steps, 1),
+        outcome_at(steps, 2),
+        outcome_at(steps, 3),
+    ]
+}
+
+// The same of a run of the calls from a configuration.
+fn replayed(alloc: Global, config: &Config, calls: &[Call]) -> Option<[Option<Outcome>; 4]> {
+    match replay(alloc, config, calls) {
+        Ok(run) => Some(outcomes_of(run.steps.as_slice())),
+        Err(_) => None,
+    }
+}
+
+// The same of a run of the calls.
+fn run_of(alloc: Global, calls: &[Call]) -> Option<[Option<Outcome>; 4]> {
+    match config(alloc) {
+        Ok(config) => replayed(alloc, &config, calls),
+        Err(_) => None,
+    }
+}
+
+// A poll, a report and a closing.
+#[test]
+fn runs(rt: HostRuntime) {
+    let calls = [
         Call::Poll { now: 1 },
         Call::Sent { reply: 0 },
         Call::Close { face: FaceId(3) },
-    ]?;
-    let replayed = replay(alloc, &config(alloc)?, calls.as_slice())?;
-    Ok(are(replayed.steps.as_slice(), outcomes))
-}
-
-#[test]
-fn runs(rt: HostRuntime) {
-    let outcomes = [
-        Outcome::Done,
-        Outcome::Refused(Refusal::NotInFlight),
-        Outcome::Refused(Refusal::UnknownFace),
     ];
-    assert!(rt; runs_to(rt.alloc(), &outcomes) == Ok(true));
+    let outcomes = [
+        Some(Outcome::Done),
+        Some(Outcome::Refused(Refusal::NotInFlight)),
+        Some(Outcome::Refused(Refusal::UnknownFace)),
+        None,
+    ];
+    assert!(rt; run_of(rt.alloc(), &calls) == Some(outcomes));
 }
 
 fn asks_each(gateway: &mut Gateway, alloc: Global, count: u32) {
@@ -437,6 +436,7 @@ impl Trial for Deadlines {
     type Found = bool;
 
     fn found(gateway: &mut Gateway, alloc: Global) -> bool {
+        open_two(gateway, alloc);
         asks_each(gateway, alloc, 100_000);
         each_ends(gateway, 100_000)
     }

@@ -1,11 +1,12 @@
-//! What tests of calls are given: counters, a configuration, a gateway, an application.
+//! What tests of calls are given: counters, a configuration, what is done with a gateway, what is seen of
+//! a step, an application.
 use std::alloc::Global;
 use zq_gateway::gateway::Gateway;
 use zq_key::items::Items;
 use zq_key::memory::OutOfMemory;
 use zq_key::message::{Bound, Mode, Region, Zid};
-use zq_machine::call::Opening;
-use zq_machine::config::{Config, Counters, Entry};
+use zq_machine::call::{Opening, Outcome, Step};
+use zq_machine::config::{Config, ConfigRefusal, Counters, Entry};
 
 /// Counters that begin at 0.
 pub const FIRST: Counters = Counters {
@@ -17,21 +18,46 @@ pub const FIRST: Counters = Counters {
 };
 
 /// The gateway 1 with an upstream and a region of applications.
-pub(crate) fn config(alloc: Global) -> Result<Config, OutOfMemory> {
+pub(crate) fn config(alloc: Global) -> Result<Config, ConfigRefusal> {
     let entries = [Entry::North(Mode::Client), Entry::Local];
-    match Config::new(alloc, Zid(1), entries.as_slice(), 10_000, FIRST) {
-        Ok(config) => Ok(config),
+    Config::new(alloc, Zid(1), entries.as_slice(), 10_000, FIRST)
+}
+
+/// What is done with a gateway, and what is found of it.
+pub(crate) trait Trial {
+    type Found;
+
+    fn found(gateway: &mut Gateway, alloc: Global) -> Self::Found;
+}
+
+// What a trial finds of a new gateway of the configuration. It is the one place where a gateway is dropped.
+fn found_of<T: Trial>(alloc: Global, config: &Config) -> Result<T::Found, OutOfMemory> {
+    match Gateway::new(alloc, config) {
+        Ok(mut gateway) => Ok(T::found(&mut gateway, alloc)),
         Err(_) => Err(OutOfMemory),
     }
 }
 
-/// A new gateway of that configuration.
-pub(crate) fn gateway(alloc: Global) -> Result<Gateway, OutOfMemory> {
-    Gateway::new(alloc, &config(alloc)?)
+/// What a trial finds of a new gateway.
+pub(crate) fn found<T: Trial>(alloc: Global) -> Result<T::Found, OutOfMemory> {
+    match config(alloc) {
+        Ok(config) => found_of::<T>(alloc, &config),
+        Err(_) => Err(OutOfMemory),
+    }
 }
 
-/// An application is opened.
-pub(crate) fn application(alloc: Global, zid: u128) -> Opening {
+/// The outcome of a step, and how many messages it hands; none where it found no memory.
+pub(crate) type Seen = Option<(Outcome, usize)>;
+
+/// What is seen of a step.
+pub(crate) fn seen(step: Result<Step, OutOfMemory>) -> Seen {
+    match step {
+        Ok(step) => Some((step.outcome, step.handed.len())),
+        Err(_) => None,
+    }
+}
+
+fn application(alloc: Global, zid: u128) -> Opening {
     Opening {
         region: Region::Local,
         zid: Zid(zid),
@@ -41,4 +67,10 @@ pub(crate) fn application(alloc: Global, zid: u128) -> Opening {
         entry_deny: Items::new(alloc),
         exit_deny: Items::new(alloc),
     }
+}
+
+/// An application is opened.
+pub(crate) fn opens(gateway: &mut Gateway, alloc: Global, zid: u128) -> Seen {
+    let opening = application(alloc, zid);
+    seen(gateway.open_face(&opening))
 }

@@ -1,4 +1,4 @@
-use crate::given::{application, gateway};
+use crate::given::{Trial, found, opens};
 use std::alloc::Global;
 use zq_gateway::demux::DeMux;
 use zq_gateway::gateway::Gateway;
@@ -11,6 +11,7 @@ use zq_key::message::{
     ResponseFinal,
 };
 use zq_key::text::Bytes;
+use zq_lines::calls::print_call;
 use zq_lines::lines::call_of;
 use zq_machine::call::{Call, Outcome, Step, StepList};
 use zq_prints::steps::print_steps;
@@ -112,67 +113,6 @@ fn nothing(alloc: Global) -> Step {
     }
 }
 
-fn open(gateway: &mut Gateway, alloc: Global, zid: u128) -> Result<(), OutOfMemory> {
-    let _ = gateway.open_face(&application(alloc, zid))?;
-    Ok(())
-}
-
-fn open_two(gateway: &mut Gateway, alloc: Global) -> Result<(), OutOfMemory> {
-    open(gateway, alloc, 10)?;
-    open(gateway, alloc, 11)
-}
-
-// A gateway with two applications.
-fn pair(alloc: Global) -> Result<Gateway, OutOfMemory> {
-    let mut gateway = gateway(alloc)?;
-    open_two(&mut gateway, alloc)?;
-    Ok(gateway)
-}
-
-// The print of what is said, sent to what takes it.
-fn sent<P: Primitives>(alloc: Global, to: &mut P) -> Result<Bytes, OutOfMemory> {
-    let mut steps: StepList = Items::new(alloc);
-    for at in 0..SAID.len() {
-        steps.push(send(to, FaceId(SAID[at].0), &message(alloc, at)?)?)?;
-    }
-    print_steps(alloc, steps.as_slice())
-}
-
-fn called(gateway: &mut Gateway, alloc: Global, call: Option<Call>) -> Result<Step, OutOfMemory> {
-    match call {
-        Some(call) => gateway.call(&call),
-        None => Ok(nothing(alloc)),
-    }
-}
-
-// The same where each message is made a call.
-fn demuxed(alloc: Global) -> Result<Bytes, OutOfMemory> {
-    let mut gateway = pair(alloc)?;
-    let mut steps: StepList = Items::new(alloc);
-    for at in 0..SAID.len() {
-        let from = DeMux {
-            face: FaceId(SAID[at].0),
-        };
-        let call = from.handle_message(message(alloc, at)?, 3);
-        steps.push(called(&mut gateway, alloc, call)?)?;
-    }
-    print_steps(alloc, steps.as_slice())
-}
-
-// The same where the calls are those of the lines.
-fn lined(alloc: Global) -> Result<Bytes, OutOfMemory> {
-    let mut gateway = pair(alloc)?;
-    let mut steps: StepList = Items::new(alloc);
-    for at in 0..SAID.len() {
-        let call = match call_of(alloc, SAID[at].1.as_bytes()) {
-            Ok(call) => Some(call),
-            Err(_) => None,
-        };
-        steps.push(called(&mut gateway, alloc, call)?)?;
-    }
-    print_steps(alloc, steps.as_slice())
-}
-
 const PRINT: &str = "= done\n\
      = done\n\
      = done\n\
@@ -196,38 +136,165 @@ fn is_print(print: Result<Bytes, OutOfMemory>, wanted: &str) -> bool {
     }
 }
 
-// A gateway by its methods.
-fn by_methods(alloc: Global) -> Result<Bytes, OutOfMemory> {
-    sent(alloc, &mut pair(alloc)?)
+// A way in which what is said reaches what takes it.
+trait Way<T> {
+    // What is said there is taken; the face and the line are those of `SAID`.
+    fn step(
+        to: &mut T,
+        alloc: Global,
+        at: usize,
+        face: FaceId,
+        line: &str,
+    ) -> Result<Step, OutOfMemory>;
+}
+
+fn push(steps: &mut StepList, step: Result<Step, OutOfMemory>) -> bool {
+    match step {
+        Ok(step) => steps.push(step).is_ok(),
+        Err(_) => false,
+    }
+}
+
+// All that is said goes to what takes it. It says whether there was memory.
+fn push_all<T, W: Way<T>>(to: &mut T, alloc: Global, steps: &mut StepList) -> bool {
+    for at in 0..SAID.len() {
+        let (face, line) = SAID[at];
+        if !push(steps, W::step(to, alloc, at, FaceId(face), line)) {
+            return false;
+        }
+    }
+    true
+}
+
+fn is_print_of(alloc: Global, steps: &StepList, wanted: &str) -> bool {
+    is_print(print_steps(alloc, steps.as_slice()), wanted)
+}
+
+// Whether the print of what is said, sent to what takes it, is this.
+fn prints<T, W: Way<T>>(to: &mut T, alloc: Global, wanted: &str) -> bool {
+    let mut steps: StepList = Items::new(alloc);
+    let all = push_all::<T, W>(to, alloc, &mut steps);
+    all & is_print_of(alloc, &steps, wanted)
+}
+
+// Whether it is that of the calls, where a gateway with two applications takes it.
+fn pair_prints<W: Way<Gateway>>(gateway: &mut Gateway, alloc: Global) -> bool {
+    opens(gateway, alloc, 10).is_some()
+        && opens(gateway, alloc, 11).is_some()
+        && prints::<Gateway, W>(gateway, alloc, PRINT)
+}
+
+// The lines are read as calls.
+struct Lined;
+
+impl Way<Gateway> for Lined {
+    fn step(
+        to: &mut Gateway,
+        alloc: Global,
+        _: usize,
+        _: FaceId,
+        line: &str,
+    ) -> Result<Step, OutOfMemory> {
+        match call_of(alloc, line.as_bytes()) {
+            Ok(call) => to.call(&call),
+            Err(_) => Ok(nothing(alloc)),
+        }
+    }
+}
+
+impl Trial for Lined {
+    type Found = bool;
+
+    fn found(gateway: &mut Gateway, alloc: Global) -> bool {
+        pair_prints::<Lined>(gateway, alloc)
+    }
+}
+
+fn called(gateway: &mut Gateway, alloc: Global, call: Option<Call>) -> Result<Step, OutOfMemory> {
+    match call {
+        Some(call) => gateway.call(&call),
+        None => Ok(nothing(alloc)),
+    }
+}
+
+// The messages are made calls.
+struct Demuxed;
+
+impl Way<Gateway> for Demuxed {
+    fn step(
+        to: &mut Gateway,
+        alloc: Global,
+        at: usize,
+        face: FaceId,
+        _: &str,
+    ) -> Result<Step, OutOfMemory> {
+        match message(alloc, at) {
+            Ok(said) => called(to, alloc, DeMux { face }.handle_message(said, 3)),
+            Err(_) => Err(OutOfMemory),
+        }
+    }
+}
+
+impl Trial for Demuxed {
+    type Found = bool;
+
+    fn found(gateway: &mut Gateway, alloc: Global) -> bool {
+        pair_prints::<Demuxed>(gateway, alloc)
+    }
+}
+
+// The messages are sent by the methods.
+struct Sent;
+
+impl<P: Primitives> Way<P> for Sent {
+    fn step(
+        to: &mut P,
+        alloc: Global,
+        at: usize,
+        face: FaceId,
+        _: &str,
+    ) -> Result<Step, OutOfMemory> {
+        match message(alloc, at) {
+            Ok(said) => send(to, face, &said),
+            Err(_) => Err(OutOfMemory),
+        }
+    }
+}
+
+impl Trial for Sent {
+    type Found = bool;
+
+    fn found(gateway: &mut Gateway, alloc: Global) -> bool {
+        pair_prints::<Sent>(gateway, alloc)
+    }
 }
 
 #[test]
 fn messages_are_calls(rt: HostRuntime) {
-    assert!(rt; is_print(lined(rt.alloc()), PRINT));
-    assert!(rt; is_print(demuxed(rt.alloc()), PRINT));
-    assert!(rt; is_print(by_methods(rt.alloc()), PRINT));
+    assert!(rt; found::<Lined>(rt.alloc()) == Ok(true));
+    assert!(rt; found::<Demuxed>(rt.alloc()) == Ok(true));
+    assert!(rt; found::<Sent>(rt.alloc()) == Ok(true));
 }
 
 #[test]
 fn what_answers_all_alike(rt: HostRuntime) {
-    let print = sent(rt.alloc(), &mut DummyPrimitives::new(rt.alloc()));
+    let mut alike = DummyPrimitives::new(rt.alloc());
     let done = "= done\n= done\n= done\n= done\n= done\n= done\n= done\n= done\n= done\n= done\n";
-    assert!(rt; is_print(print, done));
+    assert!(rt; prints::<DummyPrimitives, Sent>(&mut alike, rt.alloc(), done));
 }
 
-// Whether the call ends the interest 5 of a face, and whether it closes it.
-fn ends(face: FaceId) -> (bool, bool) {
-    let from = DeMux { face };
-    (
-        matches!(
-            from.handle_message(Message::InterestFinal(5), 0),
-            Some(Call::InterestFinal { id: 5, .. })
-        ),
-        matches!(from.closed(), Call::Close { .. }),
-    )
+// Whether it makes a call, of this line.
+fn is_line(alloc: Global, call: Option<Call>, line: &str) -> bool {
+    match call {
+        Some(call) => is_print(print_call(alloc, &call), line),
+        None => false,
+    }
 }
 
 #[test]
 fn ends_of_interests_and_faces(rt: HostRuntime) {
-    assert!(rt; ends(FaceId(1)) == (true, true));
+    let from = DeMux { face: FaceId(1) };
+    let end = from.handle_message(Message::InterestFinal(5), 0);
+    assert!(rt; is_line(rt.alloc(), end, "uninterest 1 5"));
+    assert!(rt; is_line(rt.alloc(), Some(from.closed()), "close 1"));
 }
