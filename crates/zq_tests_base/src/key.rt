@@ -205,19 +205,19 @@ fn repeat(text: &mut String, part: &str, times: usize, end: &str) -> Result<(), 
     text.push_str(end)
 }
 
-// What runs are to two others, of which the ends tell of the first two alone, and to themselves.
+// Whether runs are apart from two others, of which the ends tell of the first two alone, and include themselves.
 fn long_relations(
     runs: &mut String,
     others: &mut String,
     plain: &mut String,
-) -> Result<[Option<&'static str>; 3], AllocError> {
+) -> Result<[bool; 3], AllocError> {
     repeat(runs, "a$*", 300, "b$*d")?;
     repeat(others, "$*a", 300, "c")?;
     repeat(plain, "a", 600, "cd")?;
     Ok([
-        relation(runs.as_str(), others.as_str()),
-        relation(runs.as_str(), plain.as_str()),
-        relation(runs.as_str(), runs.as_str()),
+        relation(runs.as_str(), others.as_str()) == Some("apart"),
+        relation(runs.as_str(), plain.as_str()) == Some("apart"),
+        relation(runs.as_str(), runs.as_str()) == Some("includes"),
     ])
 }
 
@@ -227,22 +227,22 @@ fn long_chunks(rt: HostRuntime) {
     let mut others = String::new(rt.alloc());
     let mut plain = String::new(rt.alloc());
     let found = long_relations(&mut runs, &mut others, &mut plain);
-    assert!(rt; found == Ok([Some("apart"), Some("apart"), Some("includes")]));
+    assert!(rt; found == Ok([true, true, true]));
 }
 
-// What chunks are to two others, and to themselves.
+// Whether chunks are apart from two others, and include themselves.
 fn many_relations(
     stars: &mut String,
     chunks: &mut String,
     flat: &mut String,
-) -> Result<[Option<&'static str>; 3], AllocError> {
+) -> Result<[bool; 3], AllocError> {
     repeat(stars, "**/a/", 300, "b/*")?;
     repeat(chunks, "a/**/", 300, "c/*")?;
     repeat(flat, "a/", 600, "c/*")?;
     Ok([
-        relation(stars.as_str(), chunks.as_str()),
-        relation(stars.as_str(), flat.as_str()),
-        relation(stars.as_str(), stars.as_str()),
+        relation(stars.as_str(), chunks.as_str()) == Some("apart"),
+        relation(stars.as_str(), flat.as_str()) == Some("apart"),
+        relation(stars.as_str(), stars.as_str()) == Some("includes"),
     ])
 }
 
@@ -252,7 +252,7 @@ fn many_chunks(rt: HostRuntime) {
     let mut chunks = String::new(rt.alloc());
     let mut flat = String::new(rt.alloc());
     let found = many_relations(&mut stars, &mut chunks, &mut flat);
-    assert!(rt; found == Ok([Some("apart"), Some("apart"), Some("includes")]));
+    assert!(rt; found == Ok([true, true, true]));
 }
 
 #[test]

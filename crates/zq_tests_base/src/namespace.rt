@@ -1,7 +1,7 @@
 use std::alloc::Global;
 use zq_given::wire;
 use zq_key::memory::OutOfMemory;
-use zq_key::message::{Message, QueryTarget, Request};
+use zq_key::message::{Message, QueryTarget, Request, WireExpr};
 use zq_key::text::Bytes;
 use zq_key::{Key, is_plain};
 use zq_namespace::{ENamespace, Namespace};
@@ -25,17 +25,17 @@ fn a_key_enters(rt: HostRuntime) {
     assert_eq!(rt; enters(&entry, rt.alloc(), "a/*", "acme/x/a/*"), Ok(true));
 }
 
-// A request on a text.
-fn asking(alloc: Global, text: &str) -> Result<Message, OutOfMemory> {
-    Ok(Message::Request(Request {
+// A request on an expression.
+fn asking(alloc: Global, wire: WireExpr) -> Message {
+    Message::Request(Request {
         id: 1,
-        wire: wire(alloc, 0, text)?,
+        wire,
         target: QueryTarget::All,
         timeout: None,
         node: 0,
         qos: 0,
         payload: Bytes::from_vec(Vec::new(alloc)),
-    }))
+    })
 }
 
 // Whether a request on the text is what left; where there is no text, whether nothing left.
@@ -54,7 +54,7 @@ fn leaves(
     text: &str,
     left: Option<&str>,
 ) -> Result<bool, OutOfMemory> {
-    let request = asking(alloc, text)?;
+    let request = asking(alloc, wire(alloc, 0, text)?);
     Ok(is_left(&exit.leave(&request)?, left))
 }
 
