@@ -4,6 +4,7 @@ ghost use Rattle.std.specs.Prelude.{OnOk, if◌then◌else◌, ◌≡◌, ◌+�
 ghost use Rattle.std.specs.Fmt.{decimal};
 ghost use Rattle.std.specs.List.{count_by};
 ghost use Rattle.zq_machine.specs.Machine.{after, step, steps};
+ghost use Rattle.zq_machine.specs.State.{opening_state};
 ghost use Rattle.zq_load.specs.Load.{IsBelow, ask_call, asked_key, count, declare_call, declared_key, handed_over, load_call, load_calls, load_config, load_line, open_call, plus, query_call, reply_call, kind_test};
 
 use std::alloc::Global;
@@ -235,17 +236,38 @@ fn count_call(
     Ok(())
 }
 
+// What the load's calls hand, made on a new gateway.
+fn count_on(alloc: Global, gateway: &mut Gateway, amount: u16) -> Result<Counts, OutOfMemory>
+    requires { gateway.old ≡ opening_state load_config }
+    ensures { IfOk result (λ c. c ≡ count (handed_over (steps load_config (load_calls amount)))) }
+{
+    let mut counts = Counts::default();
+    'calls: for number in 0..12 + 4 * u32::from(amount) {
+        count_call(alloc, gateway, &mut counts, number)?;
+    }
+    Ok(counts)
+}
+
+// The same; the gateway is dropped in one place.
+fn count_anew(alloc: Global, config: &Config, amount: u16) -> Result<Counts, OutOfMemory>
+    requires { config.now ≡ load_config }
+    ensures { IfOk result (λ c. c ≡ count (handed_over (steps load_config (load_calls amount)))) }
+{
+    match Gateway::new(alloc, config) {
+        Ok(mut gateway) => {
+            let counted = count_on(alloc, &mut gateway, amount);
+            drop(gateway);
+            counted
+        }
+        Err(error) => Err(error),
+    }
+}
+
 /// What the load's calls hand.
 fn count_load(alloc: Global, amount: u16) -> Result<Counts, OutOfMemory>
     ensures { IfOk result (λ c. c ≡ count (handed_over (steps load_config (load_calls amount)))) }
 {
-    let config = load_config(alloc)?;
-    let mut gateway = Gateway::new(alloc, &config)?;
-    let mut counts = Counts::default();
-    'calls: for number in 0..12 + 4 * u32::from(amount) {
-        count_call(alloc, &mut gateway, &mut counts, number)?;
-    }
-    Ok(counts)
+    count_anew(alloc, &load_config(alloc)?, amount)
 }
 
 /// The line that says what was counted.

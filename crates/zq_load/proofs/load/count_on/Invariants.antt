@@ -1,7 +1,7 @@
 use Rattle.std.proofs.Common.{◌≡◌, ◌-◌, ◌*◌, ◌^◌}
 use Rattle.zq_machine.specs.Machine.{steps, steps_from}
 use Rattle.zq_load.specs.Load.{IsBelow, calls_from, count, handed_over, load_config, plus}
-use Rattle.zq_load.proofs.load.count_load.Given as goal
+use Rattle.zq_load.proofs.load.count_on.Given as goal
 
 abbrev pub invariant-calls : goal.invariant-calls
 invariant-calls l = record {

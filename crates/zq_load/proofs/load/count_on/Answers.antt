@@ -4,7 +4,7 @@ use Rattle.zq_machine.specs.Machine.{steps, steps_from}
 use Rattle.zq_machine.specs.State.{State}
 use Rattle.zq_load.specs.Load.{calls_from, count, handed_over, load_call, load_config, plus}
 use Rattle.zq_load.proofs.Loaded.{call_counted, next_calls, none_counted}
-use Rattle.zq_load.proofs.load.count_load.Goals as goal
+use Rattle.zq_load.proofs.load.count_on.Goals as goal
 
 pub calls-preserved : goal.calls-preserved
 calls-preserved c =
