@@ -58,8 +58,32 @@ fn print_line(
     }
 }
 
-/// The print of the steps of the lines' calls, the lines numbered from `first` on.
+/// The print of the steps that the gateway answers to the lines' calls, the lines numbered from `first` on.
 #[tactic(auto, using(crate::proofs::Printed::next_told, crate::proofs::Printed::next_fits, crate::proofs::Printed::line_bad))]
+fn print_lines(
+    alloc: Global,
+    gateway: &mut Gateway,
+    first: u64,
+    bytes: &[u8],
+) -> Result<Bytes, ScriptRefusal>
+    requires { first + length bytes.now < 2 ^ 64 }
+    ensures print { Gives result (printed_by gateway.old (parts_from first false 0 (lines_of bytes.now))) }
+    ensures fits { IfOk result (λ _. FitsRun gateway.old (parts_from first false 0 (lines_of bytes.now))) }
+{
+    let mut print = Vec::new(alloc);
+    let mut number = first;
+    let mut rest = bytes;
+    'lines: while let Some((line, after)) = next_line(rest) {
+        if !print_line(alloc, gateway, &mut print, line)? {
+            return Err(ScriptRefusal::BadLine(number));
+        }
+        number += 1;
+        rest = after;
+    }
+    Ok(Bytes::from_vec(print))
+}
+
+/// The same of a new gateway.
 fn print_calls(
     alloc: Global,
     config: &Config,
@@ -70,18 +94,14 @@ fn print_calls(
     ensures print { Gives result (printed_by (opening_state config.now) (parts_from first false 0 (lines_of bytes.now))) }
     ensures fits { IfOk result (λ _. FitsRun (opening_state config.now) (parts_from first false 0 (lines_of bytes.now))) }
 {
-    let mut gateway = Gateway::new(alloc, config)?;
-    let mut print = Vec::new(alloc);
-    let mut number = first;
-    let mut rest = bytes;
-    'lines: while let Some((line, after)) = next_line(rest) {
-        if !print_line(alloc, &mut gateway, &mut print, line)? {
-            return Err(ScriptRefusal::BadLine(number));
+    match Gateway::new(alloc, config) {
+        Ok(mut gateway) => {
+            let printed = print_lines(alloc, &mut gateway, first, bytes);
+            drop(gateway);
+            printed
         }
-        number += 1;
-        rest = after;
+        Err(OutOfMemory) => Err(ScriptRefusal::OutOfMemory),
     }
-    Ok(Bytes::from_vec(print))
 }
 
 /// The print of the steps of a script, which is read back as those steps. Refused is the first bad

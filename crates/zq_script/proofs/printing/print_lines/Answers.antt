@@ -5,7 +5,7 @@ use Rattle.zq_lines.specs.Split.{lines_of}
 use Rattle.zq_script.specs.Printing.{Prints}
 use Rattle.zq_script.specs.Script.{script_call}
 use Rattle.zq_script.proofs.Printed.{line_bad, next_fits, next_told}
-use Rattle.zq_script.proofs.printing.print_calls.Goals as goal
+use Rattle.zq_script.proofs.printing.print_lines.Goals as goal
 
 pub lines-preserved : goal.lines-preserved
 lines-preserved c =
@@ -17,7 +17,6 @@ lines-preserved c =
       counted = omega (arith, c.in-Some.ensures.shorter, c.lines.invariant.counted);
     }
 
--- src/printing.rt:83:13
 pub returns-then-not-branch-clause-print : goal.returns-then-not-branch-clause-print
 returns-then-not-branch-clause-print c =
     let bad : c.in_ok-print_line.field-0 ≡ false = first_of ((cc), (search rules), (grind (arith, nat_tests, common_steps))) in
