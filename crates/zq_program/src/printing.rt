@@ -2,7 +2,7 @@
 ghost use Rattle.std.specs.Prelude.{◌≡◌, ◌++◌, ◌∷◌, [], IfOk, OnOk, codes};
 ghost use Rattle.std.specs.Fmt.{decimal};
 ghost use Rattle.zq_lines.specs.CallLines.{call_words};
-ghost use Rattle.zq_machine.specs.Machine.{after, step, steps};
+ghost use Rattle.zq_machine.specs.Machine.{after, step, steps, steps_from};
 ghost use Rattle.zq_prints.specs.Steps.{step_words, steps_words};
 ghost use Rattle.zq_script.specs.Head.{ended};
 ghost use Rattle.zq_program.specs.Printing.{calls_words, shared_print};
@@ -45,7 +45,17 @@ fn push_answer(out: &mut Vec<u8>, gateway: &mut Gateway, call: &Call) -> Result<
     Ok(())
 }
 
-/// Writes the steps that a new gateway answers to calls, one after another. No step is kept once it is written.
+/// Writes the steps that the gateway answers to calls, one after another. No step is kept once it is written.
+fn push_answers(out: &mut Vec<u8>, gateway: &mut Gateway, calls: &[Call]) -> Result<(), OutOfMemory>
+    ensures { OnOk result (out.new.items ≡ out.old.items ++ steps_words (steps_from gateway.old calls.now)) }
+{
+    for call in calls {
+        push_answer(out, gateway, call)?;
+    }
+    Ok(())
+}
+
+/// The same of a new gateway.
 fn push_replay(
     alloc: Global,
     out: &mut Vec<u8>,
@@ -54,11 +64,14 @@ fn push_replay(
 ) -> Result<(), OutOfMemory>
     ensures { OnOk result (out.new.items ≡ out.old.items ++ steps_words (steps config.now calls.now)) }
 {
-    let mut gateway = Gateway::new(alloc, config)?;
-    for call in calls {
-        push_answer(out, &mut gateway, call)?;
+    match Gateway::new(alloc, config) {
+        Ok(mut gateway) => {
+            let written = push_answers(out, &mut gateway, calls);
+            drop(gateway);
+            written
+        }
+        Err(error) => Err(error),
     }
-    Ok(())
 }
 
 /// The print of a shared run: the lines before the calls, the stored calls as lines, a line `--`, and the steps of their replay.

@@ -48,8 +48,9 @@ fn share_script<L: Link + Send, R: Threads + Wait + Sync>(
         parts,
     } = script;
     let (shared, sent) = share(rt, alloc, &config, sharing.slots, parts.into_vec(), links)?;
-    let print = print_shared(alloc, head.as_slice(), shared.config(), shared.calls())?;
-    Ok((print, sent))
+    let print = print_shared(alloc, head.as_slice(), shared.config(), shared.calls());
+    drop(shared);
+    Ok((print?, sent))
 }
 
 /// The status of a shared run whose print is taken.
