@@ -48,6 +48,7 @@ quiet n s keeper view r view' views there leads held used unshown each same seat
       made = made;
       stands = λ k. let a = stand k in let b = r.stands k in omega arith;
       ended = λ k up. let a = stand k in let q = r.ended k (omega arith) in let b = used_same k in let c = q.0 in (omega arith, same k ∙ q.1);
+      owed = λ k up none_hold. let a = stand k in let b = used_same k in let c = same k in let z = r.owed k (omega arith) (omega arith) in omega arith;
       bare = unshown ∙ r.bare;
       shown = shown;
       pledged = λ k up. let q = pledged k up in let a = q.0 in let b = held_same k in (omega arith, q.1);

@@ -24,11 +24,12 @@ keeper_steps : (n : ℕ) (s : HoldState) (id : ℕ) (v w : HoldView) (r : IsKept
     → ((k : ℕ) → times k w.used ≡ 0 → holders k (set s.views id w) ≡ 0)
     → ((k : ℕ) → standing k (set s.views id w) ≤ 1)
     → ((k : ℕ) → 0 < standing k (set s.views id w) → (0 < times k w.used) × (holders k (set s.views id w) ≡ 0))
+    → ((k : ℕ) → 0 < times k w.used → holders k (set s.views id w) ≡ 0 → 0 < standing k (set s.views id w))
     → ((k : ℕ) → showing k (set s.views id w) ≡ stood k w.pledged)
     → ((k : ℕ) → 0 < stood k w.pledged → (0 < times k w.held) × (0 < times k w.lent))
     → ((k : ℕ) → 0 < times k w.used → times k w.lent ≡ 0 → holders k (set s.views id w) ≡ times k w.held)
     → IsKept n record { words = words; homes = s.homes; views = set s.views id w }
-keeper_steps n s id v w r words leads wide made joined unshown once number vacated stands ended shown pledged unlent =
+keeper_steps n s id v w r words leads wide made joined unshown once number vacated stands ended owed shown pledged unlent =
     let seats = seat_set n s id v r id v w r.there in
     let one : live v.role ≡ 1 = ap live r.keeps in
     let one' : live w.role ≡ 1 = ap live leads in
@@ -48,6 +49,7 @@ keeper_steps n s id v w r words leads wide made joined unshown once number vacat
         made = omega arith;
         stands = stands;
         ended = ended;
+        owed = owed;
         bare = unshown ∙ r.bare;
         shown = shown;
         pledged = pledged;
@@ -94,6 +96,7 @@ open_allowed n slots id me k inside is free out s q _ at small =
           (λ j up. let a = stand j in let z = r.ended j (omega arith) in let y = z.0 in dite (ℕ_discrete k j)
           (λ (e : k ≡ j). absurd (let t : standing j s.views ≡ 0 = subst (λ (i : ℕ). standing i s.views ≡ 0) e stand_none in omega arith))
           (λ (ne : k ≢ j). let b = weight_other k j ne in let c = sum j in let d = z.1 in (omega arith, omega arith)))
+          (λ j used none_hold. let a = stand j in let b = sum j in let z = r.owed j (omega arith) (omega arith) in omega arith)
           (λ j. let a = show_set n s id v r id v w at j in let b = r.shown j in omega arith)
           (λ j up. let p = r.pledged j up in let p0 = p.0 in let p1 = p.1 in dite (ℕ_discrete k j)
           (λ (e : k ≡ j). absurd (let t : times j v.held ≡ 0 = subst (λ (i : ℕ). times i v.held ≡ 0) e free in omega arith))
@@ -136,6 +139,9 @@ vacate_allowed n slots id me k is ends free s q _ at small =
           (λ j up_j. let a = stand j in let z = r.ended j (omega arith) in dite (ℕ_discrete k j)
           (λ (e : k ≡ j). absurd (let t : stood j v.stands ≡ 1 = subst (λ (i : ℕ). stood i v.stands ≡ 1) e mine_stands in let b = r.stands j in omega arith))
           (λ (ne : k ≢ j). let b = times_without_other j k v.used (λ (e : j ≡ k). ne (sym e)) in let c = z.0 in (omega arith, sum j ∙ z.1)))
+          (λ j used_j none_hold. let a = stand j in let b = sum j in dite (ℕ_discrete k j)
+          (λ (e : k ≡ j). absurd (let t : times j (without k v.used) ≡ 0 = subst (λ (i : ℕ). times i (without k v.used) ≡ 0) e (times_without_same k v.used) in omega arith))
+          (λ (ne : k ≢ j). let c = times_without_other j k v.used (λ (e : j ≡ k). ne (sym e)) in let d : stood j v.stands ≡ 0 = ap (stood j) ends ∙ weight_other k j ne in let z = r.owed j (omega arith) (omega arith) in omega arith))
           (λ j. let a = show_set n s id v r id v w at j in let b = r.shown j in omega arith)
           (λ j up_j. absurd (let a = no_pledge j in omega arith))
           (λ j up_j unlent_j. dite (ℕ_discrete k j)
@@ -195,6 +201,12 @@ release_kept_allowed n slots id me k inside is free bare has s q _ at small =
           (λ (ne : k ≢ j). let o = weight_other k j ne in
           let same : stood j w.stands ≡ 0 = ⊎_elim (λ (t : (x ≡ 1) × (stood j w.stands ≡ weight (eqb k j))). t.1 ∙ o) (λ (t : (x ≢ 1) × (stood j w.stands ≡ 0)). t.1) (stood_after j k x) in
           let y = r.ended j (omega arith) in let d = there j ne in let c = sum j in let z = y.1 in (y.0, omega arith)))
+          (λ j used_j none_hold. let a = stand j in let b = none_before j in dite (ℕ_discrete k j)
+          (λ (e : k ≡ j). subst (λ (i : ℕ). holders i (set s.views id w) ≡ 0 → 0 < standing i (set s.views id w)) e (λ zero_held. let c = sum k in let d = stand k in let o = weight_same k in ⊎_elim
+          (λ (t : (x ≡ 1) × (stood k w.stands ≡ weight (eqb k k))). let f = none_before k in let z = t.1 in omega arith)
+          (λ (t : (x ≢ 1) × (stood k w.stands ≡ 0)). absurd (t.0 (omega arith)))
+          (stood_after k k x)) none_hold)
+          (λ (ne : k ≢ j). let c = there j ne in let d = sum j in let z = r.owed j used_j (omega arith) in omega arith))
           (λ j. let a = show_set n s id v r id v w at j in let b = r.shown j in omega arith)
           (λ j up. absurd (let a = no_pledge j in omega arith))
           (λ j used_j out. dite (ℕ_discrete k j)
@@ -221,6 +233,7 @@ starts n words wide ones =
         made = omega arith;
         stands = λ k. omega arith;
         ended = λ k up. absurd (omega arith);
+        owed = λ k used none_hold. absurd (omega arith);
         bare = refl;
         shown = λ k. omega arith;
         pledged = λ k up. absurd (omega arith);

@@ -51,10 +51,11 @@ pub seat_steps : (n : ℕ) (s : HoldState) (keeper : ℕ) (view : HoldView) (r :
     → ((k : ℕ) → times k view.used ≡ 0 → holders k (set s.views id w) ≡ 0)
     → ((k : ℕ) → standing k (set s.views id w) ≤ 1)
     → ((k : ℕ) → 0 < standing k (set s.views id w) → (0 < times k view.used) × (holders k (set s.views id w) ≡ 0))
+    → ((k : ℕ) → 0 < times k view.used → holders k (set s.views id w) ≡ 0 → 0 < standing k (set s.views id w))
     → ((k : ℕ) → showing k (set s.views id w) ≡ stood k view.pledged)
     → ((k : ℕ) → 0 < times k view.used → times k view.lent ≡ 0 → holders k (set s.views id w) ≡ times k view.held)
     → IsKeptBy n record { words = words; homes = s.homes; views = set s.views id w } keeper view
-seat_steps n s keeper view r id v w words at sits sits' wide once number vacated stands ended shown unlent =
+seat_steps n s keeper view r id v w words at sits sits' wide once number vacated stands ended owed shown unlent =
     let not : v.role ≢ Keeper = λ e. absurd (cc) in
     let other = apart n s keeper view r id v at not in
     let seats = seat_set n s keeper view r id v w at in
@@ -72,6 +73,7 @@ seat_steps n s keeper view r id v w words at sits sits' wide once number vacated
       made = r.made;
       stands = stands;
       ended = ended;
+      owed = owed;
       bare = r.bare;
       shown = shown;
       pledged = r.pledged;
@@ -134,6 +136,7 @@ hold_allowed n slots id me k inside sits shows free s q _ at small =
             (λ j h. let a = same j in let z = r.ended j (omega arith) in dite (ℕ_discrete k j)
             (λ (e : k ≡ j). absurd (let t : 0 < holders j s.views = subst (λ (i : ℕ). 0 < holders i s.views) e p3 in let u = z.1 in omega arith))
             (λ (ne : k ≢ j). let a = weight_other k j ne in let b = sum j in let c = z.1 in (z.0, omega arith)))
+            (λ j used none_hold. let a = same j in let b = sum j in let z = r.owed j used (omega arith) in omega arith)
             (λ j. let a = show_set n s keeper view r id v w at j in let b = r.shown j in omega arith)
             (λ j used out. dite (ℕ_discrete k j)
             (λ (e : k ≡ j). absurd (let t : 0 < times j view.lent = subst (λ (i : ℕ). 0 < times i view.lent) e p1 in omega arith))
@@ -224,6 +227,12 @@ release_allowed n slots id me k inside sits free has s q _ at small =
             (λ (ne : k ≢ j). let o = weight_other k j ne in
             let same : stood j w.stands ≡ 0 = ⊎_elim (λ (t : (x ≡ 1) × (stood j w.stands ≡ weight (eqb k j))). t.1 ∙ o) (λ (t : (x ≢ 1) × (stood j w.stands ≡ 0)). t.1) (stood_after j k x) in
             let y = r.ended j (omega arith) in let d = there j ne in let c = sum j in let z = y.1 in (y.0, omega arith)))
+            (λ j used_j none_hold. let a = stand j in let b = none_before j in dite (ℕ_discrete k j)
+            (λ (e : k ≡ j). subst (λ (i : ℕ). holders i (set s.views id w) ≡ 0 → 0 < standing i (set s.views id w)) e (λ zero_held. let c = sum k in let d = stand k in let o = weight_same k in ⊎_elim
+            (λ (t : (x ≡ 1) × (stood k w.stands ≡ weight (eqb k k))). let f = none_before k in let z = t.1 in omega arith)
+            (λ (t : (x ≢ 1) × (stood k w.stands ≡ 0)). absurd (t.0 (omega arith)))
+            (stood_after k k x)) none_hold)
+            (λ (ne : k ≢ j). let c = there j ne in let d = sum j in let z = r.owed j used_j (omega arith) in omega arith))
             (λ j. let a = show_set n s keeper view r id v w at j in let b = r.shown j in omega arith)
             (λ j used_j out. dite (ℕ_discrete k j)
             (λ (e : k ≡ j). absurd (let c = subst (λ (i : ℕ). times i view.held + times i v.held ≤ holders i s.views) e two in let o = subst (λ (i : ℕ). times i v.held ≡ 1) e once in let d = r.unlent j used_j out in omega arith))

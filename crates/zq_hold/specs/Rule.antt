@@ -61,6 +61,8 @@ pub record IsKeptBy (n : ℕ) (s : HoldState) (keeper : ℕ) (view : HoldView) :
   -- at most one view stands for a slot; nobody holds that slot, and it is not vacated
   pub stands : (k : ℕ) → standing k s.views ≤ 1
   pub ended : (k : ℕ) → 0 < standing k s.views → (0 < times k view.used) × (holders k s.views ≡ 0)
+  -- a slot that is not vacated and that nobody holds has a view that stands for it: who leaves the number 0 has it
+  pub owed : (k : ℕ) → 0 < times k view.used → holders k s.views ≡ 0 → 0 < standing k s.views
   -- one view, which is not the keeper's, shows the pledged slot, and none another; the keeper holds the pledged slot, and it is lent
   pub bare : view.shows ≡ None
   pub shown : (k : ℕ) → showing k s.views ≡ stood k view.pledged

@@ -14,7 +14,9 @@
 //! - `view`: what the keeper, a seat and a `Last` know, which exists in proofs alone
 //!
 //! The rule that holds between any two steps of any threads is `IsKept`, in `specs/Rule.antt`: among others, that the number of a slot is
-//! how many hold it. It is a fact about sums over all views.
+//! how many hold it, and that exactly one view stands for a slot that is not vacated and that nobody holds. It is a fact about sums over
+//! all views. So each step that leaves the number 0 makes its view stand for the slot, until that is split off, for a `Last`, or the
+//! keeper vacates the slot.
 //!
 //! No call waits for another thread, and only `Holds::new` takes memory. Nothing is said of progress: no clause promises that a thread
 //! ever releases what it holds. A seat that is dropped holds what it held.
