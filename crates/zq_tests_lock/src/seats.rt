@@ -3,11 +3,11 @@ ghost use Rattle.std.specs.Prelude.{◌≡◌, [], All, IfOk, IfSome, OnOk, fals
 ghost use Rattle.zq_machine.specs.Calls.{is_sent};
 ghost use Rattle.zq_ties.specs.Holding.{AreHeld};
 
-use crate::given::{parts_of, print_calls, print_leaving};
+use crate::given::{last_part, parts_of, print_calls, print_leaving};
 use std::alloc::Global;
 use std::test::Fail;
 use zq_lock::{HoldSeat, Shared, Slot, StepRefusal, Stepped};
-use zq_machine::call::{Call, Step};
+use zq_machine::call::Call;
 use zq_prints::steps::push_step;
 use zq_slots::{Last, release};
 use zq_ties::LastList;
@@ -20,18 +20,10 @@ const ONE_SLOT: &str = "config 1 10000 north:client local\n\
     ask 1 8 0:s:k all - 0 0 hi 0\n\
     final 0 1\n\
     ask 1 8 0:s:k all - 0 0 hi 0\n\
+    worker\n\
     reply 0 2 0:s:k ok yo\n\
+    worker\n\
     final 0 2\n";
-
-/// What a call gives: its step, if a slot was spare; how many slots it let go last, and how many finals came of these; and the slots
-/// that its seat holds.
-#[derive(Drop)]
-struct Given {
-    step: Option<Step>,
-    lasts: u64,
-    finals: u64,
-    held: Vec<Slot>,
-}
 
 /// Settles what was released last. It says whether a final came of it.
 fn settle_one(shared: &mut Shared, last: Last) -> bool
@@ -58,36 +50,6 @@ fn settle_all(shared: &mut Shared, mut lasts: LastList) -> (u64, u64)
     counts
 }
 
-/// Makes a call, and settles what it released last.
-fn give(alloc: Global, shared: &mut Shared, seat: &mut HoldSeat, call: Call) -> Result<Given, Fail>
-    requires home { seat.old.home ≡ shared.old.slots.keeper.home }
-    requires empty { seat.old.held ≡ [] }
-    ensures home { (seat.new.home ≡ seat.old.home) × (shared.new.slots.keeper.home ≡ shared.old.slots.keeper.home) }
-    ensures held { IfOk result (λ g. AreHeld g.held.items seat.new.held) }
-{
-    if call.is_sent() {
-        return Err(Fail::from("no report"));
-    }
-    match shared.step(seat, call) {
-        Ok(Stepped { step, held, lasts }) => {
-            let (lasts, finals) = settle_all(shared, lasts);
-            Ok(Given {
-                step: Some(step),
-                lasts,
-                finals,
-                held,
-            })
-        }
-        Err(StepRefusal::Full(_)) => Ok(Given {
-            step: None,
-            lasts: 0,
-            finals: 0,
-            held: Vec::new(alloc),
-        }),
-        Err(StepRefusal::OutOfMemory) => Err(Fail::from("memory")),
-    }
-}
-
 fn push_times(print: &mut Vec<u8>, times: u64, line: &str) -> Result<(), Fail> {
     for _i in 0..times {
         print.extend_from_slice(line.as_bytes())?;
@@ -95,14 +57,42 @@ fn push_times(print: &mut Vec<u8>, times: u64, line: &str) -> Result<(), Fail> {
     Ok(())
 }
 
-/// The step or `full`, and then a line `last` for each slot that was let go last, and a line `end` for each final that came of it.
-fn push_given(print: &mut Vec<u8>, given: &Given) -> Result<(), Fail> {
-    match &given.step {
-        Some(step) => push_step(print, step)?,
-        None => print.extend_from_slice(b"full\n")?,
+/// A line `last` for each slot that was let go last, and a line `end` for each final that came of it.
+fn push_counts(print: &mut Vec<u8>, counts: (u64, u64)) -> Result<(), Fail> {
+    push_times(print, counts.0, "last\n")?;
+    push_times(print, counts.1, "end\n")
+}
+
+/// Makes a call, and settles what it released last. It prints the step or `full`, and what was settled, and gives the slots that the
+/// seat holds.
+fn give(
+    alloc: Global,
+    shared: &mut Shared,
+    seat: &mut HoldSeat,
+    print: &mut Vec<u8>,
+    call: Call,
+) -> Result<Vec<Slot>, Fail>
+    requires home { seat.old.home ≡ shared.old.slots.keeper.home }
+    requires empty { seat.old.held ≡ [] }
+    ensures home { (seat.new.home ≡ seat.old.home) × (shared.new.slots.keeper.home ≡ shared.old.slots.keeper.home) }
+    ensures held { IfOk result (λ h. AreHeld h.items seat.new.held) }
+{
+    if call.is_sent() {
+        return Err(Fail::from("no report"));
     }
-    push_times(print, given.lasts, "last\n")?;
-    push_times(print, given.finals, "end\n")
+    match shared.step(seat, call) {
+        Ok(Stepped { step, held, lasts }) => {
+            let counts = settle_all(shared, lasts);
+            push_step(print, &step)?;
+            push_counts(print, counts)?;
+            Ok(held)
+        }
+        Err(StepRefusal::Full(_)) => {
+            print.extend_from_slice(b"full\n")?;
+            Ok(Vec::new(alloc))
+        }
+        Err(StepRefusal::OutOfMemory) => Err(Fail::from("memory")),
+    }
 }
 
 /// Whether a seat that holds these slots holds nothing.
@@ -128,9 +118,8 @@ fn give_all(
     ensures empty { OnOk result (seat.new.held ≡ []) }
 {
     for call in calls {
-        let given = give(alloc, shared, seat, call)?;
-        push_given(print, &given)?;
-        if !holds_nothing(given.held.as_slice(), seat) {
+        let held = give(alloc, shared, seat, print, call)?;
+        if !holds_nothing(held.as_slice(), seat) {
             return Err(Fail::from("nothing in flight"));
         }
     }
@@ -148,28 +137,82 @@ fn let_go(seat: &mut HoldSeat, mut held: Vec<Slot>) -> Option<Last>
     release(seat, slot)
 }
 
-/// The first seat replies, the second ends the request, and the first lets go last; what all this gives, and what is stored.
-fn one_slot(alloc: Global) -> Result<Vec<u8>, Fail> {
-    let (config, mut parts) = parts_of(alloc, ONE_SLOT)?;
-    let mut calls = parts.pop().ok_or("a part")?.into_vec();
-    let (mut shared, mut seats) = Shared::new(alloc, &config, 1, 2)?;
-    let mut one = seats.take().ok_or("a seat")?;
-    let mut two = seats.take().ok_or("a seat")?;
-    let ends = calls.pop().ok_or("a final")?;
-    let replies = calls.pop().ok_or("a reply")?;
-    let mut print = Vec::new(alloc);
-    give_all(alloc, &mut shared, &mut one, &mut print, calls)?;
-    let replied = give(alloc, &mut shared, &mut one, replies)?;
-    push_given(&mut print, &replied)?;
-    let ended = give(alloc, &mut shared, &mut two, ends)?;
-    push_given(&mut print, &ended)?;
-    let last = let_go(&mut one, replied.held).ok_or("the last")?;
+/// Makes the last of the calls. It gives the slots that the seat holds.
+fn give_last(
+    alloc: Global,
+    shared: &mut Shared,
+    seat: &mut HoldSeat,
+    print: &mut Vec<u8>,
+    mut calls: Vec<Call>,
+) -> Result<Vec<Slot>, Fail>
+    requires home { seat.old.home ≡ shared.old.slots.keeper.home }
+    requires empty { seat.old.held ≡ [] }
+    ensures home { OnOk result ((seat.new.home ≡ seat.old.home) × (shared.new.slots.keeper.home ≡ shared.old.slots.keeper.home)) }
+    ensures held { IfOk result (λ h. AreHeld h.items seat.new.held) }
+{
+    let Some(call) = calls.pop() else {
+        return Err(Fail::from("a call"));
+    };
+    give(alloc, shared, seat, print, call)
+}
+
+/// What comes of a slot that was let go last, and what is stored then.
+fn push_end(alloc: Global, shared: &mut Shared, print: &mut Vec<u8>, last: Last) -> Result<(), Fail>
+    requires { last.home ≡ shared.old.slots.keeper.home }
+{
     let Some(end) = shared.settle(last) else {
         return Err(Fail::from("a final"));
     };
     print.extend_from_slice(print_leaving(alloc, &[end])?.as_slice())?;
     print.extend_from_slice(print_calls(alloc, shared.calls())?.as_slice())?;
+    Ok(())
+}
+
+/// The calls of three parts.
+#[derive(Drop)]
+struct Parts {
+    earlier: Vec<Call>,
+    replies: Vec<Call>,
+    ends: Vec<Call>,
+}
+
+/// The first seat replies, the second ends the request, and the first lets go last; what all this gives, and what is stored.
+fn two_seats(
+    alloc: Global,
+    shared: &mut Shared,
+    one: &mut HoldSeat,
+    two: &mut HoldSeat,
+    parts: Parts,
+) -> Result<Vec<u8>, Fail>
+    requires one { (one.old.home ≡ shared.old.slots.keeper.home) × (one.old.held ≡ []) }
+    requires two { (two.old.home ≡ shared.old.slots.keeper.home) × (two.old.held ≡ []) }
+{
+    let mut print = Vec::new(alloc);
+    give_all(alloc, shared, one, &mut print, parts.earlier)?;
+    let held = give_last(alloc, shared, one, &mut print, parts.replies)?;
+    give_last(alloc, shared, two, &mut print, parts.ends)?;
+    let Some(last) = let_go(one, held) else {
+        return Err(Fail::from("the last"));
+    };
+    push_end(alloc, shared, &mut print, last)?;
     Ok(print)
+}
+
+/// The same on a gateway of one slot.
+fn one_slot(alloc: Global) -> Result<Vec<u8>, Fail> {
+    let (config, mut parts) = parts_of(alloc, ONE_SLOT)?;
+    let ends = last_part(&mut parts)?;
+    let replies = last_part(&mut parts)?;
+    let earlier = last_part(&mut parts)?;
+    let (mut shared, mut seats) = Shared::new(alloc, &config, 1, 2)?;
+    let mut one = seats.take().ok_or("a seat")?;
+    let mut two = seats.take().ok_or("a seat")?;
+    let parts = Parts {
+        earlier,
+        replies,
+        ends,
+    };
+    two_seats(alloc, &mut shared, &mut one, &mut two, parts)
 }
 
 #[test]
