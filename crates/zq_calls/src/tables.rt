@@ -37,7 +37,6 @@ use zq_told::ears::Ears;
 /// What a gateway keeps (upstream's `Tables` with its faces): the open faces, a hat for each region,
 /// the gateways that were listed, the open queries, the numbers of keys, what faces ask to hear,
 /// what they were told, and the gates of those that have one.
-#[derive(Drop)]
 pub struct Tables {
     pub(crate) alloc: Global,
     pub(crate) config: Config,
@@ -50,6 +49,24 @@ pub struct Tables {
     pub(crate) interests: Interests,
     pub(crate) ears: Ears,
     pub(crate) gates: FaceGates,
+}
+
+impl Drop for Tables {
+    fn drop(self) {
+        let Tables {
+            alloc,
+            config,
+            faces,
+            next_face,
+            hats,
+            tables,
+            queries,
+            names,
+            interests,
+            ears,
+            gates,
+        } = self;
+    }
 }
 
 impl Model for Tables {

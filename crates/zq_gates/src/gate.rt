@@ -80,10 +80,15 @@ fn space_from(alloc: Global, namespace: &Option<Text>) -> Result<Option<Key>, Ou
 }
 
 /// A face's gate: the keys that it may not ask for, and its exit.
-#[derive(Drop)]
 pub struct FaceGate {
     entry: KeyList,
     exit: Mux,
+}
+
+impl Drop for FaceGate {
+    fn drop(self) {
+        let FaceGate { entry, exit } = self;
+    }
 }
 
 impl Model for FaceGate {

@@ -19,10 +19,15 @@ use zq_message::message::{FaceId, Response, WireExpr};
 use zq_namespace::entry::{reply_behind, wire_behind};
 
 /// The gates of the open faces that have one.
-#[derive(Drop)]
 pub struct FaceGates {
     gates: GateMap,
     alloc: Global,
+}
+
+impl Drop for FaceGates {
+    fn drop(self) {
+        let FaceGates { gates, alloc } = self;
+    }
 }
 
 impl Model for FaceGates {

@@ -31,9 +31,14 @@ use zq_sources::sources::{Source, SourceList};
 
 /// What carries queries between faces. Whatever it keeps, calls made it of a new gateway's, so that
 /// all that holds of every run holds of it.
-#[derive(Drop)]
 pub struct Gateway {
     tables: Tables,
+}
+
+impl Drop for Gateway {
+    fn drop(self) {
+        let Gateway { tables } = self;
+    }
 }
 
 impl Model for Gateway {

@@ -19,7 +19,6 @@ use zq_key::message::{Bound, Mode, NodeId, QueryableInfoType, TextList, Zid};
 use zq_key::text::Text;
 
 /// A face of a hat, with what it declared.
-#[derive(Drop)]
 pub struct HatFace {
     zid: Zid,
     mode: Mode,
@@ -29,6 +28,21 @@ pub struct HatFace {
     initial: bool,
     finalized: BTreeSet<String>,
     nodes: NodeIds,
+}
+
+impl Drop for HatFace {
+    fn drop(self) {
+        let HatFace {
+            zid,
+            mode,
+            remote_bound,
+            declared,
+            last_told,
+            initial,
+            finalized,
+            nodes,
+        } = self;
+    }
 }
 
 impl Model for HatFace {

@@ -61,7 +61,6 @@ use zq_trees::seats::Seats;
 use zq_trees::tellings::same_infos;
 
 /// The hat of a region (upstream's `HatQueriesTrait` and what implements it).
-#[derive(Drop)]
 pub struct Hat {
     region: Region,
     north_mode: Mode,
@@ -73,6 +72,23 @@ pub struct Hat {
     net: Net,
     entries: Entries,
     alloc: Global,
+}
+
+impl Drop for Hat {
+    fn drop(self) {
+        let Hat {
+            region,
+            north_mode,
+            own,
+            told_start,
+            faces,
+            index,
+            seats,
+            net,
+            entries,
+            alloc,
+        } = self;
+    }
 }
 
 impl Model for Hat {

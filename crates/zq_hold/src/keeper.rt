@@ -14,11 +14,16 @@ use std::marker::Model;
 use std::sync::Arc;
 
 /// The keeper of all slots.
-#[derive(Drop)]
 pub struct Keeper {
     pub(crate) table: Arc<CountTable, Global>,
     pub(crate) seat: CountSeat,
     pub(crate) marks: Vec<Mark>,
+}
+
+impl Drop for Keeper {
+    fn drop(self) {
+        let Keeper { table, seat, marks } = self;
+    }
 }
 
 impl Model for Keeper {

@@ -51,10 +51,15 @@ pub fn apart(seat: &mut HoldSeat, last: Last) -> Last
 }
 
 /// The seats that are still to be taken, each of which holds nothing.
-#[derive(Drop)]
 pub struct SeatList {
     pub(crate) table: Arc<CountTable, Global>,
     pub(crate) seats: Vec<HoldSeat>,
+}
+
+impl Drop for SeatList {
+    fn drop(self) {
+        let SeatList { table, seats } = self;
+    }
 }
 
 impl Model for SeatList {

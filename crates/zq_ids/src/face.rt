@@ -24,12 +24,17 @@ use zq_names::{NameRefusal, Names, ResourceId, nonwild};
 /// The ids that a face declared and those that were declared to it, each with the node that it stands for.
 ///
 /// (`FaceState::remote_mappings` and `FaceState::local_mappings`)
-#[derive(Drop)]
 pub struct FaceNames {
     theirs: Ids,
     ours: Ids,
     // each id from 1 on below this one is in use
     free: u16,
+}
+
+impl Drop for FaceNames {
+    fn drop(self) {
+        let FaceNames { theirs, ours, free } = self;
+    }
 }
 
 impl Model for FaceNames {

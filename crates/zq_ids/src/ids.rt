@@ -19,11 +19,20 @@ use zq_names::{NameRefusal, Names, ResourceId};
 use zq_rows::Tree;
 
 // Ids with their nodes, and the ids in the order of their nodes.
-#[derive(Drop)]
 pub(crate) struct Ids {
     nodes: BTreeMap<u16, u64>,
     by_node: Tree,
     alloc: Global,
+}
+
+impl Drop for Ids {
+    fn drop(self) {
+        let Ids {
+            nodes,
+            by_node,
+            alloc,
+        } = self;
+    }
 }
 
 impl Model for Ids {

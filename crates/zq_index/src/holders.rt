@@ -73,10 +73,15 @@ type Rank<P> = ((bool, u16), P);
 
 /// The declarations on one key: their informations by place, and the ranks of these, so that the
 /// merge is the first.
-#[derive(Drop)]
 pub struct Holders<P: Place> {
     infos: BTreeMap<P, QueryableInfoType>,
     ranks: BTreeSet<Rank<P>>,
+}
+
+impl<P: Place> Drop for Holders<P> {
+    fn drop(self) {
+        let Holders { infos, ranks } = self;
+    }
 }
 
 impl<P: Place> Model for Holders<P> {
@@ -243,10 +248,15 @@ impl<P: Place> Holders<P> {
 }
 
 /// The declarations on each key, by the key's text; keys that are not plain are listed, too.
-#[derive(Drop)]
 pub struct KeyHolders<P: Place> {
     keys: BTreeMap<String, Holders<P>>,
     lists: KeyLists,
+}
+
+impl<P: Place> Drop for KeyHolders<P> {
+    fn drop(self) {
+        let KeyHolders { keys, lists } = self;
+    }
 }
 
 impl<P: Place> Model for KeyHolders<P> {

@@ -117,10 +117,15 @@ fn list_text(
 
 /// The declared keys that are not plain; and the mixed ones, of which a chunk goes on to a `$*` behind
 /// other bytes.
-#[derive(Drop)]
 pub struct KeyLists {
     wild: BTreeSet<String>,
     mixed: BTreeSet<String>,
+}
+
+impl Drop for KeyLists {
+    fn drop(self) {
+        let KeyLists { wild, mixed } = self;
+    }
 }
 
 impl Model for KeyLists {

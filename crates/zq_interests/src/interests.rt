@@ -20,10 +20,15 @@ use zq_key::message::FaceId;
 
 /// What each face asks, under which ids; and once more by the texts of keys, so that those who ask for
 /// a key are found without a look at the others.
-#[derive(Drop)]
 pub struct Interests {
     faces: AskedMap,
     shelf: Shelf,
+}
+
+impl Drop for Interests {
+    fn drop(self) {
+        let Interests { faces, shelf } = self;
+    }
 }
 
 impl Model for Interests {

@@ -23,11 +23,16 @@ use zq_key::items::Items;
 use zq_key::memory::OutOfMemory;
 
 /// The places of interests in all keys, and of those in a key by its text.
-#[derive(Drop)]
 pub(crate) struct Shelf {
     all: PlaceSet,
     keyed: KeyedMap,
     lists: KeyLists,
+}
+
+impl Drop for Shelf {
+    fn drop(self) {
+        let Shelf { all, keyed, lists } = self;
+    }
 }
 
 impl Model for Shelf {

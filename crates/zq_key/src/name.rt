@@ -11,9 +11,14 @@ use std::marker::Model;
 use zq_message::memory::OutOfMemory;
 
 /// A text that is a key.
-#[derive(Drop)]
 pub struct Key {
     text: String,
+}
+
+impl Drop for Key {
+    fn drop(self) {
+        let Key { text } = self;
+    }
 }
 
 impl Model for Key {

@@ -39,7 +39,7 @@ fn copy_handed(alloc: Global, handed: &Handed) -> Result<Handed, OutOfMemory>
 }
 
 /// A link in memory: it keeps what it takes, and the sends whose numbers are listed fail.
-#[derive(Debug, Drop)]
+#[derive(Debug)]
 pub struct MemoryLink {
     alloc: Global,
     taken: HandedList,
@@ -47,6 +47,19 @@ pub struct MemoryLink {
     fails: Vec<u64>,
     faults: u64,
     lacks: u64,
+}
+
+impl Drop for MemoryLink {
+    fn drop(self) {
+        let MemoryLink {
+            alloc,
+            taken,
+            sends,
+            fails,
+            faults,
+            lacks,
+        } = self;
+    }
 }
 
 impl MemoryLink {

@@ -27,9 +27,14 @@ use zq_ties::LastList;
 
 /// The shared gateway that the name means, behind a lock, with the books of its stored calls: of those other than requests and reports,
 /// of the requests, and of the calls that found every slot allotted.
-#[derive(Drop)]
 pub struct TablesLock<H: Home, C: Ledger, Q: Ledger, P: Ledger> {
     inner: Mutex<Locked<H, C, Q, P>>,
+}
+
+impl<H: Home, C: Ledger, Q: Ledger, P: Ledger> Drop for TablesLock<H, C, Q, P> {
+    fn drop(self) {
+        let TablesLock { inner } = self;
+    }
 }
 
 impl<H: Home, C: Ledger, Q: Ledger, P: Ledger> TablesLock<H, C, Q, P> {

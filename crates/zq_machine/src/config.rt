@@ -65,12 +65,22 @@ pub enum ConfigRefusal {
 
 /// A valid configuration: the gateway's id, its regions, the timeout in milliseconds of a request
 /// that gives none, and the counters to begin with.
-#[derive(Drop)]
 pub struct Config {
     zid: Zid,
     entries: EntryList,
     timeout: u64,
     start: Counters,
+}
+
+impl Drop for Config {
+    fn drop(self) {
+        let Config {
+            zid,
+            entries,
+            timeout,
+            start,
+        } = self;
+    }
 }
 
 impl Model for Config {

@@ -19,13 +19,25 @@ pub enum Leaves {
 
 /// A message that is given to a face's exit, with the numbers of its request and of its reply, and
 /// what leaves. What leaves as it was handed is kept once.
-#[derive(Debug, Drop)]
+#[derive(Debug)]
 pub struct Handed {
     to: FaceId,
     number: Option<u64>,
     reply: Option<u64>,
     message: Message,
     leaves: Leaves,
+}
+
+impl Drop for Handed {
+    fn drop(self) {
+        let Handed {
+            to,
+            number,
+            reply,
+            message,
+            leaves,
+        } = self;
+    }
 }
 
 impl Model for Handed {

@@ -7,9 +7,15 @@ use std::alloc::Global;
 use std::marker::Model;
 
 /// A text, seen as the list of its bytes. It may share its memory with its copies.
-#[derive(Debug, Drop)]
+#[derive(Debug)]
 pub struct Text {
     inner: Kept<String>,
+}
+
+impl Drop for Text {
+    fn drop(self) {
+        let Text { inner } = self;
+    }
 }
 
 impl Model for Text {
@@ -78,9 +84,15 @@ impl Text {
 }
 
 /// Bytes, seen as a list. They may share their memory with their copies.
-#[derive(Debug, Drop)]
+#[derive(Debug)]
 pub struct Bytes {
     inner: Kept<Vec<u8>>,
+}
+
+impl Drop for Bytes {
+    fn drop(self) {
+        let Bytes { inner } = self;
+    }
 }
 
 impl Model for Bytes {

@@ -29,11 +29,20 @@ use zq_rows::{Seat, Tree};
 /// The texts that stand for something, in order, each with its marks: whether it has a context, how often it is held, and its matches.
 ///
 /// With a text, each part of it that ends before a `/` is there. The root is the empty text. (`Resource`, `Tables::root_res`)
-#[derive(Drop)]
 pub struct Names {
     nodes: Slab<Node>,
     order: Tree,
     alloc: Global,
+}
+
+impl Drop for Names {
+    fn drop(self) {
+        let Names {
+            nodes,
+            order,
+            alloc,
+        } = self;
+    }
 }
 
 impl Model for Names {

@@ -63,10 +63,15 @@ pub fn reply_behind(
 }
 
 /// Puts what a face sends behind its namespace (upstream's `Namespace`).
-#[derive(Drop)]
 pub struct Namespace {
     ns: Key,
     alloc: Global,
+}
+
+impl Drop for Namespace {
+    fn drop(self) {
+        let Namespace { ns, alloc } = self;
+    }
 }
 
 impl Model for Namespace {

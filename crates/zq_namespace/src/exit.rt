@@ -26,13 +26,24 @@ use zq_message::text::Text;
 /// Takes a face's namespace off what is handed to it (upstream's `ENamespace`). Of declarations and
 /// interests that did not leave it keeps numbers, with their texts, and ids, so that what ends them
 /// does not leave either, and what is said under such a number leaves as its whole text.
-#[derive(Drop)]
 pub struct ENamespace {
     ns: Key,
     heads: HeadMap,
     queryables: BTreeSet<u32>,
     interests: BTreeSet<u32>,
     alloc: Global,
+}
+
+impl Drop for ENamespace {
+    fn drop(self) {
+        let ENamespace {
+            ns,
+            heads,
+            queryables,
+            interests,
+            alloc,
+        } = self;
+    }
 }
 
 impl Model for ENamespace {

@@ -18,11 +18,16 @@ use zq_message::memory::OutOfMemory;
 use zq_message::message::Message;
 
 /// A face's exit (upstream's `Mux`): its deny list, and then its namespace, if it has one.
-#[derive(Drop)]
 pub struct Mux {
     space: Option<ENamespace>,
     exit: KeyList,
     alloc: Global,
+}
+
+impl Drop for Mux {
+    fn drop(self) {
+        let Mux { space, exit, alloc } = self;
+    }
 }
 
 impl Model for Mux {

@@ -12,9 +12,14 @@ use std::marker::Model;
 use zq_message::memory::OutOfMemory;
 
 /// A value at each of some numbers.
-#[derive(Drop)]
 pub struct Numbers<V> {
     inner: HashMap<u64, V>,
+}
+
+impl<V: Drop> Drop for Numbers<V> {
+    fn drop(self) {
+        let Numbers { inner } = self;
+    }
 }
 
 impl<V> Model for Numbers<V> {

@@ -49,7 +49,6 @@ pub struct Owed {
 }
 
 /// All open requests, and what is left of each (upstream's `pending_queries` of all faces).
-#[derive(Drop)]
 pub struct Queries {
     alloc: Global,
     heads: Numbers<Open>,
@@ -62,6 +61,24 @@ pub struct Queries {
     requests: u64,
     next_reply: u64,
     request_ids: u32,
+}
+
+impl Drop for Queries {
+    fn drop(self) {
+        let Queries {
+            alloc,
+            heads,
+            pending,
+            dues,
+            replies,
+            last_ids,
+            rising,
+            closed,
+            requests,
+            next_reply,
+            request_ids,
+        } = self;
+    }
 }
 
 impl Model for Queries {

@@ -11,10 +11,15 @@ use zq_key::message::FaceId;
 
 /// Elements for faces, in the order in which they came; each face has its first (upstream's
 /// `RouteBuilder`).
-#[derive(Drop)]
 pub struct RouteBuilder<T> {
     faces: Taken,
     route: Vec<T>,
+}
+
+impl<T: Drop> Drop for RouteBuilder<T> {
+    fn drop(self) {
+        let RouteBuilder { faces, route } = self;
+    }
 }
 
 impl<T> Model for RouteBuilder<T> {

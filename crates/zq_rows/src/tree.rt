@@ -24,9 +24,14 @@ impl Seat {
 }
 
 /// Numbers in a row.
-#[derive(Drop)]
 pub struct Tree {
     top: Link,
+}
+
+impl Drop for Tree {
+    fn drop(self) {
+        let Tree { top } = self;
+    }
 }
 
 impl Model for Tree {

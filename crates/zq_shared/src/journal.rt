@@ -17,12 +17,22 @@ use zq_machine::handed::Handed;
 use zq_query::records::NotInFlight;
 
 /// A gateway beside the calls that were made on it. There is room for the report of each reply that is in flight.
-#[derive(Drop)]
 pub struct Journal {
     config: Config,
     gateway: Gateway,
     calls: Vec<Call>,
     flying: usize,
+}
+
+impl Drop for Journal {
+    fn drop(self) {
+        let Journal {
+            config,
+            gateway,
+            calls,
+            flying,
+        } = self;
+    }
 }
 
 impl Model for Journal {

@@ -22,11 +22,20 @@ use zq_slots::{HoldSeat, Last, NoSlot, SeatList, Slot, Slots};
 use zq_ties::LastList;
 
 /// A gateway beside the calls that were made on it, and the slots of its requests.
-#[derive(Drop)]
 pub struct Shared {
     alloc: Global,
     journal: Journal,
     slots: Slots,
+}
+
+impl Drop for Shared {
+    fn drop(self) {
+        let Shared {
+            alloc,
+            journal,
+            slots,
+        } = self;
+    }
 }
 
 impl Model for Shared {

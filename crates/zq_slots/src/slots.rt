@@ -11,10 +11,15 @@ use std::marker::Model;
 use zq_hold::{HoldSeat, Holds, Keeper, Last, NoSlot, SeatList, Slot, allot, hold, release_kept};
 
 /// The keeper of the slots, with the request that owns each.
-#[derive(Drop)]
 pub struct Slots {
     keeper: Keeper,
     owners: Vec<Option<u64>>,
+}
+
+impl Drop for Slots {
+    fn drop(self) {
+        let Slots { keeper, owners } = self;
+    }
 }
 
 impl Model for Slots {

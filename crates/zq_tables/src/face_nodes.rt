@@ -16,11 +16,20 @@ use zq_key::message::{Mapping, WireExpr};
 use zq_names::{Names, ResourceId};
 
 // The numbers of a face, and the nodes that its queryables and its interests hold, by their ids.
-#[derive(Drop)]
 pub(crate) struct FaceNodes {
     numbers: FaceNames,
     queryables: BTreeMap<u32, u64>,
     interests: BTreeMap<u32, u64>,
+}
+
+impl Drop for FaceNodes {
+    fn drop(self) {
+        let FaceNodes {
+            numbers,
+            queryables,
+            interests,
+        } = self;
+    }
 }
 
 impl Model for FaceNodes {

@@ -28,11 +28,20 @@ use zq_names::{NameRefusal, Names, nonwild};
 
 /// The numbers, the queryables and the interests of every open face, which hold the nodes that they
 /// stand for. An interest without a key holds none. A node goes with its last hold.
-#[derive(Drop)]
 pub struct Naming {
     names: Names,
     faces: Faces,
     alloc: Global,
+}
+
+impl Drop for Naming {
+    fn drop(self) {
+        let Naming {
+            names,
+            faces,
+            alloc,
+        } = self;
+    }
 }
 
 impl Model for Naming {

@@ -15,10 +15,15 @@ use zq_key::message::TextList;
 use zq_key::text::Text;
 
 /// The id given last, and what was told of each key.
-#[derive(Drop)]
 pub(crate) struct Book {
     last: u32,
     slots: Slots,
+}
+
+impl Drop for Book {
+    fn drop(self) {
+        let Book { last, slots } = self;
+    }
 }
 
 impl Model for Book {

@@ -16,9 +16,14 @@ use zq_key::memory::OutOfMemory;
 use zq_key::message::{FaceId, TextList};
 
 /// What each face was told, and the id that it was given last.
-#[derive(Drop)]
 pub struct Ears {
     books: BookMap,
+}
+
+impl Drop for Ears {
+    fn drop(self) {
+        let Ears { books } = self;
+    }
 }
 
 impl Model for Ears {

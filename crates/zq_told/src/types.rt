@@ -41,11 +41,17 @@ pub struct FaceDues {
 pub type Rows = Items<(Text, Option<ToldEntry>)>;
 
 /// What a call leaves of a face: the id given last, and the keys that it looked at.
-#[derive(Debug, Drop)]
+#[derive(Debug)]
 pub struct FacePlan {
     pub(crate) face: FaceId,
     pub(crate) last: u32,
     pub(crate) rows: Rows,
+}
+
+impl Drop for FacePlan {
+    fn drop(self) {
+        let FacePlan { face, last, rows } = self;
+    }
 }
 
 /// What a call leaves of faces.

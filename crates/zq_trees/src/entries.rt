@@ -28,10 +28,15 @@ use zq_key::text::Text;
 pub type StandingList = Items<(Text, QueryableInfoType)>;
 
 /// The entries on each key, seen by the keys' texts; the keys of each router stand beside them.
-#[derive(Drop)]
 pub struct Entries {
     by_key: KeyHolders<u128>,
     by_router: RouterKeys,
+}
+
+impl Drop for Entries {
+    fn drop(self) {
+        let Entries { by_key, by_router } = self;
+    }
 }
 
 impl Model for Entries {

@@ -11,10 +11,15 @@ use zq_key::memory::OutOfMemory;
 use zq_key::message::{NodeId, Zid};
 
 /// A network, seen as it is; the place of each id is kept beside it.
-#[derive(Drop)]
 pub struct Net {
     network: Network,
     places: BTreeMap<u128, usize>,
+}
+
+impl Drop for Net {
+    fn drop(self) {
+        let Net { network, places } = self;
+    }
 }
 
 impl Model for Net {

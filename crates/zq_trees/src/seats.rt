@@ -13,9 +13,14 @@ use zq_key::memory::OutOfMemory;
 use zq_key::message::{FaceId, Zid};
 
 /// The ids of open faces, seen as pairs of an id and a face's number, in order.
-#[derive(Drop)]
 pub struct Seats {
     seats: BTreeSet<(u128, u32)>,
+}
+
+impl Drop for Seats {
+    fn drop(self) {
+        let Seats { seats } = self;
+    }
 }
 
 impl Model for Seats {
