@@ -9,12 +9,12 @@ use prog.Atomic.{either}
 use Rattle.atomic_table.specs.Table.{step, keeps, Allows, opening}
 use Rattle.zq_hold.specs.declared.view.HoldView.{HoldView}
 use Rattle.zq_hold.specs.declared.view.Role.TheVariants.{Keeper}
-use Rattle.zq_hold.specs.Slots.{weight, times, without, stood, below}
+use Rattle.zq_hold.specs.Slots.{weight, times, without, stood, one_slot, below}
 use Rattle.zq_hold.specs.Views.{first_keeper, released, opened, closed}
 use Rattle.zq_hold.specs.Rule.{HoldState, live, holders, standing, showing, IsKeptBy, IsKept}
 use Rattle.zq_hold.specs.Steps.{Mine, ReleasesKept, Opens, Vacates}
 use Rattle.zq_hold.proofs.Totals.{total_one, weight_same, weight_one, weight_other, times_without_same, times_without_other, below_past, below_has}
-use Rattle.zq_hold.proofs.SeatSteps.{few, each_set, hold_set, stand_set, show_set, seat_set, keeper_holds, stood_after}
+use Rattle.zq_hold.proofs.SeatSteps.{few, each_set, hold_set, stand_set, show_set, seat_set, end_set, wait_set, keeper_holds, stood_after, counts_after}
 use Rattle.zq_hold.proofs.Cuts.{keeper_rule, now_there}
 
 -- a step of the keeper
@@ -25,15 +25,19 @@ keeper_steps : (n : ℕ) (s : HoldState) (id : ℕ) (v w : HoldView) (r : IsKept
     → ((k : ℕ) → standing k (set s.views id w) ≤ 1)
     → ((k : ℕ) → 0 < standing k (set s.views id w) → (0 < times k w.used) × (holders k (set s.views id w) ≡ 0))
     → ((k : ℕ) → 0 < times k w.used → holders k (set s.views id w) ≡ 0 → 0 < standing k (set s.views id w))
+    → (w.ended + one_slot v.stands) + v.vacated ≡ (v.ended + one_slot w.stands) + w.vacated
     → ((k : ℕ) → showing k (set s.views id w) ≡ stood k w.pledged)
     → ((k : ℕ) → 0 < stood k w.pledged → (0 < times k w.held) × (0 < times k w.lent))
     → ((k : ℕ) → 0 < times k w.used → times k w.lent ≡ 0 → holders k (set s.views id w) ≡ times k w.held)
     → IsKept n record { words = words; homes = s.homes; views = set s.views id w }
-keeper_steps n s id v w r words leads wide made joined unshown once number vacated stands ended owed shown pledged unlent =
+keeper_steps n s id v w r words leads wide made joined unshown once number vacated stands ended owed counts shown pledged unlent =
     let seats = seat_set n s id v r id v w r.there in
     let one : live v.role ≡ 1 = ap live r.keeps in
     let one' : live w.role ≡ 1 = ap live leads in
     let before = r.seats in
+    let ends = end_set n s id v r id v w r.there in
+    let waits = wait_set n s id v r id v w r.there in
+    let sum = r.counted in
     let most = r.made in (
       id,
       w,
@@ -50,6 +54,8 @@ keeper_steps n s id v w r words leads wide made joined unshown once number vacat
         stands = stands;
         ended = ended;
         owed = owed;
+        counted = omega arith;
+        idle = each_set (λ j u. live u.role ≡ 0 → u.ended ≡ 0) s.views id w (λ dead. absurd (omega arith)) (λ j u _ e. r.idle j u e);
         bare = unshown ∙ r.bare;
         shown = shown;
         pledged = pledged;
@@ -97,6 +103,7 @@ open_allowed n slots id me k inside is free out s q _ at small =
           (λ (e : k ≡ j). absurd (let t : standing j s.views ≡ 0 = subst (λ (i : ℕ). standing i s.views ≡ 0) e stand_none in omega arith))
           (λ (ne : k ≢ j). let b = weight_other k j ne in let c = sum j in let d = z.1 in (omega arith, omega arith)))
           (λ j used none_hold. let a = stand j in let b = sum j in let z = r.owed j (omega arith) (omega arith) in omega arith)
+          refl
           (λ j. let a = show_set n s id v r id v w at j in let b = r.shown j in omega arith)
           (λ j up. let p = r.pledged j up in let p0 = p.0 in let p1 = p.1 in dite (ℕ_discrete k j)
           (λ (e : k ≡ j). absurd (let t : times j v.held ≡ 0 = subst (λ (i : ℕ). times i v.held ≡ 0) e free in omega arith))
@@ -142,6 +149,7 @@ vacate_allowed n slots id me k is ends free s q _ at small =
           (λ j used_j none_hold. let a = stand j in let b = sum j in dite (ℕ_discrete k j)
           (λ (e : k ≡ j). absurd (let t : times j (without k v.used) ≡ 0 = subst (λ (i : ℕ). times i (without k v.used) ≡ 0) e (times_without_same k v.used) in omega arith))
           (λ (ne : k ≢ j). let c = times_without_other j k v.used (λ (e : j ≡ k). ne (sym e)) in let d : stood j v.stands ≡ 0 = ap (stood j) ends ∙ weight_other k j ne in let z = r.owed j (omega arith) (omega arith) in omega arith))
+          (let a : one_slot v.stands ≡ 1 = ap one_slot ends in omega arith)
           (λ j. let a = show_set n s id v r id v w at j in let b = r.shown j in omega arith)
           (λ j up_j. absurd (let a = no_pledge j in omega arith))
           (λ j up_j unlent_j. dite (ℕ_discrete k j)
@@ -207,6 +215,7 @@ release_kept_allowed n slots id me k inside is free bare has s q _ at small =
           (λ (t : (x ≢ 1) × (stood k w.stands ≡ 0)). absurd (t.0 (omega arith)))
           (stood_after k k x)) none_hold)
           (λ (ne : k ≢ j). let c = there j ne in let d = sum j in let z = r.owed j used_j (omega arith) in omega arith))
+          (let a = counts_after k x in let b : one_slot v.stands ≡ 0 = ap one_slot free in omega arith)
           (λ j. let a = show_set n s id v r id v w at j in let b = r.shown j in omega arith)
           (λ j up. absurd (let a = no_pledge j in omega arith))
           (λ j used_j out. dite (ℕ_discrete k j)
@@ -234,6 +243,8 @@ starts n words wide ones =
         stands = λ k. omega arith;
         ended = λ k up. absurd (omega arith);
         owed = λ k used none_hold. absurd (omega arith);
+        counted = omega arith;
+        idle = λ j v e. subst (λ (u : HoldView). live u.role ≡ 0 → u.ended ≡ 0) (at_one j v e).1 (λ _. refl);
         bare = refl;
         shown = λ k. omega arith;
         pledged = λ k up. absurd (omega arith);

@@ -1,5 +1,5 @@
 -- A seat's steps on a slot's word keep the rule.
-use Rattle.std.proofs.Common.{◌≡◌, ◌≢◌, ◌⊎◌, ℕ, ◌+◌, ◌-◌, ◌%◌, ◌^◌, ◌<◌, ◌≤◌, Bool, eqb, cond, List, length, set, get_or, sym, refl, ap, ◌∙◌, subst, inl, inr, ⊎_elim, eq-eqb, ne_eqb, arith, Some, None, length-set, get_or-set_same, get_or-set_other}
+use Rattle.std.proofs.Common.{◌≡◌, ◌≢◌, ◌⊎◌, ℕ, ◌+◌, ◌-◌, ◌%◌, ◌^◌, ◌<◌, ◌≤◌, Bool, true, false, eqb, cond, List, length, set, get_or, sym, refl, ap, ◌∙◌, subst, inl, inr, ⊎_elim, eq-eqb, ne_eqb, arith, Some, None, length-set, get_or-set_same, get_or-set_other}
 use mathlib.Core.Option.{some, none, some-injective}
 use mathlib.Core.Logic.{dite}
 use native.Mathlib.Decide.{ℕ_discrete}
@@ -9,9 +9,9 @@ use lib.Seq.{set-get_or}
 use Rattle.atomic_table.proofs.Lists.{at_set, set_else, set_again}
 use Rattle.zq_hold.specs.declared.view.HoldView.{HoldView}
 use Rattle.zq_hold.specs.declared.view.Role.TheVariants.{Keeper, Seat}
-use Rattle.zq_hold.specs.Slots.{weight, times, stood}
+use Rattle.zq_hold.specs.Slots.{weight, times, stood, one_slot}
 use Rattle.zq_hold.specs.Views.{gained, released}
-use Rattle.zq_hold.specs.Rule.{HoldState, live, holders, standing, showing, seated, IsKeptBy, IsKept}
+use Rattle.zq_hold.specs.Rule.{HoldState, live, holders, standing, showing, seated, endings, outstanding, IsKeptBy, IsKept}
 use Rattle.zq_hold.specs.Steps.{Mine, Gains, Releases, SeesEnd}
 use Rattle.zq_hold.proofs.Totals.{total_set, total_one, total_two, total_le, weight_same, weight_one, weight_other, times_without_same, times_without_other}
 
@@ -44,6 +44,12 @@ module _ (n : ℕ) (s : HoldState) (keeper : ℕ) (view : HoldView) (r : IsKeptB
   pub seat_set : seated (set s.views id w) + live v.role ≡ seated s.views + live w.role
   seat_set = total_set (λ u. live u.role) s.views id v w at
 
+  pub end_set : endings (set s.views id w) + v.ended ≡ endings s.views + w.ended
+  end_set = total_set (λ u. u.ended) s.views id v w at
+
+  pub wait_set : outstanding (set s.views id w) + one_slot v.stands ≡ outstanding s.views + one_slot w.stands
+  wait_set = total_set (λ u. one_slot u.stands) s.views id v w at
+
 -- a seat's step: the premises are the rule's parts at each slot, as omega proves them
 pub seat_steps : (n : ℕ) (s : HoldState) (keeper : ℕ) (view : HoldView) (r : IsKeptBy n s keeper view) (id : ℕ) (v w : HoldView) (words : List ℕ) → get_elem? s.views id ≡ some v → v.role ≡ Seat → w.role ≡ Seat
     → length words ≡ n → ((k : ℕ) → times k w.held ≤ 1)
@@ -52,15 +58,19 @@ pub seat_steps : (n : ℕ) (s : HoldState) (keeper : ℕ) (view : HoldView) (r :
     → ((k : ℕ) → standing k (set s.views id w) ≤ 1)
     → ((k : ℕ) → 0 < standing k (set s.views id w) → (0 < times k view.used) × (holders k (set s.views id w) ≡ 0))
     → ((k : ℕ) → 0 < times k view.used → holders k (set s.views id w) ≡ 0 → 0 < standing k (set s.views id w))
+    → w.ended + one_slot v.stands ≡ v.ended + one_slot w.stands
     → ((k : ℕ) → showing k (set s.views id w) ≡ stood k view.pledged)
     → ((k : ℕ) → 0 < times k view.used → times k view.lent ≡ 0 → holders k (set s.views id w) ≡ times k view.held)
     → IsKeptBy n record { words = words; homes = s.homes; views = set s.views id w } keeper view
-seat_steps n s keeper view r id v w words at sits sits' wide once number vacated stands ended owed shown unlent =
+seat_steps n s keeper view r id v w words at sits sits' wide once number vacated stands ended owed counts shown unlent =
     let not : v.role ≢ Keeper = λ e. absurd (cc) in
     let other = apart n s keeper view r id v at not in
     let seats = seat_set n s keeper view r id v w at in
     let one : live v.role ≡ 1 = ap live sits in
     let one' : live w.role ≡ 1 = ap live sits' in
+    let ends = end_set n s keeper view r id v w at in
+    let waits = wait_set n s keeper view r id v w at in
+    let sum = r.counted in
     let before = r.seats in record {
       wide = wide;
       there = set_else s.views id keeper w other ∙ r.there;
@@ -74,6 +84,8 @@ seat_steps n s keeper view r id v w words at sits sits' wide once number vacated
       stands = stands;
       ended = ended;
       owed = owed;
+      counted = omega arith;
+      idle = each_set (λ j u. live u.role ≡ 0 → u.ended ≡ 0) s.views id w (λ dead. absurd (omega arith)) (λ j u _ e. r.idle j u e);
       bare = r.bare;
       shown = shown;
       pledged = r.pledged;
@@ -137,6 +149,7 @@ hold_allowed n slots id me k inside sits shows free s q _ at small =
             (λ (e : k ≡ j). absurd (let t : 0 < holders j s.views = subst (λ (i : ℕ). 0 < holders i s.views) e p3 in let u = z.1 in omega arith))
             (λ (ne : k ≢ j). let a = weight_other k j ne in let b = sum j in let c = z.1 in (z.0, omega arith)))
             (λ j used none_hold. let a = same j in let b = sum j in let z = r.owed j used (omega arith) in omega arith)
+            refl
             (λ j. let a = show_set n s keeper view r id v w at j in let b = r.shown j in omega arith)
             (λ j used out. dite (ℕ_discrete k j)
             (λ (e : k ≡ j). absurd (let t : 0 < times j view.lent = subst (λ (i : ℕ). 0 < times i view.lent) e p1 in omega arith))
@@ -169,6 +182,14 @@ pub stood_after : (j k x : ℕ) → ((x ≡ 1) × (stood j (cond (eqb x 1) (Some
 stood_after j k x = dite (ℕ_discrete x 1)
     (λ (e : x ≡ 1). inl (e, ap (λ (b : Bool). stood j (cond b (Some k) None)) (eq-eqb x 1 e)))
     (λ (ne : x ≢ 1). inr (ne, ap (λ (b : Bool). stood j (cond b (Some k) None)) (ne_eqb x 1 ne)))
+
+-- a release at the number x counts once where it leaves the view standing
+pub counts_after : (k x : ℕ) → one_slot (cond (eqb x 1) (Some k) None) ≡ weight (eqb x 1)
+counts_after k x = slot_if k (eqb x 1)
+  where
+    slot_if : (k : ℕ) (b : Bool) → one_slot (cond b (Some k) None) ≡ weight b
+    slot_if k true = refl
+    slot_if k false = refl
 
 pub release_allowed : (n slots id : ℕ) (me : Mine) (k : ℕ) → k < n → me.0.role ≡ Seat → me.0.stands ≡ None → 0 < times k me.0.held
     → Allows (IsKept n) slots id me k (λ x. (x + (2 ^ 64 - 1)) % 2 ^ 64) (Releases (step slots k 1 0 none) me)
@@ -233,6 +254,7 @@ release_allowed n slots id me k inside sits free has s q _ at small =
             (λ (t : (x ≢ 1) × (stood k w.stands ≡ 0)). absurd (t.0 (omega arith)))
             (stood_after k k x)) none_hold)
             (λ (ne : k ≢ j). let c = there j ne in let d = sum j in let z = r.owed j used_j (omega arith) in omega arith))
+            (let a = counts_after k x in let b : one_slot v.stands ≡ 0 = ap one_slot free in omega arith)
             (λ j. let a = show_set n s keeper view r id v w at j in let b = r.shown j in omega arith)
             (λ j used_j out. dite (ℕ_discrete k j)
             (λ (e : k ≡ j). absurd (let c = subst (λ (i : ℕ). times i view.held + times i v.held ≤ holders i s.views) e two in let o = subst (λ (i : ℕ). times i v.held ≡ 1) e once in let d = r.unlent j used_j out in omega arith))

@@ -6,7 +6,7 @@ use Rattle.atomic_table.specs.Table.{State}
 use Rattle.zq_hold.specs.declared.view.HoldView.{HoldView}
 use Rattle.zq_hold.specs.declared.view.Role.{Role}
 use Rattle.zq_hold.specs.declared.view.Role.TheVariants.{Keeper, Seat, Pledge, Last, Spent}
-use Rattle.zq_hold.specs.Slots.{times, stood}
+use Rattle.zq_hold.specs.Slots.{times, stood, one_slot}
 
 -- a word for each slot, and all views
 abbrev pub HoldState : Type 0
@@ -41,6 +41,14 @@ showing k = total (λ v. stood k v.shows)
 abbrev pub seated : List HoldView → ℕ
 seated = total (λ v. live v.role)
 
+-- how often all together let a slot go last
+abbrev pub endings : List HoldView → ℕ
+endings = total (λ v. v.ended)
+
+-- how many views stand for some slot
+abbrev pub outstanding : List HoldView → ℕ
+outstanding = total (λ v. one_slot v.stands)
+
 -- the rule of n slots, where the keeper is at that place and has that view
 pub record IsKeptBy (n : ℕ) (s : HoldState) (keeper : ℕ) (view : HoldView) : Type 0 where
   -- there is a word for each slot
@@ -63,6 +71,9 @@ pub record IsKeptBy (n : ℕ) (s : HoldState) (keeper : ℕ) (view : HoldView) :
   pub ended : (k : ℕ) → 0 < standing k s.views → (0 < times k view.used) × (holders k s.views ≡ 0)
   -- a slot that is not vacated and that nobody holds has a view that stands for it: who leaves the number 0 has it
   pub owed : (k : ℕ) → 0 < times k view.used → holders k s.views ≡ 0 → 0 < standing k s.views
+  -- each time that a slot was let go last, the keeper took its `Last` in, or a view stands for it still; the keeper and seats alone count such times
+  pub counted : endings s.views ≡ view.vacated + outstanding s.views
+  pub idle : (j : ℕ) (v : HoldView) → get_elem? s.views j ≡ some v → live v.role ≡ 0 → v.ended ≡ 0
   -- one view, which is not the keeper's, shows the pledged slot, and none another; the keeper holds the pledged slot, and it is lent
   pub bare : view.shows ≡ None
   pub shown : (k : ℕ) → showing k s.views ≡ stood k view.pledged

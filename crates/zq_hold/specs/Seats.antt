@@ -11,15 +11,15 @@ use Rattle.zq_hold.specs.Slots.{times}
 use Rattle.zq_hold.specs.Views.{last_of}
 use Rattle.zq_hold.specs.Marks.{AllMarked}
 
--- a seat: of which holds it is, the slots that it holds, and how many held the slot that it released last, right afterwards
+-- a seat: of which holds it is, the slots that it holds, and how often it let a slot go last
 pub record Holder : Type 0 where
   pub home : TableId
   pub held : List ℕ
-  pub left : ℕ
+  pub ended : ℕ
 
 -- a seat that has not held anything yet
 abbrev pub unused_seat : TableId → Holder
-unused_seat h = record { home = h; held = []; left = 0 }
+unused_seat h = record { home = h; held = []; ended = 0 }
 
 -- seats that are still to be taken: of which holds they are, and how many
 pub record Untaken : Type 0 where
@@ -31,12 +31,13 @@ pub record Ended : Type 0 where
   pub home : TableId
   pub slot : ℕ
 
--- the keeper: of which holds it is, the mark of each slot, the slots that are lent, how many held the slot that it released last, right afterwards, and how many seats were made and how many joined back
+-- the keeper: of which holds it is, the mark of each slot, the slots that are lent, how often it let a slot go last, or a seat did that joined back, how often it vacated a slot, and how many seats were made and how many joined back
 pub record Keeping : Type 0 where
   pub home : TableId
   pub marks : List Mark
   pub lent : List ℕ
-  pub left : ℕ
+  pub ended : ℕ
+  pub vacated : ℕ
   pub made : ℕ
   pub joined : ℕ
 

@@ -22,6 +22,11 @@ abbrev pub stood : ℕ → Option ℕ → ℕ
 stood k None = 0
 stood k (Some x) = weight (eqb x k)
 
+-- 1 where there is a slot, else 0
+abbrev pub one_slot : Option ℕ → ℕ
+one_slot None = 0
+one_slot (Some x) = 1
+
 -- the numbers below n, the greatest first
 abbrev pub below : ℕ → List ℕ
 below zero = []

@@ -18,7 +18,7 @@ impl Holds {
     pub fn new(alloc: Global, slots: u16, seats: u8) -> Result<(Keeper, SeatList), AllocError>
         requires slots { (0 < slots) × (slots ≤ 1024) }
         requires seats { (0 < seats) × (seats ≤ 63) }
-        ensures keeper { IfOk result (λ r. r.0 ≡ record { home = r.0.home; marks = replicate slots Spare; lent = []; left = 0; made = seats; joined = 0 }) }
+        ensures keeper { IfOk result (λ r. r.0 ≡ record { home = r.0.home; marks = replicate slots Spare; lent = []; ended = 0; vacated = 0; made = seats; joined = 0 }) }
         ensures seats { IfOk result (λ r. r.1 ≡ record { home = r.0.home; count = seats }) }
     {
         let words = Vec::from_elem(alloc, 1u64, slots as usize)?;

@@ -32,7 +32,7 @@ impl Model for Keeper {
 
     ghost Value = { Keeping };
 
-    ghost view = { λ k. record { home = k.seat.table_id; marks = k.marks.items; lent = k.seat.me.0.lent; left = k.seat.me.0.left; made = k.seat.me.0.made; joined = k.seat.me.0.joined } };
+    ghost view = { λ k. record { home = k.seat.table_id; marks = k.marks.items; lent = k.seat.me.0.lent; ended = k.seat.me.0.ended; vacated = k.seat.me.0.vacated; made = k.seat.me.0.made; joined = k.seat.me.0.joined } };
 
     ghost invariant = { λ k. IsKeeper k.seat (arc_value k.table).shared k.marks.items };
 }
@@ -76,17 +76,17 @@ impl Keeper {
     pub fn vacate(&mut self, last: Last) -> Slot
         requires { last.home ≡ self.old.home }
         ensures slot { (result.0 ≡ last.slot) × HasMark Gone self.old.marks last.slot }
-        ensures keeper { self.new ≡ record self.old { marks = slice_set self.old.marks last.slot Vacant; lent = without last.slot self.old.lent } }
+        ensures keeper { self.new ≡ record self.old { marks = slice_set self.old.marks last.slot Vacant; lent = without last.slot self.old.lent; vacated = self.old.vacated + 1 } }
     {
         let Keeper { table, seat, marks } = self;
         vacate_slot(&**table, seat, marks.as_mut_slice(), last)
     }
 
-    /// A seat that holds nothing is given back, and is no seat any more.
+    /// A seat that holds nothing is given back, and is no seat any more. What it let go last counts as the keeper's.
     pub fn join(&mut self, seat: HoldSeat)
         requires home { self.old.home ≡ seat.home }
         requires empty { seat.held ≡ [] }
-        ensures { self.new ≡ record self.old { joined = self.old.joined + 1 } }
+        ensures { self.new ≡ record self.old { ended = self.old.ended + seat.ended; joined = self.old.joined + 1 } }
     {
         let Keeper {
             table,
@@ -124,9 +124,9 @@ pub fn hold(keeper: &mut Keeper, seat: &mut HoldSeat, slot: Slot)
 /// The keeper lets the slot go, by one step. `Last` exactly where nobody holds it afterwards, and so always where it is not lent.
 pub fn release_kept(keeper: &mut Keeper, slot: Slot) -> Option<Last>
     requires { HasMark Kept keeper.old.marks slot.0 }
-    ensures keeper { keeper.new ≡ record keeper.old { marks = slice_set keeper.old.marks slot.0 Gone; left = keeper.new.left } }
-    ensures last { IfSome result (λ l. (l ≡ record { home = keeper.old.home; slot = slot.0 }) × (keeper.new.left ≡ 0)) }
-    ensures none { IfNone result ((0 < keeper.new.left) × (0 < times slot.0 keeper.old.lent)) }
+    ensures keeper { keeper.new ≡ record keeper.old { marks = slice_set keeper.old.marks slot.0 Gone; ended = keeper.new.ended } }
+    ensures last { IfSome result (λ l. (l ≡ record { home = keeper.old.home; slot = slot.0 }) × (keeper.new.ended ≡ keeper.old.ended + 1)) }
+    ensures none { IfNone result ((keeper.new.ended ≡ keeper.old.ended) × (0 < times slot.0 keeper.old.lent)) }
 {
     let Keeper { table, seat, marks } = keeper;
     release_marked(&**table, seat, marks.as_mut_slice(), slot)

@@ -16,7 +16,9 @@
 //! The rule that holds between any two steps of any threads is `IsKept`, in `specs/Rule.antt`: among others, that the number of a slot is
 //! how many hold it, and that exactly one view stands for a slot that is not vacated and that nobody holds. It is a fact about sums over
 //! all views. So each step that leaves the number 0 makes its view stand for the slot, until that is split off, for a `Last`, or the
-//! keeper vacates the slot.
+//! keeper vacates the slot. The keeper and each seat count how often they let a slot go last (`ended`), and the sum of these counts is how
+//! many slots the keeper vacated and how many views stand for one: so no view that stands for a slot is lost without a trace, and a
+//! release that tells no `Last` left its count as it was.
 //!
 //! No call waits for another thread, and only `Holds::new` takes memory. Nothing is said of progress: no clause promises that a thread
 //! ever releases what it holds. A seat that is dropped holds what it held.

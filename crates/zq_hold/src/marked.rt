@@ -1,5 +1,5 @@
 //! The steps of the keeper that change a mark, and the search for a mark.
-ghost use Rattle.std.specs.Prelude.{◌≡◌, ◌<◌, IfNone, IfSome, length, slice_set};
+ghost use Rattle.std.specs.Prelude.{◌≡◌, ◌+◌, ◌<◌, IfNone, IfSome, length, slice_set};
 ghost use Rattle.zq_hold.specs.declared.slot.Mark.TheVariants.{Gone, Kept, Vacant};
 ghost use Rattle.zq_hold.specs.Slots.{times};
 ghost use Rattle.zq_hold.specs.Views.{closed, opened};
@@ -47,9 +47,9 @@ pub(crate) fn release_marked(
     requires kept { HasMark Kept marks.old slot.0 }
     ensures keeper { IsKeeper keeper.new table.now.shared marks.new }
     ensures marks { marks.new ≡ slice_set marks.old slot.0 Gone }
-    ensures view { (keeper.new.me.0.lent ≡ keeper.old.me.0.lent) × (keeper.new.me.0.made ≡ keeper.old.me.0.made) × (keeper.new.me.0.joined ≡ keeper.old.me.0.joined) }
-    ensures last { IfSome result (λ l. (l ≡ record { home = table.now.shared.table_id; slot = slot.0 }) × (keeper.new.me.0.left ≡ 0)) }
-    ensures none { IfNone result ((0 < keeper.new.me.0.left) × (0 < times slot.0 keeper.old.me.0.lent)) }
+    ensures view { (keeper.new.me.0.lent ≡ keeper.old.me.0.lent) × (keeper.new.me.0.vacated ≡ keeper.old.me.0.vacated) × (keeper.new.me.0.made ≡ keeper.old.me.0.made) × (keeper.new.me.0.joined ≡ keeper.old.me.0.joined) }
+    ensures last { IfSome result (λ l. (l ≡ record { home = table.now.shared.table_id; slot = slot.0 }) × (keeper.new.me.0.ended ≡ keeper.old.me.0.ended + 1)) }
+    ensures none { IfNone result ((keeper.new.me.0.ended ≡ keeper.old.me.0.ended) × (0 < times slot.0 keeper.old.me.0.lent)) }
 {
     marks[slot.0 as usize] = Mark::Gone;
     let found = table

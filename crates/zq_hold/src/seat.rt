@@ -23,7 +23,7 @@ impl Model for HoldSeat {
 
     ghost Value = { Holder };
 
-    ghost view = { λ s. record { home = s.seat.table_id; held = s.seat.me.0.held; left = s.seat.me.0.left } };
+    ghost view = { λ s. record { home = s.seat.table_id; held = s.seat.me.0.held; ended = s.seat.me.0.ended } };
 
     ghost invariant = { λ s. IsSeat s.seat (arc_value s.table).shared };
 }
@@ -31,9 +31,9 @@ impl Model for HoldSeat {
 /// The seat lets the slot go, by one step. `Last` exactly where nobody holds it afterwards.
 pub fn release(seat: &mut HoldSeat, slot: Slot) -> Option<Last>
     requires { 0 < times slot.0 seat.old.held }
-    ensures seat { seat.new ≡ record seat.old { held = without slot.0 seat.old.held; left = seat.new.left } }
-    ensures last { IfSome result (λ l. (l ≡ record { home = seat.old.home; slot = slot.0 }) × (seat.new.left ≡ 0)) }
-    ensures none { IfNone result (0 < seat.new.left) }
+    ensures seat { seat.new ≡ record seat.old { held = without slot.0 seat.old.held; ended = seat.new.ended } }
+    ensures last { IfSome result (λ l. (l ≡ record { home = seat.old.home; slot = slot.0 }) × (seat.new.ended ≡ seat.old.ended + 1)) }
+    ensures none { IfNone result (seat.new.ended ≡ seat.old.ended) }
 {
     let HoldSeat { table, seat } = seat;
     release_slot(&**table, seat, slot)

@@ -151,7 +151,7 @@ pub struct Leaves;
 impl Join<HoldView> for Leaves {
     ghost use Rattle.zq_hold.specs.Views.{joined_one, nobody};
 
-    ghost both = { λ v _. joined_one v };
+    ghost both = { λ v w. joined_one v w.ended };
 
     ghost spent = { nobody };
 }

@@ -1,5 +1,5 @@
 //! The steps on the table that the keeper and seats make.
-ghost use Rattle.std.specs.Prelude.{◌≡◌, ◌<◌, ◌∷◌, [], IfNone, IfSome};
+ghost use Rattle.std.specs.Prelude.{◌≡◌, ◌+◌, ◌<◌, ◌∷◌, [], IfNone, IfSome};
 ghost use Rattle.zq_hold.specs.Slots.{times, without};
 ghost use Rattle.zq_hold.specs.Views.{joined_one, lends, made_one};
 ghost use Rattle.zq_hold.specs.Seats.{IsKeeperSeat, IsSeat};
@@ -25,7 +25,7 @@ pub(crate) fn make_seat(table: &CountTable, keeper: &mut CountSeat) -> CountSeat
     requires keeper { IsKeeperSeat keeper.old table.now.shared }
     requires room { keeper.old.me.0.made < 63 }
     ensures keeper { IsKeeperSeat keeper.new table.now.shared × (keeper.new.me.0 ≡ made_one keeper.old.me.0) }
-    ensures seat { IsSeat result table.now.shared × (result.me.0.held ≡ []) × (result.me.0.left ≡ 0) }
+    ensures seat { IsSeat result table.now.shared × (result.me.0.held ≡ []) × (result.me.0.ended ≡ 0) }
 {
     table.shared.split_seat::<MakesSeat>(keeper)
 }
@@ -34,7 +34,7 @@ pub(crate) fn make_seat(table: &CountTable, keeper: &mut CountSeat) -> CountSeat
 pub(crate) fn join_seat(table: &CountTable, keeper: &mut CountSeat, seat: CountSeat)
     requires keeper { IsKeeperSeat keeper.old table.now.shared }
     requires seat { IsSeat seat table.now.shared × (seat.me.0.held ≡ []) }
-    ensures { IsKeeperSeat keeper.new table.now.shared × (keeper.new.me.0 ≡ joined_one keeper.old.me.0) }
+    ensures { IsKeeperSeat keeper.new table.now.shared × (keeper.new.me.0 ≡ joined_one keeper.old.me.0 seat.me.0.ended) }
 {
     table.shared.join_seat::<Leaves>(keeper, seat);
 }
@@ -53,7 +53,7 @@ fn hold_named<N: SlotName>(
     requires free { times slot.0 seat.old.me.0.held ≡ 0 }
     requires within { slot.0 < table.now.shared.table_id.words }
     ensures keeper { IsKeeperSeat keeper.new table.now.shared × (keeper.new.me.0 ≡ lends keeper.old.me.0 slot.0) }
-    ensures seat { IsSeat seat.new table.now.shared × (seat.new.me.0.held ≡ slot.0 ∷ seat.old.me.0.held) × (seat.new.me.0.left ≡ seat.old.me.0.left) }
+    ensures seat { IsSeat seat.new table.now.shared × (seat.new.me.0.held ≡ slot.0 ∷ seat.old.me.0.held) × (seat.new.me.0.ended ≡ seat.old.me.0.ended) }
 {
     let pledge = table.shared.split_seat::<Pledges<N>>(keeper);
     table.shared.join_seat::<Shows>(seat, pledge);
@@ -75,7 +75,7 @@ pub(crate) fn hold_slot(
     requires free { times slot.0 seat.old.me.0.held ≡ 0 }
     requires within { slot.0 < table.now.shared.table_id.words }
     ensures keeper { IsKeeperSeat keeper.new table.now.shared × (keeper.new.me.0 ≡ lends keeper.old.me.0 slot.0) }
-    ensures seat { IsSeat seat.new table.now.shared × (seat.new.me.0.held ≡ slot.0 ∷ seat.old.me.0.held) × (seat.new.me.0.left ≡ seat.old.me.0.left) }
+    ensures seat { IsSeat seat.new table.now.shared × (seat.new.me.0.held ≡ slot.0 ∷ seat.old.me.0.held) × (seat.new.me.0.ended ≡ seat.old.me.0.ended) }
 {
     hold_named::<Brand>(table, keeper, seat, slot);
 }
@@ -85,8 +85,8 @@ pub(crate) fn release_slot(table: &CountTable, seat: &mut CountSeat, slot: Slot)
     requires seat { IsSeat seat.old table.now.shared }
     requires held { 0 < times slot.0 seat.old.me.0.held }
     ensures seat { IsSeat seat.new table.now.shared × (seat.new.me.0.held ≡ without slot.0 seat.old.me.0.held) }
-    ensures last { IfSome result (λ l. (l ≡ record { home = table.now.shared.table_id; slot = slot.0 }) × (seat.new.me.0.left ≡ 0)) }
-    ensures none { IfNone result (0 < seat.new.me.0.left) }
+    ensures last { IfSome result (λ l. (l ≡ record { home = table.now.shared.table_id; slot = slot.0 }) × (seat.new.me.0.ended ≡ seat.old.me.0.ended + 1)) }
+    ensures none { IfNone result (seat.new.me.0.ended ≡ seat.old.me.0.ended) }
 {
     let found = table.shared.fetch_sub::<Releases>(seat, slot.0 as usize, 1);
     if found != 1 {
@@ -100,7 +100,7 @@ pub(crate) fn release_slot(table: &CountTable, seat: &mut CountSeat, slot: Slot)
 pub(crate) fn see_end(table: &CountTable, seat: &mut CountSeat, last: Last) -> Last
     requires seat { IsSeat seat.old table.now.shared }
     requires home { last.home ≡ table.now.shared.table_id }
-    ensures seat { IsSeat seat.new table.now.shared × (seat.new.me.0.held ≡ seat.old.me.0.held) × (seat.new.me.0.left ≡ seat.old.me.0.left) }
+    ensures seat { IsSeat seat.new table.now.shared × (seat.new.me.0.held ≡ seat.old.me.0.held) × (seat.new.me.0.ended ≡ seat.old.me.0.ended) }
     ensures last { result ≡ last }
     ensures apart { times last.slot seat.old.me.0.held ≡ 0 }
 {

@@ -26,12 +26,14 @@ pub struct HoldView {
     pub shows: Option<u64>,
     /// The slot that it stands for: its step left the number 0.
     pub stands: Option<u64>,
-    /// How many held the slot that it released last, right afterwards.
-    pub left: u64,
+    /// How often it let a slot go last: its step left the number 0.
+    pub ended: u64,
     /// Of the keeper: how many seats were made.
     pub made: u64,
     /// Of the keeper: how many seats were joined back.
     pub joined: u64,
+    /// Of the keeper: how many `Last`s it took in.
+    pub vacated: u64,
     /// Of the keeper: the slots that are not vacated.
     pub used: LinkedList<u64>,
     /// Of the keeper: the slots that are lent.

@@ -224,15 +224,15 @@ module _ (s : Stored) (m : Slotted) where
     }
 
     -- it is let go
-    module _ (n left : ℕ) (m'' : Slotted) (mark : HasMark Kept m'.keeper.marks i) (owner : owner_at m'.owners i ≡ Some n) (none : waiting s n ≡ 0)
-        (is : m'' ≡ record m' { keeper = record m'.keeper { marks = set m'.keeper.marks i Gone; left = left } }) where
+    module _ (n ended : ℕ) (m'' : Slotted) (mark : HasMark Kept m'.keeper.marks i) (owner : owner_at m'.owners i ≡ Some n) (none : waiting s n ≡ 0)
+        (is : m'' ≡ record m' { keeper = record m'.keeper { marks = set m'.keeper.marks i Gone; ended = ended } }) where
       abbrev gone : Slotted
-      gone = record m' { keeper = record m'.keeper { marks = set m'.keeper.marks i Gone; left = left } }
+      gone = record m' { keeper = record m'.keeper { marks = set m'.keeper.marks i Gone; ended = ended } }
 
       with_lasts : (ls : List Ended) → length ls ≤ i + 1 → All (λ (l : Ended). l.home ≡ m.keeper.home) ls → LetsGo s m m'' ls (i + 1)
       with_lasts ls few home = subst (λ x. LetsGo s m x ls (i + 1)) (sym is) (record {
-        nearly = released_nearly s m' go.nearly i n left mark owner none;
-        slots = ap (λ (x : Slotted). record x { keeper = record x.keeper { marks = set m'.keeper.marks i Gone; left = left } }) go.slots;
+        nearly = released_nearly s m' go.nearly i n ended mark owner none;
+        slots = ap (λ (x : Slotted). record x { keeper = record x.keeper { marks = set m'.keeper.marks i Gone; ended = ended } }) go.slots;
         wide = length-set m'.keeper.marks i Gone ∙ go.wide;
         waits = λ k o inside has owns. (dite (ℕ_discrete k i)
             (λ (e : k ≡ i). (let clash : Gone ≡ Kept = mark_is Kept m'.keeper.marks i Gone mark.0 (subst (λ j. HasMark Kept (set m'.keeper.marks i Gone) j) e has) in absurd (cc)))

@@ -23,7 +23,7 @@ pub record Lends (hs : List Handed) (m m' : Slotted) (seat seat' : Holder) : Typ
 -- of the first slots, i in number, the keeper let go those of requests that wait for nothing; what nobody holds stands in the list
 pub record LetsGo (s : Stored) (m m' : Slotted) (lasts : List Ended) (i : ℕ) : Type 0 where
   pub nearly : IsNearlyTied None s m'
-  pub slots : m' ≡ record m { keeper = record m.keeper { marks = m'.keeper.marks; left = m'.keeper.left } }
+  pub slots : m' ≡ record m { keeper = record m.keeper { marks = m'.keeper.marks; ended = m'.keeper.ended } }
   pub wide : length m'.keeper.marks ≡ length m.keeper.marks
   pub waits : (k n : ℕ) → k < i → HasMark Kept m'.keeper.marks k → owner_at m'.owners k ≡ Some n → 0 < waiting s n
   pub few : length lasts ≤ i

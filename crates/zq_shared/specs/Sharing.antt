@@ -1,5 +1,5 @@
 -- What a step and a settling make of a gateway beside its calls, and of the slots of its requests.
-use Rattle.std.specs.Prelude.{◌≡◌, ◌⊎◌, ℕ, ◌<◌, ◌≤◌, true, List, [], ◌∷◌, ◌++◌, length, map, replicate, slice_set, Option, Some, None}
+use Rattle.std.specs.Prelude.{◌≡◌, ◌⊎◌, ℕ, ◌+◌, ◌<◌, ◌≤◌, true, List, [], ◌∷◌, ◌++◌, length, map, replicate, slice_set, Option, Some, None}
 use Rattle.std.specs.List.{cons_option, list_any}
 use Rattle.std.specs.List.Sorted.{IsStrictlySortedBy}
 use Rattle.std.specs.Ordering.{nat_cmp}
@@ -25,7 +25,7 @@ IsSameHolds old new = (new.keeper.home ≡ old.keeper.home) × (length new.keepe
 
 -- that many slots of these holds, each spare and without an owner, and so many seats made
 abbrev pub all_spare : TableId → ℕ → ℕ → Slotted
-all_spare home n seats = record { keeper = record { home = home; marks = replicate n Spare; lent = []; left = 0; made = seats; joined = 0 }; owners = replicate n None }
+all_spare home n seats = record { keeper = record { home = home; marks = replicate n Spare; lent = []; ended = 0; vacated = 0; made = seats; joined = 0 }; owners = replicate n None }
 
 -- the request that owns the slot has a reply among these messages
 abbrev pub HasReply : List Handed → Slotted → ℕ → Type 0
@@ -99,4 +99,4 @@ Settles (Some n) s answer new = (ks : List ℕ) × Reports s n answer new ks
 
 -- the slot is no longer allotted, owned or lent
 abbrev pub vacated : Slotted → ℕ → Slotted
-vacated m k = record { keeper = record m.keeper { marks = slice_set m.keeper.marks k Vacant; lent = without k m.keeper.lent }; owners = slice_set m.owners k None }
+vacated m k = record { keeper = record m.keeper { marks = slice_set m.keeper.marks k Vacant; lent = without k m.keeper.lent; vacated = m.keeper.vacated + 1 }; owners = slice_set m.owners k None }

@@ -110,7 +110,7 @@ fn release_ended(journal: &Journal, slots: &mut Slots, lasts: &mut LastList, end
     requires none { lasts.old.ended ≡ [] }
     requires room { ends ≡ true → length slots.old.keeper.marks ≤ lasts.old.most }
     ensures tied { IsTied journal.now slots.new }
-    ensures slots { slots.new ≡ record slots.old { keeper = record slots.old.keeper { marks = slots.new.keeper.marks; left = slots.new.keeper.left } } }
+    ensures slots { slots.new ≡ record slots.old { keeper = record slots.old.keeper { marks = slots.new.keeper.marks; ended = slots.new.keeper.ended } } }
     ensures wide { length slots.new.keeper.marks ≡ length slots.old.keeper.marks }
     ensures lasts { All (λ l. l.home ≡ slots.old.keeper.home) lasts.new.ended }
 {

@@ -1,5 +1,5 @@
 //! The keeper of the slots, with the request that owns each.
-ghost use Rattle.std.specs.Prelude.{◌≡◌, ◌<◌, ◌≤◌, ◌∷◌, [], false, true, length, replicate, slice_set, Some, None, IfNone, IfOk, IfSome, OnErr};
+ghost use Rattle.std.specs.Prelude.{◌≡◌, ◌+◌, ◌<◌, ◌≤◌, ◌∷◌, [], false, true, length, replicate, slice_set, Some, None, IfNone, IfOk, IfSome, OnErr};
 ghost use Rattle.zq_hold.specs.declared.slot.Mark.TheVariants.{Gone, Kept, Spare, Vacant};
 ghost use Rattle.zq_hold.specs.Slots.{times, without};
 ghost use Rattle.zq_hold.specs.Marks.{AllAllotted, HasMark, IsNext};
@@ -37,7 +37,7 @@ impl Slots {
     pub fn new(alloc: Global, slots: u16, seats: u8) -> Result<(Slots, SeatList), AllocError>
         requires slots { (0 < slots) × (slots ≤ 1024) }
         requires seats { (0 < seats) × (seats ≤ 63) }
-        ensures slots { IfOk result (λ r. r.0 ≡ record { keeper = record { home = r.0.keeper.home; marks = replicate slots Spare; lent = []; left = 0; made = seats; joined = 0 }; owners = replicate slots None }) }
+        ensures slots { IfOk result (λ r. r.0 ≡ record { keeper = record { home = r.0.keeper.home; marks = replicate slots Spare; lent = []; ended = 0; vacated = 0; made = seats; joined = 0 }; owners = replicate slots None }) }
         ensures seats { IfOk result (λ r. r.1 ≡ record { home = r.0.keeper.home; count = seats }) }
     {
         let owners = no_owners(alloc, slots as usize)?;
@@ -125,9 +125,9 @@ impl Slots {
     /// The keeper lets the slot go, by one step. `Last` exactly where nobody holds it afterwards, and so always where it is not lent.
     pub fn release_kept(&mut self, slot: Slot) -> Option<Last>
         requires { HasMark Kept self.old.keeper.marks slot.0 }
-        ensures keeper { self.new ≡ record self.old { keeper = record self.old.keeper { marks = slice_set self.old.keeper.marks slot.0 Gone; left = self.new.keeper.left } } }
-        ensures last { IfSome result (λ l. (l ≡ record { home = self.old.keeper.home; slot = slot.0 }) × (self.new.keeper.left ≡ 0)) }
-        ensures none { IfNone result ((0 < self.new.keeper.left) × (0 < times slot.0 self.old.keeper.lent)) }
+        ensures keeper { self.new ≡ record self.old { keeper = record self.old.keeper { marks = slice_set self.old.keeper.marks slot.0 Gone; ended = self.new.keeper.ended } } }
+        ensures last { IfSome result (λ l. (l ≡ record { home = self.old.keeper.home; slot = slot.0 }) × (self.new.keeper.ended ≡ self.old.keeper.ended + 1)) }
+        ensures none { IfNone result ((self.new.keeper.ended ≡ self.old.keeper.ended) × (0 < times slot.0 self.old.keeper.lent)) }
     {
         release_kept(&mut self.keeper, slot)
     }
@@ -138,7 +138,7 @@ impl Slots {
         ensures gone { HasMark Gone self.old.keeper.marks last.slot }
         ensures owner { result ≡ owner_at self.old.owners last.slot }
         ensures new { self.new ≡ record {
-          keeper = record self.old.keeper { marks = slice_set self.old.keeper.marks last.slot Vacant; lent = without last.slot self.old.keeper.lent };
+          keeper = record self.old.keeper { marks = slice_set self.old.keeper.marks last.slot Vacant; lent = without last.slot self.old.keeper.lent; vacated = self.old.keeper.vacated + 1 };
           owners = slice_set self.old.owners last.slot None;
         } }
     {

@@ -74,9 +74,9 @@ module _ (s : Stored) (m : Slotted) (t : IsNearlyTied None s m) (k : ℕ) where
       by j true e some = subst (λ i. IsSending s m i) (eqb-true k j e) sending
       by j false e some = t.lent j (omega (arith, some))
 
-  pub released_nearly : (n left : ℕ) → HasMark Kept m.keeper.marks k → owner_at m.owners k ≡ Some n → waiting s n ≡ 0
-      → IsNearlyTied None s (record m { keeper = record m.keeper { marks = set m.keeper.marks k Gone; left = left } })
-  released_nearly n left mark owner none = record {
+  pub released_nearly : (n ended : ℕ) → HasMark Kept m.keeper.marks k → owner_at m.owners k ≡ Some n → waiting s n ≡ 0
+      → IsNearlyTied None s (record m { keeper = record m.keeper { marks = set m.keeper.marks k Gone; ended = ended } })
+  released_nearly n ended mark owner none = record {
     kept = λ j has. (dite (ℕ_discrete j k)
         (λ (e : j ≡ k). (let clash : Gone ≡ Kept = mark_is Kept m.keeper.marks k Gone mark.0 (subst (λ i. HasMark Kept (set m.keeper.marks k Gone) i) e has) in absurd (cc)))
         (λ (ne : j ≢ k). t.kept j (other_mark Kept m.keeper.marks k Gone j ne has)));

@@ -12,7 +12,7 @@ returns-in-Some-release_kept-clause-more c = (λ m go.
     let few = c.if-pending_of-gt0.false in
     let none : waiting c.args.journal.now c.in-Some.number ≡ 0 = omega (arith, counted, few) in
     subst (λ (l : List Ended). LetsGo c.args.journal.now m c.release_kept.new.self l (c.args.slot.0 + 1)) (sym (ap (λ (l : Lasts). l.ended) c.push.ensures))
-    (lets_last c.args.journal.now m c.args.slots.now c.args.lasts.now.ended c.args.slot.0 go c.in-Some.number c.release_kept.new.self.keeper.left c.release_kept.new.self
+    (lets_last c.args.journal.now m c.args.slots.now c.args.lasts.now.ended c.args.slot.0 go c.in-Some.number c.release_kept.new.self.keeper.ended c.release_kept.new.self
     c.in-Some.ensures.some.1 c.in-Some.ensures.some.0 none c.release_kept.ensures.keeper c.in-Some-release_kept.last (ap (λ (l : Ended). l.home) c.in-Some-release_kept.ensures.last.0))))
 
 pub returns-in_default-release_kept-clause-more : goal.returns-in_default-release_kept-clause-more
@@ -20,5 +20,5 @@ returns-in_default-release_kept-clause-more c = (λ m go.
     (let counted = c.pending_of.ensures in
     let few = c.if-pending_of-gt0.false in
     let none : waiting c.args.journal.now c.in-Some.number ≡ 0 = omega (arith, counted, few) in
-    lets_go c.args.journal.now m c.args.slots.now c.args.lasts.now.ended c.args.slot.0 go c.in-Some.number c.release_kept.new.self.keeper.left c.release_kept.new.self
+    lets_go c.args.journal.now m c.args.slots.now c.args.lasts.now.ended c.args.slot.0 go c.in-Some.number c.release_kept.new.self.keeper.ended c.release_kept.new.self
     c.in-Some.ensures.some.1 c.in-Some.ensures.some.0 none c.release_kept.ensures.keeper))
