@@ -16,13 +16,24 @@ use zq_machine::call::{Call, Step};
 use zq_prints::steps::push_step;
 
 /// One that calls a gateway: its seat, what it counts, the calls that it is to make, and the steps of those that it made.
-#[derive(Drop)]
 pub(crate) struct Caller<C: Ledger, Q: Ledger, P: Ledger> {
     pub(crate) alloc: Global,
     pub(crate) seat: HoldSeat,
     pub(crate) tally: Tally<C, Q, P>,
     pub(crate) calls: Vec<Call>,
     pub(crate) print: Vec<u8>,
+}
+
+impl<C: Ledger, Q: Ledger, P: Ledger> Drop for Caller<C, Q, P> {
+    fn drop(self) {
+        let Caller {
+            alloc,
+            seat,
+            tally,
+            calls,
+            print,
+        } = self;
+    }
 }
 
 /// Makes a call that is no report. It gives the step, where it is made and all is sent.

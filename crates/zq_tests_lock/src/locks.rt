@@ -6,6 +6,7 @@ use crate::callers::{Caller, Desk, open_two, print_stored};
 use crate::given::{last_part, parts_of, print_leaving};
 use std::alloc::Global;
 use std::marker::Brand;
+use std::mem;
 use std::sync::Wait;
 use std::sync::ledger::{Blank, Ledger};
 use std::test::Fail;
@@ -93,7 +94,9 @@ fn two_callers<H: Home, C: Ledger, Q: Ledger, P: Ledger, R: Wait>(
     first.calls = parts.0;
     second.calls = parts.1;
     let prints = in_turn_on(rt, alloc, &lock, &mut first, &mut second)?;
-    all_prints(alloc, lock, first.print, second.print, prints)
+    let one = mem::replace(&mut first.print, Vec::new(alloc));
+    let two = mem::replace(&mut second.print, Vec::new(alloc));
+    all_prints(alloc, lock, one, two, prints)
 }
 
 fn prints_of<R: Wait>(rt: &R, alloc: Global) -> Result<Vec<Vec<u8>>, Fail> {
