@@ -28,7 +28,7 @@ pub quiet : (n : ℕ) (s : HoldState) (keeper : ℕ) (view : HoldView) (r : IsKe
     → get_elem? views keeper ≡ some view' → view'.role ≡ Keeper → view'.held ≡ view.held → view'.used ≡ view.used → view'.shows ≡ view.shows
     → ((j : ℕ) (v : HoldView) → get_elem? views j ≡ some v → (v.role ≡ Keeper → j ≡ keeper) × ((k : ℕ) → times k v.held ≤ live v.role) × (live v.role ≡ 0 → v.ended ≡ 0))
     → ((k : ℕ) → holders k views ≡ holders k s.views)
-    → seated views + view'.joined ≤ 1 + view'.made → view'.made ≤ 63
+    → seated views + view'.joined ≡ 1 + view'.made → view'.made ≤ 63
     → ((k : ℕ) → standing k views ≡ standing k s.views)
     → endings views ≡ view'.vacated + outstanding views
     → ((k : ℕ) → showing k views ≡ stood k view'.pledged)
@@ -47,6 +47,7 @@ quiet n s keeper view r view' views there leads held used unshown each same seat
       idle = λ j v e. (each j v e).2;
       number = λ k h. r.number k h ∙ sym (same k);
       vacated = λ k none. same k ∙ r.vacated k (sym (used_same k) ∙ none);
+      within = λ k up. let a = used_same k in r.within k (omega arith);
       seats = seats;
       made = made;
       stands = λ k. let a = stand k in let b = r.stands k in omega arith;

@@ -2,7 +2,7 @@
 use Rattle.std.proofs.Common.{◌≡◌, ◌≢◌, ◌⊎◌, ℕ, zero, suc, ◌+◌, ◌-◌, ◌%◌, ◌^◌, ◌<◌, ◌≤◌, Bool, eqb, List, [], ◌∷◌, length, set, get_or, sym, refl, ap, ◌∙◌, subst, inl, inr, ⊎_elim, eq-eqb, arith, Some, None, length-set, get_or-set_same, get_or-set_other}
 use mathlib.Core.Option.{some, none, some-injective, some-ne-none}
 use mathlib.Core.Logic.{dite}
-use native.Mathlib.Decide.{ℕ_discrete}
+use native.Mathlib.Decide.{ℕ_discrete, dec_lt}
 use lib.ListN.{get_elem?}
 use lib.Seq.{set-get_or}
 use prog.Atomic.{either}
@@ -22,6 +22,7 @@ keeper_steps : (n : ℕ) (s : HoldState) (id : ℕ) (v w : HoldView) (r : IsKept
     → length words ≡ n → w.made ≡ v.made → w.joined ≡ v.joined → w.shows ≡ v.shows → ((k : ℕ) → times k w.held ≤ 1)
     → ((k : ℕ) → k < n → get_or words k 0 ≡ holders k (set s.views id w))
     → ((k : ℕ) → times k w.used ≡ 0 → holders k (set s.views id w) ≡ 0)
+    → ((k : ℕ) → 0 < times k w.used → k < n)
     → ((k : ℕ) → standing k (set s.views id w) ≤ 1)
     → ((k : ℕ) → 0 < standing k (set s.views id w) → (0 < times k w.used) × (holders k (set s.views id w) ≡ 0))
     → ((k : ℕ) → 0 < times k w.used → holders k (set s.views id w) ≡ 0 → 0 < standing k (set s.views id w))
@@ -30,7 +31,7 @@ keeper_steps : (n : ℕ) (s : HoldState) (id : ℕ) (v w : HoldView) (r : IsKept
     → ((k : ℕ) → 0 < stood k w.pledged → (0 < times k w.held) × (0 < times k w.lent))
     → ((k : ℕ) → 0 < times k w.used → times k w.lent ≡ 0 → holders k (set s.views id w) ≡ times k w.held)
     → IsKept n record { words = words; homes = s.homes; views = set s.views id w }
-keeper_steps n s id v w r words leads wide made joined unshown once number vacated stands ended owed counts shown pledged unlent =
+keeper_steps n s id v w r words leads wide made joined unshown once number vacated within stands ended owed counts shown pledged unlent =
     let seats = seat_set n s id v r id v w r.there in
     let one : live v.role ≡ 1 = ap live r.keeps in
     let one' : live w.role ≡ 1 = ap live leads in
@@ -49,6 +50,7 @@ keeper_steps n s id v w r words leads wide made joined unshown once number vacat
         once = each_set (λ j u. (k : ℕ) → times k u.held ≤ live u.role) s.views id w (λ k. let h = once k in omega arith) (λ j u _ e. r.once j u e);
         number = number;
         vacated = vacated;
+        within = within;
         seats = omega arith;
         made = omega arith;
         stands = stands;
@@ -64,10 +66,10 @@ keeper_steps n s id v w r words leads wide made joined unshown once number vacat
     )
 
 -- a slot that a view stands for has the number 0
-quiet_at : (n : ℕ) (s : HoldState) (id : ℕ) (v : HoldView) (r : IsKeptBy n s id v) (k : ℕ) → 0 < holders k s.views → standing k s.views ≡ 0
+pub quiet_at : (n : ℕ) (s : HoldState) (id : ℕ) (v : HoldView) (r : IsKeptBy n s id v) (k : ℕ) → 0 < holders k s.views → standing k s.views ≡ 0
 quiet_at n s id v r k some_hold = dite (ℕ_discrete (standing k s.views) 0) (λ (e : standing k s.views ≡ 0). e) (λ (ne : standing k s.views ≢ 0). let q = r.ended k (omega arith) in let z = q.1 in absurd (omega arith))
 
-used_at : (n : ℕ) (s : HoldState) (id : ℕ) (v : HoldView) (r : IsKeptBy n s id v) (k : ℕ) → 0 < holders k s.views → 0 < times k v.used
+pub used_at : (n : ℕ) (s : HoldState) (id : ℕ) (v : HoldView) (r : IsKeptBy n s id v) (k : ℕ) → 0 < holders k s.views → 0 < times k v.used
 used_at n s id v r k some_hold = dite (ℕ_discrete (times k v.used) 0) (λ (e : times k v.used ≡ 0). let z = r.vacated k e in absurd (omega arith)) (λ (ne : times k v.used ≢ 0). omega arith)
 
 pub open_allowed : (n slots id : ℕ) (me : Mine) (k : ℕ) → k < n → me.0.role ≡ Keeper → times k me.0.held ≡ 0 → times k me.0.used ≡ 0
@@ -98,6 +100,7 @@ open_allowed n slots id me k inside is free out s q _ at small =
           (let a = weight_same k in let b = sum k in get_or-set_same s.words k next 0 (omega arith) ∙ (becomes ∙ omega arith)))
           (λ (ne : k ≢ j). let a = weight_other k j ne in let b = sum j in get_or-set_other s.words k j next 0 (λ (e : j ≡ k). ne (sym e)) ∙ (r.number j h ∙ omega arith)))
           (λ j none_used. let a = sum j in let b = weight_one k j in let c = r.vacated j (omega arith) in omega arith)
+          (λ j up. dite (ℕ_discrete k j) (λ (e : k ≡ j). subst (λ (i : ℕ). i < n) e inside) (λ (ne : k ≢ j). let b = weight_other k j ne in r.within j (omega arith)))
           (λ j. let a = stand j in let b = r.stands j in omega arith)
           (λ j up. let a = stand j in let z = r.ended j (omega arith) in let y = z.0 in dite (ℕ_discrete k j)
           (λ (e : k ≡ j). absurd (let t : standing j s.views ≡ 0 = subst (λ (i : ℕ). standing i s.views ≡ 0) e stand_none in omega arith))
@@ -142,6 +145,9 @@ vacate_allowed n slots id me k is ends free s q _ at small =
           (λ j none_used. sum j ∙ dite (ℕ_discrete k j)
           (λ (e : k ≡ j). subst (λ (i : ℕ). holders i s.views ≡ 0) e none_held)
           (λ (ne : k ≢ j). r.vacated j (sym (times_without_other j k v.used (λ (e : j ≡ k). ne (sym e))) ∙ none_used)))
+          (λ j up_j. dite (ℕ_discrete k j)
+          (λ (e : k ≡ j). absurd (let t : times j (without k v.used) ≡ 0 = subst (λ (i : ℕ). times i (without k v.used) ≡ 0) e (times_without_same k v.used) in omega arith))
+          (λ (ne : k ≢ j). let b = times_without_other j k v.used (λ (e : j ≡ k). ne (sym e)) in r.within j (omega arith)))
           (λ j. let a = stand j in let b = r.stands j in omega arith)
           (λ j up_j. let a = stand j in let z = r.ended j (omega arith) in dite (ℕ_discrete k j)
           (λ (e : k ≡ j). absurd (let t : stood j v.stands ≡ 1 = subst (λ (i : ℕ). stood i v.stands ≡ 1) e mine_stands in let b = r.stands j in omega arith))
@@ -195,6 +201,7 @@ release_kept_allowed n slots id me k inside is free bare has s q _ at small =
           (λ j none_used. dite (ℕ_discrete k j)
           (λ (e : k ≡ j). absurd (let t : 0 < times j v.used = subst (λ (i : ℕ). 0 < times i v.used) e used in omega arith))
           (λ (ne : k ≢ j). let a = there j ne in let b = sum j in let c = r.vacated j none_used in omega arith))
+          r.within
           (λ j. let a = stand j in let b = none_before j in let c = r.stands j in ⊎_elim
           (λ (t : (x ≡ 1) × (stood j w.stands ≡ weight (eqb k j))). dite (ℕ_discrete k j)
           (λ (e : k ≡ j). let y : standing j s.views ≡ 0 = subst (λ (i : ℕ). standing i s.views ≡ 0) e calm in let o = weight_one k j in let z = t.1 in omega arith)
@@ -238,6 +245,7 @@ starts n words wide ones =
         once = λ j v e. subst (λ (u : HoldView). (k : ℕ) → times k u.held ≤ live u.role) (at_one j v e).1 below_most;
         number = λ k h. let a = ones k h in let b = below_has n k h in omega arith;
         vacated = λ k none_used. omega arith;
+        within = λ k up. dite (dec_lt k n) (λ (h : k < n). h) (λ no. absurd (let z = below_past n k (omega arith) in omega arith));
         seats = omega arith;
         made = omega arith;
         stands = λ k. omega arith;

@@ -1,5 +1,5 @@
 -- The keeper's seat and its marks, after each step.
-use Rattle.std.proofs.Common.{◌≡◌, ◌≢◌, ℕ, ◌+◌, ◌-◌, ◌%◌, ◌^◌, ◌<◌, ◌≤◌, cond, eqb, List, [], length, get_or, set, replicate, refl, sym, ap, ◌∙◌, subst, arith, Some, None, eq-eqb, ne_eqb, length-set, get_or-set_same, get_or-set_other}
+use Rattle.std.proofs.Common.{◌≡◌, ◌≢◌, ℕ, ◌+◌, ◌-◌, ◌%◌, ◌^◌, ◌<◌, ◌≤◌, cond, eqb, List, [], length, get_or, set, replicate, refl, sym, ap, ◌∙◌, subst, arith, Some, None, ne_eqb, length-set, get_or-set_same, get_or-set_other}
 use mathlib.Core.Option.{none}
 use mathlib.Core.Logic.{dite}
 use native.Mathlib.Decide.{ℕ_discrete}
@@ -101,13 +101,6 @@ module _ (seat : TableSeat) (table : WordTable) (marks : List Mark) (d : IsKeepe
             (λ (z : times k seat.me.0.lent ≡ 0). absurd (ne (alone z)))
             (λ (z : times k seat.me.0.lent ≢ 0). omega arith),
       )
-
-  -- a release that was the last counts once
-  pub counts_end : (new after : TableSeat) (found : ℕ) → found ≡ 1 → new.me ≡ (released seat.me.0 k found, seat.me.1) → after.me ≡ (record new.me.0 { stands = None }, new.me.1) → after.me.0.ended ≡ seat.me.0.ended + 1
-  counts_end new after found one me me' =
-      let a : after.me.0.ended ≡ new.me.0.ended = ap (λ (m : Mine). m.0.ended) me' in
-      let b : new.me.0.ended ≡ seat.me.0.ended + weight (eqb found 1) = ap (λ (m : Mine). m.0.ended) me in
-      let c : weight (eqb found 1) ≡ 1 = ap weight (eq-eqb found 1 one) in omega arith
 
   pub keeper_ends_asks : (new : TableSeat) (found : ℕ) → new.table_id ≡ seat.table_id → new.me ≡ (released seat.me.0 k found, seat.me.1)
       → (new.table_id ≡ table.table_id) × (0 < table.table_id.words) × Splits (IsKept table.key) new.id new.me.0 (record new.me.0 { stands = None }) (last_of new.me.0.stands)

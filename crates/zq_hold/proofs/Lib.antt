@@ -4,3 +4,4 @@ pub mod Cuts
 pub mod KeeperSteps
 pub mod Seats
 pub mod Keepers
+pub mod Follows

@@ -79,6 +79,7 @@ seat_steps n s keeper view r id v w words at sits sits' wide once number vacated
       once = each_set (λ j u. (k : ℕ) → times k u.held ≤ live u.role) s.views id w (λ k. let h = once k in omega arith) (λ j u _ e. r.once j u e);
       number = number;
       vacated = vacated;
+      within = r.within;
       seats = omega arith;
       made = r.made;
       stands = stands;

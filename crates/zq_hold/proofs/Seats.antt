@@ -1,17 +1,17 @@
 -- What a seat's steps ask of their callers, from what the types keep.
-use Rattle.std.proofs.Common.{◌≡◌, ◌≢◌, ℕ, ◌+◌, ◌-◌, ◌%◌, ◌^◌, ◌<◌, eqb, cond, List, [], sym, ap, ◌∙◌, subst, arith, Some, None, eq-eqb, ne_eqb}
+use Rattle.std.proofs.Common.{◌≡◌, ◌≢◌, ℕ, ◌+◌, ◌-◌, ◌%◌, ◌^◌, ◌<◌, cond, List, [], sym, ap, ◌∙◌, subst, arith, Some, None, eq-eqb, ne_eqb}
 use mathlib.Core.Option.{none}
 use mathlib.Core.Logic.{dite}
 use native.Mathlib.Decide.{ℕ_discrete}
 use Rattle.atomic_table.specs.Table.{step, Allows, Splits, Joins}
 use Rattle.atomic_table.specs.Seated.{TableId}
 use Rattle.zq_hold.specs.declared.view.HoldView.{HoldView}
-use Rattle.zq_hold.specs.Slots.{weight, times, without}
+use Rattle.zq_hold.specs.Slots.{times, without}
 use Rattle.zq_hold.specs.Views.{nobody, last_of, released}
 use Rattle.zq_hold.specs.Rule.{IsKept}
 use Rattle.zq_hold.specs.Steps.{Mine, Releases, SeesEnd}
 use Rattle.zq_hold.specs.Seats.{TableSeat, WordTable, IsSeat, IsLast}
-use Rattle.zq_hold.proofs.Totals.{weight_other, times_without_same, times_without_other}
+use Rattle.zq_hold.proofs.Totals.{times_without_same, times_without_other}
 use Rattle.zq_hold.proofs.SeatSteps.{release_allowed, look_allowed}
 use Rattle.zq_hold.proofs.Cuts.{seat_ends, seat_takes_last}
 
@@ -49,13 +49,6 @@ module _ (seat new : TableSeat) (table : WordTable) (k found : ℕ) (h : IsSeat 
     held_now,
   )
 
-  -- how often the seat let a slot go last, afterwards
-  count_now : new.me.0.ended ≡ seat.me.0.ended + weight (eqb found 1)
-  count_now = ap (λ (v : HoldView). v.ended) view_now
-
-  pub count_same : found ≢ 1 → new.me.0.ended ≡ seat.me.0.ended
-  count_same ne = let a = count_now in let b = weight_other found 1 ne in omega arith
-
   pub ends_asks : (new.table_id ≡ table.table_id) × (0 < table.table_id.words) × Splits (IsKept table.key) new.id new.me.0 (record new.me.0 { stands = None }) (last_of new.me.0.stands)
   ends_asks = (home ∙ h.here, h.some, seat_ends table.key new.id new.me.0 (ap (λ (v : HoldView). v.role) view_now ∙ h.sits))
 
@@ -77,9 +70,6 @@ module _ (seat new : TableSeat) (table : WordTable) (k found : ℕ) (h : IsSeat 
       },
       ap (λ (v : HoldView). v.held) view_after ∙ held_now,
     )
-
-    pub count_more : found ≡ 1 → after.me.0.ended ≡ seat.me.0.ended + 1
-    count_more one = let a = count_now in let b : weight (eqb found 1) ≡ 1 = ap weight (eq-eqb found 1 one) in let c : after.me.0.ended ≡ new.me.0.ended = ap (λ (v : HoldView). v.ended) view_after in omega arith
 
     pub ended_last : 0 < times k seat.me.0.held → found ≡ 1 → IsLast end k × (end.table_id ≡ table.table_id)
     ended_last has one = (

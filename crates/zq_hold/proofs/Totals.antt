@@ -30,6 +30,20 @@ module _ (f : HoldView → ℕ) where
   total_two (x ∷ xs) (suc i) zero v w e d n = let is : f x ≡ f w = ap f (some-injective x w d) in let r = total_one xs i v e in omega arith
   total_two (x ∷ xs) (suc i) (suc j) v w e d n = let r = total_two xs i j v w e d (λ h. n (ap suc h)) in omega arith
 
+  pub total_none : (l : List HoldView) → ((j : ℕ) (u : HoldView) → get_elem? l j ≡ some u → f u ≡ 0) → total f l ≡ 0
+  total_none [] h = refl
+  total_none (x ∷ xs) h = let a = h zero x refl in let r = total_none xs (λ j u e. h (suc j) u e) in omega arith
+
+  -- where all but one are 0
+  pub total_at : (l : List HoldView) (i : ℕ) (v : HoldView) → get_elem? l i ≡ some v → ((j : ℕ) (u : HoldView) → j ≢ i → get_elem? l j ≡ some u → f u ≡ 0) → total f l ≡ f v
+  total_at [] i v e h = absurd (some-ne-none v (sym e))
+  total_at (x ∷ xs) zero v e h = let is : f x ≡ f v = ap f (some-injective x v e) in let r = total_none xs (λ j u d. h (suc j) u (λ c. omega arith) d) in omega arith
+  total_at (x ∷ xs) (suc i) v e h = let a = h zero x (λ c. omega arith) refl in let r = total_at xs i v e (λ j u ne d. h (suc j) u (λ c. ne (omega arith)) d) in omega arith
+
+pub total_both : (f g : HoldView → ℕ) (l : List HoldView) → total (λ v. f v + g v) l ≡ total f l + total g l
+total_both f g [] = refl
+total_both f g (x ∷ xs) = let r = total_both f g xs in omega arith
+
 -- one sum is at most another where each part is
 pub total_le : (f g : HoldView → ℕ) (l : List HoldView) → ((j : ℕ) (v : HoldView) → get_elem? l j ≡ some v → f v ≤ g v) → total f l ≤ total g l
 total_le f g [] h = omega arith

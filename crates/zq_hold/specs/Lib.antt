@@ -4,3 +4,4 @@ pub mod Rule
 pub mod Steps
 pub mod Marks
 pub mod Seats
+pub mod Laws

@@ -63,8 +63,10 @@ pub record IsKeptBy (n : ℕ) (s : HoldState) (keeper : ℕ) (view : HoldView) :
   pub number : (k : ℕ) → k < n → slice_index s.words k ≡ holders k s.views
   -- a slot that someone holds is not vacated
   pub vacated : (k : ℕ) → times k view.used ≡ 0 → holders k s.views ≡ 0
-  -- the seats are at most as many as were made and not joined back, and at most 63 were made
-  pub seats : seated s.views + view.joined ≤ 1 + view.made
+  -- a slot that is not vacated is one of the n
+  pub within : (k : ℕ) → 0 < times k view.used → k < n
+  -- the seats are as many as were made and not joined back, and at most 63 were made
+  pub seats : seated s.views + view.joined ≡ 1 + view.made
   pub made : view.made ≤ 63
   -- at most one view stands for a slot; nobody holds that slot, and it is not vacated
   pub stands : (k : ℕ) → standing k s.views ≤ 1

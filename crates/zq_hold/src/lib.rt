@@ -11,14 +11,15 @@
 //! - `table`: the steps on the table that the keeper and seats make
 //! - `marked`: the steps of the keeper that change a mark
 //! - `steps`: what each step tells the one that makes it, and how views are cut and joined
+//! - `laws`: what follows from the rule: who leaves the number of a slot 0 is told
 //! - `view`: what the keeper, a seat and a `Last` know, which exists in proofs alone
 //!
 //! The rule that holds between any two steps of any threads is `IsKept`, in `specs/Rule.antt`: among others, that the number of a slot is
-//! how many hold it, and that exactly one view stands for a slot that is not vacated and that nobody holds. It is a fact about sums over
-//! all views. So each step that leaves the number 0 makes its view stand for the slot, until that is split off, for a `Last`, or the
-//! keeper vacates the slot. The keeper and each seat count how often they let a slot go last (`ended`), and the sum of these counts is how
-//! many slots the keeper vacated and how many views stand for one: so no view that stands for a slot is lost without a trace, and a
-//! release that tells no `Last` left its count as it was.
+//! how many hold it, and that exactly one view stands for a slot that is not vacated and that nobody holds. The keeper and each seat count
+//! how often they let a slot go last (`ended`), and the sum of these counts is how many slots the keeper vacated and how many views stand
+//! for one. `laws` says what follows for whatever keeps the rule: who leaves the number of a slot 0 stands for the slot, and its count goes
+//! up by one; no cut or join of a seat loses either, and one of the keeper's only where the slot is vacated. A release that answers no
+//! `Last` left its count as it was.
 //!
 //! No call waits for another thread, and only `Holds::new` takes memory. Nothing is said of progress: no clause promises that a thread
 //! ever releases what it holds. A seat that is dropped holds what it held.
@@ -28,6 +29,7 @@ mod allotting;
 mod holds;
 mod keeper;
 mod last;
+mod laws;
 mod marked;
 mod seat;
 mod slot;
@@ -39,5 +41,8 @@ pub use allotting::{NoSlot, allot};
 pub use holds::Holds;
 pub use keeper::{Keeper, hold, release_kept};
 pub use last::Last;
+pub use laws::{
+    counts_settle, entry_is_empty, keeper_step_counts, seat_cut_counts, seat_step_counts, stands_on,
+};
 pub use seat::{HoldSeat, SeatList, apart, release};
 pub use slot::{Mark, Slot};
