@@ -160,7 +160,7 @@ module _ (n : ℕ) (s s' : HoldState) (i : ℕ) (v w : HoldView) (t : IsStep n s
   moved : (f : HoldView → ℕ) → total f s'.views + f v ≡ total f s.views + f w
   moved f = ap (λ (l : List HoldView). total f l + f v) t.views ∙ total_set f s.views i v w t.mine
 
-  now_mine : get_elem? s'.views i ≡ some w
+  pub now_mine : get_elem? s'.views i ≡ some w
   now_mine = ap (λ (l : List HoldView). get_elem? l i) t.views ∙ now_there s.views i v w t.mine
 
   pub step_settles : w.ended + settled v ≡ v.ended + settled w
@@ -183,23 +183,22 @@ module _ (n : ℕ) (s s' : HoldState) (i : ℕ) (v w : HoldView) (t : IsStep n s
       (at_set s.views i k' w view' there) in
       (r, keeper_rule n s' t.after i w now_mine leads)
 
-  pub seat_steps_so : v.role ≡ Seat → (w.role ≡ Seat) × (w.ended + one_slot v.stands ≡ v.ended + one_slot w.stands) × ((k : ℕ) → (w.stands ≡ Some k) ↔ FallsTo v k s s')
-  seat_steps_so sits =
+  pub other_steps : v.role ≢ Keeper → (w.role ≢ Keeper) × (live w.role ≡ live v.role) × (w.ended + one_slot v.stands ≡ v.ended + one_slot w.stands) × ((k : ℕ) → (w.stands ≡ Some k) ↔ FallsTo v k s s')
+  other_steps not =
       let keeper : ℕ = t.before.0 in
       let view : HoldView = t.before.1 in
       let r = t.before.2 in
-      let not : v.role ≢ Keeper = λ e. absurd (cc) in
       let r' = by_other not keeper view r in
       let other = apart n s keeper view r i v t.mine not in
       let not_w : w.role ≢ Keeper = λ e. other (sym (r'.only i w now_mine e)) in
-      let lives : live v.role ≡ 1 = ap live sits in
       let seats = r.seats in
       let seats' = r'.seats in
       let among = moved (λ u. live u.role) in
       let settles = step_settles in
       let none_v = not_cleared v.role v.vacated not in
       let none_w = not_cleared w.role w.vacated not_w in (
-        is_seat w.role (omega arith) not_w,
+        not_w,
+        omega arith,
         omega arith,
         λ k. (
           (λ is. let over = stood_used n s' keeper view r' i w k now_mine is in
@@ -236,7 +235,7 @@ module _ (n : ℕ) (s s' : HoldState) (i : ℕ) (v w : HoldView) (t : IsStep n s
       let r' = t.after.2 in falls n s s' t.before.0 t.after.0 t.before.1 t.after.1 t.before.2 r' k v w (moved (λ u. stood k u.stands)) (used t.after.0 t.after.1 r'.there r'.keeps) f
 
 pub seat_steps : SeatSteps
-seat_steps n s s' i v w t sits = seat_steps_so n s s' i v w t sits
+seat_steps n s s' i v w t sits = let q = other_steps n s s' i v w t (λ e. absurd (cc)) in (is_seat w.role (q.1 ∙ ap live sits) q.0, q.2, q.3)
 
 pub keeper_steps : KeeperSteps
 keeper_steps n s s' i v w t is = keeper_steps_so n s s' i v w t is
@@ -300,34 +299,52 @@ module _ (n : ℕ) (s s' : HoldState) (i : ℕ) (v left right : HoldView) (t : I
       let more = stays n s s' t.before.0 t.after.0 t.before.1 t.after.1 t.before.2 r' k t.words (λ _. used t.after.0 t.after.1 r'.there r'.keeps) in
       let sum = cut_in (λ u. stood k u.stands) in omega arith
 
+  at_cut : (j : ℕ) → get_elem? s'.views j ≡ get_elem? (set s.views i left ++ right ∷ []) j
+  at_cut j = ap (λ (l : List HoldView). get_elem? l j) t.views
+
+  left_at : get_elem? s'.views i ≡ some left
+  left_at = at_cut i ∙ at_longer (set s.views i left) (right ∷ []) i left (now_there s.views i v left t.mine)
+
+  right_at : get_elem? s'.views (length s.views) ≡ some right
+  right_at = at_cut (length s.views) ∙ at_last (set s.views i left) right (length s.views) (length-set s.views i left)
+
+  -- of one that is not the keeper
+  module _ (not : v.role ≢ Keeper) where
+    cut_apart : t.before.0 ≢ i
+    cut_apart = apart n s t.before.0 t.before.1 t.before.2 i v t.mine not
+
+    cut_rule : IsKeptBy n s' t.before.0 t.before.1
+    cut_rule = let r = t.before.2 in
+        keeper_rule n s' t.after t.before.0 t.before.1 (at_cut t.before.0 ∙ at_longer (set s.views i left) (right ∷ []) t.before.0 t.before.1 (set_else s.views i t.before.0 left cut_apart ∙ r.there)) r.keeps
+
+    cut_stood : (k : ℕ) → stood k left.stands + stood k right.stands ≡ stood k v.stands
+    cut_stood k =
+        let more = stays n s s' t.before.0 t.before.0 t.before.1 t.before.1 t.before.2 cut_rule k t.words (λ e. e) in
+        let less = stays n s' s t.before.0 t.before.0 t.before.1 t.before.1 cut_rule t.before.2 k (sym t.words) (λ e. e) in
+        let sum = cut_in (λ u. stood k u.stands) in omega arith
+
+    pub other_cut : (left.role ≢ Keeper) × (right.role ≢ Keeper) × (live left.role + live right.role ≡ live v.role) × (left.ended + right.ended ≡ v.ended) × ((k : ℕ) → stood k left.stands + stood k right.stands ≡ stood k v.stands)
+        × (one_slot left.stands + one_slot right.stands ≡ one_slot v.stands)
+    other_cut =
+        let r = t.before.2 in
+        let r' = cut_rule in
+        let not_left : left.role ≢ Keeper = λ e. cut_apart (sym (r'.only i left left_at e)) in
+        let not_right : right.role ≢ Keeper = λ e. let same = r'.only (length s.views) right right_at e in let less = in_views s.views t.before.0 t.before.1 r.there in omega arith in
+        let seats = r.seats in
+        let seats' = r'.seats in
+        let among = cut_in (λ u. live u.role) in
+        let slots = same_slots left.stands right.stands v.stands None (λ k. let e = cut_stood k in omega arith) in
+        let settles = cut_settles in
+        let none_v = not_cleared v.role v.vacated not in
+        let none_left = not_cleared left.role left.vacated not_left in
+        let none_right = not_cleared right.role right.vacated not_right in
+        (not_left, not_right, omega arith, omega arith, cut_stood, omega arith)
+
   pub seat_cut : v.role ≡ Seat → (OneSeat left right v.ended ⊎ OneSeat right left v.ended) × ((k : ℕ) → stood k left.stands + stood k right.stands ≡ stood k v.stands)
   seat_cut sits =
-      let keeper : ℕ = t.before.0 in
-      let view : HoldView = t.before.1 in
-      let r = t.before.2 in
-      let not : v.role ≢ Keeper = λ e. absurd (cc) in
-      let other = apart n s keeper view r i v t.mine not in
-      let at : (j : ℕ) → get_elem? s'.views j ≡ get_elem? (set s.views i left ++ right ∷ []) j = λ j. ap (λ (l : List HoldView). get_elem? l j) t.views in
-      let r' : IsKeptBy n s' keeper view = keeper_rule n s' t.after keeper view (at keeper ∙ at_longer (set s.views i left) (right ∷ []) keeper view (set_else s.views i keeper left other ∙ r.there)) r.keeps in
-      let len : ℕ = length s.views in
-      let left_at : get_elem? s'.views i ≡ some left = at i ∙ at_longer (set s.views i left) (right ∷ []) i left (now_there s.views i v left t.mine) in
-      let right_at : get_elem? s'.views len ≡ some right = at len ∙ at_last (set s.views i left) right len (length-set s.views i left) in
-      let not_left : left.role ≢ Keeper = λ e. other (sym (r'.only i left left_at e)) in
-      let not_right : right.role ≢ Keeper = λ e. let same = r'.only len right right_at e in let less = in_views s.views keeper view r.there in omega arith in
-      let lives : live v.role ≡ 1 = ap live sits in
-      let seats = r.seats in
-      let seats' = r'.seats in
-      let among = cut_in (λ u. live u.role) in
-      let kept : (k : ℕ) → stood k left.stands + stood k right.stands ≡ stood k v.stands = λ k.
-      let more = stays n s s' keeper keeper view view r r' k t.words (λ e. e) in
-      let less = stays n s' s keeper keeper view view r' r k (sym t.words) (λ e. e) in
-      let sum = cut_in (λ u. stood k u.stands) in omega arith in
-      let slots = same_slots left.stands right.stands v.stands None (λ k. let e = kept k in omega arith) in
-      let settles = cut_settles in
-      let none_v = not_cleared v.role v.vacated not in
-      let none_left = not_cleared left.role left.vacated not_left in
-      let none_right = not_cleared right.role right.vacated not_right in
-      (one_seat left right v.ended (omega arith) not_left not_right (r'.idle i left left_at) (r'.idle len right right_at) (omega arith), kept)
+      let q = other_cut (λ e. absurd (cc)) in
+      let r' = t.after.2 in
+      (one_seat left right v.ended (q.2 ∙ ap live sits) q.0 q.1 (r'.idle i left left_at) (r'.idle (length s.views) right right_at) q.3, q.4)
 
 -- ---- joins
 
@@ -347,37 +364,61 @@ module _ (n : ℕ) (s s' : HoldState) (i j : ℕ) (v w both spent : HoldView) (t
       let more = stays n s s' t.before.0 t.after.0 t.before.1 t.after.1 t.before.2 r' k t.words (λ _. used t.after.0 t.after.1 r'.there r'.keeps) in
       let sum = join_in (λ u. stood k u.stands) in omega arith
 
+  at_join : (m : ℕ) → get_elem? s'.views m ≡ get_elem? (set (set s.views i both) j spent) m
+  at_join m = ap (λ (l : List HoldView). get_elem? l m) t.views
+
+  both_at : get_elem? s'.views i ≡ some both
+  both_at = at_join i ∙ (set_else (set s.views i both) j i spent (λ e. t.apart (sym e)) ∙ now_there s.views i v both t.mine)
+
+  spent_at : get_elem? s'.views j ≡ some spent
+  spent_at = at_join j ∙ now_there (set s.views i both) j w spent there
+
+  -- of two that are not the keeper
+  module _ (not : v.role ≢ Keeper) (not_w : w.role ≢ Keeper) where
+    join_apart : t.before.0 ≢ i
+    join_apart = apart n s t.before.0 t.before.1 t.before.2 i v t.mine not
+
+    join_apart_w : t.before.0 ≢ j
+    join_apart_w = apart n s t.before.0 t.before.1 t.before.2 j w t.other not_w
+
+    join_rule : IsKeptBy n s' t.before.0 t.before.1
+    join_rule = let r = t.before.2 in
+        keeper_rule n s' t.after t.before.0 t.before.1 (at_join t.before.0 ∙ (set_else (set s.views i both) j t.before.0 spent join_apart_w ∙ (set_else s.views i t.before.0 both join_apart ∙ r.there))) r.keeps
+
+    join_stood : (k : ℕ) → stood k both.stands + stood k spent.stands ≡ stood k v.stands + stood k w.stands
+    join_stood k =
+        let more = stays n s s' t.before.0 t.before.0 t.before.1 t.before.1 t.before.2 join_rule k t.words (λ e. e) in
+        let less = stays n s' s t.before.0 t.before.0 t.before.1 t.before.1 join_rule t.before.2 k (sym t.words) (λ e. e) in
+        let sum = join_in (λ u. stood k u.stands) in omega arith
+
+    pub other_join : (both.role ≢ Keeper) × (spent.role ≢ Keeper) × (live both.role + live spent.role ≡ live v.role + live w.role) × (both.ended + spent.ended ≡ v.ended + w.ended)
+        × ((k : ℕ) → stood k both.stands + stood k spent.stands ≡ stood k v.stands + stood k w.stands) × (one_slot both.stands + one_slot spent.stands ≡ one_slot v.stands + one_slot w.stands)
+    other_join =
+        let r = t.before.2 in
+        let r' = join_rule in
+        let not_both : both.role ≢ Keeper = λ e. join_apart (sym (r'.only i both both_at e)) in
+        let not_spent : spent.role ≢ Keeper = λ e. join_apart_w (sym (r'.only j spent spent_at e)) in
+        let seats = r.seats in
+        let seats' = r'.seats in
+        let among = join_in (λ u. live u.role) in
+        let slots = same_slots both.stands spent.stands v.stands w.stands join_stood in
+        let settles = join_settles in
+        let none_v = not_cleared v.role v.vacated not in
+        let none_w = not_cleared w.role w.vacated not_w in
+        let none_both = not_cleared both.role both.vacated not_both in
+        let none_spent = not_cleared spent.role spent.vacated not_spent in
+        (not_both, not_spent, omega arith, omega arith, join_stood, slots)
+
   pub seat_join : v.role ≡ Seat → live w.role ≡ 0 → (OneSeat both spent v.ended ⊎ OneSeat spent both v.ended) × ((k : ℕ) → stood k both.stands + stood k spent.stands ≡ stood k v.stands + stood k w.stands)
   seat_join sits dead =
-      let keeper : ℕ = t.before.0 in
-      let view : HoldView = t.before.1 in
-      let r = t.before.2 in
-      let not : v.role ≢ Keeper = λ e. absurd (cc) in
-      let not_w : w.role ≢ Keeper = λ e. let alive : live w.role ≡ 1 = ap live e in omega arith in
-      let other = apart n s keeper view r i v t.mine not in
-      let other_w = apart n s keeper view r j w t.other not_w in
-      let at : (m : ℕ) → get_elem? s'.views m ≡ get_elem? (set (set s.views i both) j spent) m = λ m. ap (λ (l : List HoldView). get_elem? l m) t.views in
-      let r' : IsKeptBy n s' keeper view = keeper_rule n s' t.after keeper view (at keeper ∙ (set_else (set s.views i both) j keeper spent other_w ∙ (set_else s.views i keeper both other ∙ r.there))) r.keeps in
-      let both_at : get_elem? s'.views i ≡ some both = at i ∙ (set_else (set s.views i both) j i spent (λ e. t.apart (sym e)) ∙ now_there s.views i v both t.mine) in
-      let spent_at : get_elem? s'.views j ≡ some spent = at j ∙ now_there (set s.views i both) j w spent there in
-      let not_both : both.role ≢ Keeper = λ e. other (sym (r'.only i both both_at e)) in
-      let not_spent : spent.role ≢ Keeper = λ e. other_w (sym (r'.only j spent spent_at e)) in
+      let q = other_join (λ e. absurd (cc)) (λ e. let alive : live w.role ≡ 1 = ap live e in omega arith) in
       let lives : live v.role ≡ 1 = ap live sits in
-      let seats = r.seats in
-      let seats' = r'.seats in
-      let among = join_in (λ u. live u.role) in
-      let kept : (k : ℕ) → stood k both.stands + stood k spent.stands ≡ stood k v.stands + stood k w.stands = λ k.
-      let more = stays n s s' keeper keeper view view r r' k t.words (λ e. e) in
-      let less = stays n s' s keeper keeper view view r' r k (sym t.words) (λ e. e) in
-      let sum = join_in (λ u. stood k u.stands) in omega arith in
-      let slots = same_slots both.stands spent.stands v.stands w.stands kept in
-      let settles = join_settles in
-      let none_v = not_cleared v.role v.vacated not in
-      let none_w = not_cleared w.role w.vacated not_w in
-      let none_both = not_cleared both.role both.vacated not_both in
-      let none_spent = not_cleared spent.role spent.vacated not_spent in
+      let one = q.2 in
+      let counts = q.3 in
+      let r = t.before.2 in
+      let r' = t.after.2 in
       let idle_w = r.idle j w t.other dead in
-      (one_seat both spent v.ended (omega arith) not_both not_spent (r'.idle i both both_at) (r'.idle j spent spent_at) (omega arith), kept)
+      (one_seat both spent v.ended (omega arith) q.0 q.1 (r'.idle i both both_at) (r'.idle j spent spent_at) (omega arith), q.4)
 
 -- ---- entries
 
