@@ -13,19 +13,27 @@ use Rattle.zq_hold.specs.declared.view.Role.TheVariants.{Keeper, Seat, Pledge, L
 use Rattle.zq_hold.specs.Slots.{weight, times, stood, one_slot}
 use Rattle.zq_hold.specs.Rule.{HoldState, live, total, holders, standing, endings, outstanding, IsKeptBy, IsKept}
 use Rattle.zq_hold.specs.Laws.{IsStep, IsCut, IsJoin, FallsTo, InUse, OneSeat, SeatLeavesZero, SeatLeavesNone, SeatSteps, EntryIsEmpty, KeeperLeavesZero, KeeperLeavesNone, KeeperSteps, cleared, settled}
-use Rattle.zq_hold.proofs.Totals.{total_set, total_snoc, total_one, total_at, total_both, weight_same, weight_other}
+use Rattle.zq_hold.proofs.Totals.{total_set, total_snoc, total_one, total_at, total_both, weight_same, weight_one, weight_other}
 use Rattle.zq_hold.proofs.SeatSteps.{apart}
 use Rattle.zq_hold.proofs.Cuts.{keeper_rule, now_there, total_split, total_join}
 use Rattle.zq_hold.proofs.KeeperSteps.{quiet_at, used_at}
 
 -- ---- slots and roles
 
-stands_for : (k : ℕ) (o : Option ℕ) → 0 < stood k o → o ≡ Some k
+pub stands_for : (k : ℕ) (o : Option ℕ) → 0 < stood k o → o ≡ Some k
 stands_for k None up = absurd (omega arith)
 stands_for k (Some x) up = dite (ℕ_discrete x k) (λ (e : x ≡ k). ap Some e) (λ (ne : x ≢ k). absurd (let z = weight_other x k ne in omega arith))
 
-stood_one : (k : ℕ) (o : Option ℕ) → o ≡ Some k → stood k o ≡ 1
+pub stood_one : (k : ℕ) (o : Option ℕ) → o ≡ Some k → stood k o ≡ 1
 stood_one k o e = ap (stood k) e ∙ weight_same k
+
+pub stood_less : (k : ℕ) (o : Option ℕ) → stood k o ≤ one_slot o
+stood_less k None = omega arith
+stood_less k (Some x) = weight_one x k
+
+pub stood_most : (k : ℕ) (o : Option ℕ) → stood k o ≤ 1
+stood_most k None = omega arith
+stood_most k (Some x) = weight_one x k
 
 for_none : (o : Option ℕ) → ((k : ℕ) → o ≢ Some k) → o ≡ None
 for_none None not = refl
@@ -80,7 +88,7 @@ one_seat a b count one not_a not_b idle_a idle_b sum = dite (ℕ_discrete (live 
 in_words : (l : List ℕ) (k : ℕ) → 0 < slice_index l k → k < length l
 in_words l k up = dite (dec_lt k (length l)) (λ (h : k < length l). h) (λ no. absurd (let z = get_or_past l k 0 (omega arith) in omega arith))
 
-in_views : (l : List HoldView) (i : ℕ) (v : HoldView) → get_elem? l i ≡ some v → i < length l
+pub in_views : (l : List HoldView) (i : ℕ) (v : HoldView) → get_elem? l i ≡ some v → i < length l
 in_views [] i v e = absurd (some-ne-none v (sym e))
 in_views (x ∷ xs) zero v e = omega arith
 in_views (x ∷ xs) (suc i) v e = let r = in_views xs i v e in omega arith

@@ -5,3 +5,4 @@ pub mod KeeperSteps
 pub mod Seats
 pub mod Keepers
 pub mod Follows
+pub mod Histories

@@ -5,3 +5,4 @@ pub mod Steps
 pub mod Marks
 pub mod Seats
 pub mod Laws
+pub mod Histories

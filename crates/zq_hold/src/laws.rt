@@ -1,4 +1,5 @@
 //! What follows from the rule of counted holds alone, as the contracts of calls: who leaves the number of a slot 0 is told.
+ghost use Rattle.zq_hold.specs.Histories.{SeatHasCounted, SeatIsTold};
 ghost use Rattle.zq_hold.specs.Laws.{
   CutSettles,
   CutStands,
@@ -58,4 +59,11 @@ pub fn stands_on()
 /// A view that enters the table counts nothing, stands for nothing, and leaves no number 0.
 pub fn entry_is_empty()
     ensures { EntryIsEmpty }
+{}
+
+/// Whatever a seat does with its own views, while others do what they do: once it left the number of a slot 0, its count is greater than it
+/// was for as long as that number is 0; and at any time its count is what it was, and as many more as its views stand for slots.
+pub fn seat_is_told()
+    ensures told { SeatIsTold }
+    ensures counted { SeatHasCounted }
 {}
