@@ -29,7 +29,7 @@ use Rattle.zq_ties.proofs.Holding.{has_owner}
 use Rattle.zq_ties.proofs.Moves.{waits_still}
 use Rattle.zq_ties.proofs.Ties.{counted_set, mark_is, other_mark, zero_if}
 use Rattle.zq_shared.specs.Keeping.{KeepsOthers, KeepsTies, Reported}
-use Rattle.zq_shared.specs.Sharing.{AreDue, KeepsFlights, Reports, reports, vacated, with_reports}
+use Rattle.zq_shared.specs.Sharing.{AreDue, KeepsFlights, Reports, reports, slot_vacated, with_reports}
 use Rattle.zq_shared.proofs.Reporting.{landed, other_stays, report_keeps}
 use Rattle.zq_shared.proofs.Due.{due_append, due_report}
 
@@ -148,7 +148,7 @@ module _ (s : Stored) (m : Slotted) (t : IsTied s m) (k : ℕ) (mark : HasMark G
   not_gone j kept e = let clash : Kept ≡ Gone = sym kept.1 ∙ (ap (mark_at m.keeper.marks) e ∙ mark.1) in absurd (cc)
 
   -- tied but for the one whose slot it was
-  vacated_nearly : (but : Option ℕ) → ((n : ℕ) → IsOpen s n → 0 < owned n (set m.owners k None) + stood n but) → IsNearlyTied but s (vacated m k)
+  vacated_nearly : (but : Option ℕ) → ((n : ℕ) → IsOpen s n → 0 < owned n (set m.owners k None) + stood n but) → IsNearlyTied but s (slot_vacated m k)
   vacated_nearly but opened = record {
     kept = λ j has. (let old = other Kept j (λ e. cc) has in let was = t.nearly.kept j old.1 in (was.0, still_owner j was.0 old.0 was.1));
     gone = λ j n has owner. (let old = other Gone j (λ e. cc) has in let owns = other_owner j n owner in t.nearly.gone j n old.1 owns.1);
@@ -160,7 +160,7 @@ module _ (s : Stored) (m : Slotted) (t : IsTied s m) (k : ℕ) (mark : HasMark G
     used = (let set = counted_set m.keeper.marks k Vacant mark.0 in let was = ap {B = ℕ} (λ w. cond (is_used w) 1 0) mark.1 in let few = t.nearly.used in omega (arith, set, was, few));
   }
 
-  vacated_waits : AreWaiting s (vacated m k)
+  vacated_waits : AreWaiting s (slot_vacated m k)
   vacated_waits j n has owner = let old = other Kept j (λ e. cc) has in t.waits j n old.1 (other_owner j n owner).1
 
   -- a reply in flight of another slot keeps its slot's owner
@@ -168,10 +168,10 @@ module _ (s : Stored) (m : Slotted) (t : IsTied s m) (k : ℕ) (mark : HasMark G
   other_owned j n but owner = still_owner j n (λ e. but (ap (λ i. Some i) (sym e))) owner
 
   -- nobody owned it
-  pub unowned_flights : KeepsFlights (Some k) (record { stored = s; slots = m }) (record { stored = s; slots = vacated m k })
+  pub unowned_flights : KeepsFlights (Some k) (record { stored = s; slots = m }) (record { stored = s; slots = slot_vacated m k })
   unowned_flights j n r but owner flown = (other_owned j n but owner, flown)
 
-  pub vacated_unowned : owner_at m.owners k ≡ None → IsTied s (vacated m k)
+  pub vacated_unowned : owner_at m.owners k ≡ None → IsTied s (slot_vacated m k)
   vacated_unowned free = record {
     nearly = vacated_nearly None (λ n stands. (let set = owned_set n m.owners k None inside in let none = ap (stood n) free in let was = t.nearly.opened n stands in omega (arith, set, none, was)));
     waits = vacated_waits;
@@ -182,12 +182,12 @@ module _ (s : Stored) (m : Slotted) (t : IsTied s m) (k : ℕ) (mark : HasMark G
     alone : owned n (set m.owners k None) ≡ 0
     alone = let set = owned_set n m.owners k None inside in let one : stood n (owner_at m.owners k) ≡ 1 = ap (stood n) owner ∙ ap weight (eq-eqb n n refl) in let once = slotted.once n in omega (arith, set, one, once)
 
-    pub vacated_flights : (new : Stored) → KeepsOthers s n new → KeepsFlights (Some k) (record { stored = s; slots = m }) (record { stored = new; slots = vacated m k })
+    pub vacated_flights : (new : Stored) → KeepsOthers s n new → KeepsFlights (Some k) (record { stored = s; slots = m }) (record { stored = new; slots = slot_vacated m k })
     vacated_flights new others j o r but owns flown =
         let still = other_owned j o but owns in
         (still, others o r (λ e. (let some = has_owner o (set m.owners k None) j still in let same = ap (λ i. owned i (set m.owners k None)) e in let none = alone in omega (arith, some, same, none))) flown)
 
-    pub vacated_tied : (new : Stored) → KeepsTies s n new → waiting new n ≡ 0 → ((r : ℕ) → in_flight new n r ≡ false) → IsTied new (vacated m k)
+    pub vacated_tied : (new : Stored) → KeepsTies s n new → waiting new n ≡ 0 → ((r : ℕ) → in_flight new n r ≡ false) → IsTied new (slot_vacated m k)
     vacated_tied new keeps quiet none = record {
       nearly = record {
         kept = tied.0.kept;
@@ -207,8 +207,8 @@ module _ (s : Stored) (m : Slotted) (t : IsTied s m) (k : ℕ) (mark : HasMark G
             let was = t.nearly.opened o stands in
             omega (arith, set, mine, was)
 
-        tied : IsNearlyTied (Some n) new (vacated m k) × AreWaiting new (vacated m k)
-        tied = keeps (vacated m k) (vacated_nearly (Some n) but) vacated_waits alone
+        tied : IsNearlyTied (Some n) new (slot_vacated m k) × AreWaiting new (slot_vacated m k)
+        tied = keeps (slot_vacated m k) (vacated_nearly (Some n) but) vacated_waits alone
 
         closed : IsOpen new n → ⊥
         closed (inl some) = omega (arith, some, quiet)

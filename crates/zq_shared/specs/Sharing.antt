@@ -98,5 +98,5 @@ Settles None s answer new = (answer ≡ None) × (new ≡ s)
 Settles (Some n) s answer new = (ks : List ℕ) × Reports s n answer new ks
 
 -- the slot is no longer allotted, owned or lent
-abbrev pub vacated : Slotted → ℕ → Slotted
-vacated m k = record { keeper = record m.keeper { marks = slice_set m.keeper.marks k Vacant; lent = without k m.keeper.lent; vacated = m.keeper.vacated + 1 }; owners = slice_set m.owners k None }
+abbrev pub slot_vacated : Slotted → ℕ → Slotted
+slot_vacated m k = record { keeper = record m.keeper { marks = slice_set m.keeper.marks k Vacant; lent = without k m.keeper.lent; vacated = m.keeper.vacated + 1 }; owners = slice_set m.owners k None }

@@ -6,7 +6,7 @@ ghost use Rattle.zq_slots.specs.Owners.{owner_at};
 ghost use Rattle.zq_machine.specs.Calls.{is_sent};
 ghost use Rattle.zq_ties.specs.Holding.{AreHeld};
 ghost use Rattle.zq_ties.specs.Stored.{answer_to, asks_request, with_call};
-ghost use Rattle.zq_shared.specs.Sharing.{HoldsReplies, IsFull, IsSameHolds, IsWithin, KeepsFlights, Refuses, Settles, all_spare, vacated};
+ghost use Rattle.zq_shared.specs.Sharing.{HoldsReplies, IsFull, IsSameHolds, IsWithin, KeepsFlights, Refuses, Settles, all_spare, slot_vacated};
 
 use crate::asking::ask;
 use crate::journal::Journal;
@@ -163,7 +163,7 @@ impl Shared {
         requires home { last.home ≡ self.old.slots.keeper.home }
         ensures gone { HasMark Gone self.old.slots.keeper.marks last.slot }
         ensures reports { Settles (owner_at self.old.slots.owners last.slot) self.old.stored result self.new.stored }
-        ensures slots { self.new.slots ≡ vacated self.old.slots last.slot }
+        ensures slots { self.new.slots ≡ slot_vacated self.old.slots last.slot }
         ensures flights { KeepsFlights (Some last.slot) self.old self.new }
         ensures same { IsSameHolds self.old.slots self.new.slots }
     {
