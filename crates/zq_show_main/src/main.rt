@@ -1,4 +1,4 @@
-//! The command `zq show`. Here it is run for a page; `zq_tests_text` runs it for a text.
+//! The command `zq show`. Here it is run for a page; `examples/check` runs it for a text.
 #![tactic(auto)]
 
 use std::process::ExitCode;
