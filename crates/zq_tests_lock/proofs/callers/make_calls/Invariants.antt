@@ -1,5 +1,0 @@
-use Rattle.zq_tests_lock.specs.Callers.{IsReady}
-use Rattle.zq_tests_lock.proofs.callers.make_calls.Given as goal
-
-abbrev pub invariant-loop-call : goal.invariant-loop-call
-invariant-loop-call g l = IsReady g.H.Home.holds l.caller.seat l.caller.tally
