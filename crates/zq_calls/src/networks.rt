@@ -20,7 +20,7 @@ use zq_key::message::{FaceId, Region};
 use zq_machine::call::{Refusal, Step};
 use zq_outgoing::let_told_out;
 use zq_own::hats;
-use zq_own::networks::{tell_losses, tree_tellings};
+use zq_routing::networks::{tell_losses, tree_tellings};
 use zq_told::types::TellRefusal;
 use zq_trees::nets::Net;
 

@@ -23,7 +23,7 @@ use zq_key::message::{FaceId, NodeId, QueryableInfoType, Region, Zid};
 use zq_machine::call::{Refusal, Step};
 use zq_outgoing::put_entry_told;
 use zq_own::hats;
-use zq_own::routers::{entry_change, entry_tellings, lacks_entry, router_of};
+use zq_routing::routers::{entry_change, entry_tellings, lacks_entry, router_of};
 use zq_tables::said::Said;
 use zq_told::types::TellRefusal;
 

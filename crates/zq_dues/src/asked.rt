@@ -26,7 +26,7 @@ use crate::over::list_face;
 use crate::types::DuesList;
 use std::alloc::Global;
 use std::collections::BTreeSet;
-use zq_hat::hat::Hat;
+use zq_faces::hat::Hat;
 use zq_interests::interests::Interests;
 use zq_interests::types::InterestEntry;
 use zq_key::Key;

@@ -20,7 +20,7 @@ use crate::sorted::sorted;
 use crate::types::{DuesList, HatChange};
 use std::alloc::Global;
 use std::collections::BTreeMap;
-use zq_hat::hat::Hat;
+use zq_faces::hat::Hat;
 use zq_hat::types::{Change, TellingList};
 use zq_interests::interests::Interests;
 use zq_key::items::Items;

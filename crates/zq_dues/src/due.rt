@@ -15,7 +15,7 @@ use crate::sorted::has_text;
 use crate::types::HatChange;
 use std::alloc::Global;
 use std::collections::BTreeSet;
-use zq_hat::hat::Hat;
+use zq_faces::hat::Hat;
 use zq_hat::strategy::{is_north, same_region};
 use zq_hat::types::{Change, Strategy};
 use zq_index::info::joined;

@@ -13,7 +13,7 @@ use crate::owns::OwnKeys;
 use crate::types::HatChange;
 use std::alloc::Global;
 use std::collections::BTreeSet;
-use zq_hat::hat::Hat;
+use zq_faces::hat::Hat;
 use zq_interests::interests::Interests;
 use zq_key::items::Items;
 use zq_key::memory::OutOfMemory;

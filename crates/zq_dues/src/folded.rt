@@ -10,7 +10,7 @@ use crate::keys::met_texts_by;
 use crate::types::HatChange;
 use std::alloc::Global;
 use std::collections::BTreeSet;
-use zq_hat::hat::Hat;
+use zq_faces::hat::Hat;
 use zq_index::info::joined;
 use zq_key::memory::OutOfMemory;
 use zq_key::message::{FaceId, QueryableInfoType};

@@ -11,7 +11,7 @@ ghost use Rattle.zq_dues.specs.Dues.{AreKeys, all_keys};
 use crate::sorted::list_of;
 use std::alloc::Global;
 use std::collections::BTreeSet;
-use zq_hat::hat::Hat;
+use zq_faces::hat::Hat;
 use zq_key::Key;
 use zq_key::memory::OutOfMemory;
 use zq_key::message::TextList;

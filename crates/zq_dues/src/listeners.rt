@@ -7,7 +7,7 @@ ghost use Rattle.zq_dues.specs.Listeners.{listeners, with_askers, with_hat, with
 use crate::due::listens_by;
 use std::alloc::Global;
 use std::collections::BTreeSet;
-use zq_hat::hat::Hat;
+use zq_faces::hat::Hat;
 use zq_interests::interests::Interests;
 use zq_key::memory::OutOfMemory;
 use zq_key::message::FaceId;

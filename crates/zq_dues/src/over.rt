@@ -24,7 +24,7 @@ use crate::sorted::{list_of, set_of};
 use crate::types::{DuesList, HatChange};
 use std::alloc::Global;
 use std::collections::{BTreeMap, BTreeSet};
-use zq_hat::hat::Hat;
+use zq_faces::hat::Hat;
 use zq_interests::interests::Interests;
 use zq_key::items::Items;
 use zq_key::memory::OutOfMemory;

@@ -9,7 +9,7 @@ ghost use Rattle.std.specs.Prelude.{filter, fold, map, true};
 
 use std::alloc::{AllocError, Global};
 use std::collections::BTreeMap;
-use zq_hat::hat::Hat;
+use zq_faces::hat::Hat;
 use zq_hat::strategy::{is_north, same_region};
 use zq_hat::types::{OfferList, QueryTargetQabl};
 use zq_key::items::Items;

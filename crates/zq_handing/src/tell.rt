@@ -15,6 +15,7 @@ ghost use Rattle.zq_handing.specs.Telling.{KeyedAs, asked_number, behind, body_o
 use crate::write::whole;
 use std::alloc::Global;
 use std::collections::BTreeMap;
+use zq_entries::tellings::in_order;
 use zq_hat::types::Telling;
 use zq_interests::numbers::Keyed;
 use zq_key::items::Items;
@@ -27,7 +28,6 @@ use zq_machine::face::OpenFace;
 use zq_machine::handed::{Handed, HandedList};
 use zq_names::nonwild;
 use zq_tables::naming::Naming;
-use zq_trees::tellings::in_order;
 
 /// An interest: the face that asks, and the id under which it does.
 #[derive(Clone, Copy, Debug)]

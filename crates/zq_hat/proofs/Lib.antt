@@ -1,12 +1,3 @@
-pub mod Routing
-pub mod Held
-pub mod Reading
-pub mod IndexKeys
-pub mod Keeping
-pub mod Turns
-pub mod Marking
-pub mod Afterwards
 pub mod OfferLaws
 pub mod RoutersMoved
 pub mod OffersMoved
-pub mod Seated

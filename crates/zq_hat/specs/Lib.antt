@@ -4,7 +4,6 @@ pub mod Regions
 pub mod Kept
 pub mod Marks
 pub mod Offers
-pub mod Tied
 pub mod Routers
 pub mod Trees
 pub mod Changes

@@ -6,4 +6,4 @@
 mod queries;
 
 pub use queries::HatQueriesTrait;
-pub use zq_hat::hat::Hat;
+pub use zq_faces::hat::Hat;

@@ -11,7 +11,7 @@ ghost use Rattle.zq_sources.specs.Infos.{remote_queryables};
 ghost use Rattle.zq_sources.specs.Sourced.{sourced_queriers, sourced_queryables};
 
 use std::alloc::Global;
-use zq_hat::hat::Hat;
+use zq_faces::hat::Hat;
 use zq_hat::types::{HatRefusal, OfferList, TellingList, UnregisterEntityResult};
 use zq_interests::interests::Interests;
 use zq_key::Key;

@@ -55,11 +55,11 @@ InUse k s = (j : ℕ) (u : HoldView) → get_elem? s.views j ≡ some u → u.ro
 
 -- ---- seats
 
--- a seat that leaves the number of a slot 0 stands for the slot, and counts one more
+-- a seat that stood for nothing and leaves the number of a slot 0 stands for the slot, and counts one more
 abbrev pub SeatLeavesZero : Type 0
 SeatLeavesZero = (n : ℕ) (s s' : HoldState) (i k : ℕ) (v w : HoldView) → IsStep n s s' i v w → v.role ≡ Seat → v.stands ≡ None → LeavesZero k s s' → (w.stands ≡ Some k) × (w.ended ≡ v.ended + 1)
 
--- a seat that leaves no number 0 stands for nothing, and counts as before
+-- a seat that stood for nothing and leaves no number 0 stands for nothing, and counts as before
 abbrev pub SeatLeavesNone : Type 0
 SeatLeavesNone = (n : ℕ) (s s' : HoldState) (i : ℕ) (v w : HoldView) → IsStep n s s' i v w → v.role ≡ Seat → v.stands ≡ None → ((k : ℕ) → ¬ LeavesZero k s s') → (w.stands ≡ None) × (w.ended ≡ v.ended)
 
@@ -88,12 +88,12 @@ EntryIsEmpty = (n : ℕ) (s s' : HoldState) (w : HoldView) → IsEntry n s s' w 
 
 -- ---- the keeper
 
--- the keeper that leaves the number of a slot 0, and does not vacate the slot at once, stands for it, and counts one more, and as many more as it vacated
+-- the keeper that stood for nothing, leaves the number of a slot 0 and does not vacate the slot at once stands for it, and counts one more, and as many more as it vacated
 abbrev pub KeeperLeavesZero : Type 0
 KeeperLeavesZero = (n : ℕ) (s s' : HoldState) (i k : ℕ) (v w : HoldView) → IsStep n s s' i v w → v.role ≡ Keeper → v.stands ≡ None → LeavesZero k s s' → 0 < times k w.used
     → (w.stands ≡ Some k) × (w.ended + v.vacated ≡ v.ended + 1 + w.vacated)
 
--- the keeper that leaves no number 0, and puts no slot to use whose number is 0, stands for nothing, and counts as many more as it vacated
+-- the keeper that stood for nothing, leaves no number 0 and puts no slot to use whose number is 0 stands for nothing, and counts as many more as it vacated
 abbrev pub KeeperLeavesNone : Type 0
 KeeperLeavesNone = (n : ℕ) (s s' : HoldState) (i : ℕ) (v w : HoldView) → IsStep n s s' i v w → v.role ≡ Keeper → v.stands ≡ None → ((k : ℕ) → ¬ LeavesZero k s s') → ((k : ℕ) → 0 < times k w.used → (0 < times k v.used) ⊎ (0 < slice_index s'.words k))
     → (w.stands ≡ None) × (w.ended + v.vacated ≡ v.ended + w.vacated)

@@ -18,24 +18,24 @@ ghost use Rattle.zq_hold.specs.Laws.{
   StepStands,
 };
 
-/// A seat that leaves the number of a slot 0 stands for the slot afterwards, and its count goes up by one; a step that leaves no number 0
-/// leaves its count as it was. Whatever it stood for, it stands afterwards for exactly the slot that falls to it.
+/// A seat that stood for nothing and leaves the number of a slot 0 stands for the slot afterwards, and its count goes up by one; if its
+/// step leaves no number 0, its count stays as it was. Whatever it stood for, it stands afterwards for exactly the slot that falls to it.
 pub fn seat_step_counts()
     ensures last { SeatLeavesZero }
     ensures none { SeatLeavesNone }
     ensures exactly { SeatSteps }
 {}
 
-/// A cut of a seat, and a join with a `Last` or a pledge, leaves exactly one seat, with the whole count, and loses no view that stands for
-/// a slot.
+/// A cut of a seat, and its join with a view that is neither seat nor keeper, leaves exactly one seat, with the whole count, and loses no
+/// view that stands for a slot.
 pub fn seat_cut_counts()
     ensures cut { SeatCut }
     ensures join { SeatJoin }
 {}
 
-/// The keeper that leaves the number of a slot 0, and does not vacate it at once, stands for the slot afterwards, and its count goes up by
-/// one; a step that leaves no number 0, and puts no slot to use whose number is 0, leaves its count as it was. What it vacates by the step
-/// is added to the count.
+/// The keeper that stood for nothing, leaves the number of a slot 0 and does not vacate it at once stands for the slot afterwards, and its
+/// count goes up by one; if its step leaves no number 0, and puts no slot to use whose number is 0, its count stays as it was. What it
+/// vacates by the step is added to the count.
 pub fn keeper_step_counts()
     ensures last { KeeperLeavesZero }
     ensures none { KeeperLeavesNone }

@@ -17,10 +17,11 @@
 //! The rule that holds between any two steps of any threads is `IsKept`, in `specs/Rule.antt`: among others, that the number of a slot is
 //! how many hold it, and that exactly one view stands for a slot that is not vacated and that nobody holds. The keeper and each seat count
 //! how often they let a slot go last (`ended`), and the sum of these counts is how many slots the keeper vacated and how many views stand
-//! for one. `laws` says what follows for whatever keeps the rule: a seat that leaves the number of a slot 0 stands for the slot, and its
-//! count goes up by one, and so it is with the keeper, unless it vacates the slot by that very step; no cut or join of a seat loses
-//! either, and one of the keeper's only where the slot is vacated. So whatever a seat does with its own views, its count is greater than
-//! it was for as long as a number is 0 that it left so; and a release that answers no `Last` left its count as it was.
+//! for one. `laws` says what follows for whatever keeps the rule: a seat that stood for nothing and leaves the number of a slot 0 stands
+//! for the slot, and its count goes up by one, and so it is with the keeper, unless it vacates the slot by that very step; no cut of a
+//! seat, nor its join with a view that is neither seat nor keeper, loses either, and one of the keeper's only where the slot is vacated.
+//! So whatever a seat does with its own views, its count is greater than it was for as long as a number is 0 that it left so; and a
+//! release that answers no `Last` left its count as it was.
 //!
 //! No call waits for another thread, and only `Holds::new` takes memory. Nothing is said of progress: no clause promises that a thread
 //! ever releases what it holds. A seat that is dropped holds what it held.

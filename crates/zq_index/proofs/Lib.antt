@@ -1,4 +1,5 @@
 pub mod Orders
+pub mod Between
 pub mod Laws
 pub mod Rebuilt
 pub mod Merges
@@ -7,7 +8,5 @@ pub mod Texts
 pub mod Holding
 pub mod Finding
 pub mod Ordered
-pub mod Skipping
-pub mod ForkLemmas
 pub mod Listed
 pub mod Mapped

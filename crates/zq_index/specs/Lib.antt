@@ -1,5 +1,3 @@
 pub mod Infos
 pub mod Texts
 pub mod Holders
-pub mod Forks
-pub mod Skipping

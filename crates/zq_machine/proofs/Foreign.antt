@@ -18,8 +18,8 @@ use Rattle.zq_index.proofs.Ordered.{with_at, without_at}
 use Rattle.zq_trees.specs.declared.types.Network.{Network}
 use Rattle.zq_trees.specs.Entries.{Entries, entry_of, staying, with_entry, without_entry}
 use Rattle.zq_trees.specs.Nets.{is_listed, is_zid}
-use Rattle.zq_trees.proofs.Dropping.{staying_entry}
-use Rattle.zq_trees.proofs.Entering.{put_is, take_is}
+use Rattle.zq_entries.proofs.Dropping.{staying_entry}
+use Rattle.zq_entries.proofs.Entering.{put_is, take_is}
 use Rattle.zq_hat.specs.declared.types.FaceRecord.{FaceRecord}
 use Rattle.zq_hat.specs.declared.types.Strategy.{Strategy}
 use Rattle.zq_hat.specs.declared.types.Strategy.TheVariants as strategy

@@ -25,7 +25,7 @@ use Rattle.zq_trees.specs.declared.types.Network.{Network}
 use Rattle.zq_trees.specs.declared.types.Telling.{Telling as TreeTelling}
 use Rattle.zq_trees.specs.Entries.{Entries, Routed, entry_of, routed_info, standing, staying}
 use Rattle.zq_trees.specs.Nets.{children_of, is_listed, is_zid, place_of}
-use Rattle.zq_trees.proofs.Dropping.{staying_entry}
+use Rattle.zq_entries.proofs.Dropping.{staying_entry}
 use Rattle.zq_hat.specs.declared.types.Declaration.{Declaration}
 use Rattle.zq_hat.specs.declared.types.Strategy.{Strategy}
 use Rattle.zq_hat.specs.declared.types.Strategy.TheVariants as strategy

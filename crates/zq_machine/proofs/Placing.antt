@@ -26,7 +26,7 @@ use Rattle.zq_trees.specs.Nets.{child_ids, children_of, fresh_ids, is_listed, is
 use Rattle.zq_trees.specs.Seating.{faces_by, is_other}
 use Rattle.zq_trees.specs.Tellings.{all_told_of, tree_telling}
 use Rattle.zq_trees.proofs.Places.{position_some}
-use Rattle.zq_trees.proofs.Standing.{picked_at, sorted_picked}
+use Rattle.zq_entries.proofs.Standing.{picked_at, sorted_picked}
 use Rattle.zq_hat.specs.Kept.{has_face}
 use Rattle.zq_hat.specs.Routers.{face_with}
 use Rattle.zq_hat.specs.State.{HatState}

@@ -29,8 +29,8 @@ use Rattle.zq_hat.specs.Marks.{finalized, marked}
 use Rattle.zq_hat.specs.Regions.{in_routers, strategy_at}
 use Rattle.zq_index.specs.Holders.{IsOrderedBy, if_any}
 use Rattle.zq_index.proofs.Ordered.{ordered_none, with_ordered, without_ordered}
-use Rattle.zq_trees.proofs.Dropping.{staying_ordered}
-use Rattle.zq_trees.proofs.Entering.{put_is, take_is}
+use Rattle.zq_entries.proofs.Dropping.{staying_ordered}
+use Rattle.zq_entries.proofs.Entering.{put_is, take_is}
 use Rattle.zq_trees.specs.Entries.{Entries, Routed, entries_at, is_by, routed_with, routed_without, staying, with_entries}
 use Rattle.zq_trees.specs.Nets.{is_listed}
 use Rattle.zq_hat.specs.Routers.{announced, networked, noded, retracted, source_at}

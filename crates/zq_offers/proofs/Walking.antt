@@ -12,10 +12,10 @@ use Rattle.zq_key.specs.Key.{intersects}
 use Rattle.zq_key.proofs.Runs.{not_below_itself}
 use Rattle.zq_index.specs.Holders.{AreListed}
 use Rattle.zq_index.specs.Texts.{text_cmp, Lists, IsListed, texts_of}
-use Rattle.zq_index.specs.Skipping.{SkipsListed, NoneFrom}
+use Rattle.zq_search.specs.Skipping.{SkipsListed, NoneFrom}
 use Rattle.zq_index.proofs.Listed.{each_listed}
 use Rattle.zq_index.proofs.Rebuilt.{sorted_texts}
-use Rattle.zq_index.proofs.Skipping.{IsEnd, IsPassed, all_at_end, from_bound, none_left, nothing_lost, passed, sorted_end}
+use Rattle.zq_search.proofs.Skipping.{IsEnd, IsPassed, all_at_end, from_bound, none_left, nothing_lost, passed, sorted_end}
 use Rattle.zq_offers.specs.Met.{AllGathered, is_met}
 use Rattle.zq_offers.specs.Offers.{IsKeyed}
 

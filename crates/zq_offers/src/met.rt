@@ -10,10 +10,10 @@ ghost use Rattle.zq_offers.specs.Offers.{IsKeyed};
 use std::alloc::Global;
 use std::collections::BTreeMap;
 use std::ops::RangeFull;
-use zq_index::search::{Step, next_step};
 use zq_index::text_set::KeyLists;
 use zq_key::memory::OutOfMemory;
 use zq_key::{intersects, is_plain};
+use zq_search::search::{Step, next_step};
 
 /// What is gathered at a declared key that meets the one that is asked for.
 pub trait Gather<V, T> {

@@ -15,8 +15,8 @@ ghost use Rattle.zq_outgoing.specs.Gone.{AreOut, IsTold};
 
 use crate::gone::let_told_out;
 use std::alloc::Global;
+use zq_faces::hat::Hat;
 use zq_gates::{Exit, FaceGate, FaceGates};
-use zq_hat::hat::Hat;
 use zq_hat::types::FaceRecord;
 use zq_interests::interests::Interests;
 use zq_interests::types::InterestEntry;
@@ -25,8 +25,8 @@ use zq_key::memory::OutOfMemory;
 use zq_key::message::{FaceId, QueryableInfoType, Region, Zid};
 use zq_machine::handed::HandedList;
 use zq_own::hats;
-use zq_own::routers::put_entry;
 use zq_query::queries::Queries;
+use zq_routing::routers::put_entry;
 use zq_tables::RegionMap;
 
 /// Messages go back through the gates, for want of memory.

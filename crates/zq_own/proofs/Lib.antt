@@ -2,5 +2,3 @@ pub mod Changed
 pub mod Seats
 pub mod Lent
 pub mod Valid
-pub mod Given
-pub mod Entered

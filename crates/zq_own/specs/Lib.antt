@@ -1,4 +1,3 @@
 pub mod Own
 pub mod Seats
 pub mod Routers
-pub mod Networks

@@ -9,7 +9,8 @@ ghost use Rattle.zq_own.specs.Own.{info_as, own_entry_as};
 
 use std::alloc::Global;
 use std::collections::BTreeSet;
-use zq_hat::hat::Hat;
+use zq_entries::entries::StandingList;
+use zq_faces::hat::Hat;
 use zq_hat::strategy::same_region;
 use zq_index::info::joined;
 use zq_key::items::Items;
@@ -17,7 +18,6 @@ use zq_key::memory::OutOfMemory;
 use zq_key::message::{QueryableInfoType, Region};
 use zq_key::text::Text;
 use zq_tables::RegionMap;
-use zq_trees::entries::StandingList;
 
 /// What a region will have on a key.
 #[derive(Clone, Copy)]

@@ -15,7 +15,7 @@ ghost use Rattle.zq_machine.specs.State.{first_hats, with_hat, change_hat, clash
 ghost use Rattle.zq_own.specs.Seats.{seats};
 
 use std::alloc::Global;
-use zq_hat::hat::Hat;
+use zq_faces::hat::Hat;
 use zq_hat::types::{FaceRecord, FinalMark, HatRefusal, NodeIds, Strategy};
 use zq_key::Key;
 use zq_key::memory::OutOfMemory;

@@ -6,13 +6,9 @@
 //! - `seating`: a face enters the open ones, or leaves them
 //! - `entries`: own entries, looked up
 //! - `telling`: whom a change of them is told
-//! - `routers`: what entries of routers change and tell
-//! - `networks`: what networks tell
 #![tactic(auto)]
 
 pub mod entries;
 pub mod hats;
-pub mod networks;
-pub mod routers;
 pub mod seating;
 pub mod telling;

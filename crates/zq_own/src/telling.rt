@@ -12,7 +12,7 @@ ghost use Rattle.zq_own.specs.Own.{has_other_routing, told_as, change_told};
 
 use crate::entries::{NewInfo, own_entry, own_entry_as};
 use crate::hats::is_routing;
-use zq_hat::hat::Hat;
+use zq_faces::hat::Hat;
 use zq_hat::strategy::same_region;
 use zq_hat::types::{Change, TellingList};
 use zq_key::memory::OutOfMemory;

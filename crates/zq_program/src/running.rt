@@ -6,7 +6,7 @@ ghost use Rattle.zq_streams.specs.Streams.{Rose};
 ghost use Rattle.zq_lines.specs.Split.{lines_of};
 ghost use Rattle.zq_script.specs.Script.{script_of};
 ghost use Rattle.zq_script.specs.Running.{EndsWell, IsBad, IsFit, IsReplay, Leaves, LeavesLoad, ReadsBack, command_of, first_part, load_of};
-ghost use Rattle.zq_share.specs.Working.{SomeRose};
+ghost use Rattle.zq_crews.specs.Faults.{SomeRose};
 ghost use Rattle.zq_program.specs.Words.{sharing_of};
 ghost use Rattle.zq_program.specs.Running.{IsFitFor, LeavesShared, is_idle, is_unwritten, is_whole};
 

@@ -6,7 +6,7 @@ ghost use Rattle.zq_streams.specs.Streams.{Rose};
 ghost use Rattle.zq_lines.specs.Split.{lines_of};
 ghost use Rattle.zq_script.specs.Script.{script_of};
 ghost use Rattle.zq_script.specs.Running.{EndsWell, IsBad, IsScript};
-ghost use Rattle.zq_share.specs.Working.{HaveFaults, SomeRose};
+ghost use Rattle.zq_crews.specs.Faults.{HaveFaults, SomeRose};
 ghost use Rattle.zq_program.specs.Words.{IsSharing};
 ghost use Rattle.zq_program.specs.Parts.{ArePartsFor};
 ghost use Rattle.zq_program.specs.Printing.{IsSharedPrint, MayPrint};

@@ -19,8 +19,8 @@ use Rattle.zq_interests.proofs.interests.Interests.TheSendSync as interests
 use Rattle.zq_interests.specs.contracts.interests.Interests as Interests
 use Rattle.zq_told.proofs.ears.Ears.TheSendSync as ears
 use Rattle.zq_told.specs.contracts.ears.Ears as Ears
-use Rattle.zq_hat.proofs.hat.Hat.TheSendSync as hat
-use Rattle.zq_hat.specs.contracts.hat.Hat as Hat
+use Rattle.zq_faces.proofs.hat.Hat.TheSendSync as hat
+use Rattle.zq_faces.specs.contracts.hat.Hat as Hat
 use Rattle.zq_route.proofs.gateways.Gateways.TheSendSync as gateways
 use Rattle.zq_route.specs.contracts.gateways.Gateways as Gateways
 use Rattle.zq_machine.proofs.call.Call.TheSendSync as call

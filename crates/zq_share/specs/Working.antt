@@ -1,11 +1,10 @@
 -- What workers are given, and what they make of it.
-use Rattle.std.specs.Prelude.{◌≡◌, ℕ, ◌+◌, ◌<◌, ◌≤◌, Bool, true, false, All, List, [], ◌∷◌, length, get_or, Option}
+use Rattle.std.specs.Prelude.{◌≡◌, ◌+◌, Bool, true, false, All, List, [], ◌∷◌, Option}
 use Rattle.std.specs.List.{list_all}
 use Rattle.atomic_table.specs.Seated.{TableId}
 use Rattle.zq_hold.specs.Seats.{Holder, unused_seat}
 use Rattle.zq_machine.specs.declared.call.Call.{Call}
 use Rattle.zq_machine.specs.Calls.{is_sent}
-use Rattle.zq_streams.specs.Streams.{Rose}
 use Rattle.zq_ties.specs.Stored.{requests_in}
 use Rattle.zq_lock.specs.Answers.{IsListed}
 use Rattle.zq_lock.specs.Tallies.{Counts, HasParts, Tallied, each, others_in}
@@ -34,12 +33,6 @@ pub record HasMade (cs : List Call) (old new : Counts) : Type 0 where
   pub others : new.calls ≡ old.calls + others_in cs
   pub asked : new.asks + new.full ≡ old.asks + old.full + requests_in cs
 
--- a link whose count of faults never falls: it rose where something was not sent, and stands where all was
-pub record HasFaults (sent : Bool) (before now : ℕ) : Type 0 where
-  pub later : before ≤ now
-  pub quiet : sent ≡ true → now ≡ before
-  pub rose : sent ≡ false → Rose before now
-
 -- a worker made its calls, if it found memory for each
 pub record Worked (old new : Working) : Type 0 where
   pub parts : new.tally.parts ≡ old.tally.parts
@@ -52,22 +45,6 @@ all_sent ws = list_all (λ w. w.sent) ws
 -- each of the workers found memory
 abbrev pub all_whole : List Working → Bool
 all_whole ws = list_all (λ w. w.whole) ws
-
--- the count of faults of one of the links rose
-abbrev pub SomeRose : List ℕ → List ℕ → Type 0
-SomeRose before now = (k : ℕ) × (k < length before) × Rose (get_or before k 0) (get_or now k 0)
-
--- links whose counts of faults did not fall
-pub record NeverFell (before now : List ℕ) : Type 0 where
-  pub wide : length now ≡ length before
-  pub later : (k : ℕ) → get_or before k 0 ≤ get_or now k 0
-
--- links whose counts of faults did not fall: one of them rose where something was not sent, and all stand where all was
-pub record HaveFaults (sent : Bool) (before now : List ℕ) : Type 0 where
-  pub wide : length now ≡ length before
-  pub later : (k : ℕ) → get_or before k 0 ≤ get_or now k 0
-  pub quiet : sent ≡ true → now ≡ before
-  pub rose : sent ≡ false → SomeRose before now
 
 -- a worker that has not begun
 abbrev pub new_worker : TableId → List Call → Working

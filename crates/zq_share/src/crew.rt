@@ -1,16 +1,17 @@
 //! The workers of a script.
-ghost use Rattle.std.specs.Prelude.{◌≡◌, ◌<◌, ◌≤◌, ◌+◌, All, ◌&&◌, IfOk, OnOk, length, map, vec_len};
-ghost use Rattle.std.specs.List.{AllZip, list_all};
-ghost use Rattle.std.specs.Thread.{IsSync};
+ghost use Rattle.std.specs.Prelude.{◌≡◌, ◌<◌, ◌≤◌, ◌+◌, All, IfOk, OnOk, length, map, vec_len};
+ghost use Rattle.std.specs.List.{AllZip};
+ghost use Rattle.zq_crews.specs.Faults.{HaveFaults};
 ghost use Rattle.zq_lock.specs.Tallies.{each};
 ghost use Rattle.zq_share.specs.Shares.{gathered};
-ghost use Rattle.zq_share.specs.Working.{HasFaults, HaveFaults, IsReady, Worked, all_sent, all_whole, new_worker};
+ghost use Rattle.zq_share.specs.Working.{IsReady, Worked, all_sent, all_whole, new_worker};
 
-use crate::worker::{Ended, Worker, Works};
+use crate::worker::{Ended, Worker};
 use std::alloc::Global;
 use std::sync::Wait;
 use std::sync::ledger::Ledger;
-use std::thread::{Threads, join_mut};
+use std::thread::Threads;
+use zq_crews::crew::work_parts;
 use zq_key::memory::OutOfMemory;
 use zq_links::Link;
 use zq_lock::{Home, SeatList, TablesLock, Tally};
@@ -44,61 +45,6 @@ pub(crate) fn make_crew<C: Ledger, Q: Ledger, P: Ledger>(
         })?;
     }
     Ok(crew)
-}
-
-/// Each of the workers makes its calls, over a link of its own and in a thread of its own.
-pub(crate) fn work_all<K: Works<W> + Sync, W: Send, L: Link + Send, R: Threads + Wait + Sync>(
-    rt: &R,
-    desk: &K,
-    crew: &mut [W],
-    links: &mut [L],
-)
-    requires ready { All K.ready crew.old }
-    requires links { length crew.old ≤ length links.old }
-    ensures worked { AllZip K.worked crew.old crew.new }
-    ensures faults { HaveFaults (list_all K.sent crew.new) (map L.faults links.old) (map L.faults links.new) }
-{
-    let Some((first, rest)) = crew.split_first_mut() else {
-        return;
-    };
-    let Some((link, others)) = links.split_first_mut() else {
-        unreachable!()
-    };
-    join_mut(
-        rt,
-        &mut ||
-            requires ready { K.ready first.now }
-            ensures worked { K.worked first.entry.now first.exit.now }
-            ensures faults { HasFaults (K.sent first.exit.now) (L.faults link.entry.now) (L.faults link.exit.now) }
-        { desk.run(rt, first, link) },
-        &mut ||
-            requires sync { IsSync R.row }
-            requires ready { All K.ready rest.now }
-            requires links { length rest.now ≤ length others.now }
-            ensures worked { AllZip K.worked rest.entry.now rest.exit.now }
-            ensures faults { HaveFaults (list_all K.sent rest.exit.now) (map L.faults others.entry.now) (map L.faults others.exit.now) }
-        { work_all(rt, desk, rest, others) },
-    );
-}
-
-/// The first worker makes its calls in this thread, and then the others theirs, each in its own.
-pub(crate) fn work_parts<K: Works<W> + Sync, W: Send, L: Link + Send, R: Threads + Wait + Sync>(
-    rt: &R,
-    desk: &K,
-    crew: &mut [W],
-    links: &mut [L],
-)
-    requires ready { All K.ready crew.old }
-    requires some { 0 < length links.old }
-    requires links { length crew.old ≤ length links.old + 1 }
-    ensures worked { AllZip K.worked crew.old crew.new }
-    ensures faults { HaveFaults (list_all K.sent crew.new) (map L.faults links.old) (map L.faults links.new) }
-{
-    let Some((first, rest)) = crew.split_first_mut() else {
-        return;
-    };
-    desk.run(rt, first, &mut links[0]);
-    work_all(rt, desk, rest, links);
 }
 
 /// The workers make their calls on the gateway under the lock.

@@ -1,9 +1,10 @@
 //! The parts of a script, made by as many workers on one gateway.
 ghost use Rattle.std.specs.Prelude.{◌≡◌, ◌<◌, ◌≤◌, ◌+◌, All, [], Some, IfOk, false, length, map, vec_len};
 ghost use Rattle.zq_machine.specs.Calls.{is_sent};
+ghost use Rattle.zq_crews.specs.Faults.{HaveFaults, NeverFell};
 ghost use Rattle.zq_lock.specs.Answers.{AllListed};
 ghost use Rattle.zq_share.specs.Shares.{HasStored, all_calls};
-ghost use Rattle.zq_share.specs.Working.{HaveFaults, MayMake, NeverFell};
+ghost use Rattle.zq_share.specs.Working.{MayMake};
 
 use crate::crew::{gather, make_crew, run_crew};
 use std::alloc::Global;
@@ -19,7 +20,7 @@ use zq_machine::config::Config;
 use zq_message::items::Items;
 
 /// The same over the gateway that the name means.
-#[tactic(auto, using(crate::proofs::Faults::fell_none, crate::proofs::Faults::fell_of, zq_shared::proofs::Due::orderly_none))]
+#[tactic(auto, using(zq_crews::proofs::Faults::fell_none, zq_crews::proofs::Faults::fell_of, zq_shared::proofs::Due::orderly_none))]
 fn share_named<
     H: Home + Send + Sync,
     C: Ledger + Send + Sync,
@@ -76,7 +77,7 @@ fn share_named<
 /// a link of its own, all on one gateway with that many slots. A call that finds every slot allotted is passed over. Whoever finds no memory
 /// makes no further calls; the others go on, and the answer is `OutOfMemory`. Otherwise it answers the gateway with its stored calls, and
 /// whether no link failed.
-#[tactic(auto, using(crate::proofs::Faults::fell_none))]
+#[tactic(auto, using(zq_crews::proofs::Faults::fell_none))]
 pub fn share<L: Link + Send, R: Threads + Wait + Sync>(
     rt: &R,
     alloc: Global,

@@ -1,15 +1,17 @@
 //! One that makes calls.
 ghost use Rattle.std.specs.Prelude.{◌≡◌, ◌≤◌, All, [], ◌∷◌, false, true};
 ghost use Rattle.zq_machine.specs.Calls.{is_sent};
+ghost use Rattle.zq_crews.specs.Faults.{HasFaults};
 ghost use Rattle.zq_lock.specs.Answers.{IsListed};
 ghost use Rattle.zq_lock.specs.Tallies.{HasParts};
-ghost use Rattle.zq_share.specs.Working.{HasFaults, HasMade, IsReady, MayMake, Worked};
+ghost use Rattle.zq_share.specs.Working.{HasMade, IsReady, MayMake, Worked};
 
 use std::alloc::Global;
 use std::marker::Model;
 use std::mem;
 use std::sync::Wait;
 use std::sync::ledger::Ledger;
+use zq_crews::works::Works;
 use zq_links::Link;
 use zq_lock::{CallRefusal, HoldSeat, Home, TablesLock, Tally};
 use zq_machine::call::Call;
@@ -137,26 +139,6 @@ impl<C: Ledger, Q: Ledger, P: Ledger> Worker<C, Q, P> {
         self.whole = ended.whole;
         self.sent = ended.sent;
     }
-}
-
-/// Where workers make their calls.
-pub(crate) trait Works<W> {
-    ghost use Rattle.std.specs.Prelude.{Bool};
-
-    /// The worker may begin.
-    ghost ready: { W → Type 0 };
-
-    /// The worker made its calls.
-    ghost worked: { W → W → Type 0 };
-
-    /// All that the worker had to send was sent.
-    ghost sent: { W → Bool };
-
-    /// The worker makes its calls over the link.
-    fn run<L: Link, R: Wait>(&self, rt: &R, worker: &mut W, link: &mut L)
-        requires { ready worker.old }
-        ensures worked { worked worker.old worker.new }
-        ensures faults { HasFaults (sent worker.new) (L.faults link.old) (L.faults link.new) };
 }
 
 impl<H: Home, C: Ledger, Q: Ledger, P: Ledger> Works<Worker<C, Q, P>> for TablesLock<H, C, Q, P> {

@@ -8,12 +8,12 @@ ghost use Rattle.zq_sources.specs.Infos.{info_keys, info_on, remote_queryables};
 
 use std::alloc::Global;
 use std::collections::BTreeSet;
-use zq_hat::hat::Hat;
+use zq_entries::entries::StandingList;
+use zq_faces::hat::Hat;
 use zq_key::items::Items;
 use zq_key::memory::OutOfMemory;
 use zq_key::text::Text;
 use zq_key::{Key, intersects};
-use zq_trees::entries::StandingList;
 
 /// Keys, by text, with the information on each.
 pub type InfoList = StandingList;

@@ -8,13 +8,13 @@ use crate::joining::join;
 use crate::sources::{Source, SourceList};
 use std::alloc::Global;
 use std::collections::BTreeMap;
-use zq_hat::face::HatFace;
-use zq_hat::hat::Hat;
+use zq_entries::entries::Entries;
+use zq_faces::face::HatFace;
+use zq_faces::hat::Hat;
 use zq_hat::types::{Declaration, Strategy};
 use zq_key::memory::OutOfMemory;
 use zq_key::message::{Mode, QueryableInfoType, Region, Zid};
 use zq_regions::map::RegionMap;
-use zq_trees::entries::Entries;
 
 /// The mode under which a face of a region counts: in a client region its own.
 pub(crate) fn source_mode(strategy: Strategy, mode: Mode) -> Mode

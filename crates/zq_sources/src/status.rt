@@ -7,8 +7,8 @@ ghost use Rattle.zq_sources.specs.Status.{face_matches, is_match, is_matched, is
 
 use crate::infos::InfoList;
 use std::collections::BTreeMap;
-use zq_hat::face::HatFace;
-use zq_hat::hat::Hat;
+use zq_faces::face::HatFace;
+use zq_faces::hat::Hat;
 use zq_hat::types::{Declaration, Strategy};
 use zq_key::includes;
 use zq_key::message::{FaceId, QueryableInfoType};

@@ -1,7 +1,7 @@
 use crate::region::in_region;
 use std::alloc::Global;
+use zq_faces::hat::Hat;
 use zq_given::information;
-use zq_hat::hat::Hat;
 use zq_hat::types::{FaceRecord, FinalMark, OfferList, UnregisterEntityResult};
 use zq_key::Key;
 use zq_key::message::{Bound, FaceId, Mode, QueryableInfoType, Region, Zid};

@@ -1,7 +1,7 @@
 use crate::region::in_region;
 use std::alloc::Global;
+use zq_faces::hat::Hat;
 use zq_given::{information, list};
-use zq_hat::hat::Hat;
 use zq_hat::types::{FaceRecord, ZidList};
 use zq_interests::interests::Interests;
 use zq_interests::types::InterestEntry;

@@ -1,10 +1,10 @@
 use std::alloc::Global;
 use zq_given::information;
 use zq_index::info::merge_qabl_infos;
-use zq_index::search::{Step, next_step};
 use zq_index::text_set::KeyLists;
 use zq_key::is_plain;
 use zq_key::memory::OutOfMemory;
+use zq_search::search::{Step, next_step};
 
 #[test]
 fn merging(rt: HostRuntime) {

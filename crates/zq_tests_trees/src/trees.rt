@@ -1,12 +1,12 @@
 use std::alloc::Global;
+use zq_entries::children::{fresh_ids, tell_children};
+use zq_entries::tellings::in_order;
 use zq_given::{information, list};
 use zq_key::items::Items;
 use zq_key::memory::OutOfMemory;
 use zq_key::message::{FaceId, NodeId, Zid};
-use zq_trees::children::{fresh_ids, tell_children};
 use zq_trees::nets::Net;
 use zq_trees::seats::Seats;
-use zq_trees::tellings::in_order;
 use zq_trees::types::{Network, Telling, Tree};
 
 /// A tree of these.

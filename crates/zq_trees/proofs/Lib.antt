@@ -1,14 +1,4 @@
 pub mod Places
 pub mod Sitting
-pub mod Handing
-pub mod Ordered
 pub mod Sets
 pub mod Firsts
-pub mod Keys
-pub mod Entering
-pub mod Standing
-pub mod Dropping
-pub mod Losing
-pub mod Gathering
-pub mod LosingKeys
-pub mod Copied

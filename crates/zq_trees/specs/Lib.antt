@@ -1,6 +1,5 @@
 pub mod Nets
 pub mod Seating
 pub mod Tellings
-pub mod Told
 pub mod Entries
 pub mod Networks

@@ -2,7 +2,7 @@ use Rattle.std.proofs.Common.{◌≢◌, ◌∙◌, sym, ap, map}
 use Rattle.std.specs.String.{string_bytes}
 use Rattle.std.specs.declared.cmp.Ordering.TheVariants.{Less}
 use Rattle.zq_index.specs.Texts.{text_cmp}
-use Rattle.zq_index.proofs.Skipping.{not_less, none_between}
+use Rattle.zq_index.proofs.Between.{not_less, none_between}
 use Rattle.zq_index.proofs.text_set.first_between.Goals as goal
 
 pub returns-else-comes_before : goal.returns-else-comes_before

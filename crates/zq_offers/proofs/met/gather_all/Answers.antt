@@ -1,7 +1,7 @@
 use Rattle.std.proofs.Common.{◌∙◌, subst, filter, ◌∷◌, [], ℕ, List}
 use Rattle.std.specs.String.{string_bytes}
-use Rattle.zq_index.specs.Skipping.{StepIs}
-use Rattle.zq_index.proofs.Skipping.{unbounded}
+use Rattle.zq_search.specs.Skipping.{StepIs}
+use Rattle.zq_search.proofs.Skipping.{unbounded}
 use Rattle.zq_offers.specs.Met.{AllGathered, is_met}
 use Rattle.zq_offers.proofs.Walking.{all_at_last, all_found, fewer, stands_after_jump, stands_after_look, stands_first}
 use Rattle.zq_offers.proofs.met.gather_all.Goals as goal

@@ -4,7 +4,7 @@ use Rattle.zq_lines.specs.Split.{lines_of}
 use Rattle.zq_script.specs.Running.{EndsWell, IsBad}
 use Rattle.zq_script.specs.Script.{script_of}
 use Rattle.zq_streams.specs.Streams.{Rose}
-use Rattle.zq_share.specs.Working.{SomeRose}
+use Rattle.zq_crews.specs.Faults.{SomeRose}
 use Rattle.zq_program.specs.Running.{IsFitFor, LeavesShared}
 use Rattle.zq_program.proofs.Completed.{of_whole, read_fails}
 use Rattle.zq_program.proofs.sharing.share_source.Goals as goal

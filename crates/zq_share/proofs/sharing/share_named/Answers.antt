@@ -2,7 +2,7 @@ use Rattle.std.proofs.Common.{◌≡◌, ◌∙◌, length, subst, sym, true, ve
 use Rattle.zq_lock.specs.Tallies.{Counts, each}
 use Rattle.zq_share.specs.Shares.{all_calls}
 use Rattle.zq_share.specs.Working.{HasMade, all_sent, all_whole}
-use Rattle.zq_share.proofs.Faults.{fell_of}
+use Rattle.zq_crews.proofs.Faults.{fell_of}
 use Rattle.zq_share.proofs.Making.{kept_whole}
 use Rattle.zq_share.proofs.Gathering.{crew_made, crew_parts, crew_ready}
 use Rattle.zq_share.proofs.Storing.{stored_of}

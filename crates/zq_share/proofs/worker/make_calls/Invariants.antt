@@ -1,5 +1,6 @@
 use Rattle.std.proofs.Common.{◌≡◌, []}
-use Rattle.zq_share.specs.Working.{HasFaults, HasMade}
+use Rattle.zq_crews.specs.Faults.{HasFaults}
+use Rattle.zq_share.specs.Working.{HasMade}
 use Rattle.zq_share.proofs.worker.make_calls.Given as goal
 
 abbrev pub invariant-loop-call : goal.invariant-loop-call

@@ -1,0 +1,10 @@
+pub mod Handing
+pub mod Ordered
+pub mod Keys
+pub mod Entering
+pub mod Standing
+pub mod Dropping
+pub mod Losing
+pub mod Gathering
+pub mod LosingKeys
+pub mod Copied
