@@ -1,4 +1,4 @@
-//! The command: replays a script from standard input to standard output, lets workers share it, or makes a load.
+//! The command: replays a script from standard input to standard output, lets workers share it, makes a load, or shows a run.
 #![tactic(auto)]
 
 ghost use Rattle.std.specs.Prelude.{◌≡◌};
@@ -19,6 +19,8 @@ use zq_links::SureLink;
 use zq_message::text::Text;
 use zq_program::program;
 use zq_script::run::Status;
+use zq_seen::show::show;
+use zq_seen::words::{Asked as Shown, Form, read_words as read_show_words};
 use zq_streams::streams::{ReadSource, Sink, Source, WriteSink};
 
 const VERSION: &str = "zq 0.1.0, a port of zenoh 1.10.2's query gateway";
@@ -42,6 +44,37 @@ messages they hand out.
 status: 0 done, 1 other words, 2 a bad line, 3 the input failed, 4 the output
 failed, 5 no memory, 6 more than 16,777,216 bytes, 7 a link failed";
 
+const SHOW_VERSION: &str = "zq show 0.1.0";
+
+const SHOW_USAGE: &str = "usage: zq show [FILE]
+       zq show --request N [FILE]
+       zq show --text [FILE]
+
+zq show prints a page of a script's run, for a browser: each line with what it
+was answered and who was handed what, and a picture of the first hundred calls,
+or with --request of those that concern request #N. With --text it prints the
+lines as text; with colors in a terminal, unless NO_COLOR is set. Without a file
+it reads standard input. The statuses are those of zq replay.";
+
+/// What is said to a person where the words are others, and where the script has a bad line.
+#[derive(Clone, Copy)]
+struct Sayings {
+    usage: &'static str,
+    bad_line: &'static str,
+}
+
+/// Of a run.
+const RUN: Sayings = Sayings {
+    usage: USAGE,
+    bad_line: "zq: the script has a bad line; standard output names it.",
+};
+
+/// Of a run that is shown.
+const SHOW: Sayings = Sayings {
+    usage: SHOW_USAGE,
+    bad_line: "zq: the script has a bad line; what was expected there is shown.",
+};
+
 /// How many links there are: one for each worker.
 const LINKS: usize = 16;
 
@@ -49,6 +82,7 @@ const LINKS: usize = 16;
 enum Asked {
     Help,
     Version,
+    Show,
     Run,
 }
 
@@ -59,8 +93,10 @@ fn read_words(words: &[Text]) -> Asked
         [word] => match word.as_str() {
             "--help" => Asked::Help,
             "--version" => Asked::Version,
+            "show" => Asked::Show,
             _ => Asked::Run,
         },
+        [word, _, ..] if word.as_str() == "show" => Asked::Show,
         _ => Asked::Run,
     }
 }
@@ -84,11 +120,11 @@ fn words(rt: &(impl Env + Alloc), alloc: Global) -> Result<Vec<Text>, Status> {
 }
 
 /// One sentence for a person, where a run did not end well.
-fn sentence(status: Status) -> &'static str {
+fn sentence(sayings: Sayings, status: Status) -> &'static str {
     match status {
         Status::Done => "",
-        Status::Words => USAGE,
-        Status::Script => "zq: the script has a bad line; standard output names it.",
+        Status::Words => sayings.usage,
+        Status::Script => sayings.bad_line,
         Status::ReadFault => "zq: standard input could not be read.",
         Status::WriteFault => "zq: standard output could not be written.",
         Status::Memory => "zq: no memory was found.",
@@ -119,7 +155,7 @@ fn ended_run(
 ) -> ExitCode {
     match (status, said_of(alloc, print, script)) {
         (Status::Script, Ok(Some(sentence))) => ended_with(rt, status, sentence),
-        _ => ended(rt, status),
+        _ => ended(rt, RUN, status),
     }
 }
 
@@ -129,13 +165,13 @@ fn ended_with(rt: &HostRuntime, status: Status, sentence: Vec<u8>) -> ExitCode {
             let _ = eprintln!(rt; "{sentence}");
             ExitCode::from(status.code())
         }
-        Err(_) => ended(rt, status),
+        Err(_) => ended(rt, RUN, status),
     }
 }
 
-fn ended(rt: &HostRuntime, status: Status) -> ExitCode {
+fn ended(rt: &HostRuntime, sayings: Sayings, status: Status) -> ExitCode {
     if !matches!(status, Status::Done) {
-        let _ = eprintln!(rt; "{}", sentence(status));
+        let _ = eprintln!(rt; "{}", sentence(sayings, status));
     }
     ExitCode::from(status.code())
 }
@@ -147,20 +183,43 @@ fn say(rt: &HostRuntime, text: &str) -> ExitCode {
     }
 }
 
+/// Runs the words on the streams of the process.
+fn run_process(rt: &HostRuntime, alloc: Global, words: &[Text]) -> ExitCode {
+    let mut source = KeptSource::new(alloc, ReadSource::new(rt.stdin()));
+    let mut sink = KeptSink::new(alloc, WriteSink::new(rt.stdout()));
+    let status = run_words(rt, alloc, words, &mut source, &mut sink);
+    let (print, script) = (sink.kept.as_slice(), source.kept.as_slice());
+    ended_run(rt, alloc, status, print, script)
+}
+
+/// Shows the run of the script on standard input in a form.
+fn show_process(rt: &HostRuntime, alloc: Global, form: Form) -> ExitCode {
+    let mut source = ReadSource::new(rt.stdin());
+    let mut sink = WriteSink::new(rt.stdout());
+    ended(rt, SHOW, show(alloc, form, &mut source, &mut sink))
+}
+
+/// Does what the words behind `show` ask for.
+fn show_words(rt: &HostRuntime, alloc: Global, words: &[Text]) -> ExitCode {
+    match read_show_words(words) {
+        Some(Shown::Version) => say(rt, SHOW_VERSION),
+        Some(Shown::Run(form)) => show_process(rt, alloc, form),
+        None => ended(rt, SHOW, Status::Words),
+    }
+}
+
 fn main(rt: HostRuntime) -> ExitCode {
     let alloc = rt.alloc();
     match words(&rt, alloc) {
         Ok(words) => match read_words(words.as_slice()) {
             Asked::Help => say(&rt, USAGE),
             Asked::Version => say(&rt, VERSION),
-            Asked::Run => {
-                let mut source = KeptSource::new(alloc, ReadSource::new(rt.stdin()));
-                let mut sink = KeptSink::new(alloc, WriteSink::new(rt.stdout()));
-                let status = run_words(&rt, alloc, words.as_slice(), &mut source, &mut sink);
-                let (print, script) = (sink.kept.as_slice(), source.kept.as_slice());
-                ended_run(&rt, alloc, status, print, script)
-            }
+            Asked::Show => match words.as_slice().split_first() {
+                Some((_, rest)) => show_words(&rt, alloc, rest),
+                None => ended(&rt, SHOW, Status::Words),
+            },
+            Asked::Run => run_process(&rt, alloc, words.as_slice()),
         },
-        Err(status) => ended(&rt, status),
+        Err(status) => ended(&rt, RUN, status),
     }
 }

@@ -3,10 +3,8 @@
 //! - `replay`: reads a script line by line, and keeps what each call gave.
 //! - `words`: what the words of the command ask for.
 //! - `show`: reads a script from a source, and gives the page or the text of its run to a sink.
-//! - `command`: the command on the streams of a process.
 #![tactic(auto)]
 
-pub mod command;
 pub mod replay;
 pub mod show;
 pub mod words;

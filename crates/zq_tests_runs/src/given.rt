@@ -4,6 +4,8 @@ use zq_key::memory::OutOfMemory;
 use zq_key::text::{Bytes, Text};
 use zq_script::run::{Status, run};
 use zq_script::{MemorySink, MemorySource};
+use zq_seen::show::show;
+use zq_seen::words::Form;
 
 fn texts(alloc: Global, words: &[&str]) -> Result<Vec<Text>, OutOfMemory> {
     let mut texts = Vec::new(alloc);
@@ -39,4 +41,17 @@ pub(crate) fn ends_as(
 ) -> Result<bool, OutOfMemory> {
     let (ended, sink) = run_on(alloc, words, script, fails)?;
     Ok(ended == wanted.0 && sink.taken() == wanted.1.as_bytes())
+}
+
+/// How the showing of a script in a form ends, and what it wrote.
+pub(crate) fn show_on(
+    alloc: Global,
+    script: &str,
+    form: Form,
+) -> Result<(Status, MemorySink), OutOfMemory> {
+    let bytes = Bytes::new(alloc, script.as_bytes())?;
+    let mut source = MemorySource::new(bytes, Vec::new(alloc), 1 << 20);
+    let mut sink = MemorySink::new(alloc, 1 << 16, Vec::new(alloc), 1 << 16)?;
+    let status = show(alloc, form, &mut source, &mut sink);
+    Ok((status, sink))
 }

@@ -1,9 +1,11 @@
-//! Tests of whole runs: how they end (`script`), and worked scripts with their prints (`worked`).
+//! Tests of whole runs: how they end (`script`), worked scripts with their prints (`worked`), and a run that is shown (`shown`).
 #![tactic(auto)]
 
 #[cfg(test)]
 mod given;
 #[cfg(test)]
 mod script;
+#[cfg(test)]
+mod shown;
 #[cfg(test)]
 mod worked;
