@@ -1,4 +1,4 @@
-//! Workers that make their calls, each over a link of its own.
+//! Workers make their calls over links.
 ghost use Rattle.std.specs.Prelude.{◌<◌, ◌≤◌, ◌+◌, All, ◌&&◌, length, map};
 ghost use Rattle.std.specs.List.{AllZip, list_all};
 ghost use Rattle.std.specs.Thread.{IsSync};
@@ -44,7 +44,8 @@ fn work_all<K: Works<W> + Sync, W: Send, L: Link + Send, R: Threads + Wait + Syn
     );
 }
 
-/// The first worker makes its calls in this thread, and then the others theirs, each in its own.
+/// The first worker makes its calls in this thread over the first link, and then the others theirs, each in a thread and over a link of
+/// its own.
 pub fn work_parts<K: Works<W> + Sync, W: Send, L: Link + Send, R: Threads + Wait + Sync>(
     rt: &R,
     desk: &K,

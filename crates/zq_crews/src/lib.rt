@@ -1,4 +1,4 @@
-//! Workers that make calls, each over a link of its own and, but for the first, in a thread of its own.
+//! Workers that make calls: the first over the first link, and then the others, each in a thread and over a link of its own.
 //!
 //! - `works`: where workers make their calls
 //! - `crew`: they make them
