@@ -11,7 +11,7 @@ use Rattle.zq_lines.specs.Split.{lines_of}
 use Rattle.zq_script.specs.Running.{EndsWell, IsBad, IsScript}
 use Rattle.zq_script.specs.Script.{script_of}
 use Rattle.zq_program.specs.Running.{IsFitFor, LeavesShared, shared_script}
-use Rattle.zq_program.specs.declared.words.Sharing.{Sharing}
+use Rattle.zq_sharing.specs.declared.words.Sharing.{Sharing}
 
 -- no bytes are a script and have a bad line
 not_both : (read : Result Script ℕ) → IsBad read → IsScript read → ⊥

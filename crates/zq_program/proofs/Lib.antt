@@ -1,3 +1,1 @@
-pub mod Dealt
 pub mod Completed
-pub mod Printed

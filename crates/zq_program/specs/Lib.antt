@@ -1,4 +1,2 @@
-pub mod Words
-pub mod Parts
 pub mod Printing
 pub mod Running

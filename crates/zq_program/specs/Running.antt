@@ -10,7 +10,7 @@ use Rattle.zq_script.specs.declared.run.Status.{Status}
 use Rattle.zq_script.specs.declared.run.Status.TheVariants as status
 use Rattle.zq_script.specs.declared.script.Script.{Script}
 use Rattle.zq_program.specs.Printing.{MayPrint}
-use Rattle.zq_program.specs.declared.words.Sharing.{Sharing}
+use Rattle.zq_sharing.specs.declared.words.Sharing.{Sharing}
 
 -- the script that the bytes are, or the number of its first bad line
 abbrev pub shared_script : Sharing → List ℕ → Result Script ℕ

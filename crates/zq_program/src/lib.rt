@@ -1,17 +1,11 @@
 //! The call that a command makes: it runs scripts, loads, and scripts that several workers make on one gateway.
 //!
-//! - `words`: what the words ask for
-//! - `parts`: scripts whose parts workers may make
-//! - `printing`: the print of a shared run
-//! - `sharing`: a shared run of a script
+//! - `sharing`: a shared run of a script; what it reads and prints is `zq_sharing`'s
 //! - `running`: the call itself
 #![tactic(auto)]
 
-mod parts;
-mod printing;
 mod running;
 mod sharing;
-mod words;
 
 pub use running::program;
-pub use words::{Sharing, sharing_of};
+pub use zq_sharing::words::{Sharing, sharing_of};

@@ -7,14 +7,11 @@ ghost use Rattle.zq_lines.specs.Split.{lines_of};
 ghost use Rattle.zq_script.specs.Script.{script_of};
 ghost use Rattle.zq_script.specs.Running.{EndsWell, IsBad, IsScript};
 ghost use Rattle.zq_crews.specs.Faults.{HaveFaults, SomeRose};
-ghost use Rattle.zq_program.specs.Words.{IsSharing};
-ghost use Rattle.zq_program.specs.Parts.{ArePartsFor};
+ghost use Rattle.zq_sharing.specs.Words.{IsSharing};
+ghost use Rattle.zq_sharing.specs.Parts.{ArePartsFor};
 ghost use Rattle.zq_program.specs.Printing.{IsSharedPrint, MayPrint};
 ghost use Rattle.zq_program.specs.Running.{IsFitFor, IsSharedEnd, LeavesShared, end_of, is_idle, is_unwritten, is_whole};
 
-use crate::parts::read_shared;
-use crate::printing::{print_bad_line, print_shared};
-use crate::words::Sharing;
 use std::alloc::Global;
 use std::sync::Wait;
 use std::thread::Threads;
@@ -25,6 +22,9 @@ use zq_script::refusal::ScriptRefusal;
 use zq_script::run::Status;
 use zq_script::script::Script;
 use zq_share::share;
+use zq_sharing::parts::read_shared;
+use zq_sharing::printing::{print_bad_line, print_shared};
+use zq_sharing::words::Sharing;
 use zq_streams::streams::{Sink, Source};
 use zq_streams::transfer::{ReadRefusal, read_all, write_all};
 

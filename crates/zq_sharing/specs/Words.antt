@@ -2,7 +2,7 @@
 use Rattle.std.specs.Prelude.{ℕ, ◌<◌, ◌≤◌, ◌==◌, List, [], ◌∷◌, Option, Some, None, if◌then◌else◌, codes, min}
 use Rattle.std.specs.Str.{bytes_eq}
 use Rattle.zq_words.specs.Words.{◌>>=◌, number}
-use Rattle.zq_program.specs.declared.words.Sharing.{Sharing}
+use Rattle.zq_sharing.specs.declared.words.Sharing.{Sharing}
 
 -- a number from 1 to the most
 unfoldable pub some_of : ℕ → List ℕ → Option ℕ

@@ -12,7 +12,7 @@ use Rattle.zq_script.specs.Head.{Head, head_of}
 use Rattle.zq_script.specs.Script.{Gives, Parts, made, new_part, onto, onto_parts, parts_from, script_call, script_of, unless_sent, with_line, with_parts}
 use Rattle.zq_script.specs.declared.refusal.ScriptRefusal.{ScriptRefusal}
 use Rattle.zq_script.specs.declared.script.Script.{Script}
-use Rattle.zq_program.specs.Parts.{ArePartsFor}
+use Rattle.zq_sharing.specs.Parts.{ArePartsFor}
 
 -- the call reports nothing
 abbrev Unsent : Call → Type 0

@@ -5,7 +5,7 @@ ghost use Rattle.zq_lines.specs.CallLines.{call_words};
 ghost use Rattle.zq_machine.specs.Machine.{after, step, steps, steps_from};
 ghost use Rattle.zq_prints.specs.Steps.{step_words, steps_words};
 ghost use Rattle.zq_script.specs.Head.{ended};
-ghost use Rattle.zq_program.specs.Printing.{calls_words, shared_print};
+ghost use Rattle.zq_sharing.specs.Printing.{calls_words, shared_print};
 
 use std::alloc::{AllocError, Global};
 use zq_gateway::gateway::Gateway;
@@ -75,7 +75,7 @@ fn push_replay(
 }
 
 /// The print of a shared run: the lines before the calls, the stored calls as lines, a line `--`, and the steps of their replay.
-pub(crate) fn print_shared(
+pub fn print_shared(
     alloc: Global,
     head: &[u8],
     config: &Config,
@@ -91,7 +91,7 @@ pub(crate) fn print_shared(
 }
 
 /// The line that names a bad line.
-pub(crate) fn print_bad_line(alloc: Global, number: u64) -> Result<Bytes, OutOfMemory>
+pub fn print_bad_line(alloc: Global, number: u64) -> Result<Bytes, OutOfMemory>
     ensures { IfOk result (λ b. b ≡ codes "bad line " ++ decimal number ++ 10 ∷ []) }
 {
     let mut out = Vec::new(alloc);

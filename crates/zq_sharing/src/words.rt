@@ -1,6 +1,6 @@
 //! What the words ask for.
 ghost use Rattle.std.specs.Prelude.{◌≡◌, ◌<◌, ◌≤◌, IfSome};
-ghost use Rattle.zq_program.specs.Words.{IsSharing, sharing_of, some_of};
+ghost use Rattle.zq_sharing.specs.Words.{IsSharing, sharing_of, some_of};
 
 use zq_key::text::Text;
 use zq_words::words::number;

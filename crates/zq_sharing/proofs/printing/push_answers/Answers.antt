@@ -1,5 +1,5 @@
-use Rattle.zq_program.proofs.Printed.{next_printed}
-use Rattle.zq_program.proofs.printing.push_answers.Goals as goal
+use Rattle.zq_sharing.proofs.Printed.{next_printed}
+use Rattle.zq_sharing.proofs.printing.push_answers.Goals as goal
 
 pub loop-call-preserved : goal.loop-call-preserved
 loop-call-preserved c = record {

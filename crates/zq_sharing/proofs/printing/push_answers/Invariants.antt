@@ -1,7 +1,7 @@
 use Rattle.std.proofs.Common.{◌≡◌, ◌++◌, drop}
 use Rattle.zq_machine.specs.Machine.{steps_from}
 use Rattle.zq_prints.specs.Steps.{steps_words}
-use Rattle.zq_program.proofs.printing.push_answers.Given as goal
+use Rattle.zq_sharing.proofs.printing.push_answers.Given as goal
 
 abbrev pub invariant-loop-call : goal.invariant-loop-call
 invariant-loop-call l = record {
