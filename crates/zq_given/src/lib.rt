@@ -1,4 +1,4 @@
-//! What the tests of several crates are given: keys and whom they meet, a region, expressions, lists.
+//! What the tests of several crates are given: keys and whom they meet, a script, a region, expressions, lists.
 #![tactic(auto)]
 
 ghost use Rattle.std.specs.Prelude.{◌≡◌, IfOk};
@@ -25,6 +25,16 @@ pub const KEYS: [(&str, &str); 13] = [
     ("a/*/c", "x..........xx"),
     ("a/b/c", "x..........xx"),
 ];
+
+/// A script: a query is asked, and in a second part replied to and ended.
+pub const ASKED: &str = "config 1 10000 north:client local\n\
+    open local 10 client north -\n\
+    open local 11 client north -\n\
+    queryable 0 1 0:s:k c 0 0\n\
+    ask 1 7 0:s:k all - 0 0 hi 0\n\
+    worker\n\
+    reply 0 1 0:s:k ok yo\n\
+    final 0 1\n";
 
 /// Clients below the gateway.
 pub const CLIENTS: Region = Region::South {

@@ -1,3 +1,4 @@
 pub mod Mails
 pub mod Locks
 pub mod Holds
+pub mod Crossing

@@ -2,4 +2,3 @@ pub mod Making
 pub mod Gathering
 pub mod Listed
 pub mod Storing
-pub mod Crossing

@@ -1,11 +1,28 @@
-//! What tests of runs are given: a run in memory, whose streams may fail.
+//! What tests of runs are given: runs, shared runs and shown ones in memory, whose streams and links may fail.
 use std::alloc::Global;
+use std::sync::Wait;
+use std::thread::Threads;
 use zq_key::memory::OutOfMemory;
 use zq_key::text::{Bytes, Text};
+use zq_links::{Link, MemoryLink};
+use zq_program::program;
 use zq_script::run::{Status, run};
 use zq_script::{MemorySink, MemorySource};
 use zq_seen::show::show;
 use zq_seen::words::Form;
+
+/// Which read and which write fails.
+#[derive(Clone, Copy)]
+pub(crate) struct Fails {
+    pub(crate) read: u64,
+    pub(crate) write: u64,
+}
+
+/// None fails.
+pub(crate) const NONE: Fails = Fails {
+    read: u64::MAX,
+    write: u64::MAX,
+};
 
 fn texts(alloc: Global, words: &[&str]) -> Result<Vec<Text>, OutOfMemory> {
     let mut texts = Vec::new(alloc);
@@ -54,4 +71,50 @@ pub(crate) fn show_on(
     let mut sink = MemorySink::new(alloc, 1 << 16, Vec::new(alloc), 1 << 16)?;
     let status = show(alloc, form, &mut source, &mut sink);
     Ok((status, sink))
+}
+
+/// Two links, of each of which that send fails.
+pub(crate) fn links(alloc: Global, fails: u64) -> Result<Vec<MemoryLink>, OutOfMemory> {
+    let one = MemoryLink::new(alloc, vec![in alloc; fails]?);
+    let two = MemoryLink::new(alloc, vec![in alloc; fails]?);
+    Ok(vec![in alloc; one, two]?)
+}
+
+/// Whether a run over these links ends so and wrote this, in pieces of 8 bytes.
+pub(crate) fn ends_over<L: Link + Send, R: Threads + Wait + Sync>(
+    rt: &R,
+    alloc: Global,
+    words: &[&str],
+    script: &str,
+    links: &mut [L],
+    fails: Fails,
+    wanted: (Status, &str),
+) -> Result<bool, OutOfMemory> {
+    let words = texts(alloc, words)?;
+    let bytes = Bytes::new(alloc, script.as_bytes())?;
+    let mut source = MemorySource::new(bytes, vec![in alloc; fails.read]?, 1 << 20);
+    let mut sink = MemorySink::new(alloc, 4096, vec![in alloc; fails.write]?, 8)?;
+    let ended = program(rt, alloc, words.as_slice(), &mut source, &mut sink, links);
+    Ok(ended == wanted.0 && sink.taken() == wanted.1.as_bytes())
+}
+
+/// The same over two links in memory.
+pub(crate) fn ends_as_shared<R: Threads + Wait + Sync>(
+    rt: &R,
+    alloc: Global,
+    words: &[&str],
+    script: &str,
+    fails: Fails,
+    wanted: (Status, &str),
+) -> Result<bool, OutOfMemory> {
+    let mut links = links(alloc, u64::MAX)?;
+    ends_over(
+        rt,
+        alloc,
+        words,
+        script,
+        links.as_mut_slice(),
+        fails,
+        wanted,
+    )
 }

@@ -3,7 +3,6 @@ ghost use Rattle.std.specs.Prelude.{◌≡◌, [], None, length};
 ghost use Rattle.zq_tests_threads.specs.Callers.{IsReady};
 
 use crate::callers::{Caller, Desk, open_two, print_stored};
-use crate::gate_link::{GateLink, is_set};
 use crate::given::{last_part, parts_of, print_leaving};
 use std::alloc::Global;
 use std::marker::Brand;
@@ -12,7 +11,7 @@ use std::sync::atomic::{AtomicU64, Ordering};
 use std::sync::ledger::{Blank, Ledger};
 use std::test::Fail;
 use std::thread::{Threads, join};
-use zq_links::{Link, MemoryLink, SureLink};
+use zq_links::{GateLink, Link, MemoryLink, SureLink, is_set};
 use zq_lock::{Home, SeatList, Shared, TablesLock};
 use zq_machine::call::Call;
 use zq_machine::config::Config;

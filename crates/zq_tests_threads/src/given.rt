@@ -9,16 +9,6 @@ use zq_message::items::Items;
 use zq_prints::steps::print_message;
 use zq_script::script::{Script, read_script};
 
-/// A query is asked, and in a second part replied to and ended.
-pub(crate) const ASKED: &str = "config 1 10000 north:client local\n\
-    open local 10 client north -\n\
-    open local 11 client north -\n\
-    queryable 0 1 0:s:k c 0 0\n\
-    ask 1 7 0:s:k all - 0 0 hi 0\n\
-    worker\n\
-    reply 0 1 0:s:k ok yo\n\
-    final 0 1\n";
-
 /// The configuration and the parts of a script.
 pub(crate) fn parts_of(alloc: Global, text: &str) -> Result<(Config, Vec<Items<Call>>), Fail> {
     match read_script(alloc, text.as_bytes(), 2) {

@@ -3,13 +3,14 @@ ghost use Rattle.std.specs.Prelude.{◌≡◌, [], None, length};
 ghost use Rattle.zq_tests_threads.specs.Callers.{IsReady};
 
 use crate::callers::{Caller, Desk, open_two, print_stored};
-use crate::given::{ASKED, last_part, parts_of, print_leaving};
+use crate::given::{last_part, parts_of, print_leaving};
 use std::alloc::Global;
 use std::marker::Brand;
 use std::mem;
 use std::sync::Wait;
 use std::sync::ledger::{Blank, Ledger};
 use std::test::Fail;
+use zq_given::ASKED;
 use zq_links::MemoryLink;
 use zq_lock::{Home, SeatList, Shared, TablesLock};
 use zq_machine::call::Call;

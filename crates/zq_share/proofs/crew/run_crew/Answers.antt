@@ -1,7 +1,7 @@
 use denote.Exit as Exit
 use denote.Param.{param}
 use denote.Param.Send.{arg_sync, param_sync}
-use Rattle.zq_share.proofs.Crossing.{lock_sync}
+use Rattle.zq_lock.proofs.Crossing.{lock_sync}
 use Rattle.zq_share.proofs.crew.run_crew.Goals as goal
 
 pub work_parts-requires-sync-K : goal.work_parts-requires-sync-K

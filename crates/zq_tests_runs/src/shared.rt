@@ -1,12 +1,11 @@
-use crate::gate_link::GateLink;
-use crate::given::ASKED;
-use crate::runs::{Fails, NONE, ends_as, ends_over, links};
+use crate::given::{Fails, NONE, ends_as_shared, ends_over, links};
 use std::alloc::Global;
 use std::sync::Wait;
 use std::sync::atomic::AtomicU64;
 use std::thread::Threads;
+use zq_given::ASKED;
 use zq_key::memory::OutOfMemory;
-use zq_links::MemoryLink;
+use zq_links::{GateLink, MemoryLink};
 use zq_script::run::Status;
 
 const PRINT: &str = "config 1 10000 north:client local\n\
@@ -119,7 +118,7 @@ fn faults_end(rt: HostRuntime) {
         (u64::MAX, 0, Status::WriteFault, ""),
     ] {
         let fails = Fails { read, write };
-        let ended = ends_as(
+        let ended = ends_as_shared(
             &rt,
             rt.alloc(),
             &["share", "1", "8"],
@@ -142,7 +141,7 @@ fn bad_lines_end(rt: HostRuntime) {
         ),
     ] {
         let wanted = (Status::Script, print);
-        let ended = ends_as(&rt, rt.alloc(), &["share", "1", "8"], script, NONE, wanted);
+        let ended = ends_as_shared(&rt, rt.alloc(), &["share", "1", "8"], script, NONE, wanted);
         assert_eq!(rt; ended, Ok(true), "{script}");
     }
 }
@@ -162,7 +161,7 @@ fn other_words_are_refused(rt: HostRuntime) {
         &["shared", "1", "8"],
     ] {
         let wanted = (Status::Words, "");
-        let ended = ends_as(&rt, rt.alloc(), words, ASKED, NONE, wanted);
+        let ended = ends_as_shared(&rt, rt.alloc(), words, ASKED, NONE, wanted);
         assert_eq!(rt; ended, Ok(true));
     }
 }
@@ -187,7 +186,7 @@ fn slots_bound_the_requests(rt: HostRuntime) {
         = asked 0\n\
         > 0 0 - request 1 0:s:k all - 0 0 -\n";
     let wanted = (Status::Done, print);
-    let ended = ends_as(&rt, rt.alloc(), &["share", "1", "1"], script, NONE, wanted);
+    let ended = ends_as_shared(&rt, rt.alloc(), &["share", "1", "1"], script, NONE, wanted);
     assert_eq!(rt; ended, Ok(true));
 }
 
@@ -195,6 +194,6 @@ fn slots_bound_the_requests(rt: HostRuntime) {
 fn other_words_are_for_a_run(rt: HostRuntime) {
     let counts = "calls 24 handed 9 requests 3 responses 3 finals 3\n";
     let wanted = (Status::Done, counts);
-    let ended = ends_as(&rt, rt.alloc(), &["load", "3"], "", NONE, wanted);
+    let ended = ends_as_shared(&rt, rt.alloc(), &["load", "3"], "", NONE, wanted);
     assert_eq!(rt; ended, Ok(true));
 }

@@ -1,15 +1,16 @@
-//! A link whose first send is held.
+//! A link whose first send is held, as tests of threads need it.
 ghost use Rattle.std.specs.Prelude.{◌≡◌};
 
+use crate::link::Link;
 use std::sync::atomic::{AtomicU64, Ordering};
-use zq_links::{Failed, Link};
 use zq_machine::handed::Handed;
+use zq_streams::streams::Failed;
 
 /// How often a wait looks for its flag.
 const TURNS: u64 = 100_000_000;
 
 /// Whether the flag is set in time.
-pub(crate) fn is_set(flag: &AtomicU64) -> bool {
+pub fn is_set(flag: &AtomicU64) -> bool {
     for _i in 0..TURNS {
         if flag.load(Ordering::SeqCst) != 0 {
             return true;
@@ -20,7 +21,7 @@ pub(crate) fn is_set(flag: &AtomicU64) -> bool {
 
 /// A link whose first send sets a flag, and is held until another flag is set.
 #[derive(Drop)]
-pub(crate) struct GateLink<'a, L: Link + Drop> {
+pub struct GateLink<'a, L: Link + Drop> {
     inner: L,
     begun: &'a AtomicU64,
     opened: &'a AtomicU64,
@@ -30,7 +31,7 @@ pub(crate) struct GateLink<'a, L: Link + Drop> {
 
 impl<'a, L: Link + Drop> GateLink<'a, L> {
     /// The link, over which nothing was sent yet; the flag that its first send sets, and the one that ends the wait.
-    pub(crate) fn new(inner: L, begun: &'a AtomicU64, opened: &'a AtomicU64) -> GateLink<'a, L>
+    pub fn new(inner: L, begun: &'a AtomicU64, opened: &'a AtomicU64) -> GateLink<'a, L>
         ensures { result.inner ≡ inner }
     {
         GateLink {
@@ -43,14 +44,14 @@ impl<'a, L: Link + Drop> GateLink<'a, L> {
     }
 
     /// The link that takes the messages.
-    pub(crate) fn inner(&self) -> &L
+    pub fn inner(&self) -> &L
         ensures { result.now ≡ self.now.inner }
     {
         &self.inner
     }
 
     /// Whether the first send went on without its flag, after a long wait.
-    pub(crate) fn is_late(&self) -> bool
+    pub fn is_late(&self) -> bool
         ensures { result ≡ self.now.is_late }
     {
         self.is_late
