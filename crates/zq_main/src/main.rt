@@ -183,15 +183,6 @@ fn say(rt: &HostRuntime, text: &str) -> ExitCode {
     }
 }
 
-/// Runs the words on the streams of the process.
-fn run_process(rt: &HostRuntime, alloc: Global, words: &[Text]) -> ExitCode {
-    let mut source = KeptSource::new(alloc, ReadSource::new(rt.stdin()));
-    let mut sink = KeptSink::new(alloc, WriteSink::new(rt.stdout()));
-    let status = run_words(rt, alloc, words, &mut source, &mut sink);
-    let (print, script) = (sink.kept.as_slice(), source.kept.as_slice());
-    ended_run(rt, alloc, status, print, script)
-}
-
 /// Shows the run of the script on standard input in a form.
 fn show_process(rt: &HostRuntime, alloc: Global, form: Form) -> ExitCode {
     let mut source = ReadSource::new(rt.stdin());
@@ -218,7 +209,13 @@ fn main(rt: HostRuntime) -> ExitCode {
                 Some((_, rest)) => show_words(&rt, alloc, rest),
                 None => ended(&rt, SHOW, Status::Words),
             },
-            Asked::Run => run_process(&rt, alloc, words.as_slice()),
+            Asked::Run => {
+                let mut source = KeptSource::new(alloc, ReadSource::new(rt.stdin()));
+                let mut sink = KeptSink::new(alloc, WriteSink::new(rt.stdout()));
+                let status = run_words(&rt, alloc, words.as_slice(), &mut source, &mut sink);
+                let (print, script) = (sink.kept.as_slice(), source.kept.as_slice());
+                ended_run(&rt, alloc, status, print, script)
+            }
         },
         Err(status) => ended(&rt, RUN, status),
     }
