@@ -1,5 +1,5 @@
 -- The first of a list and the others.
-use Rattle.std.proofs.Common.{◌≡◌, ℕ, ◌<◌, All, List, [], ◌∷◌, length, get_or, map, set, sym, subst, arith, Bool}
+use Rattle.std.proofs.Common.{ℕ, ◌<◌, All, List, [], ◌∷◌, length, get_or, map, set, sym, subst, arith, Bool}
 use Rattle.std.specs.Prelude.{◌&&◌}
 use Rattle.std.specs.List.{IsFirstAndRest}
 use Rattle.std.proofs.lemmas.List.Elements.{All-head, All-same, All-tail}

@@ -1,5 +1,5 @@
 -- What the other faces of a hat declared on a key.
-use Rattle.std.specs.Prelude.{ℕ, ◌==◌, Bool, true, false, List, fold, Option, None, if◌then◌else◌}
+use Rattle.std.specs.Prelude.{ℕ, ◌==◌, List, fold, Option, None, if◌then◌else◌}
 use Rattle.std.specs.Option.{option_map_or}
 use Rattle.zq_message.specs.declared.message.FaceId.{FaceId}
 use Rattle.zq_message.specs.declared.message.QueryableInfoType.{QueryableInfoType}

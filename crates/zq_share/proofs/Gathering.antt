@@ -1,16 +1,12 @@
 -- What workers have counted, together.
-use Rattle.std.proofs.Common.{◌≡◌, ℕ, ◌+◌, ◌<◌, ◌≤◌, Bool, true, false, List, [], ◌∷◌, ◌++◌, length, map, zero, suc, refl, sym, ap, ◌∙◌, subst, inl, inr, arith, append_assoc, All, Some}
-use Rattle.std.specs.Prelude.{◌&&◌, fold, Contains, slice_index_or, Option}
-use Rattle.std.specs.List.{AllZip, flat_map, list_all}
+use Rattle.std.proofs.Common.{◌≡◌, ℕ, ◌+◌, Bool, true, false, List, [], ◌∷◌, ◌++◌, length, map, refl, sym, ap, ◌∙◌, subst, arith, append_assoc, All}
+use Rattle.std.specs.Prelude.{◌&&◌, Option}
+use Rattle.std.specs.List.{AllZip}
 use Rattle.std.proofs.lemmas.List.{append-nil}
-use Rattle.std.proofs.lemmas.List.Elements.{All-head, All-tail, All-cons, All-nil, All-map, All-weaker}
+use Rattle.std.proofs.lemmas.List.Elements.{All-map, All-weaker}
 use Rattle.atomic_table.specs.Seated.{TableId}
-use Rattle.zq_hold.specs.Seats.{unused_seat}
 use Rattle.zq_machine.specs.declared.call.Call.{Call}
-use Rattle.zq_machine.specs.Calls.{is_sent}
-use Rattle.zq_ties.specs.Stored.{requests_in}
-use Rattle.zq_lock.specs.Answers.{IsListed}
-use Rattle.zq_lock.specs.Tallies.{Counts, Tallied, each, merged, others_in, plus}
+use Rattle.zq_lock.specs.Tallies.{Counts, Tallied, each, merged, plus}
 use Rattle.zq_share.specs.Shares.{all_calls, gathered}
 use Rattle.zq_share.specs.Working.{HasMade, IsReady, MayMake, Worked, Working, all_whole, new_worker}
 use Rattle.zq_share.proofs.Making.{made_none, made_on}

@@ -1,5 +1,5 @@
 -- What is stored of calls that were made.
-use Rattle.std.proofs.Common.{◌≡◌, ◌⊎◌, ℕ, ◌+◌, ◌<◌, ◌≤◌, List, length, zero, suc, refl, ap, subst, inl, inr, arith, Some}
+use Rattle.std.proofs.Common.{◌≡◌, ◌⊎◌, ℕ, ◌<◌, ◌≤◌, List, zero, suc, refl, subst, inl, inr, arith, Some}
 use Rattle.std.specs.Prelude.{Option}
 use Rattle.atomic_table.specs.Seated.{TableId}
 use Rattle.zq_machine.specs.declared.call.Call.{Call}
@@ -8,7 +8,7 @@ use Rattle.zq_ties.specs.Stored.{requests_in}
 use Rattle.zq_ties.specs.Ties.{Sharing}
 use Rattle.zq_lock.specs.Answers.{AllListed}
 use Rattle.zq_lock.specs.Locking.{IsLocked}
-use Rattle.zq_lock.specs.Tallies.{Counts, each, others_in}
+use Rattle.zq_lock.specs.Tallies.{Counts, each}
 use Rattle.zq_share.specs.Shares.{HasStored}
 use Rattle.zq_share.specs.Working.{HasMade}
 

@@ -1,5 +1,5 @@
 -- What workers are given, and what they make of it.
-use Rattle.std.specs.Prelude.{◌≡◌, ◌+◌, Bool, true, false, All, List, [], ◌∷◌, Option}
+use Rattle.std.specs.Prelude.{◌≡◌, ◌+◌, Bool, true, false, All, List, [], Option}
 use Rattle.std.specs.List.{list_all}
 use Rattle.atomic_table.specs.Seated.{TableId}
 use Rattle.zq_hold.specs.Seats.{Holder, unused_seat}
