@@ -4,9 +4,9 @@ ghost use Rattle.zq_machine.specs.declared.call.Call.TheVariants as call;
 ghost use Rattle.zq_machine.specs.Calls.{declared_call, ending_call, message_call};
 
 use std::marker::Model;
-use zq_hat::types::FinalMark;
 use zq_key::message::{Declare, DeclareBody, FaceId, Message};
 use zq_machine::call::Call;
+use zq_strategy::types::FinalMark;
 
 /// Turns the messages of a face into calls (upstream's `DeMux`).
 #[derive(Clone, Copy, Debug, PartialEq, Eq)]

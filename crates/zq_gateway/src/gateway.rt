@@ -1,5 +1,5 @@
 //! The gateway: each call is one event.
-#![tactic(auto, using(zq_calls::proofs::Reached::reached_given))]
+#![tactic(auto, using(crate::proofs::Reached::reached_given))]
 
 ghost use Rattle.std.specs.Prelude.{ℕ, List, length, IfErr, IfNone, IfSome, ◌≡◌, ◌<◌, ◌≤◌, [], true, false, IfOk};
 ghost use Rattle.std.specs.List.{cons_option};
@@ -12,22 +12,22 @@ ghost use Rattle.zq_machine.specs.declared.call.Call.{Call};
 ghost use Rattle.zq_machine.specs.Headline.{RunPromise};
 ghost use Rattle.zq_machine.specs.Machine.{after, done, refused_step, step};
 ghost use Rattle.zq_machine.specs.State.{opening_state};
-ghost use Rattle.zq_calls.specs.Making.{Performs, MayPerform};
-ghost use Rattle.zq_sources.specs.Sourced.{all_queriers, all_queryables};
+ghost use Rattle.zq_gateway.specs.Making.{Performs, MayPerform};
+ghost use Rattle.zq_hat.specs.Sourced.{all_queriers, all_queryables};
 
+use crate::tables::Tables;
 use std::alloc::Global;
 use std::marker::Model;
-use zq_calls::tables::Tables;
-use zq_hat::types::{FinalMark, Network, NodeIds};
+use zq_hat::queriers::all_queriers;
+use zq_hat::queryables::all_queryables;
+use zq_hat::sources::{Source, SourceList};
 use zq_key::memory::OutOfMemory;
 use zq_key::message::{Declare, FaceId, Interest, Mode, Region, Request, Response, Zid};
 use zq_machine::call::{Call, Opening, Refusal, Step};
 use zq_machine::config::Config;
 use zq_machine::handed::Handed;
 use zq_route::gateways::Gateways;
-use zq_sources::queriers::all_queriers;
-use zq_sources::queryables::all_queryables;
-use zq_sources::sources::{Source, SourceList};
+use zq_strategy::types::{FinalMark, Network, NodeIds};
 
 /// What carries queries between faces. Whatever it keeps, calls made it of a new gateway's, so that
 /// all that holds of every run holds of it.
@@ -43,7 +43,7 @@ impl Drop for Gateway {
 
 impl Model for Gateway {
     ghost use Rattle.zq_machine.specs.State.{State};
-    ghost use Rattle.zq_calls.specs.Making.{IsReached};
+    ghost use Rattle.zq_gateway.specs.Making.{IsReached};
 
     ghost Value = { State };
 

@@ -1,16 +1,37 @@
-//! The gateway: calls in, steps out.
+//! The gateway: calls in, steps out. Each call is one event.
 //!
+//! - `tables`: what a gateway keeps, and a call by its kind
+//! - `faces`: faces that come and go
+//! - `interests`: what faces ask to hear
+//! - `keys`: numbers that faces declare for keys
+//! - `leaving`: messages go out through the gates of their faces
+//! - `networks`: networks of regions of routers, and what node numbers stand for
+//! - `queryables`: queryables that faces declare and withdraw, and marks of what they have declared
+//! - `routers`: what routers announce and retract
+//! - `reading`: expressions of faces as they are read
+//! - `requests`: requests, and whom they are handed to
+//! - `replies`: replies, finals, reports that a reply was sent, and moments that have come
 //! - `gateway`: each call is one event
 //! - `demux`: the messages of a face as calls
 //! - `primitives`: what takes the messages of faces
 //! - `runs`: whole runs, with what they promise of each request, reply and final
-//! - what an expression says, which offers are picked, and how messages are written is of `zq_handing`, and the hats of the regions and the gateway's own entries of `zq_own`, both below; calls, steps and configurations are of `zq_machine`
 #![tactic(auto)]
 
 pub mod demux;
+mod faces;
 pub mod gateway;
+mod interests;
+mod keys;
+mod leaving;
+mod networks;
 pub mod primitives;
+mod queryables;
+mod reading;
+mod replies;
+mod requests;
+mod routers;
 pub mod runs;
+pub mod tables;
 
 pub use demux::DeMux;
 pub use gateway::Gateway;

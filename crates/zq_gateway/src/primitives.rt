@@ -48,7 +48,7 @@ pub trait Primitives {
 }
 
 impl Primitives for Gateway {
-    ghost use Rattle.zq_calls.specs.Making.{MayPerform};
+    ghost use Rattle.zq_gateway.specs.Making.{MayPerform};
 
     ghost answers = { MayPerform };
 

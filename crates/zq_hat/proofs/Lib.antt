@@ -1,3 +1,14 @@
-pub mod OfferLaws
-pub mod RoutersMoved
-pub mod OffersMoved
+pub mod Routing
+pub mod Held
+pub mod Reading
+pub mod IndexKeys
+pub mod Keeping
+pub mod Turns
+pub mod Marking
+pub mod Afterwards
+pub mod Seated
+pub mod Writing
+pub mod Gathering
+pub mod Listing
+pub mod Parts
+pub mod Regions

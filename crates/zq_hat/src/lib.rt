@@ -1,12 +1,35 @@
-//! What each region has of its faces, what it offers, and how. What keeps it is `zq_faces`'s.
+//! The hat of a region: its faces with what they declared, what it offers, who declared each key and who asks for it, and the trait of what a gateway asks of it.
 //!
-//! - `types`: what hats keep, offer and tell
-//! - `strategy`: how a region keeps and offers queryables
-//!
-//! `info`, the merge of informations, is `zq_index`'s; offers and their order are `zq_offers`'s.
+//! - `face`: what one face declared
+//! - `faces`: the faces of a hat, their seats and their declarations in the index
+//! - `offers`: what a region offers for the key of a request
+//! - `hat`: the hat of one region
+//! - `sources`: the ids of those who declared a key, or ask for it
+//! - `gathered`: the ids on each key, as they are gathered
+//! - `queryables`: who declared each key, of a region and of all
+//! - `queriers`: who asks for each key, of a region and of all
+//! - `joining`: what regions have on each key, one behind another
+//! - `laws`: what lists of sources say, key by key, as contracts
+//! - `infos`: what a region has on each of its keys
+//! - `status`: whether a key is matched
+//! - `neighbours`: what a face was told of a key, and whether it wants numbers for it
+//! - `queries`: `HatQueriesTrait`, and `Hat` as one that has it
 #![tactic(auto)]
 
-pub mod strategy;
-pub mod types;
+pub mod face;
+mod faces;
+mod gathered;
+pub mod hat;
+pub mod infos;
+mod joining;
+pub mod laws;
+pub mod neighbours;
+mod offers;
+pub mod queriers;
+mod queries;
+pub mod queryables;
+pub mod sources;
+pub mod status;
 
-pub use zq_index::info;
+pub use hat::Hat;
+pub use queries::HatQueriesTrait;

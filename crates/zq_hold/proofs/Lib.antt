@@ -6,3 +6,4 @@ pub mod Seats
 pub mod Keepers
 pub mod Follows
 pub mod Histories
+pub mod Owning

@@ -6,3 +6,4 @@ pub mod Marks
 pub mod Seats
 pub mod Laws
 pub mod Histories
+pub mod Owners

@@ -13,6 +13,8 @@
 //! - `steps`: what each step tells the one that makes it, and how views are cut and joined
 //! - `laws`: what follows from the rule: who leaves the number of a slot 0 is told
 //! - `view`: what the keeper, a seat and a `Last` know, which exists in proofs alone
+//! - `slots`: `Slots`, the keeper with the request that owns each slot
+//! - `find`: the slot that a request owns
 //!
 //! The rule that holds between any two steps of any threads is `IsKept`, in `specs/Rule.antt`: among others, that the number of a slot is
 //! how many hold it, and that exactly one view stands for a slot that is not vacated and that nobody holds. The keeper and each seat count
@@ -28,6 +30,7 @@
 #![tactic(auto)]
 
 mod allotting;
+mod find;
 mod holds;
 mod keeper;
 mod last;
@@ -35,6 +38,7 @@ mod laws;
 mod marked;
 mod seat;
 mod slot;
+mod slots;
 mod steps;
 mod table;
 mod view;
@@ -49,3 +53,4 @@ pub use laws::{
 };
 pub use seat::{HoldSeat, SeatList, apart, release};
 pub use slot::{Mark, Slot};
+pub use slots::Slots;

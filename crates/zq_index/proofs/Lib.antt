@@ -10,3 +10,5 @@ pub mod Finding
 pub mod Ordered
 pub mod Listed
 pub mod Mapped
+pub mod Skipping
+pub mod ForkLemmas

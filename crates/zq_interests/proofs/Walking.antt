@@ -14,11 +14,11 @@ use Rattle.zq_key.proofs.Lookups.{each_entry}
 use Rattle.zq_key.proofs.Runs.{not_below_itself}
 use Rattle.zq_index.specs.Holders.{Place}
 use Rattle.zq_index.specs.Texts.{text_cmp, Lists, IsListed, texts_of}
-use Rattle.zq_search.specs.Skipping.{SkipsListed, NoneFrom}
+use Rattle.zq_index.specs.Skipping.{SkipsListed, NoneFrom}
 use Rattle.zq_index.proofs.Listed.{each_listed}
 use Rattle.zq_index.proofs.Orders.{text_exact, text_total}
 use Rattle.zq_index.proofs.Rebuilt.{sorted_texts}
-use Rattle.zq_search.proofs.Skipping.{IsEnd, IsPassed, all_at_end, from_bound, none_left, nothing_lost, passed, sorted_end}
+use Rattle.zq_index.proofs.Skipping.{IsEnd, IsPassed, all_at_end, from_bound, none_left, nothing_lost, passed, sorted_end}
 use Rattle.zq_interests.specs.Kept.{AreFit, met_at, spots_at}
 
 pub fold_joined : {X Y : Type 0} (step : Y → X → Y) (found : Y) (xs ys : List X) → fold step found (xs ++ ys) ≡ fold step (fold step found xs) ys

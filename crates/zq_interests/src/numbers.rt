@@ -7,7 +7,7 @@ use crate::types::InterestEntry;
 use zq_key::message::FaceId;
 
 /// Which faces want numbers for keys.
-pub trait Keyed {
+pub trait WantsKeys {
     ghost keyed: { Self → ℕ → List ℕ → Bool };
 
     /// Whether an interest of the face meets the key, and numbers may be declared for keys.
@@ -16,7 +16,7 @@ pub trait Keyed {
         ensures { result ≡ keyed self.now face.0 key.now };
 }
 
-impl Keyed for Interests {
+impl WantsKeys for Interests {
     ghost use Rattle.zq_interests.specs.Interests.{has_keyed};
 
     ghost keyed = { λ s face key. has_keyed face key s };
@@ -39,7 +39,7 @@ pub struct WithInterest<'a> {
     pub entry: &'a InterestEntry,
 }
 
-impl<'a> Keyed for WithInterest<'a> {
+impl<'a> WantsKeys for WithInterest<'a> {
     ghost use Rattle.zq_interests.specs.Interests.{has_keyed, with_interest};
 
     ghost keyed = { λ w face key. has_keyed face key (with_interest w.face.0 w.id w.entry.now w.interests.now) };

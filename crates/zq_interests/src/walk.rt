@@ -12,10 +12,10 @@ use crate::places::{PlaceSet, SpotList};
 use std::alloc::Global;
 use std::collections::BTreeSet;
 use std::ops::RangeFull;
+use zq_index::search::{Step, next_step};
 use zq_index::text_set::KeyLists;
 use zq_key::memory::OutOfMemory;
 use zq_key::{intersects, is_plain};
-use zq_search::search::{Step, next_step};
 
 /// The faces of places under a key join others, if it meets the key that is asked for.
 fn add_met(

@@ -22,18 +22,18 @@ use Rattle.zq_message.specs.declared.message.Request.{Request}
 use Rattle.zq_message.specs.declared.message.Response.{Response}
 use Rattle.zq_message.specs.declared.message.ReplyBody.{ReplyBody}
 use Rattle.zq_message.specs.declared.message.ReplyBody.TheVariants as reply
-use Rattle.zq_trees.specs.declared.types.Tree.{Tree}
+use Rattle.zq_strategy.specs.declared.network.Tree.{Tree}
 use Rattle.zq_route.specs.declared.gateways.GatewayEntry.{GatewayEntry}
-use Rattle.zq_hat.specs.declared.types.FinalMark.{FinalMark}
-use Rattle.zq_hat.specs.declared.types.FinalMark.TheVariants as mark
+use Rattle.zq_strategy.specs.declared.types.FinalMark.{FinalMark}
+use Rattle.zq_strategy.specs.declared.types.FinalMark.TheVariants as mark
 use Rattle.zq_machine.specs.declared.call.Opening.{Opening}
 use Rattle.zq_machine.specs.declared.call.Call.{Call}
 use Rattle.zq_machine.specs.declared.call.Call.TheVariants as call
-use Rattle.zq_words.specs.Words.{field, lacks, payload_word, list_word, option_word}
-use Rattle.zq_words.specs.Values.{flag_word, face_word, zid_word, mode_word, bound_word, target_word, region_word, mapping_word, wire_word, zids_word, all_word, direction_word}
-use Rattle.zq_words.proofs.Back.{lacks_append, payload_is_word}
-use Rattle.zq_words.proofs.Lists.{list_lacks}
-use Rattle.zq_words.proofs.ValuesBack.{lacks_between}
+use Rattle.zq_io.specs.Words.{field, lacks, payload_word, list_word, option_word}
+use Rattle.zq_io.specs.Values.{flag_word, face_word, zid_word, mode_word, bound_word, target_word, region_word, mapping_word, wire_word, zids_word, all_word, direction_word}
+use Rattle.zq_io.proofs.Back.{lacks_append, payload_is_word}
+use Rattle.zq_io.proofs.Lists.{list_lacks}
+use Rattle.zq_io.proofs.ValuesBack.{lacks_between}
 use Rattle.zq_lines.specs.Tables.{entry_word, tree_word}
 use Rattle.zq_lines.specs.CallLines.{aggregate_words, deny_item, denies_words, opening_words, info_words, mark_words, body_words, by_words, ids_words, ask_words, reply_words, call_words}
 

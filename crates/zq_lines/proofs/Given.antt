@@ -10,9 +10,9 @@ use Rattle.percent_encoding.specs.Percent.{percent_decode}
 use Rattle.percent_encoding.proofs.PercentLemmas.{All-percent_decode, length-percent_decode}
 use Rattle.std.specs.Prelude.{◌==◌, ◌&&◌, nat_le, nat_lt, codes}
 use Rattle.zq_message.specs.declared.message.Region.TheVariants as region
-use Rattle.zq_words.specs.Words.{◌>>=◌, len_to, after_cut, cut, pieces, read_each, list_of, option_of, is_digit, number_from, number, word_at, read_at, at_end, text_of, payload_of, bytes_of}
-use Rattle.zq_words.specs.Values.{most_16, most_32, most_128, face_of, zid_of, mode_of, wire_of, mapping_of, behind, south_of, region_of, zids_of, all_of, direction_of}
-use Rattle.zq_words.specs.Fits.{IsBytes, IsText, FitsFace, FitsZid, FitsWire, FitsOption, FitsRegion}
+use Rattle.zq_io.specs.Words.{◌>>=◌, len_to, after_cut, cut, pieces, read_each, list_of, option_of, is_digit, number_from, number, word_at, read_at, at_end, text_of, payload_of, bytes_of}
+use Rattle.zq_io.specs.Values.{most_16, most_32, most_128, face_of, zid_of, mode_of, wire_of, mapping_of, behind, south_of, region_of, zids_of, all_of, direction_of}
+use Rattle.zq_io.specs.Fits.{IsBytes, IsText, FitsFace, FitsZid, FitsWire, FitsOption, FitsRegion}
 use Rattle.zq_lines.specs.Tables.{entry_of, tree_of, FitsEntry, FitsTree}
 use Rattle.zq_lines.specs.Fits.{IsNamespace}
 

@@ -6,10 +6,10 @@ use Rattle.std.specs.List.{AllByRecursion}
 use Rattle.std.specs.Prelude.{◌==◌, codes, map, filter}
 use Rattle.zq_message.specs.declared.message.QueryTarget.{QueryTarget}
 use Rattle.zq_message.specs.declared.message.QueryableInfoType.{QueryableInfoType}
-use Rattle.zq_hat.specs.declared.types.FinalMark.TheVariants as mark
-use Rattle.zq_words.specs.Words.{len_to, pieces}
-use Rattle.zq_words.specs.Values.{most_8, most_16, most_32, most_64, mode_of, bound_of, target_of, flag_of}
-use Rattle.zq_words.specs.Fits.{IsBytes, IsText, FitsZid, FitsOption}
+use Rattle.zq_strategy.specs.declared.types.FinalMark.TheVariants as mark
+use Rattle.zq_io.specs.Words.{len_to, pieces}
+use Rattle.zq_io.specs.Values.{most_8, most_16, most_32, most_64, mode_of, bound_of, target_of, flag_of}
+use Rattle.zq_io.specs.Fits.{IsBytes, IsText, FitsZid, FitsOption}
 use Rattle.zq_lines.specs.declared.lines.Deny.{Deny}
 use Rattle.zq_lines.specs.Lines.{deny_side, deny_of, denies_of, at_side, deny_text, opening_of, close_of, key_of, unkey_of, info_at, queryable_of, unqueryable_of, aggregate_of, interest_of, uninterest_of, mark_by, mark_at, finalize_of, manner_at, ask_of, body_by, body_at, by_of, responder_of, reply_of, final_of, sent_of, poll_of, gateways_of, network_of, nodes_of, call_by, other_by, call_of}
 use Rattle.zq_lines.specs.Fits.{FitsMark, FitsBody, FitsCall}

@@ -4,3 +4,7 @@ pub mod Given
 pub mod GivenLines
 pub mod LinesBack
 pub mod Flat
+pub mod Sameness
+pub mod StepsBack
+pub mod Shown
+pub mod EachFits

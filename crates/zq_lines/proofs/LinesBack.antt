@@ -11,28 +11,28 @@ use Rattle.zq_message.specs.declared.message.WireExpr.{WireExpr}
 use Rattle.zq_message.specs.declared.message.QueryableInfoType.{QueryableInfoType}
 use Rattle.zq_message.specs.declared.message.Region.{Region}
 use Rattle.zq_route.specs.declared.gateways.Gateways.{Gateways}
-use Rattle.zq_trees.specs.declared.types.Network.{Network}
-use Rattle.zq_trees.specs.declared.types.NodeIds.{NodeIds}
+use Rattle.zq_strategy.specs.declared.network.Network.{Network}
+use Rattle.zq_strategy.specs.declared.network.NodeIds.{NodeIds}
 use Rattle.zq_message.specs.declared.message.Request.{Request}
 use Rattle.zq_message.specs.declared.message.Response.{Response}
 use Rattle.zq_message.specs.declared.message.ReplyBody.{ReplyBody}
 use Rattle.zq_message.specs.declared.message.ReplyBody.TheVariants as body
-use Rattle.zq_hat.specs.declared.types.FinalMark.{FinalMark}
-use Rattle.zq_hat.specs.declared.types.FinalMark.TheVariants as mark
+use Rattle.zq_strategy.specs.declared.types.FinalMark.{FinalMark}
+use Rattle.zq_strategy.specs.declared.types.FinalMark.TheVariants as mark
 use Rattle.zq_machine.specs.declared.call.Opening.{Opening}
 use Rattle.zq_lines.specs.declared.lines.Deny.{Deny}
 use Rattle.zq_machine.specs.declared.call.Call.{Call}
 use Rattle.zq_machine.specs.declared.call.Call.TheVariants as call
-use Rattle.zq_words.specs.Words.{◌>>=◌, field, lacks, bytes_of, number, read_at, text_of, payload_of, payload_word, list_word, option_of, option_word}
-use Rattle.zq_words.specs.Values.{most_8, most_16, most_32, most_64, flag_of, flag_word, face_word, zid_word, wire_of, wire_word, target_word, region_word, mode_word, bound_word, zids_word, all_word}
+use Rattle.zq_io.specs.Words.{◌>>=◌, field, lacks, bytes_of, number, read_at, text_of, payload_of, payload_word, list_word, option_of, option_word}
+use Rattle.zq_io.specs.Values.{most_8, most_16, most_32, most_64, flag_of, flag_word, face_word, zid_word, wire_of, wire_word, target_word, region_word, mode_word, bound_word, zids_word, all_word}
 use Rattle.zq_lines.specs.Tables.{entry_word, tree_word}
 use Rattle.zq_lines.specs.Lines.{deny_of, denies_of, at_side, deny_text, opening_of, close_of, key_of, unkey_of, info_at, queryable_of, unqueryable_of, aggregate_of, interest_of, uninterest_of, mark_by, mark_at, finalize_of, manner_at, ask_of, body_at, by_of, responder_of, reply_of, final_of, sent_of, poll_of, gateways_of, network_of, nodes_of, call_by, other_by, by_first, call_of}
 use Rattle.zq_lines.specs.CallLines.{aggregate_words, deny_item, denies_words, info_words, mark_words, body_words, by_words, call_words}
-use Rattle.zq_words.specs.Fits.{IsText, IsBytes, FitsFace, FitsZid, FitsWire, FitsOption, FitsRegion}
+use Rattle.zq_io.specs.Fits.{IsText, IsBytes, FitsFace, FitsZid, FitsWire, FitsOption, FitsRegion}
 use Rattle.zq_lines.specs.Fits.{IsNamespace, FitsOpening, FitsIds, FitsRequest, FitsResponse, FitsBody, FitsMark, FitsGateways, FitsNetwork, FitsCall}
-use Rattle.zq_words.proofs.Back.{lacks_append, len_stop, take_front, drop_front, Ends, Reads, then, read_back, number_reads, text_reads, text_back, same_bytes, payload_back, payload_lacks, payload_some, space_escaped}
-use Rattle.zq_words.proofs.Lists.{Piece, each_back, OptionReads, option_reads}
-use Rattle.zq_words.proofs.ValuesBack.{face_reads, mode_reads, bound_reads, zid_reads, wire_reads, target_reads, region_reads, zids_reads, numbers_reads, all_reads}
+use Rattle.zq_io.proofs.Back.{lacks_append, len_stop, take_front, drop_front, Ends, Reads, then, read_back, number_reads, text_reads, text_back, same_bytes, payload_back, payload_lacks, payload_some, space_escaped}
+use Rattle.zq_io.proofs.Lists.{Piece, each_back, OptionReads, option_reads}
+use Rattle.zq_io.proofs.ValuesBack.{face_reads, mode_reads, bound_reads, zid_reads, wire_reads, target_reads, region_reads, zids_reads, numbers_reads, all_reads}
 use Rattle.zq_lines.proofs.TablesBack.{entries_reads, trees_reads}
 
 pub then_last : {X Y : Type 0} {read : List ℕ → Option X} {w : List ℕ} {x : X} {y : Y} (f : X × List ℕ → Option Y) → Reads read w x → f (x, []) ≡ Some y → (read_at read (32 ∷ w) >>= f) ≡ Some y

@@ -2,8 +2,8 @@
 use Rattle.std.proofs.Common.{◌≡◌, ℕ, ◌<◌, List, [], ◌∷◌, Option, Some, None, refl, ap, ◌∙◌, sym, arith, length, take, drop, Bool, true, false}
 use Rattle.std.proofs.lemmas.Grind.{common_steps}
 use Rattle.std.specs.Prelude.{◌==◌}
-use Rattle.zq_words.specs.Words.{len_to, after_cut, cut}
-use Rattle.zq_words.proofs.Split.{cut_next, after_more, after_none, some_left, some_right}
+use Rattle.zq_io.specs.Words.{len_to, after_cut, cut}
+use Rattle.zq_io.proofs.Split.{cut_next, after_more, after_none, some_left, some_right}
 use Rattle.zq_lines.specs.Split.{lines_of}
 
 lines_by : (t : Bool) (b : ℕ) (bs front back : List ℕ) → (b == 10) ≡ t → ((f : List ℕ) → cut 10 bs ≡ Some (f, back) → lines_of bs ≡ f ∷ lines_of back) → cut 10 (b ∷ bs) ≡ Some (front, back) → lines_of (b ∷ bs) ≡ front ∷ lines_of back

@@ -3,13 +3,13 @@ use Rattle.std.proofs.Common.{◌≡◌, ℕ, List, [], ◌∷◌, refl, arith, 
 use Rattle.std.specs.Prelude.{◌==◌, Some}
 use Rattle.std.specs.Fmt.{decimal}
 use Rattle.std.specs.List.{AllByRecursion}
-use Rattle.zq_trees.specs.declared.types.Tree.{Tree}
+use Rattle.zq_strategy.specs.declared.network.Tree.{Tree}
 use Rattle.zq_route.specs.declared.gateways.GatewayEntry.{GatewayEntry}
-use Rattle.zq_words.specs.Words.{is_digit, number, list_of, list_word, lacks}
-use Rattle.zq_words.specs.Values.{most_32, zid_word, zids_word, direction_of, direction_word}
-use Rattle.zq_words.proofs.Back.{cut_back, Reads, decimal_lacks}
-use Rattle.zq_words.proofs.Lists.{Piece, list_back, list_reads, list_lacks}
-use Rattle.zq_words.proofs.ValuesBack.{direction_pieces, directions_apart, lacks_between, number_pieces, numbers_apart, some_between, zid_value, zids_apart, zids_reads}
+use Rattle.zq_io.specs.Words.{is_digit, number, list_of, list_word, lacks}
+use Rattle.zq_io.specs.Values.{most_32, zid_word, zids_word, direction_of, direction_word}
+use Rattle.zq_io.proofs.Back.{cut_back, Reads, decimal_lacks}
+use Rattle.zq_io.proofs.Lists.{Piece, list_back, list_reads, list_lacks}
+use Rattle.zq_io.proofs.ValuesBack.{direction_pieces, directions_apart, lacks_between, number_pieces, numbers_apart, some_between, zid_value, zids_apart, zids_reads}
 use Rattle.zq_lines.specs.Tables.{entry_of, entry_word, tree_of, tree_word, FitsEntry, FitsTree}
 
 -- entries of tables

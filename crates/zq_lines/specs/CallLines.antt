@@ -9,13 +9,13 @@ use Rattle.zq_message.specs.declared.message.Zid.{Zid}
 use Rattle.zq_message.specs.declared.message.QueryableInfoType.{QueryableInfoType}
 use Rattle.zq_message.specs.declared.message.ReplyBody.{ReplyBody}
 use Rattle.zq_message.specs.declared.message.ReplyBody.TheVariants as body
-use Rattle.zq_hat.specs.declared.types.FinalMark.{FinalMark}
-use Rattle.zq_hat.specs.declared.types.FinalMark.TheVariants as mark
+use Rattle.zq_strategy.specs.declared.types.FinalMark.{FinalMark}
+use Rattle.zq_strategy.specs.declared.types.FinalMark.TheVariants as mark
 use Rattle.zq_machine.specs.declared.call.Opening.{Opening}
 use Rattle.zq_machine.specs.declared.call.Call.{Call}
 use Rattle.zq_machine.specs.declared.call.Call.TheVariants as call
-use Rattle.zq_words.specs.Words.{field, payload_word, list_word, option_word}
-use Rattle.zq_words.specs.Values.{flag_word, face_word, zid_word, mode_word, bound_word, target_word, region_word, wire_word, zids_word, all_word}
+use Rattle.zq_io.specs.Words.{field, payload_word, list_word, option_word}
+use Rattle.zq_io.specs.Values.{flag_word, face_word, zid_word, mode_word, bound_word, target_word, region_word, wire_word, zids_word, all_word}
 use Rattle.zq_lines.specs.Tables.{entry_word, tree_word}
 
 -- an item of a list of what may not come in, or of what may not go out: behind the name of the side

@@ -3,3 +3,10 @@ pub mod Tables
 pub mod Lines
 pub mod CallLines
 pub mod Fits
+pub mod Same
+pub mod Steps
+pub mod StepsRead
+pub mod StepsFit
+pub mod Kinds
+pub mod Forms
+pub mod Why

@@ -6,12 +6,12 @@ use Rattle.zq_message.specs.declared.message.QueryableInfoType.{QueryableInfoTyp
 use Rattle.zq_message.specs.declared.message.QueryTarget.{QueryTarget}
 use Rattle.zq_message.specs.declared.message.ReplyBody.{ReplyBody}
 use Rattle.zq_message.specs.declared.message.ReplyBody.TheVariants as body
-use Rattle.zq_hat.specs.declared.types.FinalMark.{FinalMark}
-use Rattle.zq_hat.specs.declared.types.FinalMark.TheVariants as mark
+use Rattle.zq_strategy.specs.declared.types.FinalMark.{FinalMark}
+use Rattle.zq_strategy.specs.declared.types.FinalMark.TheVariants as mark
 use Rattle.zq_machine.specs.declared.call.Call.{Call}
 use Rattle.zq_machine.specs.declared.call.Call.TheVariants as call
-use Rattle.zq_words.specs.Words.{◌>>=◌, len_to, cut, pieces, number, read_at, read_each, at_end, text_of, bytes_of, list_of, option_of}
-use Rattle.zq_words.specs.Values.{most_8, most_16, most_32, most_64, flag_of, face_of, zid_of, mode_of, bound_of, target_of, behind, region_of, wire_of, zids_of, all_of}
+use Rattle.zq_io.specs.Words.{◌>>=◌, len_to, cut, pieces, number, read_at, read_each, at_end, text_of, bytes_of, list_of, option_of}
+use Rattle.zq_io.specs.Values.{most_8, most_16, most_32, most_64, flag_of, face_of, zid_of, mode_of, bound_of, target_of, behind, region_of, wire_of, zids_of, all_of}
 use Rattle.zq_lines.specs.Tables.{entry_of, tree_of}
 use Rattle.zq_lines.specs.declared.lines.Deny.{Deny}
 

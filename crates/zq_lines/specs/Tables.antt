@@ -2,11 +2,11 @@
 use Rattle.std.specs.Prelude.{ℕ, ◌≤◌, List, ◌∷◌, ◌++◌, Option, Some}
 use Rattle.std.specs.Fmt.{decimal}
 use Rattle.std.specs.List.{AllByRecursion}
-use Rattle.zq_trees.specs.declared.types.Tree.{Tree}
+use Rattle.zq_strategy.specs.declared.network.Tree.{Tree}
 use Rattle.zq_route.specs.declared.gateways.GatewayEntry.{GatewayEntry}
-use Rattle.zq_words.specs.Words.{◌>>=◌, cut, number, list_of, list_word}
-use Rattle.zq_words.specs.Values.{most_32, zid_of, zid_word, zids_of, zids_word, direction_of, direction_word}
-use Rattle.zq_words.specs.Fits.{FitsZid, FitsOption}
+use Rattle.zq_io.specs.Words.{◌>>=◌, cut, number, list_of, list_word}
+use Rattle.zq_io.specs.Values.{most_32, zid_of, zid_word, zids_of, zids_word, direction_of, direction_word}
+use Rattle.zq_io.specs.Fits.{FitsZid, FitsOption}
 
 -- the gateways of one node
 unfoldable pub entry_of : List ℕ → Option GatewayEntry

@@ -1,7 +1,7 @@
 //! How calls are written.
 ghost use Rattle.std.specs.Prelude.{◌≡◌, ◌++◌, IfOk, OnOk, Some, true};
 ghost use Rattle.std.specs.List.{flat_map};
-ghost use Rattle.zq_words.specs.Words.{lacks};
+ghost use Rattle.zq_io.specs.Words.{lacks};
 ghost use Rattle.zq_lines.specs.Lines.{call_of};
 ghost use Rattle.zq_machine.specs.declared.call.Call.TheVariants as call;
 ghost use Rattle.zq_lines.specs.Fits.{FitsCall};
@@ -9,13 +9,13 @@ ghost use Rattle.zq_lines.specs.CallLines.{deny_item, aggregate_words, opening_w
 
 use crate::tables::push_items;
 use std::alloc::{AllocError, Global};
-use zq_hat::types::FinalMark;
+use zq_io::show::{Shown, push_field, push_flag};
+use zq_io::words::push_text;
 use zq_key::memory::OutOfMemory;
 use zq_key::message::{FaceId, QueryableInfoType, ReplyBody, Request, Response, WireExpr, Zid};
 use zq_key::text::{Bytes, Text};
 use zq_machine::call::{Call, Opening};
-use zq_words::show::{Shown, push_field, push_flag};
-use zq_words::words::push_text;
+use zq_strategy::types::FinalMark;
 
 /// Writes an item of a deny list, behind the name of its side.
 fn push_deny(out: &mut Vec<u8>, side: &str, text: &Text) -> Result<(), AllocError>

@@ -1,12 +1,14 @@
 //! What one line says.
 ghost use Rattle.std.specs.Prelude.{◌≡◌, IfOk, map, filter, take, length};
 ghost use Rattle.std.specs.Result.{result_map_both};
-ghost use Rattle.zq_words.specs.Words.{Reads, read_at, at_end, read_each, pieces};
+ghost use Rattle.zq_io.specs.Words.{Reads, read_at, at_end, read_each, pieces};
 ghost use Rattle.zq_lines.specs.Lines.{deny_of, denies_of, at_side, deny_text, opening_of, close_of, key_of, unkey_of, info_at, queryable_of, unqueryable_of, aggregate_of, interest_of, uninterest_of, mark_by, mark_at, finalize_of, manner_at, ask_of, body_by, body_at, by_of, responder_of, reply_of, final_of, sent_of, poll_of, gateways_of, network_of, nodes_of, call_by, other_by, call_of};
 
 use crate::tables::{EntriesOf, TreesOf};
 use std::alloc::Global;
-use zq_hat::types::{FinalMark, Network, NodeIds};
+use zq_io::stop::Stop;
+use zq_io::values::{flag_at, flag_of};
+use zq_io::words::{Word, at_end, cut, is, len_to, read_at, read_each, text_of};
 use zq_key::items::Items;
 use zq_key::memory::OutOfMemory;
 use zq_key::message::{
@@ -16,9 +18,7 @@ use zq_key::message::{
 use zq_key::text::{Bytes, Text};
 use zq_machine::call::{Call, Opening};
 use zq_route::gateways::Gateways;
-use zq_words::stop::Stop;
-use zq_words::values::{flag_at, flag_of};
-use zq_words::words::{Word, at_end, cut, is, len_to, read_at, read_each, text_of};
+use zq_strategy::types::{FinalMark, Network, NodeIds};
 
 /// An entry of one of the two deny lists.
 #[derive(Debug, Drop)]

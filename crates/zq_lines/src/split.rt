@@ -2,7 +2,7 @@
 ghost use Rattle.std.specs.Prelude.{◌≡◌, ◌<◌, ◌∷◌, [], IfSome, MatchOption, length};
 ghost use Rattle.zq_lines.specs.Split.{lines_of};
 
-use zq_words::words::cut;
+use zq_io::words::cut;
 
 /// The first line, and what follows it.
 #[tactic(auto, using(crate::proofs::Splitting::lines_cut, crate::proofs::Splitting::lines_last))]

@@ -1,16 +1,16 @@
 //! The words of tables: the gateways of nodes, and trees.
 ghost use Rattle.std.specs.Prelude.{◌≡◌, ◌++◌, ◌∷◌, [], ℕ, List, OnOk};
-ghost use Rattle.zq_words.specs.Words.{field, list_of, list_word, rest_word};
+ghost use Rattle.zq_io.specs.Words.{field, list_of, list_word, rest_word};
 ghost use Rattle.zq_lines.specs.Tables.{entry_of, entry_word, tree_of, tree_word};
 
 use std::alloc::{AllocError, Global};
-use zq_hat::types::Tree;
+use zq_io::show::Shown;
+use zq_io::stop::Stop;
+use zq_io::words::{Word, cut, list_of, push_text};
 use zq_key::items::Items;
 use zq_key::message::Zid;
 use zq_route::gateways::GatewayEntry;
-use zq_words::show::Shown;
-use zq_words::stop::Stop;
-use zq_words::words::{Word, cut, list_of, push_text};
+use zq_strategy::types::Tree;
 
 /// The word of the gateways of one node.
 pub struct EntryOf;

@@ -11,16 +11,16 @@ use Rattle.std.proofs.lemmas.Map.Lookups.{exact_unsigned}
 use Rattle.std.proofs.lemmas.Option.{option_and_then_some, same_Some}
 use Rattle.zq_message.specs.declared.message.Region.{Region}
 use Rattle.zq_message.specs.declared.message.Zid.{Zid}
-use Rattle.zq_regions.specs.Region.{region_index}
-use Rattle.zq_hat.specs.State.{FaceState, HatState}
-use Rattle.zq_hat.specs.Kept.{declaration, face_at, has_face, is_apart, new_hat, registered, unregistered, without_face}
-use Rattle.zq_hat.specs.Marks.{finalized}
-use Rattle.zq_hat.specs.declared.types.Strategy.{Strategy}
-use Rattle.zq_hat.specs.declared.types.Strategy.TheVariants as strategy
-use Rattle.zq_hat.specs.Regions.{in_routers, strategy_at}
-use Rattle.zq_trees.specs.Entries.{staying}
-use Rattle.zq_trees.specs.Nets.{is_listed}
-use Rattle.zq_hat.specs.Routers.{announced, networked, noded, retracted, source_at}
+use Rattle.zq_message.specs.Region.{region_index}
+use Rattle.zq_strategy.specs.State.{FaceState, HatState}
+use Rattle.zq_strategy.specs.Kept.{declaration, face_at, has_face, is_apart, new_hat, registered, unregistered, without_face}
+use Rattle.zq_strategy.specs.Marks.{finalized}
+use Rattle.zq_strategy.specs.declared.types.Strategy.{Strategy}
+use Rattle.zq_strategy.specs.declared.types.Strategy.TheVariants as strategy
+use Rattle.zq_strategy.specs.Regions.{in_routers, strategy_at}
+use Rattle.zq_strategy.specs.Entries.{staying}
+use Rattle.zq_strategy.specs.Nets.{is_listed}
+use Rattle.zq_strategy.specs.Routers.{announced, networked, noded, retracted, source_at}
 use Rattle.zq_query.specs.declared.records.ReplyTo.{ReplyTo}
 use Rattle.zq_query.specs.Closing.{at_face}
 use Rattle.zq_query.specs.Polling.{is_due, timeouts, timing_out}

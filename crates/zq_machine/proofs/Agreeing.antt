@@ -14,15 +14,15 @@ use Rattle.std.proofs.lemmas.Option.{same_Some}
 use Rattle.std.proofs.lemmas.Slice.Eq.{bytes_eq-Decides}
 use Rattle.zq_message.specs.declared.message.QueryableInfoType.{QueryableInfoType}
 use Rattle.zq_message.specs.declared.message.Region.{Region}
-use Rattle.zq_regions.specs.Region.{region_index}
-use Rattle.zq_hat.specs.declared.types.Declaration.{Declaration}
-use Rattle.zq_hat.specs.declared.types.FinalMark.{FinalMark}
-use Rattle.zq_hat.specs.declared.types.FinalMark.TheVariants as mark
-use Rattle.zq_hat.specs.State.{FaceState, HatState}
-use Rattle.zq_hat.specs.Kept.{change_face, declaration, declare, face_at, has_face, is_apart, withdraw}
-use Rattle.zq_hat.specs.Marks.{marked}
-use Rattle.zq_hat.specs.Routers.{noded}
-use Rattle.zq_trees.specs.declared.types.NodeIds.{NodeIds}
+use Rattle.zq_message.specs.Region.{region_index}
+use Rattle.zq_strategy.specs.declared.types.Declaration.{Declaration}
+use Rattle.zq_strategy.specs.declared.types.FinalMark.{FinalMark}
+use Rattle.zq_strategy.specs.declared.types.FinalMark.TheVariants as mark
+use Rattle.zq_strategy.specs.State.{FaceState, HatState}
+use Rattle.zq_strategy.specs.Kept.{change_face, declaration, declare, face_at, has_face, is_apart, withdraw}
+use Rattle.zq_strategy.specs.Marks.{marked}
+use Rattle.zq_strategy.specs.Routers.{noded}
+use Rattle.zq_strategy.specs.declared.network.NodeIds.{NodeIds}
 use Rattle.zq_tables.specs.Naming.{FaceKeys, Names, NamingState, change_naming, face_queryables, first_stays, naming_at, no_keys, text_at, with_name, with_queryable, without_name, without_queryable}
 use Rattle.zq_tables.proofs.Entries.{insert_there}
 use Rattle.zq_machine.specs.declared.face.OpenFace.{OpenFace}

@@ -9,14 +9,14 @@ use Rattle.std.proofs.lemmas.Map.Made.{is_some-lookup}
 use Rattle.std.proofs.lemmas.Option.{same_Some}
 use Rattle.zq_message.specs.declared.message.FaceId.{FaceId}
 use Rattle.zq_index.specs.Texts.{text_cmp}
-use Rattle.zq_trees.specs.declared.types.Telling.{Telling as TreeTelling}
-use Rattle.zq_trees.specs.Tellings.{in_order}
+use Rattle.zq_strategy.specs.declared.network.Telling.{Telling as TreeTelling}
+use Rattle.zq_strategy.specs.Tellings.{in_order}
 use Rattle.zq_interests.specs.declared.types.InterestEntry.{InterestEntry}
 use Rattle.zq_interests.specs.Interests.{Interests, same_asked, interest_at, interests_of, with_interest, without_interest}
-use Rattle.zq_told.specs.declared.types.FaceDues.{FaceDues}
-use Rattle.zq_told.specs.declared.types.Way.{Way}
-use Rattle.zq_told.specs.declared.types.Way.TheVariants.{Answering, Ending}
-use Rattle.zq_told.specs.Ears.{Ear, Ears, at_face, last_at}
+use Rattle.zq_told.specs.declared.types.FaceUpdate.{FaceUpdate}
+use Rattle.zq_told.specs.declared.types.Reason.{Reason}
+use Rattle.zq_told.specs.declared.types.Reason.TheVariants.{Answer, End}
+use Rattle.zq_told.specs.ToldSets.{ToldSet, ToldSets, at_face, last_at}
 use Rattle.zq_told.specs.Laws.{InOrder as RowsInOrder, is_to, last_given, told_in}
 use Rattle.zq_told.specs.Leaving.{AreSound}
 use Rattle.zq_told.specs.Receiver.{Heard, Tied, memory_of, receive}
@@ -25,7 +25,7 @@ use Rattle.zq_told.proofs.Faces.{keeps_faces}
 use Rattle.zq_told.proofs.Leaving.{answers_due}
 use Rattle.zq_told.proofs.Numbers.{ids_are_given}
 use Rattle.zq_told.proofs.Ordered.{tells_in_order}
-use Rattle.zq_tables.specs.declared.said.Said.{Said}
+use Rattle.zq_tables.specs.declared.resolved.Resolved.{Resolved}
 use Rattle.zq_key.proofs.Lookups.{same_key}
 use Rattle.zq_index.proofs.Orders.{text_exact, text_total}
 use Rattle.zq_machine.specs.Deciding.{accepted, causes, refusal_of, told_of}
@@ -60,12 +60,12 @@ same_keys (Some a) (Some b) e = ap Some (by (is_at (text_cmp a) b) refl e)
     by false is f = absurd (true≢false f)
 
 -- ---- one face's rows
-with_sorted : (m : ℕ) (ks : List KeyDue) → RowsInOrder ks → AllByRecursion (λ (x : FaceDues). RowsInOrder x.keys) (with_dues m ks)
+with_sorted : (m : ℕ) (ks : List KeyDue) → RowsInOrder ks → AllByRecursion (λ (x : FaceUpdate). RowsInOrder x.keys) (with_dues m ks)
 with_sorted m [] rise = tt
 with_sorted m (k ∷ ks) rise = (rise, tt)
 
 -- the same faces are there
-faces_still : (way : Way) (ears : Ears) (dues : List FaceDues) (n : ℕ) → is_some (at_face n (tell_due way ears dues)) ≡ is_some (at_face n ears)
+faces_still : (way : Reason) (ears : ToldSets) (dues : List FaceUpdate) (n : ℕ) → is_some (at_face n (tell_due way ears dues)) ≡ is_some (at_face n ears)
 faces_still way ears dues n = is_some-lookup (is_at (nat_cmp n)) (tell_due way ears dues) ∙ ap (list_any (is_at (nat_cmp n))) (keeps_faces way ears dues) ∙ sym (is_some-lookup (is_at (nat_cmp n)) ears)
 
 -- two numbers, by their test
@@ -80,15 +80,15 @@ turned a b is = by (b == a) refl
     by false e = refl
 
 -- the id given last at the asker is the greatest that it was told of
-answer_last : (way : Way) (ears : Ears) (asker : ℕ) (rows : List KeyDue) → RowsInOrder rows → (ear : Ear) (heard : Heard) → at_face asker ears ≡ Some ear → RowsInOrder ear.told → Tied (memory_of ear) heard
+answer_last : (way : Reason) (ears : ToldSets) (asker : ℕ) (rows : List KeyDue) → RowsInOrder rows → (ear : ToldSet) (heard : Heard) → at_face asker ears ≡ Some ear → RowsInOrder ear.told → Tied (memory_of ear) heard
     → last_at asker (tell_due way ears (with_dues asker rows)) ≡ Some (fold last_given ear.last (filter (is_to asker) (tell_faces way ears (with_dues asker rows)).tellings))
 answer_last way ears asker rows rise ear heard there sorted tied =
     let dues = with_dues asker rows in
-    ap (option_map (λ (e : Ear). e.last)) (left_here way ears asker ear there dues (alone_rises asker rows))
+    ap (option_map (λ (e : ToldSet). e.last)) (left_here way ears asker ear there dues (alone_rises asker rows))
     ∙ ap Some (sym (ap (fold last_given ear.last) (told_here way ears asker ear there dues (alone_rises asker rows)) ∙ (ids_are_given way asker ear (keys_at asker dues) heard sorted (subst RowsInOrder (sym (keys_alone asker rows)) rise) tied).1))
 
 -- ---- an interest
-module _ (s : State) (face : FaceId) (id : ℕ) (keys : Manner) (sd : Option Said) (h : refusal_of s.core (hearing face id keys sd) ≡ None) where
+module _ (s : State) (face : FaceId) (id : ℕ) (keys : Manner) (sd : Option Resolved) (h : refusal_of s.core (hearing face id keys sd) ≡ None) where
   abbrev d : Core
   d = accepted s.core (hearing face id keys sd)
 
@@ -111,7 +111,7 @@ module _ (s : State) (face : FaceId) (id : ℕ) (keys : Manner) (sd : Option Sai
   rows_in_order = rows_rise (due s.core more face.0) (asked_keys s.core more face.0 asked) ((keys_rise s.core more face.0).asked asked)
 
   ordered : in_order near ≡ near
-  ordered = in_order_stays telling_total near (tells_in_order Answering s.core.ears (asked_at s.core more face.0 asked) (alone_rises face.0 (asked_dues s.core more face.0 asked)) (with_sorted face.0 (asked_dues s.core more face.0 asked) rows_in_order))
+  ordered = in_order_stays telling_total near (tells_in_order Answer s.core.ears (asked_at s.core more face.0 asked) (alone_rises face.0 (asked_dues s.core more face.0 asked)) (with_sorted face.0 (asked_dues s.core more face.0 asked) rows_in_order))
 
   told_here_by : {K : Type 0} (f : K → TellingBody → K) (g : K → TreeTelling → K) → ((kept : K) → f kept all_told ≡ kept) → ((kept : K) (u : TreeTelling) → f kept (from_hat u).body ≡ g kept u) → (n : ℕ) (kept : K)
       → fold (if_told f n) kept (told_of s.core (hearing face id keys sd)) ≡ fold g kept (filter (is_to n) near)
@@ -139,8 +139,8 @@ module _ (s : State) (face : FaceId) (id : ℕ) (keys : Manner) (sd : Option Sai
                 (subst (Hears s.core more (ears_asked s.core more s.core.ears face.0 asked) face.0)
                 (law.drops heard own ∙ ap (filter (is_due_in s.core more face.0)) (sym (told_here_by with_told receive (λ k. refl) by_ids face.0 heard))) (law.own heard own));
             greatest =
-                answer_last Answering s.core.ears face.0 (asked_dues s.core more face.0 asked) rows_in_order own.ear heard own.there own.sorted own.tied
-                ∙ ap (λ l. Some (fold last_given l (filter (is_to face.0) near))) (same_Some _ _ (sym (ap (option_map (λ (e : Ear). e.last)) own.there) ∙ ap (λ m. last_at m s.core.ears) here ∙ f.greatest))
+                answer_last Answer s.core.ears face.0 (asked_dues s.core more face.0 asked) rows_in_order own.ear heard own.there own.sorted own.tied
+                ∙ ap (λ l. Some (fold last_given l (filter (is_to face.0) near))) (same_Some _ _ (sym (ap (option_map (λ (e : ToldSet). e.last)) own.there) ∙ ap (λ m. last_at m s.core.ears) here ∙ f.greatest))
                 ∙ ap Some (sym (told_here_by greatest_with last_given (λ k. refl) the_greatest face.0 last));
           })
       by false is =
@@ -149,7 +149,7 @@ module _ (s : State) (face : FaceId) (id : ℕ) (keys : Manner) (sd : Option Sai
           record {
             hears = onto s.core d more d.ears n _ (λ key. refl) (subst (Hears s.core more (ears_asked s.core more s.core.ears face.0 asked) n) (sym (told_here_by with_told receive (λ k. refl) by_ids n heard ∙ ap (fold receive heard) (law.silent n ne))) (law.others n ne heard f.hears));
             greatest =
-                ap (option_map (λ (e : Ear). e.last)) (left_beside Answering s.core.ears face.0 n (asked_dues s.core more face.0 asked) (number_test n face.0 ∙ other)) ∙ f.greatest
+                ap (option_map (λ (e : ToldSet). e.last)) (left_beside Answer s.core.ears face.0 n (asked_dues s.core more face.0 asked) (number_test n face.0 ∙ other)) ∙ f.greatest
                 ∙ ap Some (sym (told_here_by greatest_with last_given (λ k. refl) the_greatest n last ∙ ap (fold last_given last) (law.silent n ne)));
           }
 
@@ -167,24 +167,24 @@ module _ (s : State) (face : FaceId) (id : ℕ) (keys : Manner) (sd : Option Sai
   hearing_steps first heards lasts kept = record {
     ears = λ low e. record {
       sound = law.sound e.sound (all_passed (causes s.core (hearing face id keys sd)) h).1.1.1.1.0;
-      faces = λ n. faces_still Answering s.core.ears (asked_at s.core more face.0 asked) n ∙ e.faces n;
+      faces = λ n. faces_still Answer s.core.ears (asked_at s.core more face.0 asked) n ∙ e.faces n;
       all = λ n seen. let x = all_still e.all n seen in (x.0, onto s.core d more d.ears n x.0 (λ key. refl) x.1);
     };
     kept = λ n near_then. follows n (heards n) (lasts n) (kept n (record { opened = near_then.opened; near = near_then.near }));
   }
 
   -- what the asker is told
-  pub answer_exactly : (ear : Ear) → at_face face.0 s.core.ears ≡ Some ear → told_of s.core (hearing face id keys sd) ≡ answered_by face id (map from_hat (told_in Answering face.0 ear (answer_dues d d.interests face.0 asked)))
+  pub answer_exactly : (ear : ToldSet) → at_face face.0 s.core.ears ≡ Some ear → told_of s.core (hearing face id keys sd) ≡ answered_by face id (map from_hat (told_in Answer face.0 ear (answer_dues d d.interests face.0 asked)))
   answer_exactly ear there =
       ap (λ l. answered_by face id (map from_hat l))
       (ordered ∙ by (asked_dues s.core more face.0 asked)
       ∙ answers_due face.0 ear (asked_dues s.core more face.0 asked)
-      ∙ ap (told_in Answering face.0 ear) (rows_owed s.core more face.0 asked)
+      ∙ ap (told_in Answer face.0 ear) (rows_owed s.core more face.0 asked)
       ∙ sym (answers_due face.0 ear (answer_dues s.core more face.0 asked)))
     where
-      by : (ks : List KeyDue) → (tell_faces Answering s.core.ears (with_dues face.0 ks)).tellings ≡ told_in Answering face.0 ear ks
+      by : (ks : List KeyDue) → (tell_faces Answer s.core.ears (with_dues face.0 ks)).tellings ≡ told_in Answer face.0 ear ks
       by [] = refl
-      by (k ∷ ks) = ap (λ o. (option_map_or (λ (e : Ear). with_account face.0 (tell_keys Answering face.0 e (k ∷ ks) []) (record { plan = []; tellings = [] })) o (record { plan = []; tellings = [] })).tellings) there
+      by (k ∷ ks) = ap (λ o. (option_map_or (λ (e : ToldSet). with_account face.0 (tell_keys Answer face.0 e (k ∷ ks) []) (record { plan = []; tellings = [] })) o (record { plan = []; tellings = [] })).tellings) there
 
 -- ---- the end of an interest
 found_some : {X : Type 0} (o : Option X) → is_none o ≡ false → (x : X) × (o ≡ Some x)
@@ -229,24 +229,24 @@ module _ (s : State) (face : FaceId) (id : ℕ) (h : refusal_of s.core (unhearin
     rows_sorted = rows_rise (due s.core less face.0) (ended s.core s.core.interests s.core.ears face.0 id was.0 was.1) (ended_rise s.core s.core.interests s.core.ears face.0 id was.0 was.1 heard own)
 
     end_ordered : in_order near_end ≡ near_end
-    end_ordered = in_order_stays telling_total near_end (tells_in_order Ending s.core.ears (ended_at s.core less s.core.ears face.0 was.0) (alone_rises face.0 rows) (with_sorted face.0 rows rows_sorted))
+    end_ordered = in_order_stays telling_total near_end (tells_in_order End s.core.ears (ended_at s.core less s.core.ears face.0 was.0) (alone_rises face.0 rows) (with_sorted face.0 rows rows_sorted))
 
     end_here : {K : Type 0} (f : K → TellingBody → K) (g : K → TreeTelling → K) → ((kept : K) (u : TreeTelling) → f kept (from_hat u).body ≡ g kept u) → (kept : K)
         → fold (if_told f face.0) kept (told_of s.core (unhearing face id)) ≡ fold g kept (filter (is_to face.0) near_end)
     end_here f g alike kept = end_heard f g alike face.0 kept ∙ ap (λ l. fold g kept (filter (is_to face.0) l)) end_ordered
 
     -- what the asker is told
-    pub end_exactly : told_of s.core (unhearing face id) ≡ map from_hat (told_in Ending face.0 own.ear (map (due_on left left.interests face.0) (option_to_list was.0.key)))
+    pub end_exactly : told_of s.core (unhearing face id) ≡ map from_hat (told_in End face.0 own.ear (map (due_on left left.interests face.0) (option_to_list was.0.key)))
     end_exactly = told_end ∙ ap (map from_hat) (end_ordered ∙ all_own ∙ ending.tells heard own)
       where
-        by : (ks : List KeyDue) → (tell_faces Ending s.core.ears (with_dues face.0 ks)).tellings ≡ told_in Ending face.0 own.ear ks
+        by : (ks : List KeyDue) → (tell_faces End s.core.ears (with_dues face.0 ks)).tellings ≡ told_in End face.0 own.ear ks
         by [] = refl
-        by (k ∷ ks) = ap (λ o. (option_map_or (λ (e : Ear). with_account face.0 (tell_keys Ending face.0 e (k ∷ ks) []) (record { plan = []; tellings = [] })) o (record { plan = []; tellings = [] })).tellings) own.there
+        by (k ∷ ks) = ap (λ o. (option_map_or (λ (e : ToldSet). with_account face.0 (tell_keys End face.0 e (k ∷ ks) []) (record { plan = []; tellings = [] })) o (record { plan = []; tellings = [] })).tellings) own.there
 
         all_own : near_end ≡ filter (is_to face.0) near_end
         all_own =
             by rows
-            ∙ sym (told_here Ending s.core.ears face.0 own.ear own.there (with_dues face.0 rows) (alone_rises face.0 rows) ∙ ap (told_in Ending face.0 own.ear) (keys_alone face.0 rows))
+            ∙ sym (told_here End s.core.ears face.0 own.ear own.there (with_dues face.0 rows) (alone_rises face.0 rows) ∙ ap (told_in End face.0 own.ear) (keys_alone face.0 rows))
 
   abbrev Ends : ℕ → Heard → ℕ → Bool → Type 0
   Ends n heard last b =
@@ -257,7 +257,7 @@ module _ (s : State) (face : FaceId) (id : ℕ) (h : refusal_of s.core (unhearin
   unhearing_steps first heards lasts kept = record {
     ears = λ low e. record {
       sound = subst AreSound (sym ears_left) (ending.sound e.sound);
-      faces = λ n. ap (λ x. is_some (at_face n x)) ears_left ∙ faces_still Ending s.core.ears (ended_at s.core less s.core.ears face.0 was.0) n ∙ e.faces n;
+      faces = λ n. ap (λ x. is_some (at_face n x)) ears_left ∙ faces_still End s.core.ears (ended_at s.core less s.core.ears face.0 was.0) n ∙ e.faces n;
       all = λ n seen. all_by n (e.all n seen);
     };
     kept = λ n near_then. follows_end n (heards n) (lasts n) (kept n (record { opened = near_then.opened; near = near_then.near }));
@@ -269,7 +269,7 @@ module _ (s : State) (face : FaceId) (id : ℕ) (h : refusal_of s.core (unhearin
           by : (b : Bool) → (n == face.0) ≡ b → (heard : Heard) × Hears left less left.ears n heard
           by true is =
               let here : n ≡ face.0 = one_number n face.0 (number_test n face.0 ∙ is) in
-              (_, subst (λ (y : ℕ × Ears). Hears left less y.1 y.0 (heard_ended s.core less s.core.ears face.0 was.0 x.0)) (λ m. (sym here m, sym ears_left m)) (onto s.core left less (ears_ended s.core less s.core.ears face.0 was.0) face.0 _ (λ key. refl) (ending.own x.0 (subst (λ m. Hears s.core s.core.interests s.core.ears m x.0) here x.1))))
+              (_, subst (λ (y : ℕ × ToldSets). Hears left less y.1 y.0 (heard_ended s.core less s.core.ears face.0 was.0 x.0)) (λ m. (sym here m, sym ears_left m)) (onto s.core left less (ears_ended s.core less s.core.ears face.0 was.0) face.0 _ (λ key. refl) (ending.own x.0 (subst (λ m. Hears s.core s.core.interests s.core.ears m x.0) here x.1))))
           by false is = (_, subst (λ y. Hears left less y n x.0) (sym ears_left) (onto s.core left less (ears_ended s.core less s.core.ears face.0 was.0) n x.0 (λ key. refl) (ending.others n (apart n face.0 is) x.0 x.1)))
 
       follows_end : (n : ℕ) (heard : Heard) (last : ℕ) → Follows s.core n heard last → Ends n heard last (face.0 == n)
@@ -282,13 +282,13 @@ module _ (s : State) (face : FaceId) (id : ℕ) (h : refusal_of s.core (unhearin
               subst (λ m. Ends m heard last true) here
               (record {
                 hears =
-                    subst (λ (y : Ears × Heard). Hears left less y.0 face.0 y.1)
+                    subst (λ (y : ToldSets × Heard). Hears left less y.0 face.0 y.1)
                     (λ m. (sym ears_left m, (ending.drops heard own ∙ ap (filter (is_due_in s.core less face.0)) (sym (end_here heard own with_told receive by_ids heard))) m))
                     (onto s.core left less (ears_ended s.core less s.core.ears face.0 was.0) face.0 _ (λ key. refl) (ending.own heard own));
                 greatest =
                     ap (last_at face.0) ears_left
-                    ∙ answer_last Ending s.core.ears face.0 rows (rows_sorted heard own) own.ear heard own.there own.sorted own.tied
-                    ∙ ap (λ l. Some (fold last_given l (filter (is_to face.0) near_end))) (same_Some _ _ (sym (ap (option_map (λ (e : Ear). e.last)) own.there) ∙ ap (λ m. last_at m s.core.ears) here ∙ f.greatest))
+                    ∙ answer_last End s.core.ears face.0 rows (rows_sorted heard own) own.ear heard own.there own.sorted own.tied
+                    ∙ ap (λ l. Some (fold last_given l (filter (is_to face.0) near_end))) (same_Some _ _ (sym (ap (option_map (λ (e : ToldSet). e.last)) own.there) ∙ ap (λ m. last_at m s.core.ears) here ∙ f.greatest))
                     ∙ ap Some (sym (end_here heard own greatest_with last_given the_greatest last));
               })
           by false is =
@@ -296,9 +296,9 @@ module _ (s : State) (face : FaceId) (id : ℕ) (h : refusal_of s.core (unhearin
               let ne = apart n face.0 other in
               record {
                 hears =
-                    subst (λ (y : Ears × Heard). Hears left less y.0 n y.1) (λ m. (sym ears_left m, sym (end_heard with_told receive by_ids n heard ∙ ap (fold receive heard) (other_none n ne)) m))
+                    subst (λ (y : ToldSets × Heard). Hears left less y.0 n y.1) (λ m. (sym ears_left m, sym (end_heard with_told receive by_ids n heard ∙ ap (fold receive heard) (other_none n ne)) m))
                     (onto s.core left less (ears_ended s.core less s.core.ears face.0 was.0) n heard (λ key. refl) (ending.others n ne heard f.hears));
                 greatest =
-                    ap (last_at n) ears_left ∙ ap (option_map (λ (e : Ear). e.last)) (left_beside Ending s.core.ears face.0 n rows (number_test n face.0 ∙ other)) ∙ f.greatest
+                    ap (last_at n) ears_left ∙ ap (option_map (λ (e : ToldSet). e.last)) (left_beside End s.core.ears face.0 n rows (number_test n face.0 ∙ other)) ∙ f.greatest
                     ∙ ap Some (sym (end_heard greatest_with last_given the_greatest n last ∙ ap (fold last_given last) (other_none n ne)));
               }

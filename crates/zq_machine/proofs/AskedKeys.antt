@@ -7,7 +7,7 @@ use Rattle.std.specs.Option.{option_map, option_map_or}
 use Rattle.std.specs.Ordering.{nat_cmp}
 use Rattle.zq_interests.specs.declared.types.InterestEntry.{InterestEntry}
 use Rattle.zq_interests.specs.Interests.{Interests, interests_of, own_key, own_keys, with_interest, without_interest, closed_face}
-use Rattle.zq_tables.specs.declared.said.Said.{Said}
+use Rattle.zq_tables.specs.declared.resolved.Resolved.{Resolved}
 use Rattle.zq_machine.specs.Deciding.{accepted, causes, refusal_of}
 use Rattle.zq_machine.specs.Selecting.{Manner, asked_by, full_text, says_key}
 use Rattle.zq_machine.specs.State.{Core, at}
@@ -36,7 +36,7 @@ of_face face ints all = by (at face ints) (λ es e. each_found Any AskKeys (is_a
     by None h = tt
     by (Some es) h = h es (λ j. Some es)
 
-said_asked : (m : Manner) (sd : Option Said) → not (option_map_or says_key sd true) ≡ false → IsAsked (asked_by m sd)
+said_asked : (m : Manner) (sd : Option Resolved) → not (option_map_or says_key sd true) ≡ false → IsAsked (asked_by m sd)
 said_asked m None e = tt
 said_asked m (Some s) e = said_key s e
 

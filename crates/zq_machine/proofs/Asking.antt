@@ -11,7 +11,7 @@ use Rattle.std.proofs.lemmas.List.Elements.{Contains-append_left, Contains-push}
 use Rattle.zq_message.specs.declared.message.FaceId.{FaceId}
 use Rattle.zq_message.specs.declared.message.Request.{Request}
 use Rattle.zq_message.specs.declared.message.Response.{Response}
-use Rattle.zq_offers.specs.declared.types.QueryTargetQabl.{QueryTargetQabl}
+use Rattle.zq_strategy.specs.declared.offer.QueryTargetQabl.{QueryTargetQabl}
 use Rattle.zq_query.specs.declared.records.Final.{Final}
 use Rattle.zq_query.specs.declared.records.ReplyTo.{ReplyTo}
 use Rattle.zq_query.specs.declared.records.Timeout.{Timeout}
@@ -22,7 +22,7 @@ use Rattle.zq_query.specs.Records.{Pending, QueryState, Record, after_put, final
 use Rattle.zq_query.specs.Tables.{Due}
 use Rattle.zq_query.proofs.TimingOut.{rest_stays}
 use Rattle.zq_tables.specs.Naming.{NamingState}
-use Rattle.zq_tables.specs.declared.said.Said.{Said}
+use Rattle.zq_tables.specs.declared.resolved.Resolved.{Resolved}
 use Rattle.zq_machine.specs.declared.call.Call.{Call}
 use Rattle.zq_machine.specs.declared.call.Call.TheVariants as call
 use Rattle.zq_machine.specs.declared.call.Step.{Step}
@@ -282,7 +282,7 @@ module _ (asked : List Final) (s : State) (all : Asks asked s) where
       (λ r. record { records = no_more; handed = tt; counted = λ rest are. are })
 
   module _ (face : FaceId) (r : Request) (now : ℕ) where
-    abbrev said : Said
+    abbrev said : Resolved
     said = asked_said face r s
 
     abbrev offers : List QueryTargetQabl

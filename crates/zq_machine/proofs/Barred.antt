@@ -4,8 +4,8 @@ use Rattle.std.specs.List.{list_any}
 use Rattle.std.specs.Map.{values_of}
 use Rattle.zq_message.specs.declared.message.FaceId.{FaceId}
 use Rattle.zq_message.specs.declared.message.Request.{Request}
-use Rattle.zq_offers.specs.declared.types.QueryTargetQabl.{QueryTargetQabl}
-use Rattle.zq_tables.specs.declared.said.Said.{Said}
+use Rattle.zq_strategy.specs.declared.offer.QueryTargetQabl.{QueryTargetQabl}
+use Rattle.zq_tables.specs.declared.resolved.Resolved.{Resolved}
 use Rattle.zq_machine.specs.declared.call.Call.{Call}
 use Rattle.zq_machine.specs.declared.call.Call.TheVariants as call
 use Rattle.zq_machine.specs.declared.call.Refusal.{Refusal}
@@ -24,7 +24,7 @@ use Rattle.zq_machine.proofs.Finals.{IsSound}
 use Rattle.zq_machine.proofs.Promises.{refusal_promise, request_promise}
 
 -- what says no key selects nothing
-none_selected : (c : Core) (asker : FaceId) (sd : Said) (r : Request) → says_key sd ≡ false → select c asker sd r ≡ []
+none_selected : (c : Core) (asker : FaceId) (sd : Resolved) (r : Request) → says_key sd ≡ false → select c asker sd r ≡ []
 none_selected c asker sd r none = by (at asker.0 c.faces)
   where
     by : (o : Option OpenFace) → select_for c asker sd r o ≡ []

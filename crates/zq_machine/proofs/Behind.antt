@@ -9,7 +9,7 @@ use Rattle.zq_message.specs.declared.message.Response.{Response}
 use Rattle.zq_message.specs.declared.message.WireExpr.{WireExpr}
 use Rattle.zq_namespace.specs.Denied.{IsPlainSpace}
 use Rattle.zq_namespace.specs.Entry.{entered, is_bare, is_bare_error, is_error}
-use Rattle.zq_tables.specs.declared.said.Said.TheVariants as said_word
+use Rattle.zq_tables.specs.declared.resolved.Resolved.TheVariants as said_word
 use Rattle.zq_tables.specs.Naming.{FaceNaming, face_naming, said_of, said_plainly}
 use Rattle.zq_machine.specs.Behind.{SaysAt, SaysPromise}
 use Rattle.zq_machine.specs.Gates.{denied_by, entered_by, gate_at, reply_by, space_of}

@@ -3,11 +3,11 @@ use Rattle.std.proofs.Common.{◌≡◌, ◌∙◌, refl, ap, ℕ, true, false, 
 use Rattle.std.specs.Prelude.{◌==◌, ◌||◌, is_none, option_map}
 use Rattle.std.specs.Option.{option_and_then, option_map_or}
 use Rattle.zq_message.specs.declared.message.FaceId.{FaceId}
-use Rattle.zq_hat.specs.declared.types.FinalMark.TheVariants as mark
-use Rattle.zq_hat.specs.Moved.{Keeps}
-use Rattle.zq_hat.specs.Routers.{source_at}
-use Rattle.zq_trees.specs.Nets.{is_zid}
-use Rattle.zq_tables.specs.declared.said.Said.TheVariants as said
+use Rattle.zq_strategy.specs.declared.types.FinalMark.TheVariants as mark
+use Rattle.zq_strategy.specs.Moved.{Keeps}
+use Rattle.zq_strategy.specs.Routers.{source_at}
+use Rattle.zq_strategy.specs.Nets.{is_zid}
+use Rattle.zq_tables.specs.declared.resolved.Resolved.TheVariants as said
 use Rattle.zq_tables.specs.Naming.{remaps}
 use Rattle.zq_query.specs.Asking.{lacks_number}
 use Rattle.zq_query.specs.Records.{is_pending, lacks_reply}

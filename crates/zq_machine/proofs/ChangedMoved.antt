@@ -5,21 +5,21 @@ use Rattle.std.specs.Map.{remove_entry, set_value}
 use Rattle.std.specs.Option.{option_map, option_map_or}
 use Rattle.std.specs.Ordering.{nat_cmp}
 use Rattle.std.proofs.lemmas.List.{map-append}
-use Rattle.zq_trees.specs.Tellings.{in_order}
-use Rattle.zq_hat.specs.Kept.{registered, unregistered, without_face}
-use Rattle.zq_hat.specs.Marks.{finalized}
-use Rattle.zq_hat.specs.Moved.{Keeps, move_mark}
-use Rattle.zq_hat.specs.Routers.{networked, noded}
+use Rattle.zq_strategy.specs.Tellings.{in_order}
+use Rattle.zq_strategy.specs.Kept.{registered, unregistered, without_face}
+use Rattle.zq_strategy.specs.Marks.{finalized}
+use Rattle.zq_strategy.specs.Moved.{Keeps, move_mark}
+use Rattle.zq_strategy.specs.Routers.{networked, noded}
 use Rattle.zq_index.proofs.Mapped.{insert-map, remove-map, set-map}
 use Rattle.zq_interests.specs.declared.types.InterestEntry.{InterestEntry}
 use Rattle.zq_interests.specs.Interests.{Interests, interest_at, interests_of, with_interest, without_interest}
 use Rattle.zq_query.specs.Asking.{after_ask}
 use Rattle.zq_query.specs.Closing.{after_close}
-use Rattle.zq_told.specs.Ears.{Ears}
+use Rattle.zq_told.specs.ToldSets.{ToldSets}
 use Rattle.zq_told.specs.Moved.{move_ears}
 use Rattle.zq_message.specs.declared.message.FaceId.{FaceId}
-use Rattle.zq_tables.specs.declared.said.Said.{Said}
-use Rattle.zq_tables.specs.declared.said.Said.TheVariants as said
+use Rattle.zq_tables.specs.declared.resolved.Resolved.{Resolved}
+use Rattle.zq_tables.specs.declared.resolved.Resolved.TheVariants as said
 use Rattle.zq_machine.specs.Deciding.{accepted, announced_by, changed, deadline, ears_of, interests_for, kept, lacks_told, retracted_by, seat, told_of, with_open, with_queries}
 use Rattle.zq_machine.specs.Messages.{Telling, answered_by, answering, from_hat}
 use Rattle.zq_machine.specs.Moved.{move_asked, move_core, move_interest, move_interests, move_said, move_telling, move_text}
@@ -38,7 +38,7 @@ use Rattle.zq_machine.proofs.SelectionMoved.{targets_moved}
 
 module _ (φ : List ℕ → List ℕ) (keeps : Keeps φ) (c : Core) where
   -- ---- what faces ask
-  asked_moved : (face : FaceId) (id : ℕ) (keys : Manner) (s : Option Said) → HasText (hearing face id keys s) → asked_by keys (option_map (move_said φ) s) ≡ move_asked φ (asked_by keys s)
+  asked_moved : (face : FaceId) (id : ℕ) (keys : Manner) (s : Option Resolved) → HasText (hearing face id keys s) → asked_by keys (option_map (move_said φ) s) ≡ move_asked φ (asked_by keys s)
   asked_moved face id keys None e = refl
   asked_moved face id keys (Some said.Unscoped) e = absurd e
   asked_moved face id keys (Some said.Empty) e = absurd e
@@ -102,7 +102,7 @@ module _ (φ : List ℕ → List ℕ) (keeps : Keeps φ) (c : Core) where
   counting_moved t e = refl
 
   -- ---- what is kept of it, and lacks
-  module _ (d : Core) (ints : Interests) (held others : Ears) (same : others ≡ move_ears φ held) where
+  module _ (d : Core) (ints : Interests) (held others : ToldSets) (same : others ≡ move_ears φ held) where
     near_lacks : (t : TextCall) → HasText t → near_lack (move_core φ c) (move_core φ d) (move_interests φ ints) (move_text φ t) others ≡ near_lack c d ints t held
     near_lacks (hearing face id keys sd) e =
         (λ j. answer_lacks (move_core φ d) (move_interests φ ints) (same j) face.0 (asked_moved face id keys sd e j)) ∙ (told_alike φ keeps).lack_asked d ints held face.0 (asked_by keys sd)
@@ -146,7 +146,7 @@ module _ (φ : List ℕ → List ℕ) (keeps : Keeps φ) (c : Core) where
   accepted_moved t e = λ j. record (changed_moved t e j) { ears = ears_moved t e j }
 
   -- ---- what is told
-  module _ (d : Core) (ints : Interests) (t : TextCall) (held others : Ears) (same : others ≡ move_ears φ held) (e : HasText t) where
+  module _ (d : Core) (ints : Interests) (t : TextCall) (held others : ToldSets) (same : others ≡ move_ears φ held) (e : HasText t) where
     due_moved : due_told (move_core φ c) (move_core φ d) (move_interests φ ints) (move_text φ t) others ≡ map (move_telling φ) (due_told c d ints t held)
     due_moved =
         let trees = tree_told c d t ++ all_own_told c.hats d.hats (touched c t) in

@@ -10,10 +10,10 @@ use Rattle.std.proofs.lemmas.Cmp.{nat_cmp_total}
 use Rattle.std.proofs.lemmas.Map.Lookups.{exact_unsigned}
 use Rattle.std.proofs.lemmas.Option.{same_Some}
 use Rattle.zq_message.specs.declared.message.Region.{Region}
-use Rattle.zq_regions.specs.Region.{region_index}
-use Rattle.zq_regions.specs.RegionMap.{value_at}
-use Rattle.zq_hat.specs.State.{FaceState, HatState}
-use Rattle.zq_hat.specs.Kept.{change_face, face_at, has_face}
+use Rattle.zq_message.specs.Region.{region_index}
+use Rattle.zq_message.specs.RegionMap.{value_at}
+use Rattle.zq_strategy.specs.State.{FaceState, HatState}
+use Rattle.zq_strategy.specs.Kept.{change_face, face_at, has_face}
 use Rattle.zq_tables.specs.Naming.{FaceKeys, NamingState, change_naming, naming_at, put_naming}
 use Rattle.zq_machine.specs.State.{at, is_region, hat_at, put_hat, change_hat}
 use Rattle.zq_key.proofs.Lookups.{at_itself, differ, found_after_write, same_key}

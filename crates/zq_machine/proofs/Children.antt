@@ -10,17 +10,17 @@ use Rattle.std.proofs.lemmas.List.Folds.{list_any-append}
 use Rattle.zq_message.specs.declared.message.QueryableInfoType.{QueryableInfoType}
 use Rattle.zq_message.specs.declared.message.Region.{Region}
 use Rattle.zq_message.specs.declared.message.Zid.{Zid}
-use Rattle.zq_regions.specs.Region.{region_index}
-use Rattle.zq_trees.specs.declared.types.Network.{Network}
-use Rattle.zq_trees.specs.declared.types.Telling.{Telling as TreeTelling}
-use Rattle.zq_trees.specs.Entries.{entry_of, staying}
-use Rattle.zq_trees.specs.Nets.{child_ids, children_of, is_listed, is_zid, place_of, tree_at}
-use Rattle.zq_hat.specs.declared.types.Strategy.{Strategy}
-use Rattle.zq_hat.specs.declared.types.Strategy.TheVariants as strategy
-use Rattle.zq_hat.specs.Regions.{in_routers, is_north, strategy_at}
-use Rattle.zq_hat.specs.Routers.{announced, entry_at, networked, retracted}
-use Rattle.zq_hat.specs.State.{HatState}
-use Rattle.zq_trees.specs.Tellings.{in_order}
+use Rattle.zq_message.specs.Region.{region_index}
+use Rattle.zq_strategy.specs.declared.network.Network.{Network}
+use Rattle.zq_strategy.specs.declared.network.Telling.{Telling as TreeTelling}
+use Rattle.zq_strategy.specs.Entries.{entry_of, staying}
+use Rattle.zq_strategy.specs.Nets.{child_ids, children_of, is_listed, is_zid, place_of, tree_at}
+use Rattle.zq_strategy.specs.declared.types.Strategy.{Strategy}
+use Rattle.zq_strategy.specs.declared.types.Strategy.TheVariants as strategy
+use Rattle.zq_strategy.specs.Regions.{in_routers, is_north, strategy_at}
+use Rattle.zq_strategy.specs.Routers.{announced, entry_at, networked, retracted}
+use Rattle.zq_strategy.specs.State.{HatState}
+use Rattle.zq_strategy.specs.Tellings.{in_order}
 use Rattle.zq_machine.specs.declared.call.Call.{Call}
 use Rattle.zq_machine.specs.declared.call.Call.TheVariants as call
 use Rattle.zq_machine.specs.Children.{ChildPromise, StaysChild, is_child, is_child_in, is_face_of, known_after, known_in, root_place, said_for, speaks_for, stands_of, with_heard_of, with_news}

@@ -8,16 +8,16 @@ use Rattle.zq_key.specs.Key.{is_key, is_chunk}
 use Rattle.zq_message.specs.declared.message.FaceId.{FaceId}
 use Rattle.zq_message.specs.declared.message.Request.{Request}
 use Rattle.zq_message.specs.declared.message.Response.{Response}
-use Rattle.zq_offers.specs.declared.types.QueryTargetQabl.{QueryTargetQabl}
-use Rattle.zq_hat.specs.Moved.{Keeps, move_offer}
+use Rattle.zq_strategy.specs.declared.offer.QueryTargetQabl.{QueryTargetQabl}
+use Rattle.zq_strategy.specs.Moved.{Keeps, move_offer}
 use Rattle.zq_query.specs.declared.records.Final.{Final}
 use Rattle.zq_query.specs.declared.records.ReplyTo.{ReplyTo}
 use Rattle.zq_query.specs.declared.records.Timeout.{Timeout}
 use Rattle.zq_query.specs.Closing.{closing_finals, finals_after, finals_landed}
 use Rattle.zq_query.specs.Polling.{timeouts}
 use Rattle.zq_query.specs.Records.{is_entry, is_pending, next_reply}
-use Rattle.zq_tables.specs.declared.said.Said.{Said}
-use Rattle.zq_tables.specs.declared.said.Said.TheVariants as said
+use Rattle.zq_tables.specs.declared.resolved.Resolved.{Resolved}
+use Rattle.zq_tables.specs.declared.resolved.Resolved.TheVariants as said
 use Rattle.zq_machine.specs.declared.call.Refusal.{Refusal}
 use Rattle.zq_machine.specs.Messages.{Decided, text_final}
 use Rattle.zq_machine.specs.declared.face.OpenFace.{OpenFace}
@@ -76,7 +76,7 @@ module _ (φ : List ℕ → List ℕ) where
     requests_moved face text r [] = refl
     requests_moved face text r (o ∷ os) = each_moved text r (o ∷ os)
 
-    asked_by : (face : FaceId) (text : List ℕ) (s : Said) (r : Request) → handed_requests c.queries face (move_suffix φ text) r (select (move_core φ c) face (move_said φ s) r) ≡ map (move_message φ) (handed_requests c.queries face text r (select c face s r))
+    asked_by : (face : FaceId) (text : List ℕ) (s : Resolved) (r : Request) → handed_requests c.queries face (move_suffix φ text) r (select (move_core φ c) face (move_said φ s) r) ≡ map (move_message φ) (handed_requests c.queries face text r (select c face s r))
     asked_by face text s r = ap (handed_requests c.queries face (move_suffix φ text) r) (select_moved φ keeps c face r s) ∙ requests_moved face text r (select c face s r)
 
     asked_none : (face : FaceId) (r : Request) → handed_requests c.queries face (φ []) r (select (move_core φ c) face (said.Full (φ [])) r) ≡ map (move_message φ) (handed_requests c.queries face [] r (select c face (said.Full []) r))

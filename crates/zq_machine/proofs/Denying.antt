@@ -5,8 +5,8 @@ use Rattle.std.proofs.lemmas.List.Folds.{list_any_at}
 use Rattle.std.proofs.Math.Bool.{and-false}
 use Rattle.zq_key.specs.Key.{includes, is_key}
 use Rattle.zq_namespace.specs.Denied.{is_denied}
-use Rattle.zq_tables.specs.declared.said.Said.{Said}
-use Rattle.zq_tables.specs.declared.said.Said.TheVariants as said_word
+use Rattle.zq_tables.specs.declared.resolved.Resolved.{Resolved}
+use Rattle.zq_tables.specs.declared.resolved.Resolved.TheVariants as said_word
 use Rattle.zq_machine.specs.Behind.{Bars}
 use Rattle.zq_machine.specs.Selecting.{says_key}
 use Rattle.zq_machine.specs.TextCalls.{allowed}
@@ -24,7 +24,7 @@ none_denied (k ∷ ks) text free = by (includes k text) refl (none_denied ks tex
 any_denied : (denied : List (List ℕ)) (text k : List ℕ) → Contains denied k → includes k text ≡ true → is_denied denied text ≡ true
 any_denied denied text k (i, l, e) on = list_any_at (λ x. includes x text) denied i k l (ap (λ x. includes x text) e ∙ on)
 
-pub asks_free : (denied : List (List ℕ)) (sd : Said) → ((text : List ℕ) → sd ≡ said_word.Full text → Bars denied text → ⊥) → allowed denied sd ≡ sd
+pub asks_free : (denied : List (List ℕ)) (sd : Resolved) → ((text : List ℕ) → sd ≡ said_word.Full text → Bars denied text → ⊥) → allowed denied sd ≡ sd
 asks_free denied said_word.Unscoped free = refl
 asks_free denied said_word.Empty free = refl
 asks_free denied (said_word.Full text) free =

@@ -8,10 +8,10 @@ use Rattle.std.proofs.lemmas.Option.{same_Some}
 use Rattle.zq_message.specs.declared.message.FaceId.{FaceId}
 use Rattle.zq_message.specs.declared.message.Region.{Region}
 use Rattle.zq_message.specs.declared.message.Request.{Request}
-use Rattle.zq_regions.specs.Region.{region_index}
-use Rattle.zq_hat.specs.State.{FaceState, HatState}
-use Rattle.zq_hat.specs.Kept.{face_at, has_face}
-use Rattle.zq_tables.specs.declared.said.Said.{Said}
+use Rattle.zq_message.specs.Region.{region_index}
+use Rattle.zq_strategy.specs.State.{FaceState, HatState}
+use Rattle.zq_strategy.specs.Kept.{face_at, has_face}
+use Rattle.zq_tables.specs.declared.resolved.Resolved.{Resolved}
 use Rattle.zq_tables.specs.Naming.{naming_at}
 use Rattle.zq_machine.specs.declared.call.Call.{Call}
 use Rattle.zq_machine.specs.declared.face.OpenFace.{OpenFace}
@@ -116,10 +116,10 @@ module _ (config : Settings) (s z : State) (i : InOrder config s) (l : InOrder c
   same_hats : s.core.hats ≡ z.core.hats
   same_hats = same_entries nat_cmp_total exact_unsigned s.core.hats z.core.hats i.hats.sorted l.hats.sorted same_hat
 
-  same_selected : s.core.config ≡ z.core.config → (asker : FaceId) (said : Said) (r : Request) → select s.core asker said r ≡ select z.core asker said r
+  same_selected : s.core.config ≡ z.core.config → (asker : FaceId) (said : Resolved) (r : Request) → select s.core asker said r ≡ select z.core asker said r
   same_selected config_same asker said r = λ j. select (record s.core { config = config_same j; faces = same_faces j; hats = same_hats j; tables = alike.lists j }) asker said r
 
-pub runs_select : (config : Settings) (calls others : List Call) → StandAlike (state_after (opening_state config) calls) (state_after (opening_state config) others) → (asker : FaceId) (s : Said) (r : Request)
+pub runs_select : (config : Settings) (calls others : List Call) → StandAlike (state_after (opening_state config) calls) (state_after (opening_state config) others) → (asker : FaceId) (s : Resolved) (r : Request)
     → select (state_after (opening_state config) calls).core asker s r ≡ select (state_after (opening_state config) others).core asker s r
 runs_select config calls others alike =
     same_selected config (state_after (opening_state config) calls) (state_after (opening_state config) others) (run_in_order config calls) (run_in_order config others) alike

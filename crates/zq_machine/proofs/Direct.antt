@@ -11,10 +11,10 @@ use Rattle.zq_message.specs.declared.message.Mapping.{Mapping}
 use Rattle.zq_message.specs.declared.message.Mapping.TheVariants as mapping
 use Rattle.zq_message.specs.declared.message.WireExpr.{WireExpr}
 use Rattle.zq_names.specs.Texts.{nonwild}
-use Rattle.zq_ids.specs.FaceIds.{next_id}
-use Rattle.zq_ids.specs.FaceTexts.{declared_key, known, known_choice, least_name, new_choice, or_else, prefix_key, tagged, whole_key, with_declared}
-use Rattle.zq_ids.specs.declared.decl.DeclKey.{DeclKey}
-use Rattle.zq_ids.proofs.IdLemmas.{free_from-least, of_id-with_id}
+use Rattle.zq_tables.specs.FaceIds.{next_id}
+use Rattle.zq_tables.specs.FaceTexts.{declared_key, known, known_choice, least_name, new_choice, or_else, prefix_key, tagged, whole_key, with_declared}
+use Rattle.zq_tables.specs.declared.decl.DeclKey.{DeclKey}
+use Rattle.zq_tables.proofs.IdLemmas.{free_from-least, of_id-with_id}
 use Rattle.zq_tables.specs.Naming.{FaceNaming, NamingState, change_naming, face_naming, naming_at, text_at, with_told_number}
 use Rattle.zq_machine.specs.declared.call.Call.{Call}
 use Rattle.zq_machine.specs.Configs.{Settings}

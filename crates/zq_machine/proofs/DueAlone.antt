@@ -12,16 +12,16 @@ use Rattle.zq_message.specs.declared.message.Mode.TheVariants as mode
 use Rattle.zq_message.specs.declared.message.QueryableInfoType.{QueryableInfoType}
 use Rattle.zq_message.specs.declared.message.Region.{Region}
 use Rattle.zq_message.specs.declared.message.Region.TheVariants as region
-use Rattle.zq_regions.specs.Region.{region_index}
+use Rattle.zq_message.specs.Region.{region_index}
 use Rattle.zq_index.specs.Infos.{joined}
-use Rattle.zq_hat.specs.declared.types.Declaration.{Declaration}
+use Rattle.zq_strategy.specs.declared.types.Declaration.{Declaration}
 use Rattle.zq_interests.specs.declared.types.InterestEntry.{InterestEntry}
-use Rattle.zq_hat.specs.declared.types.Strategy.{Strategy}
-use Rattle.zq_hat.specs.declared.types.Strategy.TheVariants as strategy
-use Rattle.zq_hat.specs.Fellows.{fellow_info, with_fellow}
-use Rattle.zq_hat.specs.Kept.{change_face, face_at, info, region_info}
-use Rattle.zq_hat.specs.Regions.{is_north, strategy_at, strategy_of}
-use Rattle.zq_hat.specs.State.{FaceState, HatState}
+use Rattle.zq_strategy.specs.declared.types.Strategy.{Strategy}
+use Rattle.zq_strategy.specs.declared.types.Strategy.TheVariants as strategy
+use Rattle.zq_strategy.specs.Fellows.{fellow_info, with_fellow}
+use Rattle.zq_strategy.specs.Kept.{change_face, face_at, info, region_info}
+use Rattle.zq_strategy.specs.Regions.{is_north, strategy_at, strategy_of}
+use Rattle.zq_strategy.specs.State.{FaceState, HatState}
 use Rattle.zq_machine.specs.declared.face.OpenFace.{OpenFace}
 use Rattle.zq_machine.specs.Due.{plain_due, heard, heard_as, heard_by, listens_by, listens_in, redeclared}
 use Rattle.zq_interests.specs.Interests.{Interests, interests_of, wants}

@@ -14,23 +14,23 @@ use Rattle.zq_message.specs.declared.message.FaceId.{FaceId}
 use Rattle.zq_message.specs.declared.message.QueryableInfoType.{QueryableInfoType}
 use Rattle.zq_message.specs.declared.message.Region.{Region}
 use Rattle.zq_message.specs.declared.message.Zid.{Zid}
-use Rattle.zq_regions.specs.Region.{region_index}
-use Rattle.zq_trees.specs.declared.types.Network.{Network}
-use Rattle.zq_trees.specs.declared.types.Telling.{Telling as TreeTelling}
-use Rattle.zq_trees.specs.declared.types.Tree.{Tree}
-use Rattle.zq_trees.specs.Nets.{child_ids, children_of, fresh_ids, is_zid, place_of}
-use Rattle.zq_trees.specs.Seating.{faces_by, is_other}
-use Rattle.zq_trees.specs.Tellings.{all_told_of, same_infos, telling_cmp, tree_telling}
+use Rattle.zq_message.specs.Region.{region_index}
+use Rattle.zq_strategy.specs.declared.network.Network.{Network}
+use Rattle.zq_strategy.specs.declared.network.Telling.{Telling as TreeTelling}
+use Rattle.zq_strategy.specs.declared.network.Tree.{Tree}
+use Rattle.zq_strategy.specs.Nets.{child_ids, children_of, fresh_ids, is_zid, place_of}
+use Rattle.zq_strategy.specs.Seating.{faces_by, is_other}
+use Rattle.zq_strategy.specs.Tellings.{all_told_of, same_infos, telling_cmp, tree_telling}
 use Rattle.zq_index.specs.Texts.{text_cmp}
-use Rattle.zq_hat.specs.declared.types.Declaration.{Declaration}
-use Rattle.zq_hat.specs.declared.types.Strategy.{Strategy}
-use Rattle.zq_hat.specs.declared.types.Strategy.TheVariants as strategy
-use Rattle.zq_hat.specs.Kept.{at_id, declaration_at, declared_keys, face_at, has_face, key_of, keys_of_face, with_key, with_keys}
-use Rattle.zq_hat.specs.Regions.{in_routers, strategy_at}
-use Rattle.zq_hat.specs.Routers.{face_with, has_zid, losing, source_at}
-use Rattle.zq_hat.specs.State.{FaceState, HatState}
-use Rattle.zq_trees.specs.Entries.{has_by, is_unlisted, keyed_entry}
-use Rattle.zq_hat.specs.Trees.{network_told, own_told, region_keys, root_told, standing_of, to_children, trees_told}
+use Rattle.zq_strategy.specs.declared.types.Declaration.{Declaration}
+use Rattle.zq_strategy.specs.declared.types.Strategy.{Strategy}
+use Rattle.zq_strategy.specs.declared.types.Strategy.TheVariants as strategy
+use Rattle.zq_strategy.specs.Kept.{at_id, declaration_at, declared_keys, face_at, has_face, key_of, keys_of_face, with_key, with_keys}
+use Rattle.zq_strategy.specs.Regions.{in_routers, strategy_at}
+use Rattle.zq_strategy.specs.Routers.{face_with, has_zid, losing, source_at}
+use Rattle.zq_strategy.specs.State.{FaceState, HatState}
+use Rattle.zq_strategy.specs.Entries.{has_by, is_unlisted, keyed_entry}
+use Rattle.zq_strategy.specs.Trees.{network_told, own_told, region_keys, root_told, standing_of, to_children, trees_told}
 use Rattle.zq_tables.specs.Naming.{NamingState, naming_at}
 use Rattle.zq_machine.specs.declared.face.OpenFace.{OpenFace}
 use Rattle.zq_machine.specs.Configs.{Settings}

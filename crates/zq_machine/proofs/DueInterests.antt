@@ -16,10 +16,10 @@ use Rattle.zq_key.proofs.Lawful.{intersects-self}
 use Rattle.zq_key.proofs.Lookups.{either_way}
 use Rattle.zq_index.proofs.Orders.{text_exact, text_total}
 use Rattle.zq_index.specs.Texts.{text_cmp}
-use Rattle.zq_hat.specs.declared.types.Strategy.{Strategy}
-use Rattle.zq_hat.specs.declared.types.Strategy.TheVariants as strategy
-use Rattle.zq_hat.specs.Regions.{is_north, strategy_at}
-use Rattle.zq_hat.specs.State.{HatState}
+use Rattle.zq_strategy.specs.declared.types.Strategy.{Strategy}
+use Rattle.zq_strategy.specs.declared.types.Strategy.TheVariants as strategy
+use Rattle.zq_strategy.specs.Regions.{is_north, strategy_at}
+use Rattle.zq_strategy.specs.State.{HatState}
 use Rattle.zq_interests.specs.declared.types.InterestEntry.{InterestEntry}
 use Rattle.zq_interests.specs.Interests.{Interests, asked_for, asks_folded, asks_for, interests_of, is_own, meets, own_key, own_keys, wants, wants_folded, with_interest, without_interest}
 use Rattle.zq_machine.specs.Due.{KeysRise, asked_keys, due, due_keys, due_touched, face_keys, folded, heard, heard_touched, is_looked, listens_by}

@@ -13,23 +13,23 @@ use Rattle.std.proofs.lemmas.Bool.{false≢true, or_parts, true≢false}
 use Rattle.std.proofs.lemmas.Map.Text.{is_eq-slice_cmp}
 use Rattle.std.proofs.lemmas.Option.{same_Some}
 use Rattle.zq_message.specs.declared.message.QueryableInfoType.{QueryableInfoType}
-use Rattle.zq_regions.specs.Region.{region_index}
+use Rattle.zq_message.specs.Region.{region_index}
 use Rattle.zq_key.proofs.Lookups.{either_way}
 use Rattle.zq_key.proofs.Sorted.{has_put, sorted_put}
 use Rattle.zq_index.specs.Infos.{joined}
 use Rattle.zq_index.specs.Texts.{at_text, text_cmp}
 use Rattle.zq_index.proofs.Merges.{joined_none}
 use Rattle.zq_index.proofs.Orders.{text_exact, text_total}
-use Rattle.zq_trees.specs.Entries.{Entries, Routed, routed_info}
-use Rattle.zq_hat.specs.declared.types.Declaration.{Declaration}
-use Rattle.zq_hat.specs.declared.types.FaceRecord.{FaceRecord}
-use Rattle.zq_hat.specs.declared.types.Strategy.{Strategy}
-use Rattle.zq_hat.specs.declared.types.Strategy.TheVariants as strategy
-use Rattle.zq_hat.specs.Fellows.{fellow_info, with_fellow}
-use Rattle.zq_hat.specs.Kept.{declared_keys, face_at, faces_info, has_face, info, key_of, new_face, region_info, routers_info, with_declared, with_face, with_face_opened, with_key, with_keys}
-use Rattle.zq_hat.specs.Regions.{in_routers, strategy_at}
-use Rattle.zq_hat.specs.State.{FaceState, HatState}
-use Rattle.zq_hat.specs.Trees.{region_keys}
+use Rattle.zq_strategy.specs.Entries.{Entries, Routed, routed_info}
+use Rattle.zq_strategy.specs.declared.types.Declaration.{Declaration}
+use Rattle.zq_strategy.specs.declared.types.FaceRecord.{FaceRecord}
+use Rattle.zq_strategy.specs.declared.types.Strategy.{Strategy}
+use Rattle.zq_strategy.specs.declared.types.Strategy.TheVariants as strategy
+use Rattle.zq_strategy.specs.Fellows.{fellow_info, with_fellow}
+use Rattle.zq_strategy.specs.Kept.{declared_keys, face_at, faces_info, has_face, info, key_of, new_face, region_info, routers_info, with_declared, with_face, with_face_opened, with_key, with_keys}
+use Rattle.zq_strategy.specs.Regions.{in_routers, strategy_at}
+use Rattle.zq_strategy.specs.State.{FaceState, HatState}
+use Rattle.zq_strategy.specs.Trees.{region_keys}
 use Rattle.zq_machine.specs.declared.call.Opening.{Opening}
 use Rattle.zq_machine.specs.declared.face.OpenFace.{OpenFace}
 use Rattle.zq_machine.specs.Deciding.{accepted, seat}

@@ -14,29 +14,29 @@ use Rattle.std.proofs.lemmas.Option.{same_Some}
 use Rattle.zq_message.specs.declared.message.QueryableInfoType.{QueryableInfoType}
 use Rattle.zq_message.specs.declared.message.Region.{Region}
 use Rattle.zq_message.specs.declared.message.Zid.{Zid}
-use Rattle.zq_regions.specs.Region.{region_index}
+use Rattle.zq_message.specs.Region.{region_index}
 use Rattle.zq_key.proofs.Lookups.{found_after_insertion, found_after_removal, same_key}
 use Rattle.zq_index.specs.Holders.{if_any, with_held}
 use Rattle.zq_index.specs.Infos.{joined, merge}
 use Rattle.zq_index.specs.Texts.{at_text, text_cmp}
 use Rattle.zq_index.proofs.Orders.{text_exact, text_total}
-use Rattle.zq_trees.specs.declared.types.Network.{Network}
-use Rattle.zq_trees.specs.Entries.{Entries, Routed, is_by, routed_info, routed_without, staying, with_entries, without_entry}
-use Rattle.zq_trees.specs.Nets.{is_listed}
-use Rattle.zq_hat.specs.declared.types.Declaration.{Declaration}
-use Rattle.zq_hat.specs.declared.types.Strategy.{Strategy}
-use Rattle.zq_hat.specs.declared.types.Strategy.TheVariants as strategy
-use Rattle.zq_hat.specs.Kept.{face_at, faces_info, has_any, info, is_on, region_info, routers_info, unregistered, with_declared, with_face, withdraw, without_face}
-use Rattle.zq_hat.specs.Regions.{in_routers, strategy_at}
-use Rattle.zq_hat.specs.Routers.{networked, retracted, source_at}
-use Rattle.zq_hat.specs.State.{FaceState, HatState}
+use Rattle.zq_strategy.specs.declared.network.Network.{Network}
+use Rattle.zq_strategy.specs.Entries.{Entries, Routed, is_by, routed_info, routed_without, staying, with_entries, without_entry}
+use Rattle.zq_strategy.specs.Nets.{is_listed}
+use Rattle.zq_strategy.specs.declared.types.Declaration.{Declaration}
+use Rattle.zq_strategy.specs.declared.types.Strategy.{Strategy}
+use Rattle.zq_strategy.specs.declared.types.Strategy.TheVariants as strategy
+use Rattle.zq_strategy.specs.Kept.{face_at, faces_info, has_any, info, is_on, region_info, routers_info, unregistered, with_declared, with_face, withdraw, without_face}
+use Rattle.zq_strategy.specs.Regions.{in_routers, strategy_at}
+use Rattle.zq_strategy.specs.Routers.{networked, retracted, source_at}
+use Rattle.zq_strategy.specs.State.{FaceState, HatState}
 use Rattle.zq_machine.specs.declared.call.Call.{Call}
 use Rattle.zq_machine.specs.declared.call.Call.TheVariants as call
 use Rattle.zq_machine.specs.declared.face.OpenFace.{OpenFace}
 use Rattle.zq_machine.specs.Calls.{declares}
 use Rattle.zq_machine.specs.Configs.{Settings}
 use Rattle.zq_machine.specs.Deciding.{accepted, opened, refusal_of, retracted_by}
-use Rattle.zq_hat.specs.Fellows.{fellow_info, with_fellow}
+use Rattle.zq_strategy.specs.Fellows.{fellow_info, with_fellow}
 use Rattle.zq_machine.specs.Due.{plain_due, due_keys, heard_as, heard_by, is_heard_touched, listens, listens_in}
 use Rattle.zq_interests.specs.Interests.{Interests}
 use Rattle.zq_machine.specs.Machine.{after, state_after}

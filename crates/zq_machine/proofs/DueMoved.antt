@@ -13,29 +13,29 @@ use Rattle.zq_message.specs.declared.message.FaceId.{FaceId}
 use Rattle.zq_message.specs.declared.message.QueryableInfoType.{QueryableInfoType}
 use Rattle.zq_message.specs.declared.message.Region.{Region}
 use Rattle.zq_message.specs.declared.message.Zid.{Zid}
-use Rattle.zq_regions.specs.Region.{region_index}
+use Rattle.zq_message.specs.Region.{region_index}
 use Rattle.zq_key.proofs.Naturals.{flat_map-map, fold-map, fold-moved, map-map}
 use Rattle.zq_index.specs.Infos.{joined}
 use Rattle.zq_index.specs.Texts.{text_cmp}
-use Rattle.zq_trees.specs.declared.types.Network.{Network}
-use Rattle.zq_trees.specs.declared.types.Telling.{Telling as TreeTelling}
-use Rattle.zq_trees.specs.declared.types.Tree.{Tree}
-use Rattle.zq_trees.specs.Nets.{child_ids, children_of, fresh_ids, is_zid, place_of}
-use Rattle.zq_trees.specs.Seating.{faces_by}
-use Rattle.zq_trees.specs.Tellings.{all_told_of, in_order, same_infos, telling_cmp, tree_telling}
-use Rattle.zq_hat.specs.declared.types.Declaration.{Declaration}
-use Rattle.zq_hat.specs.declared.types.Strategy.{Strategy}
-use Rattle.zq_hat.specs.declared.types.Strategy.TheVariants as strategy
-use Rattle.zq_hat.specs.Kept.{at_id, declaration_at, declared_keys, faces_info, info, key_of, keys_of_face, region_info, with_declared, with_face, with_key, with_keys}
-use Rattle.zq_hat.specs.Moved.{Keeps, move_declared, move_entry, move_face, move_hat}
-use Rattle.zq_hat.specs.Regions.{in_routers, strategy_at}
-use Rattle.zq_hat.specs.Routers.{face_with, losing, source_at}
-use Rattle.zq_hat.specs.State.{FaceState, HatState}
-use Rattle.zq_trees.specs.Entries.{has_by, is_unlisted, keyed_entry}
-use Rattle.zq_hat.specs.Trees.{network_told, own_told, region_keys, root_told, standing_of, to_children, trees_told}
-use Rattle.zq_hat.proofs.OffersMoved.{key_moved}
-use Rattle.zq_hat.proofs.RoutersMoved.{joined_lists, routers_info_moved, seat_moved}
-use Rattle.zq_tables.specs.declared.said.Said.TheVariants as said
+use Rattle.zq_strategy.specs.declared.network.Network.{Network}
+use Rattle.zq_strategy.specs.declared.network.Telling.{Telling as TreeTelling}
+use Rattle.zq_strategy.specs.declared.network.Tree.{Tree}
+use Rattle.zq_strategy.specs.Nets.{child_ids, children_of, fresh_ids, is_zid, place_of}
+use Rattle.zq_strategy.specs.Seating.{faces_by}
+use Rattle.zq_strategy.specs.Tellings.{all_told_of, in_order, same_infos, telling_cmp, tree_telling}
+use Rattle.zq_strategy.specs.declared.types.Declaration.{Declaration}
+use Rattle.zq_strategy.specs.declared.types.Strategy.{Strategy}
+use Rattle.zq_strategy.specs.declared.types.Strategy.TheVariants as strategy
+use Rattle.zq_strategy.specs.Kept.{at_id, declaration_at, declared_keys, faces_info, info, key_of, keys_of_face, region_info, with_declared, with_face, with_key, with_keys}
+use Rattle.zq_strategy.specs.Moved.{Keeps, move_declared, move_entry, move_face, move_hat}
+use Rattle.zq_strategy.specs.Regions.{in_routers, strategy_at}
+use Rattle.zq_strategy.specs.Routers.{face_with, losing, source_at}
+use Rattle.zq_strategy.specs.State.{FaceState, HatState}
+use Rattle.zq_strategy.specs.Entries.{has_by, is_unlisted, keyed_entry}
+use Rattle.zq_strategy.specs.Trees.{network_told, own_told, region_keys, root_told, standing_of, to_children, trees_told}
+use Rattle.zq_strategy.proofs.OffersMoved.{key_moved}
+use Rattle.zq_strategy.proofs.RoutersMoved.{joined_lists, routers_info_moved, seat_moved}
+use Rattle.zq_tables.specs.declared.resolved.Resolved.TheVariants as said
 use Rattle.zq_machine.specs.Moved.{move_core, move_region, move_telling, move_text, move_told}
 use Rattle.zq_machine.specs.State.{Core, hat_at, hat_of}
 use Rattle.zq_machine.specs.TextCalls.{TextCall, closing, declaring, withdrawing, announcing, retracting, networking}

@@ -15,18 +15,18 @@ use Rattle.zq_message.specs.declared.message.Mode.TheVariants as mode
 use Rattle.zq_message.specs.declared.message.QueryableInfoType.{QueryableInfoType}
 use Rattle.zq_message.specs.declared.message.Region.{Region}
 use Rattle.zq_message.specs.declared.message.Region.TheVariants as region
-use Rattle.zq_regions.specs.Region.{region_index}
+use Rattle.zq_message.specs.Region.{region_index}
 use Rattle.zq_key.specs.Key.{intersects}
 use Rattle.zq_index.specs.Infos.{joined}
 use Rattle.zq_index.proofs.Laws.{merge_self}
 use Rattle.zq_index.proofs.Merges.{joined_none, joined_regroup, joined_swap}
 use Rattle.zq_interests.specs.declared.types.InterestEntry.{InterestEntry}
-use Rattle.zq_hat.specs.declared.types.Strategy.{Strategy}
-use Rattle.zq_hat.specs.declared.types.Strategy.TheVariants as strategy
-use Rattle.zq_hat.specs.Fellows.{fellow_info}
-use Rattle.zq_hat.specs.Kept.{at_id, face_at, info, region_info}
-use Rattle.zq_hat.specs.Regions.{in_routers, is_north, strategy_at, strategy_of}
-use Rattle.zq_hat.specs.State.{FaceState, HatState}
+use Rattle.zq_strategy.specs.declared.types.Strategy.{Strategy}
+use Rattle.zq_strategy.specs.declared.types.Strategy.TheVariants as strategy
+use Rattle.zq_strategy.specs.Fellows.{fellow_info}
+use Rattle.zq_strategy.specs.Kept.{at_id, face_at, info, region_info}
+use Rattle.zq_strategy.specs.Regions.{in_routers, is_north, strategy_at, strategy_of}
+use Rattle.zq_strategy.specs.State.{FaceState, HatState}
 use Rattle.zq_machine.specs.declared.call.Call.{Call}
 use Rattle.zq_machine.specs.declared.face.OpenFace.{OpenFace}
 use Rattle.zq_machine.specs.Configs.{Settings}

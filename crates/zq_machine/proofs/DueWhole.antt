@@ -7,15 +7,15 @@ use Rattle.std.specs.Option.{is_some, option_and_then, option_map, option_map_or
 use Rattle.std.specs.Str.{bytes_eq}
 use Rattle.std.proofs.lemmas.Bool.{false≢true, true≢false}
 use Rattle.zq_message.specs.declared.message.QueryableInfoType.{QueryableInfoType}
-use Rattle.zq_regions.specs.Region.{region_index}
+use Rattle.zq_message.specs.Region.{region_index}
 use Rattle.zq_key.specs.Key.{intersects}
 use Rattle.zq_index.specs.Infos.{joined}
 use Rattle.zq_index.specs.Texts.{text_cmp}
-use Rattle.zq_hat.specs.declared.types.Strategy.{Strategy}
-use Rattle.zq_hat.specs.declared.types.Strategy.TheVariants as strategy
-use Rattle.zq_hat.specs.Fellows.{fellow_info}
-use Rattle.zq_hat.specs.Regions.{in_routers, is_north, strategy_at}
-use Rattle.zq_hat.specs.State.{HatState}
+use Rattle.zq_strategy.specs.declared.types.Strategy.{Strategy}
+use Rattle.zq_strategy.specs.declared.types.Strategy.TheVariants as strategy
+use Rattle.zq_strategy.specs.Fellows.{fellow_info}
+use Rattle.zq_strategy.specs.Regions.{in_routers, is_north, strategy_at}
+use Rattle.zq_strategy.specs.State.{HatState}
 use Rattle.zq_interests.specs.declared.types.InterestEntry.{InterestEntry}
 use Rattle.zq_interests.specs.Interests.{Interests, asks_folded, asks_for, interests_of, own_keys, wants, wants_folded}
 use Rattle.zq_machine.specs.declared.call.Call.{Call}

@@ -14,24 +14,24 @@ use Rattle.std.proofs.lemmas.Map.Lookups.{exact_unsigned}
 use Rattle.zq_message.specs.declared.message.QueryableInfoType.{QueryableInfoType}
 use Rattle.zq_message.specs.declared.message.Region.{Region}
 use Rattle.zq_message.specs.declared.message.Zid.{Zid}
-use Rattle.zq_regions.specs.Region.{region_index}
+use Rattle.zq_message.specs.Region.{region_index}
 use Rattle.zq_key.proofs.Lookups.{found_after_insertion, found_after_removal}
 use Rattle.zq_index.specs.Infos.{joined}
 use Rattle.zq_index.specs.Texts.{text_cmp}
 use Rattle.zq_index.proofs.Merges.{joined_none}
-use Rattle.zq_trees.specs.declared.types.Network.{Network}
-use Rattle.zq_trees.specs.Entries.{staying}
-use Rattle.zq_trees.specs.Nets.{is_listed}
-use Rattle.zq_hat.specs.declared.types.Declaration.{Declaration}
-use Rattle.zq_hat.specs.declared.types.FaceRecord.{FaceRecord}
-use Rattle.zq_hat.specs.declared.types.Strategy.{Strategy}
-use Rattle.zq_hat.specs.declared.types.Strategy.TheVariants as strategy
-use Rattle.zq_hat.specs.Fellows.{fellow_info, with_fellow}
-use Rattle.zq_hat.specs.Kept.{change_face, declaration_at, declare, face_at, has_face, info, key_of, keys_of_face, new_face, registered, unregistered, with_face_opened, withdraw, without_face}
-use Rattle.zq_hat.specs.Marks.{finalized, marked}
-use Rattle.zq_hat.specs.Regions.{in_routers, is_north, strategy_at}
-use Rattle.zq_hat.specs.Routers.{announced, networked, noded, retracted, source_at}
-use Rattle.zq_hat.specs.State.{FaceState, HatState}
+use Rattle.zq_strategy.specs.declared.network.Network.{Network}
+use Rattle.zq_strategy.specs.Entries.{staying}
+use Rattle.zq_strategy.specs.Nets.{is_listed}
+use Rattle.zq_strategy.specs.declared.types.Declaration.{Declaration}
+use Rattle.zq_strategy.specs.declared.types.FaceRecord.{FaceRecord}
+use Rattle.zq_strategy.specs.declared.types.Strategy.{Strategy}
+use Rattle.zq_strategy.specs.declared.types.Strategy.TheVariants as strategy
+use Rattle.zq_strategy.specs.Fellows.{fellow_info, with_fellow}
+use Rattle.zq_strategy.specs.Kept.{change_face, declaration_at, declare, face_at, has_face, info, key_of, keys_of_face, new_face, registered, unregistered, with_face_opened, withdraw, without_face}
+use Rattle.zq_strategy.specs.Marks.{finalized, marked}
+use Rattle.zq_strategy.specs.Regions.{in_routers, is_north, strategy_at}
+use Rattle.zq_strategy.specs.Routers.{announced, networked, noded, retracted, source_at}
+use Rattle.zq_strategy.specs.State.{FaceState, HatState}
 use Rattle.zq_machine.specs.declared.call.Call.{Call}
 use Rattle.zq_machine.specs.declared.call.Call.TheVariants as call
 use Rattle.zq_machine.specs.declared.call.Opening.{Opening}

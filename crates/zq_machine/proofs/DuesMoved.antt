@@ -9,17 +9,17 @@ use Rattle.std.specs.Ordering.{is_eq, nat_cmp}
 use Rattle.std.proofs.lemmas.Map.Made.{lookup-map_values}
 use Rattle.zq_message.specs.declared.message.QueryableInfoType.{QueryableInfoType}
 use Rattle.zq_key.specs.Key.{intersects}
-use Rattle.zq_regions.specs.Region.{region_index}
+use Rattle.zq_message.specs.Region.{region_index}
 use Rattle.zq_key.proofs.Naturals.{any-map, filter-map, fold-map, fold-moved}
 use Rattle.zq_index.specs.Infos.{joined}
 use Rattle.zq_index.specs.Texts.{text_cmp}
-use Rattle.zq_hat.specs.Fellows.{fellow_info, with_fellow}
+use Rattle.zq_strategy.specs.Fellows.{fellow_info, with_fellow}
 use Rattle.zq_interests.specs.declared.types.InterestEntry.{InterestEntry}
-use Rattle.zq_hat.specs.Moved.{Keeps, move_face, move_hat}
-use Rattle.zq_hat.specs.Regions.{is_north, strategy_at}
-use Rattle.zq_hat.specs.State.{HatState}
-use Rattle.zq_hat.specs.Trees.{region_keys}
-use Rattle.zq_hat.proofs.OffersMoved.{key_moved}
+use Rattle.zq_strategy.specs.Moved.{Keeps, move_face, move_hat}
+use Rattle.zq_strategy.specs.Regions.{is_north, strategy_at}
+use Rattle.zq_strategy.specs.State.{HatState}
+use Rattle.zq_strategy.specs.Trees.{region_keys}
+use Rattle.zq_strategy.proofs.OffersMoved.{key_moved}
 use Rattle.zq_machine.specs.declared.face.OpenFace.{OpenFace}
 use Rattle.zq_machine.specs.Due.{asked_keys, due, due_keys, due_touched, face_keys, folded, folded_over, folds, folds_in, heard, heard_as, heard_by, heard_in, heard_touched, is_looked, is_met_by, listens, listens_by, listens_in, widened, with_part, with_region_keys}
 use Rattle.zq_interests.specs.Interests.{Interests, asked_for, asks_folded, asks_for, interest_at, interests_of, is_own, meets, own_key, own_keys, wants, wants_folded}

@@ -5,7 +5,7 @@ use Rattle.std.specs.Map.{remove_entry, set_value}
 use Rattle.std.specs.Ordering.{is_eq, match_ordering, nat_cmp}
 use Rattle.std.specs.declared.cmp.Ordering.{Ordering}
 use Rattle.std.specs.declared.cmp.Ordering.TheVariants.{Less, Equal, Greater}
-use Rattle.zq_hat.specs.Kept.{at_id}
+use Rattle.zq_strategy.specs.Kept.{at_id}
 use Rattle.zq_machine.proofs.Changing.{one_number}
 
 module _ {X B : Type 0} (step : B → ℕ × X → B) (k : ℕ) where

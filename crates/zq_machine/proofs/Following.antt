@@ -16,10 +16,10 @@ use Rattle.std.proofs.lemmas.Map.Lookups.{exact_unsigned}
 use Rattle.zq_message.specs.declared.message.QueryableInfoType.{QueryableInfoType}
 use Rattle.zq_index.specs.Texts.{text_cmp}
 use Rattle.zq_index.proofs.Orders.{text_total}
-use Rattle.zq_trees.specs.declared.types.Telling.{Telling as TreeTelling}
-use Rattle.zq_trees.specs.Tellings.{in_order, telling_cmp}
+use Rattle.zq_strategy.specs.declared.network.Telling.{Telling as TreeTelling}
+use Rattle.zq_strategy.specs.Tellings.{in_order, telling_cmp}
 use Rattle.zq_interests.specs.Interests.{Interests}
-use Rattle.zq_told.specs.Ears.{Ear, Ears, last_at}
+use Rattle.zq_told.specs.ToldSets.{ToldSet, ToldSets, last_at}
 use Rattle.zq_told.specs.Receiver.{Heard, heard_entry, receive}
 use Rattle.zq_told.specs.Laws.{is_to, last_given}
 use Rattle.zq_told.specs.Leaving.{AreSound}
@@ -124,11 +124,11 @@ pub record AreKept (c : Core) : Type 0 where
   pub all : AllHear c c.interests c.ears
 
 -- where faces and hats are the same
-pub onto : (c d : Core) (ints : Interests) (ears : Ears) (n : ℕ) (heard : Heard) → ((key : List ℕ) → due c ints n key ≡ due d ints n key) → Hears c ints ears n heard → Hears d ints ears n heard
+pub onto : (c d : Core) (ints : Interests) (ears : ToldSets) (n : ℕ) (heard : Heard) → ((key : List ℕ) → due c ints n key ≡ due d ints n key) → Hears c ints ears n heard → Hears d ints ears n heard
 onto c d ints ears n heard same x = record { ear = x.ear; there = x.there; sorted = x.sorted; tied = x.tied; told = λ key. x.told key ∙ same key }
 
 pub kept_of : (c : Core) (face : ℕ) (heard : Heard) (last : ℕ) (f : Follows c face heard last) → IsKept f.hears.ear heard last
-kept_of c face heard last f = record { sorted = f.hears.sorted; tied = f.hears.tied; greatest = same_Some _ _ (sym (ap (option_map (λ (e : Ear). e.last)) f.hears.there) ∙ f.greatest) }
+kept_of c face heard last f = record { sorted = f.hears.sorted; tied = f.hears.tied; greatest = same_Some _ _ (sym (ap (option_map (λ (e : ToldSet). e.last)) f.hears.there) ∙ f.greatest) }
 
 -- where an interest of the face comes or ends, what is not due any more is forgotten
 abbrev pub forget_at : ℕ → TextCall → Core → Heard → Heard

@@ -10,24 +10,24 @@ use Rattle.zq_message.specs.declared.message.FaceId.{FaceId}
 use Rattle.zq_message.specs.declared.message.QueryableInfoType.{QueryableInfoType}
 use Rattle.zq_message.specs.declared.message.Region.{Region}
 use Rattle.zq_message.specs.declared.message.Zid.{Zid}
-use Rattle.zq_regions.specs.Region.{region_index}
+use Rattle.zq_message.specs.Region.{region_index}
 use Rattle.zq_key.proofs.Lookups.{found_after_write}
 use Rattle.zq_index.specs.Holders.{IsOrderedBy}
 use Rattle.zq_index.specs.Texts.{text_cmp}
 use Rattle.zq_index.proofs.Ordered.{with_at, without_at}
-use Rattle.zq_trees.specs.declared.types.Network.{Network}
-use Rattle.zq_trees.specs.Entries.{Entries, entry_of, staying, with_entry, without_entry}
-use Rattle.zq_trees.specs.Nets.{is_listed, is_zid}
-use Rattle.zq_entries.proofs.Dropping.{staying_entry}
-use Rattle.zq_entries.proofs.Entering.{put_is, take_is}
-use Rattle.zq_hat.specs.declared.types.FaceRecord.{FaceRecord}
-use Rattle.zq_hat.specs.declared.types.Strategy.{Strategy}
-use Rattle.zq_hat.specs.declared.types.Strategy.TheVariants as strategy
-use Rattle.zq_hat.specs.Kept.{has_face, new_hat, registered, unregistered, with_face_opened, without_face}
-use Rattle.zq_hat.specs.Marks.{finalized}
-use Rattle.zq_hat.specs.Regions.{in_routers, strategy_at}
-use Rattle.zq_hat.specs.Routers.{announced, networked, noded, retracted, source_at}
-use Rattle.zq_hat.specs.State.{HatState}
+use Rattle.zq_strategy.specs.declared.network.Network.{Network}
+use Rattle.zq_strategy.specs.Entries.{Entries, entry_of, staying, with_entry, without_entry}
+use Rattle.zq_strategy.specs.Nets.{is_listed, is_zid}
+use Rattle.zq_routers.proofs.Dropping.{staying_entry}
+use Rattle.zq_routers.proofs.Entering.{put_is, take_is}
+use Rattle.zq_strategy.specs.declared.types.FaceRecord.{FaceRecord}
+use Rattle.zq_strategy.specs.declared.types.Strategy.{Strategy}
+use Rattle.zq_strategy.specs.declared.types.Strategy.TheVariants as strategy
+use Rattle.zq_strategy.specs.Kept.{has_face, new_hat, registered, unregistered, with_face_opened, without_face}
+use Rattle.zq_strategy.specs.Marks.{finalized}
+use Rattle.zq_strategy.specs.Regions.{in_routers, strategy_at}
+use Rattle.zq_strategy.specs.Routers.{announced, networked, noded, retracted, source_at}
+use Rattle.zq_strategy.specs.State.{HatState}
 use Rattle.zq_machine.specs.declared.config.Entry.{Entry}
 use Rattle.zq_machine.specs.declared.face.OpenFace.{OpenFace}
 use Rattle.zq_machine.specs.Configs.{Settings, north_of, region_of}

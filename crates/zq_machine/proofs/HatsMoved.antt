@@ -8,18 +8,18 @@ use Rattle.std.specs.BTreeMap.{is_at}
 use Rattle.std.proofs.lemmas.Map.Made.{lookup-map_values}
 use Rattle.zq_message.specs.declared.message.QueryableInfoType.{QueryableInfoType}
 use Rattle.zq_message.specs.declared.message.Region.{Region}
-use Rattle.zq_regions.specs.Region.{region_index}
-use Rattle.zq_regions.specs.RegionMap.{value_at}
-use Rattle.zq_hat.specs.declared.types.Declaration.{Declaration}
-use Rattle.zq_hat.specs.declared.types.FaceRecord.{FaceRecord}
-use Rattle.zq_hat.specs.declared.types.FinalMark.{FinalMark}
-use Rattle.zq_hat.specs.declared.types.FinalMark.TheVariants as mark
-use Rattle.zq_hat.specs.Kept.{face_at, has_any, has_face, is_full, change_face, declare, withdraw, registered, unregistered, declaration, declaration_at, is_apart, new_face, with_face_opened, without_face}
-use Rattle.zq_hat.specs.Marks.{finalized, marked}
-use Rattle.zq_hat.specs.Moved.{Keeps, move_declared, move_face, move_hat, move_mark}
-use Rattle.zq_hat.specs.Regions.{is_upstream, strategy_at}
-use Rattle.zq_hat.proofs.OffersMoved.{key_moved, key_left}
-use Rattle.zq_hat.specs.State.{FaceState, HatState}
+use Rattle.zq_message.specs.Region.{region_index}
+use Rattle.zq_message.specs.RegionMap.{value_at}
+use Rattle.zq_strategy.specs.declared.types.Declaration.{Declaration}
+use Rattle.zq_strategy.specs.declared.types.FaceRecord.{FaceRecord}
+use Rattle.zq_strategy.specs.declared.types.FinalMark.{FinalMark}
+use Rattle.zq_strategy.specs.declared.types.FinalMark.TheVariants as mark
+use Rattle.zq_strategy.specs.Kept.{face_at, has_any, has_face, is_full, change_face, declare, withdraw, registered, unregistered, declaration, declaration_at, is_apart, new_face, with_face_opened, without_face}
+use Rattle.zq_strategy.specs.Marks.{finalized, marked}
+use Rattle.zq_strategy.specs.Moved.{Keeps, move_declared, move_face, move_hat, move_mark}
+use Rattle.zq_strategy.specs.Regions.{is_upstream, strategy_at}
+use Rattle.zq_strategy.proofs.OffersMoved.{key_moved, key_left}
+use Rattle.zq_strategy.specs.State.{FaceState, HatState}
 use Rattle.zq_machine.specs.declared.face.OpenFace.{OpenFace}
 use Rattle.zq_machine.specs.State.{Core, at, is_region, hat_at, has_hat, hat_of, is_full_region, put_hat, change_hat, change_hat_of, joined, has_declared_in, clashes_in}
 use Rattle.zq_machine.specs.Moved.{move_region, move_core}

@@ -13,11 +13,11 @@ use Rattle.zq_message.specs.declared.message.FaceId.{FaceId}
 use Rattle.zq_message.specs.declared.message.Mapping.{Mapping}
 use Rattle.zq_message.specs.declared.message.Mapping.TheVariants as mapping
 use Rattle.zq_names.specs.Texts.{cut_at_star, is_star_byte, nonwild, parent_of, parent_to}
-use Rattle.zq_ids.specs.FaceIds.{next_id}
-use Rattle.zq_ids.specs.FaceTexts.{declared_key, is_text, known, known_choice, least_name, names_text, new_choice, or_else, prefix_key, tagged, whole_key, with_declared}
-use Rattle.zq_ids.specs.declared.decl.DeclKey.{DeclKey}
-use Rattle.zq_ids.proofs.IdLemmas.{free_from-least, of_id-with_id}
-use Rattle.zq_tables.specs.declared.said.Said.TheVariants as said
+use Rattle.zq_tables.specs.FaceIds.{next_id}
+use Rattle.zq_tables.specs.FaceTexts.{declared_key, is_text, known, known_choice, least_name, names_text, new_choice, or_else, prefix_key, tagged, whole_key, with_declared}
+use Rattle.zq_tables.specs.declared.decl.DeclKey.{DeclKey}
+use Rattle.zq_tables.proofs.IdLemmas.{free_from-least, of_id-with_id}
+use Rattle.zq_tables.specs.declared.resolved.Resolved.TheVariants as said
 use Rattle.zq_tables.specs.Naming.{FaceKeys, FaceNaming, NamingState, change_naming, face_keys, face_naming, handed_side, naming_at, plain, read_by, text_at}
 use Rattle.zq_message.specs.declared.message.DeclareBody.TheVariants as body
 use Rattle.zq_tables.specs.Naming.{no_keys, with_told_number}

@@ -10,9 +10,9 @@ use Rattle.std.proofs.lemmas.Cmp.{nat_cmp_total}
 use Rattle.std.proofs.lemmas.Map.Lookups.{exact_unsigned}
 use Rattle.std.proofs.lemmas.Option.{same_Some}
 use Rattle.zq_message.specs.declared.message.Region.{Region}
-use Rattle.zq_regions.specs.Region.{region_index}
-use Rattle.zq_hat.specs.State.{FaceState, HatState}
-use Rattle.zq_hat.specs.Kept.{face_at, has_face, new_face, with_face_opened, without_face}
+use Rattle.zq_message.specs.Region.{region_index}
+use Rattle.zq_strategy.specs.State.{FaceState, HatState}
+use Rattle.zq_strategy.specs.Kept.{face_at, has_face, new_face, with_face_opened, without_face}
 use Rattle.zq_tables.specs.Naming.{NamingState, face_queryables, naming_at, no_keys}
 use Rattle.zq_machine.specs.declared.call.Opening.{Opening}
 use Rattle.zq_machine.specs.declared.face.OpenFace.{OpenFace}

@@ -10,12 +10,12 @@ use Rattle.std.proofs.lemmas.Bool.{false≢true}
 use Rattle.std.proofs.lemmas.Map.Lookups.{exact_unsigned}
 use Rattle.std.proofs.lemmas.Option.{same_Some}
 use Rattle.zq_key.proofs.Lookups.{found_after_insertion, found_after_removal}
-use Rattle.zq_trees.specs.declared.types.Telling.{Telling as TreeTelling}
-use Rattle.zq_trees.specs.Tellings.{in_order, telling_cmp}
+use Rattle.zq_strategy.specs.declared.network.Telling.{Telling as TreeTelling}
+use Rattle.zq_strategy.specs.Tellings.{in_order, telling_cmp}
 use Rattle.zq_interests.specs.Interests.{Interests, closed_face}
-use Rattle.zq_told.specs.declared.types.Way.TheVariants.{Ending, Unasked}
+use Rattle.zq_told.specs.declared.types.Reason.TheVariants.{End, Update}
 use Rattle.zq_told.specs.declared.types.ToldEntry.{ToldEntry}
-use Rattle.zq_told.specs.Ears.{Ear, Ears, last_at}
+use Rattle.zq_told.specs.ToldSets.{ToldSet, ToldSets, last_at}
 use Rattle.zq_told.specs.Receiver.{Heard, receive}
 use Rattle.zq_told.specs.Telling.{lacks_ids, tell_due}
 use Rattle.zq_told.specs.Laws.{is_to, last_given, told_in, differs}
@@ -23,7 +23,7 @@ use Rattle.zq_told.specs.Leaving.{AreSound, fresh_ear}
 use Rattle.zq_told.proofs.Faces.{opens, stay_sound}
 use Rattle.zq_told.proofs.Slotted.{none_sorted}
 use Rattle.zq_interests.specs.declared.types.InterestEntry.{InterestEntry}
-use Rattle.zq_tables.specs.declared.said.Said.{Said}
+use Rattle.zq_tables.specs.declared.resolved.Resolved.{Resolved}
 use Rattle.std.specs.Map.{keys_of}
 use Rattle.zq_machine.specs.Writing.{Place, finish, without_unsent}
 use Rattle.zq_machine.proofs.Writing.{fully}
@@ -147,7 +147,7 @@ pub record Keeps (first : ℕ) (c : Core) (heards : ℕ → Heard) (lasts : ℕ 
 
 -- what a face is told by a call, of which this was kept
 record Tells (s : State) (t : TextCall) (d : Core) (face : ℕ) (heard : Heard) (last : ℕ) : Type 0 where
-  ear : Ear
+  ear : ToldSet
   is : IsKept ear heard last
   told : FaceTold s.core d s.core.interests t s.core.ears face ear heard
 
@@ -164,16 +164,16 @@ record Told (s : State) (t : TextCall) (d : Core) : Type 0 where
 
 -- ---- requests that are let go change nothing of it
 module _ (places : List Place) (c : Core) where
-  hears_on : (ints : Interests) (ears : Ears) (face : ℕ) (heard : Heard) → Hears c ints ears face heard → Hears (without_unsent places c) ints ears face heard
+  hears_on : (ints : Interests) (ears : ToldSets) (face : ℕ) (heard : Heard) → Hears c ints ears face heard → Hears (without_unsent places c) ints ears face heard
   hears_on ints ears face heard x = onto c (without_unsent places c) ints ears face heard (λ key. refl) x
 
-  hears_back : (ints : Interests) (ears : Ears) (face : ℕ) (heard : Heard) → Hears (without_unsent places c) ints ears face heard → Hears c ints ears face heard
+  hears_back : (ints : Interests) (ears : ToldSets) (face : ℕ) (heard : Heard) → Hears (without_unsent places c) ints ears face heard → Hears c ints ears face heard
   hears_back ints ears face heard x = onto (without_unsent places c) c ints ears face heard (λ key. refl) x
 
-  changes_on : (ints : Interests) (face : ℕ) (ear : Ear) (keys : List (List ℕ)) → HaveChanges c ints face ear keys → HaveChanges (without_unsent places c) ints face ear keys
+  changes_on : (ints : Interests) (face : ℕ) (ear : ToldSet) (keys : List (List ℕ)) → HaveChanges c ints face ear keys → HaveChanges (without_unsent places c) ints face ear keys
   changes_on ints face ear keys x = record { rise = x.rise; all = x.all }
 
-  changes_back : (ints : Interests) (face : ℕ) (ear : Ear) (keys : List (List ℕ)) → HaveChanges (without_unsent places c) ints face ear keys → HaveChanges c ints face ear keys
+  changes_back : (ints : Interests) (face : ℕ) (ear : ToldSet) (keys : List (List ℕ)) → HaveChanges (without_unsent places c) ints face ear keys → HaveChanges c ints face ear keys
   changes_back ints face ear keys x = record { rise = x.rise; all = x.all }
 
   near_back : (face : ℕ) → IsNear face (without_unsent places c) → IsNear face c
@@ -195,7 +195,7 @@ module _ (places : List Place) (c : Core) where
   }
 
   module _ (s : State) (t : TextCall) where
-    face_back : (face : ℕ) (ear : Ear) (heard : Heard) → FaceTold s.core (without_unsent places c) s.core.interests t s.core.ears face ear heard → FaceTold s.core c s.core.interests t s.core.ears face ear heard
+    face_back : (face : ℕ) (ear : ToldSet) (heard : Heard) → FaceTold s.core (without_unsent places c) s.core.interests t s.core.ears face ear heard → FaceTold s.core c s.core.interests t s.core.ears face ear heard
     face_back face ear heard x = record {
       keeps = hears_back s.core.interests (ears_after s.core c s.core.interests t s.core.ears) face _ x.keeps;
       some = (x.some.0, changes_back s.core.interests face ear x.some.0 x.some.1);
@@ -251,7 +251,7 @@ module _ (config : Settings) (calls : List Call) (c : Call) (heards : ℕ → He
             }
 
     ears_are : ears_after s.core d s.core.interests t s.core.ears ≡ d.ears
-    ears_are = ap (λ l. without_closed t (tell_due Unasked (with_new s.core t s.core.ears) l)) (same_looked s.core t) ∙ sym (kept_is s.core t plain)
+    ears_are = ap (λ l. without_closed t (tell_due Update (with_new s.core t s.core.ears) l)) (same_looked s.core t) ∙ sym (kept_is s.core t plain)
 
     due_is : (face : ℕ) → is_open face d ≡ true → (key : List ℕ) → due d d.interests face key ≡ due d s.core.interests face key
     due_is face seen = due_same s.core t plain face seen i.sound.sorted
@@ -260,7 +260,7 @@ module _ (config : Settings) (calls : List Call) (c : Call) (heards : ℕ → He
     none_lacks low e0 = by (makes_due t) refl
       where
         by : (b : Bool) → makes_due t ≡ b → neighbours_lack s.core d s.core.interests t s.core.ears ≡ false
-        by true e = ap (lacks_ids Unasked (with_new s.core t s.core.ears)) (same_looked s.core t) ∙ sym (lacks_is s.core t plain) ∙ lacks_none s.core t h e
+        by true e = ap (lacks_ids Update (with_new s.core t s.core.ears)) (same_looked s.core t) ∙ sym (lacks_is s.core t plain) ∙ lacks_none s.core t h e
         by false e = told_so.enough (low_here low) e0 e
 
     -- a face outside regions of routers is told what it is told as a neighbour
@@ -359,7 +359,7 @@ module _ (config : Settings) (calls : List Call) (c : Call) (heards : ℕ → He
               ∙ ap (map from_hat)
               (only_near face (hears_all face n)
               ∙ sym (x.told.exactly keys (record { rise = have.rise; all = λ key change. have.all key (ap (λ o. differs x.ear.told (key, o)) (due_is face n.opened key) ∙ change) })))
-              ∙ (λ m. map from_hat (told_in Unasked face x.ear (map (λ key. (key, sym (due_is face n.opened key) m)) keys)));
+              ∙ (λ m. map from_hat (told_in Update face x.ear (map (λ key. (key, sym (due_is face n.opened key) m)) keys)));
         }
 
   -- ---- any call that nothing refuses
@@ -536,7 +536,7 @@ change_promise config calls before rest c is plain given face n =
 pub answers_interests : (config : Settings) (calls : List Call) → AnswersInterests config calls
 answers_interests config calls before rest face id keys aggregate wire is =
     let s : State = state_after (opening_state config) before in
-    let sd : Option Said = said_if face wire s in
+    let sd : Option Resolved = said_if face wire s in
     let m : Manner = record { keys = keys; aggregate = aggregate } in
     let kept = (run_keeps config before).kept in
     by_granted
@@ -576,6 +576,6 @@ ends_interests config calls before rest face id asked is given n there =
       exactly =
           granted_heard config s (call.InterestFinal face id) (run_in_order config before) h
           ∙ end_exactly s face id h (heard_in face.0 config before) f.hears
-          ∙ ap (λ (x : InterestEntry). map from_hat (told_in Ending face.0 f.hears.ear (map (due_on (accepted s.core (unhearing face id)) (accepted s.core (unhearing face id)).interests face.0) (option_to_list x.key)))) one;
+          ∙ ap (λ (x : InterestEntry). map from_hat (told_in End face.0 f.hears.ear (map (due_on (accepted s.core (unhearing face id)) (accepted s.core (unhearing face id)).interests face.0) (option_to_list x.key)))) one;
     })
     (λ r given. absurd (false≢true given)) given n

@@ -13,8 +13,8 @@ use Rattle.std.proofs.lemmas.Map.Lookups.{exact_unsigned}
 use Rattle.zq_message.specs.declared.message.QueryableInfoType.{QueryableInfoType}
 use Rattle.zq_index.specs.Texts.{text_cmp}
 use Rattle.zq_index.proofs.Orders.{text_exact}
-use Rattle.zq_trees.specs.declared.types.Telling.{Telling as TreeTelling}
-use Rattle.zq_trees.specs.Tellings.{in_order, telling_cmp}
+use Rattle.zq_strategy.specs.declared.network.Telling.{Telling as TreeTelling}
+use Rattle.zq_strategy.specs.Tellings.{in_order, telling_cmp}
 use Rattle.zq_message.specs.declared.message.FaceId.{FaceId}
 use Rattle.zq_machine.specs.TextCalls.{TextCall, hearing}
 use Rattle.zq_machine.specs.Neighbours.{marked}

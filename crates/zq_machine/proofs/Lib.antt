@@ -97,3 +97,4 @@ pub mod DecidingMoved
 pub mod Following
 pub mod Answering
 pub mod Keeping
+pub mod AskingMore

@@ -16,12 +16,12 @@ use Rattle.zq_key.proofs.Lookups.{each_entry}
 use Rattle.zq_key.proofs.Sorted.{same_keys}
 use Rattle.zq_index.specs.Texts.{text_cmp}
 use Rattle.zq_index.proofs.Orders.{text_exact, text_total}
-use Rattle.zq_trees.specs.declared.types.Telling.{Telling}
+use Rattle.zq_strategy.specs.declared.network.Telling.{Telling}
 use Rattle.zq_interests.specs.declared.types.InterestEntry.{InterestEntry}
 use Rattle.zq_interests.specs.Interests.{Interests, asked_for, meets, with_interest}
 use Rattle.zq_told.specs.declared.types.ToldEntry.{ToldEntry}
-use Rattle.zq_told.specs.declared.types.Way.TheVariants.{Answering}
-use Rattle.zq_told.specs.Ears.{Ears}
+use Rattle.zq_told.specs.declared.types.Reason.TheVariants.{Answer}
+use Rattle.zq_told.specs.ToldSets.{ToldSets}
 use Rattle.zq_told.specs.Telling.{KeyDue}
 use Rattle.zq_told.specs.Receiver.{Heard, is_left, is_over}
 use Rattle.zq_told.specs.Laws.{is_to, told_in}
@@ -68,7 +68,7 @@ filter_both p q more (x ∷ xs) all = by (p x) refl (q x) refl all (filter_both 
 
 -- ---- what a receiver forgets
 -- of the keys that were looked at it forgets those that are over, and so all that are not due
-module _ (c : Core) (more : Interests) (ears : Ears) (asker : ℕ) (ks : List (List ℕ)) (kept : Heard) where
+module _ (c : Core) (more : Interests) (ears : ToldSets) (asker : ℕ) (ks : List (List ℕ)) (kept : Heard) where
   abbrev d : List ℕ → Option QueryableInfoType
   d = due c more asker
 
@@ -131,14 +131,14 @@ module _ (c : Core) (more : Interests) (asker : ℕ) (asked : InterestEntry) whe
       ∙ ap (map (due_on c more asker)) same_owed
       ∙ sym (filter_rows (due c more asker) has_due (answer_keys c more asker asked))
 
-  module _ (ears : Ears) (ints : Interests) (heard : Heard) (h : Hears c ints ears asker heard) where
+  module _ (ears : ToldSets) (ints : Interests) (heard : Heard) (h : Hears c ints ears asker heard) where
     abbrev told : List Telling
     told = filter (is_to asker) (answer_told c more ears asker asked)
 
-    told_is : told ≡ told_in Answering asker h.ear (asked_dues c more asker asked)
+    told_is : told ≡ told_in Answer asker h.ear (asked_dues c more asker asked)
     told_is =
-        told_here Answering ears asker h.ear h.there (with_dues asker (asked_dues c more asker asked)) (alone_rises asker (asked_dues c more asker asked))
-        ∙ ap (told_in Answering asker h.ear) (keys_alone asker (asked_dues c more asker asked))
+        told_here Answer ears asker h.ear h.there (with_dues asker (asked_dues c more asker asked)) (alone_rises asker (asked_dues c more asker asked))
+        ∙ ap (told_in Answer asker h.ear) (keys_alone asker (asked_dues c more asker asked))
 
     pub asked_told : map news_of told ≡ filter has_due (answer_dues c more asker asked)
     asked_told = ap (map news_of) told_is ∙ answers_all asker h.ear (asked_dues c more asker asked) ∙ rows_owed

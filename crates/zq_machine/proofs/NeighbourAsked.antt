@@ -24,12 +24,12 @@ use Rattle.zq_key.proofs.Lookups.{apart, at_itself, same_key}
 use Rattle.zq_index.specs.Infos.{same_bool, same_info}
 use Rattle.zq_index.specs.Texts.{at_text, text_cmp}
 use Rattle.zq_index.proofs.Orders.{text_exact, text_total}
-use Rattle.zq_trees.specs.declared.types.Telling.{Telling}
+use Rattle.zq_strategy.specs.declared.network.Telling.{Telling}
 use Rattle.zq_interests.specs.declared.types.InterestEntry.{InterestEntry}
 use Rattle.zq_told.specs.declared.types.ToldEntry.{ToldEntry}
-use Rattle.zq_told.specs.declared.types.Way.{Way}
-use Rattle.zq_told.specs.declared.types.Way.TheVariants.{Answering, Ending}
-use Rattle.zq_told.specs.Ears.{Ear, Ears, Told, at_face}
+use Rattle.zq_told.specs.declared.types.Reason.{Reason}
+use Rattle.zq_told.specs.declared.types.Reason.TheVariants.{Answer, End}
+use Rattle.zq_told.specs.ToldSets.{ToldSet, ToldSets, Told, at_face}
 use Rattle.zq_told.specs.Telling.{KeyDue, change, declared, lacks_ids, renewed, tell_due, tell_faces}
 use Rattle.zq_told.specs.Receiver.{Heard, heard_after}
 use Rattle.zq_told.specs.Laws.{InOrder, aim, aim_on, ear_after, is_to, takes_id, told_alone, told_in}
@@ -41,7 +41,7 @@ use Rattle.zq_told.proofs.Reaching.{below_by}
 use Rattle.zq_machine.specs.Due.{asked_keys, due, due_keys, face_keys, is_looked}
 use Rattle.zq_interests.specs.Interests.{Interests, asked_for, interests_of, meets, own_keys, with_interest, without_interest}
 use Rattle.zq_machine.specs.Neighbours.{answer_lacks, answer_told, asked_dues, due_on, ears_asked, ears_ended, ended_at, ended_dues, ended_told, with_dues}
-use Rattle.zq_told.specs.Ears.{told_keys}
+use Rattle.zq_told.specs.ToldSets.{told_keys}
 use Rattle.zq_machine.specs.Receivers.{Hears, heard_asked, heard_ended, is_news, lacks_at}
 use Rattle.zq_machine.specs.State.{Core, at}
 use Rattle.zq_machine.proofs.Changing.{number_test}
@@ -80,10 +80,10 @@ head_alone k ks s = by ks (sorted_head text_cmp k ks s)
     by (l ∷ ls) all = λ j. ap is_eq all.0 j || by ls all.1 j
 
 -- ---- only the asker is told
-module _ (way : Way) (ears : Ears) (asker face : ℕ) (keys : List KeyDue) (other : is_at (nat_cmp face) asker ≡ false) where
+module _ (way : Reason) (ears : ToldSets) (asker face : ℕ) (keys : List KeyDue) (other : is_at (nat_cmp face) asker ≡ false) where
   beside_by : (keys : List KeyDue) → flat_map (told_alone way ears face) (with_dues asker keys) ≡ []
   beside_by [] = refl
-  beside_by (k ∷ ks) = ap (λ b. cond b (option_map_or (λ (e : Ear). told_in way face e (k ∷ ks)) (at_face face ears) []) [] ++ []) (sym (number_test face asker) ∙ other)
+  beside_by (k ∷ ks) = ap (λ b. cond b (option_map_or (λ (e : ToldSet). told_in way face e (k ∷ ks)) (at_face face ears) []) [] ++ []) (sym (number_test face asker) ∙ other)
 
   pub told_beside : filter (is_to face) (tell_faces way ears (with_dues asker keys)).tellings ≡ []
   told_beside = tells_each way ears (with_dues asker keys) face ∙ beside_by keys
@@ -91,7 +91,7 @@ module _ (way : Way) (ears : Ears) (asker face : ℕ) (keys : List KeyDue) (othe
   pub left_beside : at_face face (tell_due way ears (with_dues asker keys)) ≡ at_face face ears
   left_beside =
       looks_up way ears (with_dues asker keys) (alone_rises asker keys) face
-      ∙ ap (λ o. option_map_or (λ ks. option_map (λ (e : Ear). ear_after way face e ks) (at_face face ears)) o (at_face face ears)) (keys_beside face asker keys other)
+      ∙ ap (λ o. option_map_or (λ ks. option_map (λ (e : ToldSet). ear_after way face e ks) (at_face face ears)) o (at_face face ears)) (keys_beside face asker keys other)
 
   -- to another face the same is due, and its receiver keeps what it kept
   pub other_hears : (c : Core) (ints more : Interests) (heard : Heard) → ((key : List ℕ) → due c more face key ≡ due c ints face key) → Hears c ints ears face heard → Hears c more (tell_due way ears (with_dues asker keys)) face heard
@@ -102,11 +102,11 @@ module _ (way : Way) (ears : Ears) (asker face : ℕ) (keys : List KeyDue) (othe
   other_unmet b = ap (λ x. x && b) (sym (number_test face asker) ∙ other)
 
 -- ---- an interest
-answered : (now old : Option QueryableInfoType) → aim Answering now old ≡ now
+answered : (now old : Option QueryableInfoType) → aim Answer now old ≡ now
 answered None old = refl
 answered (Some i) old = refl
 
-module _ (c : Core) (ints : Interests) (ears : Ears) (asker id : ℕ) (asked : InterestEntry) (same : (old : InterestEntry) → at id (interests_of asker ints) ≡ Some old → old.key ≡ asked.key) where
+module _ (c : Core) (ints : Interests) (ears : ToldSets) (asker id : ℕ) (asked : InterestEntry) (same : (old : InterestEntry) → at id (interests_of asker ints) ≡ Some old → old.key ≡ asked.key) where
   abbrev more : Interests
   more = with_interest asker id asked ints
 
@@ -159,21 +159,21 @@ module _ (c : Core) (ints : Interests) (ears : Ears) (asker id : ℕ) (asked : I
 
   pub asker_told : (heard : Heard) → Hears c ints ears asker heard → Hears c more (ears_asked c more ears asker asked) asker (heard_asked c more ears asker asked heard)
   asker_told heard h =
-      subst (λ ks. Hears c more (ears_asked c more ears asker asked) asker (heard_after Answering ks heard (filter (is_to asker) (answer_told c more ears asker asked)))) (keys_alone asker asks)
-      (keeps_due Answering c c ints more ears (with_dues asker asks) (alone_rises asker asks) asker heard
+      subst (λ ks. Hears c more (ears_asked c more ears asker asked) asker (heard_after Answer ks heard (filter (is_to asker) (answer_told c more ears asker asked)))) (keys_alone asker asks)
+      (keeps_due Answer c c ints more ears (with_dues asker asks) (alone_rises asker asks) asker heard
       (subst InOrder (sym (keys_alone asker asks)) (rows_rise (due c more asker) (asked_keys c more asker asked) asks_rise)) h
-      (λ key. ap (λ ks. aim_on Answering ks (due c ints asker key) key) (keys_alone asker asks)
-      ∙ aims_at (due c more asker) Answering key (asked_keys c more asker asked) (due c ints asker key) (due c more asker key) (λ on. answered (due c more asker key) (due c ints asker key)) (asked_off key)))
+      (λ key. ap (λ ks. aim_on Answer ks (due c ints asker key) key) (keys_alone asker asks)
+      ∙ aims_at (due c more asker) Answer key (asked_keys c more asker asked) (due c ints asker key) (due c more asker key) (λ on. answered (due c more asker key) (due c ints asker key)) (asked_off key)))
 
   module _ (face : ℕ) (ne : face ≢ asker) where
     other : is_at (nat_cmp face) asker ≡ false
     other = apart nat_cmp_total exact_unsigned face asker ne
 
     pub others_asked : (heard : Heard) → Hears c ints ears face heard → Hears c more (ears_asked c more ears asker asked) face heard
-    others_asked heard h = other_hears Answering ears asker face asks other c ints more heard (λ key. asks_stay c ints asker id asked same face key (other_unmet Answering ears asker face asks other (meets asked.key key))) h
+    others_asked heard h = other_hears Answer ears asker face asks other c ints more heard (λ key. asks_stay c ints asker id asked same face key (other_unmet Answer ears asker face asks other (meets asked.key key))) h
 
     pub others_untold : filter (is_to face) (answer_told c more ears asker asked) ≡ []
-    others_untold = told_beside Answering ears asker face asks other
+    others_untold = told_beside Answer ears asker face asks other
 
   -- ---- ids that lack to it
   module _ (heard : Heard) (h : Hears c ints ears asker heard) (ids : HaveIds ears) where
@@ -194,24 +194,24 @@ module _ (c : Core) (ints : Interests) (ears : Ears) (asker id : ℕ) (asked : I
         both true b e = e
         both false b e = absurd (true≢false (sym e))
 
-    lacks_by : (ks : List KeyDue) → lacks_ids Answering ears (with_dues asker ks) ≡ is_too_great (h.ear.last + length (filter (takes_id Answering h.ear.told) ks))
+    lacks_by : (ks : List KeyDue) → lacks_ids Answer ears (with_dues asker ks) ≡ is_too_great (h.ear.last + length (filter (takes_id Answer h.ear.told) ks))
     lacks_by [] = sym (ap is_too_great (let z : h.ear.last + 0 ≡ h.ear.last = omega arith in z) ∙ below_by h.ear.last (ids asker h.ear h.there))
     lacks_by (k ∷ ks) =
-        lacks_exactly Answering ears (with_dues asker (k ∷ ks))
-        ∙ or-false (lacks_there Answering ears (record { face = record { 0 = asker }; keys = k ∷ ks }))
-        ∙ ap (λ o. option_map_or (λ (e : Ear). is_too_great (e.last + length (filter (takes_id Answering e.told) (k ∷ ks)))) o false) h.there
+        lacks_exactly Answer ears (with_dues asker (k ∷ ks))
+        ∙ or-false (lacks_there Answer ears (record { face = record { 0 = asker }; keys = k ∷ ks }))
+        ∙ ap (λ o. option_map_or (λ (e : ToldSet). is_too_great (e.last + length (filter (takes_id Answer e.told) (k ∷ ks)))) o false) h.there
 
     pub lacks_asked : answer_lacks c more ears asker asked ≡ lacks_at c more ears asker
     lacks_asked =
         lacks_by asks
         ∙ ap (λ n. is_too_great (h.ear.last + n))
-        (ap length (filter_rows (due c more asker) (takes_id Answering h.ear.told) (asked_keys c more asker asked))
+        (ap length (filter_rows (due c more asker) (takes_id Answer h.ear.told) (asked_keys c more asker asked))
         ∙ length-map (filter (is_news c more asker h.ear) (asked_keys c more asker asked)) (due_on c more asker)
         ∙ ap length news_met)
-        ∙ sym (ap (λ o. option_map_or (λ (e : Ear). is_too_great (e.last + length (filter (is_news c more asker e) (face_keys c more asker)))) o false) h.there)
+        ∙ sym (ap (λ o. option_map_or (λ (e : ToldSet). is_too_great (e.last + length (filter (is_news c more asker e) (face_keys c more asker)))) o false) h.there)
 
 -- ---- its end
-ended_by : (now old : Option QueryableInfoType) → (is_some now ≡ true → is_some old ≡ true) → aim Ending now old ≡ now
+ended_by : (now old : Option QueryableInfoType) → (is_some now ≡ true → is_some old ≡ true) → aim End now old ≡ now
 ended_by None old h = refl
 ended_by (Some i) old h = ap (λ b. cond b (Some i) None) (h refl)
 
@@ -237,7 +237,7 @@ module _ {X : Type 0} (f : List ℕ → List X) (key : List ℕ) where
           (λ j. f (sym same j) ++ none_else ks above later j) ∙ append-nil (f key)
       by false is more = λ j. none k (or_first (is_at (text_cmp k) k) (is_among k ks) (at_itself text_total text_exact k)) is j ++ more j
 
-module _ (c : Core) (ints : Interests) (ears : Ears) (asker id : ℕ) (asked : InterestEntry) (was : at id (interests_of asker ints) ≡ Some asked) where
+module _ (c : Core) (ints : Interests) (ears : ToldSets) (asker id : ℕ) (asked : InterestEntry) (was : at id (interests_of asker ints) ≡ Some asked) where
   abbrev less : Interests
   less = without_interest asker id ints
 
@@ -252,27 +252,27 @@ module _ (c : Core) (ints : Interests) (ears : Ears) (asker id : ℕ) (asked : I
   ended = filter (meets asked.key) (told_keys asker ears)
 
   -- no ids lack
-  none_taken : (told : Told) (ks : List KeyDue) → list_any (takes_id Ending told) ks ≡ false
+  none_taken : (told : Told) (ks : List KeyDue) → list_any (takes_id End told) ks ≡ false
   none_taken told [] = refl
   none_taken told (k ∷ ks) = none_taken told ks
 
-  taken_by : (ks : List KeyDue) → list_any (takes_ids Ending ears) (with_dues asker ks) ≡ false
+  taken_by : (ks : List KeyDue) → list_any (takes_ids End ears) (with_dues asker ks) ≡ false
   taken_by [] = refl
   taken_by (k ∷ ks) = ap (λ b. b || false) (by (at_face asker ears))
     where
-      by : (o : Option Ear) → option_map_or (λ (e : Ear). list_any (takes_id Ending e.told) (k ∷ ks)) o false ≡ false
+      by : (o : Option ToldSet) → option_map_or (λ (e : ToldSet). list_any (takes_id End e.told) (k ∷ ks)) o false ≡ false
       by None = refl
       by (Some e) = none_taken e.told (k ∷ ks)
 
-  pub none_lack : HaveIds ears → lacks_ids Ending ears (ended_at c less ears asker asked) ≡ false
-  none_lack ids = (less_due Ending ears (with_dues asker ends) (taken_by ends)).0 ids
+  pub none_lack : HaveIds ears → lacks_ids End ears (ended_at c less ears asker asked) ≡ false
+  none_lack ids = (less_due End ears (with_dues asker ends) (taken_by ends)).0 ids
 
   pub others_quiet : (face : ℕ) → face ≢ asker → filter (is_to face) (ended_told c less ears asker asked) ≡ []
-  others_quiet face ne = told_beside Ending ears asker face ends (apart nat_cmp_total exact_unsigned face asker ne)
+  others_quiet face ne = told_beside End ears asker face ends (apart nat_cmp_total exact_unsigned face asker ne)
 
   module _ (heard : Heard) (h : Hears c ints ears asker heard) where
     told_are : told_keys asker ears ≡ keys_of h.ear.told
-    told_are = ap (λ (o : Option Ear). option_map_or (λ (e : Ear). keys_of e.told) o []) h.there
+    told_are = ap (λ (o : Option ToldSet). option_map_or (λ (e : ToldSet). keys_of e.told) o []) h.there
 
     pub ended_rise : IsStrictlySortedBy text_cmp ended
     ended_rise = IsStrictlySortedBy-filter text_cmp (meets asked.key) (told_keys asker ears) (subst (IsStrictlySortedBy text_cmp) (sym told_are) h.sorted)
@@ -299,11 +299,11 @@ module _ (c : Core) (ints : Interests) (ears : Ears) (asker id : ℕ) (asked : I
 
     pub asker_ended : Hears c less (ears_ended c less ears asker asked) asker (heard_ended c less ears asker asked heard)
     asker_ended =
-        subst (λ ks. Hears c less (ears_ended c less ears asker asked) asker (heard_after Ending ks heard (filter (is_to asker) (ended_told c less ears asker asked)))) (keys_alone asker ends)
-        (keeps_due Ending c c ints less ears (with_dues asker ends) (alone_rises asker ends) asker heard
+        subst (λ ks. Hears c less (ears_ended c less ears asker asked) asker (heard_after End ks heard (filter (is_to asker) (ended_told c less ears asker asked)))) (keys_alone asker ends)
+        (keeps_due End c c ints less ears (with_dues asker ends) (alone_rises asker ends) asker heard
         (subst InOrder (sym (keys_alone asker ends)) (rows_rise (due c less asker) ended ended_rise)) h
-        (λ key. ap (λ ks. aim_on Ending ks (due c ints asker key) key) (keys_alone asker ends)
-        ∙ aims_at (due c less asker) Ending key ended (due c ints asker key) (due c less asker key)
+        (λ key. ap (λ ks. aim_on End ks (due c ints asker key) key) (keys_alone asker ends)
+        ∙ aims_at (due c less asker) End key ended (due c ints asker key) (due c less asker key)
         (λ on. ended_by (due c less asker key) (due c ints asker key) (λ some. ends_less c ints asker id asker key some))
         (λ off. stays_by key off (due c less asker key) (due c ints asker key) refl refl)))
 
@@ -327,8 +327,8 @@ module _ (c : Core) (ints : Interests) (ears : Ears) (asker id : ℕ) (asked : I
 
     told_is : filter (is_to asker) (ended_told c less ears asker asked) ≡ flat_map (changed_on asker h.ear.told) ends
     told_is =
-        told_here Ending ears asker h.ear h.there (with_dues asker ends) (alone_rises asker ends)
-        ∙ ap (told_in Ending asker h.ear) (keys_alone asker ends)
+        told_here End ears asker h.ear h.there (with_dues asker ends) (alone_rises asker ends)
+        ∙ ap (told_in End asker h.ear) (keys_alone asker ends)
         ∙ ends_changing asker h.ear ends
 
     rows_words : (ks : List (List ℕ)) → flat_map (changed_on asker h.ear.told) (map (due_on c less asker) ks) ≡ flat_map word ks
@@ -361,7 +361,7 @@ module _ (c : Core) (ints : Interests) (ears : Ears) (asker id : ℕ) (asked : I
         by true f = refl
         by false f = sym (untold own (sym (f ∙ ap (λ x. x && is_among own (told_keys asker ears)) meets_own)))
 
-    pub ended_tells : filter (is_to asker) (ended_told c less ears asker asked) ≡ told_in Ending asker h.ear (map (due_on c less asker) (option_to_list asked.key))
+    pub ended_tells : filter (is_to asker) (ended_told c less ears asker asked) ≡ told_in End asker h.ear (map (due_on c less asker) (option_to_list asked.key))
     ended_tells =
         told_is ∙ rows_words ended ∙ words_are asked.key refl
         ∙ sym (ends_changing asker h.ear (map (due_on c less asker) (option_to_list asked.key)) ∙ rows_words (option_to_list asked.key))
@@ -369,5 +369,5 @@ module _ (c : Core) (ints : Interests) (ears : Ears) (asker id : ℕ) (asked : I
   pub others_ended : (face : ℕ) → face ≢ asker → (heard : Heard) → Hears c ints ears face heard → Hears c less (ears_ended c less ears asker asked) face heard
   others_ended face ne heard h =
       let other = apart nat_cmp_total exact_unsigned face asker ne in
-      other_hears Ending ears asker face ends other c ints less heard
-      (λ key. kept_due face key (other_unmet Ending ears asker face ends other (meets asked.key key))) h
+      other_hears End ears asker face ends other c ints less heard
+      (λ key. kept_due face key (other_unmet End ears asker face ends other (meets asked.key key))) h

@@ -15,8 +15,8 @@ use Rattle.zq_key.proofs.Lookups.{same_key}
 use Rattle.zq_key.proofs.Sorted.{same_keys}
 use Rattle.zq_index.specs.Texts.{at_text, text_cmp}
 use Rattle.zq_index.proofs.Orders.{text_exact, text_total}
-use Rattle.zq_told.specs.declared.types.FaceDues.{FaceDues}
-use Rattle.zq_told.specs.declared.types.Way.{Way}
+use Rattle.zq_told.specs.declared.types.FaceUpdate.{FaceUpdate}
+use Rattle.zq_told.specs.declared.types.Reason.{Reason}
 use Rattle.zq_told.specs.Telling.{KeyDue}
 use Rattle.zq_told.specs.Laws.{InOrder, aim, aim_on, keys_for}
 use Rattle.zq_machine.specs.Neighbours.{with_dues}
@@ -76,7 +76,7 @@ module _ (d : List ℕ → Option QueryableInfoType) where
   found_row key (k ∷ ks) = found_by key k ks (is_at (text_cmp key) k) refl (found_row key ks)
 
   -- a call aims on each key at what is to be told, where it does so on those that it looks at, and on others nothing changes
-  pub aims_at : (way : Way) (key : List ℕ) (ks : List (List ℕ)) (old new : Option QueryableInfoType) → (is_among key ks ≡ true → aim way (d key) old ≡ new) → (is_among key ks ≡ false → old ≡ new)
+  pub aims_at : (way : Reason) (key : List ℕ) (ks : List (List ℕ)) (old new : Option QueryableInfoType) → (is_among key ks ≡ true → aim way (d key) old ≡ new) → (is_among key ks ≡ false → old ≡ new)
       → aim_on way (map row ks) old key ≡ new
   aims_at way key ks old new looked others = ap (λ o. option_map_or (λ x. aim way x old) o old) (found_row key ks) ∙ by (is_among key ks) refl
     where
@@ -96,13 +96,13 @@ module _ (d : List ℕ → Option QueryableInfoType) where
 
 -- ---- the keys of one face
 -- the keys that a call looks at for the face
-abbrev pub keys_at : ℕ → List FaceDues → List KeyDue
+abbrev pub keys_at : ℕ → List FaceUpdate → List KeyDue
 keys_at n dues = option_map_or (λ ks. ks) (keys_for n dues) []
 
-abbrev pub numbers : List FaceDues → List ℕ
-numbers dues = map (λ (d : FaceDues). d.face.0) dues
+abbrev pub numbers : List FaceUpdate → List ℕ
+numbers dues = map (λ (d : FaceUpdate). d.face.0) dues
 
-abbrev pub Sorted : List FaceDues → Type 0
+abbrev pub Sorted : List FaceUpdate → Type 0
 Sorted dues = IsStrictlySortedBy nat_cmp (numbers dues)
 
 some_by : {X : Type 0} (b : Bool) (x : X) (o : Option X) → (b || is_some o) ≡ is_some (cond b (Some x) o)
@@ -110,7 +110,7 @@ some_by true x o = refl
 some_by false x o = refl
 
 module _ (f : ℕ → List KeyDue) where
-  keys_by : (n m : ℕ) (rest : List FaceDues) (ks : List KeyDue) (b : Bool) → is_at (nat_cmp n) m ≡ b → (b ≡ true → f n ≡ ks) → (x : Bool) → keys_at n rest ≡ cond x (f n) []
+  keys_by : (n m : ℕ) (rest : List FaceUpdate) (ks : List KeyDue) (b : Bool) → is_at (nat_cmp n) m ≡ b → (b ≡ true → f n ≡ ks) → (x : Bool) → keys_at n rest ≡ cond x (f n) []
       → keys_at n (with_dues m ks ++ rest) ≡ cond (b || x) (f n) []
   keys_by n m rest [] true is same true more = more
   keys_by n m rest [] true is same false more = more ∙ sym (same refl)
@@ -118,11 +118,11 @@ module _ (f : ℕ → List KeyDue) where
   keys_by n m rest (k ∷ ks) true is same x more = ap (λ b. option_map_or (λ l. l) (cond b (Some (k ∷ ks)) (keys_for n rest)) []) is ∙ sym (same refl)
   keys_by n m rest (k ∷ ks) false is same x more = ap (λ b. option_map_or (λ l. l) (cond b (Some (k ∷ ks)) (keys_for n rest)) []) is ∙ more
 
-  all_by : (P : ℕ → Type 0) (m : ℕ) (ks : List KeyDue) (rest : List FaceDues) → P m → AllByRecursion P (numbers rest) → AllByRecursion P (numbers (with_dues m ks ++ rest))
+  all_by : (P : ℕ → Type 0) (m : ℕ) (ks : List KeyDue) (rest : List FaceUpdate) → P m → AllByRecursion P (numbers rest) → AllByRecursion P (numbers (with_dues m ks ++ rest))
   all_by P m [] rest p all = all
   all_by P m (k ∷ ks) rest p all = (p, all)
 
-  sorted_by : (m : ℕ) (ks : List KeyDue) (rest : List FaceDues) → AllByRecursion (λ q. nat_cmp m q ≡ Less) (numbers rest) → Sorted rest → Sorted (with_dues m ks ++ rest)
+  sorted_by : (m : ℕ) (ks : List KeyDue) (rest : List FaceUpdate) → AllByRecursion (λ q. nat_cmp m q ≡ Less) (numbers rest) → Sorted rest → Sorted (with_dues m ks ++ rest)
   unfolding IsStrictlySortedBy
   sorted_by m [] rest above s = s
   sorted_by m (k ∷ ks) rest above s = (above, s)
@@ -133,7 +133,7 @@ module _ (f : ℕ → List KeyDue) where
 
   module _ {X : Type 0} where
     -- for each of the faces its keys
-    abbrev pub dues_of : List (ℕ × X) → List FaceDues
+    abbrev pub dues_of : List (ℕ × X) → List FaceUpdate
     dues_of es = flat_map (λ e. with_dues e.0 (f e.0)) es
 
     pub keys_of_face : (n : ℕ) (es : List (ℕ × X)) → keys_at n (dues_of es) ≡ cond (is_some (at n es)) (f n) []
@@ -143,7 +143,7 @@ module _ (f : ℕ → List KeyDue) where
         ∙ ap (λ b. cond b (f n) []) (some_by (is_at (nat_cmp n) e.0) e.1 (at n es))
 
     -- what holds of the keys of each face
-    pub all_keys : (P : FaceDues → Type 0) → ((m : ℕ) (ks : List KeyDue) → f m ≡ ks → P (record { face = record { 0 = m }; keys = ks })) → (es : List (ℕ × X)) → AllByRecursion P (dues_of es)
+    pub all_keys : (P : FaceUpdate → Type 0) → ((m : ℕ) (ks : List KeyDue) → f m ≡ ks → P (record { face = record { 0 = m }; keys = ks })) → (es : List (ℕ × X)) → AllByRecursion P (dues_of es)
     all_keys P h [] = tt
     all_keys P h (e ∷ es) = by (f e.0) refl (all_keys P h es)
       where

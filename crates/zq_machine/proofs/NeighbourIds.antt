@@ -14,8 +14,8 @@ use Rattle.zq_message.specs.declared.message.QueryableInfoType.{QueryableInfoTyp
 use Rattle.zq_key.proofs.Lookups.{each_entry, found_after_insertion, found_after_removal}
 use Rattle.zq_index.specs.Texts.{at_text}
 use Rattle.zq_told.specs.declared.types.ToldEntry.{ToldEntry}
-use Rattle.zq_told.specs.declared.types.Way.TheVariants.{Unasked}
-use Rattle.zq_told.specs.Ears.{Ear, Ears, at_face}
+use Rattle.zq_told.specs.declared.types.Reason.TheVariants.{Update}
+use Rattle.zq_told.specs.ToldSets.{ToldSet, ToldSets, at_face}
 use Rattle.zq_told.specs.Leaving.{HaveIds, fresh_ear, is_too_great, lacks_there}
 use Rattle.zq_told.specs.Telling.{KeyDue}
 use Rattle.zq_told.specs.Laws.{takes_id, told_info}
@@ -44,8 +44,8 @@ abbrev pub opens : TextCall → Bool
 opens (opening o) = true
 opens t = false
 
-module _ (config : Settings) (s : State) (i : Kept config s) (ints : Interests) (ears : Ears) where
-  abbrev pub fresh : Ear
+module _ (config : Settings) (s : State) (i : Kept config s) (ints : Interests) (ears : ToldSets) where
+  abbrev pub fresh : ToldSet
   fresh = fresh_ear s.core.config.start.told
 
   -- a face that is open after a call and was not before it is one that the call opened, and was told nothing
@@ -78,12 +78,12 @@ module _ (config : Settings) (s : State) (i : Kept config s) (ints : Interests) 
     abbrev w : Core
     w = (settle s t).core
 
-    abbrev before : Ears
+    abbrev before : ToldSets
     before = with_new s.core t ears
 
     -- what was told to a face, and that it was due
     record WasTold (face : ℕ) : Type 0 where
-      ear : Ear
+      ear : ToldSet
       there : at_face face before ≡ Some ear
       told : (key : List ℕ) → told_info ear key ≡ due s.core ints face key
       quiet : (key : List ℕ) → listens w ints face key ≡ false → due s.core ints face key ≡ None
@@ -105,18 +105,18 @@ module _ (config : Settings) (s : State) (i : Kept config s) (ints : Interests) 
             record { ear = fresh; there = (new_face t face seen was).1; told = λ key. sym (none key); quiet = λ key off. none key }
 
     -- ---- one face
-    lacks_by : (face : ℕ) (ear : Ear) → at_face face before ≡ Some ear → (ks : List KeyDue) → list_any (lacks_there Unasked before) (with_dues face ks) ≡ is_too_great (ear.last + length (filter (takes_id Unasked ear.told) ks))
+    lacks_by : (face : ℕ) (ear : ToldSet) → at_face face before ≡ Some ear → (ks : List KeyDue) → list_any (lacks_there Update before) (with_dues face ks) ≡ is_too_great (ear.last + length (filter (takes_id Update ear.told) ks))
     lacks_by face ear there [] = sym (ap is_too_great (let z : ear.last + 0 ≡ ear.last = omega arith in z) ∙ below_by ear.last (ids face ear there))
     lacks_by face ear there (k ∷ ks) =
-        or-false (lacks_there Unasked before (record { face = record { 0 = face }; keys = k ∷ ks }))
-        ∙ ap (λ o. option_map_or (λ (e : Ear). is_too_great (e.last + length (filter (takes_id Unasked e.told) (k ∷ ks)))) o false) there
+        or-false (lacks_there Update before (record { face = record { 0 = face }; keys = k ∷ ks }))
+        ∙ ap (λ o. option_map_or (λ (e : ToldSet). is_too_great (e.last + length (filter (takes_id Update e.told) (k ∷ ks)))) o false) there
 
-    lacks_one : (face : ℕ) → is_open face w ≡ true → list_any (lacks_there Unasked before) (with_dues face (dues_on w ints (due_touched s.core ints t face) face)) ≡ lacks_at w ints before face
+    lacks_one : (face : ℕ) → is_open face w ≡ true → list_any (lacks_there Update before) (with_dues face (dues_on w ints (due_touched s.core ints t face) face)) ≡ lacks_at w ints before face
     lacks_one face seen =
         let x = was_told face seen in
         lacks_by face x.ear x.there (dues_on w ints (due_touched s.core ints t face) face)
         ∙ ap (λ n. is_too_great (x.ear.last + n)) (news_counted config s i t ints face seen x.ear x.told x.quiet)
-        ∙ sym (ap (λ o. option_map_or (λ (e : Ear). is_too_great (e.last + length (filter (is_news w ints face e) (face_keys w ints face)))) o false) x.there)
+        ∙ sym (ap (λ o. option_map_or (λ (e : ToldSet). is_too_great (e.last + length (filter (is_news w ints face e) (face_keys w ints face)))) o false) x.there)
 
     -- ---- all faces
     abbrev IsOpen : ℕ × OpenFace → Type 0
@@ -126,14 +126,14 @@ module _ (config : Settings) (s : State) (i : Kept config s) (ints : Interests) 
     all_open = each_entry nat_cmp_total exact_unsigned IsOpen w.faces (faces_rise config s i t ints) (λ k v there. ap is_some there)
 
     lacks_of : (os : List (ℕ × OpenFace)) → AllByRecursion IsOpen os
-        → list_any (lacks_there Unasked before) (flat_map (λ o. with_dues o.0 (dues_on w ints (due_touched s.core ints t o.0) o.0)) os) ≡ list_any (λ o. lacks_at w ints before o.0) os
+        → list_any (lacks_there Update before) (flat_map (λ o. with_dues o.0 (dues_on w ints (due_touched s.core ints t o.0) o.0)) os) ≡ list_any (λ o. lacks_at w ints before o.0) os
     lacks_of [] open_all = refl
     lacks_of (o ∷ os) open_all =
-        list_any-append (lacks_there Unasked before) (with_dues o.0 (dues_on w ints (due_touched s.core ints t o.0) o.0)) (flat_map (λ o. with_dues o.0 (dues_on w ints (due_touched s.core ints t o.0) o.0)) os)
+        list_any-append (lacks_there Update before) (with_dues o.0 (dues_on w ints (due_touched s.core ints t o.0) o.0)) (flat_map (λ o. with_dues o.0 (dues_on w ints (due_touched s.core ints t o.0) o.0)) os)
         ∙ (λ j. lacks_one o.0 open_all.0 j || lacks_of os open_all.1 j)
 
     pub lacks_are : neighbours_lack s.core w ints t ears ≡ list_any (λ o. lacks_at w ints before o.0) w.faces
-    lacks_are = lacks_exactly Unasked before (looked_at s.core w ints t) ∙ ap (list_any (lacks_there Unasked before)) (looked_is s.core w ints t) ∙ lacks_of w.faces all_open
+    lacks_are = lacks_exactly Update before (looked_at s.core w ints t) ∙ ap (list_any (lacks_there Update before)) (looked_is s.core w ints t) ∙ lacks_of w.faces all_open
 
     -- ---- a call that makes nothing due
     module _ (no_face : opens t ≡ false) (less : (face : ℕ) (key : List ℕ) → is_open face s.core ≡ true → is_some (due w ints face key) ≡ true → is_some (due s.core ints face key) ≡ true) where
@@ -149,7 +149,7 @@ module _ (config : Settings) (s : State) (i : Kept config s) (ints : Interests) 
       old_by face key None None was told more = refl
       old_by face key None (Some y) was told more = absurd (false≢true (ap is_some told ∙ more refl))
 
-      none_news : (face : ℕ) (seen : is_open face w ≡ true) (ear : Ear) → ((key : List ℕ) → told_info ear key ≡ due s.core ints face key) → (ks : List (List ℕ)) → filter (is_news w ints face ear) ks ≡ []
+      none_news : (face : ℕ) (seen : is_open face w ≡ true) (ear : ToldSet) → ((key : List ℕ) → told_info ear key ≡ due s.core ints face key) → (ks : List (List ℕ)) → filter (is_news w ints face ear) ks ≡ []
       none_news face seen ear told [] = refl
       none_news face seen ear told (k ∷ ks) =
           ap (λ b. cond b (k ∷ filter (is_news w ints face ear) ks) (filter (is_news w ints face ear) ks))
@@ -159,7 +159,7 @@ module _ (config : Settings) (s : State) (i : Kept config s) (ints : Interests) 
       enough_at : (face : ℕ) → is_open face w ≡ true → lacks_at w ints before face ≡ false
       enough_at face seen =
           let x = was_told face seen in
-          ap (λ o. option_map_or (λ (e : Ear). is_too_great (e.last + length (filter (is_news w ints face e) (face_keys w ints face)))) o false) x.there
+          ap (λ o. option_map_or (λ (e : ToldSet). is_too_great (e.last + length (filter (is_news w ints face e) (face_keys w ints face)))) o false) x.there
           ∙ ap (λ (l : List (List ℕ)). is_too_great (x.ear.last + length l)) (none_news face seen x.ear x.told (face_keys w ints face))
           ∙ ap is_too_great (let z : x.ear.last + 0 ≡ x.ear.last = omega arith in z)
           ∙ below_by x.ear.last (ids face x.ear x.there)

@@ -2,8 +2,8 @@
 use Rattle.std.proofs.Common.{◌≡◌, ◌∙◌, refl, sym, ap, ℕ, true, false, cond, true≢false, List, [], filter, fold, Some, None}
 use Rattle.std.specs.Option.{is_some}
 use Rattle.zq_interests.specs.declared.types.InterestEntry.{InterestEntry}
-use Rattle.zq_told.specs.declared.types.Way.TheVariants.{Answering, Ending}
-use Rattle.zq_told.specs.Ears.{Ears, told_keys}
+use Rattle.zq_told.specs.declared.types.Reason.TheVariants.{Answer, End}
+use Rattle.zq_told.specs.ToldSets.{ToldSets, told_keys}
 use Rattle.zq_told.specs.Laws.{is_to}
 use Rattle.zq_told.specs.Receiver.{Heard, receive}
 use Rattle.zq_told.specs.Leaving.{fresh_ear}
@@ -39,7 +39,7 @@ module _ (config : Settings) (calls : List Call) where
   i = run_in_order config calls
 
   -- ---- one face
-  pub face_told : (c : Call) (ints : Interests) (ears : Ears) (face : ℕ) (heard : Heard) → is_open face s.core ≡ true → is_open face (after s c).core ≡ true
+  pub face_told : (c : Call) (ints : Interests) (ears : ToldSets) (face : ℕ) (heard : Heard) → is_open face s.core ≡ true → is_open face (after s c).core ≡ true
       → (h : Hears s.core ints ears face heard) → FaceTold s.core (after s c).core ints (read s c) ears face h.ear heard
   face_told c ints ears face heard was seen h = record {
     keeps = call_told config s i (read s c) ints face seen was ears heard (λ key. listens_stay config calls c ints face key was seen) h;
@@ -51,7 +51,7 @@ module _ (config : Settings) (calls : List Call) where
   }
 
   -- a face that is open after a call and was not before it was told nothing
-  pub comes_told : (c : Call) (ints : Interests) (ears : Ears) (face : ℕ) → is_open face s.core ≡ false → is_open face (after s c).core ≡ true
+  pub comes_told : (c : Call) (ints : Interests) (ears : ToldSets) (face : ℕ) → is_open face s.core ≡ false → is_open face (after s c).core ≡ true
       → FaceTold s.core (after s c).core ints (read s c) ears face (fresh_ear s.core.config.start.told) []
   comes_told c ints ears face was seen =
       let none : (key : List ℕ) → due s.core ints face key ≡ None = λ key. closed_undue s.core ints face key was in
@@ -62,7 +62,7 @@ module _ (config : Settings) (calls : List Call) where
         last = new_last config s i (read s c) ints ears face seen was;
       }
 
-  pub new_told : (o : Opening) (ints : Interests) (ears : Ears) → is_accepted (step s (call.Open o)).outcome ≡ true
+  pub new_told : (o : Opening) (ints : Interests) (ears : ToldSets) → is_accepted (step s (call.Open o)).outcome ≡ true
       → FaceTold s.core (after s (call.Open o)).core ints (read s (call.Open o)) ears s.core.next_face (fresh_ear s.core.config.start.told) []
   new_told o ints ears given = comes_told (call.Open o) ints ears s.core.next_face (ap is_some (next_absent s i.sound)) (open_after s o given)
 
@@ -81,7 +81,7 @@ module _ (config : Settings) (calls : List Call) where
       by_granted (λ z x. is_some (due x.core ints face key) ≡ true → is_some (due s.core ints face key) ≡ true) s t (λ text z w it. it) (λ p places z w it. it)
       (λ h. accepted_less config s i ints face key was t h (no_bringing t none)) (λ r some. some)
 
-  pub all_told : (c : Call) (ints : Interests) (ears : Ears) → AllTold s.core (after s c).core ints (read s c) ears
+  pub all_told : (c : Call) (ints : Interests) (ears : ToldSets) → AllTold s.core (after s c).core ints (read s c) ears
   all_told c ints ears = record {
     ordered = told_ordered config s i (read s c) ints ears;
     silent = λ face shut. closed_untold config s i (read s c) ints ears face shut;
@@ -95,7 +95,7 @@ module _ (config : Settings) (calls : List Call) where
   }
 
 -- ---- an interest, and its end
-module _ (c : Core) (ints : Interests) (ears : Ears) (asker id : ℕ) (asked : InterestEntry) where
+module _ (c : Core) (ints : Interests) (ears : ToldSets) (asker id : ℕ) (asked : InterestEntry) where
   pub asking_keeps : ((old : InterestEntry) → at id (interests_of asker ints) ≡ Some old → old.key ≡ asked.key) → AskingTold c ints (with_interest asker id asked ints) ears asker asked
   asking_keeps same = record {
     own = λ heard h. asker_told c ints ears asker id asked same heard h;
@@ -105,7 +105,7 @@ module _ (c : Core) (ints : Interests) (ears : Ears) (asker id : ℕ) (asked : I
         (fold receive heard (filter (is_to asker) (answer_told c (with_interest asker id asked ints) ears asker asked))) (asker_told c ints ears asker id asked same heard h);
     others = λ face ne heard h. others_asked c ints ears asker id asked same face ne heard h;
     silent = λ face ne. others_untold c ints ears asker id asked same face ne;
-    sound = λ a enough. stay_sound.tells Answering ears (asked_at c (with_interest asker id asked ints) asker asked) enough a;
+    sound = λ a enough. stay_sound.tells Answer ears (asked_at c (with_interest asker id asked ints) asker asked) enough a;
     lacks = λ heard h ids. lacks_asked c ints ears asker id asked same heard h ids;
   }
 
@@ -118,6 +118,6 @@ module _ (c : Core) (ints : Interests) (ears : Ears) (asker id : ℕ) (asked : I
         forgets_undue c (without_interest asker id ints) (ears_ended c (without_interest asker id ints) ears asker asked) asker (filter (meets asked.key) (told_keys asker ears))
         (fold receive heard (filter (is_to asker) (ended_told c (without_interest asker id ints) ears asker asked))) (asker_ended c ints ears asker id asked was heard h);
     silent = λ face ne. others_quiet c ints ears asker id asked was face ne;
-    sound = λ a. stay_sound.tells Ending ears (ended_at c (without_interest asker id ints) ears asker asked) (none_lack c ints ears asker id asked was a.ids) a;
+    sound = λ a. stay_sound.tells End ears (ended_at c (without_interest asker id ints) ears asker asked) (none_lack c ints ears asker id asked was a.ids) a;
     enough = none_lack c ints ears asker id asked was;
   }

@@ -9,12 +9,12 @@ use Rattle.std.proofs.lemmas.List.{map-append}
 use Rattle.std.proofs.lemmas.Map.Made.{lookup-map_values}
 use Rattle.zq_key.proofs.Naturals.{filter-map, map-map}
 use Rattle.zq_interests.specs.declared.types.InterestEntry.{InterestEntry}
-use Rattle.zq_hat.specs.Moved.{Keeps}
-use Rattle.zq_told.specs.declared.types.FaceDues.{FaceDues}
+use Rattle.zq_strategy.specs.Moved.{Keeps}
+use Rattle.zq_told.specs.declared.types.FaceUpdate.{FaceUpdate}
 use Rattle.zq_told.specs.declared.types.Planned.{Planned}
-use Rattle.zq_told.specs.declared.types.Way.{Way}
-use Rattle.zq_told.specs.declared.types.Way.TheVariants.{Unasked, Answering, Ending}
-use Rattle.zq_told.specs.Ears.{Ear, Ears, Told, at_face}
+use Rattle.zq_told.specs.declared.types.Reason.{Reason}
+use Rattle.zq_told.specs.declared.types.Reason.TheVariants.{Update, Answer, End}
+use Rattle.zq_told.specs.ToldSets.{ToldSet, ToldSets, Told, at_face}
 use Rattle.zq_told.specs.Moved.{TellsAlike, move_dues, move_ear, move_ears, move_telling, move_text as move_row}
 use Rattle.zq_told.specs.Telling.{KeyDue, lacks_ids, tell_due, tell_faces}
 use Rattle.zq_told.proofs.Moved.{tells_alike}
@@ -24,7 +24,7 @@ use Rattle.zq_interests.specs.Interests.{Interests, meets}
 use Rattle.zq_machine.specs.DueAlike.{DueAlike, ToldAlike}
 use Rattle.zq_machine.specs.Moved.{move_asked, move_core, move_interests, move_text}
 use Rattle.zq_machine.specs.Neighbours.{kept_after, kept_lack, kept_told, asked_at, asked_dues, due_on, dues_on, ended_at, ended_dues, looked_at, with_dues, with_new, without_closed}
-use Rattle.zq_told.specs.Ears.{told_keys}
+use Rattle.zq_told.specs.ToldSets.{told_keys}
 use Rattle.zq_machine.specs.State.{Core}
 use Rattle.zq_machine.specs.TextCalls.{TextCall, opening, closing}
 use Rattle.zq_machine.proofs.NeighbourLooks.{looked_is}
@@ -80,14 +80,14 @@ module _ (φ : List ℕ → List ℕ) (keeps : Keeps φ) where
   keys_of_moved [] = refl
   keys_of_moved (e ∷ es) = ap (λ l. φ e.0 ∷ l) (keys_of_moved es)
 
-  told_moved : (face : ℕ) (ears : Ears) → told_keys face (move_ears φ ears) ≡ map φ (told_keys face ears)
-  told_moved face ears = ap (λ (o : Option Ear). option_map_or (λ (e : Ear). keys_of e.told) o []) (lookup-map_values (move_ear φ) (is_at (nat_cmp face)) ears) ∙ by (at_face face ears)
+  told_moved : (face : ℕ) (ears : ToldSets) → told_keys face (move_ears φ ears) ≡ map φ (told_keys face ears)
+  told_moved face ears = ap (λ (o : Option ToldSet). option_map_or (λ (e : ToldSet). keys_of e.told) o []) (lookup-map_values (move_ear φ) (is_at (nat_cmp face)) ears) ∙ by (at_face face ears)
     where
-      by : (o : Option Ear) → option_map_or (λ (e : Ear). keys_of e.told) (option_map (move_ear φ) o) [] ≡ map φ (option_map_or (λ (e : Ear). keys_of e.told) o [])
+      by : (o : Option ToldSet) → option_map_or (λ (e : ToldSet). keys_of e.told) (option_map (move_ear φ) o) [] ≡ map φ (option_map_or (λ (e : ToldSet). keys_of e.told) o [])
       by None = refl
       by (Some e) = keys_of_moved e.told
 
-  ended_alike : (c : Core) (ints : Interests) (ears : Ears) (asker : ℕ) (asked : InterestEntry) → ended_at (move_core φ c) (move_interests φ ints) (move_ears φ ears) asker (move_asked φ asked) ≡ map (move_dues φ) (ended_at c ints ears asker asked)
+  ended_alike : (c : Core) (ints : Interests) (ears : ToldSets) (asker : ℕ) (asked : InterestEntry) → ended_at (move_core φ c) (move_interests φ ints) (move_ears φ ears) asker (move_asked φ asked) ≡ map (move_dues φ) (ended_at c ints ears asker asked)
   ended_alike c ints ears asker asked =
       ap (λ ks. with_dues asker (map (due_on (move_core φ c) (move_interests φ ints) asker) (filter (meets (option_map φ asked.key)) ks))) (told_moved asker ears)
       ∙ ap (λ ks. with_dues asker (map (due_on (move_core φ c) (move_interests φ ints) asker) ks)) (filter-map φ (meets (option_map φ asked.key)) (meets asked.key) (meets_moved φ keeps asked.key) (told_keys asker ears))
@@ -95,7 +95,7 @@ module _ (φ : List ℕ → List ℕ) (keeps : Keeps φ) where
       ∙ face_moved asker (ended_dues c ints ears asker asked)
 
   -- ---- what is told, lacks and is left
-  module _ (way : Way) (ears others : Ears) (dues more : List FaceDues) (e : others ≡ move_ears φ ears) (d : more ≡ map (move_dues φ) dues) where
+  module _ (way : Reason) (ears others : ToldSets) (dues more : List FaceUpdate) (e : others ≡ move_ears φ ears) (d : more ≡ map (move_dues φ) dues) where
     tellings_alike : (tell_faces way others more).tellings ≡ map (move_telling φ) (tell_faces way ears dues).tellings
     tellings_alike = (λ i. (tell_faces way (e i) (d i)).tellings) ∙ ap (λ (p : Planned). p.tellings) (alike.tells way ears dues)
 
@@ -105,37 +105,37 @@ module _ (φ : List ℕ → List ℕ) (keeps : Keeps φ) where
     left_alike : tell_due way others more ≡ move_ears φ (tell_due way ears dues)
     left_alike = (λ i. tell_due way (e i) (d i)) ∙ alike.leaves way ears dues
 
-  pub new_alike : (c : Core) (t : TextCall) (ears : Ears) → with_new (move_core φ c) (move_text φ t) (move_ears φ ears) ≡ move_ears φ (with_new c t ears)
+  pub new_alike : (c : Core) (t : TextCall) (ears : ToldSets) → with_new (move_core φ c) (move_text φ t) (move_ears φ ears) ≡ move_ears φ (with_new c t ears)
   new_alike c (opening o) ears = alike.opens c.next_face c.config.start.told ears
   new_alike c t ears = refl
 
-  closed_alike : (t : TextCall) (ears : Ears) → without_closed (move_text φ t) (move_ears φ ears) ≡ move_ears φ (without_closed t ears)
+  closed_alike : (t : TextCall) (ears : ToldSets) → without_closed (move_text φ t) (move_ears φ ears) ≡ move_ears φ (without_closed t ears)
   closed_alike (closing g) ears = alike.closes g.0 ears
   closed_alike t ears = refl
 
   -- ---- what a call tells the faces of which something is kept
-  module _ (before after : Core) (ints : Interests) (t : TextCall) (text : HasText t) (kept others : Ears) (e : others ≡ move_ears φ kept) where
+  module _ (before after : Core) (ints : Interests) (t : TextCall) (text : HasText t) (kept others : ToldSets) (e : others ≡ move_ears φ kept) where
     pub kept_moved : kept_told (move_core φ before) (move_core φ after) (move_interests φ ints) (move_text φ t) others ≡ map (move_telling φ) (kept_told before after ints t kept)
-    kept_moved = tellings_alike Unasked kept others (looked_at before after ints t) _ e (dues_alike before after ints t text)
+    kept_moved = tellings_alike Update kept others (looked_at before after ints t) _ e (dues_alike before after ints t text)
 
     pub kept_lacks : kept_lack (move_core φ before) (move_core φ after) (move_interests φ ints) (move_text φ t) others ≡ kept_lack before after ints t kept
-    kept_lacks = lacks_alike Unasked kept others (looked_at before after ints t) _ e (dues_alike before after ints t text)
+    kept_lacks = lacks_alike Update kept others (looked_at before after ints t) _ e (dues_alike before after ints t text)
 
     pub kept_left : kept_after (move_core φ before) (move_core φ after) (move_interests φ ints) (move_text φ t) others ≡ move_ears φ (kept_after before after ints t kept)
     kept_left =
-        ap (without_closed (move_text φ t)) (left_alike Unasked kept others (looked_at before after ints t) _ e (dues_alike before after ints t text))
-        ∙ closed_alike t (tell_due Unasked kept (looked_at before after ints t))
+        ap (without_closed (move_text φ t)) (left_alike Update kept others (looked_at before after ints t) _ e (dues_alike before after ints t text))
+        ∙ closed_alike t (tell_due Update kept (looked_at before after ints t))
 
   pub told_alike : ToldAlike φ
   told_alike = record {
     told = λ before after ints t ears fits. kept_moved before after ints t (has_text before t fits) (with_new before t ears) _ (new_alike before t ears);
     lack = λ before after ints t ears fits. kept_lacks before after ints t (has_text before t fits) (with_new before t ears) _ (new_alike before t ears);
     left = λ before after ints t ears fits. kept_left before after ints t (has_text before t fits) (with_new before t ears) _ (new_alike before t ears);
-    told_asked = λ c ints ears asker asked. tellings_alike Answering ears (move_ears φ ears) (asked_at c ints asker asked) _ refl (asked_alike c ints asker asked);
-    lack_asked = λ c ints ears asker asked. lacks_alike Answering ears (move_ears φ ears) (asked_at c ints asker asked) _ refl (asked_alike c ints asker asked);
-    left_asked = λ c ints ears asker asked. left_alike Answering ears (move_ears φ ears) (asked_at c ints asker asked) _ refl (asked_alike c ints asker asked);
-    told_ended = λ c ints ears asker asked. tellings_alike Ending ears (move_ears φ ears) (ended_at c ints ears asker asked) _ refl (ended_alike c ints ears asker asked);
-    left_ended = λ c ints ears asker asked. left_alike Ending ears (move_ears φ ears) (ended_at c ints ears asker asked) _ refl (ended_alike c ints ears asker asked);
+    told_asked = λ c ints ears asker asked. tellings_alike Answer ears (move_ears φ ears) (asked_at c ints asker asked) _ refl (asked_alike c ints asker asked);
+    lack_asked = λ c ints ears asker asked. lacks_alike Answer ears (move_ears φ ears) (asked_at c ints asker asked) _ refl (asked_alike c ints asker asked);
+    left_asked = λ c ints ears asker asked. left_alike Answer ears (move_ears φ ears) (asked_at c ints asker asked) _ refl (asked_alike c ints asker asked);
+    told_ended = λ c ints ears asker asked. tellings_alike End ears (move_ears φ ears) (ended_at c ints ears asker asked) _ refl (ended_alike c ints ears asker asked);
+    left_ended = λ c ints ears asker asked. left_alike End ears (move_ears φ ears) (ended_at c ints ears asker asked) _ refl (ended_alike c ints ears asker asked);
   }
 
   pub due_alike : DueAlike φ

@@ -7,10 +7,10 @@ use Rattle.std.proofs.lemmas.List.{length-map}
 use Rattle.zq_message.specs.declared.message.QueryableInfoType.{QueryableInfoType}
 use Rattle.zq_index.specs.Infos.{same_bool}
 use Rattle.zq_index.specs.Texts.{at_text}
-use Rattle.zq_trees.specs.Tellings.{same_infos}
+use Rattle.zq_strategy.specs.Tellings.{same_infos}
 use Rattle.zq_told.specs.declared.types.ToldEntry.{ToldEntry}
-use Rattle.zq_told.specs.declared.types.Way.TheVariants.{Unasked}
-use Rattle.zq_told.specs.Ears.{Ear, Ears, at_face}
+use Rattle.zq_told.specs.declared.types.Reason.TheVariants.{Update}
+use Rattle.zq_told.specs.ToldSets.{ToldSet, ToldSets, at_face}
 use Rattle.zq_told.specs.Laws.{differs, is_to, takes_id, told_in, told_info}
 use Rattle.zq_told.proofs.Differing.{tells_difference}
 use Rattle.zq_machine.specs.Configs.{Settings}
@@ -39,7 +39,7 @@ same_still (Some i) = ap (λ b. b && (i.distance == i.distance)) (same_with_itse
 
 -- ---- a face that was told what was due to it
 module _ (config : Settings) (s : State) (i : Kept config s) (t : TextCall) (ints : Interests) (face : ℕ) (seen : is_open face (settle s t).core ≡ true)
-    (ear : Ear) (told : (key : List ℕ) → told_info ear key ≡ due s.core ints face key)
+    (ear : ToldSet) (told : (key : List ℕ) → told_info ear key ≡ due s.core ints face key)
     (quiet : (key : List ℕ) → listens (settle s t).core ints face key ≡ false → due s.core ints face key ≡ None) where
   abbrev w : Core
   w = (settle s t).core
@@ -60,22 +60,22 @@ module _ (config : Settings) (s : State) (i : Kept config s) (t : TextCall) (int
   changed_by key false e change =
       absurd (true≢false (sym change ∙ ap (λ o. not (same_infos o (due w ints face key))) (told_still key e) ∙ ap not (same_still (due w ints face key))))
 
-  difference_is : (keys : List (List ℕ)) → told_in Unasked face ear (map (due_on w ints face) keys) ≡ told_in Unasked face ear (map (due_on w ints face) (filter changes keys))
-  difference_is keys = (tells_difference face ear (map (due_on w ints face) keys)).0 ∙ ap (told_in Unasked face ear) (filter_rows (due w ints face) (differs ear.told) keys)
+  difference_is : (keys : List (List ℕ)) → told_in Update face ear (map (due_on w ints face) keys) ≡ told_in Update face ear (map (due_on w ints face) (filter changes keys))
+  difference_is keys = (tells_difference face ear (map (due_on w ints face) keys)).0 ∙ ap (told_in Update face ear) (filter_rows (due w ints face) (differs ear.told) keys)
 
   -- the keys that are looked at have all changes
   pub have_looked : (keys : List (List ℕ)) × HaveChanges w ints face ear keys
   have_looked = (keys_looked, record { rise = looked_rise config s i t ints face; all = λ key change. among key keys_looked ∙ changed_by key (is_among key keys_looked) refl change })
 
-  pub tells_exactly : (ears : Ears) → at_face face (with_new s.core t ears) ≡ Some ear → (keys : List (List ℕ)) → HaveChanges w ints face ear keys
-      → told_in Unasked face ear (map (due_on w ints face) keys) ≡ filter (is_to face) (neighbours_told s.core w ints t ears)
+  pub tells_exactly : (ears : ToldSets) → at_face face (with_new s.core t ears) ≡ Some ear → (keys : List (List ℕ)) → HaveChanges w ints face ear keys
+      → told_in Update face ear (map (due_on w ints face) keys) ≡ filter (is_to face) (neighbours_told s.core w ints t ears)
   tells_exactly ears there keys have =
       difference_is keys
-      ∙ ap (λ ks. told_in Unasked face ear (map (due_on w ints face) ks))
+      ∙ ap (λ ks. told_in Update face ear (map (due_on w ints face) ks))
       (same_passing changes keys keys_looked have.rise (looked_rise config s i t ints face) (λ q e. sym (among q keys) ∙ have.all q e) (λ q e. changed_by q (is_among q keys_looked) refl e))
       ∙ sym (difference_is keys_looked)
-      ∙ ap (told_in Unasked face ear) (sym (keys_are config s i t ints face seen))
-      ∙ sym (told_here Unasked (with_new s.core t ears) face ear there _ (all_rise config s i t ints))
+      ∙ ap (told_in Update face ear) (sym (keys_are config s i t ints face seen))
+      ∙ sym (told_here Update (with_new s.core t ears) face ear there _ (all_rise config s i t ints))
 
   -- ---- keys newly due
   news_by : (key : List ℕ) (b : Bool) → is_among key keys_looked ≡ b → is_news w ints face ear key ≡ true → b ≡ true
@@ -93,8 +93,8 @@ module _ (config : Settings) (s : State) (i : Kept config s) (t : TextCall) (int
       by true e = e
       by false e = absurd (false≢true e)
 
-  pub news_counted : length (filter (takes_id Unasked ear.told) (map (due_on w ints face) keys_looked)) ≡ length (filter (is_news w ints face ear) (face_keys w ints face))
+  pub news_counted : length (filter (takes_id Update ear.told) (map (due_on w ints face) keys_looked)) ≡ length (filter (is_news w ints face ear) (face_keys w ints face))
   news_counted =
-      ap length (filter_rows (due w ints face) (takes_id Unasked ear.told) keys_looked)
+      ap length (filter_rows (due w ints face) (takes_id Update ear.told) keys_looked)
       ∙ length-map (filter (is_news w ints face ear) keys_looked) (due_on w ints face)
       ∙ ap length (same_passing (is_news w ints face ear) keys_looked (face_keys w ints face) (looked_rise config s i t ints face) ((keys_rise w ints face).own) (λ q e. news_by q (is_among q keys_looked) refl e) news_due)

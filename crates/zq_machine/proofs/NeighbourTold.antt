@@ -18,11 +18,11 @@ use Rattle.zq_message.specs.declared.message.FaceId.{FaceId}
 use Rattle.zq_message.specs.declared.message.QueryableInfoType.{QueryableInfoType}
 use Rattle.zq_key.proofs.Lookups.{found_after_insertion, found_after_removal}
 use Rattle.zq_index.specs.Texts.{text_cmp}
-use Rattle.zq_trees.specs.declared.types.Telling.{Telling}
-use Rattle.zq_told.specs.declared.types.FaceDues.{FaceDues}
-use Rattle.zq_told.specs.declared.types.Way.{Way}
-use Rattle.zq_told.specs.declared.types.Way.TheVariants.{Unasked}
-use Rattle.zq_told.specs.Ears.{Ear, Ears, at_face, last_at}
+use Rattle.zq_strategy.specs.declared.network.Telling.{Telling}
+use Rattle.zq_told.specs.declared.types.FaceUpdate.{FaceUpdate}
+use Rattle.zq_told.specs.declared.types.Reason.{Reason}
+use Rattle.zq_told.specs.declared.types.Reason.TheVariants.{Update}
+use Rattle.zq_told.specs.ToldSets.{ToldSet, ToldSets, at_face, last_at}
 use Rattle.zq_told.specs.Telling.{KeyDue, tell_due, tell_faces}
 use Rattle.zq_told.specs.Receiver.{Heard, Tied, heard_after, heard_on, memory_of, receive}
 use Rattle.zq_told.specs.Laws.{InOrder, aim, aim_on, ear_after, is_to, keys_for, last_given, told_alone, told_in}
@@ -54,23 +54,23 @@ use Rattle.zq_machine.proofs.NeighbourLooks.{looked_is}
 use Rattle.zq_machine.proofs.NeighbourDues.{Sorted, aims_at, among_filter, dues_rise, keys_at, keys_of_face, numbers, rows_rise}
 
 -- ---- a receiver keeps what is due
-pub told_due : (c : Core) (ints : Interests) (ears : Ears) (face : ℕ) (heard : Heard) → Hears c ints ears face heard → (key : List ℕ) → heard_on key heard ≡ option_to_list (due c ints face key)
+pub told_due : (c : Core) (ints : Interests) (ears : ToldSets) (face : ℕ) (heard : Heard) → Hears c ints ears face heard → (key : List ℕ) → heard_on key heard ≡ option_to_list (due c ints face key)
 told_due c ints ears face heard h key = heard_is_told (memory_of h.ear) heard h.tied key ∙ ap option_to_list (h.told key)
 
 -- ---- one face among those that a call tells
-module _ (way : Way) (ears : Ears) (n : ℕ) (ear : Ear) (there : at_face n ears ≡ Some ear) where
-  abbrev told_to : List KeyDue → Option Ear → List Telling
-  told_to keys o = option_map_or (λ (e : Ear). told_in way n e keys) o []
+module _ (way : Reason) (ears : ToldSets) (n : ℕ) (ear : ToldSet) (there : at_face n ears ≡ Some ear) where
+  abbrev told_to : List KeyDue → Option ToldSet → List Telling
+  told_to keys o = option_map_or (λ (e : ToldSet). told_in way n e keys) o []
 
-  alone_by : (d : FaceDues) (b : Bool) → is_at (nat_cmp n) d.face.0 ≡ b → told_alone way ears n d ≡ cond b (told_in way n ear d.keys) []
+  alone_by : (d : FaceUpdate) (b : Bool) → is_at (nat_cmp n) d.face.0 ≡ b → told_alone way ears n d ≡ cond b (told_in way n ear d.keys) []
   alone_by d true is = ap (λ b. cond b (told_to d.keys (at_face n ears)) []) (sym (number_test n d.face.0) ∙ is) ∙ ap (told_to d.keys) there
   alone_by d false is = ap (λ b. cond b (told_to d.keys (at_face n ears)) []) (sym (number_test n d.face.0) ∙ is)
 
-  none_behind : (ds : List FaceDues) → AllByRecursion (λ q. nat_cmp n q ≡ Less) (numbers ds) → flat_map (told_alone way ears n) ds ≡ []
+  none_behind : (ds : List FaceUpdate) → AllByRecursion (λ q. nat_cmp n q ≡ Less) (numbers ds) → flat_map (told_alone way ears n) ds ≡ []
   none_behind [] above = refl
   none_behind (d ∷ ds) above = λ i. alone_by d false (ap is_eq above.0) i ++ none_behind ds above.1 i
 
-  first_by : (d : FaceDues) (ds : List FaceDues) (b : Bool) → is_at (nat_cmp n) d.face.0 ≡ b → AllByRecursion (λ q. nat_cmp d.face.0 q ≡ Less) (numbers ds)
+  first_by : (d : FaceUpdate) (ds : List FaceUpdate) (b : Bool) → is_at (nat_cmp n) d.face.0 ≡ b → AllByRecursion (λ q. nat_cmp d.face.0 q ≡ Less) (numbers ds)
       → flat_map (told_alone way ears n) ds ≡ told_in way n ear (keys_at n ds)
       → told_alone way ears n d ++ flat_map (told_alone way ears n) ds ≡ told_in way n ear (option_map_or (λ ks. ks) (cond b (Some d.keys) (keys_for n ds)) [])
   first_by d ds true is above more =
@@ -78,23 +78,23 @@ module _ (way : Way) (ears : Ears) (n : ℕ) (ear : Ear) (there : at_face n ears
       (λ i. alone_by d true is i ++ rest i) ∙ append-nil (told_in way n ear d.keys)
   first_by d ds false is above more = λ i. alone_by d false is i ++ more i
 
-  alone_all : (ds : List FaceDues) → Sorted ds → flat_map (told_alone way ears n) ds ≡ told_in way n ear (keys_at n ds)
+  alone_all : (ds : List FaceUpdate) → Sorted ds → flat_map (told_alone way ears n) ds ≡ told_in way n ear (keys_at n ds)
   alone_all [] s = refl
   alone_all (d ∷ ds) s = first_by d ds (is_at (nat_cmp n) d.face.0) refl (sorted_head nat_cmp d.face.0 (numbers ds) s) (alone_all ds (sorted_tail nat_cmp d.face.0 (numbers ds) s))
 
-  module _ (dues : List FaceDues) (s : Sorted dues) where
+  module _ (dues : List FaceUpdate) (s : Sorted dues) where
     pub told_here : filter (is_to n) (tell_faces way ears dues).tellings ≡ told_in way n ear (keys_at n dues)
     told_here = tells_each way ears dues n ∙ alone_all dues s
 
     pub left_here : at_face n (tell_due way ears dues) ≡ Some (ear_after way n ear (keys_at n dues))
     left_here = looks_up way ears dues s n ∙ by (keys_for n dues)
       where
-        by : (o : Option (List KeyDue)) → option_map_or (λ keys. option_map (λ (e : Ear). ear_after way n e keys) (at_face n ears)) o (at_face n ears) ≡ Some (ear_after way n ear (option_map_or (λ ks. ks) o []))
+        by : (o : Option (List KeyDue)) → option_map_or (λ keys. option_map (λ (e : ToldSet). ear_after way n e keys) (at_face n ears)) o (at_face n ears) ≡ Some (ear_after way n ear (option_map_or (λ ks. ks) o []))
         by None = there
-        by (Some keys) = ap (option_map (λ (e : Ear). ear_after way n e keys)) there
+        by (Some keys) = ap (option_map (λ (e : ToldSet). ear_after way n e keys)) there
 
 -- a receiver keeps afterwards what is due then, if that is what the call aims at
-module _ (way : Way) (c d : Core) (ints more : Interests) (ears : Ears) (dues : List FaceDues) (s : Sorted dues) (face : ℕ) (heard : Heard) where
+module _ (way : Reason) (c d : Core) (ints more : Interests) (ears : ToldSets) (dues : List FaceUpdate) (s : Sorted dues) (face : ℕ) (heard : Heard) where
   abbrev keys : List KeyDue
   keys = keys_at face dues
 
@@ -109,7 +109,7 @@ module _ (way : Way) (c d : Core) (ints more : Interests) (ears : Ears) (dues : 
   }
 
 -- the same of ears in which the face has the same
-pub still_hears : (c : Core) (ints : Interests) (ears others : Ears) (face : ℕ) (heard : Heard) → at_face face others ≡ at_face face ears → Hears c ints ears face heard → Hears c ints others face heard
+pub still_hears : (c : Core) (ints : Interests) (ears others : ToldSets) (face : ℕ) (heard : Heard) → at_face face others ≡ at_face face ears → Hears c ints ears face heard → Hears c ints others face heard
 still_hears c ints ears others face heard same h = record { ear = h.ear; there = same ∙ h.there; sorted = h.sorted; tied = h.tied; told = h.told }
 
 -- another face is closed
@@ -127,7 +127,7 @@ found_beside g q [] other = refl
 found_beside g q (e ∷ es) other = beside_by g q e es (is_at (nat_cmp g) e.0) refl other (found_beside g q es other)
 
 -- ---- what is due on keys that are not looked at
-aimed : (now old : Option QueryableInfoType) → aim Unasked now old ≡ now
+aimed : (now old : Option QueryableInfoType) → aim Update now old ≡ now
 aimed None old = refl
 aimed (Some i) old = refl
 
@@ -139,7 +139,7 @@ module _ (config : Settings) (s : State) (i : Kept config s) (t : TextCall) (int
   abbrev pub looked : ℕ → List (List ℕ)
   looked face = filter (λ key. listens w ints face key) (due_touched s.core ints t face)
 
-  abbrev dues : List FaceDues
+  abbrev dues : List FaceUpdate
   dues = looked_at s.core w ints t
 
   pub looked_rise : (face : ℕ) → IsStrictlySortedBy text_cmp (looked face)
@@ -171,23 +171,23 @@ module _ (config : Settings) (s : State) (i : Kept config s) (t : TextCall) (int
         by true e out = sym (stays key (among key (due_touched s.core ints t face) ∙ out))
         by false e out = quiet key e ∙ sym (ap (λ b. cond b (meant w ints face key) None) e)
 
-    pub call_hears : (ears : Ears) (heard : Heard) → ((key : List ℕ) → listens w ints face key ≡ false → due s.core ints face key ≡ None)
-        → Hears s.core ints ears face heard → Hears w ints (tell_due Unasked ears dues) face (fold receive heard (filter (is_to face) (tell_faces Unasked ears dues).tellings))
+    pub call_hears : (ears : ToldSets) (heard : Heard) → ((key : List ℕ) → listens w ints face key ≡ false → due s.core ints face key ≡ None)
+        → Hears s.core ints ears face heard → Hears w ints (tell_due Update ears dues) face (fold receive heard (filter (is_to face) (tell_faces Update ears dues).tellings))
     call_hears ears heard quiet h =
-        keeps_due Unasked s.core w ints ints ears dues all_rise face heard keys_in_order h
-        (λ key. ap (λ ks. aim_on Unasked ks (due s.core ints face key) key) keys_are
-        ∙ aims_at (due w ints face) Unasked key (looked face) (due s.core ints face key) (due w ints face key) (λ on. aimed (due w ints face key) (due s.core ints face key)) (unlooked quiet key))
+        keeps_due Update s.core w ints ints ears dues all_rise face heard keys_in_order h
+        (λ key. ap (λ ks. aim_on Update ks (due s.core ints face key) key) keys_are
+        ∙ aims_at (due w ints face) Update key (looked face) (due s.core ints face key) (due w ints face key) (λ on. aimed (due w ints face key) (due s.core ints face key)) (unlooked quiet key))
 
     -- the id given last is the greatest that the face was told of
-    pub call_last : (ears : Ears) (ear : Ear) (heard : Heard) → at_face face ears ≡ Some ear → InOrder ear.told → Tied (memory_of ear) heard
-        → last_at face (tell_due Unasked ears dues) ≡ Some (fold last_given ear.last (filter (is_to face) (tell_faces Unasked ears dues).tellings))
+    pub call_last : (ears : ToldSets) (ear : ToldSet) (heard : Heard) → at_face face ears ≡ Some ear → InOrder ear.told → Tied (memory_of ear) heard
+        → last_at face (tell_due Update ears dues) ≡ Some (fold last_given ear.last (filter (is_to face) (tell_faces Update ears dues).tellings))
     call_last ears ear heard there sorted tied =
-        ap (option_map (λ (e : Ear). e.last)) (left_here Unasked ears face ear there dues all_rise)
-        ∙ ap Some (sym (ap (fold last_given ear.last) (told_here Unasked ears face ear there dues all_rise) ∙ (ids_are_given Unasked face ear (keys_at face dues) heard sorted keys_in_order tied).1))
+        ap (option_map (λ (e : ToldSet). e.last)) (left_here Update ears face ear there dues all_rise)
+        ∙ ap Some (sym (ap (fold last_given ear.last) (told_here Update ears face ear there dues all_rise) ∙ (ids_are_given Update face ear (keys_at face dues) heard sorted keys_in_order tied).1))
 
     -- ---- the face was open before
     module _ (was : is_open face s.core ≡ true) where
-      pub new_beside : (ears : Ears) (x : TextCall) → at_face face (with_new s.core x ears) ≡ at_face face ears
+      pub new_beside : (ears : ToldSets) (x : TextCall) → at_face face (with_new s.core x ears) ≡ at_face face ears
       new_beside ears (opening o) = found_after_insertion nat_cmp_total exact_unsigned s.core.next_face face (record { last = s.core.config.start.told; told = [] }) ears ∙ by (is_at (nat_cmp s.core.next_face) face) refl
         where
           by : (b : Bool) → is_at (nat_cmp s.core.next_face) face ≡ b → cond b (Some (record { last = s.core.config.start.told; told = [] })) (at_face face ears) ≡ at_face face ears
@@ -206,22 +206,22 @@ module _ (config : Settings) (s : State) (i : Kept config s) (t : TextCall) (int
               absurd (false≢true (sym (ap is_some gone) ∙ sym (ap (λ (x : State). is_open face x.core) (closed_after s g (region_in o.0) there)) ∙ sym (settles_view (λ (x : Core). is_open face x) (λ places x. refl) s (closing g)) ∙ after))
           by false e = refl
 
-      closed_beside : (ears : Ears) (x : TextCall) → is_open face (settle s x).core ≡ true → at_face face (without_closed x ears) ≡ at_face face ears
+      closed_beside : (ears : ToldSets) (x : TextCall) → is_open face (settle s x).core ≡ true → at_face face (without_closed x ears) ≡ at_face face ears
       closed_beside ears (closing g) after = found_beside g.0 face ears (not_closed g after)
       closed_beside ears x after = refl
 
-      pub call_told : (ears : Ears) (heard : Heard) → ((key : List ℕ) → listens w ints face key ≡ listens s.core ints face key)
+      pub call_told : (ears : ToldSets) (heard : Heard) → ((key : List ℕ) → listens w ints face key ≡ listens s.core ints face key)
           → Hears s.core ints ears face heard → Hears w ints (ears_after s.core w ints t ears) face (heard_over s.core w ints t ears face heard)
       call_told ears heard same h =
           let quiet : (key : List ℕ) → listens w ints face key ≡ false → due s.core ints face key ≡ None = λ key off. ap (λ b. cond b (meant s.core ints face key) None) (sym (same key) ∙ off) in
-          still_hears w ints (tell_due Unasked (with_new s.core t ears) dues) (ears_after s.core w ints t ears) face (heard_over s.core w ints t ears face heard)
-          (closed_beside (tell_due Unasked (with_new s.core t ears) dues) t seen)
+          still_hears w ints (tell_due Update (with_new s.core t ears) dues) (ears_after s.core w ints t ears) face (heard_over s.core w ints t ears face heard)
+          (closed_beside (tell_due Update (with_new s.core t ears) dues) t seen)
           (call_hears (with_new s.core t ears) heard quiet (still_hears s.core ints ears (with_new s.core t ears) face heard (new_beside ears t) h))
 
-      pub last_told : (ears : Ears) (heard : Heard) (h : Hears s.core ints ears face heard)
+      pub last_told : (ears : ToldSets) (heard : Heard) (h : Hears s.core ints ears face heard)
           → last_at face (ears_after s.core w ints t ears) ≡ Some (fold last_given h.ear.last (filter (is_to face) (neighbours_told s.core w ints t ears)))
       last_told ears heard h =
-          ap (option_map (λ (e : Ear). e.last)) (closed_beside (tell_due Unasked (with_new s.core t ears) dues) t seen)
+          ap (option_map (λ (e : ToldSet). e.last)) (closed_beside (tell_due Update (with_new s.core t ears) dues) t seen)
           ∙ call_last (with_new s.core t ears) h.ear heard (new_beside ears t ∙ h.there) h.sorted h.tied
 
 -- ---- a face that a call opens

@@ -9,27 +9,27 @@ use Rattle.std.specs.Str.{bytes_eq}
 use Rattle.std.proofs.lemmas.Bool.{false≢true}
 use Rattle.std.proofs.lemmas.Slice.Eq.{bytes_eq-Decides}
 use Rattle.zq_message.specs.declared.message.Region.{Region}
-use Rattle.zq_regions.specs.Region.{region_index}
-use Rattle.zq_trees.specs.declared.types.Telling.{Telling as TreeTelling}
-use Rattle.zq_trees.specs.Tellings.{in_order}
-use Rattle.zq_hat.specs.Kept.{has_face}
-use Rattle.zq_hat.specs.State.{HatState}
-use Rattle.zq_hat.specs.Trees.{region_keys}
+use Rattle.zq_message.specs.Region.{region_index}
+use Rattle.zq_strategy.specs.declared.network.Telling.{Telling as TreeTelling}
+use Rattle.zq_strategy.specs.Tellings.{in_order}
+use Rattle.zq_strategy.specs.Kept.{has_face}
+use Rattle.zq_strategy.specs.State.{HatState}
+use Rattle.zq_strategy.specs.Trees.{region_keys}
 use Rattle.zq_key.proofs.Lookups.{same_key}
 use Rattle.zq_index.specs.Infos.{same_info}
 use Rattle.zq_index.specs.Texts.{at_text, text_cmp}
 use Rattle.zq_index.proofs.Orders.{text_exact, text_total}
 use Rattle.zq_interests.specs.Interests.{Interests, interest_at, meets, own_keys}
-use Rattle.zq_told.specs.declared.types.FaceDues.{FaceDues}
-use Rattle.zq_told.specs.declared.types.Way.TheVariants.{Unasked, Answering, Ending}
+use Rattle.zq_told.specs.declared.types.FaceUpdate.{FaceUpdate}
+use Rattle.zq_told.specs.declared.types.Reason.TheVariants.{Update, Answer, End}
 use Rattle.zq_told.specs.declared.types.ToldEntry.{ToldEntry}
-use Rattle.zq_told.specs.Ears.{Ears, Ear, Told, at_face, told_keys}
+use Rattle.zq_told.specs.ToldSets.{ToldSets, ToldSet, Told, at_face, told_keys}
 use Rattle.zq_told.specs.Leaving.{IsMeant, changed_on, is_looked_at, news_of}
 use Rattle.zq_told.specs.Telling.{KeyDue, change, declared, renewed, tell_faces, tell_keys, with_account}
 use Rattle.zq_told.proofs.Meant.{tells_meant}
 use Rattle.zq_tables.specs.Naming.{NamingState}
 use Rattle.zq_interests.specs.declared.types.InterestEntry.{InterestEntry}
-use Rattle.zq_tables.specs.declared.said.Said.{Said}
+use Rattle.zq_tables.specs.declared.resolved.Resolved.{Resolved}
 use Rattle.zq_message.specs.declared.message.FaceId.{FaceId}
 use Rattle.zq_message.specs.declared.message.QueryableInfoType.{QueryableInfoType}
 use Rattle.zq_told.proofs.Leaving.{answers_all, ends_changing}
@@ -63,7 +63,7 @@ use Rattle.zq_machine.proofs.Worded.{Any, Each, IsKey, IsWorded}
 
 -- ---- what holds of each key that is looked at at a face
 module _ (P : ℕ → List ℕ → Type 0) where
-  abbrev Holds : FaceDues → Type 0
+  abbrev Holds : FaceUpdate → Type 0
   Holds d = AllByRecursion (λ (k : KeyDue). P d.face.0 k.0) d.keys
 
   key_holds : (n : ℕ) (key : List ℕ) (ks : List KeyDue) → AllByRecursion (λ (k : KeyDue). P n k.0) ks → list_any (λ (k : KeyDue). bytes_eq key k.0) ks ≡ true → P n key
@@ -74,7 +74,7 @@ module _ (P : ℕ → List ℕ → Type 0) where
       by true is more f = subst (P n) (sym ((bytes_eq-Decides key k.0).0 is)) all.0
       by false is more f = more f
 
-  pub looked_holds : (dues : List FaceDues) → AllByRecursion Holds dues → (n : ℕ) (key : List ℕ) → is_looked_at dues n key ≡ true → P n key
+  pub looked_holds : (dues : List FaceUpdate) → AllByRecursion Holds dues → (n : ℕ) (key : List ℕ) → is_looked_at dues n key ≡ true → P n key
   looked_holds [] all n key e = absurd (false≢true e)
   looked_holds (d ∷ ds) all n key e = by (n == d.face.0) refl (list_any (λ (k : KeyDue). bytes_eq key k.0) d.keys) refl (looked_holds ds all.1 n key) e
     where
@@ -163,7 +163,7 @@ module _ (names : NamingState) (before after : Core) (ints : Interests) (t : Tex
       by true e more = (((there, all.0), e), more)
       by false e more = more
 
-  near_by : (m : ℕ) (ks : List KeyDue) (rest : List FaceDues) → AllByRecursion (λ (k : KeyDue). Near m k.0) ks → AllByRecursion (Holds Near) rest → AllByRecursion (Holds Near) (with_dues m ks ++ rest)
+  near_by : (m : ℕ) (ks : List KeyDue) (rest : List FaceUpdate) → AllByRecursion (λ (k : KeyDue). Near m k.0) ks → AllByRecursion (Holds Near) rest → AllByRecursion (Holds Near) (with_dues m ks ++ rest)
   near_by m [] rest all more = more
   near_by m (k ∷ ks) rest all more = (all, more)
 
@@ -172,11 +172,11 @@ module _ (names : NamingState) (before after : Core) (ints : Interests) (t : Tex
   near_faces texts [] there = tt
   near_faces texts (e ∷ es) there = near_by e.0 (dues_on after ints (due_touched before ints t e.0) e.0) _ (near_rows e.0 there.0 (due_touched before ints t e.0) (texts e.0)) (near_faces texts es there.1)
 
-  pub near_told : ((face : ℕ) → AreTexts (due_touched before ints t face)) → AllByRecursion (λ (e : ℕ × OpenFace). IsOpen names e.0) after.faces → (kept : Ears) → AllByRecursion (IsNear names after ints) (kept_told before after ints t kept)
+  pub near_told : ((face : ℕ) → AreTexts (due_touched before ints t face)) → AllByRecursion (λ (e : ℕ × OpenFace). IsOpen names e.0) after.faces → (kept : ToldSets) → AllByRecursion (IsNear names after ints) (kept_told before after ints t kept)
   near_told texts there kept =
       all_weaker (IsMeant kept (looked_at before after ints t)) (IsNear names after ints)
       (λ u meant. let near = looked_holds Near (looked_at before after ints t) near_all u.face.0 u.key meant.asked in record { can = near.0; listens = near.1 })
-      (tell_faces Unasked kept (looked_at before after ints t)).tellings (tells_meant Unasked kept (looked_at before after ints t))
+      (tell_faces Update kept (looked_at before after ints t)).tellings (tells_meant Update kept (looked_at before after ints t))
     where
       near_all : AllByRecursion (Holds Near) (looked_at before after ints t)
       near_all = subst (AllByRecursion (Holds Near)) (sym (looked_is before after ints t)) (near_faces texts after.faces there)
@@ -214,20 +214,20 @@ module _ (names : NamingState) (after : Core) (ints : Interests) (asker : ℕ) (
       by true d x = refl
       by false d x = absurd (false≢true x)
 
-  near_each : (ks : List KeyDue) (ears : Ears) (ts : List TreeTelling) → AllByRecursion IsHeard (map news_of ts) → AllByRecursion (IsMeant ears (with_dues asker ks)) ts → AllByRecursion (IsNear names after ints) ts
+  near_each : (ks : List KeyDue) (ears : ToldSets) (ts : List TreeTelling) → AllByRecursion IsHeard (map news_of ts) → AllByRecursion (IsMeant ears (with_dues asker ks)) ts → AllByRecursion (IsNear names after ints) ts
   near_each ks ears [] news meant = tt
   near_each ks ears (u ∷ us) news meant =
       let face = to_asker u.face.0 u.key ks meant.0.asked in
       (record { can = (subst (IsOpen names) (sym face) there, news.0.0); listens = ap (λ n. listens after ints n u.key) face ∙ news.0.1 }, near_each ks ears us news.1 meant.1)
 
-  pub answer_near : (asked : InterestEntry) (ears : Ears) → AllByRecursion (IsNear names after ints) (answer_told after ints ears asker asked)
-  answer_near asked ears = near_each (asked_dues after ints asker asked) ears _ (by (asked_dues after ints asker asked) (answer_rows (asked_keys after ints asker asked))) (tells_meant Answering ears (asked_at after ints asker asked))
+  pub answer_near : (asked : InterestEntry) (ears : ToldSets) → AllByRecursion (IsNear names after ints) (answer_told after ints ears asker asked)
+  answer_near asked ears = near_each (asked_dues after ints asker asked) ears _ (by (asked_dues after ints asker asked) (answer_rows (asked_keys after ints asker asked))) (tells_meant Answer ears (asked_at after ints asker asked))
     where
-      by : (ks : List KeyDue) → AllByRecursion IsHeard (filter (λ (k : KeyDue). is_some k.1) ks) → AllByRecursion IsHeard (map news_of (tell_faces Answering ears (with_dues asker ks)).tellings)
+      by : (ks : List KeyDue) → AllByRecursion IsHeard (filter (λ (k : KeyDue). is_some k.1) ks) → AllByRecursion IsHeard (map news_of (tell_faces Answer ears (with_dues asker ks)).tellings)
       by [] all = tt
       by (k ∷ ks) all = of_ear (at_face asker ears)
         where
-          of_ear : (o : Option Ear) → AllByRecursion IsHeard (map news_of (option_map_or (λ (e : Ear). with_account asker (tell_keys Answering asker e (k ∷ ks) []) (record { plan = []; tellings = [] })) o (record { plan = []; tellings = [] })).tellings)
+          of_ear : (o : Option ToldSet) → AllByRecursion IsHeard (map news_of (option_map_or (λ (e : ToldSet). with_account asker (tell_keys Answer asker e (k ∷ ks) []) (record { plan = []; tellings = [] })) o (record { plan = []; tellings = [] })).tellings)
           of_ear None = tt
           of_ear (Some e) = subst (AllByRecursion IsHeard) (sym (answers_all asker e (k ∷ ks))) all
 
@@ -252,17 +252,17 @@ module _ (names : NamingState) (after : Core) (ints : Interests) (asker : ℕ) (
   all_changed told [] = tt
   all_changed told (k ∷ ks) = both_heard (changed_on asker told (due_on after ints asker k)) (flat_map (changed_on asker told) (map (due_on after ints asker) ks)) (changed_heard told k) (all_changed told ks)
 
-  pub end_near : (asked : InterestEntry) (ears : Ears) → AllByRecursion (IsNear names after ints) (ended_told after ints ears asker asked)
-  end_near asked ears = near_each (ended_dues after ints ears asker asked) ears _ (by (filter (meets asked.key) (told_keys asker ears))) (tells_meant Ending ears (ended_at after ints ears asker asked))
+  pub end_near : (asked : InterestEntry) (ears : ToldSets) → AllByRecursion (IsNear names after ints) (ended_told after ints ears asker asked)
+  end_near asked ears = near_each (ended_dues after ints ears asker asked) ears _ (by (filter (meets asked.key) (told_keys asker ears))) (tells_meant End ears (ended_at after ints ears asker asked))
     where
-      by : (ks : List (List ℕ)) → AllByRecursion IsHeard (map news_of (tell_faces Ending ears (with_dues asker (map (due_on after ints asker) ks))).tellings)
+      by : (ks : List (List ℕ)) → AllByRecursion IsHeard (map news_of (tell_faces End ears (with_dues asker (map (due_on after ints asker) ks))).tellings)
       by [] = tt
       by (k ∷ ks) = of_ear (at_face asker ears)
         where
           rows : List KeyDue
           rows = map (due_on after ints asker) (k ∷ ks)
 
-          of_ear : (o : Option Ear) → AllByRecursion IsHeard (map news_of (option_map_or (λ (e : Ear). with_account asker (tell_keys Ending asker e rows []) (record { plan = []; tellings = [] })) o (record { plan = []; tellings = [] })).tellings)
+          of_ear : (o : Option ToldSet) → AllByRecursion IsHeard (map news_of (option_map_or (λ (e : ToldSet). with_account asker (tell_keys End asker e rows []) (record { plan = []; tellings = [] })) o (record { plan = []; tellings = [] })).tellings)
           of_ear None = tt
           of_ear (Some e) = subst (λ ts. AllByRecursion IsHeard (map news_of ts)) (sym (ends_changing asker e rows)) (all_changed e.told (k ∷ ks))
 
@@ -282,7 +282,7 @@ module _ (config : Settings) (s : State) (i : InOrder config s) (t : TextCall) (
   neighbours = told_near s.core (accepted s.core t) (interests_for s.core t) t (kept s.core t)
 
   -- the face of an interest is open
-  asker_open : (face : FaceId) (id : ℕ) (keys : Manner) (sd : Option Said) → t ≡ hearing face id keys sd → IsOpen (renamed s t) face.0
+  asker_open : (face : FaceId) (id : ℕ) (keys : Manner) (sd : Option Resolved) → t ≡ hearing face id keys sd → IsOpen (renamed s t) face.0
   asker_open face id keys sd is =
       j.tied.named face.0 ∙ ap (λ (x : TextCall). is_open face.0 (accepted s.core x)) is
       ∙ is_there (is_open face.0 s.core) (all_passed (causes s.core (hearing face id keys sd)) (ap (refusal_of s.core) (sym is) ∙ fits)).0

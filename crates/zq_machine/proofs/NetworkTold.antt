@@ -13,7 +13,7 @@ use Rattle.std.proofs.lemmas.Slice.Eq.{bytes_eq-Decides}
 use Rattle.zq_message.specs.declared.message.QueryableInfoType.{QueryableInfoType}
 use Rattle.zq_message.specs.declared.message.Region.{Region}
 use Rattle.zq_message.specs.declared.message.Zid.{Zid}
-use Rattle.zq_regions.specs.Region.{region_index}
+use Rattle.zq_message.specs.Region.{region_index}
 use Rattle.zq_key.proofs.Lookups.{same_key}
 use Rattle.zq_index.specs.Holders.{IsOrderedBy}
 use Rattle.zq_index.specs.Infos.{joined}
@@ -21,19 +21,19 @@ use Rattle.zq_index.specs.Texts.{at_text, has_text, text_cmp}
 use Rattle.zq_index.proofs.Listed.{put_in, put_keeps}
 use Rattle.zq_index.proofs.Merges.{joined_none}
 use Rattle.zq_index.proofs.Orders.{text_exact, text_total}
-use Rattle.zq_trees.specs.declared.types.Network.{Network}
-use Rattle.zq_trees.specs.declared.types.Telling.{Telling as TreeTelling}
-use Rattle.zq_trees.specs.Entries.{Entries, Routed, entry_of, routed_info, standing, staying}
-use Rattle.zq_trees.specs.Nets.{children_of, is_listed, is_zid, place_of}
-use Rattle.zq_entries.proofs.Dropping.{staying_entry}
-use Rattle.zq_hat.specs.declared.types.Declaration.{Declaration}
-use Rattle.zq_hat.specs.declared.types.Strategy.{Strategy}
-use Rattle.zq_hat.specs.declared.types.Strategy.TheVariants as strategy
-use Rattle.zq_hat.specs.Kept.{declared_keys, faces_info, has_face, region_info, routers_info, with_declared, with_face, with_key, with_keys}
-use Rattle.zq_hat.specs.Regions.{in_routers, strategy_at}
-use Rattle.zq_hat.specs.Routers.{face_with, networked}
-use Rattle.zq_hat.specs.State.{FaceState, HatState}
-use Rattle.zq_hat.specs.Trees.{network_told, region_keys, standing_of}
+use Rattle.zq_strategy.specs.declared.network.Network.{Network}
+use Rattle.zq_strategy.specs.declared.network.Telling.{Telling as TreeTelling}
+use Rattle.zq_strategy.specs.Entries.{Entries, Routed, entry_of, routed_info, standing, staying}
+use Rattle.zq_strategy.specs.Nets.{children_of, is_listed, is_zid, place_of}
+use Rattle.zq_routers.proofs.Dropping.{staying_entry}
+use Rattle.zq_strategy.specs.declared.types.Declaration.{Declaration}
+use Rattle.zq_strategy.specs.declared.types.Strategy.{Strategy}
+use Rattle.zq_strategy.specs.declared.types.Strategy.TheVariants as strategy
+use Rattle.zq_strategy.specs.Kept.{declared_keys, faces_info, has_face, region_info, routers_info, with_declared, with_face, with_key, with_keys}
+use Rattle.zq_strategy.specs.Regions.{in_routers, strategy_at}
+use Rattle.zq_strategy.specs.Routers.{face_with, networked}
+use Rattle.zq_strategy.specs.State.{FaceState, HatState}
+use Rattle.zq_strategy.specs.Trees.{network_told, region_keys, standing_of}
 use Rattle.zq_machine.specs.Children.{is_face_of}
 use Rattle.zq_machine.specs.Configs.{Settings}
 use Rattle.zq_machine.specs.Deciding.{accepted, refusal_of}

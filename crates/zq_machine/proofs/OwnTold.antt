@@ -15,20 +15,20 @@ use Rattle.std.proofs.lemmas.Slice.Eq.{bytes_eq-Decides}
 use Rattle.zq_message.specs.declared.message.QueryableInfoType.{QueryableInfoType}
 use Rattle.zq_message.specs.declared.message.Region.{Region}
 use Rattle.zq_message.specs.declared.message.Zid.{Zid}
-use Rattle.zq_regions.specs.Region.{region_index}
+use Rattle.zq_message.specs.Region.{region_index}
 use Rattle.zq_key.proofs.Lookups.{each_entry}
 use Rattle.zq_index.specs.Infos.{same_bool}
-use Rattle.zq_trees.specs.declared.types.Telling.{Telling as TreeTelling}
-use Rattle.zq_trees.specs.Entries.{entry_of}
-use Rattle.zq_trees.specs.Nets.{children_of, is_zid, place_of}
-use Rattle.zq_trees.specs.Tellings.{same_infos}
-use Rattle.zq_hat.specs.declared.types.Strategy.{Strategy}
-use Rattle.zq_hat.specs.declared.types.Strategy.TheVariants as strategy
-use Rattle.zq_hat.specs.Kept.{at_id, has_face, new_hat}
-use Rattle.zq_hat.specs.Regions.{in_routers, strategy_at}
-use Rattle.zq_hat.specs.Routers.{face_with}
-use Rattle.zq_hat.specs.State.{FaceState, HatState}
-use Rattle.zq_hat.specs.Trees.{own_told, to_children}
+use Rattle.zq_strategy.specs.declared.network.Telling.{Telling as TreeTelling}
+use Rattle.zq_strategy.specs.Entries.{entry_of}
+use Rattle.zq_strategy.specs.Nets.{children_of, is_zid, place_of}
+use Rattle.zq_strategy.specs.Tellings.{same_infos}
+use Rattle.zq_strategy.specs.declared.types.Strategy.{Strategy}
+use Rattle.zq_strategy.specs.declared.types.Strategy.TheVariants as strategy
+use Rattle.zq_strategy.specs.Kept.{at_id, has_face, new_hat}
+use Rattle.zq_strategy.specs.Regions.{in_routers, strategy_at}
+use Rattle.zq_strategy.specs.Routers.{face_with}
+use Rattle.zq_strategy.specs.State.{FaceState, HatState}
+use Rattle.zq_strategy.specs.Trees.{own_told, to_children}
 use Rattle.zq_tables.specs.Naming.{NamingState}
 use Rattle.zq_machine.specs.declared.config.Entry.{Entry}
 use Rattle.zq_machine.specs.declared.face.OpenFace.{OpenFace}

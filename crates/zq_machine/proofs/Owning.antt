@@ -16,31 +16,31 @@ use Rattle.std.proofs.lemmas.Cmp.{nat_cmp_total}
 use Rattle.std.proofs.lemmas.Map.Lookups.{exact_unsigned}
 use Rattle.std.proofs.lemmas.Map.Made.{keys_of-map_values, lookup-map_values}
 use Rattle.zq_key.proofs.Naturals.{fold-map}
-use Rattle.zq_regions.specs.Region.{region_index}
+use Rattle.zq_message.specs.Region.{region_index}
 use Rattle.std.proofs.lemmas.Slice.Eq.{bytes_eq-Decides}
 use Rattle.zq_message.specs.declared.message.QueryableInfoType.{QueryableInfoType}
 use Rattle.zq_message.specs.declared.message.Region.{Region}
 use Rattle.zq_message.specs.declared.message.Zid.{Zid}
-use Rattle.zq_trees.specs.declared.types.Network.{Network}
+use Rattle.zq_strategy.specs.declared.network.Network.{Network}
 use Rattle.zq_index.specs.Holders.{if_any}
 use Rattle.zq_index.specs.Infos.{joined}
 use Rattle.zq_index.proofs.Merges.{joined_none}
 use Rattle.zq_index.specs.Texts.{at_text, text_cmp}
 use Rattle.zq_index.proofs.Orders.{text_exact, text_total}
 use Rattle.zq_key.proofs.Lookups.{apart, found_after_insertion, same_entries, same_key}
-use Rattle.zq_hat.specs.declared.types.Declaration.{Declaration}
-use Rattle.zq_hat.specs.declared.types.FinalMark.{FinalMark}
-use Rattle.zq_hat.specs.declared.types.FinalMark.TheVariants as mark
-use Rattle.zq_hat.specs.declared.types.Strategy.{Strategy}
-use Rattle.zq_hat.specs.declared.types.Strategy.TheVariants as strategy
-use Rattle.zq_hat.specs.Kept.{at_id, change_face, clashes_at, declaration, declaration_at, declare, face_at, faces_info, has_any, has_face, info, is_apart, key_of, keys_of_face, new_face, registered, routers_info, unregistered, with_declared, with_face, with_face_opened, withdraw, without_face}
-use Rattle.zq_hat.specs.Marks.{finalized, marked}
-use Rattle.zq_hat.specs.Regions.{in_routers, strategy_at}
-use Rattle.zq_trees.specs.Entries.{Entries, Routed, entries_at, has_by, is_by, is_unlisted, keys_by, routed_info, routed_with, routed_without, staying, with_entries}
-use Rattle.zq_trees.specs.Nets.{is_listed}
-use Rattle.zq_hat.specs.Routers.{announced, losing, networked, noded, retracted, source_at}
-use Rattle.zq_hat.specs.State.{FaceState, HatState}
-use Rattle.zq_hat.specs.declared.types.FaceRecord.{FaceRecord}
+use Rattle.zq_strategy.specs.declared.types.Declaration.{Declaration}
+use Rattle.zq_strategy.specs.declared.types.FinalMark.{FinalMark}
+use Rattle.zq_strategy.specs.declared.types.FinalMark.TheVariants as mark
+use Rattle.zq_strategy.specs.declared.types.Strategy.{Strategy}
+use Rattle.zq_strategy.specs.declared.types.Strategy.TheVariants as strategy
+use Rattle.zq_strategy.specs.Kept.{at_id, change_face, clashes_at, declaration, declaration_at, declare, face_at, faces_info, has_any, has_face, info, is_apart, key_of, keys_of_face, new_face, registered, routers_info, unregistered, with_declared, with_face, with_face_opened, withdraw, without_face}
+use Rattle.zq_strategy.specs.Marks.{finalized, marked}
+use Rattle.zq_strategy.specs.Regions.{in_routers, strategy_at}
+use Rattle.zq_strategy.specs.Entries.{Entries, Routed, entries_at, has_by, is_by, is_unlisted, keys_by, routed_info, routed_with, routed_without, staying, with_entries}
+use Rattle.zq_strategy.specs.Nets.{is_listed}
+use Rattle.zq_strategy.specs.Routers.{announced, losing, networked, noded, retracted, source_at}
+use Rattle.zq_strategy.specs.State.{FaceState, HatState}
+use Rattle.zq_strategy.specs.declared.types.FaceRecord.{FaceRecord}
 use Rattle.zq_machine.specs.declared.call.Call.{Call}
 use Rattle.zq_machine.specs.Configs.{Settings}
 use Rattle.zq_machine.specs.Machine.{accepted_state, after, state_after}

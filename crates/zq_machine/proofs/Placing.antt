@@ -18,19 +18,19 @@ use Rattle.zq_message.specs.declared.message.Zid.{Zid}
 use Rattle.zq_key.proofs.Lookups.{each_entry, same_key}
 use Rattle.zq_index.specs.Texts.{at_text, text_cmp}
 use Rattle.zq_index.proofs.Orders.{text_exact, text_total}
-use Rattle.zq_trees.specs.declared.types.Network.{Network}
-use Rattle.zq_trees.specs.declared.types.Telling.{Telling as TreeTelling}
-use Rattle.zq_trees.specs.declared.types.Tree.{Tree}
-use Rattle.zq_trees.specs.Entries.{Entries, Routed, entry_of, standing, zid_of}
-use Rattle.zq_trees.specs.Nets.{child_ids, children_of, fresh_ids, is_listed, is_zid, place_of, small, tree_at}
-use Rattle.zq_trees.specs.Seating.{faces_by, is_other}
-use Rattle.zq_trees.specs.Tellings.{all_told_of, tree_telling}
-use Rattle.zq_trees.proofs.Places.{position_some}
-use Rattle.zq_entries.proofs.Standing.{picked_at, sorted_picked}
-use Rattle.zq_hat.specs.Kept.{has_face}
-use Rattle.zq_hat.specs.Routers.{face_with}
-use Rattle.zq_hat.specs.State.{HatState}
-use Rattle.zq_hat.specs.Trees.{root_told, standing_of, to_children, trees_told}
+use Rattle.zq_strategy.specs.declared.network.Network.{Network}
+use Rattle.zq_strategy.specs.declared.network.Telling.{Telling as TreeTelling}
+use Rattle.zq_strategy.specs.declared.network.Tree.{Tree}
+use Rattle.zq_strategy.specs.Entries.{Entries, Routed, entry_of, standing, zid_of}
+use Rattle.zq_strategy.specs.Nets.{child_ids, children_of, fresh_ids, is_listed, is_zid, place_of, small, tree_at}
+use Rattle.zq_strategy.specs.Seating.{faces_by, is_other}
+use Rattle.zq_strategy.specs.Tellings.{all_told_of, tree_telling}
+use Rattle.zq_strategy.proofs.Places.{position_some}
+use Rattle.zq_routers.proofs.Standing.{picked_at, sorted_picked}
+use Rattle.zq_strategy.specs.Kept.{has_face}
+use Rattle.zq_strategy.specs.Routers.{face_with}
+use Rattle.zq_strategy.specs.State.{HatState}
+use Rattle.zq_strategy.specs.Trees.{root_told, standing_of, to_children, trees_told}
 use Rattle.zq_machine.specs.Children.{is_face_of}
 use Rattle.zq_machine.proofs.Changing.{itself, number_test}
 use Rattle.zq_machine.proofs.DueHeard.{faces_each}

@@ -9,7 +9,7 @@ use Rattle.zq_key.specs.Key.{is_key, is_chunk}
 use Rattle.zq_message.specs.declared.message.FaceId.{FaceId}
 use Rattle.zq_message.specs.declared.message.Request.{Request}
 use Rattle.zq_message.specs.declared.message.Response.{Response}
-use Rattle.zq_offers.specs.declared.types.QueryTargetQabl.{QueryTargetQabl}
+use Rattle.zq_strategy.specs.declared.offer.QueryTargetQabl.{QueryTargetQabl}
 use Rattle.zq_query.specs.declared.records.Final.{Final}
 use Rattle.zq_query.specs.declared.records.ReplyTo.{ReplyTo}
 use Rattle.zq_query.specs.Closing.{closing_finals, finals_after, finals_landed}
@@ -18,8 +18,8 @@ use Rattle.zq_query.specs.Asking.{asked_records, given_id, given_place, is_full}
 use Rattle.zq_query.specs.Polling.{timeouts}
 use Rattle.zq_query.proofs.Ids.{next_id_is_new}
 use Rattle.zq_tables.specs.Naming.{NamingState, best, face_naming}
-use Rattle.zq_tables.specs.declared.said.Said.{Said}
-use Rattle.zq_tables.specs.declared.said.Said.TheVariants as said
+use Rattle.zq_tables.specs.declared.resolved.Resolved.{Resolved}
+use Rattle.zq_tables.specs.declared.resolved.Resolved.TheVariants as said
 use Rattle.zq_tables.proofs.Reading.{best-reads}
 use Rattle.zq_machine.specs.declared.call.Call.{Call}
 use Rattle.zq_machine.specs.declared.call.Call.TheVariants as call
@@ -91,7 +91,7 @@ module _ (s : State) (text : List ℕ) (r : Request) (some : 0 < length text) wh
       (hands o p.0, hands_each os p.1)
 
 -- what is selected is selected on a key
-selected_key : (c : Core) (asker : FaceId) (s : Said) (t : Request) (o : Option OpenFace) (x : QueryTargetQabl) (xs : List QueryTargetQabl) → select_for c asker s t o ≡ x ∷ xs → 0 < length (full_text s)
+selected_key : (c : Core) (asker : FaceId) (s : Resolved) (t : Request) (o : Option OpenFace) (x : QueryTargetQabl) (xs : List QueryTargetQabl) → select_for c asker s t o ≡ x ∷ xs → 0 < length (full_text s)
 selected_key c asker s t None x xs e = absurd (cc)
 selected_key c asker said.Unscoped t (Some f) x xs e = absurd (cc)
 selected_key c asker said.Empty t (Some f) x xs e = absurd (cc)
@@ -101,7 +101,7 @@ selected_key c asker (said.Full text) t (Some f) x xs e = by (is_key text) refl 
     by true k ys g = key_some text k
     by false k ys g = absurd (cc)
 
-requests_handed : (s : State) (face : FaceId) (sd : Said) (r : Request) (d : ℕ) (c : Core) → any_over s.core.queries.records ≡ false → is_closed c.queries.closed face.0 ≡ false → (os : List QueryTargetQabl) → select s.core face sd r ≡ os
+requests_handed : (s : State) (face : FaceId) (sd : Resolved) (r : Request) (d : ℕ) (c : Core) → any_over s.core.queries.records ≡ false → is_closed c.queries.closed face.0 ≡ false → (os : List QueryTargetQabl) → select s.core face sd r ≡ os
     → list_any (is_full s.core.queries) (map target_of os) ≡ false
     → c.queries.records ≡ s.core.queries.records ++ asked_records s.core.queries.requests face r.id r.qos (map (given_place s.core.queries) (map target_of os)) d
     → HandsRequest s face (full_text sd) r os
@@ -133,7 +133,7 @@ requests_handed s face sd r d c standing opened (o ∷ os) e h are =
     by true = refl
     by false = refl
 
-pub no_full : (s : State) (face : FaceId) (sd : Said) (r : Request) (now : ℕ) → refusal_of s.core (asking face sd r now) ≡ None → list_any (is_full s.core.queries) (targets s.core face sd r) ≡ false
+pub no_full : (s : State) (face : FaceId) (sd : Resolved) (r : Request) (now : ℕ) → refusal_of s.core (asking face sd r now) ≡ None → list_any (is_full s.core.queries) (targets s.core face sd r) ≡ false
 no_full s face sd r now h =
     let p = all_passed (causes s.core (asking face sd r now)) h in
     second (s.core.queries.requests + 1 == 2 ^ 64) (list_any (is_full s.core.queries) (targets s.core face sd r)) p.1.0
@@ -142,7 +142,7 @@ no_full s face sd r now h =
     second true b e = absurd (true≢false e)
     second false b e = e
 
-asked_promise : (s : State) (face : FaceId) (sd : Said) (r : Request) (now : ℕ) → IsSound s → refusal_of s.core (asking face sd r now) ≡ None
+asked_promise : (s : State) (face : FaceId) (sd : Resolved) (r : Request) (now : ℕ) → IsSound s → refusal_of s.core (asking face sd r now) ≡ None
     → (outcome.Asked s.core.queries.requests ≡ outcome.Asked s.core.queries.requests)
     × HandsRequest s face (full_text sd) r (select s.core face sd r)
     (map (through (full_text sd) s.gates) (write s.names (granted s.core (asking face sd r now)).messages)

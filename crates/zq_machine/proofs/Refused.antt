@@ -1,7 +1,7 @@
 -- A call that nothing refuses says the key of what it declares or withdraws.
 use Rattle.std.proofs.Common.{◌≡◌, Bool, true, false, cond, not, Some, None}
-use Rattle.zq_tables.specs.declared.said.Said.{Said}
-use Rattle.zq_tables.specs.declared.said.Said.TheVariants as said
+use Rattle.zq_tables.specs.declared.resolved.Resolved.{Resolved}
+use Rattle.zq_tables.specs.declared.resolved.Resolved.TheVariants as said
 use Rattle.zq_machine.specs.Deciding.{refusal_of}
 use Rattle.zq_machine.specs.State.{Core, is_open}
 use Rattle.zq_machine.specs.TextCalls.{TextCall, declaring, announcing, retracting, hearing}
@@ -16,7 +16,7 @@ third_holds true b x y z e = cc
 third_holds false b x y z e = second_holds b y z e
 
 -- the expression says a text
-abbrev pub IsText : Said → Type 0
+abbrev pub IsText : Resolved → Type 0
 IsText said.Unscoped = ⊥
 IsText said.Empty = ⊥
 IsText (said.Full text) = Unit {0}

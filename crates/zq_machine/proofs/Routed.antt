@@ -12,18 +12,18 @@ use Rattle.zq_message.specs.declared.message.QueryableInfoType.{QueryableInfoTyp
 use Rattle.zq_message.specs.declared.message.Region.{Region}
 use Rattle.zq_message.specs.declared.message.WireExpr.{WireExpr}
 use Rattle.zq_message.specs.declared.message.Zid.{Zid}
-use Rattle.zq_regions.specs.Region.{region_index}
-use Rattle.zq_trees.specs.declared.types.Network.{Network}
-use Rattle.zq_hat.specs.declared.types.FaceRecord.{FaceRecord}
-use Rattle.zq_hat.specs.declared.types.Strategy.{Strategy}
-use Rattle.zq_hat.specs.declared.types.Strategy.TheVariants as strategy
-use Rattle.zq_hat.specs.Kept.{face_at, has_face, registered, unregistered, with_face_opened, without_face}
-use Rattle.zq_hat.specs.Marks.{finalized}
-use Rattle.zq_hat.specs.Regions.{in_routers, strategy_at}
-use Rattle.zq_trees.specs.Entries.{staying}
-use Rattle.zq_trees.specs.Nets.{is_listed}
-use Rattle.zq_hat.specs.Routers.{announced, networked, retracted, noded, source_at, zid_at}
-use Rattle.zq_hat.specs.State.{FaceState, HatState}
+use Rattle.zq_message.specs.Region.{region_index}
+use Rattle.zq_strategy.specs.declared.network.Network.{Network}
+use Rattle.zq_strategy.specs.declared.types.FaceRecord.{FaceRecord}
+use Rattle.zq_strategy.specs.declared.types.Strategy.{Strategy}
+use Rattle.zq_strategy.specs.declared.types.Strategy.TheVariants as strategy
+use Rattle.zq_strategy.specs.Kept.{face_at, has_face, registered, unregistered, with_face_opened, without_face}
+use Rattle.zq_strategy.specs.Marks.{finalized}
+use Rattle.zq_strategy.specs.Regions.{in_routers, strategy_at}
+use Rattle.zq_strategy.specs.Entries.{staying}
+use Rattle.zq_strategy.specs.Nets.{is_listed}
+use Rattle.zq_strategy.specs.Routers.{announced, networked, retracted, noded, source_at, zid_at}
+use Rattle.zq_strategy.specs.State.{FaceState, HatState}
 use Rattle.zq_tables.specs.Naming.{face_naming, said_of}
 use Rattle.zq_machine.specs.declared.call.Call.{Call}
 use Rattle.zq_machine.specs.declared.call.Call.TheVariants as call

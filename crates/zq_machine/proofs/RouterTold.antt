@@ -13,20 +13,20 @@ use Rattle.zq_message.specs.declared.message.FaceId.{FaceId}
 use Rattle.zq_message.specs.declared.message.QueryableInfoType.{QueryableInfoType}
 use Rattle.zq_message.specs.declared.message.Region.{Region}
 use Rattle.zq_message.specs.declared.message.Zid.{Zid}
-use Rattle.zq_regions.specs.Region.{region_index}
+use Rattle.zq_message.specs.Region.{region_index}
 use Rattle.zq_key.proofs.Lookups.{at_itself}
 use Rattle.zq_index.specs.Holders.{IsOrderedBy}
 use Rattle.zq_index.specs.Texts.{text_cmp}
 use Rattle.zq_index.proofs.Orders.{text_exact, text_total}
-use Rattle.zq_trees.specs.declared.types.Telling.{Telling as TreeTelling}
-use Rattle.zq_trees.specs.Entries.{entry_of}
-use Rattle.zq_trees.specs.Nets.{children_of, is_zid, place_of}
-use Rattle.zq_hat.specs.declared.types.Strategy.TheVariants as strategy
-use Rattle.zq_hat.specs.Kept.{has_face}
-use Rattle.zq_hat.specs.Regions.{strategy_at}
-use Rattle.zq_hat.specs.Routers.{source_at}
-use Rattle.zq_hat.specs.State.{HatState}
-use Rattle.zq_hat.specs.Trees.{to_children}
+use Rattle.zq_strategy.specs.declared.network.Telling.{Telling as TreeTelling}
+use Rattle.zq_strategy.specs.Entries.{entry_of}
+use Rattle.zq_strategy.specs.Nets.{children_of, is_zid, place_of}
+use Rattle.zq_strategy.specs.declared.types.Strategy.TheVariants as strategy
+use Rattle.zq_strategy.specs.Kept.{has_face}
+use Rattle.zq_strategy.specs.Regions.{strategy_at}
+use Rattle.zq_strategy.specs.Routers.{source_at}
+use Rattle.zq_strategy.specs.State.{HatState}
+use Rattle.zq_strategy.specs.Trees.{to_children}
 use Rattle.zq_machine.specs.declared.face.OpenFace.{OpenFace}
 use Rattle.zq_machine.specs.Agreeing.{stands_in}
 use Rattle.zq_machine.specs.Children.{is_face_of, said_for, speaks_for, with_news}

@@ -9,20 +9,20 @@ use Rattle.std.specs.declared.cmp.Ordering.{Ordering}
 use Rattle.std.specs.declared.cmp.Ordering.TheVariants.{Less, Equal, Greater}
 use Rattle.zq_message.specs.declared.message.QueryableInfoType.{QueryableInfoType}
 use Rattle.zq_message.specs.declared.message.Zid.{Zid}
-use Rattle.zq_trees.specs.declared.types.Network.{Network}
-use Rattle.zq_trees.specs.declared.types.NodeIds.{NodeIds}
+use Rattle.zq_strategy.specs.declared.network.Network.{Network}
+use Rattle.zq_strategy.specs.declared.network.NodeIds.{NodeIds}
 use Rattle.zq_index.specs.Holders.{at_place_by, if_any}
 use Rattle.zq_index.specs.Texts.{text_cmp}
-use Rattle.zq_trees.specs.Entries.{Entries, Routed, entries_at, is_by, routed_with, routed_without, staying, with_entries}
-use Rattle.zq_trees.specs.Nets.{is_listed, place_of}
-use Rattle.zq_hat.specs.declared.types.Strategy.{Strategy}
-use Rattle.zq_hat.specs.declared.types.Strategy.TheVariants as strategy
-use Rattle.zq_hat.specs.Kept.{face_at}
-use Rattle.zq_hat.specs.Moved.{Keeps, move_entry, move_hat}
-use Rattle.zq_hat.specs.Regions.{in_routers, strategy_at}
-use Rattle.zq_hat.specs.Routers.{announced, context_at, networked, noded, retracted, source_at, zid_at}
-use Rattle.zq_hat.proofs.RoutersMoved.{found_moved}
-use Rattle.zq_hat.specs.State.{FaceState, HatState}
+use Rattle.zq_strategy.specs.Entries.{Entries, Routed, entries_at, is_by, routed_with, routed_without, staying, with_entries}
+use Rattle.zq_strategy.specs.Nets.{is_listed, place_of}
+use Rattle.zq_strategy.specs.declared.types.Strategy.{Strategy}
+use Rattle.zq_strategy.specs.declared.types.Strategy.TheVariants as strategy
+use Rattle.zq_strategy.specs.Kept.{face_at}
+use Rattle.zq_strategy.specs.Moved.{Keeps, move_entry, move_hat}
+use Rattle.zq_strategy.specs.Regions.{in_routers, strategy_at}
+use Rattle.zq_strategy.specs.Routers.{announced, context_at, networked, noded, retracted, source_at, zid_at}
+use Rattle.zq_strategy.proofs.RoutersMoved.{found_moved}
+use Rattle.zq_strategy.specs.State.{FaceState, HatState}
 use Rattle.zq_machine.specs.Deciding.{announced_by, entry_by, retracted_by}
 use Rattle.zq_machine.proofs.HatsMoved.{face_changed, face_found, moved_face}
 

@@ -9,13 +9,13 @@ use Rattle.zq_message.specs.declared.message.FaceId.{FaceId}
 use Rattle.zq_message.specs.declared.message.QueryTarget.{QueryTarget}
 use Rattle.zq_message.specs.declared.message.QueryTarget.TheVariants as mode
 use Rattle.zq_message.specs.declared.message.Request.{Request}
-use Rattle.zq_offers.specs.declared.types.QueryTargetQabl.{QueryTargetQabl}
-use Rattle.zq_hat.specs.State.{HatState}
+use Rattle.zq_strategy.specs.declared.offer.QueryTargetQabl.{QueryTargetQabl}
+use Rattle.zq_strategy.specs.State.{HatState}
 use Rattle.zq_query.specs.Asking.{are_distinct, face_numbers}
 use Rattle.zq_route.specs.Built.{has_face, with_first}
 use Rattle.zq_route.specs.Selection.{by_face, chosen, is_complete, may_be_complete, with_offers}
 use Rattle.zq_machine.specs.declared.face.OpenFace.{OpenFace}
-use Rattle.zq_tables.specs.declared.said.Said.{Said}
+use Rattle.zq_tables.specs.declared.resolved.Resolved.{Resolved}
 use Rattle.zq_machine.specs.Asked.{is_own}
 use Rattle.zq_machine.specs.Selecting.{AskerState, asker_in, carries_between, filter_for, offers_to, full_text, passes, route_for, says_key, select, select_for, target_of, with_part}
 use Rattle.zq_machine.specs.State.{Core, at}
@@ -148,7 +148,7 @@ module _ (a : AskerState) where
       (none_offered (is_own a.face) (chosen target (filter (passes a) os)) r none (none_chosen (is_own a.face) target _ (none_own os)))
 
 -- what is selected is never the asker
-pub none_to_asker : (c : Core) (asker : FaceId) (s : Said) (r : Request) → list_any (is_own asker) (select c asker s r) ≡ false
+pub none_to_asker : (c : Core) (asker : FaceId) (s : Resolved) (r : Request) → list_any (is_own asker) (select c asker s r) ≡ false
 none_to_asker c asker s r = by (at asker.0 c.faces)
   where
     by : (o : Option OpenFace) → list_any (is_own asker) (select_for c asker s r o) ≡ false

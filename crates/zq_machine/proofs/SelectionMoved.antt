@@ -11,13 +11,13 @@ use Rattle.zq_message.specs.declared.message.FaceId.{FaceId}
 use Rattle.zq_message.specs.declared.message.QueryTarget.{QueryTarget}
 use Rattle.zq_message.specs.declared.message.QueryTarget.TheVariants as target
 use Rattle.zq_message.specs.declared.message.Request.{Request}
-use Rattle.zq_offers.specs.declared.types.QueryTargetQabl.{QueryTargetQabl}
-use Rattle.zq_hat.specs.State.{HatState}
-use Rattle.zq_hat.specs.Routers.{context_at, source_at}
-use Rattle.zq_hat.specs.Moved.{Keeps, move_hat, move_offer}
-use Rattle.zq_hat.proofs.OffersMoved.{offers_moved}
-use Rattle.zq_tables.specs.declared.said.Said.{Said}
-use Rattle.zq_tables.specs.declared.said.Said.TheVariants as said
+use Rattle.zq_strategy.specs.declared.offer.QueryTargetQabl.{QueryTargetQabl}
+use Rattle.zq_strategy.specs.State.{HatState}
+use Rattle.zq_strategy.specs.Routers.{context_at, source_at}
+use Rattle.zq_strategy.specs.Moved.{Keeps, move_hat, move_offer}
+use Rattle.zq_strategy.proofs.OffersMoved.{offers_moved}
+use Rattle.zq_tables.specs.declared.resolved.Resolved.{Resolved}
+use Rattle.zq_tables.specs.declared.resolved.Resolved.TheVariants as said
 use Rattle.zq_route.specs.Built.{is_face, has_face, with_first}
 use Rattle.zq_route.specs.Selection.{by_face, is_complete, may_be_complete, chosen, with_offers}
 use Rattle.zq_machine.specs.declared.face.OpenFace.{OpenFace}
@@ -92,15 +92,15 @@ module _ (φ : List ℕ → List ℕ) where
       offers_by true = ap values_of route_moved ∙ values-map (move_offer φ) (route_for c who key r.target)
       offers_by false = refl
 
-    selected : (s : Said) (o : Option OpenFace) → select_for (move_core φ c) asker (move_said φ s) r o ≡ map (move_offer φ) (select_for c asker s r o)
+    selected : (s : Resolved) (o : Option OpenFace) → select_for (move_core φ c) asker (move_said φ s) r o ≡ map (move_offer φ) (select_for c asker s r o)
     selected s None = refl
     selected said.Unscoped (Some opened) = refl
     selected said.Empty (Some opened) = refl
     selected (said.Full text) (Some opened) =
         ap (λ b. cond b (values_of (route_for (move_core φ c) (asker_in (move_core φ c) asker r.node opened) (φ text) r.target)) []) (keeps.key text) ∙ offers_by opened text (is_key text)
 
-    pub select_moved : (s : Said) → select (move_core φ c) asker (move_said φ s) r ≡ map (move_offer φ) (select c asker s r)
+    pub select_moved : (s : Resolved) → select (move_core φ c) asker (move_said φ s) r ≡ map (move_offer φ) (select c asker s r)
     select_moved s = selected s (at asker.0 c.faces)
 
-  pub targets_moved : (keeps : Keeps φ) (c : Core) (asker : FaceId) (s : Said) (r : Request) → targets (move_core φ c) asker (move_said φ s) r ≡ targets c asker s r
+  pub targets_moved : (keeps : Keeps φ) (c : Core) (asker : FaceId) (s : Resolved) (r : Request) → targets (move_core φ c) asker (move_said φ s) r ≡ targets c asker s r
   targets_moved keeps c asker s r = ap (map target_of) (select_moved keeps c asker r s) ∙ map-map (move_offer φ) target_of target_of (λ _. refl) (select c asker s r)

@@ -16,7 +16,7 @@ use Rattle.zq_message.specs.declared.message.WireExpr.{WireExpr}
 use Rattle.zq_namespace.specs.Denied.{is_denied, space_leaves}
 use Rattle.zq_namespace.specs.Exit.{wire_out}
 use Rattle.zq_namespace.specs.Leaves.{ExitState}
-use Rattle.zq_offers.specs.declared.types.QueryTargetQabl.{QueryTargetQabl}
+use Rattle.zq_strategy.specs.declared.offer.QueryTargetQabl.{QueryTargetQabl}
 use Rattle.zq_query.specs.declared.records.Final.{Final}
 use Rattle.zq_query.specs.Asking.{asked_record, entries_at, entry_at, given_id, given_place, is_full}
 use Rattle.zq_query.specs.Closing.{finals_after, has_open_asker}

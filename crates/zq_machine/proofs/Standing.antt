@@ -14,18 +14,18 @@ use Rattle.zq_message.specs.declared.message.Region.{Region}
 use Rattle.zq_message.specs.declared.message.WireExpr.{WireExpr}
 use Rattle.zq_message.specs.declared.message.Zid.{Zid}
 use Rattle.zq_names.specs.Texts.{nonwild}
-use Rattle.zq_regions.specs.Region.{region_index}
-use Rattle.zq_ids.specs.declared.decl.DeclKey.{DeclKey}
-use Rattle.zq_hat.specs.State.{FaceState, HatState}
-use Rattle.zq_hat.specs.Kept.{change_face, declare, face_at, new_face, withdraw, without_face}
-use Rattle.zq_hat.specs.Marks.{marked}
-use Rattle.zq_hat.specs.declared.types.Strategy.{Strategy}
-use Rattle.zq_hat.specs.declared.types.Strategy.TheVariants as strategy
-use Rattle.zq_hat.specs.Regions.{in_routers, strategy_at}
-use Rattle.zq_trees.specs.Entries.{staying}
-use Rattle.zq_trees.specs.Nets.{is_listed}
-use Rattle.zq_hat.specs.Routers.{announced, networked, retracted, source_at}
-use Rattle.zq_regions.specs.RegionMap.{value_at}
+use Rattle.zq_message.specs.Region.{region_index}
+use Rattle.zq_tables.specs.declared.decl.DeclKey.{DeclKey}
+use Rattle.zq_strategy.specs.State.{FaceState, HatState}
+use Rattle.zq_strategy.specs.Kept.{change_face, declare, face_at, new_face, withdraw, without_face}
+use Rattle.zq_strategy.specs.Marks.{marked}
+use Rattle.zq_strategy.specs.declared.types.Strategy.{Strategy}
+use Rattle.zq_strategy.specs.declared.types.Strategy.TheVariants as strategy
+use Rattle.zq_strategy.specs.Regions.{in_routers, strategy_at}
+use Rattle.zq_strategy.specs.Entries.{staying}
+use Rattle.zq_strategy.specs.Nets.{is_listed}
+use Rattle.zq_strategy.specs.Routers.{announced, networked, retracted, source_at}
+use Rattle.zq_message.specs.RegionMap.{value_at}
 use Rattle.zq_tables.specs.Naming.{FaceKeys, FaceNaming, NamingState, change_naming, face_naming, naming_at, no_keys, said_of, with_name, with_queryable, with_told_number, without_name, without_queryable, with_interest, without_interest}
 use Rattle.zq_machine.specs.declared.call.Call.{Call}
 use Rattle.zq_machine.specs.declared.call.Call.TheVariants as call

@@ -16,17 +16,17 @@ use Rattle.zq_message.specs.declared.message.FaceId.{FaceId}
 use Rattle.zq_message.specs.declared.message.QueryTarget.{QueryTarget}
 use Rattle.zq_message.specs.declared.message.Region.{Region}
 use Rattle.zq_message.specs.declared.message.Request.{Request}
-use Rattle.zq_offers.specs.declared.types.QueryTargetQabl.{QueryTargetQabl}
-use Rattle.zq_hat.specs.Kept.{at_id, has_face}
-use Rattle.zq_hat.specs.State.{FaceState, HatState}
-use Rattle.zq_hat.proofs.OfferLaws.{offers_of_faces}
+use Rattle.zq_strategy.specs.declared.offer.QueryTargetQabl.{QueryTargetQabl}
+use Rattle.zq_strategy.specs.Kept.{at_id, has_face}
+use Rattle.zq_strategy.specs.State.{FaceState, HatState}
+use Rattle.zq_strategy.proofs.OfferLaws.{offers_of_faces}
 use Rattle.zq_query.specs.declared.records.ReplyTo.{ReplyTo}
 use Rattle.zq_query.specs.declared.records.Timeout.{Timeout}
 use Rattle.zq_query.specs.Asking.{are_distinct, asked_record, asked_records, entry_at, face_numbers, given_place}
 use Rattle.zq_query.specs.Closing.{at_face}
 use Rattle.zq_query.specs.Polling.{after_timeout, is_due, timeouts, timing_out}
 use Rattle.zq_query.specs.Records.{Pending, QueryState, Record, after_put, is_entry, is_left, is_none_left, next_reply, without, without_reply}
-use Rattle.zq_tables.specs.declared.said.Said.{Said}
+use Rattle.zq_tables.specs.declared.resolved.Resolved.{Resolved}
 use Rattle.zq_tables.specs.Naming.{NamingState}
 use Rattle.zq_route.specs.Selection.{chosen}
 use Rattle.zq_machine.specs.declared.face.OpenFace.{OpenFace}
@@ -54,7 +54,7 @@ module _ (p : QueryTargetQabl → Bool) (a : AskerState) (key : List ℕ) (targe
       let os = offers_to a key h in
       none_in_parts hats (with_part a key target r h) all.1 (none_offered p (chosen target (filter (passes a) os)) r none (none_chosen p target _ (none_filtered p (passes a) os all.0)))
 
-none_selected : (p : QueryTargetQabl → Bool) (c : Core) (asker : FaceId) (s : Said) (r : Request)
+none_selected : (p : QueryTargetQabl → Bool) (c : Core) (asker : FaceId) (s : Resolved) (r : Request)
     → ((a : AskerState) → AllByRecursion (λ h. list_any p (offers_to a (full_text s) h) ≡ false) (values_of c.hats)) → list_any p (select c asker s r) ≡ false
 none_selected p c asker s r all = by (at asker.0 c.faces)
   where
@@ -67,7 +67,7 @@ none_selected p c asker s r all = by (at asker.0 c.faces)
         keyed false = refl
 
 -- each face is one target
-pub targets_distinct : (c : Core) (asker : FaceId) (s : Said) (r : Request) → are_distinct (face_numbers (map target_of (select c asker s r))) ≡ true
+pub targets_distinct : (c : Core) (asker : FaceId) (s : Resolved) (r : Request) → are_distinct (face_numbers (map target_of (select c asker s r))) ≡ true
 targets_distinct c asker s r = by (at asker.0 c.faces)
   where
     by : (o : Option OpenFace) → are_distinct (face_numbers (map target_of (select_for c asker s r o))) ≡ true
@@ -162,7 +162,7 @@ replied_aims faces q None aims = aims
 replied_aims faces q (Some to) aims = put_aims faces q to.number (is_some to.reply) aims
 
 module _ (config : Settings) (c : Core) (names : NamingState) (t : Tied c.faces c.hats names) (a : AreHatsOf config c.hats) (sorted : IsStrictlySortedBy nat_cmp (keys_of c.faces)) (aims : AllAim c.faces c.queries.records) where
-  asked_aims : (face : FaceId) (s : Said) (r : Request) (d : ℕ)
+  asked_aims : (face : FaceId) (s : Resolved) (r : Request) (d : ℕ)
       → AllAim c.faces (c.queries.records ++ asked_records c.queries.requests face r.id r.qos (map (given_place c.queries) (map target_of (select c face s r))) d)
   asked_aims face s r d = by (is_none_left (map (given_place c.queries) (map target_of os)))
     where

@@ -8,7 +8,7 @@ use Rattle.zq_message.specs.declared.message.FaceId.{FaceId}
 use Rattle.zq_message.specs.declared.message.Message.TheVariants as message
 use Rattle.zq_message.specs.declared.message.WireExpr.{WireExpr}
 use Rattle.zq_names.specs.Texts.{nonwild}
-use Rattle.zq_ids.specs.declared.decl.DeclKey.{DeclKey}
+use Rattle.zq_tables.specs.declared.decl.DeclKey.{DeclKey}
 use Rattle.zq_tables.specs.Naming.{NamingState, change_naming, plain, with_told_number}
 use Rattle.zq_machine.specs.Handing.{Handed}
 use Rattle.zq_machine.specs.Messages.{Telling, TellingBody, all_told, key_ended, key_told}

@@ -14,29 +14,29 @@ use Rattle.std.proofs.lemmas.Map.Lookups.{exact_unsigned}
 use Rattle.zq_message.specs.declared.message.QueryableInfoType.{QueryableInfoType}
 use Rattle.zq_message.specs.declared.message.Region.{Region}
 use Rattle.zq_message.specs.declared.message.Zid.{Zid}
-use Rattle.zq_regions.specs.Region.{region_index}
+use Rattle.zq_message.specs.Region.{region_index}
 use Rattle.zq_key.specs.Key.{is_chunk, is_key}
-use Rattle.zq_trees.specs.declared.types.Network.{Network}
+use Rattle.zq_strategy.specs.declared.network.Network.{Network}
 use Rattle.zq_index.specs.Texts.{text_cmp}
-use Rattle.zq_hat.specs.declared.types.Declaration.{Declaration}
-use Rattle.zq_hat.specs.declared.types.FaceRecord.{FaceRecord}
-use Rattle.zq_hat.specs.declared.types.FinalMark.{FinalMark}
-use Rattle.zq_hat.specs.declared.types.FinalMark.TheVariants as mark
-use Rattle.zq_hat.specs.declared.types.Strategy.{Strategy}
-use Rattle.zq_hat.specs.declared.types.Strategy.TheVariants as strategy
-use Rattle.zq_hat.specs.Kept.{change_face, declare, face_at, has_any, has_face, new_face, new_hat, registered, unregistered, with_face_opened, withdraw, without_face}
-use Rattle.zq_hat.specs.Marks.{finalized, marked}
-use Rattle.zq_hat.specs.Regions.{in_routers, strategy_at}
+use Rattle.zq_strategy.specs.declared.types.Declaration.{Declaration}
+use Rattle.zq_strategy.specs.declared.types.FaceRecord.{FaceRecord}
+use Rattle.zq_strategy.specs.declared.types.FinalMark.{FinalMark}
+use Rattle.zq_strategy.specs.declared.types.FinalMark.TheVariants as mark
+use Rattle.zq_strategy.specs.declared.types.Strategy.{Strategy}
+use Rattle.zq_strategy.specs.declared.types.Strategy.TheVariants as strategy
+use Rattle.zq_strategy.specs.Kept.{change_face, declare, face_at, has_any, has_face, new_face, new_hat, registered, unregistered, with_face_opened, withdraw, without_face}
+use Rattle.zq_strategy.specs.Marks.{finalized, marked}
+use Rattle.zq_strategy.specs.Regions.{in_routers, strategy_at}
 use Rattle.zq_index.specs.Holders.{IsOrderedBy, if_any}
 use Rattle.zq_index.proofs.Ordered.{ordered_none, with_ordered, without_ordered}
-use Rattle.zq_entries.proofs.Dropping.{staying_ordered}
-use Rattle.zq_entries.proofs.Entering.{put_is, take_is}
-use Rattle.zq_trees.specs.Entries.{Entries, Routed, entries_at, is_by, routed_with, routed_without, staying, with_entries}
-use Rattle.zq_trees.specs.Nets.{is_listed}
-use Rattle.zq_hat.specs.Routers.{announced, networked, noded, retracted, source_at}
-use Rattle.zq_hat.specs.State.{FaceState, HatState}
-use Rattle.zq_tables.specs.declared.said.Said.{Said}
-use Rattle.zq_tables.specs.declared.said.Said.TheVariants as said
+use Rattle.zq_routers.proofs.Dropping.{staying_ordered}
+use Rattle.zq_routers.proofs.Entering.{put_is, take_is}
+use Rattle.zq_strategy.specs.Entries.{Entries, Routed, entries_at, is_by, routed_with, routed_without, staying, with_entries}
+use Rattle.zq_strategy.specs.Nets.{is_listed}
+use Rattle.zq_strategy.specs.Routers.{announced, networked, noded, retracted, source_at}
+use Rattle.zq_strategy.specs.State.{FaceState, HatState}
+use Rattle.zq_tables.specs.declared.resolved.Resolved.{Resolved}
+use Rattle.zq_tables.specs.declared.resolved.Resolved.TheVariants as said
 use Rattle.zq_machine.specs.declared.config.Entry.{Entry}
 use Rattle.zq_machine.specs.declared.face.OpenFace.{OpenFace}
 use Rattle.zq_machine.specs.Configs.{Settings, north_of, region_of}
@@ -114,7 +114,7 @@ unfolding is_key is_chunk
 key_text [] h = absurd (false≢true h)
 key_text (c ∷ t) h = refl
 
-pub said_key : (s : Said) → not (says_key s) ≡ false → IsKey (full_text s)
+pub said_key : (s : Resolved) → not (says_key s) ≡ false → IsKey (full_text s)
 said_key said.Unscoped h = absurd (true≢false h)
 said_key said.Empty h = absurd (true≢false h)
 said_key (said.Full text) h = by (is_key text) refl h

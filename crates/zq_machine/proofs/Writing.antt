@@ -9,7 +9,7 @@ use Rattle.zq_message.specs.declared.message.FaceId.{FaceId}
 use Rattle.zq_message.specs.declared.message.Region.{Region}
 use Rattle.zq_message.specs.declared.message.Request.{Request}
 use Rattle.zq_query.specs.Asking.{lacks_number}
-use Rattle.zq_tables.specs.declared.said.Said.{Said}
+use Rattle.zq_tables.specs.declared.resolved.Resolved.{Resolved}
 use Rattle.zq_machine.specs.declared.face.OpenFace.{OpenFace}
 use Rattle.zq_machine.specs.Selecting.{select_for, target_of}
 use Rattle.zq_key.proofs.Naturals.{map-map}
@@ -138,7 +138,7 @@ close_fits s face r there = by (at face.0 s.core.faces) there
     by (Some o) e = refl
 
 -- an open face asks, and its targets have ids
-pub ask_fits : (s : State) (face : FaceId) (sd : Said) (r : Request) (now : ℕ) (opened : OpenFace) → at face.0 s.core.faces ≡ Some opened → lacks_number (map target_of (select_for s.core face sd r (Some opened))) s.core.queries ≡ false
+pub ask_fits : (s : State) (face : FaceId) (sd : Resolved) (r : Request) (now : ℕ) (opened : OpenFace) → at face.0 s.core.faces ≡ Some opened → lacks_number (map target_of (select_for s.core face sd r (Some opened))) s.core.queries ≡ false
     → refusal_of s.core (asking face sd r now) ≡ None
 ask_fits s face sd r now opened there fits =
     ap (λ o. cond (not (is_some o)) (Some refusal.UnknownFace) (cond (lacks_number (map target_of (select_for s.core face sd r o)) s.core.queries) (Some refusal.NoFreeId) None)) there

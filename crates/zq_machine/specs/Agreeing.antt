@@ -5,11 +5,11 @@ use Rattle.std.specs.List.Sorted.{IsStrictlySortedBy}
 use Rattle.std.specs.Option.{is_some, option_map_or}
 use Rattle.std.specs.Ordering.{nat_cmp}
 use Rattle.zq_message.specs.declared.message.Region.{Region}
-use Rattle.zq_regions.specs.Region.{region_index}
-use Rattle.zq_hat.specs.declared.types.Declaration.{Declaration}
-use Rattle.zq_hat.specs.State.{FaceState, HatState}
-use Rattle.zq_hat.specs.Kept.{face_at, has_face, key_of}
-use Rattle.zq_hat.specs.Routers.{entry_at}
+use Rattle.zq_message.specs.Region.{region_index}
+use Rattle.zq_strategy.specs.declared.types.Declaration.{Declaration}
+use Rattle.zq_strategy.specs.State.{FaceState, HatState}
+use Rattle.zq_strategy.specs.Kept.{face_at, has_face, key_of}
+use Rattle.zq_strategy.specs.Routers.{entry_at}
 use Rattle.zq_query.specs.Closing.{at_face}
 use Rattle.zq_query.specs.Records.{Pending, Record, is_closed, is_entry, is_reply}
 use Rattle.zq_tables.specs.Naming.{Names, face_queryables, naming_at}

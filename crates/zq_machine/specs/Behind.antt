@@ -7,7 +7,7 @@ use Rattle.zq_message.specs.declared.message.Request.{Request}
 use Rattle.zq_message.specs.declared.message.Response.{Response}
 use Rattle.zq_message.specs.declared.message.WireExpr.{WireExpr}
 use Rattle.zq_namespace.specs.Entry.{is_bare_error}
-use Rattle.zq_tables.specs.declared.said.Said.TheVariants as said_word
+use Rattle.zq_tables.specs.declared.resolved.Resolved.TheVariants as said_word
 use Rattle.zq_tables.specs.Naming.{face_naming, said_of}
 use Rattle.zq_machine.specs.Gates.{denied_by, gate_at, space_of}
 use Rattle.zq_machine.specs.State.{State}

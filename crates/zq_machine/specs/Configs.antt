@@ -6,7 +6,7 @@ use Rattle.zq_message.specs.declared.message.Mode.TheVariants as mode
 use Rattle.zq_message.specs.declared.message.Region.{Region}
 use Rattle.zq_message.specs.declared.message.Region.TheVariants as region
 use Rattle.zq_message.specs.declared.message.Zid.{Zid}
-use Rattle.zq_regions.specs.Region.{region_index}
+use Rattle.zq_message.specs.Region.{region_index}
 use Rattle.zq_machine.specs.declared.config.Entry.{Entry}
 use Rattle.zq_machine.specs.declared.config.Entry.TheVariants as entry
 use Rattle.zq_machine.specs.declared.config.BadConfig.{BadConfig}

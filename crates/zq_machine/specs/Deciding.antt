@@ -12,18 +12,18 @@ use Rattle.zq_message.specs.declared.message.ReplyBody.TheVariants as body
 use Rattle.zq_message.specs.declared.message.Request.{Request}
 use Rattle.zq_message.specs.declared.message.Response.{Response}
 use Rattle.zq_key.specs.Key.{is_key}
-use Rattle.zq_regions.specs.RegionMap.{with_entry}
-use Rattle.zq_hat.specs.declared.types.FaceRecord.{FaceRecord}
-use Rattle.zq_offers.specs.declared.types.QueryTargetQabl.{QueryTargetQabl}
-use Rattle.zq_hat.specs.declared.types.FinalMark.{FinalMark}
-use Rattle.zq_hat.specs.declared.types.FinalMark.TheVariants as mark
-use Rattle.zq_hat.specs.Kept.{registered, unregistered, without_face}
-use Rattle.zq_hat.specs.Marks.{finalized}
-use Rattle.zq_hat.specs.Routers.{announced, entry_at, networked, noded, retracted, source_at}
-use Rattle.zq_hat.specs.State.{HatState}
+use Rattle.zq_message.specs.RegionMap.{with_entry}
+use Rattle.zq_strategy.specs.declared.types.FaceRecord.{FaceRecord}
+use Rattle.zq_strategy.specs.declared.offer.QueryTargetQabl.{QueryTargetQabl}
+use Rattle.zq_strategy.specs.declared.types.FinalMark.{FinalMark}
+use Rattle.zq_strategy.specs.declared.types.FinalMark.TheVariants as mark
+use Rattle.zq_strategy.specs.Kept.{registered, unregistered, without_face}
+use Rattle.zq_strategy.specs.Marks.{finalized}
+use Rattle.zq_strategy.specs.Routers.{announced, entry_at, networked, noded, retracted, source_at}
+use Rattle.zq_strategy.specs.State.{HatState}
 use Rattle.zq_interests.specs.Interests.{Interests, asks_another, closed_face, interest_at, with_interest, without_interest}
-use Rattle.zq_told.specs.Ears.{Ears}
-use Rattle.zq_trees.specs.Nets.{is_zid}
+use Rattle.zq_told.specs.ToldSets.{ToldSets}
+use Rattle.zq_strategy.specs.Nets.{is_zid}
 use Rattle.zq_query.specs.declared.records.Final.{Final}
 use Rattle.zq_query.specs.declared.records.ReplyTo.{ReplyTo}
 use Rattle.zq_query.specs.declared.records.Timeout.{Timeout}
@@ -31,7 +31,7 @@ use Rattle.zq_query.specs.Records.{QueryState, is_pending, is_in_flight, is_entr
 use Rattle.zq_query.specs.Closing.{closing_finals, after_close, finals_after, finals_landed}
 use Rattle.zq_query.specs.Polling.{is_due, timing_out, timeouts, after_poll, lacks_replies}
 use Rattle.zq_query.specs.Asking.{lacks_number, given_id, after_ask}
-use Rattle.zq_tables.specs.declared.said.Said.{Said}
+use Rattle.zq_tables.specs.declared.resolved.Resolved.{Resolved}
 use Rattle.zq_tables.specs.Naming.{NamingState, no_keys, remaps, with_name, without_name, with_queryable, without_queryable, with_interest as holding_interest, without_interest as letting_interest, change_naming}
 use Rattle.zq_machine.specs.declared.call.Opening.{Opening}
 use Rattle.zq_machine.specs.declared.call.Outcome.{Outcome}
@@ -70,7 +70,7 @@ abbrev pub lacks_face_number : Core → Bool
 lacks_face_number c = c.next_face + 1 == 2 ^ 32
 
 -- the faces that the request is handed to
-abbrev pub targets : Core → FaceId → Said → Request → List FaceId
+abbrev pub targets : Core → FaceId → Resolved → Request → List FaceId
 targets c asker s r = map target_of (select c asker s r)
 
 -- a mark of a key has a key
@@ -246,7 +246,7 @@ changed c (unhearing face id) = record c { interests = without_interest face.0 i
 -- ---- what neighbours are told of it
 
 -- what is kept of faces where a call tells them: a face that it opens was told nothing
-abbrev pub kept : Core → TextCall → Ears
+abbrev pub kept : Core → TextCall → ToldSets
 kept c t = with_new c t c.ears
 
 -- the interests that count: for an interest and for the end of one those after it
@@ -260,7 +260,7 @@ abbrev pub lacks_told : Core → TextCall → Bool
 lacks_told c t = near_lack c (changed c t) (interests_for c t) t (kept c t)
 
 -- what is kept of faces after it
-abbrev pub ears_of : Core → TextCall → Ears
+abbrev pub ears_of : Core → TextCall → ToldSets
 ears_of c t = near_after c (changed c t) (interests_for c t) t (kept c t)
 
 -- the deciding part after a call that was accepted

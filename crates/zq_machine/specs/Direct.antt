@@ -9,7 +9,7 @@ use Rattle.zq_message.specs.declared.message.Mapping.TheVariants as mapping
 use Rattle.zq_message.specs.declared.message.Message.{Message}
 use Rattle.zq_message.specs.declared.message.Message.TheVariants as message
 use Rattle.zq_message.specs.declared.message.WireExpr.{WireExpr}
-use Rattle.zq_ids.specs.FaceTexts.{least_name}
+use Rattle.zq_tables.specs.FaceTexts.{least_name}
 use Rattle.zq_tables.specs.Naming.{NamingState, face_naming, plain, text_at}
 use Rattle.zq_machine.specs.Handing.{Handed}
 use Rattle.zq_machine.specs.Hearing.{heard_body}

@@ -7,17 +7,17 @@ use Rattle.std.specs.Option.{option_and_then, option_map, option_map_or, option_
 use Rattle.std.specs.Str.{bytes_eq}
 use Rattle.zq_message.specs.declared.message.QueryableInfoType.{QueryableInfoType}
 use Rattle.zq_key.specs.Key.{includes, intersects}
-use Rattle.zq_regions.specs.Region.{region_index}
+use Rattle.zq_message.specs.Region.{region_index}
 use Rattle.zq_index.specs.Infos.{joined}
 use Rattle.zq_index.specs.Texts.{text_cmp}
-use Rattle.zq_hat.specs.declared.types.Declaration.{Declaration}
-use Rattle.zq_hat.specs.declared.types.Strategy.{Strategy}
-use Rattle.zq_hat.specs.declared.types.Strategy.TheVariants as strategy
-use Rattle.zq_hat.specs.Fellows.{fellow_info}
-use Rattle.zq_hat.specs.Kept.{change_face}
-use Rattle.zq_hat.specs.Regions.{is_north, strategy_at}
-use Rattle.zq_hat.specs.State.{FaceState, HatState}
-use Rattle.zq_hat.specs.Trees.{region_keys}
+use Rattle.zq_strategy.specs.declared.types.Declaration.{Declaration}
+use Rattle.zq_strategy.specs.declared.types.Strategy.{Strategy}
+use Rattle.zq_strategy.specs.declared.types.Strategy.TheVariants as strategy
+use Rattle.zq_strategy.specs.Fellows.{fellow_info}
+use Rattle.zq_strategy.specs.Kept.{change_face}
+use Rattle.zq_strategy.specs.Regions.{is_north, strategy_at}
+use Rattle.zq_strategy.specs.State.{FaceState, HatState}
+use Rattle.zq_strategy.specs.Trees.{region_keys}
 use Rattle.zq_interests.specs.declared.types.InterestEntry.{InterestEntry}
 use Rattle.zq_interests.specs.Interests.{Interests, asked_for, asks_folded, asks_for, meets, own_keys}
 use Rattle.zq_machine.specs.declared.face.OpenFace.{OpenFace}

@@ -11,12 +11,12 @@ use Rattle.zq_message.specs.declared.message.Message.TheVariants as message
 use Rattle.zq_message.specs.declared.message.Request.{Request}
 use Rattle.zq_message.specs.declared.message.Response.{Response}
 use Rattle.zq_interests.specs.Interests.{interests_of}
-use Rattle.zq_offers.specs.declared.types.QueryTargetQabl.{QueryTargetQabl}
+use Rattle.zq_strategy.specs.declared.offer.QueryTargetQabl.{QueryTargetQabl}
 use Rattle.zq_query.specs.declared.records.ReplyTo.{ReplyTo}
 use Rattle.zq_query.specs.Records.{QueryState, is_closed, is_pending, any_over, last_given, next_id, next_reply}
 use Rattle.zq_query.specs.Balance.{owed_by}
 use Rattle.zq_query.specs.Polling.{timeouts}
-use Rattle.zq_tables.specs.declared.said.Said.TheVariants as said
+use Rattle.zq_tables.specs.declared.resolved.Resolved.TheVariants as said
 use Rattle.zq_tables.specs.Naming.{read_by, face_naming}
 use Rattle.zq_machine.specs.declared.call.Call.{Call}
 use Rattle.zq_machine.specs.declared.call.Call.TheVariants as call

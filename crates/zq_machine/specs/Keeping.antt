@@ -6,8 +6,8 @@ use Rattle.zq_message.specs.declared.message.QueryableInfoType.{QueryableInfoTyp
 use Rattle.zq_message.specs.declared.message.WireExpr.{WireExpr}
 use Rattle.zq_interests.specs.declared.types.InterestEntry.{InterestEntry}
 use Rattle.zq_interests.specs.Interests.{interest_at}
-use Rattle.zq_told.specs.declared.types.Way.TheVariants.{Answering, Ending, Unasked}
-use Rattle.zq_told.specs.Ears.{Ear, at_face}
+use Rattle.zq_told.specs.declared.types.Reason.TheVariants.{Answer, End, Update}
+use Rattle.zq_told.specs.ToldSets.{ToldSet, at_face}
 use Rattle.zq_told.specs.Laws.{InOrder, told_in}
 use Rattle.zq_told.specs.Receiver.{Heard, Tied, heard_entry, heard_on, memory_of}
 use Rattle.zq_machine.specs.declared.call.Call.{Call}
@@ -89,7 +89,7 @@ last_in face config calls = received_in (last_after face) (opening_state config)
 -- ---- what is promised of it
 
 -- what is kept of a face, by key and in order, is what its receiver keeps by ids, with the greatest id
-pub record IsKept (ear : Ear) (heard : Heard) (last : ℕ) : Type 0 where
+pub record IsKept (ear : ToldSet) (heard : Heard) (last : ℕ) : Type 0 where
   pub sorted : InOrder ear.told
   pub tied : Tied (memory_of ear) heard
   pub greatest : ear.last ≡ last
@@ -102,7 +102,7 @@ pub record IsNear (face : ℕ) (c : Core) : Type 0 where
 -- the receiver of a face keeps on each key one information, the one that is due, or none where nothing is; and the gateway keeps of the face what its receiver does
 pub record KeepsDue (c : Core) (face : ℕ) (heard : Heard) (last : ℕ) : Type 0 where
   pub due : (key : List ℕ) → heard_on key heard ≡ option_to_list (due c c.interests face key)
-  pub ear : Ear
+  pub ear : ToldSet
   pub there : at_face face c.ears ≡ Some ear
   pub is : IsKept ear heard last
 
@@ -114,10 +114,10 @@ KeepPromise config calls =
 
 -- the face is told the difference between what is kept of it and what is due: over any keys in order that have all on which there is one, as some do, each that is due with another information than was told is told under the id that it has, or under the next; and of each that is not due any more that its id ended
 pub record TellsChanges (c : Core) (face : ℕ) (heard : Heard) (last : ℕ) (told : List Telling) : Type 0 where
-  pub ear : Ear
+  pub ear : ToldSet
   pub is : IsKept ear heard last
   pub some : (keys : List (List ℕ)) × HaveChanges c c.interests face ear keys
-  pub exactly : (keys : List (List ℕ)) → HaveChanges c c.interests face ear keys → filter (is_told face) told ≡ map from_hat (told_in Unasked face ear (map (due_on c c.interests face) keys))
+  pub exactly : (keys : List (List ℕ)) → HaveChanges c c.interests face ear keys → filter (is_told face) told ≡ map from_hat (told_in Update face ear (map (due_on c c.interests face) keys))
 
 -- the call is an interest, or the end of one
 abbrev pub is_asking : Call → Bool
@@ -134,9 +134,9 @@ ChangePromise config calls =
 
 -- the asker is told all that is due on the keys for which its interest asks, in order, each under the id that it has, or under the next, and then that this was all
 pub record TellsAnswer (c : Core) (face : FaceId) (id : ℕ) (asked : InterestEntry) (heard : Heard) (last : ℕ) (told : List Telling) : Type 0 where
-  pub ear : Ear
+  pub ear : ToldSet
   pub is : IsKept ear heard last
-  pub exactly : told ≡ answered_by face id (map from_hat (told_in Answering face.0 ear (answer_dues c c.interests face.0 asked)))
+  pub exactly : told ≡ answered_by face id (map from_hat (told_in Answer face.0 ear (answer_dues c c.interests face.0 asked)))
 
 -- so does each accepted interest of a run whose face is near, and tells no other face anything
 abbrev pub AnswersInterests : Settings → List Call → Type 0
@@ -147,9 +147,9 @@ AnswersInterests config calls =
 
 -- the asker is told at most what is due on the own key of its interest that ended, under the id that the key has, where it stays due with other information than was told
 pub record TellsEnd (c : Core) (face : FaceId) (asked : InterestEntry) (heard : Heard) (last : ℕ) (told : List Telling) : Type 0 where
-  pub ear : Ear
+  pub ear : ToldSet
   pub is : IsKept ear heard last
-  pub exactly : told ≡ map from_hat (told_in Ending face.0 ear (map (due_on c c.interests face.0) (option_to_list asked.key)))
+  pub exactly : told ≡ map from_hat (told_in End face.0 ear (map (due_on c c.interests face.0) (option_to_list asked.key)))
 
 -- so does each accepted end of an interest in a run whose face is near, and tells no other face anything
 abbrev pub EndsInterests : Settings → List Call → Type 0

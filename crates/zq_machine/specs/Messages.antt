@@ -5,7 +5,7 @@ use Rattle.zq_message.specs.declared.message.QueryTarget.{QueryTarget}
 use Rattle.zq_message.specs.declared.message.QueryableInfoType.{QueryableInfoType}
 use Rattle.zq_message.specs.declared.message.ReplyBody.{ReplyBody}
 use Rattle.zq_message.specs.declared.message.Zid.{Zid}
-use Rattle.zq_hat.specs.declared.types.Telling as hat
+use Rattle.zq_strategy.specs.declared.types.Telling as hat
 use Rattle.zq_query.specs.declared.records.Final.{Final}
 use Rattle.zq_machine.specs.declared.call.Outcome.{Outcome}
 

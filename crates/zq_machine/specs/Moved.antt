@@ -1,12 +1,12 @@
 -- Calls over texts, the part that decides them and what is handed, with all their texts moved by one map; and that what is decided moves along.
 use Rattle.std.specs.Prelude.{◌≡◌, ℕ, List, [], ◌∷◌, map, option_map, if◌then◌else◌}
-use Rattle.zq_hat.specs.State.{HatState}
-use Rattle.zq_hat.specs.Moved.{move_hat, move_mark}
+use Rattle.zq_strategy.specs.State.{HatState}
+use Rattle.zq_strategy.specs.Moved.{move_hat, move_mark}
 use Rattle.zq_interests.specs.declared.types.InterestEntry.{InterestEntry}
 use Rattle.zq_interests.specs.Interests.{Interests}
 use Rattle.zq_told.specs.Moved.{move_ears}
-use Rattle.zq_tables.specs.declared.said.Said.{Said}
-use Rattle.zq_tables.specs.declared.said.Said.TheVariants as said
+use Rattle.zq_tables.specs.declared.resolved.Resolved.{Resolved}
+use Rattle.zq_tables.specs.declared.resolved.Resolved.TheVariants as said
 use Rattle.zq_machine.specs.Messages.{Decided, Telling, TellingBody, TextMessage, all_told, key_ended, key_told, text_final, text_reply, text_request}
 use Rattle.zq_machine.specs.State.{Core}
 use Rattle.zq_machine.specs.TextCalls.{TextCall, naming, unnaming, declaring, asking, replying, finalizing, announcing, retracting, hearing}
@@ -14,7 +14,7 @@ use Rattle.zq_machine.specs.Deciding.{decide, accepted, is_accepted}
 
 module _ (φ : List ℕ → List ℕ) where
   -- what an expression says, with its text moved
-  abbrev pub move_said : Said → Said
+  abbrev pub move_said : Resolved → Resolved
   move_said said.Unscoped = said.Unscoped
   move_said said.Empty = said.Empty
   move_said (said.Full text) = said.Full (φ text)

@@ -8,13 +8,13 @@ use Rattle.zq_message.specs.declared.message.FaceId.{FaceId}
 use Rattle.zq_message.specs.declared.message.QueryTarget.{QueryTarget}
 use Rattle.zq_message.specs.declared.message.Request.{Request}
 use Rattle.zq_message.specs.declared.message.Zid.{Zid}
-use Rattle.zq_offers.specs.declared.types.QueryTargetQabl.{QueryTargetQabl}
-use Rattle.zq_hat.specs.State.{HatState}
-use Rattle.zq_hat.specs.Offers.{offers_of}
-use Rattle.zq_hat.specs.Regions.{same_region}
-use Rattle.zq_hat.specs.Routers.{context_at, source_at}
-use Rattle.zq_tables.specs.declared.said.Said.{Said}
-use Rattle.zq_tables.specs.declared.said.Said.TheVariants as said
+use Rattle.zq_strategy.specs.declared.offer.QueryTargetQabl.{QueryTargetQabl}
+use Rattle.zq_strategy.specs.State.{HatState}
+use Rattle.zq_strategy.specs.Offers.{offers_of}
+use Rattle.zq_strategy.specs.Regions.{same_region}
+use Rattle.zq_strategy.specs.Routers.{context_at, source_at}
+use Rattle.zq_tables.specs.declared.resolved.Resolved.{Resolved}
+use Rattle.zq_tables.specs.declared.resolved.Resolved.TheVariants as said
 use Rattle.zq_route.specs.declared.filter.InterRegionFilter.{InterRegionFilter}
 use Rattle.zq_route.specs.declared.gateways.Gateways.{Gateways}
 use Rattle.zq_route.specs.Filter.{passes_between}
@@ -24,25 +24,25 @@ use Rattle.zq_machine.specs.declared.face.OpenFace.{OpenFace}
 use Rattle.zq_machine.specs.State.{Core, at, hat_of, is_region}
 
 -- the expression's scope stands for nothing
-abbrev pub is_unscoped : Said → Bool
+abbrev pub is_unscoped : Resolved → Bool
 is_unscoped said.Unscoped = true
 is_unscoped said.Empty = false
 is_unscoped (said.Full text) = false
 
 -- the full text is a key
-abbrev pub says_key : Said → Bool
+abbrev pub says_key : Resolved → Bool
 says_key said.Unscoped = false
 says_key said.Empty = false
 says_key (said.Full text) = is_key text
 
 -- the full text is a key, or there is none to be one
-abbrev pub says_key_or_nothing : Said → Bool
+abbrev pub says_key_or_nothing : Resolved → Bool
 says_key_or_nothing said.Unscoped = false
 says_key_or_nothing said.Empty = true
 says_key_or_nothing (said.Full text) = is_key text
 
 -- the text that is said; the empty one where none is
-abbrev pub full_text : Said → List ℕ
+abbrev pub full_text : Resolved → List ℕ
 full_text said.Unscoped = []
 full_text said.Empty = []
 full_text (said.Full text) = text
@@ -53,7 +53,7 @@ pub record Manner : Type 0 where
   pub aggregate : Bool
 
 -- what an interest asks for: all that meets its key, or, with no expression, all; and in which manner
-abbrev pub asked_by : Manner → Option Said → InterestEntry
+abbrev pub asked_by : Manner → Option Resolved → InterestEntry
 asked_by m s = record { key = option_map full_text s; keys = m.keys; aggregate = m.aggregate }
 
 -- the face of an offer
@@ -115,10 +115,10 @@ abbrev pub route_for : Core → AskerState → List ℕ → QueryTarget → List
 route_for c a key target = fold (with_part a key target) [] (values_of c.hats)
 
 -- the offers that a request of an open face is handed to
-abbrev pub select_for : Core → FaceId → Said → Request → Option OpenFace → List QueryTargetQabl
+abbrev pub select_for : Core → FaceId → Resolved → Request → Option OpenFace → List QueryTargetQabl
 select_for c asker s r None = []
 select_for c asker s r (Some opened) = if says_key s then values_of (route_for c (asker_in c asker r.node opened) (full_text s) r.target) else []
 
 -- the offers that a request is handed to
-abbrev pub select : Core → FaceId → Said → Request → List QueryTargetQabl
+abbrev pub select : Core → FaceId → Resolved → Request → List QueryTargetQabl
 select c asker s r = select_for c asker s r (at asker.0 c.faces)

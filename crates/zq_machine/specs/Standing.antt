@@ -1,8 +1,8 @@
 -- What stands of each face, and of the lists of gateways, by the calls of a run and their answers alone.
-use Rattle.zq_regions.specs.Region.{region_index}
-use Rattle.zq_trees.specs.Entries.{Entries, staying, with_entry, without_entry}
-use Rattle.zq_trees.specs.Nets.{is_listed}
-use Rattle.zq_hat.specs.Routers.{zid_at}
+use Rattle.zq_message.specs.Region.{region_index}
+use Rattle.zq_strategy.specs.Entries.{Entries, staying, with_entry, without_entry}
+use Rattle.zq_strategy.specs.Nets.{is_listed}
+use Rattle.zq_strategy.specs.Routers.{zid_at}
 use Rattle.std.specs.Prelude.{◌≡◌, ℕ, ◌==◌, ◌&&◌, Bool, false, List, [], ◌∷◌, fold, Option, Some, None, if◌then◌else◌}
 use Rattle.std.specs.Map.{remove_entry}
 use Rattle.std.specs.BTreeMap.{insert_entry, is_at}
@@ -16,11 +16,11 @@ use Rattle.zq_message.specs.declared.message.QueryableInfoType.{QueryableInfoTyp
 use Rattle.zq_message.specs.declared.message.Region.{Region}
 use Rattle.zq_message.specs.declared.message.Zid.{Zid}
 use Rattle.zq_message.specs.declared.message.WireExpr.{WireExpr}
-use Rattle.zq_regions.specs.RegionMap.{with_entry as with_value}
-use Rattle.zq_hat.specs.Kept.{declare, face_at, new_face, withdraw}
-use Rattle.zq_hat.specs.Marks.{marked}
-use Rattle.zq_hat.specs.State.{FaceState, HatState}
-use Rattle.zq_trees.specs.declared.types.Network.{Network}
+use Rattle.zq_message.specs.RegionMap.{with_entry as with_value}
+use Rattle.zq_strategy.specs.Kept.{declare, face_at, new_face, withdraw}
+use Rattle.zq_strategy.specs.Marks.{marked}
+use Rattle.zq_strategy.specs.State.{FaceState, HatState}
+use Rattle.zq_strategy.specs.declared.network.Network.{Network}
 use Rattle.zq_tables.specs.Naming.{FaceKeys, FaceNaming, Names, naming_at, no_names, said_of}
 use Rattle.zq_route.specs.declared.gateways.Gateways.{Gateways}
 use Rattle.zq_machine.specs.declared.call.Call.{Call}

@@ -9,16 +9,16 @@ use Rattle.zq_message.specs.declared.message.Mode.{Mode}
 use Rattle.zq_message.specs.declared.message.Region.{Region}
 use Rattle.zq_message.specs.declared.message.Zid.{Zid}
 use Rattle.zq_message.specs.declared.message.Region.TheVariants as region
-use Rattle.zq_regions.specs.Region.{region_index}
-use Rattle.zq_regions.specs.RegionMap.{value_at, with_entry}
-use Rattle.zq_hat.specs.Regions.{in_routers, strategy_at}
-use Rattle.zq_hat.specs.State.{HatState}
-use Rattle.zq_hat.specs.declared.types.FaceRecord.{FaceRecord}
-use Rattle.zq_hat.specs.Kept.{clashes_at, declaration_at, has_face, is_full, new_hat, with_face_opened}
+use Rattle.zq_message.specs.Region.{region_index}
+use Rattle.zq_message.specs.RegionMap.{value_at, with_entry}
+use Rattle.zq_strategy.specs.Regions.{in_routers, strategy_at}
+use Rattle.zq_strategy.specs.State.{HatState}
+use Rattle.zq_strategy.specs.declared.types.FaceRecord.{FaceRecord}
+use Rattle.zq_strategy.specs.Kept.{clashes_at, declaration_at, has_face, is_full, new_hat, with_face_opened}
 use Rattle.zq_interests.specs.Interests.{Interests}
 use Rattle.zq_query.specs.Records.{QueryState}
 use Rattle.zq_tables.specs.Naming.{NamingState}
-use Rattle.zq_told.specs.Ears.{Ears}
+use Rattle.zq_told.specs.ToldSets.{ToldSets}
 use Rattle.zq_route.specs.declared.gateways.Gateways.{Gateways}
 use Rattle.zq_machine.specs.declared.config.Entry.{Entry}
 use Rattle.zq_machine.specs.declared.face.OpenFace.{OpenFace}
@@ -34,7 +34,7 @@ pub record Core : Type 0 where
   pub tables : List (ℕ × Gateways)
   pub queries : QueryState
   pub interests : Interests
-  pub ears : Ears
+  pub ears : ToldSets
 
 -- a gateway: what decides, what stands for keys at each face, and the gates of faces
 pub record State : Type 0 where

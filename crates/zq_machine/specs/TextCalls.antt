@@ -7,11 +7,11 @@ use Rattle.zq_message.specs.declared.message.Region.{Region}
 use Rattle.zq_message.specs.declared.message.Request.{Request}
 use Rattle.zq_message.specs.declared.message.Response.{Response}
 use Rattle.zq_message.specs.declared.message.WireExpr.{WireExpr}
-use Rattle.zq_hat.specs.declared.types.FinalMark.{FinalMark}
-use Rattle.zq_trees.specs.declared.types.Network.{Network}
-use Rattle.zq_trees.specs.declared.types.NodeIds.{NodeIds}
-use Rattle.zq_tables.specs.declared.said.Said.{Said}
-use Rattle.zq_tables.specs.declared.said.Said.TheVariants as said_word
+use Rattle.zq_strategy.specs.declared.types.FinalMark.{FinalMark}
+use Rattle.zq_strategy.specs.declared.network.Network.{Network}
+use Rattle.zq_strategy.specs.declared.network.NodeIds.{NodeIds}
+use Rattle.zq_tables.specs.declared.resolved.Resolved.{Resolved}
+use Rattle.zq_tables.specs.declared.resolved.Resolved.TheVariants as said_word
 use Rattle.zq_tables.specs.Naming.{said_of, text_at, face_naming}
 use Rattle.zq_namespace.specs.Denied.{is_denied}
 use Rattle.zq_route.specs.declared.gateways.Gateways.{Gateways}
@@ -26,38 +26,38 @@ use Rattle.zq_machine.specs.State.{Core, State, hat_of, is_routing}
 pub data TextCall : Type 0 where
   opening : Opening → TextCall
   closing : FaceId → TextCall
-  naming : FaceId → ℕ → Said → Option (List ℕ) → TextCall
+  naming : FaceId → ℕ → Resolved → Option (List ℕ) → TextCall
   unnaming : FaceId → ℕ → Option (List ℕ) → TextCall
-  declaring : FaceId → ℕ → Said → QueryableInfoType → ℕ → TextCall
+  declaring : FaceId → ℕ → Resolved → QueryableInfoType → ℕ → TextCall
   withdrawing : FaceId → ℕ → TextCall
-  asking : FaceId → Said → Request → ℕ → TextCall
-  replying : FaceId → Said → Response → TextCall
+  asking : FaceId → Resolved → Request → ℕ → TextCall
+  replying : FaceId → Resolved → Response → TextCall
   ending : FaceId → ℕ → TextCall
   reporting : ℕ → TextCall
   passing : ℕ → TextCall
   listing : Region → Gateways → TextCall
   finalizing : FaceId → FinalMark → Bool → TextCall
-  announcing : FaceId → Said → QueryableInfoType → ℕ → TextCall
-  retracting : FaceId → Said → ℕ → TextCall
+  announcing : FaceId → Resolved → QueryableInfoType → ℕ → TextCall
+  retracting : FaceId → Resolved → ℕ → TextCall
   networking : Region → Network → TextCall
   tabling : FaceId → NodeIds → TextCall
-  hearing : FaceId → ℕ → Manner → Option Said → TextCall
+  hearing : FaceId → ℕ → Manner → Option Resolved → TextCall
   unhearing : FaceId → ℕ → TextCall
 
 -- what an expression says that the face sends, behind its namespace
-abbrev pub said : FaceId → WireExpr → State → Said
+abbrev pub said : FaceId → WireExpr → State → Resolved
 said face w s = said_of (face_naming face.0 s.names) (entered_by (space_of (gate_at face.0 s.gates)) w)
 
 -- what the expression of a reply says
-abbrev pub said_by_reply : FaceId → Response → State → Said
+abbrev pub said_by_reply : FaceId → Response → State → Resolved
 said_by_reply face r s = said_of (face_naming face.0 s.names) (reply_by (space_of (gate_at face.0 s.gates)) r)
 
 -- what is asked for: what is said, but nothing on a key that a denied one includes
-abbrev pub allowed : List (List ℕ) → Said → Said
+abbrev pub allowed : List (List ℕ) → Resolved → Resolved
 allowed denied s = if says_key s && is_denied denied (full_text s) then said_word.Empty else s
 
 -- what a request of the face asks for
-abbrev pub asked_said : FaceId → Request → State → Said
+abbrev pub asked_said : FaceId → Request → State → Resolved
 asked_said face r s = allowed (denied_by (gate_at face.0 s.gates)) (said face r.wire s)
 
 -- what a number of the face stands for
@@ -65,12 +65,12 @@ abbrev pub standing : FaceId → ℕ → State → Option (List ℕ)
 standing face id s = text_at id (face_naming face.0 s.names).theirs
 
 -- what an expression says that may be missing
-abbrev pub said_or_none : FaceId → Option WireExpr → State → Said
+abbrev pub said_or_none : FaceId → Option WireExpr → State → Resolved
 said_or_none face None s = said_word.Empty
 said_or_none face (Some w) s = said face w s
 
 -- what an expression says, if there is one
-abbrev pub said_if : FaceId → Option WireExpr → State → Option Said
+abbrev pub said_if : FaceId → Option WireExpr → State → Option Resolved
 said_if face w s = option_map (λ (x : WireExpr). said face x s) w
 
 -- the face's region is one of routers

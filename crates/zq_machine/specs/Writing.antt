@@ -10,8 +10,8 @@ use Rattle.zq_message.specs.declared.message.Message.TheVariants as message
 use Rattle.zq_message.specs.declared.message.Region.{Region}
 use Rattle.zq_message.specs.declared.message.Region.TheVariants as region
 use Rattle.zq_names.specs.Texts.{nonwild}
-use Rattle.zq_ids.specs.FaceTexts.{declared_key}
-use Rattle.zq_ids.specs.declared.decl.DeclKey.{DeclKey}
+use Rattle.zq_tables.specs.FaceTexts.{declared_key}
+use Rattle.zq_tables.specs.declared.decl.DeclKey.{DeclKey}
 use Rattle.zq_interests.specs.Interests.{has_keyed}
 use Rattle.zq_query.specs.declared.records.Final.{Final}
 use Rattle.zq_query.specs.Closing.{finals_after}

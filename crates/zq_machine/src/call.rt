@@ -3,13 +3,13 @@ ghost use Rattle.std.specs.Prelude.{◌≡◌};
 ghost use Rattle.zq_machine.specs.Calls.{has_none, is_absent, is_plain_opening, is_sent};
 
 use crate::handed::HandedList;
-use zq_hat::types::{FinalMark, Network, NodeIds};
 use zq_key::items::Items;
 use zq_key::message::{
     Bound, FaceId, Mode, QueryableInfoType, Region, Request, Response, TextList, WireExpr, Zid,
 };
 use zq_key::text::Text;
 use zq_route::gateways::Gateways;
+use zq_strategy::types::{FinalMark, Network, NodeIds};
 
 /// How a face is opened.
 #[derive(Debug, Drop)]

@@ -1,6 +1,6 @@
 //! What a gateway is made with.
 ghost use Rattle.std.specs.Prelude.{◌≡◌, Some, None, IfOk, IfErr, MatchResult};
-ghost use Rattle.zq_regions.specs.Region.{mode_offset, region_index};
+ghost use Rattle.zq_message.specs.Region.{mode_offset, region_index};
 ghost use Rattle.zq_machine.specs.declared.config.Entry.TheVariants as entry;
 ghost use Rattle.zq_machine.specs.Configs.{IsRefusal, bad_config, bad_entry, bad_from, entry_index, has_local, has_region, is_among, is_entry_of, is_local_entry, is_number, north_of, region_of};
 

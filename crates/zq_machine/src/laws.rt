@@ -6,17 +6,17 @@ ghost use Rattle.std.specs.Map.{keys_of};
 ghost use Rattle.std.specs.Option.{is_some, option_map_or};
 ghost use Rattle.std.specs.Ordering.{nat_cmp};
 ghost use Rattle.std.specs.Str.{bytes_eq};
-ghost use Rattle.zq_hat.specs.Moved.{Keeps};
-ghost use Rattle.zq_hat.specs.Regions.{is_north, strategy_at};
-ghost use Rattle.zq_hat.specs.State.{FaceState, HatState};
-ghost use Rattle.zq_hat.specs.Kept.{face_at, info, region_info};
+ghost use Rattle.zq_strategy.specs.Moved.{Keeps};
+ghost use Rattle.zq_strategy.specs.Regions.{is_north, strategy_at};
+ghost use Rattle.zq_strategy.specs.State.{FaceState, HatState};
+ghost use Rattle.zq_strategy.specs.Kept.{face_at, info, region_info};
 ghost use Rattle.zq_index.specs.Infos.{joined};
 ghost use Rattle.zq_key.specs.Key.{intersects};
-ghost use Rattle.zq_regions.specs.Region.{region_index};
+ghost use Rattle.zq_message.specs.Region.{region_index};
 ghost use Rattle.zq_machine.specs.declared.face.OpenFace.{OpenFace};
-ghost use Rattle.zq_hat.specs.declared.types.Declaration.{Declaration};
+ghost use Rattle.zq_strategy.specs.declared.types.Declaration.{Declaration};
 ghost use Rattle.zq_interests.specs.declared.types.InterestEntry.{InterestEntry};
-ghost use Rattle.zq_hat.specs.declared.types.Strategy.TheVariants as strategy;
+ghost use Rattle.zq_strategy.specs.declared.types.Strategy.TheVariants as strategy;
 ghost use Rattle.zq_machine.specs.declared.call.Call.{Call};
 ghost use Rattle.zq_machine.specs.declared.call.Call.TheVariants as call;
 ghost use Rattle.zq_machine.specs.declared.call.Opening.{Opening};
@@ -37,7 +37,7 @@ ghost use Rattle.zq_tables.specs.Naming.{NamingState};
 ghost use Rattle.zq_message.specs.declared.message.FaceId.{FaceId};
 ghost use Rattle.zq_message.specs.declared.message.QueryableInfoType.{QueryableInfoType};
 ghost use Rattle.zq_message.specs.declared.message.Request.{Request};
-ghost use Rattle.zq_tables.specs.declared.said.Said.{Said};
+ghost use Rattle.zq_tables.specs.declared.resolved.Resolved.{Resolved};
 ghost use Rattle.zq_machine.specs.Selecting.{select};
 ghost use Rattle.zq_machine.specs.Standing.{StandAlike};
 ghost use Rattle.zq_machine.specs.Hearing.{CanBeTold, hear};
@@ -66,7 +66,7 @@ pub fn run_promised()
 /// of a run and their answers: two runs of one configuration that leave the same of them select the
 /// same.
 pub fn select_determined()
-    ensures { (config : Settings) (calls others : List Call) → StandAlike (state_after (opening_state config) calls) (state_after (opening_state config) others) → (asker : FaceId) (s : Said) (r : Request) → select (state_after (opening_state config) calls).core asker s r ≡ select (state_after (opening_state config) others).core asker s r }
+    ensures { (config : Settings) (calls others : List Call) → StandAlike (state_after (opening_state config) calls) (state_after (opening_state config) others) → (asker : FaceId) (s : Resolved) (r : Request) → select (state_after (opening_state config) calls).core asker s r ≡ select (state_after (opening_state config) others).core asker s r }
 {}
 
 /// What open faces are told is what they hear: each key is read as the text that was told, by the

@@ -7,12 +7,14 @@
 //! - `handed`: a message that a call hands
 //! - `laws`: what every run promises, and how what is decided moves with its texts
 //! - `neighbours`: that faces outside regions of routers are told what is due to them
+//! - `interest_laws`: what an interest adds to what is due, as contracts
 #![tactic(auto)]
 
 pub mod call;
 pub mod config;
 pub mod face;
 pub mod handed;
+pub mod interest_laws;
 pub mod laws;
 pub mod neighbours;
 

@@ -3,10 +3,10 @@ use Rattle.std.specs.Prelude.{ℕ, ◌-◌, ◌&&◌, List, [], ◌∷◌, ◌++
 use Rattle.std.specs.Fmt.{decimal}
 use Rattle.std.specs.Option.{option_map}
 use Rattle.std.specs.Str.{bytes_eq}
-use Rattle.zq_page.specs.Escape.{shown}
-use Rattle.zq_why.specs.Why.{reason}
-use Rattle.zq_words.specs.Values.{most_64}
-use Rattle.zq_words.specs.Words.{◌>>=◌, cut, number}
+use Rattle.zq_show.specs.Escape.{shown}
+use Rattle.zq_lines.specs.Why.{reason}
+use Rattle.zq_io.specs.Values.{most_64}
+use Rattle.zq_io.specs.Words.{◌>>=◌, cut, number}
 
 -- the number behind the words `bad line`
 unfoldable pub number_behind : List ℕ → Option ℕ

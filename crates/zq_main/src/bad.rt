@@ -3,14 +3,14 @@ ghost use Rattle.std.specs.Prelude.{◌≡◌, ◌++◌, IfOk, OnOk};
 ghost use Rattle.std.specs.Option.{option_map};
 ghost use Rattle.zq_lines.specs.Split.{lines_of};
 ghost use Rattle.zq_main.specs.Bad.{bad_words, front_words, line_at, named_line, number_behind, said};
-ghost use Rattle.zq_page.specs.Escape.{shown};
+ghost use Rattle.zq_show.specs.Escape.{shown};
 
 use std::alloc::{AllocError, Global};
+use zq_io::words::{cut, is, number, push_number, push_text};
 use zq_lines::split::next_line;
+use zq_lines::why::why;
 use zq_message::memory::OutOfMemory;
-use zq_page::escape::in_text;
-use zq_why::why::why;
-use zq_words::words::{cut, is, number, push_number, push_text};
+use zq_show::escape::in_text;
 
 /// The number behind two words.
 #[tactic(auto, unfolding(crate::specs::Bad::number_behind))]

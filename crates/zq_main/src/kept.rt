@@ -3,7 +3,7 @@ ghost use Rattle.std.specs.Prelude.{◌≡◌, ◌++◌, [], IfSome, IfNone, Som
 ghost use Rattle.std.specs.Option.{option_map};
 
 use std::alloc::Global;
-use zq_streams::streams::{Failed, Sink, Source};
+use zq_io::streams::{Failed, Sink, Source};
 
 /// How many bytes of a print are kept at most: more than the name of a bad line has.
 const FRONT: usize = 64;

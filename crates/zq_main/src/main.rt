@@ -15,13 +15,13 @@ use std::rt::Env;
 use std::sync::Wait;
 use std::thread::Threads;
 use std::{env, io};
-use zq_links::SureLink;
+use zq_io::streams::{ReadSource, Sink, Source, WriteSink};
 use zq_message::text::Text;
 use zq_program::program;
-use zq_script::run::Status;
-use zq_seen::show::show;
-use zq_seen::words::{Asked as Shown, Form, read_words as read_show_words};
-use zq_streams::streams::{ReadSource, Sink, Source, WriteSink};
+use zq_script::running::Status;
+use zq_shared::SureLink;
+use zq_show::shown::show;
+use zq_show::words::{Asked as Shown, Form, read_words as read_show_words};
 
 const VERSION: &str = "zq 0.1.0, a port of zenoh 1.10.2's query gateway";
 

@@ -1,1 +1,4 @@
 pub mod Kept
+pub mod Region
+pub mod RegionMap
+pub mod RegionMapLends

@@ -1,7 +1,7 @@
 -- The place of a text, from the two numbers beside it.
 use Rattle.std.proofs.Common.{◌≡◌, ℕ, ◌-◌, true, false, List, Option, arith}
 use Rattle.std.specs.Ordering.{is_lt}
-use Rattle.zq_rows.specs.Border.{IsBorder}
+use Rattle.zq_names.specs.Border.{IsBorder}
 use Rattle.zq_names.specs.declared.node.Node.{Node}
 use Rattle.zq_names.specs.Texts.{text_cmp}
 use Rattle.zq_names.specs.Names.{Rises, SplitsAt, row, rows, texts}

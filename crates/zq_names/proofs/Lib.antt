@@ -1,3 +1,5 @@
+mod Edits
+mod Sides
 pub mod Joined
 pub mod TextOrder
 pub mod Rows

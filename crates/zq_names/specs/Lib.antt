@@ -1,3 +1,6 @@
+pub mod Branch
+pub mod BranchFalls
+pub mod Border
 pub mod Texts
 pub mod Names
 pub mod Matching

@@ -3,11 +3,11 @@ ghost use Rattle.std.specs.Prelude.{◌≡◌, ◌<◌, ◌≤◌, length, vec_l
 ghost use Rattle.zq_names.specs.Names.{IsTable, IsSound, rows, text_at};
 ghost use Rattle.zq_names.specs.Closing.{Closes, ClosesBelow, IsRun};
 
+use crate::Tree;
 use crate::edit::remove_at;
 use crate::node::Node;
 use crate::order::lower_bound;
 use slab::Slab;
-use zq_rows::Tree;
 
 // The first place below the text at a place, and the first one after those.
 fn run_of(nodes: &Slab<Node>, order: &Tree, place: usize) -> (usize, usize)

@@ -11,10 +11,10 @@ use crate::forget::forget;
 use crate::node::Node;
 use crate::order::{has_below, known_end, last_slash, search_near};
 use crate::part::Part;
+use crate::{Seat, Tree};
 use slab::Slab;
 use std::alloc::Global;
 use zq_key::memory::OutOfMemory;
-use zq_rows::{Seat, Tree};
 
 // A node that is to come, and the memory for its place.
 #[derive(Drop)]

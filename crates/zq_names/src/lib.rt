@@ -1,5 +1,10 @@
-//! The names: every text that stands for something, as a node with marks.
+//! The names: every text that stands for something, as a node with marks, in an order that is kept as a balanced tree.
 //!
+//! That the tree is balanced is no clause: contracts see the row alone, and nothing here is about time.
+//!
+//! - `tree`: `Tree`, which callers use, and `Seat`, the memory for one more number
+//! - `branch`: a number with those before it and those after it
+//! - `turn`: branches whose sides are alike in weight
 //! - `node`: what is kept of a text, and the number that names it
 //! - `refusal`: why a name or an id is refused
 //! - `part`: texts, of which those that begin one text share its memory
@@ -12,6 +17,7 @@
 //! - `names`: `Names`, which callers use
 #![tactic(auto)]
 
+mod branch;
 mod close;
 mod edit;
 mod forget;
@@ -22,8 +28,11 @@ pub mod node;
 mod order;
 mod part;
 pub mod refusal;
+mod tree;
+mod turn;
 
 pub use names::Names;
 pub use node::{ResourceId, ResourceList};
 pub use order::nonwild;
 pub use refusal::NameRefusal;
+pub use tree::{Seat, Tree};

@@ -7,6 +7,7 @@ ghost use Rattle.zq_key.specs.Key.{is_key};
 ghost use Rattle.zq_names.specs.Names.{IsTable, NameEntry, rows, ids, SplitsAt};
 ghost use Rattle.zq_names.specs.Matching.{number, is_match};
 
+use crate::Tree;
 use crate::node::{Node, ResourceId};
 use crate::order::lower_bound;
 use slab::Slab;
@@ -14,7 +15,6 @@ use std::alloc::Global;
 use zq_key::intersects;
 use zq_key::memory::OutOfMemory;
 use zq_key::pruning::apart;
-use zq_rows::Tree;
 
 // The first place after those whose texts begin with the head and the byte.
 fn after_run(nodes: &Slab<Node>, order: &Tree, head: &[u8], byte: u8) -> usize

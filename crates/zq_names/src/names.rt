@@ -19,12 +19,12 @@ use crate::node::{Node, ResourceId, ResourceList};
 use crate::order::{cut_before_star, last_slash, place_of, search};
 use crate::part::Part;
 use crate::refusal::NameRefusal;
+use crate::{Seat, Tree};
 use slab::Slab;
 use std::alloc::Global;
 use std::marker::Model;
 use zq_key::is_key;
 use zq_key::memory::OutOfMemory;
-use zq_rows::{Seat, Tree};
 
 /// The texts that stand for something, in order, each with its marks: whether it has a context, how often it is held, and its matches.
 ///

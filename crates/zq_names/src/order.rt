@@ -5,10 +5,10 @@ ghost use Rattle.std.specs.List.{Contains, position};
 ghost use Rattle.zq_names.specs.Texts.{text_cmp, is_star_byte, IsBelow, IsCutBefore, IsKnownTo, nonwild, parent_of};
 ghost use Rattle.zq_names.specs.Names.{AreLive, Rises, SplitsAt, slot, row, rows, texts, IsGapAt, IsPlaceOf, HasBelow, IsTable};
 
+use crate::Tree;
 use crate::node::Node;
 use slab::Slab;
 use std::cmp::Ordering;
-use zq_rows::Tree;
 
 // Compares the text to the head followed by the tail.
 fn compare_joined(text: &[u8], head: &[u8], tail: &[u8]) -> Ordering

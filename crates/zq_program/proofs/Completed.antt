@@ -2,16 +2,16 @@
 use Rattle.std.proofs.Common.{◌≡◌, ℕ, List, Option, Some, None, Result, Ok, Err, ◌++◌, ◌∙◌, ap, refl, subst, sym, arith, append-nil}
 use Rattle.std.specs.Prelude.{IfSome}
 use Rattle.std.specs.Io.KnownBytes.{Consumes, IsAtEnd}
-use Rattle.zq_streams.specs.declared.transfer.TheConstants.{LIMIT}
-use Rattle.zq_streams.specs.Streams.{IsLonger}
-use Rattle.zq_script.specs.declared.run.Status.{Status}
-use Rattle.zq_script.specs.declared.run.Status.TheVariants as status
+use Rattle.zq_io.specs.declared.transfer.TheConstants.{LIMIT}
+use Rattle.zq_io.specs.Streams.{IsLonger}
+use Rattle.zq_script.specs.declared.running.Status.{Status}
+use Rattle.zq_script.specs.declared.running.Status.TheVariants as status
 use Rattle.zq_script.specs.declared.script.Script.{Script}
 use Rattle.zq_lines.specs.Split.{lines_of}
 use Rattle.zq_script.specs.Running.{EndsWell, IsBad, IsScript}
 use Rattle.zq_script.specs.Script.{script_of}
 use Rattle.zq_program.specs.Running.{IsFitFor, LeavesShared, shared_script}
-use Rattle.zq_sharing.specs.declared.words.Sharing.{Sharing}
+use Rattle.zq_program.specs.declared.words.Sharing.{Sharing}
 
 -- no bytes are a script and have a bad line
 not_both : (read : Result Script ℕ) → IsBad read → IsScript read → ⊥

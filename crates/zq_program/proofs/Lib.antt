@@ -1,1 +1,9 @@
+pub mod Faults
+pub mod Crews
+pub mod Making
+pub mod Gathering
+pub mod Listed
+pub mod Storing
+pub mod Dealt
+pub mod Printed
 pub mod Completed

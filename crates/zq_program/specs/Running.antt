@@ -1,16 +1,16 @@
 -- What a shared run reads, writes and sends.
 use Rattle.std.specs.Prelude.{ℕ, ◌<◌, ◌≤◌, Bool, true, false, List, Option, Result, length, if◌then◌else◌}
 use Rattle.std.specs.Io.KnownBytes.{Appends}
-use Rattle.zq_streams.specs.declared.transfer.TheConstants.{LIMIT}
-use Rattle.zq_streams.specs.Streams.{AppendsFront}
+use Rattle.zq_io.specs.declared.transfer.TheConstants.{LIMIT}
+use Rattle.zq_io.specs.Streams.{AppendsFront}
 use Rattle.zq_lines.specs.Split.{lines_of}
 use Rattle.zq_script.specs.Running.{IsBad, IsScript}
 use Rattle.zq_script.specs.Script.{script_of}
-use Rattle.zq_script.specs.declared.run.Status.{Status}
-use Rattle.zq_script.specs.declared.run.Status.TheVariants as status
+use Rattle.zq_script.specs.declared.running.Status.{Status}
+use Rattle.zq_script.specs.declared.running.Status.TheVariants as status
 use Rattle.zq_script.specs.declared.script.Script.{Script}
-use Rattle.zq_program.specs.Printing.{MayPrint}
-use Rattle.zq_sharing.specs.declared.words.Sharing.{Sharing}
+use Rattle.zq_program.specs.SharedPrinting.{MayPrint}
+use Rattle.zq_program.specs.declared.words.Sharing.{Sharing}
 
 -- the script that the bytes are, or the number of its first bad line
 abbrev pub shared_script : Sharing → List ℕ → Result Script ℕ

@@ -2,23 +2,23 @@
 ghost use Rattle.std.specs.Prelude.{◌≡◌, ◌≢◌, ◌↔◌, ◌⊎◌, IfOk, IfSome, None, length, map, true};
 ghost use Rattle.std.specs.Io.KnownBytes.{IsAtEnd};
 ghost use Rattle.zq_machine.specs.Headline.{RunPromise};
-ghost use Rattle.zq_streams.specs.Streams.{Rose};
+ghost use Rattle.zq_io.specs.Streams.{Rose};
 ghost use Rattle.zq_lines.specs.Split.{lines_of};
 ghost use Rattle.zq_script.specs.Script.{script_of};
 ghost use Rattle.zq_script.specs.Running.{EndsWell, IsBad, IsFit, IsReplay, Leaves, LeavesLoad, ReadsBack, command_of, first_part, load_of};
-ghost use Rattle.zq_crews.specs.Faults.{SomeRose};
-ghost use Rattle.zq_sharing.specs.Words.{sharing_of};
+ghost use Rattle.zq_program.specs.Faults.{SomeRose};
+ghost use Rattle.zq_program.specs.Words.{sharing_of};
 ghost use Rattle.zq_program.specs.Running.{IsFitFor, LeavesShared, is_idle, is_unwritten, is_whole};
 
-use crate::sharing::share_source;
+use crate::shared_run::share_source;
+use crate::words::sharing_of;
 use std::alloc::Global;
 use std::sync::Wait;
 use std::thread::Threads;
+use zq_io::streams::{Sink, Source};
 use zq_key::text::Text;
-use zq_links::Link;
-use zq_script::run::{Status, run};
-use zq_sharing::words::sharing_of;
-use zq_streams::streams::{Sink, Source};
+use zq_script::running::{Status, run};
+use zq_shared::Link;
 
 /// Where the words are `share W SLOTS`, reads a script with at most W lines `worker` from the source; makes the calls of its first part, sent
 /// over the first link, and then those behind each line `worker` in a thread of its own, each over a link of its own, all on one gateway with

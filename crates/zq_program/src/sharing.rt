@@ -1,158 +1,103 @@
-//! A shared run of a script.
-ghost use Rattle.std.specs.Prelude.{◌≡◌, ◌≢◌, ◌<◌, ◌≤◌, ◌+◌, IfOk, IfSome, length, map, true};
-ghost use Rattle.std.specs.Io.KnownBytes.{IsAtEnd};
-ghost use Rattle.zq_streams.specs.declared.transfer.TheConstants.{LIMIT};
-ghost use Rattle.zq_streams.specs.Streams.{Rose};
-ghost use Rattle.zq_lines.specs.Split.{lines_of};
-ghost use Rattle.zq_script.specs.Script.{script_of};
-ghost use Rattle.zq_script.specs.Running.{EndsWell, IsBad, IsScript};
-ghost use Rattle.zq_crews.specs.Faults.{HaveFaults, SomeRose};
-ghost use Rattle.zq_sharing.specs.Words.{IsSharing};
-ghost use Rattle.zq_sharing.specs.Parts.{ArePartsFor};
-ghost use Rattle.zq_program.specs.Printing.{IsSharedPrint, MayPrint};
-ghost use Rattle.zq_program.specs.Running.{IsFitFor, IsSharedEnd, LeavesShared, end_of, is_idle, is_unwritten, is_whole};
+//! The parts of a script, made by as many workers on one gateway.
+ghost use Rattle.std.specs.Prelude.{◌≡◌, ◌<◌, ◌≤◌, ◌+◌, All, [], Some, IfOk, false, length, map, vec_len};
+ghost use Rattle.zq_machine.specs.Calls.{is_sent};
+ghost use Rattle.zq_program.specs.Faults.{HaveFaults, NeverFell};
+ghost use Rattle.zq_shared.specs.Answers.{AllListed};
+ghost use Rattle.zq_program.specs.Shares.{HasStored, all_calls};
+ghost use Rattle.zq_program.specs.Working.{MayMake};
 
+use crate::workers::{gather, make_crew, run_crew};
 use std::alloc::Global;
+use std::marker::Brand;
 use std::sync::Wait;
+use std::sync::ledger::{Blank, Ledger};
 use std::thread::Threads;
 use zq_key::memory::OutOfMemory;
-use zq_key::text::Bytes;
-use zq_links::Link;
-use zq_script::refusal::ScriptRefusal;
-use zq_script::run::Status;
-use zq_script::script::Script;
-use zq_share::share;
-use zq_sharing::parts::read_shared;
-use zq_sharing::printing::{print_bad_line, print_shared};
-use zq_sharing::words::Sharing;
-use zq_streams::streams::{Sink, Source};
-use zq_streams::transfer::{ReadRefusal, read_all, write_all};
+use zq_machine::call::Call;
+use zq_machine::config::Config;
+use zq_message::items::Items;
+use zq_shared::{Home, Link, SeatList, Shared, TablesLock, Tally};
 
-/// Makes the calls of the script's parts, and prints what is stored then; it also answers whether no link failed.
-#[tactic(auto, using(zq_machine::proofs::Kept::headline))]
-fn share_script<L: Link + Send, R: Threads + Wait + Sync>(
+/// The same over the gateway that the name means.
+#[tactic(auto, using(crate::proofs::Faults::fell_none, crate::proofs::Faults::fell_of, zq_shared::proofs::Due::orderly_none))]
+fn share_named<
+    H: Home + Send + Sync,
+    C: Ledger + Send + Sync,
+    Q: Ledger + Send + Sync,
+    P: Ledger + Send + Sync,
+    L: Link + Send,
+    R: Threads + Wait + Sync,
+>(
     rt: &R,
     alloc: Global,
-    sharing: Sharing,
-    script: Script,
+    shared: Shared,
+    mut seats: SeatList,
+    blanks: (Blank, Blank, Blank),
+    parts: Vec<Items<Call>>,
     links: &mut [L],
-) -> Result<(Bytes, bool), OutOfMemory>
-    requires bounds { IsSharing (length links.old) sharing }
-    requires parts { ArePartsFor sharing.workers script.parts }
-    ensures print { IfOk result (λ t. IsSharedPrint sharing.slots script t.0) }
-    ensures faults { IfOk result (λ t. HaveFaults t.1 (map L.faults links.old) (map L.faults links.new)) }
+) -> Result<(Shared, bool), OutOfMemory>
+    requires means { (H.config ≡ shared.stored.config) × (H.holds ≡ shared.slots.keeper.home) × (H.slots ≡ length shared.slots.keeper.marks) }
+    requires list { H.list ≡ Some (all_calls parts.items) }
+    requires fresh { shared.stored.calls ≡ [] }
+    requires seats { (seats.home ≡ H.holds) × (vec_len parts ≤ seats.count) }
+    requires calls { (blanks.0.name ≡ C.name) × (blanks.0.parts ≡ C.parts) × (C.parts ≡ vec_len parts) }
+    requires asks { (blanks.1.name ≡ Q.name) × (blanks.1.parts ≡ Q.parts) × (Q.parts ≡ vec_len parts) }
+    requires full { (blanks.2.name ≡ P.name) × (blanks.2.parts ≡ P.parts) × (P.parts ≡ vec_len parts) }
+    requires parts { All (All (MayMake H.list)) parts.items }
+    requires links { (0 < length links.old) × (vec_len parts ≤ length links.old + 1) }
+    ensures config { IfOk result (λ r. r.0.stored.config ≡ shared.stored.config) }
+    ensures wide { IfOk result (λ r. length r.0.slots.keeper.marks ≡ length shared.slots.keeper.marks) }
+    ensures stored { IfOk result (λ r. HasStored shared.stored.config (length shared.slots.keeper.marks) (all_calls parts.items) r.0.stored.calls) }
+    ensures faults { IfOk result (λ r. HaveFaults r.1 (map L.faults links.old) (map L.faults links.new)) }
+    ensures later { NeverFell (map L.faults links.old) (map L.faults links.new) }
 {
-    let Script {
-        head,
-        config,
-        parts,
-    } = script;
-    let (shared, sent) = share(rt, alloc, &config, sharing.slots, parts.into_vec(), links)?;
-    let print = print_shared(alloc, head.as_slice(), shared.config(), shared.calls());
-    drop(shared);
-    Ok((print?, sent))
-}
-
-/// The status of a shared run whose print is taken.
-fn end_of(sent: bool) -> Status
-    ensures { result ≡ end_of sent }
-{
-    if sent {
-        Status::Done
-    } else {
-        Status::LinkFault
-    }
-}
-
-/// What is printed for the bytes, and the status where the print is taken.
-fn print_of<L: Link + Send, R: Threads + Wait + Sync>(
-    rt: &R,
-    alloc: Global,
-    sharing: Sharing,
-    bytes: &[u8],
-    links: &mut [L],
-) -> Result<(Status, Bytes), OutOfMemory>
-    requires bounds { IsSharing (length links.old) sharing }
-    ensures print { IfOk result (λ t. MayPrint sharing.slots (script_of sharing.workers (lines_of bytes.now)) t.1) }
-    ensures status { IfOk result (λ t. IsSharedEnd t.0 (script_of sharing.workers (lines_of bytes.now))) }
-    ensures sent { IfOk result (λ t. t.0 ≡ Status.Done → map L.faults links.new ≡ map L.faults links.old) }
-    ensures linked { IfOk result (λ t. t.0 ≡ Status.LinkFault → SomeRose (map L.faults links.old) (map L.faults links.new)) }
-    ensures idle { IfOk result (λ t. is_idle t.0 ≡ true → links.new ≡ links.old) }
-    ensures unsent { IsBad (script_of sharing.workers (lines_of bytes.now)) → links.new ≡ links.old }
-{
-    match read_shared(alloc, bytes, sharing.workers) {
-        Ok(script) => {
-            let (print, sent) = share_script(rt, alloc, sharing, script, links)?;
-            Ok((end_of(sent), print))
-        }
-        Err(ScriptRefusal::BadLine(number)) => {
-            Ok((Status::Script, print_bad_line(alloc, number)?))
-        }
-        Err(ScriptRefusal::OutOfMemory) => Err(OutOfMemory),
-    }
-}
-
-/// Gives the print for the bytes to the sink, by one call.
-#[tactic(auto, using(crate::proofs::Completed::answered))]
-fn answer<K: Sink, L: Link + Send, R: Threads + Wait + Sync>(
-    rt: &R,
-    alloc: Global,
-    sharing: Sharing,
-    bytes: &[u8],
-    sink: &mut K,
-    links: &mut [L],
-) -> Status
-    requires bounds { IsSharing (length links.old) sharing }
-    requires limit { length bytes.now ≤ LIMIT }
-    ensures leaves { LeavesShared sharing result bytes.now (K.taken sink.old) (K.taken sink.new) }
-    ensures write { result ≡ Status.WriteFault → Rose (K.faults sink.old) (K.faults sink.new) }
-    ensures quiet { result ≢ Status.WriteFault → K.faults sink.new ≡ K.faults sink.old }
-    ensures unwritten { is_unwritten result ≡ true → sink.new ≡ sink.old }
-    ensures sent { result ≡ Status.Done → map L.faults links.new ≡ map L.faults links.old }
-    ensures linked { result ≡ Status.LinkFault → SomeRose (map L.faults links.old) (map L.faults links.new) }
-    ensures idle { is_idle result ≡ true → links.new ≡ links.old }
-    ensures unsent { IsBad (script_of sharing.workers (lines_of bytes.now)) → links.new ≡ links.old }
-    ensures ends { (result ≢ Status.Words) × (result ≢ Status.ReadFault) × (result ≢ Status.TooLong) }
-    ensures complete { IsScript (script_of sharing.workers (lines_of bytes.now)) → (Rose (K.faults sink.old) (K.faults sink.new) → ⊥) → (SomeRose (map L.faults links.old) (map L.faults links.new) → ⊥) → EndsWell result }
-{
-    let Ok((status, print)) = print_of(rt, alloc, sharing, bytes, links) else {
-        return Status::Memory;
+    let (calls, asks, full) = blanks;
+    let (calls, all_calls) = calls.open::<C>();
+    let (asks, all_asks) = asks.open::<Q>();
+    let (full, all_full) = full.open::<P>();
+    let mut tally = Tally {
+        calls: all_calls,
+        asks: all_asks,
+        full: all_full,
     };
-    match write_all(sink, print.as_slice()) {
-        Ok(()) => status,
-        Err(_) => Status::WriteFault,
+    let crew = make_crew(alloc, &mut seats, &mut tally, parts)?;
+    let lock = TablesLock::<H, C, Q, P>::new(shared, calls, asks, full);
+    let crew = run_crew(rt, &lock, crew, links);
+    let ended = gather(crew, &mut tally);
+    if !ended.whole {
+        return Err(OutOfMemory);
     }
+    let (shared, mut calls, mut asks, mut full) = lock.into_shared();
+    tally.audit(&mut calls, &mut asks, &mut full);
+    Ok((shared, ended.sent))
 }
 
-/// Reads a script from the source, lets workers make its calls on one gateway, and gives the print of what is stored then to the sink.
-#[tactic(auto, using(crate::proofs::Completed::read_fails, crate::proofs::Completed::too_long, crate::proofs::Completed::no_memory, crate::proofs::Completed::none_sent))]
-pub(crate) fn share_source<S: Source, K: Sink, L: Link + Send, R: Threads + Wait + Sync>(
+/// Makes the calls of the first part over the first link, and then those of the other parts, each by a worker in a thread of its own and over
+/// a link of its own, all on one gateway with that many slots. A call that finds every slot allotted is passed over. Whoever finds no memory
+/// makes no further calls; the others go on, and the answer is `OutOfMemory`. Otherwise it answers the gateway with its stored calls, and
+/// whether no link failed.
+#[tactic(auto, using(crate::proofs::Faults::fell_none))]
+pub fn share<L: Link + Send, R: Threads + Wait + Sync>(
     rt: &R,
     alloc: Global,
-    sharing: Sharing,
-    source: &mut S,
-    sink: &mut K,
+    config: &Config,
+    slots: u16,
+    parts: Vec<Items<Call>>,
     links: &mut [L],
-) -> Status
-    requires bounds { IsSharing (length links.old) sharing }
-    ensures leaves { IfSome (S.left source.old) (λ input. LeavesShared sharing result input (K.taken sink.old) (K.taken sink.new)) }
-    ensures whole { is_whole result ≡ true → IsAtEnd (S.left source.new) }
-    ensures read { result ≡ Status.ReadFault → Rose (S.faults source.old) (S.faults source.new) }
-    ensures steady { result ≢ Status.ReadFault → S.faults source.new ≡ S.faults source.old }
-    ensures write { result ≡ Status.WriteFault → Rose (K.faults sink.old) (K.faults sink.new) }
-    ensures quiet { result ≢ Status.WriteFault → K.faults sink.new ≡ K.faults sink.old }
-    ensures unwritten { is_unwritten result ≡ true → sink.new ≡ sink.old }
-    ensures sent { result ≡ Status.Done → map L.faults links.new ≡ map L.faults links.old }
-    ensures linked { result ≡ Status.LinkFault → SomeRose (map L.faults links.old) (map L.faults links.new) }
-    ensures idle { is_idle result ≡ true → links.new ≡ links.old }
-    ensures unsent { IfSome (S.left source.old) (λ input. IsBad (script_of sharing.workers (lines_of input)) → links.new ≡ links.old) }
-    ensures ends { result ≢ Status.Words }
-    ensures complete { IfSome (S.left source.old) (λ input. IsFitFor sharing.workers input → (Rose (S.faults source.old) (S.faults source.new) → ⊥) → (Rose (K.faults sink.old) (K.faults sink.new) → ⊥) → (SomeRose (map L.faults links.old) (map L.faults links.new) → ⊥) → EndsWell result) }
+) -> Result<(Shared, bool), OutOfMemory>
+    requires slots { (0 < slots) × (slots ≤ 1024) }
+    requires parts { (0 < vec_len parts) × (vec_len parts ≤ 63) }
+    requires calls { All (All (λ c. is_sent c ≡ false)) parts.items }
+    requires links { (0 < length links.old) × (vec_len parts ≤ length links.old + 1) }
+    ensures config { IfOk result (λ r. r.0.stored.config ≡ config.now) }
+    ensures wide { IfOk result (λ r. length r.0.slots.keeper.marks ≡ slots) }
+    ensures stored { IfOk result (λ r. HasStored config.now slots (all_calls parts.items) r.0.stored.calls) }
+    ensures faults { IfOk result (λ r. HaveFaults r.1 (map L.faults links.old) (map L.faults links.new)) }
+    ensures later { NeverFell (map L.faults links.old) (map L.faults links.new) }
 {
-    match read_all(alloc, source) {
-        Ok(bytes) => answer(rt, alloc, sharing, bytes.as_slice(), sink, links),
-        Err(ReadRefusal::ReadFault) => Status::ReadFault,
-        Err(ReadRefusal::TooLong) => Status::TooLong,
-        Err(ReadRefusal::OutOfMemory) => Status::Memory,
-    }
+    let count = parts.len();
+    let (shared, seats) = Shared::new(alloc, config, slots, count as u8)?;
+    let count = count as u64;
+    let blanks = (Blank::new(count), Blank::new(count), Blank::new(count));
+    share_named::<Brand, Brand, Brand, Brand, L, R>(rt, alloc, shared, seats, blanks, parts, links)
 }

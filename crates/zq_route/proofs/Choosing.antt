@@ -8,7 +8,7 @@ use Rattle.std.proofs.lemmas.Option.{slice_get_read}
 use Rattle.std.proofs.lemmas.List.Elements.{filter-append}
 use Rattle.zq_message.specs.declared.message.QueryTarget.{QueryTarget}
 use Rattle.zq_message.specs.declared.message.QueryTarget.TheVariants as target
-use Rattle.zq_offers.specs.declared.types.QueryTargetQabl.{QueryTargetQabl}
+use Rattle.zq_strategy.specs.declared.offer.QueryTargetQabl.{QueryTargetQabl}
 use Rattle.zq_route.specs.Built.{with_first}
 use Rattle.zq_route.specs.Selection.{is_complete, is_kept, kept, by_face, with_offers, with_kept}
 

@@ -14,7 +14,7 @@ use Rattle.std.proofs.Math.Bool.{or_assoc, or-false}
 use Rattle.zq_key.proofs.Naturals.{any-map}
 use Rattle.zq_message.specs.declared.message.QueryTarget.{QueryTarget}
 use Rattle.zq_message.specs.declared.message.QueryTarget.TheVariants as target
-use Rattle.zq_offers.specs.declared.types.QueryTargetQabl.{QueryTargetQabl}
+use Rattle.zq_strategy.specs.declared.offer.QueryTargetQabl.{QueryTargetQabl}
 use Rattle.zq_route.specs.Built.{is_face, has_face, with_first}
 use Rattle.zq_route.specs.Selection.{by_face, with_offers, chosen, same_face, first_of_each_face, is_complete, may_be_complete}
 

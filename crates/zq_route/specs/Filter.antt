@@ -4,8 +4,8 @@ use Rattle.std.specs.List.{list_any}
 use Rattle.std.specs.Option.{option_and_then}
 use Rattle.zq_message.specs.declared.message.Region.{Region}
 use Rattle.zq_message.specs.declared.message.Zid.{Zid}
-use Rattle.zq_hat.specs.Regions.{is_north}
-use Rattle.zq_regions.specs.RegionMap.{value_at}
+use Rattle.zq_strategy.specs.Regions.{is_north}
+use Rattle.zq_message.specs.RegionMap.{value_at}
 use Rattle.zq_route.specs.declared.gateways.GatewayEntry.{GatewayEntry}
 use Rattle.zq_route.specs.declared.gateways.Gateways.{Gateways}
 use Rattle.zq_route.specs.declared.filter.InterRegionFilter.{InterRegionFilter}

@@ -1,16 +1,16 @@
 //! Which gateway carries a request between regions.
 ghost use Rattle.std.specs.Prelude.{◌≡◌, ◌↔◌, List, true, false, fold, find, option_map, max};
 ghost use Rattle.std.specs.Option.{option_copied, option_and_then};
-ghost use Rattle.zq_regions.specs.Region.{HasIndex};
-ghost use Rattle.zq_regions.specs.RegionMap.{value_at};
+ghost use Rattle.zq_message.specs.Region.{HasIndex};
+ghost use Rattle.zq_message.specs.RegionMap.{value_at};
 ghost use Rattle.zq_route.specs.Filter.{is_zid, is_node, listed, gateways_of, greatest, has_zid, carries, passes_between, Decide, IsGreatest};
 ghost use Rattle.zq_message.specs.declared.message.Zid.{Zid};
 
 use crate::gateways::{GatewayEntry, Gateways};
-use zq_hat::strategy::is_north;
-use zq_hat::types::ZidList;
 use zq_key::message::{Region, Zid};
-use zq_regions::RegionMap;
+use zq_message::RegionMap;
+use zq_strategy::strategy::is_north;
+use zq_strategy::types::ZidList;
 
 /// A request's way between two regions (upstream's `InterRegionFilter`): from `src`, where the node
 /// `src_zid` asked and the face of `fwd_zid` brought it, to the face of `dst_zid` in `dst`.

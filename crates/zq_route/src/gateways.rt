@@ -2,10 +2,10 @@
 ghost use Rattle.std.specs.Prelude.{◌≡◌, IfOk};
 
 use std::alloc::Global;
-use zq_hat::types::ZidList;
 use zq_key::items::Items;
 use zq_key::memory::OutOfMemory;
 use zq_key::message::Zid;
+use zq_strategy::types::ZidList;
 
 /// The gateways of one node.
 #[derive(Debug, Drop)]

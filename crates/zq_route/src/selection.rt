@@ -6,10 +6,10 @@ ghost use Rattle.zq_route.specs.Selection.{is_complete, may_be_complete, is_kept
 
 use crate::builder::RouteBuilder;
 use std::alloc::Global;
-use zq_hat::types::{OfferList, QueryTargetQabl};
 use zq_key::items::Items;
 use zq_key::memory::OutOfMemory;
 use zq_key::message::QueryTarget;
+use zq_strategy::types::{OfferList, QueryTargetQabl};
 
 fn is_complete(offer: &QueryTargetQabl) -> bool
     ensures { result ≡ is_complete offer.now }

@@ -10,8 +10,8 @@ use Rattle.zq_machine.specs.declared.config.Entry.{Entry}
 use Rattle.zq_machine.specs.declared.config.Counters.{Counters}
 use Rattle.zq_machine.specs.Calls.{is_sent}
 use Rattle.zq_machine.specs.Configs.{Settings, no_counts}
-use Rattle.zq_words.specs.Words.{◌>>=◌}
-use Rattle.zq_words.specs.Fits.{IsBytes}
+use Rattle.zq_io.specs.Words.{◌>>=◌}
+use Rattle.zq_io.specs.Fits.{IsBytes}
 use Rattle.zq_lines.specs.Fits.{FitsCall}
 use Rattle.zq_lines.specs.Lines.{call_of}
 use Rattle.zq_script.specs.Head.{Head, start_of, config_of, start_at, ended, configured, headed, with_start, with_config, head_of}

@@ -1,3 +1,4 @@
+pub mod Loaded
 pub mod Parts
 pub mod Fitting
 pub mod Promised

@@ -6,16 +6,16 @@ use Rattle.std.specs.Str.{bytes_eq}
 use Rattle.zq_machine.specs.declared.call.Call.{Call}
 use Rattle.zq_machine.specs.Machine.{after, step, steps_from}
 use Rattle.zq_machine.specs.State.{State, opening_state}
-use Rattle.zq_words.proofs.Back.{same_bytes}
+use Rattle.zq_io.proofs.Back.{same_bytes}
 use Rattle.zq_script.specs.Head.{Head, head_of}
 use Rattle.zq_lines.specs.Lines.{call_by, other_by}
 use Rattle.zq_script.specs.Printing.{FitsRun, Prints, printed, printed_by, printed_on}
 use Rattle.zq_script.specs.Running.{ReadsBack}
 use Rattle.zq_lines.specs.Split.{lines_of}
 use Rattle.zq_script.specs.Script.{Parts, made, onto, onto_parts, parts_from, script_call, script_of, with_line, with_parts}
-use Rattle.zq_prints.specs.Steps.{step_words, steps_words}
-use Rattle.zq_prints.specs.StepsFit.{FitsStep}
-use Rattle.zq_prints.proofs.StepsBack.{steps_back}
+use Rattle.zq_lines.specs.Steps.{step_words, steps_words}
+use Rattle.zq_lines.specs.StepsFit.{FitsStep}
+use Rattle.zq_lines.proofs.StepsBack.{steps_back}
 
 worker_call : script_call false (codes "worker") ≡ None
 unfolding call_by other_by

@@ -10,8 +10,8 @@ use Rattle.zq_machine.specs.declared.config.Entry.{Entry}
 use Rattle.zq_machine.specs.declared.config.Entry.TheVariants as entry
 use Rattle.zq_machine.specs.declared.config.BadConfig.{BadConfig}
 use Rattle.zq_machine.specs.Configs.{Settings, bad_config, no_counts}
-use Rattle.zq_words.specs.Words.{◌>>=◌, len_to, cut, pieces, number, read_at, read_each, at_end}
-use Rattle.zq_words.specs.Values.{most_32, most_64, zid_of, mode_of, behind, region_of}
+use Rattle.zq_io.specs.Words.{◌>>=◌, len_to, cut, pieces, number, read_at, read_each, at_end}
+use Rattle.zq_io.specs.Values.{most_32, most_64, zid_of, mode_of, behind, region_of}
 
 -- a line and a newline
 abbrev pub ended : List ℕ → List ℕ

@@ -7,8 +7,8 @@ use Rattle.zq_machine.specs.Machine.{steps_from}
 use Rattle.zq_script.specs.declared.script.Script.{Script}
 use Rattle.zq_script.specs.Running.{script_print}
 use Rattle.zq_script.specs.Script.{Parts, with_line}
-use Rattle.zq_prints.specs.Steps.{steps_words}
-use Rattle.zq_prints.specs.StepsFit.{FitsStep}
+use Rattle.zq_lines.specs.Steps.{steps_words}
+use Rattle.zq_lines.specs.StepsFit.{FitsStep}
 
 -- the print of a script, or the number of the first bad line
 abbrev pub printed : Result Script ℕ → Result (List ℕ) ℕ

@@ -5,19 +5,19 @@ use Rattle.std.specs.Fmt.{decimal}
 use Rattle.std.specs.Io.KnownBytes.{Appends}
 use Rattle.zq_machine.specs.declared.call.Call.{Call}
 use Rattle.zq_machine.specs.Machine.{steps}
-use Rattle.zq_streams.specs.declared.transfer.TheConstants.{LIMIT}
-use Rattle.zq_streams.specs.Streams.{AppendsFront}
-use Rattle.zq_words.specs.Words.{◌>>=◌, number}
-use Rattle.zq_load.specs.Load.{load_line}
+use Rattle.zq_io.specs.declared.transfer.TheConstants.{LIMIT}
+use Rattle.zq_io.specs.Streams.{AppendsFront}
+use Rattle.zq_io.specs.Words.{◌>>=◌, number}
+use Rattle.zq_script.specs.Load.{load_line}
 use Rattle.zq_lines.specs.Split.{lines_of}
 use Rattle.zq_script.specs.Script.{script_of}
-use Rattle.zq_prints.specs.Steps.{steps_words}
-use Rattle.zq_prints.specs.StepsRead.{steps_of}
+use Rattle.zq_lines.specs.Steps.{steps_words}
+use Rattle.zq_lines.specs.StepsRead.{steps_of}
 use Rattle.zq_script.specs.declared.script.Script.{Script}
-use Rattle.zq_script.specs.declared.run.Command.{Command}
-use Rattle.zq_script.specs.declared.run.Command.TheVariants as command
-use Rattle.zq_script.specs.declared.run.Status.{Status}
-use Rattle.zq_script.specs.declared.run.Status.TheVariants as status
+use Rattle.zq_script.specs.declared.running.Command.{Command}
+use Rattle.zq_script.specs.declared.running.Command.TheVariants as command
+use Rattle.zq_script.specs.declared.running.Status.{Status}
+use Rattle.zq_script.specs.declared.running.Status.TheVariants as status
 
 -- the number of queries of a load, from 1 to 10000
 unfoldable pub amount_of : List ℕ → Option ℕ

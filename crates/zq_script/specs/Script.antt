@@ -4,9 +4,9 @@ use Rattle.std.specs.List.{AllByRecursion}
 use Rattle.std.specs.Str.{bytes_eq}
 use Rattle.zq_machine.specs.declared.call.Call.{Call}
 use Rattle.zq_machine.specs.Calls.{is_sent}
-use Rattle.zq_words.specs.Words.{◌>>=◌}
-use Rattle.zq_words.specs.declared.stop.Stop.{Stop}
-use Rattle.zq_words.specs.declared.stop.Stop.TheVariants as stop
+use Rattle.zq_io.specs.Words.{◌>>=◌}
+use Rattle.zq_io.specs.declared.stop.Stop.{Stop}
+use Rattle.zq_io.specs.declared.stop.Stop.TheVariants as stop
 use Rattle.zq_lines.specs.Fits.{FitsCall}
 use Rattle.zq_lines.specs.Lines.{call_of}
 use Rattle.zq_script.specs.Head.{Head, head_of}

@@ -2,20 +2,20 @@
 ghost use Rattle.std.specs.Prelude.{◌≡◌, ◌≤◌, ◌+◌, ◌++◌, IfOk, MatchResult, OnOk, Ok, length};
 ghost use Rattle.std.specs.Option.{option_map};
 ghost use Rattle.std.specs.Result.{result_map_both};
-ghost use Rattle.zq_words.specs.Words.{Reads};
+ghost use Rattle.zq_io.specs.Words.{Reads};
 ghost use Rattle.zq_lines.specs.Split.{lines_of};
 ghost use Rattle.zq_script.specs.Script.{Gives, Refuses};
 ghost use Rattle.zq_script.specs.Head.{ended, entry_of, north_of, south_entry, entries_of, counters_of, after_name, start_of, config_of, start_at, configured, head_of};
 
 use crate::refusal::{ScriptRefusal, at_line};
 use std::alloc::Global;
+use zq_io::stop::Stop;
+use zq_io::words::{Word, at_end, cut, is, len_to, read_at, read_each};
 use zq_key::memory::OutOfMemory;
 use zq_key::message::{Mode, Region, Zid};
 use zq_key::text::Bytes;
 use zq_lines::split::next_line;
 use zq_machine::config::{Config, ConfigRefusal, Counters, Entry, EntryList};
-use zq_words::stop::Stop;
-use zq_words::words::{Word, at_end, cut, is, len_to, read_at, read_each};
 
 /// The counters where no line `start` stands.
 const NO_COUNTS: Counters = Counters {

@@ -7,25 +7,25 @@ ghost use Rattle.zq_script.specs.Printing.{FitsRun, Prints, printed, printed_by}
 ghost use Rattle.zq_script.specs.Running.{ReadsBack};
 ghost use Rattle.zq_lines.specs.Split.{lines_of};
 ghost use Rattle.zq_script.specs.Script.{parts_from, script_call, script_of, Gives};
-ghost use Rattle.zq_prints.specs.Steps.{step_words};
-ghost use Rattle.zq_prints.specs.StepsFit.{FitsStep};
+ghost use Rattle.zq_lines.specs.Steps.{step_words};
+ghost use Rattle.zq_lines.specs.StepsFit.{FitsStep};
 
 use crate::head::head_of;
 use crate::refusal::ScriptRefusal;
 use crate::script::script_call;
 use std::alloc::Global;
 use zq_gateway::gateway::Gateway;
+use zq_io::stop::Stop;
 use zq_key::memory::OutOfMemory;
 use zq_key::text::Bytes;
+use zq_lines::fit::step_fits;
 use zq_lines::split::next_line;
+use zq_lines::steps::push_step;
 use zq_machine::call::Call;
 use zq_machine::config::Config;
-use zq_prints::fit::step_fits;
-use zq_prints::steps::push_step;
-use zq_words::stop::Stop;
 
 /// Makes a call, and prints its step.
-#[tactic(auto, using(zq_prints::proofs::Shown::step_shows))]
+#[tactic(auto, using(zq_lines::proofs::Shown::step_shows))]
 fn print_step(gateway: &mut Gateway, print: &mut Vec<u8>, call: &Call) -> Result<(), OutOfMemory>
     ensures print { OnOk result (print.new.items ≡ print.old.items ++ step_words (step gateway.old call.now)) }
     ensures fits { OnOk result (FitsStep (step gateway.old call.now)) }

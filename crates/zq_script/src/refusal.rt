@@ -5,8 +5,8 @@ ghost use Rattle.zq_script.specs.Script.{refusal_at};
 ghost use Rattle.zq_script.specs.declared.refusal.ScriptRefusal.TheVariants as refusal;
 
 use thiserror::Error;
+use zq_io::stop::Stop;
 use zq_key::memory::OutOfMemory;
-use zq_words::stop::Stop;
 
 /// Why bytes were not read as a script: their first bad line, counted from 1, or no memory was
 /// found.

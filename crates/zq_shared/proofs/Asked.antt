@@ -8,8 +8,8 @@ use Rattle.zq_hold.specs.declared.slot.Mark.{Mark}
 use Rattle.zq_hold.specs.declared.slot.Mark.TheVariants.{Spare, Kept, Gone, Vacant}
 use Rattle.zq_hold.specs.Marks.{AllAllotted, IsNext}
 use Rattle.zq_hold.specs.Slots.{times}
-use Rattle.zq_slots.specs.Owners.{IsSlotted, Slotted, owned, owner_at, with_mark, with_owner}
-use Rattle.zq_slots.proofs.Owning.{unowned}
+use Rattle.zq_hold.specs.Owners.{IsSlotted, Slotted, owned, owner_at, with_mark, with_owner}
+use Rattle.zq_hold.proofs.Owning.{unowned}
 use Rattle.zq_query.specs.Records.{is_reply}
 use Rattle.zq_machine.specs.declared.call.Call.{Call}
 use Rattle.zq_machine.specs.declared.call.Call.TheVariants as call
@@ -20,13 +20,13 @@ use Rattle.zq_machine.specs.Configs.{Settings}
 use Rattle.zq_machine.specs.Machine.{state_after, step}
 use Rattle.zq_machine.specs.State.{opening_state}
 use Rattle.zq_machine.specs.Waiting.{hands_reply}
-use Rattle.zq_ties.specs.Stored.{IsOpen, Stored, answer_to, asks_request, in_flight, waiting, with_call}
-use Rattle.zq_ties.specs.Ties.{IsTied, is_used}
-use Rattle.zq_ties.proofs.Flights.{handed_in, promises, quiet}
-use Rattle.zq_ties.proofs.Frames.{request_of}
-use Rattle.zq_ties.proofs.Journals.{answer_is}
-use Rattle.zq_ties.proofs.Moves.{flies_stays, flying_is, next_given, waiting_is}
-use Rattle.zq_ties.proofs.Ties.{back_tied, given_tied, quiet_tied}
+use Rattle.zq_shared.specs.Stored.{IsOpen, Stored, answer_to, asks_request, in_flight, waiting, with_call}
+use Rattle.zq_shared.specs.Ties.{IsTied, is_used}
+use Rattle.zq_shared.proofs.Flights.{handed_in, promises, quiet}
+use Rattle.zq_shared.proofs.Frames.{request_of}
+use Rattle.zq_shared.proofs.Journals.{answer_is}
+use Rattle.zq_shared.proofs.Moves.{flies_stays, flying_is, next_given, waiting_is}
+use Rattle.zq_shared.proofs.Ties.{back_tied, given_tied, quiet_tied}
 use Rattle.zq_shared.specs.Sharing.{HoldsReplies, KeepsFlights}
 
 -- ---- before any call

@@ -5,16 +5,16 @@ use mathlib.Core.Logic.{dite}
 use native.Mathlib.Decide.{ℕ_discrete}
 use Rattle.std.proofs.lemmas.Bool.{false≢true}
 use Rattle.zq_hold.specs.Slots.{stood, times, weight}
-use Rattle.zq_slots.specs.Owners.{Slotted, owned}
+use Rattle.zq_hold.specs.Owners.{Slotted, owned}
 use Rattle.zq_machine.specs.declared.call.Call.{Call}
 use Rattle.zq_machine.specs.declared.call.Call.TheVariants as call
 use Rattle.zq_machine.specs.declared.call.Outcome.TheVariants as outcome
 use Rattle.zq_machine.specs.declared.call.Step.{Step}
 use Rattle.zq_machine.specs.Calls.{is_sent}
 use Rattle.zq_machine.specs.Configs.{Settings}
-use Rattle.zq_ties.specs.Stored.{IsOpen, Stored, answer_to, asks_request, in_flight, waiting, with_call}
-use Rattle.zq_ties.specs.Ties.{IsTied}
-use Rattle.zq_ties.proofs.Moves.{flying_is, open_before, waiting_is}
+use Rattle.zq_shared.specs.Stored.{IsOpen, Stored, answer_to, asks_request, in_flight, waiting, with_call}
+use Rattle.zq_shared.specs.Ties.{IsTied}
+use Rattle.zq_shared.proofs.Moves.{flying_is, open_before, waiting_is}
 use Rattle.zq_shared.specs.Sharing.{AreDue, AreOrderly, IsDue, IsWithin, reports}
 
 -- ---- reports

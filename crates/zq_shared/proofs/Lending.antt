@@ -13,16 +13,16 @@ use Rattle.zq_hold.specs.declared.slot.Mark.TheVariants.{Spare, Kept, Gone, Vaca
 use Rattle.zq_hold.specs.Marks.{HasMark, mark_at}
 use Rattle.zq_hold.specs.Seats.{Ended, Holder}
 use Rattle.zq_hold.specs.Slots.{times}
-use Rattle.zq_slots.specs.Owners.{IsSlotted, MayOwn, Slotted, owner_at}
+use Rattle.zq_hold.specs.Owners.{IsSlotted, MayOwn, Slotted, owner_at}
 use Rattle.zq_machine.specs.declared.call.Call.{Call}
 use Rattle.zq_machine.specs.Handing.{Handed}
 use Rattle.zq_query.specs.Records.{Pending, is_reply}
 use Rattle.zq_machine.specs.Waiting.{ends_entry, hands_reply, is_of}
-use Rattle.zq_ties.specs.Holding.{OwnsKept}
-use Rattle.zq_ties.specs.Stored.{Stored, answer_to, in_flight, is_flying, waiting, with_call}
-use Rattle.zq_ties.specs.Ties.{AreWaiting, IsNearlyTied, IsTied}
-use Rattle.zq_ties.proofs.Moves.{handed_waits, waits_stays}
-use Rattle.zq_ties.proofs.Ties.{mark_is, other_mark, released_nearly}
+use Rattle.zq_shared.specs.Holding.{OwnsKept}
+use Rattle.zq_shared.specs.Stored.{Stored, answer_to, in_flight, is_flying, waiting, with_call}
+use Rattle.zq_shared.specs.Ties.{AreWaiting, IsNearlyTied, IsTied}
+use Rattle.zq_shared.proofs.Moves.{handed_waits, waits_stays}
+use Rattle.zq_shared.proofs.Ties.{mark_is, other_mark, released_nearly}
 use Rattle.zq_shared.specs.Lending.{Lends, LetsGo}
 use Rattle.zq_shared.specs.Sharing.{HasReply, HoldsReplies}
 

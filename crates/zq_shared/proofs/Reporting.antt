@@ -5,7 +5,7 @@ use Rattle.std.proofs.Math.Bool.{or-false}
 use Rattle.std.proofs.lemmas.Bool.{and_parts, false≢true, or_cases}
 use Rattle.zq_query.specs.Records.{Record, flies, has_reply, is_in_flight, is_reply}
 use Rattle.zq_hold.specs.Slots.{stood}
-use Rattle.zq_slots.specs.Owners.{owned}
+use Rattle.zq_hold.specs.Owners.{owned}
 use Rattle.zq_machine.specs.declared.call.Call.{Call}
 use Rattle.zq_machine.specs.declared.call.Call.TheVariants as call
 use Rattle.zq_machine.specs.declared.call.Outcome.TheVariants as outcome
@@ -20,14 +20,14 @@ use Rattle.zq_machine.specs.Machine.{done, refused_step, state_after, step}
 use Rattle.zq_machine.specs.State.{State, opening_state}
 use Rattle.zq_machine.proofs.Children.{after_both}
 use Rattle.zq_machine.proofs.Lists.{count, count_append}
-use Rattle.zq_ties.specs.Stored.{IsOpen, Stored, answer_to, asks_request, flights, in_flight, standing, waiting, with_call}
-use Rattle.zq_ties.specs.Ties.{IsSending}
-use Rattle.zq_ties.proofs.Distinct.{count_some}
-use Rattle.zq_ties.proofs.Flights.{all_have, flies_in, flights_less, none_handed, once, promises}
-use Rattle.zq_ties.proofs.Holding.{has_owner}
-use Rattle.zq_ties.proofs.Journals.{answer_is, standing_is}
-use Rattle.zq_ties.proofs.Moves.{flying_is, next_grows, open_before, waits_stays, waits_still}
-use Rattle.zq_ties.proofs.Ties.{requests_more, zero_if}
+use Rattle.zq_shared.specs.Stored.{IsOpen, Stored, answer_to, asks_request, flights, in_flight, standing, waiting, with_call}
+use Rattle.zq_shared.specs.Ties.{IsSending}
+use Rattle.zq_shared.proofs.Distinct.{count_some}
+use Rattle.zq_shared.proofs.Flights.{all_have, flies_in, flights_less, none_handed, once, promises}
+use Rattle.zq_shared.proofs.Holding.{has_owner}
+use Rattle.zq_shared.proofs.Journals.{answer_is, standing_is}
+use Rattle.zq_shared.proofs.Moves.{flying_is, next_grows, open_before, waits_stays, waits_still}
+use Rattle.zq_shared.proofs.Ties.{requests_more, zero_if}
 use Rattle.zq_shared.specs.Keeping.{KeepsTies}
 
 -- ---- a reply is in flight of one request at most

@@ -15,19 +15,19 @@ use Rattle.zq_hold.specs.declared.slot.Mark.TheVariants.{Kept, Gone, Vacant}
 use Rattle.zq_hold.specs.Marks.{HasMark, mark_at}
 use Rattle.zq_hold.specs.Slots.{stood, times, weight, without}
 use Rattle.zq_hold.proofs.Totals.{times_without_other, times_without_same}
-use Rattle.zq_slots.specs.Owners.{IsSlotted, Slotted, owned, owner_at}
-use Rattle.zq_slots.proofs.Owning.{owned_set}
+use Rattle.zq_hold.specs.Owners.{IsSlotted, Slotted, owned, owner_at}
+use Rattle.zq_hold.proofs.Owning.{owned_set}
 use Rattle.zq_query.specs.Records.{is_reply}
 use Rattle.zq_machine.specs.declared.call.Call.{Call}
 use Rattle.zq_machine.specs.declared.call.Call.TheVariants as call
 use Rattle.zq_machine.specs.Handing.{Handed}
 use Rattle.zq_machine.specs.Machine.{done}
 use Rattle.zq_machine.proofs.Lists.{sorted_more}
-use Rattle.zq_ties.specs.Stored.{IsOpen, Stored, answer_to, in_flight, waiting, with_call}
-use Rattle.zq_ties.specs.Ties.{AreWaiting, IsNearlyTied, IsTied, is_used}
-use Rattle.zq_ties.proofs.Holding.{has_owner}
-use Rattle.zq_ties.proofs.Moves.{waits_still}
-use Rattle.zq_ties.proofs.Ties.{counted_set, mark_is, other_mark, zero_if}
+use Rattle.zq_shared.specs.Stored.{IsOpen, Stored, answer_to, in_flight, waiting, with_call}
+use Rattle.zq_shared.specs.Ties.{AreWaiting, IsNearlyTied, IsTied, is_used}
+use Rattle.zq_shared.proofs.Holding.{has_owner}
+use Rattle.zq_shared.proofs.Moves.{waits_still}
+use Rattle.zq_shared.proofs.Ties.{counted_set, mark_is, other_mark, zero_if}
 use Rattle.zq_shared.specs.Keeping.{KeepsOthers, KeepsTies, Reported}
 use Rattle.zq_shared.specs.Sharing.{AreDue, KeepsFlights, Reports, reports, slot_vacated, with_reports}
 use Rattle.zq_shared.proofs.Reporting.{landed, other_stays, report_keeps}

@@ -5,8 +5,8 @@ use Rattle.zq_machine.specs.Asked.{replies_of}
 use Rattle.zq_machine.specs.Configs.{Settings}
 use Rattle.zq_machine.specs.Machine.{after, state_after, step}
 use Rattle.zq_machine.specs.State.{State, opening_state}
-use Rattle.zq_ties.specs.Stored.{IsStored, flights}
-use Rattle.zq_ties.proofs.Journals.{stored_more}
+use Rattle.zq_shared.specs.Stored.{IsStored, flights}
+use Rattle.zq_shared.proofs.Journals.{stored_more}
 
 module _ (config : Settings) (gateway : State) (calls : List Call) (flying stored capacity : ℕ) (is : IsStored config gateway calls flying stored capacity) where
   -- the same, with more room

@@ -3,11 +3,11 @@ use Rattle.std.specs.Prelude.{◌≡◌, ◌≢◌, ℕ, ◌<◌, true, ◌||◌
 use Rattle.std.specs.List.{list_any}
 use Rattle.std.specs.List.Sorted.{IsStrictlySortedBy}
 use Rattle.std.specs.Ordering.{nat_cmp}
-use Rattle.zq_slots.specs.Owners.{Slotted, owned}
+use Rattle.zq_hold.specs.Owners.{Slotted, owned}
 use Rattle.zq_query.specs.Records.{is_reply}
 use Rattle.zq_machine.specs.Handing.{Handed}
-use Rattle.zq_ties.specs.Stored.{Stored, in_flight, waiting}
-use Rattle.zq_ties.specs.Ties.{AreWaiting, IsNearlyTied}
+use Rattle.zq_shared.specs.Stored.{Stored, in_flight, waiting}
+use Rattle.zq_shared.specs.Ties.{AreWaiting, IsNearlyTied}
 use Rattle.zq_shared.specs.Sharing.{AreDue, EndsIn, reports, with_reports}
 
 -- slots that were tied but for the request, which owns none, still are

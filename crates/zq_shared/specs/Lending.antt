@@ -4,10 +4,10 @@ use Rattle.zq_hold.specs.declared.slot.Mark.TheVariants.{Kept}
 use Rattle.zq_hold.specs.Marks.{HasMark}
 use Rattle.zq_hold.specs.Seats.{Ended, Holder}
 use Rattle.zq_hold.specs.Slots.{times}
-use Rattle.zq_slots.specs.Owners.{Slotted, owner_at}
+use Rattle.zq_hold.specs.Owners.{Slotted, owner_at}
 use Rattle.zq_machine.specs.Handing.{Handed}
-use Rattle.zq_ties.specs.Stored.{Stored, waiting}
-use Rattle.zq_ties.specs.Ties.{IsNearlyTied}
+use Rattle.zq_shared.specs.Stored.{Stored, waiting}
+use Rattle.zq_shared.specs.Ties.{IsNearlyTied}
 use Rattle.zq_shared.specs.Sharing.{HasReply}
 
 -- the seat came to hold the slots of the requests of the replies among these messages, each once, and no others; nothing else of the slots changed but what is lent

@@ -1,3 +1,13 @@
+pub mod Links
+pub mod Holding
+pub mod Stored
+pub mod Ties
 pub mod Keeping
 pub mod Lending
 pub mod Sharing
+pub mod Homes
+pub mod Tallies
+pub mod Answers
+pub mod Locking
+pub mod Sending
+pub mod Refusals

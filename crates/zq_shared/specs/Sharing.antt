@@ -7,15 +7,15 @@ use Rattle.atomic_table.specs.Seated.{TableId}
 use Rattle.zq_hold.specs.declared.slot.Mark.TheVariants.{Spare, Vacant}
 use Rattle.zq_hold.specs.Marks.{AllAllotted, IsNext}
 use Rattle.zq_hold.specs.Slots.{times, without}
-use Rattle.zq_slots.specs.Owners.{Slotted, owner_at, with_mark}
+use Rattle.zq_hold.specs.Owners.{Slotted, owner_at, with_mark}
 use Rattle.zq_query.specs.Records.{is_reply}
 use Rattle.zq_machine.specs.declared.call.Call.{Call}
 use Rattle.zq_machine.specs.declared.call.Call.TheVariants as call
 use Rattle.zq_machine.specs.Handing.{Handed}
 use Rattle.zq_machine.specs.Machine.{done}
 use Rattle.zq_machine.specs.Waiting.{hands_reply}
-use Rattle.zq_ties.specs.Stored.{IsOpen, Stored, answer_to, asks_request, in_flight, requests_in, waiting, with_call}
-use Rattle.zq_ties.specs.Ties.{Sharing}
+use Rattle.zq_shared.specs.Stored.{IsOpen, Stored, answer_to, asks_request, in_flight, requests_in, waiting, with_call}
+use Rattle.zq_shared.specs.Ties.{Sharing}
 use Rattle.zq_shared.specs.declared.shared.StepRefusal.{StepRefusal}
 use Rattle.zq_shared.specs.declared.shared.StepRefusal.TheVariants as refusal
 

@@ -3,18 +3,18 @@ ghost use Rattle.std.specs.Prelude.{◌≡◌, ℕ, ◌<◌, [], true, None, Som
 ghost use Rattle.zq_hold.specs.declared.slot.Mark.TheVariants.{Kept, Spare};
 ghost use Rattle.zq_hold.specs.Marks.{HasMark};
 ghost use Rattle.zq_hold.specs.Slots.{times};
-ghost use Rattle.zq_slots.specs.Owners.{owned, owner_at, with_mark, with_owner};
+ghost use Rattle.zq_hold.specs.Owners.{owned, owner_at, with_mark, with_owner};
 ghost use Rattle.zq_machine.specs.declared.call.Outcome.TheVariants.{Asked};
-ghost use Rattle.zq_ties.specs.Stored.{answer_to, asks_request, waiting, with_call};
-ghost use Rattle.zq_ties.specs.Ties.{IsTied};
+ghost use Rattle.zq_shared.specs.Stored.{answer_to, asks_request, waiting, with_call};
+ghost use Rattle.zq_shared.specs.Ties.{IsTied};
 ghost use Rattle.zq_shared.specs.Sharing.{IsFull, IsSameHolds, KeepsFlights, Refuses};
 
+use crate::LastList;
 use crate::journal::Journal;
 use crate::shared::{StepRefusal, Stepped};
 use std::alloc::Global;
+use zq_hold::{Slot, Slots};
 use zq_machine::call::{Call, Outcome};
-use zq_slots::{Slot, Slots};
-use zq_ties::LastList;
 
 /// The number of the request that waits for something, if the outcome asks one.
 fn number_of(journal: &Journal, outcome: Outcome) -> Option<u64>

@@ -2,10 +2,10 @@
 ghost use Rattle.std.specs.Prelude.{◌≡◌, ◌+◌, ◌<◌, ◌≤◌, ◌^◌, [], length, vec_capacity, vec_len, true, if◌then◌else◌, false, ℕ, IfNone, IfOk, IfSome, OnErr, OnOk};
 ghost use Rattle.std.specs.List.{cons_option, count_by};
 ghost use Rattle.zq_machine.specs.declared.call.Call.TheVariants as call;
-ghost use Rattle.zq_calls.specs.Making.{Performs};
+ghost use Rattle.zq_gateway.specs.Making.{Performs};
 ghost use Rattle.zq_machine.specs.Asked.{replies_of};
 ghost use Rattle.zq_machine.specs.Machine.{done, step};
-ghost use Rattle.zq_ties.specs.Stored.{answer_to, in_flight, is_flying, waiting, with_call};
+ghost use Rattle.zq_shared.specs.Stored.{answer_to, in_flight, is_flying, waiting, with_call};
 
 use std::alloc::Global;
 use std::marker::Model;
@@ -37,7 +37,7 @@ impl Drop for Journal {
 
 impl Model for Journal {
     ghost use Rattle.std.specs.Prelude.{vec_capacity, vec_len};
-    ghost use Rattle.zq_ties.specs.Stored.{IsStored, Stored};
+    ghost use Rattle.zq_shared.specs.Stored.{IsStored, Stored};
 
     ghost Value = { Stored };
 
@@ -65,7 +65,7 @@ fn is_flying(message: &Handed) -> bool
 }
 
 /// How many of the messages are replies.
-#[tactic(auto, using(zq_ties::proofs::Journals::counted_more, zq_ties::proofs::Journals::few_counted))]
+#[tactic(auto, using(crate::proofs::Journals::counted_more, crate::proofs::Journals::few_counted))]
 fn count_replies(handed: &[Handed]) -> usize
     ensures { result ≡ count_by is_flying handed.now }
 {

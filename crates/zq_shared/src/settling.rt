@@ -1,6 +1,6 @@
 //! The replies of a request are reported.
 ghost use Rattle.std.specs.Prelude.{◌≡◌, ℕ, List, false};
-ghost use Rattle.zq_ties.specs.Stored.{in_flight, waiting};
+ghost use Rattle.zq_shared.specs.Stored.{in_flight, waiting};
 ghost use Rattle.zq_shared.specs.Keeping.{KeepsOthers, KeepsTies};
 ghost use Rattle.zq_shared.specs.Sharing.{Reports};
 

@@ -2,24 +2,24 @@
 ghost use Rattle.std.specs.Prelude.{◌≡◌, ◌<◌, ◌≤◌, [], length, All, false, None, Some, IfErr, IfOk, OnErr, OnOk};
 ghost use Rattle.zq_hold.specs.declared.slot.Mark.TheVariants.{Gone};
 ghost use Rattle.zq_hold.specs.Marks.{HasMark};
-ghost use Rattle.zq_slots.specs.Owners.{owner_at};
+ghost use Rattle.zq_hold.specs.Owners.{owner_at};
 ghost use Rattle.zq_machine.specs.Calls.{is_sent};
-ghost use Rattle.zq_ties.specs.Holding.{AreHeld};
-ghost use Rattle.zq_ties.specs.Stored.{answer_to, asks_request, with_call};
+ghost use Rattle.zq_shared.specs.Holding.{AreHeld};
+ghost use Rattle.zq_shared.specs.Stored.{answer_to, asks_request, with_call};
 ghost use Rattle.zq_shared.specs.Sharing.{HoldsReplies, IsFull, IsSameHolds, IsWithin, KeepsFlights, Refuses, Settles, all_spare, slot_vacated};
 
+use crate::LastList;
 use crate::asking::ask;
 use crate::journal::Journal;
 use crate::settling::report_all;
 use crate::telling::tell;
 use std::alloc::Global;
 use std::marker::Model;
+use zq_hold::{HoldSeat, Last, NoSlot, SeatList, Slot, Slots};
 use zq_key::memory::OutOfMemory;
 use zq_machine::call::{Call, Step};
 use zq_machine::config::Config;
 use zq_machine::handed::Handed;
-use zq_slots::{HoldSeat, Last, NoSlot, SeatList, Slot, Slots};
-use zq_ties::LastList;
 
 /// A gateway beside the calls that were made on it, and the slots of its requests.
 pub struct Shared {
@@ -39,7 +39,7 @@ impl Drop for Shared {
 }
 
 impl Model for Shared {
-    ghost use Rattle.zq_ties.specs.Ties.{IsTied, Sharing};
+    ghost use Rattle.zq_shared.specs.Ties.{IsTied, Sharing};
 
     ghost Value = { Sharing };
 

@@ -1,24 +1,24 @@
 //! A call that asks no request: what it puts in flight is held, and what waits for nothing any more is released.
 ghost use Rattle.std.specs.Prelude.{◌≡◌, ℕ, ◌<◌, ◌≤◌, ◌+◌, ◌∷◌, [], All, false, true, if◌then◌else◌, length, vec_capacity, vec_len, None, IfNone, IfOk, IfSome, OnErr, OnOk};
 ghost use Rattle.std.specs.List.{count_by, list_any};
-ghost use Rattle.zq_slots.specs.Owners.{Slotted};
+ghost use Rattle.zq_hold.specs.Owners.{Slotted};
 ghost use Rattle.zq_query.specs.Records.{Pending};
 ghost use Rattle.zq_machine.specs.Calls.{is_sent};
 ghost use Rattle.zq_machine.specs.Waiting.{ends_entry, hands_reply};
-ghost use Rattle.zq_ties.specs.Holding.{AreHeld, OwnsKept};
-ghost use Rattle.zq_ties.specs.Stored.{answer_to, asks_request, is_flying, with_call};
-ghost use Rattle.zq_ties.specs.Ties.{AreWaiting, IsNearlyTied, IsTied};
+ghost use Rattle.zq_shared.specs.Holding.{AreHeld, OwnsKept};
+ghost use Rattle.zq_shared.specs.Stored.{answer_to, asks_request, is_flying, with_call};
+ghost use Rattle.zq_shared.specs.Ties.{AreWaiting, IsNearlyTied, IsTied};
 ghost use Rattle.zq_shared.specs.Sharing.{HoldsReplies, IsSameHolds, KeepsFlights};
 ghost use Rattle.zq_shared.specs.Lending.{Lends, LetsGo};
 
 use crate::journal::Journal;
 use crate::shared::Stepped;
+use crate::{LastList, hold_for};
 use std::alloc::Global;
+use zq_hold::{HoldSeat, Slot, Slots};
 use zq_key::memory::OutOfMemory;
 use zq_machine::call::Call;
 use zq_machine::handed::Handed;
-use zq_slots::{HoldSeat, Slot, Slots};
-use zq_ties::{LastList, hold_for};
 
 /// Whether the call may end entries that are pending.
 fn may_end(call: &Call) -> bool

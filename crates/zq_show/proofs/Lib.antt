@@ -1,0 +1,5 @@
+pub mod Escaped
+pub mod Numbers
+pub mod Ended
+pub mod Offered
+pub mod Replayed

@@ -8,7 +8,7 @@ use Rattle.zq_machine.specs.declared.call.Outcome.TheVariants as outcome
 use Rattle.zq_machine.specs.declared.call.Refusal.{Refusal}
 use Rattle.zq_machine.specs.declared.call.Refusal.TheVariants as refusal
 use Rattle.zq_machine.specs.Handing.{Handed}
-use Rattle.zq_prints.specs.Steps.{message_words}
+use Rattle.zq_lines.specs.Steps.{message_words}
 
 -- the name of a refusal, and what it means
 abbrev pub cause_words : Refusal → List ℕ

@@ -1,4 +1,14 @@
+pub mod Escape
+pub mod Numbered
+pub mod PageRows
+pub mod Choice
+pub mod Picture
+pub mod Page
+pub mod Plain
 pub mod Answer
 pub mod Notes
 pub mod Rows
 pub mod Showing
+pub mod Replay
+pub mod Shown
+pub mod Words

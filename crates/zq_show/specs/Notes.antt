@@ -9,8 +9,8 @@ use Rattle.zq_message.specs.declared.message.QueryTarget.TheVariants as target
 use Rattle.zq_machine.specs.declared.call.Call.{Call}
 use Rattle.zq_machine.specs.declared.call.Call.TheVariants as call
 use Rattle.zq_machine.specs.Handing.{Handed}
-use Rattle.zq_words.specs.Words.{field}
-use Rattle.zq_words.specs.Values.{face_word}
+use Rattle.zq_io.specs.Words.{field}
+use Rattle.zq_io.specs.Values.{face_word}
 use Rattle.zq_show.specs.declared.entry.Entry.{Entry}
 use Rattle.zq_show.specs.declared.entry.Offers.{Offers}
 

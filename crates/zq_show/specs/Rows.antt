@@ -11,12 +11,12 @@ use Rattle.zq_machine.specs.declared.call.Outcome.TheVariants as outcome
 use Rattle.zq_machine.specs.declared.call.Step.{Step}
 use Rattle.zq_machine.specs.Handing.{Handed}
 use Rattle.zq_lines.specs.CallLines.{call_words}
-use Rattle.zq_prints.specs.Steps.{message_words}
-use Rattle.zq_page.specs.declared.row.Event.{Event}
-use Rattle.zq_page.specs.declared.row.Event.TheVariants as event
-use Rattle.zq_page.specs.declared.row.Kind.{Kind}
-use Rattle.zq_page.specs.declared.row.Kind.TheVariants as kind
-use Rattle.zq_page.specs.declared.row.Row.{Row}
+use Rattle.zq_lines.specs.Steps.{message_words}
+use Rattle.zq_show.specs.declared.row.Event.{Event}
+use Rattle.zq_show.specs.declared.row.Event.TheVariants as event
+use Rattle.zq_show.specs.declared.row.Kind.{Kind}
+use Rattle.zq_show.specs.declared.row.Kind.TheVariants as kind
+use Rattle.zq_show.specs.declared.row.Row.{Row}
 use Rattle.zq_show.specs.declared.entry.Entry.{Entry}
 use Rattle.zq_show.specs.Answer.{is_refused, number_tag, tag_words}
 

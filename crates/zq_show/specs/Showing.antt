@@ -6,10 +6,10 @@ use Rattle.zq_machine.specs.declared.call.Outcome.{Outcome}
 use Rattle.zq_machine.specs.declared.call.Outcome.TheVariants as outcome
 use Rattle.zq_machine.specs.Handing.{Handed}
 use Rattle.zq_lines.specs.CallLines.{call_words}
-use Rattle.zq_page.specs.declared.page.Line.{Line}
-use Rattle.zq_page.specs.declared.page.Shown.{Shown}
-use Rattle.zq_page.specs.declared.row.Row.{Row}
-use Rattle.zq_page.specs.Choice.{chosen}
+use Rattle.zq_show.specs.declared.page.Line.{Line}
+use Rattle.zq_show.specs.declared.page.Shown.{Shown}
+use Rattle.zq_show.specs.declared.row.Row.{Row}
+use Rattle.zq_show.specs.Choice.{chosen}
 use Rattle.zq_show.specs.declared.entry.Entry.{Entry}
 use Rattle.zq_show.specs.declared.show.Run.{Run}
 use Rattle.zq_show.specs.declared.show.TheConstants.{DRAWN}

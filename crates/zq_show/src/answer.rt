@@ -4,13 +4,13 @@ ghost use Rattle.zq_show.specs.Answer.{answer_words, cause_words, gone_words, ha
 ghost use Rattle.std.specs.Option.{option_copied};
 
 use std::alloc::{AllocError, Global};
+use zq_io::words::{push_number, push_text};
 use zq_key::memory::OutOfMemory;
 use zq_key::message::Message;
 use zq_key::text::Bytes;
+use zq_lines::steps::print_message;
 use zq_machine::call::{Outcome, Refusal};
 use zq_machine::handed::Handed;
-use zq_prints::steps::print_message;
-use zq_words::words::{push_number, push_text};
 
 /// The name of a refusal, and what it means.
 pub fn cause(refusal: Refusal) -> &'static str

@@ -1,15 +1,32 @@
-//! What is shown of a run: each call with its answer and its messages, why a request went where it
-//! went, and the rows of its picture.
+//! The command `zq show`: the run of a script as a page with a picture, or as text.
 //!
+//! - `escape`: bytes as text in which no markup and no control byte is left.
+//! - `row`: the rows of a picture, and which of them ends what another began.
+//! - `choice`: which rows concern a request, and the faces that rows name.
+//! - `picture`: the picture of rows.
+//! - `page`: the page: the head, the picture, and the lines with their answers.
+//! - `plain`: the same lines as text for a terminal.
 //! - `entry`: a call of a run with what it gave.
 //! - `answer`: what a call was answered, as a text.
 //! - `notes`: which offers stood for a request, and whom its mode asked.
 //! - `rows`: the rows of a picture.
 //! - `show`: the page and the text of a run.
+//! - `replay`: reads a script line by line, and keeps what each call gave.
+//! - `words`: what the words of the command ask for.
+//! - `shown`: reads a script from a source, and gives the page or the text of its run to a sink.
 #![tactic(auto)]
 
 pub mod answer;
+pub mod choice;
 pub mod entry;
+pub mod escape;
 pub mod notes;
+pub mod page;
+pub mod picture;
+pub mod plain;
+pub mod replay;
+pub mod row;
 pub mod rows;
 pub mod show;
+pub mod shown;
+pub mod words;

@@ -4,14 +4,14 @@ ghost use Rattle.zq_show.specs.Notes.{asked_note, asked_words, faces_words, is_a
 
 use crate::entry::{Entry, FaceList, Offers};
 use std::alloc::{AllocError, Global};
+use zq_io::show::push_field;
+use zq_io::words::push_text;
 use zq_key::items::Items;
 use zq_key::memory::OutOfMemory;
 use zq_key::message::{FaceId, Message, QueryTarget};
 use zq_key::text::Bytes;
 use zq_machine::call::Call;
 use zq_machine::handed::Handed;
-use zq_words::show::push_field;
-use zq_words::words::push_text;
 
 /// Whether the message is a request.
 fn is_request(handed: &Handed) -> bool

@@ -4,19 +4,19 @@ ghost use Rattle.std.specs.Option.{option_copied};
 ghost use Rattle.zq_show.specs.Rows.{call_event, call_face, call_kind, call_label, call_row, handed_event, handed_label, handed_row, handed_rows, kind_of, leaves_tag, opened, pending_from, request_of, rows_of, until, all_rows};
 
 use crate::answer::{is_refused, push_number_tag, push_tag};
+use crate::choice::RowList;
 use crate::entry::Entry;
+use crate::row::{Event, Kind, Row};
 use std::alloc::{AllocError, Global};
+use zq_io::words::push_text;
 use zq_key::items::Items;
 use zq_key::memory::OutOfMemory;
 use zq_key::message::Message;
 use zq_key::text::Bytes;
 use zq_lines::calls::print_call;
+use zq_lines::steps::print_message;
 use zq_machine::call::{Call, Outcome, Step};
 use zq_machine::handed::Handed;
-use zq_page::choice::RowList;
-use zq_page::row::{Event, Kind, Row};
-use zq_prints::steps::print_message;
-use zq_words::words::push_text;
 
 /// The stroke of a call.
 fn call_kind(call: &Call) -> Kind

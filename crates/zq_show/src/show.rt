@@ -1,24 +1,24 @@
 //! The page and the text of a run.
 ghost use Rattle.std.specs.Prelude.{◌≡◌, ◌++◌, IfOk, OnOk, None, take};
-ghost use Rattle.zq_page.specs.Page.{page_words};
-ghost use Rattle.zq_page.specs.Plain.{plain_words};
+ghost use Rattle.zq_show.specs.Page.{page_words};
+ghost use Rattle.zq_show.specs.Plain.{plain_words};
 ghost use Rattle.zq_show.specs.Showing.{face_lines, face_text, face_texts, handed_texts, line_of, lines_of, rows_shown, scope_words, shown_of};
 
 use crate::answer::{answer, handed_text, is_refused};
+use crate::choice::{RowList, chosen};
 use crate::entry::Entry;
 use crate::notes::notes_of;
+use crate::page::{BadLine, BytesList, Line, LineList, Shown, page};
+use crate::plain::plain;
 use crate::rows::all_rows;
 use std::alloc::Global;
+use zq_io::words::{push_number, push_text};
 use zq_key::items::Items;
 use zq_key::memory::OutOfMemory;
 use zq_key::text::Bytes;
 use zq_lines::calls::print_call;
 use zq_machine::call::Outcome;
 use zq_machine::handed::Handed;
-use zq_page::choice::{RowList, chosen};
-use zq_page::page::{BadLine, BytesList, Line, LineList, Shown, page};
-use zq_page::plain::plain;
-use zq_words::words::{push_number, push_text};
 
 /// How many calls a picture has where it is of no request.
 pub const DRAWN: usize = 100;

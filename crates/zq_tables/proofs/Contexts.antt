@@ -18,7 +18,7 @@ use Rattle.zq_names.proofs.Idling.{entry_there}
 use Rattle.zq_names.proofs.Adding.{Contains-map}
 use Rattle.zq_names.proofs.ClosingLemmas.{later_place, root_text}
 use Rattle.zq_names.proofs.KeepingLemmas.{entry_at-place, once_from}
-use Rattle.zq_ids.specs.FaceTexts.{id_texts}
+use Rattle.zq_tables.specs.FaceTexts.{id_texts}
 use Rattle.zq_tables.specs.Naming.{face_texts, all_texts, has_context}
 use Rattle.zq_tables.specs.Holding.{FaceHolds, Faces, IsHeld, hold_of, side_holds, face_holds, holds_by, keys_of_face, texts_by}
 use Rattle.zq_tables.proofs.Holds.{hold_itself}

@@ -7,8 +7,8 @@ use Rattle.std.specs.Ordering.{nat_cmp}
 use Rattle.std.proofs.lemmas.Option.{same_Some}
 use Rattle.zq_names.specs.Names.{NameEntry, entry_at, with_hold, change_at}
 use Rattle.zq_names.specs.Keeping.{ChangesAt}
-use Rattle.zq_ids.specs.FaceIds.{FaceIds, of_id, with_id}
-use Rattle.zq_ids.specs.FaceTexts.{id_texts, texts_of, full_of}
+use Rattle.zq_tables.specs.FaceIds.{FaceIds, of_id, with_id}
+use Rattle.zq_tables.specs.FaceTexts.{id_texts, texts_of, full_of}
 use Rattle.zq_tables.specs.Naming.{FaceNaming, face_naming, text_at, with_name, with_theirs, change_naming}
 use Rattle.zq_tables.specs.Holding.{FaceHolds, Faces, IsHeld, Numbers, Declares, ids_at, is_settled, settled_at, keys_of_face, texts_by, with_node, TakesHold}
 use Rattle.zq_tables.specs.declared.holder.Holder.TheVariants.{Number}
@@ -17,8 +17,8 @@ use Rattle.zq_tables.proofs.Holds.{face_at}
 use Rattle.zq_tables.proofs.Faces.{face_there, change_idle, shown_text}
 use Rattle.zq_message.specs.declared.message.WireExpr.{WireExpr}
 use Rattle.zq_message.specs.declared.message.Mapping.TheVariants.{Sender}
-use Rattle.zq_ids.specs.Registering.{Maps, Registers}
-use Rattle.zq_ids.proofs.IdLemmas.{of_id-with_id}
+use Rattle.zq_tables.specs.Registering.{Maps, Registers}
+use Rattle.zq_tables.proofs.IdLemmas.{of_id-with_id}
 use Rattle.zq_tables.proofs.Made.{fresh_made}
 use Rattle.zq_tables.proofs.Letting.{made_room, takes, room_held, taken, taken_texts}
 use Rattle.zq_tables.proofs.Putting.{id_held, id_held_texts}

@@ -16,13 +16,13 @@ use Rattle.std.proofs.lemmas.Map.Steps.{set_value_same}
 use Rattle.std.proofs.lemmas.Map.Views.{All-values-insert_entry, All-map-remove_entry}
 use Rattle.zq_message.specs.declared.message.Mapping.TheVariants.{Sender, Receiver}
 use Rattle.zq_names.specs.Names.{NameEntry, entry_at, texts}
-use Rattle.zq_ids.specs.FaceIds.{of_id, without_id}
-use Rattle.zq_ids.specs.FaceTexts.{id_texts}
+use Rattle.zq_tables.specs.FaceIds.{of_id, without_id}
+use Rattle.zq_tables.specs.FaceTexts.{id_texts}
 use Rattle.zq_tables.specs.Naming.{FaceKeys, NamingState, Names, no_keys, naming_at, face_keys, put_naming, change_naming}
 use Rattle.zq_tables.specs.Holding.{FaceHolds, Faces, IsFace, IsHeld, Rises, face_holds, held_ids, held_keys, holds_by, ids_at, ids_in, least, limit, node_at, keys_of_face, texts_by, with_keys, without_key}
 use Rattle.zq_tables.specs.declared.holder.Holder.{Holder}
 use Rattle.zq_tables.specs.declared.holder.Holder.TheVariants.{Number, Queryable, Interest}
-use Rattle.zq_ids.proofs.IdLemmas.{removed_absent}
+use Rattle.zq_tables.proofs.IdLemmas.{removed_absent}
 use Rattle.zq_tables.proofs.Entries.{weigh-with_id, weigh-removed, removed_set, set_twice, lookup_set, insert_there, shown-with_id, shown-removed}
 use Rattle.zq_tables.proofs.Lean.{root_lean}
 use Rattle.zq_tables.proofs.Faces.{naming_at-texts, keys_there, ids_texts, change_idle, shown_text}

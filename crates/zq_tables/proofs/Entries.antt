@@ -12,7 +12,7 @@ use Rattle.std.proofs.lemmas.Map.{lookup-none}
 use Rattle.std.proofs.lemmas.Map.Entries.{none_below_head}
 use Rattle.std.proofs.lemmas.Map.Keys.{sorted_tail}
 use Rattle.std.proofs.lemmas.Option.{none-some, same_Some}
-use Rattle.zq_ids.specs.FaceIds.{of_id, with_id, without_id}
+use Rattle.zq_tables.specs.FaceIds.{of_id, with_id, without_id}
 use Rattle.zq_tables.specs.Holding.{Rises, weigh}
 
 -- ---- numbers that rise

@@ -11,8 +11,8 @@ use Rattle.std.proofs.lemmas.Map.Made.{lookup-map_values}
 use Rattle.std.proofs.lemmas.Map.Steps.{set_value_same}
 use Rattle.zq_names.specs.Names.{NameEntry, ids, entry_at}
 use Rattle.zq_names.specs.Keeping.{ChangesAt}
-use Rattle.zq_ids.specs.FaceIds.{of_id}
-use Rattle.zq_ids.specs.FaceTexts.{id_texts, texts_of}
+use Rattle.zq_tables.specs.FaceIds.{of_id}
+use Rattle.zq_tables.specs.FaceTexts.{id_texts, texts_of}
 use Rattle.zq_tables.specs.Naming.{FaceKeys, no_keys, no_names, naming_at, face_keys, face_naming, text_at, put_naming, change_naming}
 use Rattle.zq_tables.specs.Holding.{FaceHolds, Faces, IsHeld, hold_of, held_ids, held_keys, ids_at, ids_in, keys_of_face, node_at, texts_by}
 use Rattle.zq_tables.specs.declared.holder.Holder.{Holder}

@@ -2,7 +2,7 @@
 use Rattle.std.proofs.Common.{◌≡◌, ℕ, ◌+◌, ◌≤◌, List, [], refl, arith}
 use Rattle.zq_message.specs.declared.message.Mapping.TheVariants.{Sender, Receiver}
 use Rattle.zq_names.specs.Names.{NameEntry}
-use Rattle.zq_ids.specs.FaceTexts.{id_texts}
+use Rattle.zq_tables.specs.FaceTexts.{id_texts}
 use Rattle.zq_tables.specs.Naming.{FaceKeys, Names, no_keys}
 use Rattle.zq_tables.specs.Holding.{FaceHolds, IsFace, Rises, side_holds, face_holds, held_ids, held_keys, keys_of_face, least, limit, with_ids, with_keys}
 use Rattle.zq_tables.specs.declared.holder.Holder.{Holder}

@@ -8,8 +8,8 @@ use Rattle.std.proofs.lemmas.Bool.Decides.{nat_tests}
 use Rattle.std.proofs.lemmas.Option.{none-some, same_Some}
 use Rattle.std.proofs.lemmas.List.Elements.{All-head, All-tail, All-cons, All-nil}
 use Rattle.zq_names.specs.Names.{NameEntry, ids, entry_at}
-use Rattle.zq_ids.specs.FaceIds.{AreLiveIds, AreLive}
-use Rattle.zq_ids.specs.FaceTexts.{id_texts}
+use Rattle.zq_tables.specs.FaceIds.{AreLiveIds, AreLive}
+use Rattle.zq_tables.specs.FaceTexts.{id_texts}
 use Rattle.zq_message.specs.declared.message.Mapping.TheVariants.{Sender, Receiver}
 use Rattle.zq_tables.specs.Naming.{FaceKeys}
 use Rattle.zq_tables.specs.declared.holder.Holder.TheVariants.{Number, Queryable, Interest}

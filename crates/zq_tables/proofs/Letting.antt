@@ -9,8 +9,8 @@ use Rattle.std.proofs.lemmas.Map.Views.{All-values-set_value}
 use Rattle.zq_names.specs.Names.{NameEntry, ids, entry_at, with_hold, without_hold, change_at}
 use Rattle.zq_names.specs.Idle.{IdleAt, NoneIdle}
 use Rattle.zq_names.specs.Keeping.{AllStay, NoneCome, ChangesAt}
-use Rattle.zq_ids.specs.FaceIds.{without_id}
-use Rattle.zq_ids.specs.FaceTexts.{id_texts}
+use Rattle.zq_tables.specs.FaceIds.{without_id}
+use Rattle.zq_tables.specs.FaceTexts.{id_texts}
 use Rattle.zq_tables.specs.Naming.{Names, change_naming}
 use Rattle.zq_tables.specs.Holding.{FaceHolds, Faces, InHand, IsFace, IsHeld, LetsGo, TakesHold, hold_of, face_holds, held_ids, held_keys, holds_by, ids_at, least, limit, node_at, put_ids, change_ids, keys_of_face, texts_by, with_keys, without_key, without_node}
 use Rattle.zq_tables.specs.declared.holder.Holder.{Holder}

@@ -6,15 +6,15 @@ use Rattle.std.specs.BTreeMap.{is_at}
 use Rattle.std.specs.Ordering.{nat_cmp}
 use Rattle.std.proofs.lemmas.Bool.{false≢true}
 use Rattle.zq_names.specs.Names.{NameEntry, entry_at}
-use Rattle.zq_ids.specs.FaceIds.{of_id, next_id, with_id}
-use Rattle.zq_ids.specs.FaceTexts.{id_texts}
+use Rattle.zq_tables.specs.FaceIds.{of_id, next_id, with_id}
+use Rattle.zq_tables.specs.FaceTexts.{id_texts}
 use Rattle.zq_tables.specs.Naming.{FaceKeys, FaceNaming, Names, face_naming, first_stays, text_at, change_naming}
 use Rattle.zq_tables.specs.Holding.{FaceHolds, Faces, InHand, IsHeld, hold_of, held_ids, held_keys, ids_at, is_settled, settled_at, least, limit, put_ids, change_ids, keys_of_face, texts_by, with_first_key, with_key, with_keys, with_node}
 use Rattle.zq_tables.specs.declared.holder.Holder.{Holder}
 use Rattle.zq_tables.specs.declared.holder.Holder.TheVariants.{Number}
 use Rattle.zq_message.specs.declared.message.Mapping.TheVariants.{Receiver}
-use Rattle.zq_ids.proofs.FaceLemmas.{next-texts}
-use Rattle.zq_ids.proofs.IdLemmas.{next_unused}
+use Rattle.zq_tables.proofs.FaceLemmas.{next-texts}
+use Rattle.zq_tables.proofs.IdLemmas.{next_unused}
 use Rattle.zq_tables.proofs.Entries.{Rises-with_id, weigh-with_id, shown-with_id}
 use Rattle.zq_tables.proofs.Faces.{change_idle, face_there, set_texts, shown_text}
 use Rattle.zq_tables.proofs.Holders.{holds_with, rises_with, same_ids, shown_with, with_own}

@@ -5,10 +5,10 @@ use Rattle.zq_message.specs.declared.message.Mapping.{Mapping}
 use Rattle.zq_message.specs.declared.message.Mapping.TheVariants as mapping
 use Rattle.zq_message.specs.declared.message.WireExpr.{WireExpr}
 use Rattle.zq_message.specs.declared.memory.OutOfMemory.{OutOfMemory}
-use Rattle.zq_tables.specs.declared.said.Said.TheVariants as said
-use Rattle.zq_ids.specs.FaceTexts.{best_to, best_part, key_from}
+use Rattle.zq_tables.specs.declared.resolved.Resolved.TheVariants as said
+use Rattle.zq_tables.specs.FaceTexts.{best_to, best_part, key_from}
 use Rattle.zq_tables.specs.Naming.{FaceNaming, sent_side, read_by, said_of, said_plainly, text_at, plain, no_names, best}
-use Rattle.zq_ids.proofs.Reading.{part-cuts}
+use Rattle.zq_tables.proofs.NumbersRead.{part-cuts}
 
 -- ---- by the numbers of a face
 

@@ -8,8 +8,8 @@ use Rattle.std.specs.BTreeMap.{is_at}
 use Rattle.zq_names.specs.Names.{NameEntry, ids, entry_at}
 use Rattle.zq_names.specs.Keeping.{AllStay}
 use Rattle.zq_names.specs.Idle.{IdleAt, NoneIdle}
-use Rattle.zq_ids.specs.FaceIds.{FaceIds, of_id, next_id, side, with_side, with_id, without_id}
-use Rattle.zq_ids.specs.FaceTexts.{id_texts, texts_of}
+use Rattle.zq_tables.specs.FaceIds.{FaceIds, of_id, next_id, side, with_side, with_id, without_id}
+use Rattle.zq_tables.specs.FaceTexts.{id_texts, texts_of}
 use Rattle.zq_tables.specs.Naming.{FaceKeys, Names, NamingState, first_stays, sent_side, with_sent}
 use Rattle.zq_tables.specs.declared.holder.Holder.{Holder}
 use Rattle.zq_tables.specs.declared.holder.Holder.TheVariants.{Number, Queryable, Interest}

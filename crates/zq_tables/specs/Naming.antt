@@ -12,10 +12,10 @@ use Rattle.zq_message.specs.declared.message.WireExpr.{WireExpr}
 use Rattle.zq_names.specs.Texts.{heads}
 use Rattle.zq_names.specs.declared.refusal.NameRefusal.{NameRefusal}
 use Rattle.zq_names.specs.declared.refusal.NameRefusal.TheVariants as refusal
-use Rattle.zq_ids.specs.FaceIds.{of_id}
-use Rattle.zq_ids.specs.FaceTexts.{FaceTexts, text_side, swapped, whole, best_key, with_declared}
-use Rattle.zq_tables.specs.declared.said.Said.{Said}
-use Rattle.zq_tables.specs.declared.said.Said.TheVariants as said
+use Rattle.zq_tables.specs.FaceIds.{of_id}
+use Rattle.zq_tables.specs.FaceTexts.{FaceTexts, text_side, swapped, whole, best_key, with_declared}
+use Rattle.zq_tables.specs.declared.resolved.Resolved.{Resolved}
+use Rattle.zq_tables.specs.declared.resolved.Resolved.TheVariants as said
 
 -- numbers with the texts that they stand for, by number
 abbrev pub Names : Type 0
@@ -76,27 +76,27 @@ abbrev pub handed_side : FaceNaming → Mapping → Names
 handed_side n m = text_side (swapped n) m
 
 -- what a suffix says under a scope, by the scope's text
-abbrev pub said_under : Option (List ℕ) → List ℕ → Said
+abbrev pub said_under : Option (List ℕ) → List ℕ → Resolved
 said_under None suffix = said.Unscoped
 said_under (Some text) suffix = said.Full (text ++ suffix)
 
 -- what a suffix says under scope 0
-abbrev pub said_plainly : List ℕ → Said
+abbrev pub said_plainly : List ℕ → Resolved
 said_plainly [] = said.Empty
 said_plainly (b ∷ suffix) = said.Full (b ∷ suffix)
 
 -- what an expression says, by the numbers of each side
-abbrev pub said_by : (Mapping → Names) → WireExpr → Said
+abbrev pub said_by : (Mapping → Names) → WireExpr → Resolved
 said_by side w =
     if w.scope == 0 then said_plainly w.suffix
     else said_under (text_at w.scope (side w.mapping)) w.suffix
 
 -- what an expression says that the face sends
-abbrev pub said_of : FaceNaming → WireExpr → Said
+abbrev pub said_of : FaceNaming → WireExpr → Resolved
 said_of n w = said_by (sent_side n) w
 
 -- what an expression says to the face that it is handed to
-abbrev pub read_by : FaceNaming → WireExpr → Said
+abbrev pub read_by : FaceNaming → WireExpr → Resolved
 read_by n w = said_by (handed_side n) w
 
 -- with other numbers of the face's own

@@ -3,14 +3,14 @@ ghost use Rattle.std.specs.Prelude.{◌≡◌, ◌≢◌, [], None, Some, false,
 ghost use Rattle.std.specs.List.Sorted.{IsStrictlySortedBy};
 ghost use Rattle.std.specs.Map.{keys_of};
 ghost use Rattle.std.specs.Ordering.{nat_cmp};
-ghost use Rattle.zq_ids.specs.FaceIds.{AreLive, next_id, of_id, with_id, without_id};
+ghost use Rattle.zq_tables.specs.FaceIds.{AreLive, next_id, of_id, with_id, without_id};
 ghost use Rattle.zq_tables.specs.Holding.{Numbers, are_numbers, held_ids, with_node, without_node};
 
+use crate::FaceNames;
 use crate::holder::Holder;
 use std::alloc::Global;
 use std::collections::BTreeMap;
 use std::marker::Model;
-use zq_ids::FaceNames;
 use zq_key::memory::OutOfMemory;
 use zq_key::message::{Mapping, WireExpr};
 use zq_names::{Names, ResourceId};

@@ -4,22 +4,22 @@ ghost use Rattle.std.specs.Ordering.{nat_cmp};
 ghost use Rattle.std.specs.Map.{keys_of, remove_entry};
 ghost use Rattle.std.specs.BTreeMap.{is_at, insert_entry};
 ghost use Rattle.zq_key.specs.Key.{is_key as key_of};
-ghost use Rattle.zq_ids.specs.FaceIds.{next_id};
-ghost use Rattle.zq_ids.specs.FaceTexts.{IsReason, declared_key};
+ghost use Rattle.zq_tables.specs.FaceIds.{next_id};
+ghost use Rattle.zq_tables.specs.FaceTexts.{IsReason, declared_key};
 ghost use Rattle.zq_tables.specs.Holding.{are_numbers, held_keys, with_first_key, with_key, without_key, without_keys};
 ghost use Rattle.zq_tables.specs.Naming.{best, change_naming, declare_refusal, face_interests, face_keys, face_naming, face_queryables, has_context as has_context_of, no_keys, read_by, said_of, text_at, with_interest, with_name, with_queryable, with_told_number, without_interest, without_name, without_queryable, without_sent};
 
+use crate::choice::{plain, whole};
 use crate::face_nodes::FaceNodes;
 use crate::held::{Faces, declare_at, first_at, is_settled, node_at, put_at, put_given, take_at};
 use crate::hold::{let_go, take_hold};
 use crate::holder::Holder;
 use crate::number::{remaps, said_plainly, said_under};
-use crate::said::Said;
+use crate::resolved::Resolved;
+use crate::{DeclKey, FaceNames};
 use std::alloc::Global;
 use std::collections::BTreeMap;
 use std::marker::Model;
-use zq_ids::choice::{plain, whole};
-use zq_ids::{DeclKey, FaceNames};
 use zq_key::memory::OutOfMemory;
 use zq_key::message::{FaceId, Mapping, WireExpr};
 use zq_key::text::Text;
@@ -131,7 +131,7 @@ impl Naming {
     }
 
     /// What an expression says that the face sends.
-    pub fn said(&self, face: FaceId, wire: &WireExpr) -> Result<Said, OutOfMemory>
+    pub fn said(&self, face: FaceId, wire: &WireExpr) -> Result<Resolved, OutOfMemory>
         ensures { IfOk result (λ s. s ≡ said_of (face_naming face.0 self.now) wire.now) }
     {
         if wire.scope == 0 {
@@ -139,7 +139,7 @@ impl Naming {
         }
         match self.faces.get(&face.0) {
             Some(nodes) => said_under(self.alloc, &self.names, nodes.numbers(), wire),
-            None => Ok(Said::Unscoped),
+            None => Ok(Resolved::Unscoped),
         }
     }
 
@@ -164,7 +164,7 @@ impl Naming {
     #[tactic(auto, using(crate::proofs::Reading::answer_reads))]
     pub fn best(&self, face: FaceId, text: &Text) -> Result<WireExpr, OutOfMemory>
         ensures key { IfOk result (λ w. w ≡ best (face_naming face.0 self.now) text.now) }
-        ensures reads { 0 < length text.now → IfOk result (λ w. read_by (face_naming face.0 self.now) w ≡ Said.Full text.now) }
+        ensures reads { 0 < length text.now → IfOk result (λ w. read_by (face_naming face.0 self.now) w ≡ Resolved.Full text.now) }
     {
         self.best_of(face, text)
     }

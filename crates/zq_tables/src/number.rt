@@ -1,12 +1,12 @@
 //! What a number says.
 ghost use Rattle.std.specs.Prelude.{◌≡◌, ◌≢◌, IfOk, option_copied};
-ghost use Rattle.zq_ids.specs.FaceIds.{AreLive};
-ghost use Rattle.zq_ids.specs.FaceTexts.{texts_of};
+ghost use Rattle.zq_tables.specs.FaceIds.{AreLive};
+ghost use Rattle.zq_tables.specs.FaceTexts.{texts_of};
 ghost use Rattle.zq_tables.specs.Naming.{remaps as remaps_of, said_of, said_plainly as plainly_of};
 
-use crate::said::Said;
+use crate::FaceNames;
+use crate::resolved::Resolved;
 use std::alloc::Global;
-use zq_ids::FaceNames;
 use zq_key::memory::OutOfMemory;
 use zq_key::message::WireExpr;
 use zq_key::text::Text;
@@ -26,13 +26,13 @@ pub(crate) fn remaps(id: u16, text: &str, standing: Option<&str>) -> bool
 }
 
 // What a suffix says under no number.
-pub(crate) fn said_plainly(alloc: Global, suffix: &str) -> Result<Said, OutOfMemory>
+pub(crate) fn said_plainly(alloc: Global, suffix: &str) -> Result<Resolved, OutOfMemory>
     ensures { IfOk result (λ s. s ≡ plainly_of suffix.now) }
 {
     if suffix.is_empty() {
-        return Ok(Said::Empty);
+        return Ok(Resolved::Empty);
     }
-    Ok(Said::Full(Text::new(alloc, suffix)?))
+    Ok(Resolved::Full(Text::new(alloc, suffix)?))
 }
 
 // What an expression says under a number.
@@ -41,13 +41,13 @@ pub(crate) fn said_under(
     names: &Names,
     numbers: &FaceNames,
     wire: &WireExpr,
-) -> Result<Said, OutOfMemory>
+) -> Result<Resolved, OutOfMemory>
     requires live { AreLive names.now numbers.now }
     requires numbered { wire.now.scope ≢ 0 }
     ensures { IfOk result (λ s. s ≡ said_of (texts_of names.now numbers.now) wire.now) }
 {
     match numbers.full(alloc, names, wire)? {
-        Some(text) => Ok(Said::Full(text)),
-        None => Ok(Said::Unscoped),
+        Some(text) => Ok(Resolved::Full(text)),
+        None => Ok(Resolved::Unscoped),
     }
 }

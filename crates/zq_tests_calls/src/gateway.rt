@@ -3,7 +3,6 @@ use std::alloc::Global;
 use zq_gateway::gateway::Gateway;
 use zq_gateway::runs::replay;
 use zq_given::{CLIENTS, information, wire};
-use zq_hat::types::{FinalMark, Network, NodeIds};
 use zq_key::items::Items;
 use zq_key::memory::OutOfMemory;
 use zq_key::message::{
@@ -15,6 +14,7 @@ use zq_machine::call::{Call, Outcome, Refusal, Step};
 use zq_machine::config::Config;
 use zq_machine::handed::Handed;
 use zq_route::gateways::Gateways;
+use zq_strategy::types::{FinalMark, Network, NodeIds};
 
 fn declares(gateway: &mut Gateway, body: DeclareBody) -> Seen {
     let declared = Declare {

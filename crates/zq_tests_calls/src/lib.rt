@@ -1,5 +1,4 @@
-//! Tests of calls: what configurations are refused (`config`), each method of the gateway (`gateway`), and
-//! messages of faces as calls (`primitives`).
+//! Tests of calls: lines and prints, pages and reasons, what configurations are refused, each method of the gateway, and messages of faces as calls.
 #![tactic(auto)]
 
 #[cfg(test)]
@@ -9,4 +8,12 @@ mod gateway;
 #[cfg(test)]
 mod given;
 #[cfg(test)]
+mod lines;
+#[cfg(test)]
+mod page;
+#[cfg(test)]
 mod primitives;
+#[cfg(test)]
+mod prints;
+#[cfg(test)]
+mod why;

@@ -13,8 +13,8 @@ use zq_key::message::{
 use zq_key::text::Bytes;
 use zq_lines::calls::print_call;
 use zq_lines::lines::call_of;
+use zq_lines::steps::print_steps;
 use zq_machine::call::{Call, Outcome, Step, StepList};
-use zq_prints::steps::print_steps;
 
 /// What faces say: who says it, and the line of its call, if it makes one.
 const SAID: [(u32, &str); 10] = [
@@ -137,7 +137,7 @@ fn is_print(print: Result<Bytes, OutOfMemory>, wanted: &str) -> bool {
 }
 
 // A way in which what is said reaches what takes it.
-trait Way<T> {
+trait Reason<T> {
     // What is said there is taken; the face and the line are those of `SAID`.
     fn step(
         to: &mut T,
@@ -156,7 +156,7 @@ fn push(steps: &mut StepList, step: Result<Step, OutOfMemory>) -> bool {
 }
 
 // All that is said goes to what takes it. It says whether there was memory.
-fn push_all<T, W: Way<T>>(to: &mut T, alloc: Global, steps: &mut StepList) -> bool {
+fn push_all<T, W: Reason<T>>(to: &mut T, alloc: Global, steps: &mut StepList) -> bool {
     for at in 0..SAID.len() {
         let (face, line) = SAID[at];
         if !push(steps, W::step(to, alloc, at, FaceId(face), line)) {
@@ -171,14 +171,14 @@ fn is_print_of(alloc: Global, steps: &StepList, wanted: &str) -> bool {
 }
 
 // Whether the print of what is said, sent to what takes it, is this.
-fn prints<T, W: Way<T>>(to: &mut T, alloc: Global, wanted: &str) -> bool {
+fn prints<T, W: Reason<T>>(to: &mut T, alloc: Global, wanted: &str) -> bool {
     let mut steps: StepList = Items::new(alloc);
     let all = push_all::<T, W>(to, alloc, &mut steps);
     all & is_print_of(alloc, &steps, wanted)
 }
 
 // Whether it is that of the calls, where a gateway with two applications takes it.
-fn pair_prints<W: Way<Gateway>>(gateway: &mut Gateway, alloc: Global) -> bool {
+fn pair_prints<W: Reason<Gateway>>(gateway: &mut Gateway, alloc: Global) -> bool {
     opens(gateway, alloc, 10).is_some()
         && opens(gateway, alloc, 11).is_some()
         && prints::<Gateway, W>(gateway, alloc, PRINT)
@@ -187,7 +187,7 @@ fn pair_prints<W: Way<Gateway>>(gateway: &mut Gateway, alloc: Global) -> bool {
 // The lines are read as calls.
 struct Lined;
 
-impl Way<Gateway> for Lined {
+impl Reason<Gateway> for Lined {
     fn step(
         to: &mut Gateway,
         alloc: Global,
@@ -220,7 +220,7 @@ fn called(gateway: &mut Gateway, alloc: Global, call: Option<Call>) -> Result<St
 // The messages are made calls.
 struct Demuxed;
 
-impl Way<Gateway> for Demuxed {
+impl Reason<Gateway> for Demuxed {
     fn step(
         to: &mut Gateway,
         alloc: Global,
@@ -246,7 +246,7 @@ impl Trial for Demuxed {
 // The messages are sent by the methods.
 struct Sent;
 
-impl<P: Primitives> Way<P> for Sent {
+impl<P: Primitives> Reason<P> for Sent {
     fn step(
         to: &mut P,
         alloc: Global,

@@ -1,11 +1,11 @@
 use crate::region::in_region;
 use std::alloc::Global;
-use zq_faces::hat::Hat;
 use zq_given::information;
-use zq_hat::types::{FaceRecord, FinalMark, OfferList, UnregisterEntityResult};
+use zq_hat::hat::Hat;
 use zq_key::Key;
 use zq_key::message::{Bound, FaceId, Mode, QueryableInfoType, Region, Zid};
 use zq_key::text::Text;
+use zq_strategy::types::{FaceRecord, FinalMark, OfferList, UnregisterEntityResult};
 
 fn open(hat: &mut Hat, number: u32) -> Option<()> {
     let face = FaceId(number);

@@ -1,15 +1,15 @@
 ghost use Rattle.std.specs.Prelude.{◌≡◌, true};
-ghost use Rattle.zq_hat.specs.Kept.{has_face};
+ghost use Rattle.zq_strategy.specs.Kept.{has_face};
 
 use crate::region::in_region;
 use std::alloc::Global;
 use zq_given::information;
-use zq_hat::types::{FaceRecord, UnregisterEntityResult};
-use zq_hats::{Hat, HatQueriesTrait};
+use zq_hat::{Hat, HatQueriesTrait};
 use zq_interests::interests::Interests;
 use zq_key::Key;
 use zq_key::memory::OutOfMemory;
 use zq_key::message::{Bound, FaceId, Mode, Region, Zid};
+use zq_strategy::types::{FaceRecord, UnregisterEntityResult};
 
 /// Face 1 opens.
 fn open(hat: &mut Hat) -> Option<()> {

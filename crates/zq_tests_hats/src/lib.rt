@@ -1,5 +1,4 @@
-//! Tests of what regions have and choose, and of who declared and asked: each file tests the crate of its
-//! name, and `region` makes the region that a test asks.
+//! Tests of declared keys, networks, what faces ask to hear and were told, of hats, and of the choice among offers.
 #![tactic(auto)]
 
 #[cfg(test)]
@@ -7,8 +6,16 @@ mod hat;
 #[cfg(test)]
 mod hats;
 #[cfg(test)]
+mod index;
+#[cfg(test)]
+mod interests;
+#[cfg(test)]
 mod region;
 #[cfg(test)]
 mod route;
 #[cfg(test)]
 mod sources;
+#[cfg(test)]
+mod told;
+#[cfg(test)]
+mod trees;

@@ -1,6 +1,6 @@
 //! The one owner of a region's hat, whose drop is long to prove.
 use std::alloc::Global;
-use zq_faces::hat::Hat;
+use zq_hat::hat::Hat;
 use zq_key::message::{Mode, Region, Zid};
 
 /// What is found of a new region of that mode.

@@ -1,15 +1,15 @@
 use std::alloc::Global;
 use zq_given::{CLIENTS, information, list};
-use zq_hat::types::{OfferList, QueryTargetQabl};
 use zq_key::items::Items;
 use zq_key::memory::OutOfMemory;
 use zq_key::message::{FaceId, QueryTarget, Region, Zid};
 use zq_key::text::Text;
-use zq_regions::RegionMap;
+use zq_message::RegionMap;
 use zq_route::builder::RouteBuilder;
 use zq_route::filter::InterRegionFilter;
 use zq_route::gateways::{GatewayEntry, GatewayEntryList, Gateways};
 use zq_route::selection::compute_final_route;
+use zq_strategy::types::{OfferList, QueryTargetQabl};
 
 /// Letters for the faces 3, 3 and 4, for 5 that has none, and for 6.
 fn put_letters(route: &mut RouteBuilder<char>) -> Result<(), OutOfMemory> {

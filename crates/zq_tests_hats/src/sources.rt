@@ -1,20 +1,20 @@
 use crate::region::in_region;
 use std::alloc::Global;
-use zq_faces::hat::Hat;
 use zq_given::{information, list};
-use zq_hat::types::{FaceRecord, ZidList};
+use zq_hat::hat::Hat;
+use zq_hat::infos::remote_queryables;
+use zq_hat::queriers::all_queriers;
+use zq_hat::queryables::all_queryables;
+use zq_hat::sources::{Source, SourceList, Sources};
+use zq_hat::status::{Locality, remote_queryable_matching_status};
 use zq_interests::interests::Interests;
 use zq_interests::types::InterestEntry;
 use zq_key::items::Items;
 use zq_key::memory::OutOfMemory;
 use zq_key::message::{Bound, FaceId, Mode, Region, Zid};
 use zq_key::{Key, is_key};
-use zq_regions::map::RegionMap;
-use zq_sources::infos::remote_queryables;
-use zq_sources::queriers::all_queriers;
-use zq_sources::queryables::all_queryables;
-use zq_sources::sources::{Source, SourceList, Sources};
-use zq_sources::status::{Locality, remote_queryable_matching_status};
+use zq_message::map::RegionMap;
+use zq_strategy::types::{FaceRecord, ZidList};
 
 /// The ids, two digits for each.
 fn digits(ids: &ZidList) -> u128 {
@@ -156,7 +156,7 @@ fn keys_have_sources(rt: HostRuntime) {
 
 /// Whether the face has a match of a key, complete or not.
 fn matched(hat: &Hat, alloc: Global, face: u32, locality: Locality, text: &str) -> Option<bool> {
-    if !is_key(text) || !matches!(hat.strategy(), zq_hat::types::Strategy::Broker) {
+    if !is_key(text) || !matches!(hat.strategy(), zq_strategy::types::Strategy::Broker) {
         return None;
     }
     let others = Items::new(alloc);

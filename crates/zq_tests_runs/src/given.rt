@@ -4,12 +4,12 @@ use std::sync::Wait;
 use std::thread::Threads;
 use zq_key::memory::OutOfMemory;
 use zq_key::text::{Bytes, Text};
-use zq_links::{Link, MemoryLink};
 use zq_program::program;
-use zq_script::run::{Status, run};
+use zq_script::running::{Status, run};
 use zq_script::{MemorySink, MemorySource};
-use zq_seen::show::show;
-use zq_seen::words::Form;
+use zq_shared::{Link, MemoryLink};
+use zq_show::shown::show;
+use zq_show::words::Form;
 
 /// Which read and which write fails.
 #[derive(Clone, Copy)]

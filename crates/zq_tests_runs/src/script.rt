@@ -3,7 +3,7 @@ use std::alloc::Global;
 use zq_key::memory::OutOfMemory;
 use zq_script::LIMIT;
 use zq_script::refusal::ScriptRefusal;
-use zq_script::run::Status;
+use zq_script::running::Status;
 use zq_script::script::read_script;
 
 const HEAD: &str = "config 1 10000 north:client local\n";

@@ -5,8 +5,8 @@ use std::sync::atomic::AtomicU64;
 use std::thread::Threads;
 use zq_given::ASKED;
 use zq_key::memory::OutOfMemory;
-use zq_links::{GateLink, MemoryLink};
-use zq_script::run::Status;
+use zq_script::running::Status;
+use zq_shared::{GateLink, MemoryLink};
 
 const PRINT: &str = "config 1 10000 north:client local\n\
     open local 10 client north -\n\

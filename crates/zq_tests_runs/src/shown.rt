@@ -1,8 +1,8 @@
 use crate::given::show_on;
 use std::alloc::Global;
 use zq_key::memory::OutOfMemory;
-use zq_script::run::Status;
-use zq_seen::words::Form;
+use zq_script::running::Status;
+use zq_show::words::Form;
 
 const SCRIPT: &str = "config 1 10000 north:client local\n\
     open local 10 client north -\n\

@@ -1,6 +1,6 @@
 //! Worked scripts, each with the print that is wanted.
 use crate::given::ends_as;
-use zq_script::run::Status;
+use zq_script::running::Status;
 
 /// What a script tells of, its lines, its print, and how its run ends.
 const ROWS: [(&str, &str, &str, Status); 32] = [

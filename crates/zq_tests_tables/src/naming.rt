@@ -7,7 +7,7 @@ use zq_key::{Key, is_key};
 use zq_names::NameRefusal;
 use zq_tables::DeclKey;
 use zq_tables::naming::Naming;
-use zq_tables::said::Said;
+use zq_tables::resolved::Resolved;
 
 const FACE: FaceId = FaceId(3);
 
@@ -104,11 +104,11 @@ fn best_comes_out(names: &Naming, alloc: Global, row: &Row<'_>) -> Result<bool, 
 }
 
 // Whether it is what the row must say.
-fn is_said(said: &Said, row: &Row<'_>) -> bool {
+fn is_said(said: &Resolved, row: &Row<'_>) -> bool {
     match said {
-        Said::Full(text) => row.deed == "says" && text.as_str() == row.want,
-        Said::Empty => false,
-        Said::Unscoped => row.deed == "unscoped",
+        Resolved::Full(text) => row.deed == "says" && text.as_str() == row.want,
+        Resolved::Empty => false,
+        Resolved::Unscoped => row.deed == "unscoped",
     }
 }
 

@@ -1,6 +1,6 @@
 -- Two halves of what is counted.
 use Rattle.std.proofs.Common.{◌≡◌, ◌∙◌, ap, sym, subst, arith}
-use Rattle.zq_lock.specs.Tallies.{HasParts, Tallied, each, merged}
+use Rattle.zq_shared.specs.Tallies.{HasParts, Tallied, each, merged}
 
 pub halved_one : (v : Tallied) → v ≡ record { parts = each 1; made = each 0 } → HasParts v
 halved_one v e = subst HasParts (sym e) (record { calls = omega arith; asks = omega arith; full = omega arith })

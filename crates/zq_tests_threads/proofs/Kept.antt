@@ -3,11 +3,11 @@ use Rattle.std.proofs.Common.{◌≡◌, Bool, true, false, sym, subst, arith, R
 use Rattle.std.specs.Prelude.{if◌then◌else◌}
 use Rattle.zq_machine.specs.declared.call.Call.{Call}
 use Rattle.zq_machine.specs.declared.call.Step.{Step}
-use Rattle.zq_lock.specs.declared.refusal.CallRefusal.{CallRefusal}
-use Rattle.zq_lock.specs.declared.refusal.CallRefusal.TheVariants as refusal
-use Rattle.zq_lock.specs.Refusals.{Counts}
-use Rattle.zq_lock.specs.Tallies.{HasParts, Tallied, with_ask, with_full, with_other, with_stored}
-use Rattle.zq_ties.specs.Stored.{asks_request}
+use Rattle.zq_shared.specs.declared.refusal.CallRefusal.{CallRefusal}
+use Rattle.zq_shared.specs.declared.refusal.CallRefusal.TheVariants as refusal
+use Rattle.zq_shared.specs.Refusals.{Counts}
+use Rattle.zq_shared.specs.Tallies.{HasParts, Tallied, with_ask, with_full, with_other, with_stored}
+use Rattle.zq_shared.specs.Stored.{asks_request}
 
 stored_parts : (t : Tallied) (b : Bool) → HasParts t → HasParts (if b then with_ask t else with_other t)
 stored_parts t true p = record { calls = p.calls; asks = p.asks; full = p.full }

@@ -1,7 +1,7 @@
 //! Two callers of a locked gateway.
 ghost use Rattle.std.specs.Prelude.{◌≡◌, [], None, false, IfOk, IfSome, length};
 ghost use Rattle.zq_machine.specs.Calls.{is_sent};
-ghost use Rattle.zq_lock.specs.Tallies.{HasParts, each};
+ghost use Rattle.zq_shared.specs.Tallies.{HasParts, each};
 ghost use Rattle.zq_tests_threads.specs.Callers.{IsReady};
 
 use crate::given::print_calls;
@@ -10,10 +10,9 @@ use std::mem;
 use std::sync::Wait;
 use std::sync::ledger::{Blank, Ledger};
 use std::test::Fail;
-use zq_links::Link;
-use zq_lock::{HoldSeat, Home, SeatList, Shared, TablesLock, Tally};
+use zq_lines::steps::push_step;
 use zq_machine::call::{Call, Step};
-use zq_prints::steps::push_step;
+use zq_shared::{HoldSeat, Home, Link, SeatList, Shared, TablesLock, Tally};
 
 /// One that calls a gateway: its seat, what it counts, the calls that it is to make, and the steps of those that it made.
 pub(crate) struct Caller<C: Ledger, Q: Ledger, P: Ledger> {

@@ -11,10 +11,9 @@ use std::sync::atomic::{AtomicU64, Ordering};
 use std::sync::ledger::{Blank, Ledger};
 use std::test::Fail;
 use std::thread::{Threads, join};
-use zq_links::{GateLink, Link, MemoryLink, SureLink, is_set};
-use zq_lock::{Home, SeatList, Shared, TablesLock};
 use zq_machine::call::Call;
 use zq_machine::config::Config;
+use zq_shared::{GateLink, Home, Link, MemoryLink, SeatList, Shared, SureLink, TablesLock, is_set};
 
 const ONE_REPLY: &str = "config 1 10000 north:client local\n\
     open local 10 client north -\n\

@@ -2,11 +2,11 @@
 use std::alloc::Global;
 use std::test::Fail;
 use zq_lines::calls::print_call;
+use zq_lines::steps::print_message;
 use zq_machine::call::Call;
 use zq_machine::config::Config;
 use zq_machine::handed::Handed;
 use zq_message::items::Items;
-use zq_prints::steps::print_message;
 use zq_script::script::{Script, read_script};
 
 /// The configuration and the parts of a script.

@@ -11,9 +11,8 @@ use std::sync::Wait;
 use std::sync::ledger::{Blank, Ledger};
 use std::test::Fail;
 use zq_given::ASKED;
-use zq_links::MemoryLink;
-use zq_lock::{Home, SeatList, Shared, TablesLock};
 use zq_machine::call::Call;
+use zq_shared::{Home, MemoryLink, SeatList, Shared, TablesLock};
 
 /// What the links of two callers take, one after the other.
 fn in_turn<K: Desk<W>, W, R: Wait>(

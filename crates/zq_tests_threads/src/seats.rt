@@ -1,16 +1,15 @@
 //! One gateway that seats share, on one thread: one slot, and who is the last to hold it.
 ghost use Rattle.std.specs.Prelude.{◌≡◌, [], All, IfOk, IfSome, OnOk, false, true};
 ghost use Rattle.zq_machine.specs.Calls.{is_sent};
-ghost use Rattle.zq_ties.specs.Holding.{AreHeld};
+ghost use Rattle.zq_shared.specs.Holding.{AreHeld};
 
 use crate::given::{last_part, parts_of, print_calls, print_leaving};
 use std::alloc::Global;
 use std::test::Fail;
-use zq_lock::{HoldSeat, Shared, Slot, StepRefusal, Stepped};
+use zq_hold::{Last, release};
+use zq_lines::steps::push_step;
 use zq_machine::call::Call;
-use zq_prints::steps::push_step;
-use zq_slots::{Last, release};
-use zq_ties::LastList;
+use zq_shared::{HoldSeat, LastList, Shared, Slot, StepRefusal, Stepped};
 
 const ONE_SLOT: &str = "config 1 10000 north:client local\n\
     open local 10 client north -\n\

@@ -14,7 +14,7 @@ use Rattle.std.proofs.lemmas.Map.Entries.{lookup-filter-values, option_filter}
 use Rattle.std.proofs.lemmas.Map.Keys.{IsDistinct-from_sorted, sorted_head, sorted_tail}
 use Rattle.std.proofs.lemmas.Map.Lookups.{exact_unsigned}
 use Rattle.std.proofs.lemmas.Slice.Eq.{bytes_eq-Decides}
-use Rattle.zq_told.specs.Ears.{at_face}
+use Rattle.zq_told.specs.ToldSets.{at_face}
 use Rattle.zq_key.proofs.Lookups.{at_itself, differ, each_entry, found_after_insertion, found_after_removal, same_key}
 
 -- ---- texts that are one

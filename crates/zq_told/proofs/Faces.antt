@@ -16,12 +16,12 @@ use Rattle.zq_key.proofs.Lookups.{found_after_write}
 use Rattle.zq_key.proofs.Sorted.{sorted_in, sorted_out}
 use Rattle.zq_message.specs.declared.message.QueryableInfoType.{QueryableInfoType}
 use Rattle.zq_told.specs.declared.types.ToldEntry.{ToldEntry}
-use Rattle.zq_told.specs.declared.types.Way.{Way}
-use Rattle.zq_told.specs.declared.types.FaceDues.{FaceDues}
+use Rattle.zq_told.specs.declared.types.Reason.{Reason}
+use Rattle.zq_told.specs.declared.types.FaceUpdate.{FaceUpdate}
 use Rattle.zq_told.specs.declared.types.FacePlan.{FacePlan}
 use Rattle.zq_told.specs.declared.types.Planned.{Planned}
 use Rattle.zq_told.specs.declared.plan.Account.{Account}
-use Rattle.zq_told.specs.Ears.{Ear, Ears, at_face, closed, last_at}
+use Rattle.zq_told.specs.ToldSets.{ToldSet, ToldSets, at_face, closed, last_at}
 use Rattle.zq_told.specs.Telling.{KeyDue, is_above, planned_ear, put_face, put_plan, tell_face, tell_faces, tell_keys, with_account}
 use Rattle.zq_told.specs.Laws.{InOrder, aim_on, ear_after, keys_for, takes_id, told_info}
 use Rattle.zq_told.specs.Leaving.{Closes, KeepsFaces, LessDue, Opens, StaySound, TellsAimed, fresh_ear, takes_ids}
@@ -56,7 +56,7 @@ opens = record {
 }
 
 -- ---- a face goes
-back_by : (n : ℕ) (x : Ear) (e : ℕ × Ear) (es : Ears) (r : Ordering) → nat_cmp n e.0 ≡ r → is_some (cond (is_eq r) (Some e.1) (at_face n es)) ≡ false
+back_by : (n : ℕ) (x : ToldSet) (e : ℕ × ToldSet) (es : ToldSets) (r : Ordering) → nat_cmp n e.0 ≡ r → is_some (cond (is_eq r) (Some e.1) (at_face n es)) ≡ false
     → (is_some (at_face n es) ≡ false → closed n (insert_entry nat_cmp es n x) ≡ es)
     → closed n (match_ordering r ((n, x) ∷ e ∷ es) ((e.0, x) ∷ es) (e ∷ insert_entry nat_cmp es n x)) ≡ e ∷ es
 back_by n x e es Less is none more = ap (λ b. cond b (e ∷ es) ((n, x) ∷ closed n (e ∷ es))) (itself n)
@@ -65,7 +65,7 @@ back_by n x e es Greater is none more =
     ap (λ r. cond (is_eq r) (insert_entry nat_cmp es n x) (e ∷ closed n (insert_entry nat_cmp es n x))) is
     ∙ ap (λ l. e ∷ l) (more none)
 
-back : (n : ℕ) (x : Ear) (es : Ears) → is_some (at_face n es) ≡ false → closed n (insert_entry nat_cmp es n x) ≡ es
+back : (n : ℕ) (x : ToldSet) (es : ToldSets) → is_some (at_face n es) ≡ false → closed n (insert_entry nat_cmp es n x) ≡ es
 back n x [] none = ap (λ b. cond b [] ((n, x) ∷ [])) (itself n)
 back n x (e ∷ es) none = back_by n x e es (nat_cmp n e.0) refl none (λ h. back n x es h)
 
@@ -76,11 +76,11 @@ closes = record {
 }
 
 -- ---- the faces of a plan
-keys_by : (ears : Ears) (p : FacePlan) (o : Option Ear) → keys_of (option_map_or (λ (e : Ear). set_value (is_at (nat_cmp p.face.0)) ears (planned_ear p e)) o ears) ≡ keys_of ears
+keys_by : (ears : ToldSets) (p : FacePlan) (o : Option ToldSet) → keys_of (option_map_or (λ (e : ToldSet). set_value (is_at (nat_cmp p.face.0)) ears (planned_ear p e)) o ears) ≡ keys_of ears
 keys_by ears p None = refl
 keys_by ears p (Some e) = keys-set_value (is_at (nat_cmp p.face.0)) ears (planned_ear p e)
 
-keys_put : (plan : List FacePlan) (ears : Ears) → keys_of (put_plan plan ears) ≡ keys_of ears
+keys_put : (plan : List FacePlan) (ears : ToldSets) → keys_of (put_plan plan ears) ≡ keys_of ears
 keys_put [] ears = refl
 keys_put (p ∷ plan) ears = keys_put plan (put_face ears p) ∙ keys_by ears p (at_face p.face.0 ears)
 
@@ -88,31 +88,31 @@ pub keeps_faces : KeepsFaces
 keeps_faces way ears dues = keys_put (tell_faces way ears dues).plan ears
 
 -- ---- what holds of each face
-abbrev Each : (Ear → Type 0) → Ears → Type 0
-Each P ears = (n : ℕ) (e : Ear) → at_face n ears ≡ Some e → P e
+abbrev Each : (ToldSet → Type 0) → ToldSets → Type 0
+Each P ears = (n : ℕ) (e : ToldSet) → at_face n ears ≡ Some e → P e
 
-module _ (P : Ear → Type 0) where
-  each_by : (n m : ℕ) (x : Ear) (ears : Ears) (b : Bool) (e : Ear) → P x → Each P ears → cond b (Some x) (at_face m ears) ≡ Some e → P e
+module _ (P : ToldSet → Type 0) where
+  each_by : (n m : ℕ) (x : ToldSet) (ears : ToldSets) (b : Bool) (e : ToldSet) → P x → Each P ears → cond b (Some x) (at_face m ears) ≡ Some e → P e
   each_by n m x ears true e px all h = subst P (let both : Some x ≡ Some e = h in let one : x ≡ e = cc in one) px
   each_by n m x ears false e px all h = all m e h
 
-  each_put : (n : ℕ) (x : Ear) (ears : Ears) → P x → Each P ears → Each P (insert_entry nat_cmp ears n x)
+  each_put : (n : ℕ) (x : ToldSet) (ears : ToldSets) → P x → Each P ears → Each P (insert_entry nat_cmp ears n x)
   each_put n x ears px all m e at = each_by n m x ears (is_at (nat_cmp n) m) e px all (sym (found_put n m x ears) ∙ at)
 
-  taken_by : (m : ℕ) (ears : Ears) (b : Bool) (e : Ear) → Each P ears → cond b None (at_face m ears) ≡ Some e → P e
+  taken_by : (m : ℕ) (ears : ToldSets) (b : Bool) (e : ToldSet) → Each P ears → cond b None (at_face m ears) ≡ Some e → P e
   taken_by m ears true e all h = absurd (let gap : None ≡ Some e = h in cc)
   taken_by m ears false e all h = all m e h
 
-  each_taken : (n : ℕ) (ears : Ears) → IsStrictlySortedBy nat_cmp (keys_of ears) → Each P ears → Each P (closed n ears)
+  each_taken : (n : ℕ) (ears : ToldSets) → IsStrictlySortedBy nat_cmp (keys_of ears) → Each P ears → Each P (closed n ears)
   each_taken n ears s all m e at = taken_by m ears (is_at (nat_cmp n) m) e all (sym (found_taken n m ears s) ∙ at)
 
-  module _ (step : (p : FacePlan) (e : Ear) → is_above p ≡ false → P e → P (planned_ear p e)) where
-    planned_by : (ears : Ears) (p : FacePlan) (o : Option Ear) → at_face p.face.0 ears ≡ o → is_above p ≡ false → Each P ears → Each P (option_map_or (λ (e : Ear). set_value (is_at (nat_cmp p.face.0)) ears (planned_ear p e)) o ears)
+  module _ (step : (p : FacePlan) (e : ToldSet) → is_above p ≡ false → P e → P (planned_ear p e)) where
+    planned_by : (ears : ToldSets) (p : FacePlan) (o : Option ToldSet) → at_face p.face.0 ears ≡ o → is_above p ≡ false → Each P ears → Each P (option_map_or (λ (e : ToldSet). set_value (is_at (nat_cmp p.face.0)) ears (planned_ear p e)) o ears)
     planned_by ears p None there low all = all
     planned_by ears p (Some x) there low all = λ m e at. each_by p.face.0 m (planned_ear p x) ears (is_at (nat_cmp p.face.0) m) e (step p x low (all p.face.0 x there)) all
         (sym (found_after_write nat_cmp_total exact_unsigned p.face.0 m (planned_ear p x) ears (ap is_some there)) ∙ at)
 
-    each_planned : (plan : List FacePlan) (ears : Ears) → list_any is_above plan ≡ false → Each P ears → Each P (put_plan plan ears)
+    each_planned : (plan : List FacePlan) (ears : ToldSets) → list_any is_above plan ≡ false → Each P ears → Each P (put_plan plan ears)
     each_planned [] ears low all = all
     each_planned (p ∷ plan) ears low all =
         let both = neither (is_above p) (list_any is_above plan) low in
@@ -121,10 +121,10 @@ module _ (P : Ear → Type 0) where
 below_of : (n : ℕ) → not (nat_lt n (2 ^ 32)) ≡ false → n < 2 ^ 32
 below_of n e = grind (arith, e)
 
-abbrev IsOrdered : Ear → Type 0
+abbrev IsOrdered : ToldSet → Type 0
 IsOrdered e = InOrder e.told
 
-abbrev HasId : Ear → Type 0
+abbrev HasId : ToldSet → Type 0
 HasId e = e.last < 2 ^ 32
 
 pub stay_sound : StaySound
@@ -148,7 +148,7 @@ stay_sound = record {
 }
 
 -- ---- last ids that stay
-module _ (way : Way) (ears : Ears) where
+module _ (way : Reason) (ears : ToldSets) where
   abbrev IsStill : FacePlan → Type 0
   IsStill p = last_at p.face.0 ears ≡ Some p.last
 
@@ -156,36 +156,36 @@ module _ (way : Way) (ears : Ears) where
   more_still [] qs a b = b
   more_still (p ∷ ps) qs a b = (a.0, more_still ps qs a.1 b)
 
-  still_by : (p : Planned) (d : FaceDues) (o : Option Ear) → at_face d.face.0 ears ≡ o → option_map_or (λ (e : Ear). list_any (takes_id way e.told) d.keys) o false ≡ false → AllByRecursion IsStill p.plan
-      → AllByRecursion IsStill (option_map_or (λ (e : Ear). with_account d.face.0 (tell_keys way d.face.0 e d.keys p.tellings) p) o p).plan
+  still_by : (p : Planned) (d : FaceUpdate) (o : Option ToldSet) → at_face d.face.0 ears ≡ o → option_map_or (λ (e : ToldSet). list_any (takes_id way e.told) d.keys) o false ≡ false → AllByRecursion IsStill p.plan
+      → AllByRecursion IsStill (option_map_or (λ (e : ToldSet). with_account d.face.0 (tell_keys way d.face.0 e d.keys p.tellings) p) o p).plan
   still_by p d None there none all = all
   still_by p d (Some e) there none all =
       let start : Account = record { last = e.last; rows = []; tellings = p.tellings } in
       let a : Account = tell_keys way d.face.0 e d.keys p.tellings in
       let left : FacePlan = record { face = record { 0 = d.face.0 }; last = a.last; rows = a.rows } in
       let same : a.last ≡ e.last = counted way d.face.0 e.told d.keys start ∙ last_kept way ears e d.keys none in
-      more_still p.plan (left ∷ []) all (ap (option_map (λ (x : Ear). x.last)) there ∙ ap (λ l. Some l) (sym same), tt)
+      more_still p.plan (left ∷ []) all (ap (option_map (λ (x : ToldSet). x.last)) there ∙ ap (λ l. Some l) (sym same), tt)
 
-  still_all : (ds : List FaceDues) (p : Planned) → list_any (takes_ids way ears) ds ≡ false → AllByRecursion IsStill p.plan → AllByRecursion IsStill (fold (tell_face way ears) p ds).plan
+  still_all : (ds : List FaceUpdate) (p : Planned) → list_any (takes_ids way ears) ds ≡ false → AllByRecursion IsStill p.plan → AllByRecursion IsStill (fold (tell_face way ears) p ds).plan
   still_all [] p none all = all
   still_all (d ∷ ds) p none all =
       let both = neither (takes_ids way ears d) (list_any (takes_ids way ears) ds) none in
       still_all ds (tell_face way ears p d) both.1 (still_by p d (at_face d.face.0 ears) refl both.0 all)
 
-  abbrev Lasts : Ears → Type 0
+  abbrev Lasts : ToldSets → Type 0
   Lasts es = (n : ℕ) → last_at n es ≡ last_at n ears
 
-  put_by : (p : FacePlan) (x : Ear) (es : Ears) (n : ℕ) (b : Bool) → is_at (nat_cmp p.face.0) n ≡ b → IsStill p → Lasts es → option_map (λ (e : Ear). e.last) (cond b (Some (planned_ear p x)) (at_face n es)) ≡ last_at n ears
+  put_by : (p : FacePlan) (x : ToldSet) (es : ToldSets) (n : ℕ) (b : Bool) → is_at (nat_cmp p.face.0) n ≡ b → IsStill p → Lasts es → option_map (λ (e : ToldSet). e.last) (cond b (Some (planned_ear p x)) (at_face n es)) ≡ last_at n ears
   put_by p x es n true is still all = sym still ∙ ap (λ m. last_at m ears) (one_number p.face.0 n is)
   put_by p x es n false is still all = all n
 
-  lasts_by : (p : FacePlan) (es : Ears) (o : Option Ear) → at_face p.face.0 es ≡ o → IsStill p → Lasts es → Lasts (option_map_or (λ (e : Ear). set_value (is_at (nat_cmp p.face.0)) es (planned_ear p e)) o es)
+  lasts_by : (p : FacePlan) (es : ToldSets) (o : Option ToldSet) → at_face p.face.0 es ≡ o → IsStill p → Lasts es → Lasts (option_map_or (λ (e : ToldSet). set_value (is_at (nat_cmp p.face.0)) es (planned_ear p e)) o es)
   lasts_by p es None there still all = all
   lasts_by p es (Some x) there still all = λ n.
-      ap (option_map (λ (e : Ear). e.last)) (found_after_write nat_cmp_total exact_unsigned p.face.0 n (planned_ear p x) es (ap is_some there))
+      ap (option_map (λ (e : ToldSet). e.last)) (found_after_write nat_cmp_total exact_unsigned p.face.0 n (planned_ear p x) es (ap is_some there))
       ∙ put_by p x es n (is_at (nat_cmp p.face.0) n) refl still all
 
-  lasts_all : (plan : List FacePlan) (es : Ears) → AllByRecursion IsStill plan → Lasts es → Lasts (put_plan plan es)
+  lasts_all : (plan : List FacePlan) (es : ToldSets) → AllByRecursion IsStill plan → Lasts es → Lasts (put_plan plan es)
   lasts_all [] es still all = all
   lasts_all (p ∷ plan) es still all = lasts_all plan (put_face es p) still.1 (lasts_by p es (at_face p.face.0 es) refl still.0 all)
 
@@ -196,26 +196,26 @@ less_due way ears dues none = (
 )
 
 -- ---- what each face was told after a call
-ordered_by : (n : ℕ) (d : FaceDues) (ds : List FaceDues) (keys : List KeyDue) (b : Bool) → InOrder d.keys → (keys_for n ds ≡ Some keys → InOrder keys) → cond b (Some d.keys) (keys_for n ds) ≡ Some keys → InOrder keys
+ordered_by : (n : ℕ) (d : FaceUpdate) (ds : List FaceUpdate) (keys : List KeyDue) (b : Bool) → InOrder d.keys → (keys_for n ds ≡ Some keys → InOrder keys) → cond b (Some d.keys) (keys_for n ds) ≡ Some keys → InOrder keys
 ordered_by n d ds keys true o more h = subst InOrder (let both : Some d.keys ≡ Some keys = h in let one : d.keys ≡ keys = cc in one) o
 ordered_by n d ds keys false o more h = more h
 
-ordered_for : (n : ℕ) (ds : List FaceDues) (keys : List KeyDue) → AllByRecursion (λ (d : FaceDues). InOrder d.keys) ds → keys_for n ds ≡ Some keys → InOrder keys
+ordered_for : (n : ℕ) (ds : List FaceUpdate) (keys : List KeyDue) → AllByRecursion (λ (d : FaceUpdate). InOrder d.keys) ds → keys_for n ds ≡ Some keys → InOrder keys
 ordered_for n [] keys all h = absurd (let gap : None ≡ Some keys = h in cc)
 ordered_for n (d ∷ ds) keys all h = ordered_by n d ds keys (is_at (nat_cmp n) d.face.0) all.0 (λ g. ordered_for n ds keys all.1 g) h
 
-module _ (way : Way) (n : ℕ) (ear : Ear) (sorted : InOrder ear.told) (key : List ℕ) where
-  abbrev info_in : Option Ear → Option (Option QueryableInfoType)
-  info_in o = option_map (λ (e : Ear). told_info e key) o
+module _ (way : Reason) (n : ℕ) (ear : ToldSet) (sorted : InOrder ear.told) (key : List ℕ) where
+  abbrev info_in : Option ToldSet → Option (Option QueryableInfoType)
+  info_in o = option_map (λ (e : ToldSet). told_info e key) o
 
-  aimed_by : (ds : List FaceDues) (o : Option (List KeyDue)) → keys_for n ds ≡ o → AllByRecursion (λ (d : FaceDues). InOrder d.keys) ds
-      → info_in (option_map_or (λ keys. option_map (λ (e : Ear). ear_after way n e keys) (Some ear)) o (Some ear)) ≡ Some (option_map_or (λ keys. aim_on way keys (told_info ear key) key) o (told_info ear key))
+  aimed_by : (ds : List FaceUpdate) (o : Option (List KeyDue)) → keys_for n ds ≡ o → AllByRecursion (λ (d : FaceUpdate). InOrder d.keys) ds
+      → info_in (option_map_or (λ keys. option_map (λ (e : ToldSet). ear_after way n e keys) (Some ear)) o (Some ear)) ≡ Some (option_map_or (λ keys. aim_on way keys (told_info ear key) key) o (told_info ear key))
   aimed_by ds None is all = refl
   aimed_by ds (Some keys) is all = ap (λ i. Some i) (told_aimed way n ear keys sorted (ordered_for n ds keys all is) key)
 
-  aimed_in : (ears : Ears) (ds : List FaceDues) → at_face n ears ≡ Some ear → AllByRecursion (λ (d : FaceDues). InOrder d.keys) ds
-      → info_in (option_map_or (λ keys. option_map (λ (e : Ear). ear_after way n e keys) (at_face n ears)) (keys_for n ds) (at_face n ears)) ≡ Some (option_map_or (λ keys. aim_on way keys (told_info ear key) key) (keys_for n ds) (told_info ear key))
-  aimed_in ears ds there all = ap (λ o. info_in (option_map_or (λ keys. option_map (λ (e : Ear). ear_after way n e keys) o) (keys_for n ds) o)) there ∙ aimed_by ds (keys_for n ds) refl all
+  aimed_in : (ears : ToldSets) (ds : List FaceUpdate) → at_face n ears ≡ Some ear → AllByRecursion (λ (d : FaceUpdate). InOrder d.keys) ds
+      → info_in (option_map_or (λ keys. option_map (λ (e : ToldSet). ear_after way n e keys) (at_face n ears)) (keys_for n ds) (at_face n ears)) ≡ Some (option_map_or (λ keys. aim_on way keys (told_info ear key) key) (keys_for n ds) (told_info ear key))
+  aimed_in ears ds there all = ap (λ o. info_in (option_map_or (λ keys. option_map (λ (e : ToldSet). ear_after way n e keys) o) (keys_for n ds) o)) there ∙ aimed_by ds (keys_for n ds) refl all
 
 pub tells_aimed : TellsAimed
-tells_aimed way ears dues faces keys n ear there sorted key = ap (option_map (λ (e : Ear). told_info e key)) (looks_up way ears dues faces n) ∙ aimed_in way n ear sorted key ears dues there keys
+tells_aimed way ears dues faces keys n ear there sorted key = ap (option_map (λ (e : ToldSet). told_info e key)) (looks_up way ears dues faces n) ∙ aimed_in way n ear sorted key ears dues there keys

@@ -10,7 +10,7 @@ use Rattle.std.proofs.lemmas.Cmp.{nat_cmp_total}
 use Rattle.std.proofs.lemmas.Map.Entries.{option_filter}
 use Rattle.zq_message.specs.declared.message.QueryableInfoType.{QueryableInfoType}
 use Rattle.zq_told.specs.declared.types.ToldEntry.{ToldEntry}
-use Rattle.zq_told.specs.Ears.{at_face}
+use Rattle.zq_told.specs.ToldSets.{at_face}
 use Rattle.zq_key.proofs.Sorted.{sorted_in, sorted_out}
 use Rattle.zq_told.specs.Receiver.{Heard, Memory, Tied, heard_on, is_heard_on, is_left}
 use Rattle.zq_told.proofs.Entries.{found_put, found_taken, found_filtered, sorted_left, no_entry, one_entry, same_text, text_itself, one_number, itself, is_other}

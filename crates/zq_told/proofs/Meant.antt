@@ -6,12 +6,12 @@ use Rattle.std.specs.Option.{is_some, option_map_or}
 use Rattle.std.specs.Str.{bytes_eq}
 use Rattle.zq_message.specs.declared.message.QueryableInfoType.{QueryableInfoType}
 use Rattle.zq_index.specs.Texts.{at_text}
-use Rattle.zq_trees.specs.declared.types.Telling.{Telling}
-use Rattle.zq_told.specs.declared.types.Way.{Way}
-use Rattle.zq_told.specs.declared.types.FaceDues.{FaceDues}
+use Rattle.zq_strategy.specs.declared.network.Telling.{Telling}
+use Rattle.zq_told.specs.declared.types.Reason.{Reason}
+use Rattle.zq_told.specs.declared.types.FaceUpdate.{FaceUpdate}
 use Rattle.zq_told.specs.declared.types.Planned.{Planned}
 use Rattle.zq_told.specs.declared.plan.Account.{Account}
-use Rattle.zq_told.specs.Ears.{Ear, Ears, Told, at_face}
+use Rattle.zq_told.specs.ToldSets.{ToldSet, ToldSets, Told, at_face}
 use Rattle.zq_told.specs.Telling.{KeyDue, entry_for, tell_face, tell_key, tell_keys, tellings_for, told_under, with_account}
 use Rattle.zq_told.specs.Laws.{keys_for, told_in}
 use Rattle.zq_told.specs.Leaving.{IsMeant, TellsMeant, TellsNoOther, is_looked_at}
@@ -26,7 +26,7 @@ or_true : (b : Bool) → (b || true) ≡ true
 or_true true = refl
 or_true false = refl
 
-module _ (way : Way) (ears : Ears) (P : Telling → Type 0) where
+module _ (way : Reason) (ears : ToldSets) (P : Telling → Type 0) where
   -- whatever a face is told of a key is such a one
   abbrev AreFine : ℕ → List KeyDue → Type 0
   AreFine n keys = AllByRecursion (λ (k : KeyDue). (id : ℕ) (info : Option QueryableInfoType) → P (told_under n k.0 id info)) keys
@@ -38,18 +38,18 @@ module _ (way : Way) (ears : Ears) (P : Telling → Type 0) where
       let more : AllByRecursion P ts = one_for way n k.0 (at_text k.0 told) (entry_for way a.last (at_text k.0 told) k.1) (λ ts. AllByRecursion P ts) tt (λ e. (fine.0 e.id (Some e.info), tt)) (λ e. (fine.0 e.id None, tt)) in
       fine_keys n told ks (tell_key way n told a k) fine.1 (all_append P a.tellings ts all more)
 
-  fine_by : (p : Planned) (d : FaceDues) (o : Option Ear) → (is_some o ≡ true → AreFine d.face.0 d.keys) → AllByRecursion P p.tellings
-      → AllByRecursion P (option_map_or (λ (e : Ear). with_account d.face.0 (tell_keys way d.face.0 e d.keys p.tellings) p) o p).tellings
+  fine_by : (p : Planned) (d : FaceUpdate) (o : Option ToldSet) → (is_some o ≡ true → AreFine d.face.0 d.keys) → AllByRecursion P p.tellings
+      → AllByRecursion P (option_map_or (λ (e : ToldSet). with_account d.face.0 (tell_keys way d.face.0 e d.keys p.tellings) p) o p).tellings
   fine_by p d None fine all = all
   fine_by p d (Some e) fine all = fine_keys d.face.0 e.told d.keys (record { last = e.last; rows = []; tellings = p.tellings }) (fine refl) all
 
-  fine_faces : (ds : List FaceDues) (p : Planned) → AllByRecursion (λ (d : FaceDues). is_some (at_face d.face.0 ears) ≡ true → AreFine d.face.0 d.keys) ds → AllByRecursion P p.tellings
+  fine_faces : (ds : List FaceUpdate) (p : Planned) → AllByRecursion (λ (d : FaceUpdate). is_some (at_face d.face.0 ears) ≡ true → AreFine d.face.0 d.keys) ds → AllByRecursion P p.tellings
       → AllByRecursion P (fold (tell_face way ears) p ds).tellings
   fine_faces [] p fine all = all
   fine_faces (d ∷ ds) p fine all = fine_faces ds (tell_face way ears p d) fine.1 (fine_by p d (at_face d.face.0 ears) fine.0 all)
 
 -- ---- the keys that the call looks at
-module _ (ears : Ears) (dues : List FaceDues) where
+module _ (ears : ToldSets) (dues : List FaceUpdate) where
   abbrev Asked : ℕ → List ℕ → Type 0
   Asked n key = is_looked_at dues n key ≡ true
 
@@ -61,8 +61,8 @@ module _ (ears : Ears) (dues : List FaceDues) where
     asked_keys n there ks (λ key h. all key (ap (λ b. bytes_eq key k.0 || b) h ∙ or_true (bytes_eq key k.0))),
   )
 
-  asked_faces : (ds : List FaceDues) → ((n : ℕ) (key : List ℕ) → is_looked_at ds n key ≡ true → Asked n key)
-      → AllByRecursion (λ (d : FaceDues). is_some (at_face d.face.0 ears) ≡ true → AllByRecursion (λ (k : KeyDue). (id : ℕ) (info : Option QueryableInfoType) → IsMeant ears dues (told_under d.face.0 k.0 id info)) d.keys) ds
+  asked_faces : (ds : List FaceUpdate) → ((n : ℕ) (key : List ℕ) → is_looked_at ds n key ≡ true → Asked n key)
+      → AllByRecursion (λ (d : FaceUpdate). is_some (at_face d.face.0 ears) ≡ true → AllByRecursion (λ (k : KeyDue). (id : ℕ) (info : Option QueryableInfoType) → IsMeant ears dues (told_under d.face.0 k.0 id info)) d.keys) ds
   asked_faces [] all = tt
   asked_faces (d ∷ ds) all = (
     λ there. asked_keys d.face.0 there d.keys (λ key h. all d.face.0 key (λ i. (eq-eqb d.face.0 d.face.0 refl i && h i) || is_looked_at ds d.face.0 key)),
@@ -73,28 +73,28 @@ pub tells_meant : TellsMeant
 tells_meant way ears dues = fine_faces way ears (IsMeant ears dues) dues (record { plan = []; tellings = [] }) (asked_faces ears dues dues (λ n key h. h)) tt
 
 -- ---- faces that are told nothing
-module _ (way : Way) (n : ℕ) where
-  abbrev alone : Option Ear → FaceDues → List Telling
-  alone o d = cond (n == d.face.0) (option_map_or (λ (e : Ear). told_in way n e d.keys) o []) []
+module _ (way : Reason) (n : ℕ) where
+  abbrev alone : Option ToldSet → FaceUpdate → List Telling
+  alone o d = cond (n == d.face.0) (option_map_or (λ (e : ToldSet). told_in way n e d.keys) o []) []
 
   none_by : (b : Bool) → (let x : List Telling = cond b [] [] in x) ≡ []
   none_by true = refl
   none_by false = refl
 
-  none_there : (ds : List FaceDues) → flat_map (alone None) ds ≡ []
+  none_there : (ds : List FaceUpdate) → flat_map (alone None) ds ≡ []
   none_there [] = refl
   none_there (d ∷ ds) = λ i. none_by (n == d.face.0) i ++ none_there ds i
 
-  none_asked_by : (e : Ear) (d : FaceDues) (ds : List FaceDues) (b : Bool) → is_at (nat_cmp n) d.face.0 ≡ b → cond b (Some d.keys) (keys_for n ds) ≡ None
+  none_asked_by : (e : ToldSet) (d : FaceUpdate) (ds : List FaceUpdate) (b : Bool) → is_at (nat_cmp n) d.face.0 ≡ b → cond b (Some d.keys) (keys_for n ds) ≡ None
       → (keys_for n ds ≡ None → flat_map (alone (Some e)) ds ≡ []) → alone (Some e) d ++ flat_map (alone (Some e)) ds ≡ []
   none_asked_by e d ds true is h more = absurd (let gap : Some d.keys ≡ None = h in cc)
   none_asked_by e d ds false is h more = λ i. cond (not_same n d.face.0 (is_other n d.face.0 is) i) (told_in way n e d.keys) [] ++ more h i
 
-  none_asked : (e : Ear) (ds : List FaceDues) → keys_for n ds ≡ None → flat_map (alone (Some e)) ds ≡ []
+  none_asked : (e : ToldSet) (ds : List FaceUpdate) → keys_for n ds ≡ None → flat_map (alone (Some e)) ds ≡ []
   none_asked e [] h = refl
   none_asked e (d ∷ ds) h = none_asked_by e d ds (is_at (nat_cmp n) d.face.0) refl h (λ g. none_asked e ds g)
 
-  none_either : (o : Option Ear) (ds : List FaceDues) → keys_for n ds ≡ None → flat_map (alone o) ds ≡ []
+  none_either : (o : Option ToldSet) (ds : List FaceUpdate) → keys_for n ds ≡ None → flat_map (alone o) ds ≡ []
   none_either None ds h = none_there ds
   none_either (Some e) ds h = none_asked e ds h
 

@@ -13,13 +13,13 @@ use Rattle.std.proofs.lemmas.Map.Made.{lookup-map_values}
 use Rattle.zq_index.specs.Infos.{same_info}
 use Rattle.zq_index.specs.Texts.{at_text, text_cmp}
 use Rattle.zq_told.specs.declared.types.ToldEntry.{ToldEntry}
-use Rattle.zq_told.specs.declared.types.Way.{Way}
-use Rattle.zq_told.specs.declared.types.Way.TheVariants.{Unasked, Answering, Ending}
-use Rattle.zq_told.specs.declared.types.FaceDues.{FaceDues}
+use Rattle.zq_told.specs.declared.types.Reason.{Reason}
+use Rattle.zq_told.specs.declared.types.Reason.TheVariants.{Update, Answer, End}
+use Rattle.zq_told.specs.declared.types.FaceUpdate.{FaceUpdate}
 use Rattle.zq_told.specs.declared.types.FacePlan.{FacePlan}
 use Rattle.zq_told.specs.declared.types.Planned.{Planned}
 use Rattle.zq_told.specs.declared.plan.Account.{Account}
-use Rattle.zq_told.specs.Ears.{Ear, Ears, Told, at_face, last_at, told_at}
+use Rattle.zq_told.specs.ToldSets.{ToldSet, ToldSets, Told, at_face, last_at, told_at}
 use Rattle.zq_told.specs.Telling.{KeyDue, Row, declared, entry_for, is_above, noted, planned_ear, put_face, put_plan, put_row, tell_face, tell_faces, tell_key, tell_keys, tellings_for, with_account}
 use Rattle.zq_told.specs.Leaving.{fresh_ear}
 use Rattle.zq_told.specs.Moved.{KeepsTexts, TellsAlike, move_dues, move_ear, move_ears, move_plan, move_planned, move_telling, move_text}
@@ -71,21 +71,21 @@ module _ (φ : List ℕ → List ℕ) (keeps : KeepsTexts φ) where
   change_by n key e true = refl
   change_by n key e false = refl
 
-  words_moved : (way : Way) (n : ℕ) (key : List ℕ) (old new : Option ToldEntry) → tellings_for way n (φ key) old new ≡ map (move_telling φ) (tellings_for way n key old new)
-  words_moved Unasked n key None None = refl
-  words_moved Unasked n key (Some t) None = refl
-  words_moved Unasked n key None (Some e) = refl
-  words_moved Unasked n key (Some t) (Some e) = change_by n key e (same_info t.info e.info)
-  words_moved Answering n key old None = refl
-  words_moved Answering n key old (Some e) = refl
-  words_moved Ending n key None new = refl
-  words_moved Ending n key (Some t) None = refl
-  words_moved Ending n key (Some t) (Some e) = change_by n key e (same_info t.info e.info)
+  words_moved : (way : Reason) (n : ℕ) (key : List ℕ) (old new : Option ToldEntry) → tellings_for way n (φ key) old new ≡ map (move_telling φ) (tellings_for way n key old new)
+  words_moved Update n key None None = refl
+  words_moved Update n key (Some t) None = refl
+  words_moved Update n key None (Some e) = refl
+  words_moved Update n key (Some t) (Some e) = change_by n key e (same_info t.info e.info)
+  words_moved Answer n key old None = refl
+  words_moved Answer n key old (Some e) = refl
+  words_moved End n key None new = refl
+  words_moved End n key (Some t) None = refl
+  words_moved End n key (Some t) (Some e) = change_by n key e (same_info t.info e.info)
 
   abbrev move_account : Account → Account
   move_account a = record { last = a.last; rows = moved a.rows; tellings = map (move_telling φ) a.tellings }
 
-  module _ (way : Way) (n : ℕ) (told : Told) where
+  module _ (way : Reason) (n : ℕ) (told : Told) where
     noted_moved : (a : Account) (key : List ℕ) (old new : Option ToldEntry) → noted way n (φ key) old new (move_account a) ≡ move_account (noted way n key old new a)
     noted_moved a key old new =
         let rows = sym (map-append (move_text φ) a.rows ((key, new) ∷ [])) in
@@ -102,10 +102,10 @@ module _ (φ : List ℕ → List ℕ) (keeps : KeepsTexts φ) where
     keys_moved (k ∷ ks) a = ap (λ b. fold (tell_key way n (moved told)) b (moved ks)) (key_moved a k) ∙ keys_moved ks (tell_key way n told a k)
 
   -- ---- faces
-  module _ (way : Way) (ears : Ears) where
-    face_by : (p : Planned) (d : FaceDues) (o : Option Ear)
-        → option_map_or (λ (e : Ear). with_account d.face.0 (tell_keys way d.face.0 e (moved d.keys) (map (move_telling φ) p.tellings)) (move_planned φ p)) (option_map (move_ear φ) o) (move_planned φ p)
-        ≡ move_planned φ (option_map_or (λ (e : Ear). with_account d.face.0 (tell_keys way d.face.0 e d.keys p.tellings) p) o p)
+  module _ (way : Reason) (ears : ToldSets) where
+    face_by : (p : Planned) (d : FaceUpdate) (o : Option ToldSet)
+        → option_map_or (λ (e : ToldSet). with_account d.face.0 (tell_keys way d.face.0 e (moved d.keys) (map (move_telling φ) p.tellings)) (move_planned φ p)) (option_map (move_ear φ) o) (move_planned φ p)
+        ≡ move_planned φ (option_map_or (λ (e : ToldSet). with_account d.face.0 (tell_keys way d.face.0 e d.keys p.tellings) p) o p)
     face_by p d None = refl
     face_by p d (Some e) =
         let a : Account = tell_keys way d.face.0 e d.keys p.tellings in
@@ -114,45 +114,45 @@ module _ (φ : List ℕ → List ℕ) (keeps : KeepsTexts φ) where
         ap (λ (x : Account). with_account d.face.0 x (move_planned φ p)) (keys_moved way d.face.0 e.told d.keys (record { last = e.last; rows = []; tellings = p.tellings }))
         ∙ (λ i. record { plan = plan i; tellings = map (move_telling φ) a.tellings })
 
-    face_moved : (p : Planned) (d : FaceDues) → tell_face way (move_ears φ ears) (move_planned φ p) (move_dues φ d) ≡ move_planned φ (tell_face way ears p d)
+    face_moved : (p : Planned) (d : FaceUpdate) → tell_face way (move_ears φ ears) (move_planned φ p) (move_dues φ d) ≡ move_planned φ (tell_face way ears p d)
     face_moved p d =
-        ap (λ o. option_map_or (λ (e : Ear). with_account d.face.0 (tell_keys way d.face.0 e (moved d.keys) (map (move_telling φ) p.tellings)) (move_planned φ p)) o (move_planned φ p)) (lookup-map_values (move_ear φ) (is_at (nat_cmp d.face.0)) ears)
+        ap (λ o. option_map_or (λ (e : ToldSet). with_account d.face.0 (tell_keys way d.face.0 e (moved d.keys) (map (move_telling φ) p.tellings)) (move_planned φ p)) o (move_planned φ p)) (lookup-map_values (move_ear φ) (is_at (nat_cmp d.face.0)) ears)
         ∙ face_by p d (at_face d.face.0 ears)
 
-    faces_moved : (ds : List FaceDues) (p : Planned) → fold (tell_face way (move_ears φ ears)) (move_planned φ p) (map (move_dues φ) ds) ≡ move_planned φ (fold (tell_face way ears) p ds)
+    faces_moved : (ds : List FaceUpdate) (p : Planned) → fold (tell_face way (move_ears φ ears)) (move_planned φ p) (map (move_dues φ) ds) ≡ move_planned φ (fold (tell_face way ears) p ds)
     faces_moved [] p = refl
     faces_moved (d ∷ ds) p = ap (λ q. fold (tell_face way (move_ears φ ears)) q (map (move_dues φ) ds)) (face_moved p d) ∙ faces_moved ds (tell_face way ears p d)
 
-  tells : (way : Way) (ears : Ears) (dues : List FaceDues) → tell_faces way (move_ears φ ears) (map (move_dues φ) dues) ≡ move_planned φ (tell_faces way ears dues)
+  tells : (way : Reason) (ears : ToldSets) (dues : List FaceUpdate) → tell_faces way (move_ears φ ears) (map (move_dues φ) dues) ≡ move_planned φ (tell_faces way ears dues)
   tells way ears dues = faces_moved way ears dues (record { plan = []; tellings = [] })
 
   lacks_moved : (plan : List FacePlan) → list_any is_above (map (move_plan φ) plan) ≡ list_any is_above plan
   lacks_moved [] = refl
   lacks_moved (p ∷ plan) = ap (λ b. is_above p || b) (lacks_moved plan)
 
-  planned_moved : (p : FacePlan) (e : Ear) → planned_ear (move_plan φ p) (move_ear φ e) ≡ move_ear φ (planned_ear p e)
+  planned_moved : (p : FacePlan) (e : ToldSet) → planned_ear (move_plan φ p) (move_ear φ e) ≡ move_ear φ (planned_ear p e)
   planned_moved p e = let rows = rows_moved p.rows e.told in λ i. record { last = p.last; told = rows i }
 
-  puts : (plan : List FacePlan) (ears : Ears) → put_plan (map (move_plan φ) plan) (move_ears φ ears) ≡ move_ears φ (put_plan plan ears)
+  puts : (plan : List FacePlan) (ears : ToldSets) → put_plan (map (move_plan φ) plan) (move_ears φ ears) ≡ move_ears φ (put_plan plan ears)
   puts [] ears = refl
   puts (p ∷ plan) ears =
       ap (put_plan (map (move_plan φ) plan)) (change-map (move_ear φ) (is_at (nat_cmp p.face.0)) (planned_ear (move_plan φ p)) (planned_ear p) (planned_moved p) ears)
       ∙ puts plan (put_face ears p)
 
   -- ---- what is found
-  finds_by : (key : List ℕ) (o : Option Ear) → option_and_then (λ (e : Ear). at_text (φ key) e.told) (option_map (move_ear φ) o) ≡ option_and_then (λ (e : Ear). at_text key e.told) o
+  finds_by : (key : List ℕ) (o : Option ToldSet) → option_and_then (λ (e : ToldSet). at_text (φ key) e.told) (option_map (move_ear φ) o) ≡ option_and_then (λ (e : ToldSet). at_text key e.told) o
   finds_by key None = refl
   finds_by key (Some e) = found key e.told
 
-  finds : (n : ℕ) (key : List ℕ) (ears : Ears) → told_at n (φ key) (move_ears φ ears) ≡ told_at n key ears
-  finds n key ears = ap (option_and_then (λ (e : Ear). at_text (φ key) e.told)) (lookup-map_values (move_ear φ) (is_at (nat_cmp n)) ears) ∙ finds_by key (at_face n ears)
+  finds : (n : ℕ) (key : List ℕ) (ears : ToldSets) → told_at n (φ key) (move_ears φ ears) ≡ told_at n key ears
+  finds n key ears = ap (option_and_then (λ (e : ToldSet). at_text (φ key) e.told)) (lookup-map_values (move_ear φ) (is_at (nat_cmp n)) ears) ∙ finds_by key (at_face n ears)
 
-  counts_by : (o : Option Ear) → option_map (λ (e : Ear). e.last) (option_map (move_ear φ) o) ≡ option_map (λ (e : Ear). e.last) o
+  counts_by : (o : Option ToldSet) → option_map (λ (e : ToldSet). e.last) (option_map (move_ear φ) o) ≡ option_map (λ (e : ToldSet). e.last) o
   counts_by None = refl
   counts_by (Some e) = refl
 
-  counts : (n : ℕ) (ears : Ears) → last_at n (move_ears φ ears) ≡ last_at n ears
-  counts n ears = ap (option_map (λ (e : Ear). e.last)) (lookup-map_values (move_ear φ) (is_at (nat_cmp n)) ears) ∙ counts_by (at_face n ears)
+  counts : (n : ℕ) (ears : ToldSets) → last_at n (move_ears φ ears) ≡ last_at n ears
+  counts n ears = ap (option_map (λ (e : ToldSet). e.last)) (lookup-map_values (move_ear φ) (is_at (nat_cmp n)) ears) ∙ counts_by (at_face n ears)
 
   pub tells_alike : TellsAlike φ
   tells_alike = record {

@@ -6,11 +6,11 @@ use Rattle.std.proofs.lemmas.Bool.{ltb-true, lt-ltb}
 use Rattle.std.proofs.lemmas.List.Sums.{fold-append}
 use Rattle.zq_message.specs.declared.message.QueryableInfoType.{QueryableInfoType}
 use Rattle.zq_index.specs.Infos.{same_info}
-use Rattle.zq_trees.specs.declared.types.Telling.{Telling}
+use Rattle.zq_strategy.specs.declared.network.Telling.{Telling}
 use Rattle.zq_told.specs.declared.types.ToldEntry.{ToldEntry}
-use Rattle.zq_told.specs.declared.types.Way.{Way}
-use Rattle.zq_told.specs.declared.types.Way.TheVariants.{Unasked, Answering, Ending}
-use Rattle.zq_told.specs.Ears.{Told, at_face}
+use Rattle.zq_told.specs.declared.types.Reason.{Reason}
+use Rattle.zq_told.specs.declared.types.Reason.TheVariants.{Update, Answer, End}
+use Rattle.zq_told.specs.ToldSets.{Told, at_face}
 use Rattle.zq_told.specs.Telling.{KeyDue, declared, entry_for, last_for, tellings_for}
 use Rattle.zq_told.specs.Receiver.{Heard, Memory, Tied, heard_on, memory_of, receive}
 use Rattle.zq_told.specs.Laws.{AreGiven, IdsAreGiven, ear_after, is_empty, last_given, stands_for}
@@ -56,26 +56,26 @@ module _ (n : ℕ) (ear : Memory) (heard : Heard) (t : Tied ear heard) (key : Li
   news_given u i true was = (tt, refl)
   news_given u i false was = again_given u i was
 
-  key_given : (way : Way) (old : Option ToldEntry) (due : Option QueryableInfoType) → ear.told key ≡ old → Given (tellings_for way n key old (entry_for way ear.last old due)) (last_for ear.last old (entry_for way ear.last old due))
-  key_given Unasked None None was = (tt, refl)
-  key_given Answering None None was = (tt, refl)
-  key_given Ending None None was = (tt, refl)
-  key_given Unasked (Some u) None was = ((stands u was, tt), old_last u was)
-  key_given Answering (Some u) None was = (tt, refl)
-  key_given Ending (Some u) None was = (tt, refl)
-  key_given Unasked None (Some i) was = new_given i was
-  key_given Answering None (Some i) was = new_given i was
-  key_given Ending None (Some i) was = (tt, refl)
-  key_given Unasked (Some u) (Some i) was = news_given u i (same_info u.info i) was
-  key_given Answering (Some u) (Some i) was = again_given u i was
-  key_given Ending (Some u) (Some i) was = news_given u i (same_info u.info i) was
+  key_given : (way : Reason) (old : Option ToldEntry) (due : Option QueryableInfoType) → ear.told key ≡ old → Given (tellings_for way n key old (entry_for way ear.last old due)) (last_for ear.last old (entry_for way ear.last old due))
+  key_given Update None None was = (tt, refl)
+  key_given Answer None None was = (tt, refl)
+  key_given End None None was = (tt, refl)
+  key_given Update (Some u) None was = ((stands u was, tt), old_last u was)
+  key_given Answer (Some u) None was = (tt, refl)
+  key_given End (Some u) None was = (tt, refl)
+  key_given Update None (Some i) was = new_given i was
+  key_given Answer None (Some i) was = new_given i was
+  key_given End None (Some i) was = (tt, refl)
+  key_given Update (Some u) (Some i) was = news_given u i (same_info u.info i) was
+  key_given Answer (Some u) (Some i) was = again_given u i was
+  key_given End (Some u) (Some i) was = news_given u i (same_info u.info i) was
 
 -- ---- many keys
 given_append : (xs ys : List Telling) (last : ℕ) (heard : Heard) → AreGiven last heard xs → AreGiven (fold last_given last xs) (fold receive heard xs) ys → AreGiven last heard (xs ++ ys)
 given_append [] ys last heard a b = b
 given_append (x ∷ xs) ys last heard a b = (a.0, given_append xs ys (last_given last x) (receive heard x) a.1 b)
 
-module _ (way : Way) (n : ℕ) (told : Told) (heard : Heard) (start : ℕ) where
+module _ (way : Reason) (n : ℕ) (told : Told) (heard : Heard) (start : ℕ) where
   record Numbered (s : Story way n told) : Type 0 where
     fits : Tied s.memory (fold receive heard s.tellings)
     given : AreGiven start heard s.tellings

@@ -10,15 +10,15 @@ use Rattle.std.specs.Map.{keys_of}
 use Rattle.std.proofs.lemmas.Map.Keys.{sorted_head, sorted_tail}
 use Rattle.zq_index.specs.Infos.{same_info}
 use Rattle.zq_index.specs.Texts.{at_text, text_cmp}
-use Rattle.zq_trees.specs.declared.types.Telling.{Telling}
-use Rattle.zq_trees.specs.Tellings.{telling_cmp}
+use Rattle.zq_strategy.specs.declared.network.Telling.{Telling}
+use Rattle.zq_strategy.specs.Tellings.{telling_cmp}
 use Rattle.zq_told.specs.declared.types.ToldEntry.{ToldEntry}
-use Rattle.zq_told.specs.declared.types.Way.{Way}
-use Rattle.zq_told.specs.declared.types.Way.TheVariants.{Unasked, Answering, Ending}
-use Rattle.zq_told.specs.declared.types.FaceDues.{FaceDues}
+use Rattle.zq_told.specs.declared.types.Reason.{Reason}
+use Rattle.zq_told.specs.declared.types.Reason.TheVariants.{Update, Answer, End}
+use Rattle.zq_told.specs.declared.types.FaceUpdate.{FaceUpdate}
 use Rattle.zq_told.specs.declared.types.Planned.{Planned}
 use Rattle.zq_told.specs.declared.plan.Account.{Account}
-use Rattle.zq_told.specs.Ears.{Ear, Ears, Told, at_face}
+use Rattle.zq_told.specs.ToldSets.{ToldSet, ToldSets, Told, at_face}
 use Rattle.zq_told.specs.Telling.{KeyDue, declared, entry_for, tell_face, tell_key, tell_keys, tellings_for, with_account, withdrawn}
 use Rattle.zq_told.specs.Laws.{InOrder, TellsInOrder}
 use Rattle.zq_told.proofs.Entries.{itself}
@@ -78,7 +78,7 @@ behind_before m ts k = all_weaker (λ (u : Telling). nat_cmp u.face.0 m ≡ Less
 next_key : (m : ℕ) (k j : List ℕ) → text_cmp k j ≡ Less → telling_cmp (probe m k) (probe m j) ≡ Less
 next_key m k j l = ap (λ r. ordering_then r (ordering_then (text_cmp k j) (nat_cmp 0 0))) (same_number m) ∙ ap (λ r. ordering_then r (nat_cmp 0 0)) l
 
-module _ (way : Way) (m : ℕ) (k : List ℕ) (old new : Option ToldEntry) (Q : List Telling → Type 0) (none : Q []) (tells : (e : ToldEntry) → Q (declared m k e ∷ [])) (ends : (e : ToldEntry) → Q (withdrawn m k e ∷ [])) where
+module _ (way : Reason) (m : ℕ) (k : List ℕ) (old new : Option ToldEntry) (Q : List Telling → Type 0) (none : Q []) (tells : (e : ToldEntry) → Q (declared m k e ∷ [])) (ends : (e : ToldEntry) → Q (withdrawn m k e ∷ [])) where
   change_by : (e : ToldEntry) (b : Bool) → Q (cond b [] (declared m k e ∷ []))
   change_by e true = none
   change_by e false = tells e
@@ -87,18 +87,18 @@ module _ (way : Way) (m : ℕ) (k : List ℕ) (old new : Option ToldEntry) (Q : 
   pub one_for : Q (tellings_for way m k old new)
   one_for = by way old new
     where
-      by : (w : Way) (o x : Option ToldEntry) → Q (tellings_for w m k o x)
-      by Unasked None None = none
-      by Unasked (Some t) None = ends t
-      by Unasked None (Some e) = tells e
-      by Unasked (Some t) (Some e) = change_by e (same_info t.info e.info)
-      by Answering o None = none
-      by Answering o (Some e) = tells e
-      by Ending None x = none
-      by Ending (Some t) None = none
-      by Ending (Some t) (Some e) = change_by e (same_info t.info e.info)
+      by : (w : Reason) (o x : Option ToldEntry) → Q (tellings_for w m k o x)
+      by Update None None = none
+      by Update (Some t) None = ends t
+      by Update None (Some e) = tells e
+      by Update (Some t) (Some e) = change_by e (same_info t.info e.info)
+      by Answer o None = none
+      by Answer o (Some e) = tells e
+      by End None x = none
+      by End (Some t) None = none
+      by End (Some t) (Some e) = change_by e (same_info t.info e.info)
 
-module _ (way : Way) (m : ℕ) (told : Told) where
+module _ (way : Reason) (m : ℕ) (told : Told) where
   abbrev words : Account → KeyDue → List Telling
   words a k = tellings_for way m k.0 (at_text k.0 told) (entry_for way a.last (at_text k.0 told) k.1)
 
@@ -127,31 +127,31 @@ module _ (way : Way) (m : ℕ) (told : Told) where
   behind_all ts (k ∷ ks) b = (behind_before m ts k.0 b, behind_all ts ks b)
 
 -- ---- many faces
-module _ (way : Way) (ears : Ears) where
-  abbrev told_face : Planned → FaceDues → Option Ear → Planned
-  told_face p d o = option_map_or (λ (e : Ear). with_account d.face.0 (tell_keys way d.face.0 e d.keys p.tellings) p) o p
+module _ (way : Reason) (ears : ToldSets) where
+  abbrev told_face : Planned → FaceUpdate → Option ToldSet → Planned
+  told_face p d o = option_map_or (λ (e : ToldSet). with_account d.face.0 (tell_keys way d.face.0 e d.keys p.tellings) p) o p
 
-  sorted_face : (p : Planned) (d : FaceDues) (o : Option Ear) → InOrder d.keys → Sorted p.tellings → Before p.tellings d.face.0 → Sorted (told_face p d o).tellings
+  sorted_face : (p : Planned) (d : FaceUpdate) (o : Option ToldSet) → InOrder d.keys → Sorted p.tellings → Before p.tellings d.face.0 → Sorted (told_face p d o).tellings
   sorted_face p d None keys s b = s
   sorted_face p d (Some e) keys s b = sorted_keys way d.face.0 e.told d.keys (record { last = e.last; rows = []; tellings = p.tellings }) keys s (behind_all way d.face.0 e.told p.tellings d.keys b)
 
-  before_face : (p : Planned) (d : FaceDues) (o : Option Ear) (n : ℕ) → nat_cmp d.face.0 n ≡ Less → Before p.tellings n → Before (told_face p d o).tellings n
+  before_face : (p : Planned) (d : FaceUpdate) (o : Option ToldSet) (n : ℕ) → nat_cmp d.face.0 n ≡ Less → Before p.tellings n → Before (told_face p d o).tellings n
   before_face p d None n l b = b
   before_face p d (Some e) n l b = before_keys way d.face.0 e.told n l d.keys (record { last = e.last; rows = []; tellings = p.tellings }) b
 
-  before_faces : (p : Planned) (d : FaceDues) (ds : List FaceDues) → AllByRecursion (λ q. nat_cmp d.face.0 q ≡ Less) (map (λ (d : FaceDues). d.face.0) ds) → AllByRecursion (λ (x : FaceDues). Before p.tellings x.face.0) ds → AllByRecursion (λ (x : FaceDues). Before (tell_face way ears p d).tellings x.face.0) ds
+  before_faces : (p : Planned) (d : FaceUpdate) (ds : List FaceUpdate) → AllByRecursion (λ q. nat_cmp d.face.0 q ≡ Less) (map (λ (d : FaceUpdate). d.face.0) ds) → AllByRecursion (λ (x : FaceUpdate). Before p.tellings x.face.0) ds → AllByRecursion (λ (x : FaceUpdate). Before (tell_face way ears p d).tellings x.face.0) ds
   before_faces p d [] above b = tt
   before_faces p d (x ∷ ds) above b = (before_face p d (at_face d.face.0 ears) x.face.0 above.0 b.0, before_faces p d ds above.1 b.1)
 
-  sorted_faces : (ds : List FaceDues) (p : Planned) → IsStrictlySortedBy nat_cmp (map (λ (d : FaceDues). d.face.0) ds) → AllByRecursion (λ (d : FaceDues). InOrder d.keys) ds → Sorted p.tellings → AllByRecursion (λ (x : FaceDues). Before p.tellings x.face.0) ds
+  sorted_faces : (ds : List FaceUpdate) (p : Planned) → IsStrictlySortedBy nat_cmp (map (λ (d : FaceUpdate). d.face.0) ds) → AllByRecursion (λ (d : FaceUpdate). InOrder d.keys) ds → Sorted p.tellings → AllByRecursion (λ (x : FaceUpdate). Before p.tellings x.face.0) ds
       → Sorted (fold (tell_face way ears) p ds).tellings
   sorted_faces [] p o keys s b = s
   sorted_faces (d ∷ ds) p o keys s b =
-      sorted_faces ds (tell_face way ears p d) (sorted_tail nat_cmp d.face.0 (map (λ (d : FaceDues). d.face.0) ds) o) keys.1
+      sorted_faces ds (tell_face way ears p d) (sorted_tail nat_cmp d.face.0 (map (λ (d : FaceUpdate). d.face.0) ds) o) keys.1
       (sorted_face p d (at_face d.face.0 ears) keys.0 s b.0)
-      (before_faces p d ds (sorted_head nat_cmp d.face.0 (map (λ (d : FaceDues). d.face.0) ds) o) b.1)
+      (before_faces p d ds (sorted_head nat_cmp d.face.0 (map (λ (d : FaceUpdate). d.face.0) ds) o) b.1)
 
-  before_first : (ds : List FaceDues) → AllByRecursion (λ (x : FaceDues). Before [] x.face.0) ds
+  before_first : (ds : List FaceUpdate) → AllByRecursion (λ (x : FaceUpdate). Before [] x.face.0) ds
   before_first [] = tt
   before_first (d ∷ ds) = (tt, before_first ds)
 

@@ -10,13 +10,13 @@ use Rattle.std.proofs.lemmas.Grind.{common_steps}
 use Rattle.zq_message.specs.declared.message.QueryableInfoType.{QueryableInfoType}
 use Rattle.zq_index.specs.Texts.{at_text}
 use Rattle.zq_told.specs.declared.types.ToldEntry.{ToldEntry}
-use Rattle.zq_told.specs.declared.types.Way.{Way}
-use Rattle.zq_told.specs.declared.types.Way.TheVariants.{Unasked, Answering, Ending}
-use Rattle.zq_told.specs.declared.types.FaceDues.{FaceDues}
+use Rattle.zq_told.specs.declared.types.Reason.{Reason}
+use Rattle.zq_told.specs.declared.types.Reason.TheVariants.{Update, Answer, End}
+use Rattle.zq_told.specs.declared.types.FaceUpdate.{FaceUpdate}
 use Rattle.zq_told.specs.declared.types.FacePlan.{FacePlan}
 use Rattle.zq_told.specs.declared.types.Planned.{Planned}
 use Rattle.zq_told.specs.declared.plan.Account.{Account}
-use Rattle.zq_told.specs.Ears.{Ear, Ears, Told, at_face}
+use Rattle.zq_told.specs.ToldSets.{ToldSet, ToldSets, Told, at_face}
 use Rattle.zq_told.specs.Telling.{KeyDue, entry_for, last_for, is_above, tell_face, tell_key, tell_keys, with_account}
 
 module _ {X Y : Type 0} (f : Y → X → Y) (P : Y → Type 0) (step : (y : Y) (x : X) → P y → P (f y x)) where
@@ -34,17 +34,17 @@ pub err_moves : (A B : Type 0) (e : TellRefusal) → IsErrOf {T = A} (Err e) NoF
 err_moves A B e h = let same : e ≡ NoFreeId = cc in ap (λ y. Err y) same
 
 -- ---- the id given last only rises
-rises_by : (way : Way) (last : ℕ) (old : Option ToldEntry) (due : Option QueryableInfoType) → last ≤ last_for last old (entry_for way last old due)
+rises_by : (way : Reason) (last : ℕ) (old : Option ToldEntry) (due : Option QueryableInfoType) → last ≤ last_for last old (entry_for way last old due)
 rises_by way last None None = omega arith
 rises_by way last (Some t) None = omega arith
-rises_by Unasked last None (Some i) = omega arith
-rises_by Unasked last (Some t) (Some i) = omega arith
-rises_by Answering last None (Some i) = omega arith
-rises_by Answering last (Some t) (Some i) = omega arith
-rises_by Ending last None (Some i) = omega arith
-rises_by Ending last (Some t) (Some i) = omega arith
+rises_by Update last None (Some i) = omega arith
+rises_by Update last (Some t) (Some i) = omega arith
+rises_by Answer last None (Some i) = omega arith
+rises_by Answer last (Some t) (Some i) = omega arith
+rises_by End last None (Some i) = omega arith
+rises_by End last (Some t) (Some i) = omega arith
 
-pub last_rises : (way : Way) (n : ℕ) (told : Told) (bound : ℕ) (a : Account) (k : KeyDue) → bound ≤ a.last → bound ≤ (tell_key way n told a k).last
+pub last_rises : (way : Reason) (n : ℕ) (told : Told) (bound : ℕ) (a : Account) (k : KeyDue) → bound ≤ a.last → bound ≤ (tell_key way n told a k).last
 last_rises way n told bound a k le = let more : a.last ≤ last_for a.last (at_text k.0 told) (entry_for way a.last (at_text k.0 told) k.1) = rises_by way a.last (at_text k.0 told) k.1 in omega (arith, le, more)
 
 -- ---- a plan only grows
@@ -72,10 +72,10 @@ plan_below (q ∷ ps) p e f = by (is_above q) e (λ h. plan_below ps p h f)
     by true h more = absurd (true≢false h)
     by false h more = more h
 
-pub face_above : (way : Way) (ears : Ears) (p : Planned) (d : FaceDues) → list_any is_above p.plan ≡ true → list_any is_above (tell_face way ears p d).plan ≡ true
+pub face_above : (way : Reason) (ears : ToldSets) (p : Planned) (d : FaceUpdate) → list_any is_above p.plan ≡ true → list_any is_above (tell_face way ears p d).plan ≡ true
 face_above way ears p d e = by (at_face d.face.0 ears)
   where
-    by : (o : Option Ear) → list_any is_above (option_map_or (λ (e : Ear). with_account d.face.0 (tell_keys way d.face.0 e d.keys p.tellings) p) o p).plan ≡ true
+    by : (o : Option ToldSet) → list_any is_above (option_map_or (λ (e : ToldSet). with_account d.face.0 (tell_keys way d.face.0 e d.keys p.tellings) p) o p).plan ≡ true
     by None = e
     by (Some x) = any_more p.plan (record { face = record { 0 = d.face.0 }; last = (tell_keys way d.face.0 x d.keys p.tellings).last; rows = (tell_keys way d.face.0 x d.keys p.tellings).rows } ∷ []) e
 

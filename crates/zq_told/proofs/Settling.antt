@@ -16,12 +16,12 @@ use Rattle.zq_message.specs.declared.message.QueryableInfoType.{QueryableInfoTyp
 use Rattle.zq_index.specs.Infos.{same_bool, same_info}
 use Rattle.zq_index.specs.Texts.{at_text, text_cmp}
 use Rattle.zq_index.proofs.Orders.{text_exact, text_total}
-use Rattle.zq_trees.specs.declared.types.Telling.{Telling}
+use Rattle.zq_strategy.specs.declared.network.Telling.{Telling}
 use Rattle.zq_told.specs.declared.types.ToldEntry.{ToldEntry}
-use Rattle.zq_told.specs.declared.types.Way.{Way}
-use Rattle.zq_told.specs.declared.types.Way.TheVariants.{Unasked, Answering, Ending}
+use Rattle.zq_told.specs.declared.types.Reason.{Reason}
+use Rattle.zq_told.specs.declared.types.Reason.TheVariants.{Update, Answer, End}
 use Rattle.zq_told.specs.declared.plan.Account.{Account}
-use Rattle.zq_told.specs.Ears.{Told}
+use Rattle.zq_told.specs.ToldSets.{Told}
 use Rattle.zq_told.specs.Telling.{KeyDue, Row, declared, entry_for, last_for, put_row, tell_key, tellings_for}
 use Rattle.zq_told.specs.Receiver.{Heard, Memory, Tied, forgets, heard_after, is_left, is_over, memory_of, receive}
 use Rattle.zq_told.specs.Laws.{HeardIsDue, InOrder, KeepsUp, aim, ear_after, told_in}
@@ -49,11 +49,11 @@ one_info a b e =
 
 -- ---- one key
 -- what is kept of a key until a receiver forgets what is over
-abbrev pub kept_entry : Way → ℕ → Option ToldEntry → Option QueryableInfoType → Option ToldEntry
+abbrev pub kept_entry : Reason → ℕ → Option ToldEntry → Option QueryableInfoType → Option ToldEntry
 kept_entry way last old (Some i) = entry_for way last old (Some i)
-kept_entry Unasked last old None = None
-kept_entry Answering last old None = old
-kept_entry Ending last old None = old
+kept_entry Update last old None = None
+kept_entry Answer last old None = old
+kept_entry End last old None = old
 
 module _ (n : ℕ) (ear : Memory) (heard : Heard) (t : Tied ear heard) (key : List ℕ) where
   same_by : (e : Option ToldEntry) (q : List ℕ) (b : Bool) → bytes_eq key q ≡ b → ear.told key ≡ e → cond b e (ear.told q) ≡ ear.told q
@@ -81,26 +81,26 @@ module _ (n : ℕ) (ear : Memory) (heard : Heard) (t : Tied ear heard) (key : Li
       over_itself (Some (record { id = u.id; info = i })) (was ∙ (let info = one_info u.info i same in λ j. Some (record { id = u.id; info = info j })))
   tied_news u i false same was = tied_again u i was
 
-  pub tied_key : (way : Way) (old : Option ToldEntry) (due : Option QueryableInfoType) → ear.told key ≡ old
+  pub tied_key : (way : Reason) (old : Option ToldEntry) (due : Option QueryableInfoType) → ear.told key ≡ old
       → Tied (record { last = last_for ear.last old (entry_for way ear.last old due); told = put_told key (kept_entry way ear.last old due) ear.told }) (fold receive heard (tellings_for way n key old (entry_for way ear.last old due)))
-  tied_key Unasked None None was = over_itself None was
-  tied_key Answering None None was = over_itself None was
-  tied_key Ending None None was = over_itself None was
-  tied_key Unasked (Some u) None was = tied_take ear heard t key u was
-  tied_key Answering (Some u) None was = over_itself (Some u) was
-  tied_key Ending (Some u) None was = over_itself (Some u) was
-  tied_key Unasked None (Some i) was = tied_new i was
-  tied_key Answering None (Some i) was = tied_new i was
-  tied_key Ending None (Some i) was = over_itself None was
-  tied_key Unasked (Some u) (Some i) was = tied_news u i (same_info u.info i) refl was
-  tied_key Answering (Some u) (Some i) was = tied_again u i was
-  tied_key Ending (Some u) (Some i) was = tied_news u i (same_info u.info i) refl was
+  tied_key Update None None was = over_itself None was
+  tied_key Answer None None was = over_itself None was
+  tied_key End None None was = over_itself None was
+  tied_key Update (Some u) None was = tied_take ear heard t key u was
+  tied_key Answer (Some u) None was = over_itself (Some u) was
+  tied_key End (Some u) None was = over_itself (Some u) was
+  tied_key Update None (Some i) was = tied_new i was
+  tied_key Answer None (Some i) was = tied_new i was
+  tied_key End None (Some i) was = over_itself None was
+  tied_key Update (Some u) (Some i) was = tied_news u i (same_info u.info i) refl was
+  tied_key Answer (Some u) (Some i) was = tied_again u i was
+  tied_key End (Some u) (Some i) was = tied_news u i (same_info u.info i) refl was
 
 -- ---- many keys
 info_of : Option ToldEntry → Option QueryableInfoType
 info_of o = option_map (λ t. t.info) o
 
-module _ (way : Way) (n : ℕ) (told : Told) where
+module _ (way : Reason) (n : ℕ) (told : Told) where
   abbrev put : List Row → Told
   put rows = fold put_row told rows
 
@@ -145,17 +145,17 @@ module _ (way : Way) (n : ℕ) (told : Told) where
   abbrev over_more : (List ℕ → Bool) → KeyDue → List ℕ → Bool
   over_more over k q = over q || (is_none k.1 && bytes_eq k.0 q)
 
-  new_by : (w : Way) (last : ℕ) (old : Option ToldEntry) (due : Option QueryableInfoType) (o : Bool) → o ≡ false → entry_for w last old due ≡ cond (forgets w && (o || (is_none due && true))) None (kept_entry w last old due)
-  new_by Unasked last old None o e = refl
-  new_by Answering last old None true e = refl
-  new_by Answering last old None false e = refl
-  new_by Ending last old None true e = refl
-  new_by Ending last old None false e = refl
-  new_by Unasked last old (Some i) o e = refl
-  new_by Answering last old (Some i) true e = absurd (true≢false e)
-  new_by Answering last old (Some i) false e = refl
-  new_by Ending last old (Some i) true e = absurd (true≢false e)
-  new_by Ending last old (Some i) false e = refl
+  new_by : (w : Reason) (last : ℕ) (old : Option ToldEntry) (due : Option QueryableInfoType) (o : Bool) → o ≡ false → entry_for w last old due ≡ cond (forgets w && (o || (is_none due && true))) None (kept_entry w last old due)
+  new_by Update last old None o e = refl
+  new_by Answer last old None true e = refl
+  new_by Answer last old None false e = refl
+  new_by End last old None true e = refl
+  new_by End last old None false e = refl
+  new_by Update last old (Some i) o e = refl
+  new_by Answer last old (Some i) true e = absurd (true≢false e)
+  new_by Answer last old (Some i) false e = refl
+  new_by End last old (Some i) true e = absurd (true≢false e)
+  new_by End last old (Some i) false e = refl
 
   and_false : (b : Bool) → (b && false) ≡ false
   and_false true = refl
@@ -262,12 +262,12 @@ module _ (way : Way) (n : ℕ) (told : Told) where
   aimed : (last : ℕ) (old : Option ToldEntry) (due : Option QueryableInfoType) → option_map (λ (t : ToldEntry). t.info) (entry_for way last old due) ≡ aim way due (option_map (λ (t : ToldEntry). t.info) old)
   aimed last old due = by way old due
     where
-      by : (w : Way) (old : Option ToldEntry) (due : Option QueryableInfoType) → option_map (λ (t : ToldEntry). t.info) (entry_for w last old due) ≡ aim w due (option_map (λ (t : ToldEntry). t.info) old)
+      by : (w : Reason) (old : Option ToldEntry) (due : Option QueryableInfoType) → option_map (λ (t : ToldEntry). t.info) (entry_for w last old due) ≡ aim w due (option_map (λ (t : ToldEntry). t.info) old)
       by w old None = refl
-      by Unasked old (Some i) = refl
-      by Answering old (Some i) = refl
-      by Ending None (Some i) = refl
-      by Ending (Some t) (Some i) = refl
+      by Update old (Some i) = refl
+      by Answer old (Some i) = refl
+      by End None (Some i) = refl
+      by End (Some t) (Some i) = refl
 
   abbrev info_at : List ℕ → Told → Option QueryableInfoType
   info_at q es = option_map (λ (t : ToldEntry). t.info) (at_text q es)

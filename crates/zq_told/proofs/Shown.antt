@@ -16,7 +16,7 @@ use Rattle.zq_key.proofs.Lookups.{at_itself, found_after_write, same_key}
 use Rattle.zq_index.proofs.Mapped.{set-map}
 use Rattle.zq_told.specs.declared.types.FacePlan.{FacePlan}
 use Rattle.zq_index.specs.Texts.{at_text, has_text}
-use Rattle.zq_told.specs.Ears.{Ear, Told, at_face}
+use Rattle.zq_told.specs.ToldSets.{ToldSet, Told, at_face}
 use Rattle.zq_told.specs.Rooms.{AreBare, Book, Books, HasRooms, IsBare, IsBareAt, IsRoomy, Shelf, ear_of, ears_of, has_room, room_at}
 use Rattle.zq_told.specs.Telling.{Row, planned_ear, put_face, put_row}
 
@@ -49,7 +49,7 @@ none_needed books p none = All-from_get_or (IsRoomy (room_at books p.face.0)) p.
 
 -- a plan of a face that is not there changes nothing
 pub none_put : (books : Books) (p : FacePlan) → at_face p.face.0 books ≡ None → ears_of books ≡ put_face (ears_of books) p
-none_put books p none = sym (ap (λ o. option_map_or (λ (e : Ear). set_value (is_at (nat_cmp p.face.0)) (ears_of books) (planned_ear p e)) o (ears_of books)) (shown_at p.face.0 books ∙ ap (option_map ear_of) none))
+none_put books p none = sym (ap (λ o. option_map_or (λ (e : ToldSet). set_value (is_at (nat_cmp p.face.0)) (ears_of books) (planned_ear p e)) o (ears_of books)) (shown_at p.face.0 books ∙ ap (option_map ear_of) none))
 
 module _ (n : ℕ) (books : Books) (b : Book) (there : at_face n books ≡ Some b) where
   pub room_is : (q : List ℕ) → room_at books n q ≡ has_room b.shelf q
@@ -72,8 +72,8 @@ module _ (n : ℕ) (books : Books) (b : Book) (there : at_face n books ≡ Some 
     shown_put p same l t =
         shown_written
         ∙ ap (set_value (is_at (nat_cmp n)) (ears_of books)) (λ i. record { last = l i; told = t i })
-        ∙ sym (ap (λ o. option_map_or (λ (e : Ear). set_value (is_at (nat_cmp n)) (ears_of books) (planned_ear p e)) o (ears_of books)) (shown_at n books ∙ ap (option_map ear_of) there))
-        ∙ ap (λ m. option_map_or (λ (e : Ear). set_value (is_at (nat_cmp m)) (ears_of books) (planned_ear p e)) (at_face m (ears_of books)) (ears_of books)) (sym same)
+        ∙ sym (ap (λ o. option_map_or (λ (e : ToldSet). set_value (is_at (nat_cmp n)) (ears_of books) (planned_ear p e)) o (ears_of books)) (shown_at n books ∙ ap (option_map ear_of) there))
+        ∙ ap (λ m. option_map_or (λ (e : ToldSet). set_value (is_at (nat_cmp m)) (ears_of books) (planned_ear p e)) (at_face m (ears_of books)) (ears_of books)) (sym same)
 
     some : is_some (at_face n books) ≡ true
     some = ap is_some there

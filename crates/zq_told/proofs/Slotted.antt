@@ -14,7 +14,7 @@ use Rattle.zq_key.proofs.Sorted.{sorted_in, sorted_out, sorted_write}
 use Rattle.zq_index.specs.Texts.{at_text, has_text, text_cmp}
 use Rattle.zq_index.proofs.Orders.{text_exact, text_total}
 use Rattle.zq_told.specs.declared.types.ToldEntry.{ToldEntry}
-use Rattle.zq_told.specs.Ears.{Told}
+use Rattle.zq_told.specs.ToldSets.{Told}
 use Rattle.zq_told.specs.Rooms.{entries_in, is_free}
 use Rattle.zq_told.specs.Telling.{put_row}
 

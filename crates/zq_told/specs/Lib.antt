@@ -1,4 +1,4 @@
-pub mod Ears
+pub mod ToldSets
 pub mod Telling
 pub mod Rooms
 pub mod Receiver

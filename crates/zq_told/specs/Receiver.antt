@@ -8,11 +8,11 @@ use Rattle.std.specs.Map.{keys_of, remove_entry}
 use Rattle.std.specs.BTreeMap.{insert_entry, is_at}
 use Rattle.zq_message.specs.declared.message.QueryableInfoType.{QueryableInfoType}
 use Rattle.zq_index.specs.Texts.{at_text}
-use Rattle.zq_trees.specs.declared.types.Telling.{Telling}
+use Rattle.zq_strategy.specs.declared.network.Telling.{Telling}
 use Rattle.zq_told.specs.declared.types.ToldEntry.{ToldEntry}
-use Rattle.zq_told.specs.declared.types.Way.{Way}
-use Rattle.zq_told.specs.declared.types.Way.TheVariants.{Unasked, Answering, Ending}
-use Rattle.zq_told.specs.Ears.{Ear, at_face}
+use Rattle.zq_told.specs.declared.types.Reason.{Reason}
+use Rattle.zq_told.specs.declared.types.Reason.TheVariants.{Update, Answer, End}
+use Rattle.zq_told.specs.ToldSets.{ToldSet, at_face}
 use Rattle.zq_told.specs.Telling.{KeyDue}
 
 -- what a receiver keeps: by id the key and its information
@@ -37,10 +37,10 @@ abbrev pub heard_on : List ℕ → Heard → List QueryableInfoType
 heard_on key heard = map (λ e. e.1.1) (filter (is_heard_on key) heard)
 
 -- where an interest came or went, a receiver forgets what is not due any more
-abbrev pub forgets : Way → Bool
-forgets Unasked = false
-forgets Answering = true
-forgets Ending = true
+abbrev pub forgets : Reason → Bool
+forgets Update = false
+forgets Answer = true
+forgets End = true
 
 -- the key is looked at, and nothing is due
 abbrev pub is_over : List KeyDue → List ℕ → Bool
@@ -51,7 +51,7 @@ abbrev pub is_left : (List ℕ → Bool) → ℕ × (List ℕ × QueryableInfoTy
 is_left over e = not (over e.1.0)
 
 -- what a receiver keeps after a call
-abbrev pub heard_after : Way → List KeyDue → Heard → List Telling → Heard
+abbrev pub heard_after : Reason → List KeyDue → Heard → List Telling → Heard
 heard_after way keys heard ts = if forgets way then filter (is_left (is_over keys)) (fold receive heard ts) else fold receive heard ts
 
 -- what is kept of a face, as it is looked up
@@ -59,7 +59,7 @@ pub record Memory : Type 0 where
   pub last : ℕ
   pub told : List ℕ → Option ToldEntry
 
-abbrev pub memory_of : Ear → Memory
+abbrev pub memory_of : ToldSet → Memory
 memory_of ear = record { last = ear.last; told = λ key. at_text key ear.told }
 
 -- a receiver keeps in order of ids, none above the one given last, exactly what is kept of it

@@ -5,7 +5,7 @@ use Rattle.std.specs.Option.{is_some, option_map, option_map_or}
 use Rattle.zq_index.specs.Texts.{at_text, has_text}
 use Rattle.zq_told.specs.declared.types.ToldEntry.{ToldEntry}
 use Rattle.zq_told.specs.declared.types.FacePlan.{FacePlan}
-use Rattle.zq_told.specs.Ears.{Ear, Ears, Told, at_face}
+use Rattle.zq_told.specs.ToldSets.{ToldSet, ToldSets, Told, at_face}
 use Rattle.zq_told.specs.Telling.{Row}
 
 -- what was told of each key, and the keys for which there is room
@@ -27,11 +27,11 @@ abbrev pub Books : Type 0
 Books = List (ℕ × Book)
 
 -- what is kept of a face
-abbrev pub ear_of : Book → Ear
+abbrev pub ear_of : Book → ToldSet
 ear_of b = record { last = b.last; told = b.shelf.told }
 
 -- what is kept of each face
-abbrev pub ears_of : Books → Ears
+abbrev pub ears_of : Books → ToldSets
 ears_of books = map (λ e. (e.0, ear_of e.1)) books
 
 -- whether there is room at the face for what is told of the key; a face that is not there needs none

@@ -6,7 +6,7 @@ ghost use Rattle.zq_told.specs.Telling.{is_above, lacks_ids, put_face as face_pu
 
 use crate::book::Book;
 use crate::plan::plan_keys;
-use crate::types::{FaceDues, FacePlan, Planned, TellRefusal, Way};
+use crate::types::{FacePlan, FaceUpdate, Planned, Reason, TellRefusal};
 use std::alloc::Global;
 use std::collections::BTreeMap;
 use zq_key::items::Items;
@@ -19,8 +19,8 @@ pub(crate) type BookMap = BTreeMap<u32, Book>;
 fn plan_book(
     book: &Book,
     alloc: Global,
-    way: Way,
-    dues: &FaceDues,
+    way: Reason,
+    dues: &FaceUpdate,
     planned: Planned,
 ) -> Result<Planned, TellRefusal>
     requires { list_any is_above planned.plan ≡ false }
@@ -52,8 +52,8 @@ fn plan_book(
 fn plan_face(
     books: &BookMap,
     alloc: Global,
-    way: Way,
-    dues: &FaceDues,
+    way: Reason,
+    dues: &FaceUpdate,
     planned: Planned,
 ) -> Result<Planned, TellRefusal>
     requires { list_any is_above planned.plan ≡ false }
@@ -113,8 +113,8 @@ fn put_face(books: &mut BookMap, plan: &FacePlan)
 pub(crate) fn plan_faces(
     books: &BookMap,
     alloc: Global,
-    way: Way,
-    dues: &[FaceDues],
+    way: Reason,
+    dues: &[FaceUpdate],
 ) -> Result<Planned, TellRefusal>
     ensures ok { IfOk result (λ p. p ≡ tell_faces way (ears_of books.now.entries) dues.now) }
     ensures free { OnOk result (lacks_ids way (ears_of books.now.entries) dues.now ≡ false) }

@@ -1,7 +1,7 @@
 //! What each face outside regions of routers was told, and what it is told of by a call.
 //!
 //! - `types`: what a face was told of a key, what is due to it, and why telling is refused
-//! - `ears`: `Ears`, what all faces were told; a call is planned, room is made, and the plan is put
+//! - `told_sets`: `ToldSets`, what all faces were told; a call is planned, room is made, and the plan is put
 //! - `plan`: what a face is told of the keys that a call looks at
 //! - `books`: the same of all faces, as a map
 //! - `book`: what one face was told
@@ -11,8 +11,8 @@
 
 mod book;
 mod books;
-pub mod ears;
 pub mod laws;
 mod plan;
 mod slots;
+pub mod told_sets;
 pub mod types;

@@ -4,14 +4,14 @@ ghost use Rattle.zq_told.specs.Telling.{answer, change, difference, entry_for as
 ghost use Rattle.zq_told.specs.Rooms.{ear_of};
 
 use crate::book::Book;
-use crate::types::{Rows, TellRefusal, ToldEntry, Way};
+use crate::types::{Reason, Rows, TellRefusal, ToldEntry};
 use std::alloc::Global;
 use zq_index::info::same_info;
 use zq_key::items::Items;
 use zq_key::memory::OutOfMemory;
 use zq_key::message::{DEFAULT_NODE_ID, FaceId, QueryableInfoType};
 use zq_key::text::Text;
-use zq_trees::types::{Telling, TellingList};
+use zq_strategy::network::{Telling, TellingList};
 
 /// What becomes of a face key by key: the id given last, the keys looked at, and what it and those
 /// before it are told.
@@ -108,7 +108,7 @@ fn tell_answer(
 fn tell(
     tellings: &mut TellingList,
     alloc: Global,
-    way: Way,
+    way: Reason,
     face: FaceId,
     key: &Text,
     old: Option<ToldEntry>,
@@ -117,9 +117,9 @@ fn tell(
     ensures { OnOk result (tellings.new ≡ tellings.old ++ tellings_for way face.0 key.now old new) }
 {
     match way {
-        Way::Unasked => tell_difference(tellings, alloc, face, key, old, new),
-        Way::Answering => tell_answer(tellings, alloc, face, key, new),
-        Way::Ending => tell_change(tellings, alloc, face, key, old, new),
+        Reason::Update => tell_difference(tellings, alloc, face, key, old, new),
+        Reason::Answer => tell_answer(tellings, alloc, face, key, new),
+        Reason::End => tell_change(tellings, alloc, face, key, old, new),
     }
 }
 
@@ -167,7 +167,7 @@ fn renewed(old: Option<ToldEntry>, info: QueryableInfoType) -> Option<ToldEntry>
 
 /// What a face was told of a key after the call. `NoFreeId` where it needs an id above those of 32 bits.
 fn entry_for(
-    way: Way,
+    way: Reason,
     last: u32,
     old: Option<ToldEntry>,
     due: Option<QueryableInfoType>,
@@ -177,9 +177,9 @@ fn entry_for(
 {
     match (way, due) {
         (_, None) => Ok(None),
-        (Way::Unasked, Some(info)) => due_entry(last, old, info),
-        (Way::Answering, Some(info)) => due_entry(last, old, info),
-        (Way::Ending, Some(info)) => Ok(renewed(old, info)),
+        (Reason::Update, Some(info)) => due_entry(last, old, info),
+        (Reason::Answer, Some(info)) => due_entry(last, old, info),
+        (Reason::End, Some(info)) => Ok(renewed(old, info)),
     }
 }
 
@@ -197,7 +197,7 @@ fn last_for(last: u32, old: Option<ToldEntry>, new: Option<ToldEntry>) -> u32
 fn note(
     account: &mut Account,
     alloc: Global,
-    way: Way,
+    way: Reason,
     face: FaceId,
     key: &Text,
     old: Option<ToldEntry>,
@@ -215,7 +215,7 @@ fn note(
 fn plan_key(
     account: &mut Account,
     alloc: Global,
-    way: Way,
+    way: Reason,
     face: FaceId,
     book: &Book,
     due: &(Text, Option<QueryableInfoType>),
@@ -236,7 +236,7 @@ fn plan_key(
 /// 32 bits.
 pub(crate) fn plan_keys(
     alloc: Global,
-    way: Way,
+    way: Reason,
     face: FaceId,
     book: &Book,
     keys: &[(Text, Option<QueryableInfoType>)],

@@ -2,7 +2,7 @@
 use zq_key::items::Items;
 use zq_key::message::{FaceId, QueryableInfoType};
 use zq_key::text::Text;
-use zq_trees::types::TellingList;
+use zq_strategy::network::TellingList;
 
 /// What a face was told of a key: the id, and the information under it.
 #[derive(Clone, Copy, Debug)]
@@ -16,25 +16,25 @@ pub struct ToldEntry {
 /// How a call tells a face: it brings news that no one asked for; it answers an interest of the face;
 /// or an interest of the face ended.
 #[derive(Clone, Copy, Debug)]
-pub enum Way {
+pub enum Reason {
     /// What became different is told, and a key that ended is withdrawn.
-    Unasked,
+    Update,
     /// All that is due on the keys is told, as if it had not been told before.
-    Answering,
+    Answer,
     /// The keys that are not due any more are forgotten untold; other information of a key is told.
-    Ending,
+    End,
 }
 
 /// Keys that a call looks at, with what is due there.
-pub type KeyDues = Items<(Text, Option<QueryableInfoType>)>;
+pub type KeyUpdates = Items<(Text, Option<QueryableInfoType>)>;
 
 /// The keys that a call looks at for a face.
 #[derive(Debug, Drop)]
-pub struct FaceDues {
+pub struct FaceUpdate {
     /// The face that may be told of them.
     pub face: FaceId,
     /// The keys, and what is due to it on each.
-    pub keys: KeyDues,
+    pub keys: KeyUpdates,
 }
 
 /// Keys, and what a face was told of each once the plan is put; none where it was told nothing.

@@ -12,13 +12,13 @@ use std::rt::Env;
 use std::sync::Wait;
 use std::sync::atomic::{AtomicU64, Ordering};
 use std::thread::Threads;
-use zq_links::{Failed, Link};
+use zq_io::streams::{ReadSource, Sink, Source, WriteSink};
+use zq_io::words::number;
 use zq_machine::handed::Handed;
 use zq_message::text::Text;
 use zq_program::program;
-use zq_script::run::Status;
-use zq_streams::streams::{ReadSource, Sink, Source, WriteSink};
-use zq_words::words::number;
+use zq_script::running::Status;
+use zq_shared::{Failed, Link};
 
 /// How many links there are: one for each worker.
 const LINKS: usize = 16;

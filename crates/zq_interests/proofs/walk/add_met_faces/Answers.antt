@@ -1,8 +1,8 @@
 use Rattle.std.proofs.Common.{◌∙◌, ap, subst, fold, ℕ, List}
 use Rattle.std.specs.String.{string_bytes}
-use Rattle.zq_search.specs.Skipping.{StepIs}
+use Rattle.zq_index.specs.Skipping.{StepIs}
 use Rattle.zq_index.proofs.Rebuilt.{sorted_texts}
-use Rattle.zq_search.proofs.Skipping.{unbounded}
+use Rattle.zq_index.proofs.Skipping.{unbounded}
 use Rattle.zq_interests.specs.Kept.{met_at, with_face}
 use Rattle.zq_interests.proofs.Walking.{all_found, faces_miss, fewer, stands_after_jump, stands_after_look, stands_first}
 use Rattle.zq_interests.proofs.walk.add_met_faces.Goals as goal

@@ -1,5 +1,5 @@
 use Rattle.std.proofs.Common.{◌≡◌, ◌++◌, ◌∷◌, [], take}
-use Rattle.zq_words.specs.Words.{rest_word}
+use Rattle.zq_io.specs.Words.{rest_word}
 use Rattle.zq_lines.proofs.tables.push_rest.Given as goal
 
 abbrev pub invariant-loop-item : goal.invariant-loop-item

@@ -2,11 +2,11 @@ use Rattle.std.proofs.Common.{◌∙◌, refl, ap, sym, subst, arith, inr}
 use Rattle.std.proofs.lemmas.Option.{IfSome_then}
 use Rattle.zq_hold.specs.declared.slot.Mark.TheVariants.{Spare}
 use Rattle.zq_hold.specs.Slots.{times}
-use Rattle.zq_slots.specs.Owners.{Slotted, owned, owner_at, with_mark}
+use Rattle.zq_hold.specs.Owners.{Slotted, owned, owner_at, with_mark}
 use Rattle.zq_machine.specs.declared.call.Step.{Step}
-use Rattle.zq_ties.specs.Stored.{Stored}
-use Rattle.zq_ties.specs.Ties.{IsTied, Sharing}
-use Rattle.zq_ties.proofs.Ties.{back_tied}
+use Rattle.zq_shared.specs.Stored.{Stored}
+use Rattle.zq_shared.specs.Ties.{IsTied, Sharing}
+use Rattle.zq_shared.proofs.Ties.{back_tied}
 use Rattle.zq_shared.proofs.Asked.{all_used, asked_after, asked_flights, back_is, new_unowned, next_free, next_inside, still_flights}
 use Rattle.zq_shared.proofs.asking.ask.Goals as goal
 

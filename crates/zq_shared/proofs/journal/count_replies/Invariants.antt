@@ -1,6 +1,6 @@
 use Rattle.std.proofs.Common.{◌≡◌, take}
 use Rattle.std.specs.List.{count_by}
-use Rattle.zq_ties.specs.Stored.{is_flying}
+use Rattle.zq_shared.specs.Stored.{is_flying}
 use Rattle.zq_shared.proofs.journal.count_replies.Given as goal
 
 abbrev pub invariant-messages : goal.invariant-messages

@@ -3,8 +3,8 @@ use Rattle.std.specs.List.{count_by}
 use Rattle.zq_machine.specs.declared.call.Step.{Step}
 use Rattle.zq_machine.specs.Asked.{replies_of}
 use Rattle.zq_machine.specs.Handing.{Handed}
-use Rattle.zq_ties.specs.Stored.{is_flying}
-use Rattle.zq_ties.proofs.Journals.{all_counted}
+use Rattle.zq_shared.specs.Stored.{is_flying}
+use Rattle.zq_shared.proofs.Journals.{all_counted}
 use Rattle.zq_shared.proofs.journal.perform.Goals as goal
 
 pub overflow_add-flying : goal.overflow_add-flying

@@ -1,6 +1,6 @@
 use Rattle.std.proofs.Common.{◌<◌, ◌∷◌, ◌++◌, [], sym, subst, length}
 use Rattle.std.specs.List.{cons_option}
-use Rattle.zq_ties.specs.Stored.{Stored, flights, standing}
+use Rattle.zq_shared.specs.Stored.{Stored, flights, standing}
 use Rattle.zq_shared.proofs.Reporting.{fewer}
 use Rattle.zq_shared.proofs.Settled.{reported_more, reported_none}
 use Rattle.zq_shared.proofs.settling.report_all.Goals as goal

@@ -1,5 +1,5 @@
 use Rattle.std.proofs.Common.{ℕ, List, length}
-use Rattle.zq_ties.specs.Stored.{flights, standing}
+use Rattle.zq_shared.specs.Stored.{flights, standing}
 use Rattle.zq_shared.specs.Keeping.{Reported}
 use Rattle.zq_shared.proofs.settling.report_all.Given as goal
 

@@ -5,8 +5,8 @@ use Rattle.std.proofs.lemmas.List.{take_more}
 use Rattle.std.proofs.lemmas.List.Folds.{list_any_at}
 use Rattle.zq_machine.specs.Handing.{Handed}
 use Rattle.zq_machine.specs.Waiting.{hands_reply}
-use Rattle.zq_ties.specs.Stored.{is_flying}
-use Rattle.zq_ties.proofs.Journals.{counted_more}
+use Rattle.zq_shared.specs.Stored.{is_flying}
+use Rattle.zq_shared.proofs.Journals.{counted_more}
 use Rattle.zq_shared.specs.Lending.{Lends}
 use Rattle.zq_shared.proofs.Lending.{few_more, lends_more, lends_owns}
 use Rattle.zq_shared.proofs.telling.hold_all.Goals as goal

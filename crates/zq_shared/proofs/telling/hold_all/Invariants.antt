@@ -1,8 +1,8 @@
 use Rattle.std.proofs.Common.{◌≡◌, ◌≤◌, take}
 use Rattle.std.specs.Prelude.{vec_capacity, vec_len}
 use Rattle.std.specs.List.{count_by}
-use Rattle.zq_ties.specs.Holding.{AreHeld}
-use Rattle.zq_ties.specs.Stored.{is_flying}
+use Rattle.zq_shared.specs.Holding.{AreHeld}
+use Rattle.zq_shared.specs.Stored.{is_flying}
 use Rattle.zq_shared.specs.Lending.{Lends}
 use Rattle.zq_shared.proofs.telling.hold_all.Given as goal
 

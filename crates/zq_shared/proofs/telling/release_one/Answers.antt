@@ -1,7 +1,7 @@
 use Rattle.std.proofs.Common.{◌≡◌, ◌+◌, List, ap, sym, subst, arith}
 use Rattle.zq_hold.specs.Seats.{Ended}
-use Rattle.zq_ties.specs.Holding.{Lasts}
-use Rattle.zq_ties.specs.Stored.{waiting}
+use Rattle.zq_shared.specs.Holding.{Lasts}
+use Rattle.zq_shared.specs.Stored.{waiting}
 use Rattle.zq_shared.specs.Lending.{LetsGo}
 use Rattle.zq_shared.proofs.Lending.{lets_go, lets_last}
 use Rattle.zq_shared.proofs.telling.release_one.Goals as goal

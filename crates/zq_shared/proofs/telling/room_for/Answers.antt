@@ -1,6 +1,6 @@
 use Rattle.std.proofs.Common.{arith}
-use Rattle.zq_ties.specs.Stored.{answer_to}
-use Rattle.zq_ties.proofs.Journals.{all_counted}
+use Rattle.zq_shared.specs.Stored.{answer_to}
+use Rattle.zq_shared.proofs.Journals.{all_counted}
 use Rattle.zq_shared.proofs.telling.room_for.Goals as goal
 
 pub returns-clause-held : goal.returns-clause-held

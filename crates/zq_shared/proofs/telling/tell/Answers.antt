@@ -3,11 +3,11 @@ use Rattle.std.specs.List.{list_any}
 use Rattle.zq_machine.specs.declared.call.Step.{Step}
 use Rattle.zq_machine.specs.Handing.{Handed}
 use Rattle.zq_machine.specs.Waiting.{hands_reply}
-use Rattle.zq_slots.specs.Owners.{Slotted, owner_at}
-use Rattle.zq_ties.specs.Stored.{Stored, with_call}
-use Rattle.zq_ties.specs.Ties.{AreWaiting, IsNearlyTied}
-use Rattle.zq_ties.proofs.Moves.{handed_waits}
-use Rattle.zq_ties.proofs.Ties.{told_nearly}
+use Rattle.zq_hold.specs.Owners.{Slotted, owner_at}
+use Rattle.zq_shared.specs.Stored.{Stored, with_call}
+use Rattle.zq_shared.specs.Ties.{AreWaiting, IsNearlyTied}
+use Rattle.zq_shared.proofs.Moves.{handed_waits}
+use Rattle.zq_shared.proofs.Ties.{told_nearly}
 use Rattle.zq_shared.proofs.Asked.{still_flights, stored_flights}
 use Rattle.zq_shared.proofs.Lending.{lends_nearly, lends_waits, replied_owns}
 use Rattle.zq_shared.proofs.telling.tell.Goals as goal

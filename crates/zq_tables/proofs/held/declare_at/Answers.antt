@@ -4,7 +4,7 @@ use Rattle.std.specs.Map.{set_value}
 use Rattle.std.specs.BTreeMap.{is_at}
 use Rattle.std.proofs.lemmas.Map.Steps.{set_value_same}
 use Rattle.std.proofs.lemmas.Result.{on_err_weaker}
-use Rattle.zq_ids.specs.FaceIds.{FaceIds}
+use Rattle.zq_tables.specs.FaceIds.{FaceIds}
 use Rattle.zq_tables.proofs.Holds.{live_at}
 use Rattle.zq_tables.proofs.held.declare_at.Goals as goal
 

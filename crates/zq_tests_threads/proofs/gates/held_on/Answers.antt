@@ -1,7 +1,7 @@
 use denote.Exit as Exit
 use denote.Param.{param}
 use denote.Param.Send.{arg_sync, param_sync}
-use Rattle.zq_lock.proofs.Crossing.{lock_sync}
+use Rattle.zq_shared.proofs.Crossing.{lock_sync}
 use Rattle.zq_tests_threads.proofs.gates.held_on.Goals as goal
 
 pub held-requires-sync-K : goal.held-requires-sync-K

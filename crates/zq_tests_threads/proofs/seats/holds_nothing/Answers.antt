@@ -1,8 +1,8 @@
 use Rattle.std.proofs.Common.{◌≡◌, [], List, arith, length, subst, ◌∙◌, sym, true}
 use Rattle.std.proofs.lemmas.List.{nil_from_length}
 use Rattle.zq_hold.specs.declared.slot.Slot.{Slot}
-use Rattle.zq_ties.specs.Holding.{AreHeld}
-use Rattle.zq_lock.proofs.Holds.{all_released}
+use Rattle.zq_shared.specs.Holding.{AreHeld}
+use Rattle.zq_shared.proofs.Holds.{all_released}
 use Rattle.zq_tests_threads.proofs.seats.holds_nothing.Goals as goal
 
 pub returns : goal.returns

@@ -1,4 +1,4 @@
-use Rattle.zq_lock.proofs.Holds.{last_held}
+use Rattle.zq_shared.proofs.Holds.{last_held}
 use Rattle.zq_tests_threads.proofs.seats.let_go.Goals as goal
 
 pub release-requires : goal.release-requires

@@ -1,7 +1,7 @@
 use Rattle.std.proofs.Common.{◌≡◌, ◌∙◌, Some, ap, sym}
 use Rattle.std.proofs.lemmas.List.Elements.{All-pop}
 use Rattle.zq_hold.specs.Seats.{Ended}
-use Rattle.zq_ties.specs.Holding.{Lasts}
+use Rattle.zq_shared.specs.Holding.{Lasts}
 use Rattle.zq_tests_threads.proofs.seats.settle_all.Goals as goal
 
 pub settle_one-ends-requires : goal.settle_one-ends-requires

@@ -1,5 +1,5 @@
 use Rattle.std.proofs.Common.{◌≡◌, ◌∙◌, ap, sym, Some}
-use Rattle.zq_told.specs.Ears.{at_face}
+use Rattle.zq_told.specs.ToldSets.{at_face}
 use Rattle.zq_told.specs.Rooms.{Book, Books, ears_of}
 use Rattle.zq_told.proofs.Shown.{shown_same}
 use Rattle.zq_told.proofs.books.add_face.Goals as goal

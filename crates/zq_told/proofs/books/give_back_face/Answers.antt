@@ -1,7 +1,7 @@
 use Rattle.std.proofs.Common.{◌≡◌, ◌∙◌, ap, sym, subst, refl, rules, Some}
 use Rattle.std.specs.List.{All}
 use Rattle.zq_told.specs.declared.types.FacePlan.{FacePlan}
-use Rattle.zq_told.specs.Ears.{at_face}
+use Rattle.zq_told.specs.ToldSets.{at_face}
 use Rattle.zq_told.specs.Rooms.{Book, Books, IsBare, IsBareAt, ears_of}
 use Rattle.zq_told.proofs.Shown.{bare_here, bare_written, none_bare, shown_same}
 use Rattle.zq_told.proofs.books.give_back_face.Goals as goal

@@ -1,6 +1,6 @@
 use Rattle.std.proofs.Common.{◌≡◌, subst, [], true, get_or}
 use Rattle.std.specs.List.{list_any}
-use Rattle.zq_told.specs.declared.types.FaceDues.{FaceDues}
+use Rattle.zq_told.specs.declared.types.FaceUpdate.{FaceUpdate}
 use Rattle.zq_told.specs.declared.types.Planned.{Planned}
 use Rattle.zq_told.specs.Rooms.{ears_of}
 use Rattle.zq_told.specs.Telling.{is_above, tell_face}
@@ -9,7 +9,7 @@ use Rattle.zq_told.proofs.books.plan_faces.Goals as goal
 
 pub returns-in-Err-clause-no_free : goal.returns-in-Err-clause-no_free
 returns-in-Err-clause-no_free c h =
-    let d : FaceDues = c.due-item.result in
+    let d : FaceUpdate = c.due-item.result in
     let ears = ears_of c.args.books.now.entries in
     let P = λ (p : Planned). list_any is_above p.plan ≡ true in
     let f = tell_face c.args.way ears in

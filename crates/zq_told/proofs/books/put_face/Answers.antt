@@ -1,5 +1,5 @@
 use Rattle.std.proofs.Common.{rules, ◌≡◌, ◌∙◌, ap, sym, refl, Some, fold}
-use Rattle.zq_told.specs.Ears.{at_face}
+use Rattle.zq_told.specs.ToldSets.{at_face}
 use Rattle.zq_told.specs.Rooms.{Book, Books, ears_of}
 use Rattle.zq_told.specs.Telling.{put_row}
 use Rattle.zq_told.proofs.Shown.{none_put, shown_put}

@@ -1,5 +1,5 @@
 use Rattle.zq_machine.proofs.Kept.{headline}
-use Rattle.zq_calls.proofs.Reached.{reached_opening}
+use Rattle.zq_gateway.proofs.Reached.{reached_opening}
 use Rattle.zq_gateway.proofs.gateway.Gateway.new.Goals as goal
 
 pub invariant_of-result : goal.invariant_of-result

@@ -1,5 +1,5 @@
 use Rattle.zq_machine.specs.Calls.{declared_call}
-use Rattle.zq_calls.proofs.Reached.{reached_may}
+use Rattle.zq_gateway.proofs.Reached.{reached_may}
 use Rattle.zq_gateway.proofs.gateway.Gateway.send_declare.Goals as goal
 
 pub invariant_of-self : goal.invariant_of-self

@@ -1,5 +1,5 @@
 use Rattle.zq_machine.specs.declared.call.Call.TheVariants as call
-use Rattle.zq_calls.proofs.Reached.{reached_given}
+use Rattle.zq_gateway.proofs.Reached.{reached_given}
 use Rattle.zq_gateway.proofs.gateway.Gateway.set_gateways.Goals as goal
 
 pub invariant_of-self : goal.invariant_of-self

@@ -1,8 +1,8 @@
 use Rattle.std.proofs.Common.{subst}
 use Rattle.zq_machine.specs.declared.call.Call.TheVariants as call
 use Rattle.zq_machine.specs.State.{State}
-use Rattle.zq_calls.specs.Making.{Performs}
-use Rattle.zq_calls.proofs.Reached.{reached_given}
+use Rattle.zq_gateway.specs.Making.{Performs}
+use Rattle.zq_gateway.proofs.Reached.{reached_given}
 use Rattle.zq_gateway.proofs.gateway.Gateway.set_network.Goals as goal
 
 pub invariant_of-self : goal.invariant_of-self

@@ -3,8 +3,8 @@ use Rattle.std.specs.Option.{IfNone}
 use Rattle.std.proofs.lemmas.Option.{IfSome_then}
 use Rattle.zq_query.specs.Records.{flies}
 use Rattle.zq_machine.specs.State.{State}
-use Rattle.zq_ties.specs.Stored.{Stored, in_flight}
-use Rattle.zq_ties.proofs.Moves.{flying_is}
+use Rattle.zq_shared.specs.Stored.{Stored, in_flight}
+use Rattle.zq_shared.proofs.Moves.{flying_is}
 use Rattle.zq_shared.proofs.journal.Journal.first_in_flight.Goals as goal
 
 none_then : {X : Type 0} (o : Option X) {P Q : Type 0} → IfNone o P → (P → Q) → IfNone o Q

@@ -4,8 +4,8 @@ use Rattle.zq_machine.specs.declared.call.Step.{Step}
 use Rattle.zq_machine.specs.Asked.{replies_of}
 use Rattle.zq_machine.specs.Machine.{step}
 use Rattle.zq_machine.specs.State.{State}
-use Rattle.zq_ties.specs.Stored.{Stored, answer_to}
-use Rattle.zq_ties.proofs.Journals.{answer_is}
+use Rattle.zq_shared.specs.Stored.{Stored, answer_to}
+use Rattle.zq_shared.proofs.Journals.{answer_is}
 use Rattle.zq_shared.proofs.journal.Journal.most_replies.Goals as goal
 
 pub returns : goal.returns

@@ -1,8 +1,8 @@
 use Rattle.std.proofs.Common.{ℕ, ◌∙◌, ap, sym}
 use Rattle.zq_query.specs.Records.{pending_count}
 use Rattle.zq_machine.specs.State.{State}
-use Rattle.zq_ties.specs.Stored.{Stored, waiting}
-use Rattle.zq_ties.proofs.Moves.{waiting_is}
+use Rattle.zq_shared.specs.Stored.{Stored, waiting}
+use Rattle.zq_shared.proofs.Moves.{waiting_is}
 use Rattle.zq_shared.proofs.journal.Journal.pending_of.Goals as goal
 
 pub returns : goal.returns

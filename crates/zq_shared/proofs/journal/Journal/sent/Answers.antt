@@ -6,8 +6,8 @@ use Rattle.zq_machine.specs.declared.call.Step.{Step}
 use Rattle.zq_machine.specs.Deciding.{is_accepted}
 use Rattle.zq_machine.specs.Machine.{step}
 use Rattle.zq_machine.specs.State.{State}
-use Rattle.zq_ties.specs.Stored.{IsStored, Stored, answer_to, in_flight}
-use Rattle.zq_ties.proofs.Journals.{answer_is, flying_some, stored_less, stored_same}
+use Rattle.zq_shared.specs.Stored.{IsStored, Stored, answer_to, in_flight}
+use Rattle.zq_shared.proofs.Journals.{answer_is, flying_some, stored_less, stored_same}
 use Rattle.zq_shared.proofs.Reporting.{refused_unflown}
 use Rattle.zq_shared.proofs.journal.Journal.sent.Goals as goal
 

@@ -3,8 +3,8 @@ use Rattle.std.specs.Prelude.{vec_capacity, vec_len}
 use Rattle.zq_machine.specs.declared.call.Call.{Call}
 use Rattle.zq_machine.specs.Machine.{step}
 use Rattle.zq_machine.specs.State.{State}
-use Rattle.zq_ties.specs.Stored.{Stored, answer_to}
-use Rattle.zq_ties.proofs.Journals.{answer_is}
+use Rattle.zq_shared.specs.Stored.{Stored, answer_to}
+use Rattle.zq_shared.proofs.Journals.{answer_is}
 use Rattle.zq_shared.proofs.Storing.{stored_next, stored_still}
 use Rattle.zq_shared.proofs.journal.Journal.step.Goals as goal
 

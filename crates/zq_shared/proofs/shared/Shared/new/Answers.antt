@@ -1,8 +1,8 @@
 use Rattle.std.proofs.Common.{ap, sym, subst}
-use Rattle.zq_slots.specs.Owners.{Slotted}
-use Rattle.zq_ties.specs.Stored.{Stored}
-use Rattle.zq_ties.specs.Ties.{IsTied}
-use Rattle.zq_ties.proofs.Ties.{first_tied}
+use Rattle.zq_hold.specs.Owners.{Slotted}
+use Rattle.zq_shared.specs.Stored.{Stored}
+use Rattle.zq_shared.specs.Ties.{IsTied}
+use Rattle.zq_shared.proofs.Ties.{first_tied}
 use Rattle.zq_shared.proofs.Asked.{none_open}
 use Rattle.zq_shared.proofs.shared.Shared.new.Goals as goal
 

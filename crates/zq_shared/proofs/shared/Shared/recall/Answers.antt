@@ -1,5 +1,5 @@
 use Rattle.std.proofs.Common.{length, subst}
-use Rattle.zq_ties.specs.Ties.{Sharing}
+use Rattle.zq_shared.specs.Ties.{Sharing}
 use Rattle.zq_shared.specs.Sharing.{IsWithin}
 use Rattle.zq_shared.proofs.Due.{tied_within}
 use Rattle.zq_shared.proofs.shared.Shared.recall.Goals as goal

@@ -1,6 +1,6 @@
 use Rattle.std.proofs.Common.{Some, sym, subst}
-use Rattle.zq_slots.specs.Owners.{Slotted}
-use Rattle.zq_ties.specs.Ties.{IsTied, Sharing}
+use Rattle.zq_hold.specs.Owners.{Slotted}
+use Rattle.zq_shared.specs.Ties.{IsTied, Sharing}
 use Rattle.zq_shared.specs.Sharing.{KeepsFlights}
 use Rattle.zq_shared.proofs.Settled.{unowned_flights, vacated_flights, vacated_tied, vacated_unowned}
 use Rattle.zq_shared.proofs.shared.Shared.settle.Goals as goal

@@ -1,8 +1,8 @@
 use Rattle.std.proofs.Common.{◌≡◌, None, sym, subst}
 use Rattle.std.proofs.lemmas.Result.{IfOk-weaker}
 use Rattle.zq_machine.specs.declared.call.Step.{Step}
-use Rattle.zq_ties.specs.Stored.{answer_to}
-use Rattle.zq_ties.specs.Ties.{Sharing}
+use Rattle.zq_shared.specs.Stored.{answer_to}
+use Rattle.zq_shared.specs.Ties.{Sharing}
 use Rattle.zq_shared.specs.Sharing.{HoldsReplies, KeepsFlights}
 use Rattle.zq_shared.proofs.Asked.{asks_holds}
 use Rattle.zq_shared.proofs.shared.Shared.step.Goals as goal

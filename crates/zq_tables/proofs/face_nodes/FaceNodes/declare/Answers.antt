@@ -2,8 +2,8 @@ use Rattle.std.proofs.Common.{◌≡◌, ◌∙◌, ap, sym, subst, None, Result
 use Rattle.std.specs.Prelude.{option_map}
 use Rattle.std.proofs.lemmas.Option.{none-some}
 use Rattle.zq_names.specs.declared.node.ResourceId.{ResourceId}
-use Rattle.zq_ids.specs.FaceIds.{of_id}
-use Rattle.zq_ids.proofs.FaceLemmas.{no_mapping}
+use Rattle.zq_tables.specs.FaceIds.{of_id}
+use Rattle.zq_tables.proofs.FaceLemmas.{no_mapping}
 use Rattle.zq_tables.specs.Holding.{FaceHolds, Numbers}
 use Rattle.zq_tables.proofs.Declared.{maps_of, mapped_id, numbers_of}
 use Rattle.zq_tables.proofs.face_nodes.FaceNodes.declare.Goals as goal

@@ -1,6 +1,6 @@
 use Rattle.std.proofs.Common.{◌≡◌, ◌∙◌, ap, sym, subst, IfOk}
-use Rattle.zq_ids.specs.FaceIds.{FaceIds, AreLive, no_ids}
-use Rattle.zq_ids.specs.FaceTexts.{best_key, texts_of}
+use Rattle.zq_tables.specs.FaceIds.{FaceIds, AreLive, no_ids}
+use Rattle.zq_tables.specs.FaceTexts.{best_key, texts_of}
 use Rattle.zq_tables.specs.Naming.{FaceNaming, face_naming, best}
 use Rattle.zq_tables.proofs.Holds.{live_at}
 use Rattle.zq_tables.proofs.Faces.{face_there, face_closed}

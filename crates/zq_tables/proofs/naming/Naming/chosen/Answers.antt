@@ -1,7 +1,7 @@
 use Rattle.std.proofs.Common.{◌≡◌, ◌∙◌, List, [], refl, ap, sym, subst, IfOk}
 use Rattle.zq_names.specs.Names.{NameEntry}
-use Rattle.zq_ids.specs.FaceIds.{FaceIds, AreLive}
-use Rattle.zq_ids.specs.FaceTexts.{declared_key, texts_of}
+use Rattle.zq_tables.specs.FaceIds.{FaceIds, AreLive}
+use Rattle.zq_tables.specs.FaceTexts.{declared_key, texts_of}
 use Rattle.zq_tables.specs.Naming.{FaceNaming, face_naming, no_names}
 use Rattle.zq_tables.proofs.Holds.{live_at}
 use Rattle.zq_tables.proofs.Faces.{face_there, face_closed}

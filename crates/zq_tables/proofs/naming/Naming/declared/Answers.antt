@@ -1,9 +1,9 @@
 use Rattle.std.proofs.Common.{◌≡◌, ◌∙◌, ℕ, Bool, List, Option, Some, None, refl, ap, sym}
 use Rattle.zq_key.specs.Key.{is_key}
-use Rattle.zq_ids.specs.FaceTexts.{declared_key}
-use Rattle.zq_ids.specs.declared.decl.DeclKey.{DeclKey}
-use Rattle.zq_ids.proofs.Choosing.{IsNew, new_is, nonwild_key}
-use Rattle.zq_ids.proofs.IdLemmas.{next_unused}
+use Rattle.zq_tables.specs.FaceTexts.{declared_key}
+use Rattle.zq_tables.specs.declared.decl.DeclKey.{DeclKey}
+use Rattle.zq_tables.proofs.Choosing.{IsNew, new_is, nonwild_key}
+use Rattle.zq_tables.proofs.IdLemmas.{next_unused}
 use Rattle.zq_tables.specs.Naming.{FaceNaming, change_naming, face_naming, with_told_number}
 use Rattle.zq_tables.proofs.Emptied.{changed_idle}
 use Rattle.zq_tables.proofs.naming.Naming.declared.Goals as goal

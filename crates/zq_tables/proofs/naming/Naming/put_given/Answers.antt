@@ -1,7 +1,7 @@
 use Rattle.std.proofs.Common.{◌≡◌, ◌∙◌, ◌<◌, ◌≤◌, ◌^◌, length, ap, Some, sym, subst, false, arith}
 use Rattle.zq_message.specs.declared.message.Mapping.TheVariants.{Receiver}
-use Rattle.zq_ids.specs.FaceIds.{next_id}
-use Rattle.zq_ids.proofs.IdLemmas.{free_from-least}
+use Rattle.zq_tables.specs.FaceIds.{next_id}
+use Rattle.zq_tables.proofs.IdLemmas.{free_from-least}
 use Rattle.zq_tables.specs.declared.holder.Holder.TheVariants.{Number}
 use Rattle.zq_tables.specs.Naming.{NamingState, change_naming, face_naming}
 use Rattle.zq_tables.specs.Holding.{Faces, IsHeld, settled_at, texts_by, with_key}

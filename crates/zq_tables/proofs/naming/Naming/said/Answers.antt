@@ -1,9 +1,9 @@
 use Rattle.std.proofs.Common.{◌≡◌, ◌∙◌, ap, sym, subst, eqb, false, arith, IfOk}
 use Rattle.std.proofs.lemmas.Bool.Decides.{nat_tests}
-use Rattle.zq_ids.specs.FaceIds.{FaceIds, AreLive}
-use Rattle.zq_ids.specs.FaceTexts.{texts_of}
+use Rattle.zq_tables.specs.FaceIds.{FaceIds, AreLive}
+use Rattle.zq_tables.specs.FaceTexts.{texts_of}
 use Rattle.zq_tables.specs.Naming.{FaceNaming, face_naming, said_of}
-use Rattle.zq_tables.specs.declared.said.Said.TheVariants as said
+use Rattle.zq_tables.specs.declared.resolved.Resolved.TheVariants as said
 use Rattle.zq_tables.proofs.Holds.{live_at}
 use Rattle.zq_tables.proofs.Faces.{face_there, face_closed}
 use Rattle.zq_tables.proofs.Reading.{said_none}

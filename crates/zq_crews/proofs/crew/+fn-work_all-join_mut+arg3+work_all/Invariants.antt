@@ -1,8 +1,0 @@
-use Rattle.std.proofs.Common.{length}
-use Rattle.zq_crews.proofs.crew.+fn-work_all-join_mut+arg3+work_all.Given as goal
-
-abbrev pub decreases-join_mut+arg3 : goal.decreases-join_mut+arg3
-decreases-join_mut+arg3 g l = length l.rest.now
-
-abbrev pub decreases-work_all : goal.decreases-work_all
-decreases-work_all g l = length l.crew.now

@@ -1,0 +1,17 @@
+pub mod Changed
+pub mod Seats
+pub mod Lent
+pub mod Valid
+pub mod Given
+pub mod Entered
+pub mod Nexts
+pub mod KeysGathered
+pub mod KeysMet
+pub mod Heard
+pub mod Widened
+pub mod Owning
+pub mod Plainly
+pub mod Overs
+pub mod Listening
+pub mod Joining
+pub mod AskedDues

@@ -1,0 +1,10 @@
+use Rattle.std.proofs.Common.{◌≡◌, map, take}
+use Rattle.std.specs.Prelude.{string_bytes}
+use Rattle.std.specs.List.{flat_map}
+use Rattle.std.specs.Option.{option_copied}
+use Rattle.zq_dispatcher.specs.Asking.{asking_in}
+use Rattle.zq_dispatcher.specs.Dues.{listed_due}
+use Rattle.zq_dispatcher.proofs.dues.dues_of_face.Given as goal
+
+abbrev pub invariant-loop-key : goal.invariant-loop-key
+invariant-loop-key l = l.dues ≡ flat_map (listed_due (asking_in l.interests l.face.0) (option_copied l.next) (map string_bytes l.touched.keys) l.face.0 l.opened l.hats) (take l.key-index l.keys)

@@ -1,0 +1,11 @@
+use Rattle.std.specs.Ordering.{nat_cmp}
+use Rattle.std.specs.BTreeMap.{is_at}
+use Rattle.zq_message.specs.Region.{region_index}
+use Rattle.zq_dispatcher.proofs.Lent.{kept_back}
+use Rattle.zq_dispatcher.proofs.hats.mark.Goals as goal
+
+pub returns-clause-err : goal.returns-clause-err
+returns-clause-err c =
+    let hat = c.in-Some.hat.now in
+    let lent = c.get_mut.follows in
+    kept_back c.finalize_local_interest.result (is_at (nat_cmp (region_index c.args.region))) c.args.hats.now hat c.finalize_local_interest.new.self lent.lender (lent.holds hat) c.in-Some.ensures.value c.finalize_local_interest.ensures.err

@@ -1,0 +1,10 @@
+pub mod Own
+pub mod Seats
+pub mod Routers
+pub mod Networks
+pub mod Asked
+pub mod Asking
+pub mod Dues
+pub mod Listeners
+pub mod Over
+pub mod Owns

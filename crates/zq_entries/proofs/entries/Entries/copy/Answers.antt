@@ -1,9 +1,0 @@
-use Rattle.std.proofs.Common.{subst, sym}
-use Rattle.zq_trees.specs.Entries.{Entries, IsTied}
-use Rattle.zq_entries.proofs.Entering.{tied_alike}
-use Rattle.zq_entries.proofs.entries.Entries.copy.Goals as goal
-
-pub invariant_of-result : goal.invariant_of-result
-invariant_of-result c =
-    subst (λ (all : Entries). IsTied all c.in_ok-copy_router_keys.field-0.entries) (sym c.in_ok-copy.ensures)
-    (tied_alike c.self.inside.by_key c.self.inside.by_router.entries c.self.invariant c.in_ok-copy_router_keys.field-0.entries c.in_ok-copy_router_keys.ensures)

@@ -1,6 +1,0 @@
-use Rattle.std.proofs.Common.{◌≡◌, fold, take}
-use Rattle.zq_trees.specs.Entries.{without_router}
-use Rattle.zq_entries.proofs.entries.Entries.drop_routers.Given as goal
-
-abbrev pub invariant-loop-router : goal.invariant-loop-router
-invariant-loop-router l = l.self ≡ fold without_router l.initial.self (take l.router-index l.routers)

@@ -1,7 +1,0 @@
-use Rattle.std.proofs.Common.{◌≡◌, fold, map}
-use Rattle.std.specs.String.{string_bytes}
-use Rattle.zq_trees.specs.Entries.{without_key}
-use Rattle.zq_entries.proofs.entries.forget.Given as goal
-
-abbrev pub invariant-loop-key : goal.invariant-loop-key
-invariant-loop-key l = fold (without_key l.router) l.by_key (map string_bytes l.key-iterator) ≡ fold (without_key l.router) l.initial.by_key (map string_bytes l.keys.keys)

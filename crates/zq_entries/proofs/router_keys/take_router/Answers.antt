@@ -1,5 +1,0 @@
-use Rattle.zq_entries.proofs.Keys.{all_gone}
-use Rattle.zq_entries.proofs.router_keys.take_router.Goals as goal
-
-pub returns-clause-left : goal.returns-clause-left
-returns-clause-left c = all_gone c.args.router c.args.routers.now.entries c.remove.new.self.entries c.remove.ensures.updates.0

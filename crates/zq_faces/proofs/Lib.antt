@@ -1,9 +1,0 @@
-pub mod Routing
-pub mod Held
-pub mod Reading
-pub mod IndexKeys
-pub mod Keeping
-pub mod Turns
-pub mod Marking
-pub mod Afterwards
-pub mod Seated

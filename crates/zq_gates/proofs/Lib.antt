@@ -1,4 +1,0 @@
-pub mod Denied
-pub mod Keeping
-pub mod Each
-pub mod Going

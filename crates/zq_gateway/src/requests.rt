@@ -1,0 +1,124 @@
+//! Requests, and whom they are handed to.
+ghost use Rattle.std.specs.Prelude.{◌≡◌, Some, [], true, false, IfOk, map};
+ghost use Rattle.zq_query.specs.Asking.{are_distinct, face_numbers, given_place};
+ghost use Rattle.zq_machine.specs.Deciding.{opened};
+ghost use Rattle.zq_machine.specs.Selecting.{full_text, says_key, select_for, target_of};
+ghost use Rattle.zq_machine.specs.State.{at};
+ghost use Rattle.zq_machine.specs.TextCalls.{asking};
+ghost use Rattle.zq_gateway.specs.Making.{IsReached, Settles};
+ghost use Rattle.zq_gateway.specs.Requesting.{asked_out};
+ghost use Rattle.zq_dispatcher.specs.Seats.{seats};
+
+use crate::leaving::{let_out, with_final};
+use crate::tables::Tables;
+use zq_dispatcher::hats;
+use zq_egress::let_go_unsent;
+use zq_egress::read::{full_text, into_text, says_key};
+use zq_egress::select::{Asker, targets_of};
+use zq_egress::write::{text_for, written_requests};
+use zq_key::memory::OutOfMemory;
+use zq_key::message::{FaceId, Request};
+use zq_machine::call::{Outcome, Refusal, Step};
+use zq_machine::face::OpenFace;
+use zq_machine::handed::HandedList;
+use zq_query::records::{AskRefusal, Final};
+use zq_strategy::types::QueryTargetQabl;
+use zq_tables::resolved::Resolved;
+
+impl Tables {
+    // The offers that a request is handed to, of each face one.
+    fn select(
+        &self,
+        face: FaceId,
+        opened: OpenFace,
+        said: &Resolved,
+        request: &Request,
+    ) -> Result<Vec<QueryTargetQabl>, OutOfMemory>
+        requires open { at face.0 self.now.core.faces ≡ Some opened }
+        requires seated { seats opened.region face.0 self.now.core.hats ≡ Some true }
+        ensures offers { IfOk result (λ v. v.items ≡ select_for self.now.core face said.now request.now (Some opened)) }
+        ensures distinct { IfOk result (λ v. are_distinct (face_numbers (map target_of v.items)) ≡ true) }
+    {
+        if !says_key(said) {
+            return Ok(Vec::new(self.alloc));
+        }
+        let asker = Asker {
+            faces: &self.faces,
+            tables: &self.tables,
+            own: self.config.zid(),
+            face,
+            opened,
+            source: hats::router_by(&self.hats, opened.region, face, request.node),
+            context: hats::place_by(&self.hats, opened.region, face, request.node),
+        };
+        asker.select(self.alloc, &self.hats, full_text(said), request.target)
+    }
+
+    // What a request hands, and what leaves of it: a message to the face of each offer, and behind
+    // them its final where none of them leaves.
+    fn requests_out(
+        &mut self,
+        face: FaceId,
+        said: Resolved,
+        request: &Request,
+        offers: &[QueryTargetQabl],
+        places: &[(u32, u32)],
+    ) -> Result<HandedList, OutOfMemory>
+        requires key { says_key said ≡ false → offers.now ≡ [] }
+        requires places { places.now ≡ map (given_place self.old.core.queries) (map target_of offers.now) }
+        ensures out { IfOk result (λ l. l ≡ asked_out self.old face (full_text said) request.now offers.now) }
+        ensures same { self.new ≡ self.old }
+    {
+        let text = text_for(self.alloc, into_text(self.alloc, said), offers.len())?;
+        let handed = written_requests(
+            self.alloc,
+            &self.queries,
+            &self.names,
+            &text,
+            request,
+            offers,
+            places,
+        )?;
+        let handed = let_out(&mut self.gates, text.as_str(), handed)?;
+        let last = Final {
+            number: self.queries.next_number(),
+            asker: face,
+            id: request.id,
+            qos: request.qos,
+        };
+        with_final(handed, last)
+    }
+
+    // A request of a face.
+    pub(crate) fn request(
+        &mut self,
+        face: FaceId,
+        said: Resolved,
+        request: &Request,
+        now: u64,
+    ) -> Result<Step, OutOfMemory>
+        requires { IsReached self.old }
+        ensures { Settles self.old self.new (asking face said request.now now) result }
+    {
+        let Some(opened) = self.opened(face) else {
+            return Ok(self.refused(Refusal::UnknownFace));
+        };
+        let offers = self.select(face, opened, &said, request)?;
+        let targets = targets_of(self.alloc, offers.as_slice())?;
+        let places = match self.queries.plan(targets.as_slice()) {
+            Ok(places) => places,
+            Err(AskRefusal::NoFreeId) => return Ok(self.refused(Refusal::NoFreeId)),
+            Err(AskRefusal::OutOfMemory) => return Err(OutOfMemory),
+        };
+        let handed = self.requests_out(face, said, request, offers.as_slice(), places.as_slice())?;
+        let number = self.queries.next_number();
+        let deadline = now.saturating_add(request.timeout.unwrap_or(self.config.timeout()));
+        self.queries
+            .ask_planned(face, request.id, request.qos, places.as_slice(), deadline)?;
+        let_go_unsent(&mut self.queries, handed.as_slice());
+        Ok(Step {
+            outcome: Outcome::Asked(number),
+            handed,
+        })
+    }
+}

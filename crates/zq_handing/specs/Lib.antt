@@ -1,4 +1,0 @@
-pub mod Askers
-pub mod Neighbours
-pub mod Telling
-pub mod Reading

@@ -1,6 +1,0 @@
-use Rattle.std.proofs.Common.{◌≡◌}
-use Rattle.zq_ids.specs.FaceTexts.{best_part, best_to, texts_of}
-use Rattle.zq_ids.proofs.face.FaceNames.best_part.Given as goal
-
-abbrev pub invariant-loop-k : goal.invariant-loop-k
-invariant-loop-k l = best_part (texts_of l.names l.self) l.text ≡ best_to (texts_of l.names l.self) l.text l.k

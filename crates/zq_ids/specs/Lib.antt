@@ -1,4 +1,0 @@
-pub mod FaceIds
-pub mod FaceIndex
-pub mod FaceTexts
-pub mod Registering

@@ -1,0 +1,4 @@
+pub mod Streams
+pub mod Words
+pub mod Values
+pub mod Fits

@@ -1,4 +1,0 @@
-pub mod Mails
-pub mod Locks
-pub mod Holds
-pub mod Crossing

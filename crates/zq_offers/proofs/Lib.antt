@@ -1,4 +1,0 @@
-pub mod Folds
-pub mod Gathering
-pub mod Walking
-pub mod KeysAdded

@@ -1,9 +1,0 @@
-use Rattle.std.proofs.Common.{◌≡◌, fold, map, None}
-use Rattle.zq_offers.specs.Offers.{place, offer_cmp}
-use Rattle.zq_offers.specs.Offers.{groups_from, met_offer}
-use Rattle.zq_offers.proofs.groups.add_groups.Given as goal
-
-abbrev pub invariant-loop-place : goal.invariant-loop-place
-invariant-loop-place l =
-    fold (place offer_cmp) l.offers.items (map (met_offer l.region l.included l.key) (groups_from l.group l.place-iterator))
-    ≡ fold (place offer_cmp) l.initial.offers.items (map (met_offer l.region l.included l.key) (groups_from None l.infos.entries))

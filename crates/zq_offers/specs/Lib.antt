@@ -1,4 +1,0 @@
-pub mod Merges
-pub mod Met
-pub mod Offers
-pub mod Routed

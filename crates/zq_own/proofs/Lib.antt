@@ -1,4 +1,0 @@
-pub mod Changed
-pub mod Seats
-pub mod Lent
-pub mod Valid

@@ -1,7 +1,0 @@
-use Rattle.std.proofs.Common.{◌≡◌, [], take}
-use Rattle.std.specs.Prelude.{fold}
-use Rattle.zq_page.specs.Choice.{joined}
-use Rattle.zq_page.proofs.choice.lanes_of.Given as goal
-
-abbrev pub invariant-loop-row : goal.invariant-loop-row
-invariant-loop-row l = l.lanes.items ≡ fold joined [] (take l.row-index l.rows)

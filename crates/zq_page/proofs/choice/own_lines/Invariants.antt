@@ -1,6 +1,0 @@
-use Rattle.std.proofs.Common.{◌≡◌, map, filter, take}
-use Rattle.zq_page.specs.Choice.{is_own, line_of}
-use Rattle.zq_page.proofs.choice.own_lines.Given as goal
-
-abbrev pub invariant-loop-row : goal.invariant-loop-row
-invariant-loop-row l = l.lines ≡ map line_of (filter (is_own l.request l.events) (take l.row-index l.rows))

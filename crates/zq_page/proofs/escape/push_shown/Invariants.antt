@@ -1,7 +1,0 @@
-use Rattle.std.proofs.Common.{◌≡◌, ◌++◌}
-use Rattle.percent_encoding.specs.Iter.{encoded_text}
-use Rattle.zq_page.specs.Escape.{shown}
-use Rattle.zq_page.proofs.escape.push_shown.Given as goal
-
-abbrev pub invariant-pieces : goal.invariant-pieces
-invariant-pieces l = l.out.items ++ encoded_text l.piece-iterator ≡ l.fn.out.items ++ shown l.bytes

@@ -1,6 +1,0 @@
-use Rattle.std.proofs.Common.{◌≡◌, ◌++◌, take}
-use Rattle.zq_page.specs.Plain.{messages_plain}
-use Rattle.zq_page.proofs.plain.push_all.Given as goal
-
-abbrev pub invariant-loop-text : goal.invariant-loop-text
-invariant-loop-text l = l.out.items ≡ l.fn.out.items ++ messages_plain l.mark (take l.text-index l.texts)

@@ -1,6 +1,0 @@
-use Rattle.std.proofs.Common.{◌≡◌, ◌++◌, take}
-use Rattle.zq_page.specs.Plain.{lines_plain}
-use Rattle.zq_page.proofs.plain.push_lines.Given as goal
-
-abbrev pub invariant-loop-line : goal.invariant-loop-line
-invariant-loop-line l = l.out.items ≡ l.fn.out.items ++ lines_plain l.colours (take l.line-index l.lines)

@@ -1,4 +1,0 @@
-pub mod Sameness
-pub mod StepsBack
-pub mod Shown
-pub mod EachFits

@@ -1,4 +1,0 @@
-pub mod Same
-pub mod Steps
-pub mod StepsRead
-pub mod StepsFit

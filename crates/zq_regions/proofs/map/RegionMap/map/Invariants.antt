@@ -1,5 +1,0 @@
-use Rattle.zq_regions.specs.RegionMap.{MapsEach}
-use Rattle.zq_regions.proofs.map.RegionMap.map.Given as goal
-
-abbrev pub invariant-loop-i : goal.invariant-loop-i
-invariant-loop-i g l = goal.F-IsAlwaysCallable g l.f × MapsEach (goal.F-post g l.fn.f) l.yielded l.entries.entries

@@ -1,2 +1,0 @@
-mod Edits
-mod Sides

@@ -1,3 +1,0 @@
-pub mod Branch
-pub mod BranchFalls
-pub mod Border

@@ -1,0 +1,11 @@
+use Rattle.zq_script.proofs.Promised.{promised}
+use Rattle.zq_script.proofs.running.run.Goals as goal
+
+pub returns-in-Some-Replay-clause-headline : goal.returns-in-Some-Replay-clause-headline
+returns-in-Some-Replay-clause-headline g c = promised (g.S.Source.left c.args.source.now)
+
+pub returns-in-Some-Load-clause-headline : goal.returns-in-Some-Load-clause-headline
+returns-in-Some-Load-clause-headline g c = promised (g.S.Source.left c.args.source.now)
+
+pub returns-in-None-clause-headline : goal.returns-in-None-clause-headline
+returns-in-None-clause-headline g c = promised (g.S.Source.left c.args.source.now)

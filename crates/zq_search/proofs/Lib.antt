@@ -1,2 +1,0 @@
-pub mod Skipping
-pub mod ForkLemmas

@@ -1,9 +1,0 @@
-use Rattle.std.proofs.Common.{◌≡◌, Some, false, rules}
-use Rattle.zq_script.specs.Script.{script_call}
-use Rattle.zq_seen.proofs.Replayed.{adds}
-use Rattle.zq_seen.proofs.replay.push_line.Goals as goal
-
-pub returns-in_ok-push-in-Some-clause-called : goal.returns-in_ok-push-in-Some-clause-called
-returns-in_ok-push-in-Some-clause-called c = λ _.
-    let is : Some c.in-Some.call ≡ script_call false c.args.line.now = first_of ((cc), (search rules)) in
-    adds c.args.number c.args.line.now c.args.gateway.now c.args.other.now c.entry_of.new.gateway c.entry_of.new.other c.args.entries.now c.push.new.self c.in-Some.call c.in_ok-entry-in-Some.entry is c.in_ok-entry-in-Some.ensures.after c.in_ok-entry-in-Some.ensures.told c.in_ok-entry-in-Some.ensures.entry c.in_ok-push-in-Some.ensures.ok

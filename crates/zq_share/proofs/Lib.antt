@@ -1,4 +1,0 @@
-pub mod Making
-pub mod Gathering
-pub mod Listed
-pub mod Storing

@@ -1,9 +1,0 @@
-use Rattle.std.proofs.Common.{◌≡◌, ◌++◌, drop}
-use Rattle.zq_machine.specs.Machine.{steps_from}
-use Rattle.zq_prints.specs.Steps.{steps_words}
-use Rattle.zq_sharing.proofs.printing.push_answers.Given as goal
-
-abbrev pub invariant-loop-call : goal.invariant-loop-call
-invariant-loop-call l = record {
-  told : l.out.items ++ steps_words (steps_from l.gateway (drop l.call-index l.calls)) ≡ l.fn.out.items ++ steps_words (steps_from l.fn.gateway l.calls);
-}

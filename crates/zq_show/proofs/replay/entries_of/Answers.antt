@@ -1,0 +1,13 @@
+use Rattle.zq_lines.specs.Split.{lines_of}
+use Rattle.zq_show.proofs.Replayed.{from_begun}
+use Rattle.zq_show.proofs.replay.entries_of.Goals as goal
+
+pub returns-clause-entries : goal.returns-clause-entries
+returns-clause-entries c =
+    from_begun c.entries_from.result c.args.first c.in_ok-gateway.gateway c.in_ok-other.other c.args.config.now (lines_of c.args.bytes.now) c.in_ok-gateway.ensures c.in_ok-other.ensures c.entries_from.ensures.entries
+
+pub returns-clause-bad : goal.returns-clause-bad
+returns-clause-bad c = c.entries_from.ensures.bad
+
+pub entries_from-requires : goal.entries_from-requires
+entries_from-requires c = c.requires

@@ -1,0 +1,97 @@
+-- The page of a run.
+use Rattle.std.specs.Prelude.{ℕ, Bool, false, List, [], ◌∷◌, ◌++◌, Option, Some, None, codes, if◌then◌else◌, ◌==◌, length}
+use Rattle.std.specs.List.{flat_map}
+use Rattle.std.specs.Fmt.{decimal}
+use Rattle.zq_show.specs.declared.page.Line.{Line}
+use Rattle.zq_show.specs.declared.page.BadLine.{BadLine}
+use Rattle.zq_show.specs.declared.page.Shown.{Shown}
+use Rattle.zq_show.specs.declared.page.TheConstants.{BEGIN, LEGEND}
+use Rattle.zq_show.specs.declared.row.Row.{Row}
+use Rattle.zq_show.specs.Escape.{shown_in_page}
+use Rattle.zq_show.specs.Choice.{has_line, lanes_of}
+use Rattle.zq_show.specs.Picture.{picture_words}
+
+-- a text between words of the page's own
+unfoldable pub said_words : List ℕ → List ℕ → List ℕ → List ℕ
+said_words before text after = before ++ shown_in_page text ++ after
+
+-- an item of a list
+abbrev pub item_words : List ℕ → List ℕ
+item_words text = said_words (codes "<li><code>") text (codes "</code></li>")
+
+-- the items of a list
+abbrev pub items_words : List (List ℕ) → List ℕ
+items_words texts = flat_map item_words texts
+
+-- a list, and nothing where it is empty
+unfoldable pub list_words : List (List ℕ) → List ℕ
+list_words texts = if length texts == 0 then [] else codes "<ul>" ++ items_words texts ++ codes "</ul>"
+
+-- what there is to say of an answer, each as a paragraph
+abbrev pub notes_words : List (List ℕ) → List ℕ
+notes_words notes = flat_map (λ note. said_words (codes "<p class='said'>") note (codes "</p>")) notes
+
+-- the beginning of a link to a row
+unfoldable pub link_words : ℕ → List ℕ
+link_words number = codes "<a href='#p" ++ decimal number ++ codes "'>"
+
+-- the number of a line, as a link to its row where the picture has one
+unfoldable pub linked : ℕ → Bool → List ℕ
+linked number drawn = if drawn then link_words number ++ decimal number ++ codes "</a></span>" else decimal number ++ codes "</span>"
+
+-- the beginning of a line
+unfoldable pub line_number_words : ℕ → Bool → List ℕ
+line_number_words number drawn = codes "<li id='l" ++ decimal number ++ codes "'><span class='n'>" ++ linked number drawn
+
+-- the beginning of an answer
+abbrev pub answer_open : Bool → List ℕ
+answer_open refused = if refused then codes "<p class='no'>" else codes "<p>"
+
+-- what came of a line: its answer, what there is to say of it, and the messages that it handed
+unfoldable pub came_words : Line → List ℕ
+came_words line = said_words (answer_open line.refused) line.answer (codes "</p>") ++ notes_words line.notes ++ list_words line.messages
+
+-- a line, with what it was answered and the messages that it handed
+unfoldable pub line_words : List Row → Line → List ℕ
+line_words rows line =
+    line_number_words line.number (has_line line.number rows) ++ said_words (codes "<code>") line.text (codes "</code>") ++ came_words line ++ codes "</li>" ++ 10 ∷ []
+
+-- the lines, in order
+abbrev pub lines_words : List Row → List Line → List ℕ
+lines_words rows lines = flat_map (line_words rows) lines
+
+-- the line that could not be read
+unfoldable pub bad_line_words : BadLine → List ℕ
+bad_line_words bad =
+    line_number_words bad.number false ++ said_words (codes "<code>") bad.text (codes "</code>")
+    ++ said_words (codes "<p class='no'>bad line: ") bad.reason (codes "</p></li>")
+
+-- the line that could not be read, if there is one
+abbrev pub bad_words : Option BadLine → List ℕ
+bad_words None = []
+bad_words (Some bad) = bad_line_words bad
+
+-- the picture of the rows, with a lane for each face that they name
+unfoldable pub drawn_words : List Row → List ℕ
+drawn_words rows = picture_words (lanes_of rows) rows
+
+-- what stands before the lists of a page
+unfoldable pub begin_words : List ℕ
+begin_words = BEGIN.now
+
+-- how the picture is read
+unfoldable pub legend_words : List ℕ
+legend_words = LEGEND.now
+
+-- the title, the configuration and the faces
+unfoldable pub head_words : Shown → List ℕ
+head_words shown = begin_words ++ list_words shown.head ++ codes "<h2>Faces</h2>" ++ list_words shown.faces
+
+-- the picture, with what it shows of the run
+unfoldable pub scene_words : Shown → List ℕ
+scene_words shown =
+    said_words (codes "<h2>Picture</h2><p>") shown.scope (codes "</p>") ++ legend_words ++ drawn_words shown.rows ++ codes "</div><h2>Lines</h2><ol class='lines'>"
+
+-- the page of a run
+abbrev pub page_words : Shown → List ℕ
+page_words shown = head_words shown ++ scene_words shown ++ lines_words shown.rows shown.lines ++ bad_words shown.bad ++ codes "</ol></body></html>"

@@ -1,0 +1,318 @@
+//! The page of a run: the head, the faces, the picture, and the lines with what came of each.
+ghost use Rattle.std.specs.Prelude.{◌≡◌, ◌++◌, IfOk, OnOk};
+ghost use Rattle.zq_show.specs.Page.{answer_open, bad_line_words, bad_words, begin_words, came_words, drawn_words, head_words, items_words, legend_words, line_number_words, line_words, lines_words, link_words, linked, list_words, notes_words, page_words, said_words, scene_words};
+
+use crate::choice::{RowList, has_line, lanes_of};
+use crate::escape::push_in_page;
+use crate::picture::push_picture;
+use crate::row::Row;
+use std::alloc::{AllocError, Global};
+use zq_io::words::{push_number, push_text};
+use zq_message::items::Items;
+use zq_message::memory::OutOfMemory;
+use zq_message::text::Bytes;
+
+/// Texts, in order.
+pub type BytesList = Items<Bytes>;
+
+/// A line of a script that is a call, and what came of it.
+#[derive(Drop)]
+pub struct Line {
+    /// Its number in the script, from 1.
+    pub number: u64,
+    /// Its bytes, as they stand in the script.
+    pub text: Bytes,
+    /// What it was answered.
+    pub answer: Bytes,
+    /// Whether it was refused.
+    pub refused: bool,
+    /// What there is to say of the answer.
+    pub notes: BytesList,
+    /// The messages that it handed, each as a text, in order.
+    pub messages: BytesList,
+}
+
+/// Lines, in order.
+pub type LineList = Items<Line>;
+
+/// The line that could not be read, and why.
+#[derive(Drop)]
+pub struct BadLine {
+    /// Its number in the script, from 1.
+    pub number: u64,
+    /// Its bytes, as they stand in the script.
+    pub text: Bytes,
+    /// What was expected there.
+    pub reason: Bytes,
+}
+
+/// What is shown of a run.
+#[derive(Drop)]
+pub struct Shown {
+    /// The lines before the calls, as they stand in the script.
+    pub head: BytesList,
+    /// The faces that were opened, each as a text.
+    pub faces: BytesList,
+    /// The lines of the calls.
+    pub lines: LineList,
+    /// The line at which the script ends because it could not be read, if there is one.
+    pub bad: Option<BadLine>,
+    /// What the picture shows of the run, as a text.
+    pub scope: Bytes,
+    /// The rows of the picture.
+    pub rows: RowList,
+}
+
+/// What stands before the lists of a page: the title, and how its parts look.
+pub const BEGIN: &str = "<!doctype html>
+<html lang='en'><head><meta charset='utf-8'>
+<meta name='viewport' content='width=device-width, initial-scale=1'>
+<title>A run of the gateway</title>
+<style>
+:root{color-scheme:light dark;--ink:#1c2330;--soft:#5c6675;--page:#fff;--card:#f5f7fa;--rule:#c9d1dc;--link:#0b57b8;--bad:#b3261e;--mark:#fff3c4}
+@media (prefers-color-scheme:dark){:root{--ink:#e6eaf0;--soft:#a0aab8;--page:#12161d;--card:#1b212b;--rule:#3a4453;--link:#8ab8ff;--bad:#ff8a80;--mark:#4a4010}}
+body{margin:0 auto;max-width:72rem;padding:1rem;background:var(--page);color:var(--ink);font:16px/1.5 system-ui,sans-serif}
+h1{font-size:1.5rem;margin:.5rem 0}h2{font-size:1.15rem;margin:1.5rem 0 .5rem}
+a{color:var(--link)}code{font:14px/1.45 ui-monospace,monospace;overflow-wrap:anywhere}
+ul,ol{padding-left:1.25rem;margin:.25rem 0}p{margin:.25rem 0}
+.lines{list-style:none;padding:0}.lines>li{border-top:1px solid var(--rule);padding:.5rem 0 .5rem 3.25rem;position:relative;scroll-margin-top:1rem}
+.lines>li:target{background:var(--mark)}.n{position:absolute;left:0;width:2.5rem;text-align:right;font-variant-numeric:tabular-nums}
+.lines code{display:block;max-height:9rem;overflow:auto}.no{color:var(--bad);font-weight:600}.said{color:var(--soft)}
+.picture{overflow:auto;max-height:85vh;background:var(--card);border:1px solid var(--rule);border-radius:6px}
+svg{display:block}svg text{font:12px ui-monospace,monospace;fill:var(--ink);paint-order:stroke;stroke:var(--card);stroke-width:4px}
+svg .name{font-weight:600;text-anchor:middle}svg .number{fill:var(--link)}svg a:target text{font-weight:700}p code{font-size:inherit}
+path{fill:none;stroke:var(--ink);stroke-width:1.5}.lane{stroke:var(--rule)}.ask{stroke-width:2.5}.reply{stroke-dasharray:9 4}.final{stroke-dasharray:2 4}
+.tell{stroke:var(--soft);stroke-width:1}.time{stroke:var(--soft);stroke-dasharray:14 4 2 4}.head{fill:var(--ink);stroke:none}.cross{stroke:var(--bad);stroke-width:2.5}
+.dot{stroke-width:8;stroke-linecap:round}.pending{fill:var(--soft)}.flight{fill:var(--card);stroke:var(--ink)}
+</style></head><body>
+<h1>A run of the gateway</h1>
+<h2>Configuration</h2>
+";
+
+/// How the picture is read.
+pub const LEGEND: &str =
+    "<p class='said'>Time goes down. Arrows: a thick line is a request, a dashed one a reply, a dotted one a final, a thin one a declaration; a cross in place of a head is a refusal. A filled bar beside a face is a request that is pending there, a hollow one a reply in flight. A rule across is a moment that came. At the left are the numbers of the script's lines, linked with what is said of them below; <code>#N</code> is the number of a request in this run, and the number behind a message's name the id by which its face knows it.</p>
+<div class='picture'>
+";
+
+/// Writes a text of an element.
+#[tactic(auto, unfolding(crate::specs::Page::said_words))]
+fn push_said(
+    alloc: Global,
+    out: &mut Vec<u8>,
+    before: &str,
+    text: &Bytes,
+    after: &str,
+) -> Result<(), AllocError>
+    ensures { OnOk result (out.new.items ≡ out.old.items ++ said_words before.now text.now after.now) }
+{
+    push_text(out, before)?;
+    push_in_page(alloc, out, text.as_slice())?;
+    push_text(out, after)
+}
+
+/// Writes the items of a list.
+fn push_items(alloc: Global, out: &mut Vec<u8>, texts: &[Bytes]) -> Result<(), AllocError>
+    ensures { OnOk result (out.new.items ≡ out.old.items ++ items_words texts.now) }
+{
+    for text in texts {
+        push_said(alloc, out, "<li><code>", text, "</code></li>")?;
+    }
+    Ok(())
+}
+
+/// Writes a list, and nothing where it is empty.
+#[tactic(auto, unfolding(crate::specs::Page::list_words))]
+fn push_list(alloc: Global, out: &mut Vec<u8>, texts: &[Bytes]) -> Result<(), AllocError>
+    ensures { OnOk result (out.new.items ≡ out.old.items ++ list_words texts.now) }
+{
+    if texts.is_empty() {
+        return Ok(());
+    }
+    push_text(out, "<ul>")?;
+    push_items(alloc, out, texts)?;
+    push_text(out, "</ul>")
+}
+
+/// Writes what there is to say of an answer, each as a paragraph.
+fn push_notes(alloc: Global, out: &mut Vec<u8>, notes: &[Bytes]) -> Result<(), AllocError>
+    ensures { OnOk result (out.new.items ≡ out.old.items ++ notes_words notes.now) }
+{
+    for note in notes {
+        push_said(alloc, out, "<p class='said'>", note, "</p>")?;
+    }
+    Ok(())
+}
+
+/// Writes the beginning of a link to a row.
+#[tactic(auto, unfolding(crate::specs::Page::link_words))]
+fn push_link(out: &mut Vec<u8>, number: u64) -> Result<(), AllocError>
+    ensures { OnOk result (out.new.items ≡ out.old.items ++ link_words number) }
+{
+    push_text(out, "<a href='#p")?;
+    push_number(out, number)?;
+    push_text(out, "'>")
+}
+
+/// Writes the number of a line, as a link to its row where the picture has one.
+#[tactic(auto, unfolding(crate::specs::Page::linked))]
+fn push_linked(out: &mut Vec<u8>, number: u64, drawn: bool) -> Result<(), AllocError>
+    ensures { OnOk result (out.new.items ≡ out.old.items ++ linked number drawn) }
+{
+    if drawn {
+        push_link(out, number)?;
+        push_number(out, number)?;
+        push_text(out, "</a></span>")
+    } else {
+        push_number(out, number)?;
+        push_text(out, "</span>")
+    }
+}
+
+/// Writes the beginning of a line.
+#[tactic(auto, unfolding(crate::specs::Page::line_number_words))]
+fn push_line_number(out: &mut Vec<u8>, number: u64, drawn: bool) -> Result<(), AllocError>
+    ensures { OnOk result (out.new.items ≡ out.old.items ++ line_number_words number drawn) }
+{
+    push_text(out, "<li id='l")?;
+    push_number(out, number)?;
+    push_text(out, "'><span class='n'>")?;
+    push_linked(out, number, drawn)
+}
+
+fn answer_open(refused: bool) -> &'static str
+    ensures { result.now ≡ answer_open refused }
+{
+    if refused { "<p class='no'>" } else { "<p>" }
+}
+
+/// Writes what came of a line: its answer, what there is to say of it, and the messages that it
+/// handed.
+#[tactic(auto, unfolding(crate::specs::Page::came_words))]
+fn push_came(alloc: Global, out: &mut Vec<u8>, line: &Line) -> Result<(), AllocError>
+    ensures { OnOk result (out.new.items ≡ out.old.items ++ came_words line.now) }
+{
+    push_said(alloc, out, answer_open(line.refused), &line.answer, "</p>")?;
+    push_notes(alloc, out, line.notes.as_slice())?;
+    push_list(alloc, out, line.messages.as_slice())
+}
+
+/// Writes a line, with what it was answered and the messages that it handed.
+#[tactic(auto, unfolding(crate::specs::Page::line_words))]
+fn push_line(alloc: Global, out: &mut Vec<u8>, rows: &[Row], line: &Line) -> Result<(), AllocError>
+    ensures { OnOk result (out.new.items ≡ out.old.items ++ line_words rows.now line.now) }
+{
+    push_line_number(out, line.number, has_line(rows, line.number))?;
+    push_said(alloc, out, "<code>", &line.text, "</code>")?;
+    push_came(alloc, out, line)?;
+    push_text(out, "</li>")?;
+    push_text(out, "\n")
+}
+
+/// Writes the lines, in order.
+fn push_lines(
+    alloc: Global,
+    out: &mut Vec<u8>,
+    rows: &[Row],
+    lines: &[Line],
+) -> Result<(), AllocError>
+    ensures { OnOk result (out.new.items ≡ out.old.items ++ lines_words rows.now lines.now) }
+{
+    for line in lines {
+        push_line(alloc, out, rows, line)?;
+    }
+    Ok(())
+}
+
+/// Writes the line that could not be read.
+#[tactic(auto, unfolding(crate::specs::Page::bad_line_words))]
+fn push_bad_line(alloc: Global, out: &mut Vec<u8>, bad: &BadLine) -> Result<(), AllocError>
+    ensures { OnOk result (out.new.items ≡ out.old.items ++ bad_line_words bad.now) }
+{
+    push_line_number(out, bad.number, false)?;
+    push_said(alloc, out, "<code>", &bad.text, "</code>")?;
+    push_said(
+        alloc,
+        out,
+        "<p class='no'>bad line: ",
+        &bad.reason,
+        "</p></li>",
+    )
+}
+
+/// Writes the line that could not be read, if there is one.
+fn push_bad(alloc: Global, out: &mut Vec<u8>, bad: &Option<BadLine>) -> Result<(), AllocError>
+    ensures { OnOk result (out.new.items ≡ out.old.items ++ bad_words bad.now) }
+{
+    match bad {
+        Some(bad) => push_bad_line(alloc, out, bad),
+        None => Ok(()),
+    }
+}
+
+/// Writes the picture of the rows, with a lane for each face that they name.
+#[tactic(auto, unfolding(crate::specs::Page::drawn_words))]
+fn push_drawn(alloc: Global, out: &mut Vec<u8>, rows: &[Row]) -> Result<(), OutOfMemory>
+    ensures { OnOk result (out.new.items ≡ out.old.items ++ drawn_words rows.now) }
+{
+    let lanes = lanes_of(alloc, rows)?;
+    push_picture(alloc, out, lanes.as_slice(), rows)?;
+    Ok(())
+}
+
+/// Writes what stands before the lists of a page.
+#[tactic(auto, unfolding(crate::specs::Page::begin_words))]
+fn push_begin(out: &mut Vec<u8>) -> Result<(), AllocError>
+    ensures { OnOk result (out.new.items ≡ out.old.items ++ begin_words) }
+{
+    push_text(out, BEGIN)
+}
+
+/// Writes how the picture is read.
+#[tactic(auto, unfolding(crate::specs::Page::legend_words))]
+fn push_legend(out: &mut Vec<u8>) -> Result<(), AllocError>
+    ensures { OnOk result (out.new.items ≡ out.old.items ++ legend_words) }
+{
+    push_text(out, LEGEND)
+}
+
+/// Writes the title, the configuration and the faces.
+#[tactic(auto, unfolding(crate::specs::Page::head_words))]
+fn push_head(alloc: Global, out: &mut Vec<u8>, shown: &Shown) -> Result<(), AllocError>
+    ensures { OnOk result (out.new.items ≡ out.old.items ++ head_words shown.now) }
+{
+    push_begin(out)?;
+    push_list(alloc, out, shown.head.as_slice())?;
+    push_text(out, "<h2>Faces</h2>")?;
+    push_list(alloc, out, shown.faces.as_slice())
+}
+
+/// Writes the picture, with what it shows of the run.
+#[tactic(auto, unfolding(crate::specs::Page::scene_words))]
+fn push_scene(alloc: Global, out: &mut Vec<u8>, shown: &Shown) -> Result<(), OutOfMemory>
+    ensures { OnOk result (out.new.items ≡ out.old.items ++ scene_words shown.now) }
+{
+    push_said(alloc, out, "<h2>Picture</h2><p>", &shown.scope, "</p>")?;
+    push_legend(out)?;
+    push_drawn(alloc, out, shown.rows.as_slice())?;
+    push_text(out, "</div><h2>Lines</h2><ol class='lines'>")?;
+    Ok(())
+}
+
+/// The page of a run. It is whole by itself: it has no script, and loads nothing.
+pub fn page(alloc: Global, shown: &Shown) -> Result<Bytes, OutOfMemory>
+    ensures { IfOk result (λ b. b ≡ page_words shown.now) }
+{
+    let mut out = Vec::new(alloc);
+    push_head(alloc, &mut out, shown)?;
+    push_scene(alloc, &mut out, shown)?;
+    push_lines(
+        alloc,
+        &mut out,
+        shown.rows.as_slice(),
+        shown.lines.as_slice(),
+    )?;
+    push_bad(alloc, &mut out, &shown.bad)?;
+    push_text(&mut out, "</ol></body></html>")?;
+    Ok(Bytes::from_vec(out))
+}

@@ -1,0 +1,59 @@
+//! What the words of the command ask for.
+ghost use Rattle.std.specs.Prelude.{◌≡◌};
+ghost use Rattle.zq_show.specs.Words.{asked_of, more_of, request_of};
+
+use zq_io::words::number;
+use zq_key::text::Text;
+
+/// What the words ask for.
+#[derive(Clone, Copy)]
+pub enum Asked {
+    /// A run, in a form.
+    Run(Form),
+    /// The version.
+    Version,
+}
+
+/// In which form a run is shown.
+#[derive(Clone, Copy)]
+pub enum Form {
+    /// As a page, with the picture of the first calls or of a request.
+    Page(Option<u64>),
+    /// As text, with colours or without.
+    Plain(bool),
+}
+
+/// A page with the picture of the request that digits name.
+fn request(digits: &str) -> Option<Asked>
+    ensures { result ≡ request_of digits.now }
+{
+    let request = number(u64::MAX, digits.as_bytes())?;
+    Some(Asked::Run(Form::Page(Some(request))))
+}
+
+/// What words after the first ask for.
+fn read_more(word: &Text, next: &Text) -> Option<Asked>
+    ensures { result ≡ more_of word.now next.now }
+{
+    match (word.as_str(), next.as_str()) {
+        ("--text", "--color") => Some(Asked::Run(Form::Plain(true))),
+        ("--request", digits) => request(digits),
+        _ => None,
+    }
+}
+
+/// What the words ask for, if they ask for anything.
+pub fn read_words(words: &[Text]) -> Option<Asked>
+    ensures { result ≡ asked_of words.now }
+{
+    match words {
+        [] => Some(Asked::Run(Form::Page(None))),
+        [word] => match word.as_str() {
+            "--text" => Some(Asked::Run(Form::Plain(false))),
+            "--version" => Some(Asked::Version),
+            _ => None,
+        },
+        [word, next] => read_more(word, next),
+        _ => None,
+    }
+}

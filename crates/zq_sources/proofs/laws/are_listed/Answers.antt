@@ -1,5 +1,0 @@
-use Rattle.zq_sources.proofs.Listing.{are_listed}
-use Rattle.zq_sources.proofs.laws.are_listed.Goals as goal
-
-pub returns : goal.returns
-returns c = are_listed

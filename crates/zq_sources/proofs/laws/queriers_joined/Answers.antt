@@ -1,5 +1,0 @@
-use Rattle.zq_sources.proofs.Regions.{queriers_joined}
-use Rattle.zq_sources.proofs.laws.queriers_joined.Goals as goal
-
-pub returns : goal.returns
-returns c = queriers_joined

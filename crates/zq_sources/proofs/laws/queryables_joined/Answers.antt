@@ -1,5 +1,0 @@
-use Rattle.zq_sources.proofs.Regions.{queryables_joined}
-use Rattle.zq_sources.proofs.laws.queryables_joined.Goals as goal
-
-pub returns : goal.returns
-returns c = queryables_joined

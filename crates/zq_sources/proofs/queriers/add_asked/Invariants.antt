@@ -1,8 +1,0 @@
-use Rattle.std.proofs.Common.{◌≡◌, fold}
-use Rattle.std.specs.List.{filter_map}
-use Rattle.zq_sources.specs.Listings.{with_listing}
-use Rattle.zq_sources.specs.Sourced.{asked_listing}
-use Rattle.zq_sources.proofs.queriers.add_asked.Given as goal
-
-abbrev pub invariant-loop-interest : goal.invariant-loop-interest
-invariant-loop-interest l = fold with_listing l.all (filter_map (asked_listing l.source) l.interest-iterator) ≡ fold with_listing l.initial.all (filter_map (asked_listing l.source) l.asked.entries)

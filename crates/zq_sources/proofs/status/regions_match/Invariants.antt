@@ -1,7 +1,0 @@
-use Rattle.std.proofs.Common.{◌≡◌, false, take}
-use Rattle.std.specs.List.{list_any}
-use Rattle.zq_sources.specs.Status.{matches}
-use Rattle.zq_sources.proofs.status.regions_match.Given as goal
-
-abbrev pub invariant-loop-declared : goal.invariant-loop-declared
-invariant-loop-declared l = list_any (matches l.key l.complete) (take l.declared-index l.others) ≡ false

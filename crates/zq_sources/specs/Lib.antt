@@ -1,6 +1,0 @@
-pub mod Sources
-pub mod Listings
-pub mod Joining
-pub mod Sourced
-pub mod Infos
-pub mod Status

@@ -1,0 +1,11 @@
+pub mod Places
+pub mod Sitting
+pub mod Sets
+pub mod Firsts
+pub mod Folds
+pub mod Gathering
+pub mod Walking
+pub mod KeysAdded
+pub mod OfferLaws
+pub mod RoutersMoved
+pub mod OffersMoved

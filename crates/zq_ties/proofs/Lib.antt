@@ -1,9 +1,0 @@
-pub mod Distinct
-pub mod Flights
-pub mod Frames
-pub mod Holding
-pub mod Journals
-pub mod Moves
-pub mod Owed
-pub mod Replying
-pub mod Ties

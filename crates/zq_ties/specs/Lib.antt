@@ -1,3 +1,0 @@
-pub mod Holding
-pub mod Stored
-pub mod Ties

@@ -1,4 +1,0 @@
-pub mod Places
-pub mod Sitting
-pub mod Sets
-pub mod Firsts

@@ -1,5 +1,0 @@
-pub mod Known
-pub mod Back
-pub mod Split
-pub mod Lists
-pub mod ValuesBack

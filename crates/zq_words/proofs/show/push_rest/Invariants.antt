@@ -1,6 +1,0 @@
-use Rattle.std.proofs.Common.{◌≡◌, ◌++◌, take}
-use Rattle.zq_words.specs.Words.{rest_word}
-use Rattle.zq_words.proofs.show.push_rest.Given as goal
-
-abbrev pub invariant-loop-item : goal.invariant-loop-item
-invariant-loop-item g l = l.out.items ≡ l.fn.out.items ++ rest_word l.byte g.T.Shown.word (take l.item-index l.items)
