@@ -32,4 +32,12 @@ pub mod sources;
 pub mod status;
 
 pub use hat::Hat;
+pub use infos::InfoList;
 pub use queries::HatQueriesTrait;
+pub use sources::{SourceList, Sources};
+pub use status::Locality;
+pub use zq_index::info::merge_qabl_infos;
+pub use zq_strategy::{
+    DirectionList, FaceRecord, FinalMark, HatRefusal, Network, NodeIds, OfferList, QueryTargetQabl,
+    Telling, TellingList, Tree, TreeList, U16List, U32List, UnregisterEntityResult, ZidList,
+};

@@ -28,7 +28,13 @@ ghost use Rattle.zq_key.specs.Key.{is_key as key_of, intersects as intersects_of
 pub use check::{is_key, is_plain};
 use key::{Relation, related};
 pub use name::{Key, KeyError};
-pub use zq_message::{items, memory, message, text};
+pub use space::{prefix, split_first_chunk, strip};
+pub use zq_message::{
+    Bound, Bytes, DEFAULT_NODE_ID, Declare, DeclareBody, FaceId, Interest, Items, Mapping, Message,
+    Mode, NodeId, OutOfMemory, QueryTarget, QueryableInfoType, Region, ReplyBody, Request,
+    Response, ResponseFinal, Text, TextList, WireExpr, Zid, items, memory, message,
+    node_id_as_source, text,
+};
 
 /// Whether two keys intersect (upstream's `keyexpr::intersects`), by the recursion on their chunks. It
 /// takes no memory.

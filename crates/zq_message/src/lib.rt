@@ -19,5 +19,13 @@ pub mod message;
 pub mod text;
 
 pub use index::{index_to_region, region_to_index};
+pub use items::Items;
 pub use iter::{RegionIntoIter, RegionIter, Regions, Values};
 pub use map::RegionMap;
+pub use memory::OutOfMemory;
+pub use message::{
+    Bound, DEFAULT_NODE_ID, Declare, DeclareBody, FaceId, Interest, Mapping, Message, Mode, NodeId,
+    QueryTarget, QueryableInfoType, Region, ReplyBody, Request, Response, ResponseFinal, TextList,
+    WireExpr, Zid, node_id_as_source,
+};
+pub use text::{Bytes, Text};

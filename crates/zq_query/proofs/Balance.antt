@@ -18,7 +18,7 @@ use Rattle.zq_query.specs.Asking.{given_place, asked_record, after_ask}
 use Rattle.zq_query.specs.Closing.{at_face, has_open_asker, finals_after, finals_landed, closed_with, closing_finals, after_close}
 use Rattle.zq_query.specs.Polling.{is_due, timeouts, after_timeout, timing_out, after_poll}
 use Rattle.zq_query.specs.Balance.{owed_by, finals_owed, finals_under}
-use Rattle.zq_query.proofs.Asked.{some_entries}
+use Rattle.zq_query.proofs.AskedTargets.{some_entries}
 use Rattle.zq_query.proofs.Flying.{put_none_over}
 
 -- ---- what is let go

@@ -17,6 +17,9 @@ pub mod running;
 pub mod script;
 
 pub use load::{Counts, print_load};
+pub use refusal::ScriptRefusal;
+pub use running::{Status, run};
+pub use script::{PartList, Script, read_script};
 pub use zq_io::stored::{MemorySink, MemorySource, SureSink, SureSource};
 pub use zq_io::streams::{Failed, ReadSource, Sink, Source, WriteSink};
 pub use zq_io::transfer::{LIMIT, ReadRefusal, WriteFault, read_all, write_all};

@@ -29,4 +29,10 @@ pub mod texts;
 pub mod types;
 pub mod walk;
 
+pub use network::{
+    DirectionList, Network, NodeIds, Telling, TellingList, Tree, TreeList, U16List, U32List,
+    ZidList,
+};
+pub use offer::{OfferList, QueryTargetQabl};
+pub use types::{FaceRecord, FinalMark, HatRefusal, Strategy, UnregisterEntityResult};
 pub use zq_index::info;

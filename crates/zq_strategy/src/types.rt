@@ -1,4 +1,4 @@
-//! What hats keep and offer; networks and tellings are `zq_strategy`'s.
+//! What hats keep and offer; networks and tellings are of `network`, offers of `offer`.
 ghost use Rattle.std.specs.Prelude.{◌≡◌, IfOk};
 
 use crate::nets::IndexedNetwork;
