@@ -1,4 +1,4 @@
-"""The program as the launcher leaves it."""
+"""The program that the launcher runs: the launcher alone says where it is, and whether it fits its sources."""
 
 import subprocess
 import sys
@@ -7,8 +7,9 @@ from pathlib import Path
 TOP = Path(__file__).resolve().parent.parent
 
 
-def program():
-    """The program, proved and built first where it is missing or older than its sources."""
-    if subprocess.run([TOP / 'zq', 'load', '1'], stdout=subprocess.DEVNULL).returncode != 0:
+def program(*words):
+    """The path that `zq which` prints; with `--proved` the proved program or none. Where it prints none, this ends."""
+    asked = subprocess.run([TOP / 'zq', 'which', *words], stdout=subprocess.PIPE, text=True)
+    if asked.returncode != 0:
         sys.exit(2)
-    return TOP / 'crates/zq_main/out/zq_main'
+    return Path(asked.stdout.removesuffix('\n'))

@@ -127,7 +127,7 @@ pub fn asks_besides(interests: &Interests, face: FaceId, id: u32, key: &str) -> 
     }
 }
 
-/// The same once it asks this under the id.
+/// What the face asks of the key once it asks this under the id.
 pub fn asks_with(
     interests: &Interests,
     face: FaceId,

@@ -70,8 +70,8 @@ pub fn dues_on(
     )
 }
 
-/// The same on keys in any order, where the hats are the same after the change whichever of the keys it
-/// is, and but for a face that is closed. Refused only where memory is lacking, and then nothing is
+/// What will be due as by `dues_on`, but on keys in any order, where the hats are the same after the
+/// change whichever of the keys it is, and but for a face that is closed. Refused only where memory is lacking, and then nothing is
 /// changed.
 pub fn dues_on_all(
     alloc: Global,

@@ -32,7 +32,7 @@ impl Model for OwnKeys {
     ghost view = { λ o. map string_bytes o.keys.keys };
 }
 
-/// The same by the numbers of faces.
+/// Keys of aggregating interests, by the numbers of their faces.
 pub(crate) type Owns = BTreeMap<u32, OwnKeys>;
 
 impl OwnKeys {

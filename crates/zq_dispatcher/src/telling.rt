@@ -101,7 +101,7 @@ pub fn tell_change(
     tell_on(hats, new, key, told)
 }
 
-/// The same of each of the keys.
+/// What children of the gateway's own trees are told of each of the keys joins the list, as by `tell_change`.
 pub fn tell_changes(
     hats: &RegionMap<Hat>,
     changed: Region,
@@ -119,7 +119,7 @@ pub fn tell_changes(
     Ok(())
 }
 
-/// The same of each key that a face declared, where the face leaves. Where no other region is one of
+/// What they are told of each key that a face declared, where the face leaves, joins the list. Where no other region is one of
 /// routers, its keys are not copied.
 pub fn tell_left(
     hats: &RegionMap<Hat>,

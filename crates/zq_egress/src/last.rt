@@ -59,7 +59,8 @@ fn join_told(
     }
 }
 
-/// The same with the gate that the face has, if it has one.
+/// What an opening tells goes through the gates, that of the new face among them, if it has one, and
+/// the face joins its region's hat.
 pub fn enter_told(
     gates: &mut FaceMuxes,
     hats: &mut RegionMap<Hat>,

@@ -53,7 +53,7 @@ pub fn full_text(said: &Resolved) -> &str
     }
 }
 
-/// The same, moved out. It takes no memory.
+/// The full text, moved out; empty where there is none. It takes no memory.
 pub fn into_text(alloc: Global, said: Resolved) -> Text
     ensures { result ≡ full_text said }
 {

@@ -99,7 +99,7 @@ impl Gateway {
         self.tables.send_request(face, msg, now)
     }
 
-    /// The same (upstream's `Face::route_query`).
+    /// A request of a face at a moment, as `send_request` (upstream's `Face::route_query`).
     pub fn route_query(
         &mut self,
         face: FaceId,

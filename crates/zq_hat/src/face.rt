@@ -216,7 +216,7 @@ impl HatFace {
         &self.declared
     }
 
-    /// The same id replaces.
+    /// The face declares a key under an id; what it declared under the same id is replaced.
     pub fn declare(&mut self, id: u32, key: Key, info: QueryableInfoType) -> Result<(), OutOfMemory>
         ensures ok { OnOk result (self.new ≡ declare id key info self.old) }
         ensures absent { OnErr result (declaration id self.old ≡ None) }

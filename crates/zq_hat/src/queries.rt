@@ -69,7 +69,7 @@ pub trait HatQueriesTrait {
     ) -> Result<TellingList, OutOfMemory>
         ensures { IfOk result (λ ts. ts ≡ in_routers (strategy_at (hat self.now)) (own_told key.now before other (hat self.now)) []) };
 
-    /// The same where the other regions have nothing on the key any more.
+    /// What routers are told of the gateway's own entry on a key where the other regions have nothing there any more.
     fn unpropagate_queryable(
         &self,
         key: &str,
@@ -77,7 +77,7 @@ pub trait HatQueriesTrait {
     ) -> Result<TellingList, OutOfMemory>
         ensures { IfOk result (λ ts. ts ≡ in_routers (strategy_at (hat self.now)) (own_told key.now before None (hat self.now)) []) };
 
-    /// The same where the last queryable on the key is of this region: the other regions have nothing there.
+    /// What routers are told of it where the last queryable on the key is of this region: the other regions have nothing there.
     fn unpropagate_last_non_owned_queryable(
         &self,
         key: &str,
@@ -94,7 +94,7 @@ pub trait HatQueriesTrait {
         ensures infos { IfOk result (λ l. l ≡ remote_queryables None (hat self.now)) }
         ensures valid { IfOk result (AllByRecursion (λ e. is_key e.0 ≡ true)) };
 
-    /// The same of its keys that meet a key, or of all.
+    /// What the region has on those of its keys that meet a key, or on all, by text.
     fn remote_queryables_matching(
         &self,
         alloc: Global,

@@ -106,7 +106,7 @@ fn routers_queryables(alloc: Global, own: Zid, entries: &Entries) -> Result<Gath
     Ok(all)
 }
 
-/// The same as `sourced_queryables`, as gathered.
+/// Who declared each key of the region, as gathered.
 fn gather_queryables(alloc: Global, hat: &Hat) -> Result<Gathered, OutOfMemory>
     ensures { IfOk result (λ g. g ≡ sourced_queryables hat.now) }
 {

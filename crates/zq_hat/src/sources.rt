@@ -75,7 +75,7 @@ impl Sources {
         self.routers.is_empty() && self.peers.is_empty() && self.clients.is_empty()
     }
 
-    /// The same with the ids behind those of the mode. Where memory is lacking, all is given up.
+    /// These ids, with the given ones behind those of the mode. Where memory is lacking, all is given up.
     pub fn with_mode(
         self,
         alloc: Global,

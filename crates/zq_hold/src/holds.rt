@@ -19,6 +19,7 @@ impl Holds {
         requires slots { (0 < slots) × (slots ≤ 1024) }
         requires seats { (0 < seats) × (seats ≤ 63) }
         ensures keeper { IfOk result (λ r. r.0 ≡ record { home = r.0.home; marks = replicate slots Spare; lent = []; ended = 0; vacated = 0; made = seats; joined = 0 }) }
+        ensures sized { IfOk result (λ r. r.0.home.words ≡ slots) }
         ensures seats { IfOk result (λ r. r.1 ≡ record { home = r.0.home; count = seats }) }
     {
         let words = Vec::from_elem(alloc, 1u64, slots as usize)?;

@@ -38,6 +38,7 @@ impl Slots {
         requires slots { (0 < slots) × (slots ≤ 1024) }
         requires seats { (0 < seats) × (seats ≤ 63) }
         ensures slots { IfOk result (λ r. r.0 ≡ record { keeper = record { home = r.0.keeper.home; marks = replicate slots Spare; lent = []; ended = 0; vacated = 0; made = seats; joined = 0 }; owners = replicate slots None }) }
+        ensures sized { IfOk result (λ r. r.0.keeper.home.words ≡ slots) }
         ensures seats { IfOk result (λ r. r.1 ≡ record { home = r.0.keeper.home; count = seats }) }
     {
         let owners = no_owners(alloc, slots as usize)?;

@@ -119,7 +119,7 @@ impl Interests {
         face_any_besides(&self.faces, face.0, id, Test::Asks, key)
     }
 
-    /// The same once the face asks this under the id.
+    /// Whether an interest of the face asks for the key, once the face asks this under the id.
     pub fn asks_with(&self, face: FaceId, id: u32, entry: &InterestEntry, key: &str) -> bool
         requires { IsTrue (is_key key.now) }
         ensures { result ≡ asks_for face.0 key.now (with_interest face.0 id entry.now self.now) }
@@ -144,7 +144,7 @@ impl Interests {
         face_any_besides(&self.faces, face.0, id, Test::Folds, key)
     }
 
-    /// The same once the face asks this under the id.
+    /// Whether one asks for the key as one entry, once the face asks this under the id.
     pub fn folds_with(&self, face: FaceId, id: u32, entry: &InterestEntry, key: &str) -> bool
         requires { IsTrue (is_key key.now) }
         ensures { result ≡ asks_folded face.0 key.now (with_interest face.0 id entry.now self.now) }
@@ -169,7 +169,7 @@ impl Interests {
         face_any(&self.faces, face.0, Test::Keyed, key)
     }
 
-    /// The same once the face asks this under the id.
+    /// Whether one meets the key, and numbers may be declared for keys, once the face asks this under the id.
     pub(crate) fn has_keyed_with(
         &self,
         face: FaceId,

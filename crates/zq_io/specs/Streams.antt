@@ -1,5 +1,5 @@
 -- When a fault may be answered, and what a transfer does to known bytes.
-use Rattle.std.specs.Prelude.{◌≡◌, ℕ, ◌-◌, ◌^◌, ◌<◌, ◌≤◌, min, OnErr, OnOk, Result, List, length, take, Option, Some, None, Bool, ◌==◌, ◌⊎◌}
+use Rattle.std.specs.Prelude.{◌≡◌, ℕ, ◌+◌, ◌-◌, ◌^◌, ◌<◌, ◌≤◌, min, OnErr, OnOk, Result, Ok, Err, List, drop, length, take, Option, Some, None, Bool, ◌==◌, ◌⊎◌}
 use Rattle.std.specs.List.{list_any}
 use Rattle.std.specs.Io.KnownBytes.{Appends}
 
@@ -29,3 +29,17 @@ IsLonger limit (Some xs) = limit < length xs
 -- a front of the piece was taken, and not the whole of it
 abbrev pub AppendsFront : Option (List ℕ) → Option (List ℕ) → List ℕ → Type 0
 AppendsFront old new piece = (n : ℕ) × (n < length piece) × Appends old new (take n piece)
+
+-- how many bytes were taken, if there was no fault
+abbrev pub count_of : {E : Type 0} → Result ℕ E → Option ℕ
+count_of (Ok n) = Some n
+count_of (Err e) = None
+
+-- writes to a sink, one after another, each of which is offered all of the piece that is left: so many bytes are taken, and the sink is so then
+pub data Offers {S : Type 0} (writes : S → List ℕ → Option ℕ → S → Type 0) (piece : List ℕ) (first : S) : ℕ → S → Type 0 where
+  none : Offers writes piece first 0 first
+  more : (at n : ℕ) (s t : S) → Offers writes piece first at s → writes s (drop at piece) (Some n) t → Offers writes piece first (at + n) t
+
+-- up to a write that fails
+abbrev pub OffersUpTo : {S : Type 0} → (S → List ℕ → Option ℕ → S → Type 0) → List ℕ → S → S → Type 0
+OffersUpTo {S} writes piece first last = (at : ℕ) × (s : S) × Offers writes piece first at s × writes s (drop at piece) None last

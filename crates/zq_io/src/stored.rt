@@ -1,5 +1,5 @@
 //! Sources and sinks in memory, which fail where they are told to, and such that never fail.
-ghost use Rattle.std.specs.Prelude.{◌≡◌, ◌-◌, ◌+◌, ◌^◌, ◌<◌, ◌≤◌, min, length, IfOk, is_err, OnOk, Ok, Some, None, drop, take, [], ◌||◌, ◌&&◌, ◌==◌, nat_lt, vec_capacity};
+ghost use Rattle.std.specs.Prelude.{◌≡◌, ◌-◌, ◌+◌, ◌^◌, ◌<◌, ◌≤◌, min, length, IfOk, IfSome, is_err, OnOk, Ok, Some, None, drop, take, [], ◌||◌, ◌&&◌, ◌==◌, nat_lt, vec_capacity};
 ghost use Rattle.std.specs.Io.{ReadsAtMost, WritesAtMost};
 ghost use Rattle.std.specs.Io.KnownBytes.{ReadConsumes, WriteAppends};
 ghost use Rattle.zq_io.specs.Streams.{HasCause, moved, is_listed};
@@ -136,6 +136,8 @@ impl Sink for MemorySink {
 
     ghost faults = { λ s. s.faults };
 
+    ghost writes = { λ s piece count t. (t.calls ≡ min (s.calls + 1) (2 ^ 64 - 1)) × IfSome count (λ n. n ≡ moved s.piece (length piece) (s.room - length s.bytes.items)) };
+
     /// Fails exactly where the call is listed, or finds no room for any byte.
     fn write(&mut self, piece: &[u8]) -> Result<usize, Failed>
         ensures bound { WritesAtMost result piece.now }
@@ -217,6 +219,8 @@ impl Sink for SureSink {
     ghost taken = { λ s. None };
 
     ghost faults = { λ s. 0 };
+
+    ghost writes = { λ s piece count t. count ≡ Some (length piece) };
 
     /// Takes the whole piece, and never fails.
     fn write(&mut self, piece: &[u8]) -> Result<usize, Failed>

@@ -2,7 +2,7 @@
 ghost use Rattle.std.specs.Prelude.{◌≡◌, ℕ, List, Option, ◌<◌, length, IfOk};
 ghost use Rattle.std.specs.Io.{ReadsAtMost, WritesAtMost};
 ghost use Rattle.std.specs.Io.KnownBytes.{ReadConsumes, WriteAppends};
-ghost use Rattle.zq_io.specs.Streams.{HasCause};
+ghost use Rattle.zq_io.specs.Streams.{HasCause, count_of};
 
 use std::io::{Read, Write};
 
@@ -33,8 +33,12 @@ pub trait Sink {
     /// How often it has failed; the count never falls.
     ghost faults: { Self → ℕ };
 
+    /// What one write is: the sink before it, the piece that it is offered, how many bytes it takes if it does not fail, and the sink then.
+    ghost writes: { Self → List ℕ → Option ℕ → Self → Type 0 };
+
     /// Takes a front of the piece, and at least one byte of a piece that has any.
     fn write(&mut self, piece: &[u8]) -> Result<usize, Failed>
+        ensures step { writes self.old piece.now (count_of result) self.new }
         ensures bound { WritesAtMost result piece.now }
         ensures some { 0 < length piece.now → IfOk result (λ n. 0 < n) }
         ensures bytes { WriteAppends (taken self.old) (taken self.new) result piece.now }
@@ -97,6 +101,8 @@ impl<W: Write> Sink for WriteSink<W> {
     ghost taken = { λ s. W.contents s.inner };
 
     ghost faults = { λ s. s.faults };
+
+    ghost writes = { λ s piece count t. Unit {0} };
 
     fn write(&mut self, piece: &[u8]) -> Result<usize, Failed> {
         match self.inner.write(piece) {

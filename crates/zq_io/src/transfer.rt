@@ -2,7 +2,7 @@
 ghost use Rattle.std.specs.Prelude.{◌≡◌, ◌≢◌, ◌≤◌, ℕ, List, length, OnOk, OnErr, IfOk, Err};
 ghost use Rattle.std.specs.Io.KnownBytes.{Consumes, Appends, IsAtEnd};
 ghost use Rattle.zq_io.specs.declared.transfer.TheConstants.{LIMIT};
-ghost use Rattle.zq_io.specs.Streams.{Rose, IsLonger, AppendsFront};
+ghost use Rattle.zq_io.specs.Streams.{Rose, IsLonger, AppendsFront, Offers, OffersUpTo};
 
 use crate::streams::{Sink, Source};
 use std::alloc::Global;
@@ -60,6 +60,8 @@ pub fn read_all<S: Source>(alloc: Global, source: &mut S) -> Result<Bytes, ReadR
 /// Gives a whole piece to a sink, at each write all that isn't taken yet.
 #[tactic(auto, using(crate::proofs::Transfers::appends_on, crate::proofs::Transfers::appends_none))]
 pub fn write_all<K: Sink>(sink: &mut K, piece: &[u8]) -> Result<(), WriteFault>
+    ensures offers { OnOk result (Offers K.writes piece.now sink.old (length piece.now) sink.new) }
+    ensures offered { OnErr result (OffersUpTo K.writes piece.now sink.old sink.new) }
     ensures whole { OnOk result (Appends (K.taken sink.old) (K.taken sink.new) piece.now) }
     ensures front { OnErr result (AppendsFront (K.taken sink.old) (K.taken sink.new) piece.now) }
     ensures fault { OnErr result (Rose (K.faults sink.old) (K.faults sink.new)) }

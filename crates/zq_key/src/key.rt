@@ -111,7 +111,7 @@ impl Cursor for MeetingChunks<'_> {
     }
 }
 
-/// The same chunks, which agree if the first covers the second.
+/// Chunks that are left, which agree if the first covers the second.
 #[derive(Clone, Copy)]
 struct CoveringChunks<'a>(&'a [u8]);
 

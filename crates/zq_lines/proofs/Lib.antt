@@ -8,3 +8,4 @@ pub mod Sameness
 pub mod StepsBack
 pub mod Shown
 pub mod EachFits
+pub mod Names

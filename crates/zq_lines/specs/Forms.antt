@@ -1,10 +1,11 @@
 -- The words of each call, behind its name.
-use Rattle.std.specs.Prelude.{ℕ, ◌==◌, Bool, ◌&&◌, ◌||◌, List, Option, Some, None, codes, if◌then◌else◌}
+use Rattle.std.specs.Prelude.{ℕ, ◌==◌, ◌&&◌, ◌||◌, List, Option, Some, None, codes, if◌then◌else◌}
 use Rattle.std.specs.Str.{bytes_eq}
 use Rattle.zq_lines.specs.declared.kind.Kind.{Kind}
+use Rattle.zq_lines.specs.declared.kind.Kind.TheVariants as kind
 use Rattle.zq_lines.specs.declared.form.Span.{Span}
 use Rattle.zq_lines.specs.declared.form.Span.TheVariants as span
-use Rattle.zq_lines.specs.declared.form.TheConstants.{START, OPEN, FACE, IDS, KEY, UNKEY, QUERYABLE, UNQUERYABLE, INTEREST, FINALIZE, ASK, REPLY, LONG, GATEWAYS, NETWORK, NODES}
+use Rattle.zq_lines.specs.declared.form.TheConstants.{CONFIG, START, OPEN, FACE, IDS, KEY, UNKEY, QUERYABLE, UNQUERYABLE, INTEREST, FINALIZE, ASK, REPLY, LONG, GATEWAYS, NETWORK, NODES}
 
 -- the words of a call that speaks of keys and queryables
 abbrev pub declaring_form : List ℕ → Option (List Kind)
@@ -37,13 +38,24 @@ form_of name =
     else (if bytes_eq name (codes "sent") || bytes_eq name (codes "poll") then Some LONG.now
     else other_form name)))
 
--- the words of a line of a number and a name, if there are such: of a call, or of the counters, which may stand second
+-- the words of a line of a number and a name, if there are such: of a call, of the configuration, which stands first, or of the counters, which may stand second
 abbrev pub form_at : ℕ → List ℕ → Option (List Kind)
-form_at number name = if number == 2 && bytes_eq name (codes "start") then Some START.now else form_of name
+form_at number name =
+    if number == 1 && bytes_eq name (codes "config") then Some CONFIG.now
+    else (if number == 2 && bytes_eq name (codes "start") then Some START.now
+    else form_of name)
 
 -- how many words the call of a name may have: further ones, or one less, or just its own
 abbrev pub span_of : List ℕ → Span
 span_of name =
-    if bytes_eq name (codes "open") || bytes_eq name (codes "reply") || bytes_eq name (codes "finalize") then span.More
+    if bytes_eq name (codes "open") || bytes_eq name (codes "reply") || bytes_eq name (codes "finalize") || bytes_eq name (codes "config") then span.More
     else (if bytes_eq name (codes "interest") then span.Less
     else span.Exact)
+
+-- what each further word of the call of a name is
+abbrev pub tail_of : List ℕ → Kind
+tail_of name =
+    if bytes_eq name (codes "open") then kind.Item
+    else (if bytes_eq name (codes "reply") then kind.Responder
+    else (if bytes_eq name (codes "config") then kind.Entry
+    else kind.Any))

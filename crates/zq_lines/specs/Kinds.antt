@@ -1,7 +1,7 @@
 -- What can stand at a place of a line.
-use Rattle.std.specs.Prelude.{ℕ, Bool, true, List, codes, is_some}
+use Rattle.std.specs.Prelude.{ℕ, Bool, true, false, ◌&&◌, ◌||◌, List, Option, Some, None, codes, is_some}
 use Rattle.std.specs.Str.{bytes_eq}
-use Rattle.zq_io.specs.Words.{number, text_of, option_of}
+use Rattle.zq_io.specs.Words.{cut, number, text_of, option_of}
 use Rattle.zq_io.specs.Values.{most_8, most_16, most_32, most_64, flag_of, zid_of, mode_of, bound_of, target_of, region_of, wire_of, zids_of}
 use Rattle.zq_lines.specs.declared.kind.Kind.{Kind}
 use Rattle.zq_lines.specs.declared.kind.Kind.TheVariants as kind
@@ -9,6 +9,23 @@ use Rattle.zq_lines.specs.declared.kind.Kind.TheVariants as kind
 -- the word is one of two
 abbrev pub is_flag : List ℕ → List ℕ → List ℕ → Bool
 is_flag first other word = is_some (flag_of first other word)
+
+-- the front is a name, and the back stands for a value
+abbrev pub named_by : {X : Type 0} → (List ℕ → Option X) → List ℕ → Option (List ℕ × List ℕ) → Bool
+named_by read name None = false
+named_by read name (Some parts) = bytes_eq parts.0 name && is_some (read parts.1)
+
+-- the word is a name, a colon, and what stands for a value
+abbrev pub is_named : {X : Type 0} → (List ℕ → Option X) → List ℕ → List ℕ → Bool
+is_named read name word = named_by read name (cut 58 word)
+
+-- `in:TEXT` or `out:TEXT`
+abbrev pub is_item : List ℕ → Bool
+is_item word = is_named text_of (codes "in") word || is_named text_of (codes "out") word
+
+-- a region, or `north` and a mode
+abbrev pub is_entry : List ℕ → Bool
+is_entry word = is_named mode_of (codes "north") word || is_some (region_of word)
 
 -- the word can stand where this is expected
 abbrev pub is_kind : Kind → List ℕ → Bool
@@ -31,6 +48,9 @@ is_kind kind.Keys word = is_flag (codes "k") (codes "n") word
 is_kind kind.Aggregate word = bytes_eq word (codes "a")
 is_kind kind.Body word = is_flag (codes "ok") (codes "err") word
 is_kind kind.Mark word = is_flag (codes "initial") (codes "key") word
+is_kind kind.Item word = is_item word
+is_kind kind.Responder word = is_named zid_of (codes "by") word
+is_kind kind.Entry word = is_entry word
 is_kind kind.Any word = true
 
 -- what is expected, and how it is written
@@ -54,4 +74,7 @@ expected kind.Keys = codes "neither `k` nor `n`"
 expected kind.Aggregate = codes "not `a`"
 expected kind.Body = codes "neither `ok` nor `err`"
 expected kind.Mark = codes "no mark: `initial` or `key`"
+expected kind.Item = codes "no item of a deny list: `in:TEXT` or `out:TEXT`"
+expected kind.Responder = codes "no responder: `by:` and an id below 2^128"
+expected kind.Entry = codes "no region of a gateway: `north:MODE`, `local` or `south:NUM:MODE`"
 expected kind.Any = codes "no word"

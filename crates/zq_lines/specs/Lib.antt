@@ -10,3 +10,5 @@ pub mod StepsFit
 pub mod Kinds
 pub mod Forms
 pub mod Why
+pub mod Near
+pub mod Foreign

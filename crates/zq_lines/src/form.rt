@@ -1,11 +1,13 @@
 //! The words of each call, behind its name.
 ghost use Rattle.std.specs.Prelude.{◌≡◌};
 ghost use Rattle.std.specs.Option.{option_map};
-ghost use Rattle.zq_lines.specs.Forms.{declaring_form, form_at, form_of, other_form, span_of};
+ghost use Rattle.zq_lines.specs.Forms.{declaring_form, form_at, form_of, other_form, span_of, tail_of};
 
 use crate::kind::Kind;
 use zq_io::words::is;
 
+/// The words of `config` up to its regions.
+pub const CONFIG: &[Kind] = &[Kind::Id, Kind::Long];
 /// The words of `start`, the counters.
 pub const START: &[Kind] = &[Kind::Int, Kind::Long, Kind::Long, Kind::Int, Kind::Int];
 /// The words of `open`; deny lists may follow.
@@ -128,11 +130,14 @@ fn form_of(name: &[u8]) -> Option<&'static [Kind]>
     }
 }
 
-/// The words of a line of a number and a name, if there are such: of a call, or of the counters,
-/// which may stand second.
+/// The words of a line of a number and a name, if there are such: of a call, of the configuration, which
+/// stands first, or of the counters, which may stand second.
 pub fn form_at(number: u64, name: &[u8]) -> Option<&'static [Kind]>
     ensures { option_map (λ k. k.now) result ≡ form_at number name.now }
 {
+    if number == 1 && is(name, "config") {
+        return Some(CONFIG);
+    }
     if number == 2 && is(name, "start") {
         return Some(START);
     }
@@ -154,11 +159,26 @@ pub enum Span {
 pub fn span_of(name: &[u8]) -> Span
     ensures { result ≡ span_of name.now }
 {
-    if is(name, "open") || is(name, "reply") || is(name, "finalize") {
+    if is(name, "open") || is(name, "reply") || is(name, "finalize") || is(name, "config") {
         Span::More
     } else if is(name, "interest") {
         Span::Less
     } else {
         Span::Exact
+    }
+}
+
+/// What each further word of the call of a name is.
+pub fn tail_of(name: &[u8]) -> Kind
+    ensures { result ≡ tail_of name.now }
+{
+    if is(name, "open") {
+        Kind::Item
+    } else if is(name, "reply") {
+        Kind::Responder
+    } else if is(name, "config") {
+        Kind::Entry
+    } else {
+        Kind::Any
     }
 }

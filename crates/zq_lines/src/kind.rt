@@ -1,11 +1,11 @@
 //! What can stand at a place of a line.
 ghost use Rattle.std.specs.Prelude.{◌≡◌, IfOk, is_some};
-ghost use Rattle.zq_lines.specs.Kinds.{expected, is_flag, is_kind};
+ghost use Rattle.zq_lines.specs.Kinds.{expected, is_entry, is_flag, is_item, is_kind, is_named};
 
 use std::alloc::Global;
 use zq_io::stop::Stop;
 use zq_io::values::flag_of;
-use zq_io::words::{Word, is};
+use zq_io::words::{Word, cut, is};
 use zq_message::items::Items;
 use zq_message::memory::OutOfMemory;
 use zq_message::message::{Bound, Mode, QueryTarget, Region, WireExpr, Zid};
@@ -52,6 +52,12 @@ pub enum Kind {
     Body,
     /// Which mark a face is given.
     Mark,
+    /// An item of a deny list: `in:TEXT` or `out:TEXT`.
+    Item,
+    /// The responder of a reply: `by:` and an id.
+    Responder,
+    /// An entry of the configuration: `north:MODE`, `local` or `south:NUM:MODE`.
+    Entry,
     /// Any word.
     Any,
 }
@@ -72,6 +78,36 @@ fn is_flag(first: &str, other: &str, word: &[u8]) -> bool
     ensures { result ≡ is_flag first.now other.now word.now }
 {
     flag_of(first, other, word).is_some()
+}
+
+/// Whether the word is a name, a colon, and what stands for a value of the type.
+fn is_named<T: Word>(alloc: Global, name: &str, word: &[u8]) -> Result<bool, OutOfMemory>
+    ensures { IfOk result (λ b. b ≡ is_named T.of name.now word.now) }
+{
+    match cut(b':', word) {
+        Some((front, back)) if is(front, name) => reads::<T>(alloc, back),
+        _ => Ok(false),
+    }
+}
+
+/// Whether the word is `in:TEXT` or `out:TEXT`.
+fn is_item(alloc: Global, word: &[u8]) -> Result<bool, OutOfMemory>
+    ensures { IfOk result (λ b. b ≡ is_item word.now) }
+{
+    if is_named::<Text>(alloc, "in", word)? {
+        return Ok(true);
+    }
+    is_named::<Text>(alloc, "out", word)
+}
+
+/// Whether the word is a region, or `north` and a mode.
+fn is_entry(alloc: Global, word: &[u8]) -> Result<bool, OutOfMemory>
+    ensures { IfOk result (λ b. b ≡ is_entry word.now) }
+{
+    if is_named::<Mode>(alloc, "north", word)? {
+        return Ok(true);
+    }
+    reads::<Region>(alloc, word)
 }
 
 /// Whether the word can stand where this is expected.
@@ -98,6 +134,9 @@ pub fn is_kind(alloc: Global, kind: Kind, word: &[u8]) -> Result<bool, OutOfMemo
         Kind::Aggregate => Ok(is(word, "a")),
         Kind::Body => Ok(is_flag("ok", "err", word)),
         Kind::Mark => Ok(is_flag("initial", "key", word)),
+        Kind::Item => is_item(alloc, word),
+        Kind::Responder => is_named::<Zid>(alloc, "by", word),
+        Kind::Entry => is_entry(alloc, word),
         Kind::Any => Ok(true),
     }
 }
@@ -126,6 +165,9 @@ pub fn expected(kind: Kind) -> &'static str
         Kind::Aggregate => "not `a`",
         Kind::Body => "neither `ok` nor `err`",
         Kind::Mark => "no mark: `initial` or `key`",
+        Kind::Item => "no item of a deny list: `in:TEXT` or `out:TEXT`",
+        Kind::Responder => "no responder: `by:` and an id below 2^128",
+        Kind::Entry => "no region of a gateway: `north:MODE`, `local` or `south:NUM:MODE`",
         Kind::Any => "no word",
     }
 }

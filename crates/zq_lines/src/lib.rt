@@ -9,14 +9,18 @@
 //! - `fit`: that what lies in memory fits the fields of a print.
 //! - `kind`: what can stand at a place of a line.
 //! - `form`: the words of each call.
+//! - `foreign`: what a line may have that is no part of the format.
+//! - `near`: a name that was meant.
 //! - `why`: the sentence.
 #![tactic(auto)]
 
 pub mod calls;
 pub mod fit;
+pub mod foreign;
 pub mod form;
 pub mod kind;
 pub mod lines;
+pub mod near;
 mod same;
 pub mod split;
 pub mod steps;

@@ -80,7 +80,7 @@ asked_id (message.Declare d) = None
 abbrev pub last_with : ℕ → ℕ → Handed → ℕ
 last_with face id h = if h.to.0 == face then unwrap_or (asked_id h.message) id else id
 
--- the same after a step
+-- the id that was last given at the face, once a step is handed
 abbrev pub last_after : ℕ → ℕ → Step → ℕ
 last_after face id t = fold (last_with face) id t.handed
 
@@ -115,7 +115,7 @@ abbrev pub GoesToAsker : List Final → Option ℕ → FaceId → Message → Ty
 GoesToAsker asked None to m = is_declaration m ≡ true
 GoesToAsker asked (Some n) to m = IsToAsker asked n to m
 
--- the same of a message as it is handed
+-- a message as it is handed is of a request, and goes to its asker if it is a reply or a final; only a declaration is of no request
 abbrev pub IsHandedToAsker : List Final → Handed → Type 0
 IsHandedToAsker asked h = GoesToAsker asked h.number h.to h.message
 

@@ -28,7 +28,7 @@ pub record SaysBehind (n : List ℕ) (s : State) (face : FaceId) (w : WireExpr) 
   pub numbered : 0 < w.scope → said face w s ≡ said_of (face_naming face.0 s.names) w
   pub plain : is_plain n ≡ true
 
--- the same at a face; in no namespace it says what it writes
+-- a face in a namespace says by an expression what it writes behind it; in no namespace it says what it writes
 abbrev pub SaysAt : Option (List ℕ) → State → FaceId → WireExpr → Type 0
 SaysAt None s face w = said face w s ≡ said_of (face_naming face.0 s.names) w
 SaysAt (Some n) s face w = SaysBehind n s face w

@@ -35,7 +35,7 @@ is_face_of face h zid = option_map_or (λ n. n == face) (face_with zid h.faces) 
 abbrev pub is_child_in : ℕ → Zid → HatState → Bool
 is_child_in face root h = in_routers (strategy_at h) (list_any (is_face_of face h) (children_of h.network root)) false
 
--- the same in a region of the gateway's
+-- the face is a child of the root's tree in a region of the gateway's
 abbrev pub is_child : Region → ℕ → Zid → State → Bool
 is_child r face root s = option_map_or (is_child_in face root) (hat_at r s.core.hats) false
 
@@ -82,7 +82,7 @@ known_after r face root key s c was =
     fold (with_heard_of face (root_place r root (after s c)) key) (fold (with_news key) was (said_for face root s.core (read s c))) (hear (step s c).handed (follow s (read s c)).names)
     else was
 
--- the same once calls are made
+-- what the face knows of a key of the root's once calls are made
 abbrev pub known_in : Region → ℕ → Zid → List ℕ → State → List Call → Option QueryableInfoType → Option QueryableInfoType
 known_in r face root key s [] was = was
 known_in r face root key s (c ∷ cs) was = known_in r face root key (after s c) cs (known_after r face root key s c was)

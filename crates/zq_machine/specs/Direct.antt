@@ -31,7 +31,7 @@ number_of (body.DeclareQueryable id w info) = number_in w
 number_of (body.UndeclareQueryable id w) = option_and_then number_in w
 number_of body.DeclareFinal = None
 
--- the same of a message; one of a request tells of none
+-- the number by which a message tells of a key, if it does; one of a request tells of none
 abbrev pub number_by : Message → Option ℕ
 number_by (message.Declare d) = number_of d.body
 number_by (message.Request r) = None
@@ -62,7 +62,7 @@ IsDirectBody to (body.DeclareKeyExpr id w) names next = IsDirect to id w names n
 IsDirectBody to (body.UndeclareKeyExpr id) names next = ⊥
 IsDirectBody to b names next = option_map_or (is_declared_to to names) (number_of b) true ≡ true
 
--- the same of a message; those of requests declare none
+-- a message declares each number directly before its first use, as its body does; those of requests declare none
 abbrev pub IsDirectMessage : FaceId → Message → NamingState → List Handed → Type 0
 IsDirectMessage to (message.Declare d) names next = IsDirectBody to d.body names next
 IsDirectMessage to m names next = Unit {0}

@@ -117,7 +117,7 @@ heard_body (body.DeclareQueryable id w info) s = s
 heard_body (body.UndeclareQueryable id w) s = s
 heard_body body.DeclareFinal s = s
 
--- the same by a message
+-- what stands of a face once a message is handed to it
 abbrev pub heard_message : Message → Standing → Standing
 heard_message (message.Declare d) s = heard_body d.body s
 heard_message (message.Request r) s = s

@@ -58,7 +58,7 @@ pub record StaysBehind (g : Gate) (text : List ℕ) (m : Message) (left : Option
   pub finals : (f : ResponseFinal) → m ≡ message.ResponseFinal f → left ≡ Some m
   pub ends : (d : Declare) → m ≡ message.Declare d → d.body ≡ body.DeclareFinal → left ≡ Some m
 
--- the same at a face; without a gate all leaves
+-- what leaves of a message at a face is as its gate has it; without a gate all leaves
 abbrev pub StaysAt : Option Gate → List ℕ → Message → Option Message → Type 0
 StaysAt None text m left = left ≡ Some m
 StaysAt (Some g) text m left = StaysBehind g text m left

@@ -30,8 +30,8 @@ pub fn call_told()
     ensures { (config : Settings) (calls : List Call) → let s : State = state_after (opening_state config) calls in (c : Call) (ints : Interests) (ears : ToldSets) (face : ℕ) (heard : Heard) → is_open face s.core ≡ true → is_open face (after s c).core ≡ true → (h : Hears s.core ints ears face heard) → FaceTold s.core (after s c).core ints (read s c) ears face h.ear heard }
 {}
 
-/// The same of a new face, which was told nothing, and whose receiver kept nothing: it is told all that
-/// is due to it.
+/// A new face was told nothing, and its receiver kept nothing: by the call that opens it, it is told all
+/// that is due to it, and its receiver keeps that.
 pub fn opening_told()
     ensures { (config : Settings) (calls : List Call) → let s : State = state_after (opening_state config) calls in (o : Opening) (ints : Interests) (ears : ToldSets) → is_accepted (step s (call.Open o)).outcome ≡ true → FaceTold s.core (after s (call.Open o)).core ints (read s (call.Open o)) ears s.core.next_face (fresh_ear s.core.config.start.told) [] }
 {}

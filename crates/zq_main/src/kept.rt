@@ -108,6 +108,8 @@ impl<K: Sink + Drop> Sink for KeptSink<K> {
 
     ghost faults = { λ s. K.faults s.inner };
 
+    ghost writes = { λ s piece count t. K.writes s.inner piece count t.inner };
+
     fn write(&mut self, piece: &[u8]) -> Result<usize, Failed> {
         let count = self.inner.write(piece)?;
         if self.kept.as_slice().len() < FRONT {

@@ -115,7 +115,7 @@ impl<D> RegionMap<D> {
         }
     }
 
-    /// The same regions, each with what `f` makes of its value.
+    /// A map of these regions, each with what `f` makes of its value.
     pub fn map_ref<E, F: Fn(&D) -> E>(
         &self,
         alloc: Global,
@@ -134,7 +134,7 @@ impl<D> RegionMap<D> {
         Ok(RegionMap { entries })
     }
 
-    /// The same regions, each with what `f` makes of its value, which it takes.
+    /// A map of these regions, each with what `f` makes of its value, which it takes.
     pub fn map<E, F: Fn(D) -> E>(self, alloc: Global, f: F) -> Result<RegionMap<E>, OutOfMemory>
     where
         D: Drop,

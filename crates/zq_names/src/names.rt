@@ -249,7 +249,7 @@ impl Names {
         self.find(from, suffix).ok()
     }
 
-    /// The same as `get_resource`, which takes no memory either.
+    /// The node of the node's text followed by the suffix, as `get_resource`, which takes no memory either.
     pub fn get_resource_ref(&self, from: ResourceId, suffix: &str) -> Option<ResourceId>
         requires { IsLive self.now from }
         ensures found { IfSome result (λ r. HasText self.now r ((entry_at self.now from.0).text ++ suffix.now)) }

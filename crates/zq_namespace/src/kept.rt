@@ -14,7 +14,7 @@ use zq_message::text::Text;
 pub enum Kept {
     /// Nothing: it is newly kept.
     Newly,
-    /// The same: nothing changed.
+    /// What the message gave was kept before: nothing changed.
     Already,
     /// Another text of the number.
     InPlaceOf(Text),

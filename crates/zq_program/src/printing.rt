@@ -55,7 +55,7 @@ fn push_answers(out: &mut Vec<u8>, gateway: &mut Gateway, calls: &[Call]) -> Res
     Ok(())
 }
 
-/// The same of a new gateway.
+/// Writes the steps that a new gateway answers to calls.
 fn push_replay(
     alloc: Global,
     out: &mut Vec<u8>,

@@ -190,7 +190,7 @@ impl<'a> NetworkChange<'a> {
         self.tell_faces(tellings, alloc, root, node, &faces)
     }
 
-    /// The same of each tree that has a node.
+    /// The new children of each tree that has a node are told what stands of its root.
     fn tell_trees(
         &self,
         alloc: Global,

@@ -83,7 +83,7 @@ fn print_lines(
     Ok(Bytes::from_vec(print))
 }
 
-/// The same of a new gateway.
+/// The print of the steps that a new gateway answers to the lines' calls.
 fn print_calls(
     alloc: Global,
     config: &Config,

@@ -67,7 +67,7 @@ impl FaceNames {
         self.node_of(mapping, scope as u32)
     }
 
-    /// The same; an id of more than 16 bits has none.
+    /// The node of an id in what the face sends; an id of more than 16 bits has none.
     pub fn node_of(&self, mapping: Mapping, id: u32) -> Option<ResourceId>
         ensures { option_map (λ r. r.0) result ≡ of_id (side self.now mapping) id }
     {

@@ -27,7 +27,7 @@ fn empty(pending: &mut BTreeMap<(u32, u32), Owed>, places: &[(u32, u32)], count:
     }
 }
 
-/// The same is owed at each place; all or none.
+/// An entry is put in at each place, alike; all or none.
 fn fill(
     pending: &mut BTreeMap<(u32, u32), Owed>,
     places: &[(u32, u32)],
