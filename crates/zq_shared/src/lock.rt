@@ -99,7 +99,15 @@ impl<H: Home, C: Ledger, Q: Ledger, P: Ledger> TablesLock<H, C, Q, P> {
         self.inner.lock(rt).step(alloc, seat, tally, call)
     }
 
-    /// Settles what was released last, under the lock, and sends the final outside it, if it comes.
+    /// Settles what was released last, under the lock, and answers the final, if it comes. It sends nothing, and the lock is free behind it.
+    fn settle<R: Wait>(&self, rt: &R, last: Last) -> Option<Handed>
+        requires { last.home ≡ H.holds }
+        ensures { IfSome result (IsFinal H.config H.list) }
+    {
+        self.inner.lock(rt).settle(last)
+    }
+
+    /// Settles what was released last, and sends the final outside the lock, if it comes.
     fn settle_one<L: Link, R: Wait>(
         &self,
         rt: &R,
@@ -110,7 +118,7 @@ impl<H: Home, C: Ledger, Q: Ledger, P: Ledger> TablesLock<H, C, Q, P> {
         requires { last.home ≡ H.holds }
         ensures { DeliversFinals H.config H.list (record { taken = L.taken link.old; faults = L.faults link.old; sent = sent }) (record { taken = L.taken link.new; faults = L.faults link.new; sent = result }) }
     {
-        match self.inner.lock(rt).settle(last) {
+        match self.settle(rt, last) {
             Some(end) => send_one(link, sent, &end),
             None => sent,
         }
