@@ -1,4 +1,5 @@
-//! One gateway for many threads, behind a lock: a call is one event under it, what the call hands is sent outside it, and a reply that is being sent holds its query open by a counted hold.
+//! One gateway for many threads, behind a lock: a call is one event under it, what the call hands is sent
+//! outside it, and a reply that is being sent holds its query open by a reference count.
 //!
 //! - `link`: a link, which counts its faults, and messages sent over it one by one
 //! - `memory`: a link in memory, and one that never fails
@@ -16,6 +17,8 @@
 //! - `lock`: `TablesLock`, and its `call`
 //! - `refusal`: why a call was refused
 //! - `sending`: messages that go on where others were sent
+//!
+//! The call that makes a script's parts on one gateway, `program`, stands above, in `zq_program`.
 #![tactic(auto)]
 
 mod asking;
