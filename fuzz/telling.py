@@ -59,8 +59,8 @@ class Network(namedtuple('Network', 'nodes trees distances')):
         return None if place is None or place > U16 else place
 
     def ids(self, tree):
-        """The ids of a tree's children."""
-        return [at(self.nodes, child) for child in tree.children if child < len(self.nodes)]
+        """The ids of a tree's children, where a message can name their places."""
+        return [at(self.nodes, child) for child in tree.children if child < len(self.nodes) and child <= U16]
 
     def children(self, root):
         """The ids of the children of a router's tree."""
@@ -210,7 +210,7 @@ class Declared:
         old, new = self.networks[where], Network(nodes, trees, distances)
         self.networks[where] = new
         self.entries[where] = {entry: info for entry, info in self.entries[where].items() if entry[1] in nodes}
-        for root, tree in zip(nodes, trees):
+        for root, tree in zip(nodes, trees[: U16 + 1]):
             fresh = [child for child in new.ids(tree) if child not in old.children(root)]
             for key, info in self.standing(where, root).items():
                 self.tell(where, fresh, root, key, info)

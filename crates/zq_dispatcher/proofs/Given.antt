@@ -5,7 +5,7 @@ use Rattle.zq_message.specs.declared.message.Region.{Region}
 use Rattle.zq_message.specs.Region.{region_index}
 use Rattle.zq_strategy.specs.declared.network.Network.{Network}
 use Rattle.zq_strategy.specs.Entries.{staying}
-use Rattle.zq_strategy.specs.Nets.{is_listed}
+use Rattle.zq_strategy.specs.Nets.{is_listed, named_trees}
 use Rattle.zq_strategy.specs.Networks.{Standing, any_gives}
 use Rattle.zq_routers.proofs.Handing.{same_told}
 use Rattle.zq_strategy.specs.declared.types.Strategy.{Strategy}
@@ -24,12 +24,12 @@ module _ (own other : Standing) (net : Network) (h : HatState) where
   abbrev put : HatState
   put = record h { network = net; entries = staying (is_listed net) h.entries }
 
-  by_kind : (k : Strategy) → in_routers k (any_gives (λ z. face_with z h.faces) h.network net h.own net.nodes net.trees) false ≡ false
+  by_kind : (k : Strategy) → in_routers k (any_gives (λ z. face_with z h.faces) h.network net h.own net.nodes (named_trees net)) false ≡ false
       → in_routers k (network_told own h.network (in_routers k put h)) [] ≡ in_routers k (network_told other h.network (in_routers k put h)) []
   by_kind strategy.Broker e = refl
   by_kind strategy.Client e = refl
   by_kind strategy.Peer e = refl
-  by_kind strategy.Router e = same_told h.own own other (staying (is_listed net) h.entries) (λ z. face_with z h.faces) h.network net net.nodes net.trees e
+  by_kind strategy.Router e = same_told h.own own other (staying (is_listed net) h.entries) (λ z. face_with z h.faces) h.network net net.nodes (named_trees net) e
 
   pub same_handed : gives_own net h ≡ false → hands own h net ≡ hands other h net
   same_handed none = by_kind (strategy_at h) none

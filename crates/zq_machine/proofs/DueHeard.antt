@@ -18,7 +18,7 @@ use Rattle.zq_message.specs.Region.{region_index}
 use Rattle.zq_strategy.specs.declared.network.Network.{Network}
 use Rattle.zq_strategy.specs.declared.network.Telling.{Telling as TreeTelling}
 use Rattle.zq_strategy.specs.declared.network.Tree.{Tree}
-use Rattle.zq_strategy.specs.Nets.{child_ids, children_of, fresh_ids, is_zid, place_of}
+use Rattle.zq_strategy.specs.Nets.{child_ids, children_of, fresh_ids, is_zid, named_trees, place_of}
 use Rattle.zq_strategy.specs.Seating.{faces_by, is_other}
 use Rattle.zq_strategy.specs.Tellings.{all_told_of, same_infos, telling_cmp, tree_telling}
 use Rattle.zq_index.specs.Texts.{text_cmp}
@@ -237,7 +237,7 @@ module _ (P : ℕ → Type 0) where
       by strategy.Broker k = tt
       by strategy.Client k = tt
       by strategy.Peer k = tt
-      by strategy.Router k = trees_can own old.network h keyed w (seats k) h.network.nodes h.network.trees
+      by strategy.Router k = trees_can own old.network h keyed w (seats k) h.network.nodes (named_trees h.network)
 
   own_in_can : (before after : List (ℕ × HatState)) (key : List ℕ) (h : ℕ × HatState) → IsKey key → RouterSeats h.1 → AllCan (own_told_in before after key h)
   own_in_can before after key h some seats = by (strategy_at h.1) refl

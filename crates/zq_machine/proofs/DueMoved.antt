@@ -20,7 +20,7 @@ use Rattle.zq_index.specs.Texts.{text_cmp}
 use Rattle.zq_strategy.specs.declared.network.Network.{Network}
 use Rattle.zq_strategy.specs.declared.network.Telling.{Telling as TreeTelling}
 use Rattle.zq_strategy.specs.declared.network.Tree.{Tree}
-use Rattle.zq_strategy.specs.Nets.{child_ids, children_of, fresh_ids, is_zid, place_of}
+use Rattle.zq_strategy.specs.Nets.{child_ids, children_of, fresh_ids, is_zid, named_trees, place_of}
 use Rattle.zq_strategy.specs.Seating.{faces_by}
 use Rattle.zq_strategy.specs.Tellings.{all_told_of, in_order, same_infos, telling_cmp, tree_telling}
 use Rattle.zq_strategy.specs.declared.types.Declaration.{Declaration}
@@ -213,7 +213,7 @@ module _ (φ : List ℕ → List ℕ) (keeps : Keeps φ) where
       by strategy.Broker = refl
       by strategy.Client = refl
       by strategy.Peer = refl
-      by strategy.Router = trees_moved own old.network h h.network.nodes h.network.trees
+      by strategy.Router = trees_moved own old.network h h.network.nodes (named_trees h.network)
 
   networked_told_moved : (r : Region) (before after : List (ℕ × HatState)) → networked_told r (move_hats before) (move_hats after) ≡ map move_tree (networked_told r before after)
   networked_told_moved r before after =

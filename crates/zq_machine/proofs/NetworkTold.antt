@@ -24,7 +24,7 @@ use Rattle.zq_index.proofs.Orders.{text_exact, text_total}
 use Rattle.zq_strategy.specs.declared.network.Network.{Network}
 use Rattle.zq_strategy.specs.declared.network.Telling.{Telling as TreeTelling}
 use Rattle.zq_strategy.specs.Entries.{Entries, Routed, entry_of, routed_info, standing, staying}
-use Rattle.zq_strategy.specs.Nets.{children_of, is_listed, is_zid, place_of}
+use Rattle.zq_strategy.specs.Nets.{children_of, is_listed, is_zid, named_trees, place_of}
 use Rattle.zq_routers.proofs.Dropping.{staying_entry}
 use Rattle.zq_strategy.specs.declared.types.Declaration.{Declaration}
 use Rattle.zq_strategy.specs.declared.types.Strategy.{Strategy}
@@ -231,7 +231,7 @@ module _ (config : Settings) (s : State) (i : InOrder config s) (z : Region) (ne
       by strategy.Broker = tt
       by strategy.Client = tt
       by strategy.Peer = tt
-      by strategy.Router = words_true _ (trees_are Says (own_entries (region_index z) s.core.hats) first.network x said_true x.network.nodes x.network.trees)
+      by strategy.Router = words_true _ (trees_are Says (own_entries (region_index z) s.core.hats) first.network x said_true x.network.nodes (named_trees x.network))
 
   -- entries of the root stay
   pub entries_stay : (was : HatState) → hat_at r s.core.hats ≡ Some was → entry_of root.0 key h.entries ≡ entry_of root.0 key was.entries

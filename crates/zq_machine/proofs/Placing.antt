@@ -1,5 +1,5 @@
 -- Who is told what along trees: each telling is of a root at its place, and says what stands of it; and a child is told.
-use Rattle.std.proofs.Common.{◌≡◌, ◌∙◌, refl, sym, ap, ℕ, zero, suc, Bool, true, false, cond, not, List, [], ◌∷◌, map, filter, get_or, Option, Some, None, eqb-true}
+use Rattle.std.proofs.Common.{◌≡◌, ◌∙◌, refl, sym, ap, subst, arith, take, ◌<◌, ℕ, zero, suc, Bool, true, false, cond, not, List, [], ◌∷◌, map, filter, get_or, Option, Some, None, eqb-true}
 use Rattle.std.specs.Prelude.{◌==◌, ◌&&◌, ◌||◌, nat_lt, position, slice_get}
 use Rattle.std.specs.BTreeMap.{is_at}
 use Rattle.std.specs.List.{AllByRecursion, cons_option, filter_map, flat_map, list_any}
@@ -8,7 +8,7 @@ use Rattle.std.specs.Map.{keys_of, lookup}
 use Rattle.std.specs.Option.{is_some, option_and_then, option_map_or}
 use Rattle.std.specs.Ordering.{nat_cmp}
 use Rattle.std.specs.Str.{bytes_eq}
-use Rattle.std.proofs.lemmas.Bool.{false≢true, or_parts, true≢false}
+use Rattle.std.proofs.lemmas.Bool.{false≢true, ltb-true, or_parts, true≢false}
 use Rattle.std.proofs.lemmas.List.Folds.{list_any-append}
 use Rattle.std.proofs.lemmas.List.Quantifiers.{position-Some}
 use Rattle.std.proofs.lemmas.Option.{option_and_then_some, slice_get-get_or}
@@ -22,7 +22,7 @@ use Rattle.zq_strategy.specs.declared.network.Network.{Network}
 use Rattle.zq_strategy.specs.declared.network.Telling.{Telling as TreeTelling}
 use Rattle.zq_strategy.specs.declared.network.Tree.{Tree}
 use Rattle.zq_strategy.specs.Entries.{Entries, Routed, entry_of, standing, zid_of}
-use Rattle.zq_strategy.specs.Nets.{child_ids, children_of, fresh_ids, is_listed, is_zid, place_of, small, tree_at}
+use Rattle.zq_strategy.specs.Nets.{child_ids, children_of, fresh_ids, is_listed, is_zid, named_trees, place_of, small, tree_at}
 use Rattle.zq_strategy.specs.Seating.{faces_by, is_other}
 use Rattle.zq_strategy.specs.Tellings.{all_told_of, tree_telling}
 use Rattle.zq_strategy.proofs.Places.{position_some}
@@ -50,6 +50,28 @@ small_is i p e = by (nat_lt i 65536) e
 
 at_position : (net : Network) (z : Zid) (p : ℕ) → place_of net z ≡ Some p → position (is_zid z) net.nodes ≡ Some p
 at_position net z p e = option_and_then_some small (position (is_zid z) net.nodes) p e (λ i there fits. there ∙ ap Some (small_is i p fits))
+
+-- an id's place is one that a message can name
+place_small : (net : Network) (z : Zid) (p : ℕ) → place_of net z ≡ Some p → p < 65536
+place_small net z p e = by (position (is_zid z) net.nodes) e
+  where
+    by_test : (i : ℕ) (b : Bool) → nat_lt i 65536 ≡ b → cond b (Some i) None ≡ Some p → p < 65536
+    by_test i true l f = let same : i ≡ p = cc in subst (λ (n : ℕ). n < 65536) same (ltb-true i 65536 l)
+    by_test i false l f = absurd (let gap : None ≡ Some p = f in cc)
+
+    by : (o : Option ℕ) → option_and_then small o ≡ Some p → p < 65536
+    by None f = absurd (let gap : None ≡ Some p = f in cc)
+    by (Some i) f = by_test i (nat_lt i 65536) refl f
+
+get_taken : {X : Type 0} (n : ℕ) (xs : List X) (i : ℕ) → i < n → slice_get (take n xs) i ≡ slice_get xs i
+get_taken zero xs i l = absurd (omega (arith, l))
+get_taken (suc n) [] i l = refl
+get_taken (suc n) (x ∷ xs) zero l = refl
+get_taken (suc n) (x ∷ xs) (suc i) l = get_taken n xs i (omega (arith, l))
+
+-- the tree at an id's place is one of those at places that a message can name
+named_there : (net : Network) (z : Zid) (p : ℕ) → place_of net z ≡ Some p → slice_get (named_trees net) p ≡ tree_at net p
+named_there net z p e = get_taken 65536 net.trees p (place_small net z p e)
 
 -- the id that stands at the place of an id
 pub placed_there : (net : Network) (z : Zid) (p : ℕ) → place_of net z ≡ Some p → slice_get net.nodes p ≡ Some z
@@ -263,12 +285,12 @@ module _ (face : ℕ) (h : HatState) where
 
     -- a face that the network makes a child of the root's tree is told of each key that stands
     pub made_child_told : list_any (is_face_of face h) (children_of old root) ≡ false → list_any (is_face_of face h) (children_of h.network root) ≡ true
-        → list_any (is_news face (Some node) key) (trees_told own old h h.network.nodes h.network.trees) ≡ true
+        → list_any (is_news face (Some node) key) (trees_told own old h h.network.nodes (named_trees h.network)) ≡ true
     made_child_told none child = by (tree_at h.network node) refl (sym (ap (λ o. list_any (is_face_of face h) (option_map_or (child_ids h.network) (option_and_then (tree_at h.network) o) [])) there) ∙ child)
       where
         by : (o : Option Tree) → tree_at h.network node ≡ o → list_any (is_face_of face h) (option_map_or (child_ids h.network) o []) ≡ true
-            → list_any (is_news face (Some node) key) (trees_told own old h h.network.nodes h.network.trees) ≡ true
+            → list_any (is_news face (Some node) key) (trees_told own old h h.network.nodes (named_trees h.network)) ≡ true
         by None e c = absurd (false≢true c)
         by (Some tree) e c =
-            by_trees h.network.nodes h.network.trees node tree (placed_there h.network root node there) e
+            by_trees h.network.nodes (named_trees h.network) node tree (placed_there h.network root node there) (named_there h.network root node there ∙ e)
             (by_root tree (fresh_child old root (child_ids h.network tree) none c))

@@ -5,7 +5,7 @@ ghost use Rattle.std.specs.List.{filter_map, list_any};
 ghost use Rattle.std.specs.BTreeMap.{is_at};
 ghost use Rattle.std.specs.Ordering.{nat_cmp};
 ghost use Rattle.zq_message.specs.declared.message.Zid.{Zid};
-ghost use Rattle.zq_strategy.specs.Nets.{child_ids, children_of, fresh_ids, is_zid};
+ghost use Rattle.zq_strategy.specs.Nets.{child_at, child_ids, children_of, fresh_ids, is_zid};
 ghost use Rattle.zq_strategy.specs.Seating.{number, other_seated, seated};
 ghost use Rattle.zq_strategy.specs.Tellings.{children_told, tree_telling};
 
@@ -32,14 +32,22 @@ fn push_some<T: Copy>(list: &mut Vec<T>, item: Option<T>) -> Result<(), OutOfMem
     }
 }
 
-/// The ids of a tree's children.
+/// The id at a place, if a message can name the place.
+fn child_at(net: &Network, place: u32) -> Option<Zid>
+    ensures { result ≡ child_at net.now place }
+{
+    let place = u16::try_from(place).ok()?;
+    net.nodes.get(usize::from(place)).copied()
+}
+
+/// The ids of a tree's children: those at places that a message can name.
 pub fn child_ids(alloc: Global, net: &Network, tree: &Tree) -> Result<Vec<Zid>, OutOfMemory>
     ensures { IfOk result (λ ids. ids.items ≡ child_ids net.now tree.now) }
 {
     let places = tree.children.as_slice();
     let mut ids = Vec::with_capacity(alloc, places.len())?;
     for place in places {
-        push_some(&mut ids, net.nodes.get(*place as usize).copied())?;
+        push_some(&mut ids, child_at(net, *place))?;
     }
     Ok(ids)
 }

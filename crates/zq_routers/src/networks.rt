@@ -3,7 +3,7 @@ ghost use Rattle.std.specs.Prelude.{◌≡◌, ◌++◌, [], IfOk, OnOk, Some, m
 ghost use Rattle.std.specs.List.{flat_map};
 ghost use Rattle.zq_strategy.specs.Networks.{any_gives, fresh_faces, gives_child, network_told_by, root_told_by, standing_by, trees_told_by};
 ghost use Rattle.zq_strategy.specs.Entries.{staying};
-ghost use Rattle.zq_strategy.specs.Nets.{is_listed};
+ghost use Rattle.zq_strategy.specs.Nets.{is_listed, named_trees};
 ghost use Rattle.zq_strategy.specs.Seating.{number, seated};
 ghost use Rattle.zq_strategy.specs.Tellings.{all_told_of};
 
@@ -15,8 +15,11 @@ use zq_key::memory::OutOfMemory;
 use zq_key::message::{FaceId, NodeId, QueryableInfoType, Zid};
 use zq_key::text::Text;
 use zq_strategy::nets::IndexedNetwork;
-use zq_strategy::network::{Telling, TellingList, Tree};
+use zq_strategy::network::{Network, Telling, TellingList, Tree};
 use zq_strategy::seats::FacesById;
+
+/// How many places a message can name: those up to 65535.
+const PLACES: usize = 65536;
 
 /// A network that takes the place of another, and what stands of its roots: of the gateway its own
 /// entries, of a router what it announced.
@@ -91,6 +94,14 @@ fn fresh_faces(
     Ok(faces)
 }
 
+/// The trees at places that a message can name.
+fn named_trees(net: &Network) -> &[Tree]
+    ensures { result.now ≡ named_trees net.now }
+{
+    let trees = net.trees.as_slice();
+    &trees[..PLACES.min(trees.len())]
+}
+
 /// Whether the tree is one of the root, and has a child that the old tree of the root had not.
 fn gives_child(
     alloc: Global,
@@ -142,11 +153,11 @@ pub fn gives(
     seats: &FacesById,
     root: Zid,
 ) -> Result<bool, OutOfMemory>
-    ensures { IfOk result (λ gives. gives ≡ any_gives (λ zid. seated zid seats.now) before.now net.now root net.now.nodes net.now.trees) }
+    ensures { IfOk result (λ gives. gives ≡ any_gives (λ zid. seated zid seats.now) before.now net.now root net.now.nodes (named_trees net.now)) }
 {
     let network = net.network();
     let nodes = network.nodes.as_slice();
-    let trees = network.trees.as_slice();
+    let trees = named_trees(network);
     let gives = any_gives(alloc, before, net, seats, root, nodes, trees)?;
     Ok(gives)
 }
@@ -214,7 +225,7 @@ impl<'a> NetworkChange<'a> {
         ensures { IfOk result (λ ts. ts ≡ network_told_by (standing_by self.now.own self.now.own_entries.now (staying (is_listed self.now.net.now) self.now.entries.now)) (λ zid. seated zid self.now.seats.now) self.now.before.now self.now.net.now) }
     {
         let network = self.net.network();
-        let tellings = self.tell_trees(alloc, network.nodes.as_slice(), network.trees.as_slice())?;
+        let tellings = self.tell_trees(alloc, network.nodes.as_slice(), named_trees(network))?;
         Ok(tellings)
     }
 }

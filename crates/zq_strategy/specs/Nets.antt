@@ -1,5 +1,5 @@
 -- What is read from a network: places of ids, trees, and the way to a node.
-use Rattle.std.specs.Prelude.{◌≡◌, ℕ, ◌==◌, Bool, not, List, [], filter, Option, Some, None, if◌then◌else◌, position, slice_get, nat_lt}
+use Rattle.std.specs.Prelude.{◌≡◌, ℕ, ◌==◌, Bool, not, List, [], filter, Option, Some, None, if◌then◌else◌, position, slice_get, nat_lt, take}
 use Rattle.std.specs.List.{list_any, filter_map}
 use Rattle.std.specs.Option.{option_map_or, option_and_then}
 use Rattle.std.specs.Map.{lookup}
@@ -53,9 +53,17 @@ towards net source router = do
   far ← slice_get net.distances i
   Some (next, far)
 
--- the ids of a tree's children
+-- the id at a place that a message can name
+abbrev pub child_at : Network → ℕ → Option Zid
+child_at net i = small i >>= node_at net
+
+-- the ids of a tree's children: those at places that a message can name
 abbrev pub child_ids : Network → Tree → List Zid
-child_ids net tree = filter_map (node_at net) tree.children
+child_ids net tree = filter_map (child_at net) tree.children
+
+-- the trees at places that a message can name
+abbrev pub named_trees : Network → List Tree
+named_trees net = take 65536 net.trees
 
 -- the ids of the children of the tree at a root's place
 abbrev pub children_of : Network → Zid → List Zid

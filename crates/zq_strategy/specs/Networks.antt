@@ -8,7 +8,7 @@ use Rattle.zq_strategy.specs.declared.network.Network.{Network}
 use Rattle.zq_strategy.specs.declared.network.Telling.{Telling}
 use Rattle.zq_strategy.specs.declared.network.Tree.{Tree}
 use Rattle.zq_strategy.specs.Entries.{Entries, standing}
-use Rattle.zq_strategy.specs.Nets.{child_ids, fresh_ids, is_zid, place_of}
+use Rattle.zq_strategy.specs.Nets.{child_ids, fresh_ids, is_zid, named_trees, place_of}
 use Rattle.zq_strategy.specs.Seating.{faces_by}
 use Rattle.zq_strategy.specs.Tellings.{all_told_of}
 
@@ -44,6 +44,6 @@ any_gives face old net root [] ts = false
 any_gives face old net root (z ∷ zs) [] = false
 any_gives face old net root (z ∷ zs) (t ∷ ts) = gives_child face old net root z t || any_gives face old net root zs ts
 
--- what a network hands
+-- what a network hands, of its trees at places that a message can name
 abbrev pub network_told_by : (Zid → Standing) → (Zid → Option ℕ) → (old net : Network) → List Telling
-network_told_by stands face old net = trees_told_by stands face old net net.nodes net.trees
+network_told_by stands face old net = trees_told_by stands face old net net.nodes (named_trees net)

@@ -6,6 +6,7 @@ use Rattle.zq_message.specs.declared.message.Zid.{Zid}
 use Rattle.zq_strategy.specs.declared.network.Network.{Network}
 use Rattle.zq_strategy.specs.declared.network.Telling.{Telling}
 use Rattle.zq_strategy.specs.declared.network.Tree.{Tree}
+use Rattle.zq_strategy.specs.Nets.{named_trees}
 use Rattle.zq_strategy.specs.Networks.{Standing, any_gives, root_told_by, standing_by, trees_told_by}
 use Rattle.zq_strategy.specs.Seating.{faces_by}
 use Rattle.zq_strategy.specs.Tellings.{children_told, same_infos}
@@ -44,8 +45,8 @@ trees_told own old s zs ts = trees_told_by (λ z. standing_of own z s) (λ zid. 
 
 -- what a network hands in its region, whose hat has it already
 abbrev pub network_told : Standing → Network → HatState → List Telling
-network_told own old s = trees_told own old s s.network.nodes s.network.trees
+network_told own old s = trees_told own old s s.network.nodes (named_trees s.network)
 
 -- whether a network gives the gateway's own tree a child that it had not: only then its own entries are handed
 abbrev pub gives_own : Network → HatState → Bool
-gives_own net s = in_routers (strategy_at s) (any_gives (λ zid. face_with zid s.faces) s.network net s.own net.nodes net.trees) false
+gives_own net s = in_routers (strategy_at s) (any_gives (λ zid. face_with zid s.faces) s.network net s.own net.nodes (named_trees net)) false

@@ -3,7 +3,7 @@ use zq_given::{information, list};
 use zq_key::items::Items;
 use zq_key::memory::OutOfMemory;
 use zq_key::message::{FaceId, NodeId, Zid};
-use zq_routers::children::{fresh_ids, tell_children};
+use zq_routers::children::{children_of, fresh_ids, tell_children};
 use zq_routers::tellings::in_order;
 use zq_strategy::nets::IndexedNetwork;
 use zq_strategy::network::{Network, Telling, Tree};
@@ -154,6 +154,38 @@ fn fresh(alloc: Global) -> Result<usize, OutOfMemory> {
         Ok(net) => fresh_in(alloc, &net),
         Err(error) => Err(error),
     }
+}
+
+/// Nodes 1 to 65537, of which 1 has those at the last two places as children.
+fn wide_net(alloc: Global) -> Result<IndexedNetwork, OutOfMemory> {
+    let mut nodes = Items::new(alloc);
+    for zid in 1..=65537 {
+        nodes.push(Zid(zid))?;
+    }
+    let mut trees = Items::new(alloc);
+    trees.push(tree(alloc, &[65535, 65536], &[])?)?;
+    let network = Network {
+        nodes,
+        trees,
+        distances: list(alloc, &[])?,
+    };
+    IndexedNetwork::new(alloc, network)
+}
+
+/// How many children root 1 has there, and the first.
+fn wide_children(alloc: Global) -> Result<(usize, Option<Zid>), OutOfMemory> {
+    match wide_net(alloc) {
+        Ok(net) => {
+            let children = children_of(alloc, &net, Zid(1))?;
+            Ok((children.len(), children.first().copied()))
+        }
+        Err(error) => Err(error),
+    }
+}
+
+#[test]
+fn a_child_above_the_last_place(rt: HostRuntime) {
+    assert!(rt; wide_children(rt.alloc()) == Ok((1, Some(Zid(65536)))));
 }
 
 #[test]

@@ -1,5 +1,6 @@
 use Rattle.std.proofs.Common.{◌≡◌, ◌∙◌, ap, sym, subst, ℕ, Option, false}
 use Rattle.zq_message.specs.declared.message.Zid.{Zid}
+use Rattle.zq_strategy.specs.Nets.{named_trees}
 use Rattle.zq_strategy.specs.Networks.{any_gives}
 use Rattle.zq_strategy.specs.Seating as seat
 use Rattle.zq_strategy.specs.declared.types.Strategy.{Strategy}
@@ -20,6 +21,6 @@ returns-in_ok-gives-in-Router c =
     let seated = subst (λ (k : Strategy). IsSeated k i.faces.entries i.seats) routers c.self.invariant.seated in
     let found : (λ (z : Zid). seat.seated z i.seats) ≡ (λ (z : Zid). face_with z i.faces.entries) = λ j z. seats_are z i.faces.entries i.seats c.self.invariant.tied.numbers seated j in
     c.in_ok-gives-in-Router.ensures
-    ∙ ap (λ (face : Zid → Option ℕ). any_gives face i.net net i.own net.nodes net.trees) found
-    ∙ ap (λ (s : HatState). any_gives (λ (z : Zid). face_with z s.faces) s.network net s.own net.nodes net.trees) c.self.view_is
-    ∙ ap (λ (k : Strategy). in_routers k (any_gives (λ (z : Zid). face_with z now.faces) now.network net now.own net.nodes net.trees) false) (sym named)
+    ∙ ap (λ (face : Zid → Option ℕ). any_gives face i.net net i.own net.nodes (named_trees net)) found
+    ∙ ap (λ (s : HatState). any_gives (λ (z : Zid). face_with z s.faces) s.network net s.own net.nodes (named_trees net)) c.self.view_is
+    ∙ ap (λ (k : Strategy). in_routers k (any_gives (λ (z : Zid). face_with z now.faces) now.network net now.own net.nodes (named_trees net)) false) (sym named)
