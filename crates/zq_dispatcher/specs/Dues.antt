@@ -32,7 +32,7 @@ hats_after next key hats = option_map_or (λ (c : RegionChange). hats_next c key
 abbrev pub new_info : RegionChange → List ℕ → List (ℕ × HatState) → Option NewInfo
 new_info c key hats = option_map (λ (h : HatState). record { region = c.region; info = region_info key (changed_by c.change key h) }) (hat_at c.region hats)
 
--- a face of the hat that asks for a key, or not, listens on it
+-- a face of the hat that asks for a key, or not, is interested in it
 abbrev pub hears_as : Bool → HatState → Bool
 hears_as asks h = listens_by (strategy_at h) (is_north h.region) asks
 
@@ -66,11 +66,11 @@ put_if_meets key ks k = if intersects k key then insert_key text_cmp ks k else k
 abbrev pub parts : List (List ℕ) → List (ℕ × HatState) → List ℕ → List (List ℕ)
 parts touched hats key = fold (put_if_meets key) (filter (λ k. intersects k key) (all_keys hats)) touched
 
--- what an open face will hear on all keys that meet the key, as one entry
+-- what an open face will hear on all keys that meet the key, aggregated
 abbrev pub folded_as : Option RegionChange → List (List ℕ) → ℕ → OpenFace → List (ℕ × HatState) → List ℕ → Option QueryableInfoType
 folded_as next touched face o hats key = folded_over (heard_at next touched face o hats) (parts touched hats key) key
 
--- what there will be for it at a key, for which it asks as one entry or not
+-- what there will be for it at a key, for which it asks aggregated or not
 abbrev pub meant_as : Bool → Option RegionChange → List (List ℕ) → ℕ → OpenFace → List (ℕ × HatState) → List ℕ → Option QueryableInfoType
 meant_as folds next touched face o hats key = if not (listens_as false hats o) && folds then folded_as next touched face o hats key else heard_at next touched face o hats key
 
@@ -78,7 +78,7 @@ meant_as folds next touched face o hats key = if not (listens_as false hats o) &
 abbrev pub due_as : Asking → Option RegionChange → List (List ℕ) → ℕ → OpenFace → List (ℕ × HatState) → List ℕ → Option QueryableInfoType
 due_as a next touched face o hats key = if listens_as a.asks hats o then meant_as a.folds next touched face o hats key else None
 
--- a key with what will be due there, if the face listens
+-- a key with what will be due there, if the face is interested
 abbrev pub listed_due : (List ℕ → Asking) → Option RegionChange → List (List ℕ) → ℕ → OpenFace → List (ℕ × HatState) → List ℕ → List KeyDue
 listed_due asks next touched face o hats key = if listens_as (asks key).asks hats o then (key, due_as (asks key) next touched face o hats key) ∷ [] else []
 

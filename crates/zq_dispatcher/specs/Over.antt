@@ -29,7 +29,7 @@ is_gone but number = option_map_or (λ (f : FaceId). f.0 == number) but false
 abbrev pub faces_but : Option FaceId → List (ℕ × OpenFace) → List (ℕ × OpenFace)
 faces_but but faces = option_map_or (λ (f : FaceId). remove_entry (is_at (nat_cmp f.0)) faces) but faces
 
--- what will be due to an open face, on those of the keys on which it listens, and on those of its aggregating interests' keys that one of them meets
+-- what will be due to an open face, on those of the keys in which it is interested, and on those of its aggregating interests' keys that one of them meets
 abbrev pub dues_there : Interests → Option RegionChange → List (ℕ × HatState) → List (List ℕ) → ℕ × OpenFace → List KeyDue
 dues_there ints next hats keys o = flat_map (listed_due (asking_in ints o.0) next keys o.0 o.1 hats) (widened o.0 ints keys)
 

@@ -43,6 +43,6 @@ AllKeys owns = (face : ℕ) → AreKeys (owns_of face owns)
 abbrev pub has_own : Option (List (List ℕ)) → List ℕ → Bool
 has_own owns key = option_map_or (has_text key) owns false
 
--- of these keys the face asks for just those among them as one entry
+-- of these keys the face asks for just those among them aggregated
 abbrev pub AreFolded : Interests → ℕ → Option (List (List ℕ)) → List (List ℕ) → Type 0
 AreFolded ints face owns keys = AllByRecursion (λ key. has_own owns key ≡ asks_folded face key ints) keys

@@ -29,7 +29,7 @@ use zq_key::{Key, intersects};
 pub struct Asking {
     /// It asks for the key.
     pub asks: bool,
-    /// It asks for it as one entry, which stands for all keys that meet it.
+    /// It asks for it aggregated over all keys that meet it.
     pub folds: bool,
 }
 
@@ -96,7 +96,7 @@ fn has_own(owns: Option<&OwnKeys>, key: &str) -> bool
     }
 }
 
-/// What the face asks of the key by its interests, where it asks for it as one entry just if it is among
+/// What the face asks of the key by its interests, where it asks for it aggregated just if it is among
 /// these.
 pub(crate) fn asks_among(
     interests: &Interests,

@@ -1,4 +1,4 @@
-//! Whether a face listens on a key, and what will be due to it there once a hat has changed.
+//! Whether a face is interested in a key, and what will be due to it there once a hat has changed.
 ghost use Rattle.std.specs.Prelude.{◌≡◌, IfOk, IsTrue, map, option_copied, string_bytes};
 ghost use Rattle.zq_key.specs.Key.{is_key};
 ghost use Rattle.zq_message.specs.Region.{region_index};
@@ -26,7 +26,7 @@ use zq_strategy::strategy::{is_north, same_region};
 use zq_strategy::types::{Change, Strategy};
 use zq_tables::RegionMap;
 
-/// Whether a face of the hat, which asks for a key or not, listens on it: a broker's if it asks, an
+/// Whether a face of the hat, which asks for a key or not, is interested in it: a broker's if it asks, an
 /// upstream always, a peer in North always and elsewhere if it asks, and a router's never.
 pub fn listens_by(hat: &Hat, asks: bool) -> bool
     ensures { result ≡ listens_by (strategy_at hat.now) (is_north hat.now.region) asks }
@@ -39,7 +39,7 @@ pub fn listens_by(hat: &Hat, asks: bool) -> bool
     }
 }
 
-/// Whether an open face, which asks for a key or not, listens on it. No change of a hat changes that.
+/// Whether an open face, which asks for a key or not, is interested in it. No change of a hat changes that.
 pub fn listens(hats: &RegionMap<Hat>, opened: OpenFace, asks: bool) -> bool
     ensures { result ≡ listens_as asks hats.now opened }
 {
@@ -193,7 +193,7 @@ fn meant(
 }
 
 /// What will be due to an open face on a key of which it asks this, once a hat has changed: what there
-/// will be for it there, if it listens; where none changes, what is due. Refused only where memory is
+/// will be for it there, if it is interested; where none changes, what is due. Refused only where memory is
 /// lacking.
 pub fn due_as(
     alloc: Global,

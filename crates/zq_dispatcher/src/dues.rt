@@ -72,9 +72,9 @@ fn list_due(
     }
 }
 
-/// Those of the keys on which an open face will listen once a hat has changed, which changes what is heard
+/// Those of the keys in which an open face will be interested once a hat has changed, which changes what is heard
 /// on the touched keys alone, with what will be due to it there; where none changes, as they are. It asks
-/// for those among its own as one entry, and for no others. Refused only where memory is lacking.
+/// for those among its own aggregated, and for no others. Refused only where memory is lacking.
 pub(crate) fn dues_of_face(
     alloc: Global,
     hats: &RegionMap<Hat>,

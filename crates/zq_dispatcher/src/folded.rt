@@ -134,7 +134,7 @@ fn merged_over(
 }
 
 /// What an open face will hear, once a hat has changed, which changes what is heard on the touched keys
-/// alone, on all keys that meet the key, as one entry; where none changes, what it hears. Only keys that
+/// alone, on all keys that meet the key, aggregated; where none changes, what it hears. Only keys that
 /// meet it are looked at. Refused only where memory is lacking.
 pub fn folded(
     alloc: Global,

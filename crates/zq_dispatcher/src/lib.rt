@@ -10,11 +10,11 @@
 //! - `networks`: what networks tell
 //! - `types`: the change of a hat, and what of interests counts
 //! - `asking`: what a face asks of keys by its interests
-//! - `due`: whether a face listens on a key, and what will be due to it there
+//! - `due`: whether a face is interested in a key, and what will be due to it there
 //! - `folded`: one entry for all keys that meet a key
 //! - `dues`: the same of some keys
 //! - `asked`: what an interest of a face looks at, and what its end looks at
-//! - `listeners`: which faces can listen on some of the keys
+//! - `listeners`: which faces can be interested in some of the keys
 //! - `keys`: the keys on which regions have information
 //! - `owns`: the keys of aggregating interests that some keys meet, by face
 //! - `sorted`: keys in order, each once

@@ -1,4 +1,4 @@
-//! Which faces can listen on some of the keys: those of hats whose faces listen unasked, and those that
+//! Which faces can be interested in some of the keys: those of hats whose faces are interested unasked, and those that
 //! ask for one of the keys. No other face is looked at.
 ghost use Rattle.std.specs.Prelude.{◌≡◌, IfOk, OnOk, fold};
 ghost use Rattle.zq_dispatcher.specs.Dues.{AreKeys};
@@ -41,7 +41,7 @@ fn put_askers(
     Ok(())
 }
 
-// The faces of a hat join them, if its faces listen unasked.
+// The faces of a hat join them, if its faces are interested unasked.
 fn put_hat(found: &mut BTreeSet<u32>, hat: &Hat) -> Result<(), OutOfMemory>
     ensures { OnOk result (found.new.keys ≡ with_hat found.old.keys hat.now) }
 {
@@ -51,7 +51,7 @@ fn put_hat(found: &mut BTreeSet<u32>, hat: &Hat) -> Result<(), OutOfMemory>
     Ok(())
 }
 
-// The faces of all hats join them whose faces listen unasked.
+// The faces of all hats join them whose faces are interested unasked.
 fn put_unasked(found: &mut BTreeSet<u32>, hats: &RegionMap<Hat>) -> Result<(), OutOfMemory>
     ensures { OnOk result (found.new.keys ≡ fold with_unasked found.old.keys hats.now) }
 {
@@ -61,7 +61,7 @@ fn put_unasked(found: &mut BTreeSet<u32>, hats: &RegionMap<Hat>) -> Result<(), O
     Ok(())
 }
 
-/// The numbers of the faces that can listen on one of the keys, in order, each once. Refused only where
+/// The numbers of the faces that can be interested in one of the keys, in order, each once. Refused only where
 /// memory is lacking.
 pub fn listeners(
     alloc: Global,

@@ -1,5 +1,5 @@
 //! What a whole call looks at: at each face that is open after it those of its keys on which the
-//! face listens; at a new face those of all keys.
+//! face is interested; at a new face those of all keys.
 ghost use Rattle.std.specs.Prelude.{◌≡◌, ◌++◌, [], IfOk, OnOk, fold, map, option_copied, string_bytes};
 ghost use Rattle.std.specs.BTreeSet.{insert_key};
 ghost use Rattle.std.specs.List.{flat_map};
@@ -184,10 +184,10 @@ fn look_at(
 }
 
 /// What will be due to each open face, once a hat has changed, which changes what is heard on these keys
-/// alone: on those of them on which it listens, and on those of its aggregating interests' keys that one
+/// alone: on those of them in which it is interested, and on those of its aggregating interests' keys that one
 /// of them meets. In order of the faces' numbers, all but one that a closing takes away; a face that
-/// listens on none is left out. Only those are looked at that can listen: the faces of regions whose faces
-/// listen unasked, and those of which an interest meets one of the keys; and of aggregating interests those
+/// is interested in none is left out. Only those are looked at that can be interested: the faces of regions whose faces
+/// are interested unasked, and those of which an interest meets one of the keys; and of aggregating interests those
 /// that one of the keys meets. Refused only where memory is lacking, and then nothing is changed.
 pub fn dues_over(
     alloc: Global,
@@ -218,8 +218,8 @@ pub fn dues_over(
 }
 
 /// What will be due to a face that is about to be opened and asks for nothing yet, on those of all
-/// keys with information on which it listens, by the hats as they are before it joins its region: one
-/// entry, or none. Keys are gathered only for a face that listens unasked. Refused only where memory
+/// keys with information in which it is interested, by the hats as they are before it joins its region: one
+/// entry, or none. Keys are gathered only for a face that is interested unasked. Refused only where memory
 /// is lacking, and then nothing is changed.
 pub fn dues_at_opening(
     alloc: Global,

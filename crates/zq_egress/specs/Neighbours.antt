@@ -11,7 +11,7 @@ use Rattle.zq_tables.specs.Naming.{NamingState, change_naming, face_interests, t
 abbrev pub told_with : ToldSets → List FaceUpdate → List Telling → List Telling
 told_with ears dues told = told ++ (tell_faces Update ears dues).tellings
 
--- a queryable that was held afresh is let go again
+-- a queryable that was held afresh is released again
 abbrev pub taken_back : ℕ → ℕ → Bool → NamingState → NamingState
 taken_back face id fresh s = if fresh then change_naming face (without_queryable id) s else s
 

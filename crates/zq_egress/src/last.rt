@@ -29,7 +29,7 @@ use zq_query::queries::Queries;
 use zq_strategy::types::FaceRecord;
 use zq_tables::RegionMap;
 
-/// Messages go back through the gates, for want of memory.
+/// Messages go back through the gates, where memory is lacking.
 fn undone(gates: &mut FaceMuxes, told: &HandedList, exits: Vec<Exit>) -> OutOfMemory
     ensures { gates.new ≡ undone_by exits.items told.now gates.old }
 {
@@ -88,7 +88,7 @@ pub fn enter_told(
     }
 }
 
-/// What a closing tells goes through the gates, and the face's entries are let go.
+/// What a closing tells goes through the gates, and the face's entries are released.
 pub fn close_told(
     gates: &mut FaceMuxes,
     queries: &mut Queries,
@@ -134,7 +134,7 @@ pub fn register_told(
     }
 }
 
-/// What a withdrawal tells goes through the gates, and its queryable is let go.
+/// What a withdrawal tells goes through the gates, and its queryable is released.
 pub fn withdraw_told(
     gates: &mut FaceMuxes,
     hats: &mut RegionMap<Hat>,

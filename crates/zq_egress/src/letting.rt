@@ -1,4 +1,4 @@
-//! Requests of which nothing leaves are let go.
+//! Requests of which nothing leaves are released.
 ghost use Rattle.std.specs.Prelude.{◌≡◌, ◌∷◌, [], false, is_none};
 ghost use Rattle.zq_query.specs.Records.{any_over, letting_go_all};
 ghost use Rattle.zq_machine.specs.Headline.{none_leaves};
@@ -22,7 +22,7 @@ pub fn none_leaves(handed: &[Handed]) -> bool
     handed.iter().all(|message| is_unsent(message))
 }
 
-/// The entry of a request is let go, if the message is one of which nothing leaves.
+/// The entry of a request is released, if the message is one of which nothing leaves.
 fn let_go(queries: &mut Queries, message: &Handed)
     ensures { any_over queries.old.records ≡ false → queries.new ≡ record queries.old { records = letting_go_all queries.old.records (unsent (message.now ∷ [])) } }
 {
@@ -34,7 +34,7 @@ fn let_go(queries: &mut Queries, message: &Handed)
     }
 }
 
-/// The entries of the requests of which nothing leaves are let go. It takes no memory.
+/// The entries of the requests of which nothing leaves are released. It takes no memory.
 pub fn let_go_unsent(queries: &mut Queries, handed: &[Handed])
     ensures { any_over queries.old.records ≡ false → queries.new ≡ record queries.old { records = letting_go_all queries.old.records (unsent handed.now) } }
 {

@@ -14,7 +14,7 @@
 //! - `without`: which faces want numbers for keys, once an interest has ended
 //! - `gone`: messages of a call that is no request go through the gates
 //! - `last`: they do, and then the last step is made
-//! - `letting`: requests of which nothing leaves are let go
+//! - `letting`: requests of which nothing leaves are released
 #![tactic(auto)]
 
 pub mod answers;

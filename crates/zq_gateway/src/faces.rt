@@ -116,7 +116,7 @@ impl Tables {
         Ok(Gathered { told, dues })
     }
 
-    /// A face is closed: its entries are let go, it gives up its numbers, and own entries that it
+    /// A face is closed: its entries are released, it gives up its numbers, and own entries that it
     /// changes are told.
     pub fn close(&mut self, face: FaceId) -> Result<Step, OutOfMemory>
         requires { IsReached self.old }

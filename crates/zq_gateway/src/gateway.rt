@@ -128,7 +128,7 @@ impl Gateway {
     }
 
     /// A face asks to hear of the queryables on the keys that meet its interest's, or on all keys, from
-    /// now on, or on its key alone, as one entry that stands for all keys that meet it, and is answered by
+    /// now on, or on its key alone, aggregated over all keys that meet it, and is answered by
     /// all that is due there, and by the end of declarations (upstream's `Primitives::send_interest`).
     /// `IdInUse` where the id stands for an interest in another key; one in the same key is replaced, and
     /// answered anew.
@@ -162,7 +162,7 @@ impl Gateway {
         self.tables.finalize(face, mark, set)
     }
 
-    /// A moment has come, in milliseconds: each entry whose deadline has come is let go, with an error reply.
+    /// A moment has come, in milliseconds: each entry whose deadline has come is released, with an error reply.
     pub fn poll(&mut self, now: u64) -> Result<Step, OutOfMemory>
         ensures { Performs self.old self.new (call.Poll now) result }
     {

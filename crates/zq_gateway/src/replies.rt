@@ -116,7 +116,7 @@ impl Tables {
         })
     }
 
-    /// A moment has come: entries whose deadlines have come are let go.
+    /// A moment has come: entries whose deadlines have come are released.
     pub fn pass(&mut self, now: u64) -> Result<Step, OutOfMemory>
         ensures { Settles self.old self.new (passing now) result }
     {

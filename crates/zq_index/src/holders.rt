@@ -314,7 +314,7 @@ fn put_first<P: Place>(
     }
 }
 
-/// The first declaration on a key, which is listed where it has to be. After want of memory a list may
+/// The first declaration on a key, which is listed where it has to be. Where memory is lacking a list may
 /// have it without a declaration.
 fn put_new<P: Place>(
     keys: &mut BTreeMap<String, Holders<P>>,

@@ -159,7 +159,7 @@ impl KeyLists {
         })
     }
 
-    /// The key is listed where it has to be. After want of memory a list may have it all the same.
+    /// The key is listed where it has to be. Where memory is lacking a list may have it all the same.
     pub fn put(&mut self, alloc: Global, key: &str) -> Result<(), OutOfMemory>
         ensures ok { OnOk result (IsListed self.new key.now) }
         ensures wider { (t : List ℕ) → IsListed self.old t → IsListed self.new t }

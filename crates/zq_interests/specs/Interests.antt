@@ -92,7 +92,7 @@ folded_for i key = option_map_or (λ k. is_at (text_cmp k) key) (own_key i) fals
 abbrev pub wants_folded : List ℕ → ℕ × InterestEntry → Bool
 wants_folded key i = folded_for i.1 key
 
--- an interest of the face asks for the key as one entry, which stands for all keys that meet it
+-- an interest of the face asks for the key aggregated over all keys that meet it
 abbrev pub asks_folded : ℕ → List ℕ → Interests → Bool
 asks_folded face key ints = list_any (wants_folded key) (interests_of face ints)
 

@@ -84,7 +84,7 @@ impl InterestEntry {
         asked_for(self, key)
     }
 
-    /// The key of which it is to hear as one entry, if there is one.
+    /// The key of which it is to hear aggregated, if there is one.
     pub fn own_key(&self) -> Option<&Key>
         ensures { option_copied result ≡ own_key self.now }
     {

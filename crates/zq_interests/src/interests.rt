@@ -127,7 +127,7 @@ impl Interests {
         face_any_with(&self.faces, face.0, id, entry, Test::Asks, key)
     }
 
-    /// Whether an interest of the face asks for the key as one entry, which stands for all keys that meet it. It
+    /// Whether an interest of the face asks for the key aggregated over all keys that meet it. It
     /// looks at this face's interests alone.
     pub fn folds(&self, face: FaceId, key: &str) -> bool
         requires { IsTrue (is_key key.now) }
@@ -144,7 +144,7 @@ impl Interests {
         face_any_besides(&self.faces, face.0, id, Test::Folds, key)
     }
 
-    /// Whether one asks for the key as one entry, once the face asks this under the id.
+    /// Whether one asks for the key aggregated, once the face asks this under the id.
     pub fn folds_with(&self, face: FaceId, id: u32, entry: &InterestEntry, key: &str) -> bool
         requires { IsTrue (is_key key.now) }
         ensures { result ≡ asks_folded face.0 key.now (with_interest face.0 id entry.now self.now) }

@@ -72,7 +72,7 @@ fn put_first(
     }
 }
 
-/// The first place under a key, which is listed where it has to be. After want of memory a list may
+/// The first place under a key, which is listed where it has to be. Where memory is lacking a list may
 /// have it without a place.
 fn put_new(
     keys: &mut KeyedMap,

@@ -5,8 +5,8 @@ use zq_key::message::FaceId;
 use zq_key::text::Text;
 
 /// An interest of a face in the queryables of others: all, or those that meet a key. Numbers may be
-/// declared for keys, or not; an aggregating one is to hear of its own key alone, as one entry that stands
-/// for all keys that meet it, if it has a key.
+/// declared for keys, or not; an aggregating one is to hear of its own key alone, aggregated over all keys
+/// that meet it, if it has a key.
 #[derive(Drop)]
 pub struct InterestEntry {
     /// The key that queryables have to meet; with none all are asked for.
@@ -17,8 +17,8 @@ pub struct InterestEntry {
     pub aggregate: bool,
 }
 
-/// What an interest is tested for on a key: that it asks for it; that it asks for it as one entry, which
-/// stands for all keys that meet it; or that it meets it, and numbers may be declared for keys.
+/// What an interest is tested for on a key: that it asks for it; that it asks for it aggregated
+/// over all keys that meet it; or that it meets it, and numbers may be declared for keys.
 #[derive(Clone, Copy, Debug)]
 pub(crate) enum Test {
     Asks,

@@ -200,7 +200,7 @@ with_open o c = record c { faces = insert_entry nat_cmp c.faces c.next_face (ope
 abbrev pub with_face : Opening → Core → Core
 with_face o c = record (with_open o c) { hats = change_hat o.region (joined (seat c.next_face o)) c.hats }
 
--- a face leaves the open ones and its region's, its entries are let go, and it asks nothing more
+-- a face leaves the open ones and its region's, its entries are released, and it asks nothing more
 abbrev pub without_open : ℕ → Core → Core
 without_open face c = record (change_hat_of face (without_face face) c) {
   faces = remove_entry (is_at (nat_cmp face)) c.faces;

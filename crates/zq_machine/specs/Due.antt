@@ -25,20 +25,20 @@ use Rattle.zq_machine.specs.State.{Core, at, change_hat_of, hat_at, hat_of}
 use Rattle.zq_machine.specs.TextCalls.{TextCall, opening}
 use Rattle.zq_machine.specs.Trees.{own_entry, touched}
 
--- ---- who listens
+-- ---- who is interested
 
--- a broker's face listens where it asks, an upstream always, a peer in North always and elsewhere where it asks, and a router's face never
+-- a broker's face is interested where it asks, an upstream always, a peer in North always and elsewhere where it asks, and a router's face never
 abbrev pub listens_by : Strategy → (north asks : Bool) → Bool
 listens_by strategy.Broker north asks = asks
 listens_by strategy.Client north asks = true
 listens_by strategy.Peer north asks = north || asks
 listens_by strategy.Router north asks = false
 
--- a face of the hat listens on the key, which it asks for or not
+-- a face of the hat is interested in the key, which it asks for or not
 abbrev pub listens_in : Interests → ℕ → List ℕ → HatState → Bool
 listens_in ints face key h = listens_by (strategy_at h) (is_north h.region) (asks_for face key ints)
 
--- the face is open, and listens on the key
+-- the face is open, and is interested in the key
 abbrev pub listens : Core → Interests → ℕ → List ℕ → Bool
 listens c ints face key = option_map_or (listens_in ints face key) (hat_of face c) false
 
@@ -63,7 +63,7 @@ heard_as face key hats o = option_and_then (heard_in face key hats (region_index
 abbrev pub heard : Core → ℕ → List ℕ → Option QueryableInfoType
 heard c face key = option_and_then (heard_as face key c.hats) (at face c.faces)
 
--- what is heard on a key, if the face listens there
+-- what is heard on a key, if the face is interested there
 abbrev pub plain_due : Core → Interests → ℕ → List ℕ → Option QueryableInfoType
 plain_due c ints face key = if listens c ints face key then heard c face key else None
 
@@ -85,21 +85,21 @@ seen_at key k i = record { complete = i.complete && includes k key; distance = i
 abbrev pub with_part : (List ℕ → Option QueryableInfoType) → List ℕ → Option QueryableInfoType → List ℕ → Option QueryableInfoType
 with_part hear key m k = if intersects k key then joined m (option_map (seen_at key k) (hear k)) else m
 
--- all that is heard on the keys that meet the key, as one entry
+-- all that is heard on the keys that meet the key, aggregated
 abbrev pub folded_over : (List ℕ → Option QueryableInfoType) → List (List ℕ) → List ℕ → Option QueryableInfoType
 folded_over hear keys key = fold (with_part hear key) None keys
 
--- what a face hears on all keys that meet the key, as one entry
+-- what a face hears on all keys that meet the key, aggregated
 abbrev pub folded : Core → ℕ → List ℕ → Option QueryableInfoType
 folded c face key = folded_over (heard c face) (due_keys c) key
 
 -- ---- what is due
 
--- a face of the hat is to hear of the key as one entry: it does not listen unasked, and asks for one
+-- a face of the hat is to hear of the key aggregated: it is not interested unasked, and asks for one
 abbrev pub folds_in : Interests → ℕ → List ℕ → HatState → Bool
 folds_in ints face key h = not (listens_by (strategy_at h) (is_north h.region) false) && asks_folded face key ints
 
--- the face is open, and is to hear of the key as one entry
+-- the face is open, and is to hear of the key aggregated
 abbrev pub folds : Core → Interests → ℕ → List ℕ → Bool
 folds c ints face key = option_map_or (folds_in ints face key) (hat_of face c) false
 
@@ -107,7 +107,7 @@ folds c ints face key = option_map_or (folds_in ints face key) (hat_of face c) f
 abbrev pub meant : Core → Interests → ℕ → List ℕ → Option QueryableInfoType
 meant c ints face key = if folds c ints face key then folded c face key else heard c face key
 
--- what is due to the face on the key: that, if it listens
+-- what is due to the face on the key: that, if it is interested
 abbrev pub due : Core → Interests → ℕ → List ℕ → Option QueryableInfoType
 due c ints face key = if listens c ints face key then meant c ints face key else None
 

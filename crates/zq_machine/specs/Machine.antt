@@ -42,7 +42,7 @@ asked_text t = []
 abbrev pub going_out : State → TextCall → Out
 going_out s t = leave_all (asked_text t) (handing s t) (follow s t).gates
 
--- what decides, once the requests that did not leave are let go, with the finals that come of it
+-- what decides, once the requests that did not leave are released, with the finals that come of it
 abbrev pub finishing : State → TextCall → Finished
 finishing s t = finish (follow s t).core (unsent (going_out s t).handed)
 

@@ -25,7 +25,7 @@ use Rattle.zq_machine.specs.Trees.{all_own_told, touched, tree_told}
 abbrev pub due_on : Core → Interests → ℕ → List ℕ → KeyDue
 due_on c ints face key = (key, due c ints face key)
 
--- those of the keys on which the face listens, with what is due
+-- those of the keys in which the face is interested, with what is due
 abbrev pub dues_on : Core → Interests → List (List ℕ) → ℕ → List KeyDue
 dues_on c ints keys face = map (due_on c ints face) (filter (λ key. listens c ints face key) keys)
 
@@ -34,7 +34,7 @@ abbrev pub with_dues : ℕ → List KeyDue → List FaceUpdate
 with_dues face [] = []
 with_dues face (k ∷ ks) = record { face = record { 0 = face }; keys = k ∷ ks } ∷ []
 
--- at each open face those of its keys on which it listens
+-- at each open face those of its keys in which it is interested
 abbrev pub looked_by : Core → Interests → (ℕ → List (List ℕ)) → List FaceUpdate
 looked_by c ints keys = flat_map (λ o. with_dues o.0 (dues_on c ints (keys o.0) o.0)) c.faces
 
@@ -43,7 +43,7 @@ abbrev pub looked_over : Core → Interests → List (List ℕ) → List FaceUpd
 looked_over c ints [] = []
 looked_over c ints (k ∷ ks) = looked_by c ints (λ face. widened face ints (k ∷ ks))
 
--- what a call that is no interest looks at: at each face that is open after it, of the keys that it touches there those on which the face listens
+-- what a call that is no interest looks at: at each face that is open after it, of the keys that it touches there those in which the face is interested
 abbrev pub looked_at : (before after : Core) → Interests → TextCall → List FaceUpdate
 looked_at before after ints (opening o) = looked_by after ints (due_touched before ints (opening o))
 looked_at before after ints t = looked_over after ints (fold (insert_key text_cmp) [] (touched before t))

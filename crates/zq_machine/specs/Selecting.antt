@@ -47,7 +47,7 @@ full_text said.Unscoped = []
 full_text said.Empty = []
 full_text (said.Full text) = text
 
--- what an interest asks for besides: that numbers be declared for keys, and to hear of its key alone, as one entry
+-- what an interest asks for besides: that numbers be declared for keys, and to hear of its key alone, aggregated
 pub record Manner : Type 0 where
   pub keys : Bool
   pub aggregate : Bool

@@ -83,16 +83,16 @@ unsent (h ∷ hs) = unsent_at h.to h.message h.leaves ++ unsent hs
 abbrev pub is_unsent : List Place → Pending → Bool
 is_unsent places e = list_any (λ (p : Place). is_entry p.0 p.1 e) places
 
--- what is left once the requests that did not leave are let go, and the finals that come of it
+-- what is left once the requests that did not leave are released, and the finals that come of it
 pub record Finished : Type 0 where
   pub core : Core
   pub finals : List Final
 
--- they are let go
+-- they are released
 abbrev pub without_unsent : List Place → Core → Core
 without_unsent places c = record c { queries = record c.queries { records = letting_go (is_unsent places) c.queries.records } }
 
--- the entries of requests that did not leave are let go; where there are none, all is as it was
+-- the entries of requests that did not leave are released; where there are none, all is as it was
 abbrev pub finish : Core → List Place → Finished
 finish c [] = record { core = c; finals = [] }
 finish c (p ∷ ps) = record { core = without_unsent (p ∷ ps) c; finals = finals_after (is_unsent (p ∷ ps)) c.queries.closed c.queries.records }

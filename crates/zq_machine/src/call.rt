@@ -35,7 +35,7 @@ pub struct Opening {
 pub enum Call {
     /// A new face is opened in its region.
     Open(Opening),
-    /// A face is closed: what it owes is let go, and it is handed nothing any more.
+    /// A face is closed: what it owes is released, and it is handed nothing any more.
     Close {
         /// The face that closes.
         face: FaceId,
@@ -88,7 +88,7 @@ pub enum Call {
         id: u32,
         /// Whether numbers may be declared to it for the keys that it is told.
         keys: bool,
-        /// Whether it is to hear of its key alone, as one entry for all keys that meet it.
+        /// Whether it is to hear of its key alone, aggregated over all keys that meet it.
         aggregate: bool,
         /// The key that queryables have to meet; with none all are asked for.
         wire: Option<WireExpr>,

@@ -108,13 +108,13 @@ pub fn touched_exactly()
     ensures { (c : Core) (t : TextCall) (face : ℕ) (key : List ℕ) → ((o : Opening) → is_heard_touched c (opening o) face key ≡ ((face == c.next_face) && list_any (λ k. bytes_eq k key) (due_keys c))) × (((o : Opening) → t ≢ opening o) → is_heard_touched c t face key ≡ is_touched c t key) }
 {}
 
-/// The keys that it touches at the face are those, and besides those for which the face asks as one entry
+/// The keys that it touches at the face are those, and besides those for which the face asks aggregated
 /// and that one of them meets.
 pub fn touched_widely()
     ensures { (c : Core) (ints : Interests) (t : TextCall) (face : ℕ) (key : List ℕ) → is_due_touched c ints t face key ≡ ((list_any (λ k. intersects k key) (heard_touched c t face) && asks_folded face key ints) || is_heard_touched c t face key) }
 {}
 
-/// To a face that asks for no key as one entry is due what it hears on each key on which it listens.
+/// To a face that asks for no key aggregated is due what it hears on each key in which it is interested.
 #[tactic(auto, using(crate::proofs::DueWhole::alone_plain))]
 pub fn plainly_due()
     ensures { (c : Core) (ints : Interests) (face : ℕ) (key : List ℕ) → asks_folded face key ints ≡ false → due c ints face key ≡ plain_due c ints face key }
@@ -132,14 +132,14 @@ pub fn less_due()
     ensures { (config : Settings) (calls : List Call) (c : Call) (ints : Interests) (face : ℕ) (key : List ℕ) → declares c ≡ false → is_open face (state_after (opening_state config) calls).core ≡ true → is_some (due (after (state_after (opening_state config) calls) c).core ints face key) ≡ true → is_some (due (state_after (opening_state config) calls).core ints face key) ≡ true }
 {}
 
-/// A call changes nothing of who listens: a face that is open before and after it listens on the
+/// A call changes nothing of who is interested: a face that is open before and after it is interested in the
 /// same keys.
 pub fn listens_stay()
     ensures { (config : Settings) (calls : List Call) (c : Call) (ints : Interests) (face : ℕ) (key : List ℕ) → is_open face (state_after (opening_state config) calls).core ≡ true → is_open face (after (state_after (opening_state config) calls) c).core ≡ true → listens (after (state_after (opening_state config) calls) c).core ints face key ≡ listens (state_after (opening_state config) calls).core ints face key }
 {}
 
 /// What is due to any face is on a key on which some region has information, or on one for which the face asks
-/// as one entry and that such a key meets.
+/// aggregated and that such a key meets.
 #[tactic(auto, using(crate::proofs::DueWhole::keys_due))]
 pub fn keys_due()
     ensures { (c : Core) (ints : Interests) (face : ℕ) (key : List ℕ) → is_some (due c ints face key) ≡ true → list_any (λ k. bytes_eq k key) (widened face ints (due_keys c)) ≡ true }
@@ -193,13 +193,13 @@ pub fn region_unheard()
     ensures { (c : Core) (ints : Interests) (face fellow : ℕ) (key : List ℕ) (ds : List (ℕ × Declaration)) (h : HatState) → hat_of face c ≡ Some h → strategy_at h ≢ strategy.Broker → face_region fellow c ≡ face_region face c → plain_due (redeclared fellow ds c) ints face key ≡ plain_due c ints face key }
 {}
 
-/// Under a broker, what is due on a key to a face that listens has in it what each other face of its region
+/// Under a broker, what is due on a key to a face that is interested has in it what each other face of its region
 /// declared.
 pub fn fellows_heard()
     ensures { (c : Core) (ints : Interests) (face : ℕ) (key : List ℕ) (o : OpenFace) (h : HatState) → at face c.faces ≡ Some o → hat_at o.region c.hats ≡ Some h → listens c ints face key ≡ true → strategy_at h ≡ strategy.Broker → (fellow : ℕ) (f : FaceState) → fellow ≢ face → face_at fellow h ≡ Some f → joined (plain_due c ints face key) (info key f) ≡ plain_due c ints face key }
 {}
 
-/// But in a region of routers, what is due on a key to a face that listens has in it what each other region
+/// But in a region of routers, what is due on a key to a face that is interested has in it what each other region
 /// has.
 pub fn regions_heard()
     ensures { (c : Core) (ints : Interests) (face : ℕ) (key : List ℕ) (o : OpenFace) (h : HatState) → at face c.faces ≡ Some o → hat_at o.region c.hats ≡ Some h → listens c ints face key ≡ true → is_routing h ≡ false → (elsewhere : ℕ) (g : HatState) → elsewhere ≢ region_index o.region → at elsewhere c.hats ≡ Some g → joined (plain_due c ints face key) (region_info key g) ≡ plain_due c ints face key }
@@ -216,12 +216,12 @@ pub fn routers_undue()
     ensures { (c : Core) (ints : Interests) (face : ℕ) (key : List ℕ) (h : HatState) → hat_of face c ≡ Some h → is_routing h ≡ true → due c ints face key ≡ None }
 {}
 
-/// A face that is no router's listens on a key for which one of its interests asks.
+/// A face that is no router's is interested in a key for which one of its interests asks.
 pub fn asking_listens()
     ensures { (c : Core) (ints : Interests) (face : ℕ) (key : List ℕ) (h : HatState) → hat_of face c ≡ Some h → is_routing h ≡ false → (id : ℕ) (asked : InterestEntry) → at id (interests_of face ints) ≡ Some asked → asked_for asked key ≡ true → listens c ints face key ≡ true }
 {}
 
-/// A face in North that is no router's listens on every key.
+/// A face in North that is no router's is interested in every key.
 pub fn north_listens()
     ensures { (c : Core) (ints : Interests) (face : ℕ) (key : List ℕ) (h : HatState) → hat_of face c ≡ Some h → is_north h.region ≡ true → is_routing h ≡ false → listens c ints face key ≡ true }
 {}

@@ -30,6 +30,6 @@ closed_with face closed = insert_key nat_cmp closed face
 abbrev pub closing_finals : ℕ → QueryState → List Final
 closing_finals face s = finals_after (at_face face) (closed_with face s.closed) s.records
 
--- the face is closed, and its entries are let go
+-- the face is closed, and its entries are released
 abbrev pub after_close : ℕ → QueryState → QueryState
 after_close face s = record s { records = letting_go (at_face face) s.records; closed = closed_with face s.closed }

@@ -56,7 +56,7 @@ after_timeout s t = if is_some t.reply then after_put t.number s else s
 abbrev pub timing_out : List Timeout → QueryState → QueryState
 timing_out ts s = fold after_timeout s ts
 
--- the error replies are in flight, and the entries that are due are let go
+-- the error replies are in flight, and the entries that are due are released
 abbrev pub after_poll : ℕ → QueryState → QueryState
 after_poll now s =
     let z = timing_out (timeouts now s) s in

@@ -497,7 +497,7 @@ impl Queries {
         }
     }
 
-    /// The entries at the places are let go.
+    /// The entries at the places are released.
     fn drop_all(&mut self, places: &[(u32, u32)])
         ensures { self.new ≡ record self.old { records = letting_go_all self.old.records places.now } }
     {

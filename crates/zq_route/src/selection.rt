@@ -210,7 +210,7 @@ fn copies(alloc: Global, offers: &[QueryTargetQabl]) -> Result<OfferList, OutOfM
 /// Adds one region's part of a selection (upstream's `compute_final_route`): of the offers that pass,
 /// `All` takes all, `AllComplete` those that are complete or without information, and `BestMatching`
 /// the first complete one, or all if none is complete. Each face is taken once, with its first offer.
-/// After want of memory the route has a part of it, from the front. The offers are copied:
+/// Where memory is lacking the route has a part of it, from the front. The offers are copied:
 /// `take_final_route` does without.
 pub fn compute_final_route<F: Fn(&QueryTargetQabl) -> bool>(
     alloc: Global,

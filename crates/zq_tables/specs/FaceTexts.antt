@@ -180,7 +180,7 @@ added face i t (Some u) = face
 abbrev pub registered : FaceTexts → ℕ → List ℕ → FaceTexts
 registered face i t = added face i t (of_id face.theirs i)
 
--- the refusal is want of memory or the first reason
+-- the refusal is lack of memory or the first reason
 abbrev pub IsReason : Option NameRefusal → NameRefusal → Type 0
 IsReason reason OutOfMemory = Unit {0}
 IsReason reason e = reason ≡ Some e

@@ -76,7 +76,7 @@ with_ids Interest f ids = record f { interests = ids }
 abbrev pub with_node : Holder → ℕ → ℕ → FaceHolds → FaceHolds
 with_node h id node f = with_ids h f (with_id (held_ids h f) id node)
 
--- an id is let go
+-- an id is released
 abbrev pub without_node : Holder → ℕ → FaceHolds → FaceHolds
 without_node h id f = with_ids h f (without_id (held_ids h f) id)
 
@@ -115,11 +115,11 @@ with_key h id text n = with_keys h n (with_id (held_keys h n) id text)
 abbrev pub with_first_key : Holder → ℕ → List ℕ → FaceKeys → FaceKeys
 with_first_key h id text n = with_keys h n (first_stays id text (held_keys h n))
 
--- an id is let go
+-- an id is released
 abbrev pub without_key : Holder → ℕ → FaceKeys → FaceKeys
 without_key h id n = with_keys h n (without_id (held_keys h n) id)
 
--- all ids of a holder are let go
+-- all ids of a holder are released
 abbrev pub without_keys : Holder → FaceKeys → FaceKeys
 without_keys h n = with_keys h n []
 
@@ -181,7 +181,7 @@ pub record InHand (names : List NameEntry) (faces : Faces) (n : ℕ) : Type 0 wh
   pub sides : All IsFace (values_of faces)
   pub lean : NoneIdle names
 
--- ---- a hold is taken, and let go
+-- ---- a hold is taken, and released
 
 -- the text t has a node r, which is held once more; all else is as it was, and what is new isn't held
 pub record TakesHold (old new : List NameEntry) (t : List ℕ) (r : ℕ) : Type 0 where

@@ -1,4 +1,4 @@
-//! Holds on nodes of the names, as they are taken and let go.
+//! Holds on nodes of the names, as they are taken and released.
 ghost use Rattle.std.specs.Prelude.{◌≡◌, ℕ, ◌+◌, ◌<◌, ◌^◌, true, IfOk, OnErr};
 ghost use Rattle.std.specs.List.{Contains};
 ghost use Rattle.zq_key.specs.Key.{is_key as key_of};

@@ -1,4 +1,4 @@
-//! Closing: a face's entries are let go, and its requests get no replies and no finals any more.
+//! Closing: a face's entries are released, and its requests get no replies and no finals any more.
 ghost use Rattle.std.specs.Prelude.{◌≡◌, ◌++◌, [], ℕ, map, IfOk, OnErr, OnOk};
 ghost use Rattle.std.specs.List.{filter_map, cons_option};
 ghost use Rattle.std.specs.List.Sorted.{IsStrictlySortedBy};
@@ -70,7 +70,7 @@ fn in_order(alloc: Global, numbers: &[u64]) -> Result<Vec<u64>, OutOfMemory>
     listed(alloc, &set)
 }
 
-/// The final of a request whose one entry is let go while the face closes.
+/// The final of a request whose one entry is released while the face closes.
 fn final_if_last(
     heads: &Numbers<Open>,
     closed: &BTreeSet<u32>,
@@ -167,7 +167,7 @@ impl Queries {
         }
     }
 
-    /// Closes a face: its entries are let go, and from here on the requests that it asked get no
+    /// Closes a face: its entries are released, and from here on the requests that it asked get no
     /// reply number and no final; those that end with it are what `would_close` answered. Where memory
     /// is lacking all is as it was.
     pub fn close_planned(&mut self, face: FaceId) -> Result<(), OutOfMemory>
@@ -180,7 +180,7 @@ impl Queries {
         Ok(())
     }
 
-    /// Closes a face: its entries are let go, and from here on the requests that it asked get no
+    /// Closes a face: its entries are released, and from here on the requests that it asked get no
     /// reply number and no final. The finals stand by number. Where memory is lacking all is as it
     /// was. Upstream: `close_face`.
     pub fn close(&mut self, face: FaceId) -> Result<FinalList, OutOfMemory>

@@ -1,4 +1,4 @@
-//! Polling: the entries whose deadlines have come are let go, with an error reply each.
+//! Polling: the entries whose deadlines have come are released, with an error reply each.
 ghost use Rattle.std.specs.Prelude.{◌≡◌, ◌∷◌, ◌||◌, if◌then◌else◌, ◌+◌, ◌-◌, ◌<◌, ◌≤◌, ◌^◌, ◌++◌, [], map, false, true, IfOk, OnOk, OnErr, IsErrOf};
 ghost use Rattle.std.specs.List.{list_any, cons_option, filter, filter_map};
 ghost use Rattle.std.specs.List.Sorted.{IsStrictlySortedBy};
