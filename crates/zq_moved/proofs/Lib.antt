@@ -1,0 +1,15 @@
+pub mod Lower
+pub mod Reading
+pub mod Under
+pub mod Fits
+pub mod Passing
+pub mod Telling
+pub mod Saying
+pub mod Stepping
+pub mod Alike
+pub mod Owning
+pub mod Calling
+pub mod Aiming
+pub mod Unnoticed
+pub mod Runs
+pub mod Nested
