@@ -25,6 +25,7 @@ GROUPS = {
     },
     'what is promised': {
         'zq_machine': 'calls, steps, promises, laws',
+        'zq_moved': 'runs in a namespace',
     },
     'the gateway': {
         'zq_dispatcher': 'all hats, what is due',
@@ -40,6 +41,8 @@ GROUPS = {
         'zq_lines': 'lines and prints',
         'zq_script': 'scripts, the load',
         'zq_show': 'a run as a page',
+        'zq_session': 'a script in a namespace',
+        'zq_session_main': 'the command zq inside',
         'zq_program': 'workers in threads',
         'zq_main': 'the command zq',
     },
@@ -52,6 +55,7 @@ OTHERS = {
         'zq_tests_calls': 'tests of calls, lines, prints and pages',
         'zq_tests_threads': 'tests of the lock and of callers in threads',
         'zq_tests_runs': 'whole scripts with their prints',
+        'zq_tests_session': 'whole scripts in namespaces',
         'zq_working': 'the program that bench/share times',
     },
 }

@@ -93,6 +93,9 @@ class Writer:
     A method named like a call makes the words that follow the call's name, mostly for the face that it is given.
     """
 
+    # which calls may be written: all, if no other choice is made for all scripts
+    may = staticmethod(lambda *call: True)
+
     def __init__(self, rng, theme, entries, faces=3):
         self.rng, self.theme, self.faces_wanted = rng, theme, faces
         self.regions = [entry if entry.startswith('south') else entry.partition(':')[0] for entry in entries]
@@ -125,8 +128,10 @@ class Writer:
             words = kind, *getattr(self, kind)(face)
             line = b' '.join(part if isinstance(part, bytes) else str(part).encode() for part in words)
             with contextlib.suppress(BadLine):
-                self.gateway.call(*read_call(line.split(b' ')))
-                self.lines.append(line)
+                call = read_call(line.split(b' '))
+                if self.may(*call):
+                    self.gateway.call(*call)
+                    self.lines.append(line)
         return b'\n'.join(self.lines) + self.rng.choice([b'', b'\n', b'\n', b'\n'])
 
     def weights(self):

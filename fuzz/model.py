@@ -291,13 +291,18 @@ class Gateway(Declared):
 Run = namedtuple('Run', 'status print calls')
 
 
-def replay(script):
-    """The run of a script."""
+def lines_of(script):
+    """Its lines, the last of which need not end by a newline."""
     lines = script.split(b'\n')
     if lines[-1] == b'' and len(lines) > 1:
         lines.pop()
+    return lines
+
+
+def replay(script):
+    """The run of a script."""
     try:
-        config, calls = read_script(lines)
+        config, calls = read_script(lines_of(script))
     except BadLine as at:
         return Run(2, f'bad line {at}\n'.encode(), [])
     gateway = Gateway(config)

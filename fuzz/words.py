@@ -205,8 +205,8 @@ def read_call(words):
     return kind, fields(values, *READERS[kind, len(values)])
 
 
-def read_script(lines):
-    """The configuration and the calls; the number of the first bad line is raised with it."""
+def read_script(lines, may=lambda *call: True):
+    """The configuration and the calls, all of which may be made; the number of the first bad line is raised with it."""
     config, calls = None, []
     for at, line in enumerate(lines, start=1):
         words = line.split(b' ')
@@ -218,6 +218,7 @@ def read_script(lines):
                 config.start = fields(words[1:], u32, u64, u64, u32, u32)
             else:
                 calls.append(read_call(words))
+                require(may(*calls[-1]))
         except BadLine:
             raise BadLine(at) from None
     return config, calls
