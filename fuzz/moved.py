@@ -3,7 +3,7 @@
 from model import Gateway
 from words import NOTHING, expression, shown
 
-# At which place a call has its expression, and at which the other words of a message stand.
+# At which place a call has its expression, if it has one.
 EXPRESSION = {'key': 2, 'queryable': 2, 'unqueryable': 2, 'interest': 2, 'ask': 2, 'reply': 2}
 
 
@@ -49,13 +49,12 @@ class Reader:
             del self.own[values[1]]
 
     def full(self, word):
-        """An expression by its whole text; what has an unknown number is no message that a face could read."""
+        """The whole text of an expression. No message has a number that the face cannot read; one would end the run."""
         written = expression(word.encode())
         if not written.number:
-            text = written.suffix
-        else:
-            text = (self.given if written.side == 's' else self.own)[written.number] + written.suffix
-        return text
+            return written.suffix
+        texts = self.given if written.side == 's' else self.own
+        return texts[written.number] + written.suffix
 
     def reads(self, line):
         """A message that left to the face."""
