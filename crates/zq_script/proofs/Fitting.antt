@@ -10,13 +10,11 @@ use Rattle.zq_machine.specs.declared.config.Entry.{Entry}
 use Rattle.zq_machine.specs.declared.config.Counters.{Counters}
 use Rattle.zq_machine.specs.Calls.{is_sent}
 use Rattle.zq_machine.specs.Configs.{Settings, no_counts}
-use Rattle.zq_io.specs.Words.{◌>>=◌}
 use Rattle.zq_io.specs.Fits.{IsBytes}
 use Rattle.zq_lines.specs.Fits.{FitsCall}
-use Rattle.zq_lines.specs.Lines.{call_of}
 use Rattle.zq_script.specs.Head.{Head, start_of, config_of, start_at, ended, configured, headed, with_start, with_config, head_of}
 use Rattle.zq_lines.specs.Split.{lines_of}
-use Rattle.zq_script.specs.Script.{Parts, onto, new_part, with_line, unless_sent, script_call, parts_from, onto_parts, made, with_parts, script_of, Gives, Holds}
+use Rattle.zq_script.specs.Script.{Parts, onto, new_part, with_line, script_call, parts_from, onto_parts, made, with_parts, script_of, Gives, Holds}
 use Rattle.zq_script.specs.declared.refusal.ScriptRefusal.{ScriptRefusal}
 use Rattle.zq_script.specs.declared.script.Script.{Script}
 use Rattle.zq_lines.proofs.Given.{Given, no_one, one, bind, either, any_given}

@@ -4,3 +4,7 @@ pub mod Fitting
 pub mod Promised
 pub mod Printed
 pub mod Completed
+pub mod BadLines
+pub mod LinesRead
+pub mod Replayed
+pub mod Conversing

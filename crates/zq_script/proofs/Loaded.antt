@@ -1,17 +1,16 @@
 -- The counts so far, and those of the calls that are left.
-use Rattle.std.proofs.Common.{◌≡◌, ℕ, ◌+◌, ◌*◌, ◌-◌, ◌<◌, ◌==◌, List, [], ◌∷◌, ◌++◌, refl, ap, sym, ◌∙◌, Bool, true, false, cond, zero, suc, arith, get_or, take, length, ◌≤◌, ◌^◌, length-append, add_assoc}
+use Rattle.std.proofs.Common.{◌≡◌, ℕ, ◌+◌, ◌*◌, ◌-◌, ◌<◌, List, ◌∷◌, ◌++◌, refl, ap, sym, ◌∙◌, Bool, true, false, cond, zero, suc, arith, get_or, take, length, ◌≤◌, ◌^◌, length-append, add_assoc}
 use Rattle.std.proofs.Math.Nat.{add-zero}
 use Rattle.std.proofs.lemmas.List.{length-take-le}
 use Rattle.std.proofs.lemmas.List.Sums.{sum_by-append, count_by_more_yes, count_by_more_no, count_by-le-length}
 use Rattle.std.specs.List.{count_by}
-use Rattle.std.specs.Prelude.{nat_lt, ◌/◌, ◌%◌}
 use Rattle.zq_machine.specs.declared.call.Call.{Call}
 use Rattle.zq_machine.specs.Handing.{Handed}
 use Rattle.zq_machine.specs.Headline.{asks, replies_to}
 use Rattle.zq_machine.specs.Machine.{after, step, steps_from}
 use Rattle.zq_machine.specs.State.{State}
 use Rattle.zq_script.specs.declared.load.Counts.{Counts}
-use Rattle.zq_script.specs.Load.{IsBelow, calls_from, count, declare_call, handed_over, is_end, load_call, load_calls, load_config, open_call, plus, query_call, ask_call, reply_call, final_call, sent_call}
+use Rattle.zq_script.specs.Load.{IsBelow, calls_from, count, handed_over, is_end, load_call, load_calls, plus}
 
 -- the next call of those that are left
 next_by : (number left : ℕ) → calls_from number (left + 1) ≡ load_call number ∷ calls_from (number + 1) left

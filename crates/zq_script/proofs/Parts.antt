@@ -1,13 +1,9 @@
 -- Lines from the left, and the parts that they make.
-use Rattle.std.proofs.Common.{◌≡◌, ℕ, ◌<◌, List, [], ◌∷◌, ◌++◌, Option, Some, None, refl, ap, ◌∙◌, sym, arith, length, take, drop, Bool, true, false, append_assoc}
+use Rattle.std.proofs.Common.{◌≡◌, ℕ, List, [], ◌∷◌, ◌++◌, refl, ap, ◌∙◌, sym, append_assoc}
 use Rattle.std.proofs.lemmas.List.{append-nil}
-use Rattle.std.proofs.lemmas.Grind.{common_steps}
-use Rattle.std.specs.Prelude.{◌==◌, Result, Ok, Err}
+use Rattle.std.specs.Prelude.{Result, Ok, Err}
 use Rattle.zq_machine.specs.declared.call.Call.{Call}
-use Rattle.zq_io.specs.Words.{len_to, after_cut, cut}
-use Rattle.zq_lines.specs.Split.{lines_of}
 use Rattle.zq_script.specs.Script.{Parts, onto, new_part, onto_parts}
-use Rattle.zq_io.proofs.Split.{cut_next, after_more, after_none, some_left, some_right}
 
 pub part_begun : (parts : List (List Call)) (calls : List Call) (r : Result Parts ℕ) → onto_parts (parts ++ calls ∷ []) [] r ≡ onto_parts parts calls (new_part r)
 part_begun parts calls (Ok p) = ap (λ x. Ok x) (append_assoc parts (calls ∷ []) (p.0 ∷ p.1) ∙ ap (λ c. parts ++ c ∷ p.0 ∷ p.1) (sym (append-nil calls)))

@@ -1,7 +1,6 @@
 -- The print so far, and what is printed of the lines that are left.
-use Rattle.std.proofs.Common.{◌≡◌, ℕ, ◌+◌, ◌-◌, List, [], ◌∷◌, ◌++◌, Option, Some, None, Result, Ok, Err, refl, ap, subst, sym, ◌∙◌, Bool, true, false, cond, append_assoc}
-use Rattle.std.proofs.lemmas.List.{append-nil}
-use Rattle.std.specs.Prelude.{nat_lt, codes, IfOk}
+use Rattle.std.proofs.Common.{◌≡◌, ℕ, ◌+◌, List, [], ◌∷◌, ◌++◌, Option, Some, None, Result, Ok, Err, refl, ap, subst, sym, ◌∙◌, Bool, true, false, append_assoc}
+use Rattle.std.specs.Prelude.{codes, IfOk}
 use Rattle.std.specs.Str.{bytes_eq}
 use Rattle.zq_machine.specs.declared.call.Call.{Call}
 use Rattle.zq_machine.specs.Machine.{after, step, steps_from}
@@ -11,8 +10,7 @@ use Rattle.zq_script.specs.Head.{Head, head_of}
 use Rattle.zq_lines.specs.Lines.{call_by, other_by}
 use Rattle.zq_script.specs.Printing.{FitsRun, Prints, printed, printed_by, printed_on}
 use Rattle.zq_script.specs.Running.{ReadsBack}
-use Rattle.zq_lines.specs.Split.{lines_of}
-use Rattle.zq_script.specs.Script.{Parts, made, onto, onto_parts, parts_from, script_call, script_of, with_line, with_parts}
+use Rattle.zq_script.specs.Script.{Parts, made, onto, onto_parts, parts_from, script_call, script_of, with_line}
 use Rattle.zq_lines.specs.Steps.{step_words, steps_words}
 use Rattle.zq_lines.specs.StepsFit.{FitsStep}
 use Rattle.zq_lines.proofs.StepsBack.{steps_back}

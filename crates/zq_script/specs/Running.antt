@@ -1,5 +1,5 @@
 -- What a run reads and writes.
-use Rattle.std.specs.Prelude.{◌≡◌, ℕ, ◌<◌, ◌≤◌, Bool, true, false, List, [], ◌∷◌, ◌++◌, Option, Some, None, Result, Ok, Err, ◌==◌, if◌then◌else◌, codes, length}
+use Rattle.std.specs.Prelude.{◌≡◌, ◌↔◌, IsSome, ℕ, ◌<◌, ◌≤◌, Bool, true, false, List, [], ◌∷◌, ◌++◌, Option, Some, None, Result, Ok, Err, ◌==◌, if◌then◌else◌, codes, length}
 use Rattle.std.specs.Str.{bytes_eq}
 use Rattle.std.specs.Fmt.{decimal}
 use Rattle.std.specs.Io.KnownBytes.{Appends}
@@ -16,6 +16,7 @@ use Rattle.zq_lines.specs.StepsRead.{steps_of}
 use Rattle.zq_script.specs.declared.script.Script.{Script}
 use Rattle.zq_script.specs.declared.running.Command.{Command}
 use Rattle.zq_script.specs.declared.running.Command.TheVariants as command
+use Rattle.zq_script.specs.declared.running.RunOutcome.{RunOutcome}
 use Rattle.zq_script.specs.declared.running.Status.{Status}
 use Rattle.zq_script.specs.declared.running.Status.TheVariants as status
 
@@ -131,6 +132,10 @@ EndsWell status.WriteFault = ⊥
 EndsWell status.Memory = Unit {0}
 EndsWell status.TooLong = ⊥
 EndsWell status.LinkFault = ⊥
+
+-- a bad line is told just where the run ended at one
+abbrev pub Tells : RunOutcome → Type 0
+Tells o = (o.status ≡ status.Script) ↔ IsSome o.bad_line
 
 -- the bytes are a script that a run may read
 abbrev pub IsFit : List ℕ → Type 0

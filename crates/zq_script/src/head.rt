@@ -18,7 +18,7 @@ use zq_lines::split::next_line;
 use zq_machine::config::{Config, ConfigRefusal, Counters, Entry, EntryList};
 
 /// The counters where no line `start` stands.
-const NO_COUNTS: Counters = Counters {
+pub(crate) const NO_COUNTS: Counters = Counters {
     faces: 0,
     requests: 0,
     replies: 0,
@@ -107,7 +107,7 @@ fn after_name<'a>(name: &str, line: &'a [u8]) -> Option<&'a [u8]>
 }
 
 #[tactic(auto, unfolding(crate::specs::Head::start_of))]
-fn start_of(alloc: Global, line: &[u8]) -> Result<Counters, Stop>
+pub(crate) fn start_of(alloc: Global, line: &[u8]) -> Result<Counters, Stop>
     ensures { Reads result (start_of line.now) }
 {
     counters_of(alloc, after_name("start", line).ok_or(Stop::Bad)?)
@@ -115,7 +115,7 @@ fn start_of(alloc: Global, line: &[u8]) -> Result<Counters, Stop>
 
 /// The line `config`: the own id, the default timeout and the entries.
 #[tactic(auto, unfolding(crate::specs::Head::config_of))]
-fn config_of(alloc: Global, line: &[u8]) -> Result<(Zid, u64, EntryList), Stop>
+pub(crate) fn config_of(alloc: Global, line: &[u8]) -> Result<(Zid, u64, EntryList), Stop>
     ensures { Reads result (config_of line.now) }
 {
     let rest = after_name("config", line).ok_or(Stop::Bad)?;
@@ -125,7 +125,7 @@ fn config_of(alloc: Global, line: &[u8]) -> Result<(Zid, u64, EntryList), Stop>
 }
 
 /// The counters of the next line, where it is a line `start`, with the line and what follows.
-fn start_at(alloc: Global, bytes: &[u8]) -> Result<(Counters, &[u8], &[u8]), Stop>
+pub(crate) fn start_at(alloc: Global, bytes: &[u8]) -> Result<(Counters, &[u8], &[u8]), Stop>
     ensures value { Reads (result_map_both (λ t. (t.0, t.1.now, lines_of t.2.now)) (λ e. e) result) (start_at (lines_of bytes.now)) }
     ensures shorter { IfOk result (λ t. length t.2.now ≤ length bytes.now) }
 {
@@ -134,7 +134,7 @@ fn start_at(alloc: Global, bytes: &[u8]) -> Result<(Counters, &[u8], &[u8]), Sto
 }
 
 /// The configuration; the first line is bad where something is wrong with its entries.
-fn configured(
+pub(crate) fn configured(
     alloc: Global,
     zid: Zid,
     timeout: u64,

@@ -1,7 +1,6 @@
-use Rattle.std.proofs.Common.{◌≡◌, ◌∙◌, ◌+◌, ◌-◌, ◌*◌, ◌≤◌, ℕ, List, sym, ap, arith}
+use Rattle.std.proofs.Common.{◌∙◌, ◌+◌, ◌-◌, ◌*◌, ◌≤◌, ℕ, List, sym, ap, arith}
 use Rattle.zq_machine.specs.declared.call.Call.{Call}
 use Rattle.zq_machine.specs.Machine.{steps, steps_from}
-use Rattle.zq_machine.specs.State.{State}
 use Rattle.zq_script.specs.Load.{calls_from, count, handed_over, load_call, load_config, plus}
 use Rattle.zq_script.proofs.Loaded.{call_counted, next_calls, none_counted}
 use Rattle.zq_script.proofs.load.count_on.Goals as goal

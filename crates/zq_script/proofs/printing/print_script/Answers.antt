@@ -1,4 +1,3 @@
-use Rattle.std.proofs.Common.{List, Result}
 use Rattle.std.specs.Prelude.{IfOk, false}
 use Rattle.std.proofs.lemmas.Result.{IfOk-weaker}
 use Rattle.zq_machine.specs.State.{opening_state}

@@ -1,5 +1,5 @@
 use Rattle.zq_script.proofs.Promised.{promised}
-use Rattle.zq_script.proofs.running.run.Goals as goal
+use Rattle.zq_script.proofs.running.run_outcome.Goals as goal
 
 pub returns-in-Some-Replay-clause-headline : goal.returns-in-Some-Replay-clause-headline
 returns-in-Some-Replay-clause-headline g c = promised (g.S.Source.left c.args.source.now)

@@ -1,0 +1,142 @@
+//! A gateway that is spoken to by lines: those of a script, one after another.
+ghost use Rattle.std.specs.Prelude.{◌≡◌, None, Some, Ok, Err, true, false, IfOk, IfSome, OnErr, OnOk};
+ghost use Rattle.zq_io.specs.declared.stop.Stop.TheVariants as stop;
+ghost use Rattle.zq_machine.specs.State.{opening_state};
+ghost use Rattle.zq_script.specs.Head.{configured};
+
+use crate::head::{NO_COUNTS, config_of, configured, start_of};
+use crate::refusal::ScriptRefusal;
+use crate::script::script_call;
+use std::alloc::Global;
+use std::marker::Model;
+use zq_gateway::gateway::Gateway;
+use zq_io::stop::Stop;
+use zq_key::message::Zid;
+use zq_machine::call::Step;
+use zq_machine::config::{Counters, EntryList};
+
+/// A gateway that is spoken to by lines.
+pub struct Session {
+    // The gateway, once a line `config` was taken.
+    gateway: Option<Gateway>,
+    // What that line said, while a line `start` may follow it.
+    said: Option<(Zid, u64, EntryList)>,
+}
+
+impl Drop for Session {
+    fn drop(self) {
+        let Session { gateway, said } = self;
+    }
+}
+
+impl Model for Session {
+    ghost use Rattle.zq_script.specs.Session.{Spoken};
+
+    ghost Value = { Spoken };
+
+    ghost view = { λ s. record { state = s.gateway; said = s.said } };
+}
+
+/// A gateway of what a line `config` said, with these counters.
+fn opened(alloc: Global, said: &(Zid, u64, EntryList), counters: Counters) -> Result<Gateway, Stop>
+    ensures gateway { IfOk result (λ g. (c : _) × (configured said.now counters ≡ Ok c) × (g ≡ opening_state c)) }
+    ensures bad { result ≡ Err stop.Bad → (n : _) × (configured said.now counters ≡ Err n) }
+{
+    let (zid, timeout, entries) = said;
+    match configured(alloc, *zid, *timeout, entries.as_slice(), counters) {
+        Ok(config) => Ok(Gateway::new(alloc, &config)?),
+        Err(ScriptRefusal::BadLine(_)) => Err(Stop::Bad),
+        Err(ScriptRefusal::OutOfMemory) => Err(Stop::OutOfMemory),
+    }
+}
+
+impl Session {
+    ghost use Rattle.zq_script.specs.Session.{fresh, place, taken, take_call, take_config, take_start};
+    ghost use Rattle.zq_script.specs.Script.{script_call};
+
+    /// Before any line. Takes no memory.
+    pub fn new() -> Session
+        ensures { result ≡ fresh }
+    {
+        Session {
+            gateway: None,
+            said: None,
+        }
+    }
+
+    /// Which line of a script may come next: 1, `config`; 2, `start` or a call; 3, a call.
+    pub fn place(&self) -> u64
+        ensures { result ≡ place self.now }
+    {
+        match (&self.gateway, &self.said) {
+            (None, _) => 1,
+            (Some(_), Some(_)) => 2,
+            (Some(_), None) => 3,
+        }
+    }
+
+    /// Takes a line `config`.
+    fn begin(&mut self, alloc: Global, line: &[u8]) -> Result<(), Stop>
+        ensures ok { OnOk result (take_config line.now ≡ Some (None, self.new)) }
+        ensures bad { result ≡ Err stop.Bad → take_config line.now ≡ None }
+        ensures kept { OnErr result (self.new ≡ self.old) }
+    {
+        let said = config_of(alloc, line)?;
+        self.gateway = Some(opened(alloc, &said, NO_COUNTS)?);
+        self.said = Some(said);
+        Ok(())
+    }
+
+    /// Takes a line `start`, where it may stand; false where it is none.
+    fn restart(&mut self, alloc: Global, line: &[u8]) -> Result<bool, Stop>
+        ensures ok { result ≡ Ok true → take_start self.old.said line.now ≡ Some (Some (None, self.new)) }
+        ensures none { result ≡ Ok false → take_start self.old.said line.now ≡ None }
+        ensures bad { result ≡ Err stop.Bad → take_start self.old.said line.now ≡ Some None }
+        ensures unchanged { result ≡ Ok false → self.new ≡ self.old }
+        ensures kept { OnErr result (self.new ≡ self.old) }
+    {
+        let Some(said) = &self.said else {
+            return Ok(false);
+        };
+        let counters = match start_of(alloc, line) {
+            Ok(counters) => counters,
+            Err(Stop::Bad) => return Ok(false),
+            Err(Stop::OutOfMemory) => return Err(Stop::OutOfMemory),
+        };
+        self.gateway = Some(opened(alloc, said, counters)?);
+        self.said = None;
+        Ok(true)
+    }
+
+    /// Makes the call of a line.
+    fn call(&mut self, alloc: Global, line: &[u8]) -> Result<Step, Stop>
+        ensures ok { IfOk result (λ t. IfSome self.old.state (λ s. take_call s (script_call false line.now) ≡ Some (Some t, self.new))) }
+        ensures bad { result ≡ Err stop.Bad → IfSome self.old.state (λ s. take_call s (script_call false line.now) ≡ None) }
+        ensures kept { OnErr result (self.new ≡ self.old) }
+    {
+        let call = script_call(alloc, false, line)?;
+        let Some(gateway) = &mut self.gateway else {
+            return Err(Stop::Bad);
+        };
+        let step = gateway.call(&call)?;
+        self.said = None;
+        Ok(step)
+    }
+
+    /// Takes a line, and answers the step of its call, if it is one. Where the line is bad, or no
+    /// memory is found, nothing changes.
+    pub fn take(&mut self, alloc: Global, line: &[u8]) -> Result<Option<Step>, Stop>
+        ensures ok { IfOk result (λ t. taken self.old line.now ≡ Some (t, self.new)) }
+        ensures bad { result ≡ Err stop.Bad → taken self.old line.now ≡ None }
+        ensures kept { OnErr result (self.new ≡ self.old) }
+    {
+        if self.gateway.is_none() {
+            self.begin(alloc, line)?;
+            return Ok(None);
+        }
+        if self.restart(alloc, line)? {
+            return Ok(None);
+        }
+        Ok(Some(self.call(alloc, line)?))
+    }
+}
