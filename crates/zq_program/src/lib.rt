@@ -22,7 +22,7 @@ mod worker;
 mod workers;
 pub mod works;
 
-pub use running::program;
+pub use running::{program, program_outcome};
 pub use sharing::share;
 pub use words::{Sharing, sharing_of};
 pub use zq_shared::{

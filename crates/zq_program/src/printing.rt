@@ -1,6 +1,5 @@
 //! The print of a shared run.
-ghost use Rattle.std.specs.Prelude.{◌≡◌, ◌++◌, ◌∷◌, [], IfOk, OnOk, codes};
-ghost use Rattle.std.specs.Fmt.{decimal};
+ghost use Rattle.std.specs.Prelude.{◌≡◌, ◌++◌, IfOk, OnOk};
 ghost use Rattle.zq_lines.specs.CallLines.{call_words};
 ghost use Rattle.zq_machine.specs.Machine.{after, step, steps, steps_from};
 ghost use Rattle.zq_lines.specs.Steps.{step_words, steps_words};
@@ -9,7 +8,7 @@ ghost use Rattle.zq_program.specs.Printing.{calls_words, shared_print};
 
 use std::alloc::{AllocError, Global};
 use zq_gateway::gateway::Gateway;
-use zq_io::words::{push_byte, push_number, push_text};
+use zq_io::words::{push_byte, push_text};
 use zq_key::memory::OutOfMemory;
 use zq_key::text::Bytes;
 use zq_lines::calls::push_call;
@@ -87,16 +86,5 @@ pub fn print_shared(
     push_calls(&mut out, calls)?;
     push_text(&mut out, "--\n")?;
     push_replay(alloc, &mut out, config, calls)?;
-    Ok(Bytes::from_vec(out))
-}
-
-/// The line that names a bad line.
-pub fn print_bad_line(alloc: Global, number: u64) -> Result<Bytes, OutOfMemory>
-    ensures { IfOk result (λ b. b ≡ codes "bad line " ++ decimal number ++ 10 ∷ []) }
-{
-    let mut out = Vec::new(alloc);
-    push_text(&mut out, "bad line ")?;
-    push_number(&mut out, number)?;
-    push_text(&mut out, "\n")?;
     Ok(Bytes::from_vec(out))
 }

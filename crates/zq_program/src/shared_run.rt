@@ -5,7 +5,8 @@ ghost use Rattle.zq_io.specs.declared.transfer.TheConstants.{LIMIT};
 ghost use Rattle.zq_io.specs.Streams.{Rose};
 ghost use Rattle.zq_lines.specs.Split.{lines_of};
 ghost use Rattle.zq_script.specs.Script.{script_of};
-ghost use Rattle.zq_script.specs.Running.{EndsWell, IsBad, IsScript};
+ghost use Rattle.zq_script.specs.Running.{EndsWell, IsBad, IsScript, Tells};
+ghost use Rattle.zq_script.specs.Bad.{Names};
 ghost use Rattle.zq_program.specs.Faults.{HaveFaults, SomeRose};
 ghost use Rattle.zq_program.specs.Words.{IsSharing};
 ghost use Rattle.zq_program.specs.Parts.{ArePartsFor};
@@ -13,7 +14,7 @@ ghost use Rattle.zq_program.specs.SharedPrinting.{IsSharedPrint, MayPrint};
 ghost use Rattle.zq_program.specs.Running.{IsFitFor, IsSharedEnd, LeavesShared, end_of, is_idle, is_unwritten, is_whole};
 
 use crate::parts::read_shared;
-use crate::printing::{print_bad_line, print_shared};
+use crate::printing::print_shared;
 use crate::share;
 use crate::words::Sharing;
 use std::alloc::Global;
@@ -23,8 +24,9 @@ use zq_io::streams::{Sink, Source};
 use zq_io::transfer::{ReadRefusal, read_all, write_all};
 use zq_key::memory::OutOfMemory;
 use zq_key::text::Bytes;
+use zq_script::bad::bad_line_at;
 use zq_script::refusal::ScriptRefusal;
-use zq_script::running::Status;
+use zq_script::running::{RunOutcome, Status, print_bad_line};
 use zq_script::script::Script;
 use zq_shared::Link;
 
@@ -64,29 +66,32 @@ fn end_of(sent: bool) -> Status
     }
 }
 
-/// What is printed for the bytes, and the status where the print is taken.
+/// What is printed for the bytes, and how the run ends where the print is taken.
 fn print_of<L: Link + Send, R: Threads + Wait + Sync>(
     rt: &R,
     alloc: Global,
     sharing: Sharing,
     bytes: &[u8],
     links: &mut [L],
-) -> Result<(Status, Bytes), OutOfMemory>
+) -> Result<(RunOutcome, Bytes), OutOfMemory>
     requires bounds { IsSharing (length links.old) sharing }
     ensures print { IfOk result (λ t. MayPrint sharing.slots (script_of sharing.workers (lines_of bytes.now)) t.1) }
-    ensures status { IfOk result (λ t. IsSharedEnd t.0 (script_of sharing.workers (lines_of bytes.now))) }
-    ensures sent { IfOk result (λ t. t.0 ≡ Status.Done → map L.faults links.new ≡ map L.faults links.old) }
-    ensures linked { IfOk result (λ t. t.0 ≡ Status.LinkFault → SomeRose (map L.faults links.old) (map L.faults links.new)) }
-    ensures idle { IfOk result (λ t. is_idle t.0 ≡ true → links.new ≡ links.old) }
+    ensures status { IfOk result (λ t. IsSharedEnd t.0.status (script_of sharing.workers (lines_of bytes.now))) }
+    ensures told { IfOk result (λ t. Tells t.0) }
+    ensures named { IfOk result (λ t. IfSome t.0.bad_line (Names sharing.workers bytes.now)) }
+    ensures sent { IfOk result (λ t. t.0.status ≡ Status.Done → map L.faults links.new ≡ map L.faults links.old) }
+    ensures linked { IfOk result (λ t. t.0.status ≡ Status.LinkFault → SomeRose (map L.faults links.old) (map L.faults links.new)) }
+    ensures idle { IfOk result (λ t. is_idle t.0.status ≡ true → links.new ≡ links.old) }
     ensures unsent { IsBad (script_of sharing.workers (lines_of bytes.now)) → links.new ≡ links.old }
 {
     match read_shared(alloc, bytes, sharing.workers) {
         Ok(script) => {
             let (print, sent) = share_script(rt, alloc, sharing, script, links)?;
-            Ok((end_of(sent), print))
+            Ok((RunOutcome::of(end_of(sent)), print))
         }
         Err(ScriptRefusal::BadLine(number)) => {
-            Ok((Status::Script, print_bad_line(alloc, number)?))
+            let outcome = RunOutcome::at(bad_line_at(alloc, number, bytes)?);
+            Ok((outcome, print_bad_line(alloc, number)?))
         }
         Err(ScriptRefusal::OutOfMemory) => Err(OutOfMemory),
     }
@@ -101,26 +106,28 @@ fn answer<K: Sink, L: Link + Send, R: Threads + Wait + Sync>(
     bytes: &[u8],
     sink: &mut K,
     links: &mut [L],
-) -> Status
+) -> RunOutcome
     requires bounds { IsSharing (length links.old) sharing }
     requires limit { length bytes.now ≤ LIMIT }
-    ensures leaves { LeavesShared sharing result bytes.now (K.taken sink.old) (K.taken sink.new) }
-    ensures write { result ≡ Status.WriteFault → Rose (K.faults sink.old) (K.faults sink.new) }
-    ensures quiet { result ≢ Status.WriteFault → K.faults sink.new ≡ K.faults sink.old }
-    ensures unwritten { is_unwritten result ≡ true → sink.new ≡ sink.old }
-    ensures sent { result ≡ Status.Done → map L.faults links.new ≡ map L.faults links.old }
-    ensures linked { result ≡ Status.LinkFault → SomeRose (map L.faults links.old) (map L.faults links.new) }
-    ensures idle { is_idle result ≡ true → links.new ≡ links.old }
+    ensures leaves { LeavesShared sharing result.status bytes.now (K.taken sink.old) (K.taken sink.new) }
+    ensures write { result.status ≡ Status.WriteFault → Rose (K.faults sink.old) (K.faults sink.new) }
+    ensures quiet { result.status ≢ Status.WriteFault → K.faults sink.new ≡ K.faults sink.old }
+    ensures unwritten { is_unwritten result.status ≡ true → sink.new ≡ sink.old }
+    ensures sent { result.status ≡ Status.Done → map L.faults links.new ≡ map L.faults links.old }
+    ensures linked { result.status ≡ Status.LinkFault → SomeRose (map L.faults links.old) (map L.faults links.new) }
+    ensures idle { is_idle result.status ≡ true → links.new ≡ links.old }
     ensures unsent { IsBad (script_of sharing.workers (lines_of bytes.now)) → links.new ≡ links.old }
-    ensures ends { (result ≢ Status.Words) × (result ≢ Status.ReadFault) × (result ≢ Status.TooLong) }
-    ensures complete { IsScript (script_of sharing.workers (lines_of bytes.now)) → (Rose (K.faults sink.old) (K.faults sink.new) → ⊥) → (SomeRose (map L.faults links.old) (map L.faults links.new) → ⊥) → EndsWell result }
+    ensures told { Tells result }
+    ensures named { IfSome result.bad_line (Names sharing.workers bytes.now) }
+    ensures ends { (result.status ≢ Status.Words) × (result.status ≢ Status.ReadFault) × (result.status ≢ Status.TooLong) }
+    ensures complete { IsScript (script_of sharing.workers (lines_of bytes.now)) → (Rose (K.faults sink.old) (K.faults sink.new) → ⊥) → (SomeRose (map L.faults links.old) (map L.faults links.new) → ⊥) → EndsWell result.status }
 {
-    let Ok((status, print)) = print_of(rt, alloc, sharing, bytes, links) else {
-        return Status::Memory;
+    let Ok((outcome, print)) = print_of(rt, alloc, sharing, bytes, links) else {
+        return RunOutcome::of(Status::Memory);
     };
     match write_all(sink, print.as_slice()) {
-        Ok(()) => status,
-        Err(_) => Status::WriteFault,
+        Ok(()) => outcome,
+        Err(_) => RunOutcome::of(Status::WriteFault),
     }
 }
 
@@ -133,26 +140,28 @@ pub(crate) fn share_source<S: Source, K: Sink, L: Link + Send, R: Threads + Wait
     source: &mut S,
     sink: &mut K,
     links: &mut [L],
-) -> Status
+) -> RunOutcome
     requires bounds { IsSharing (length links.old) sharing }
-    ensures leaves { IfSome (S.left source.old) (λ input. LeavesShared sharing result input (K.taken sink.old) (K.taken sink.new)) }
-    ensures whole { is_whole result ≡ true → IsAtEnd (S.left source.new) }
-    ensures read { result ≡ Status.ReadFault → Rose (S.faults source.old) (S.faults source.new) }
-    ensures steady { result ≢ Status.ReadFault → S.faults source.new ≡ S.faults source.old }
-    ensures write { result ≡ Status.WriteFault → Rose (K.faults sink.old) (K.faults sink.new) }
-    ensures quiet { result ≢ Status.WriteFault → K.faults sink.new ≡ K.faults sink.old }
-    ensures unwritten { is_unwritten result ≡ true → sink.new ≡ sink.old }
-    ensures sent { result ≡ Status.Done → map L.faults links.new ≡ map L.faults links.old }
-    ensures linked { result ≡ Status.LinkFault → SomeRose (map L.faults links.old) (map L.faults links.new) }
-    ensures idle { is_idle result ≡ true → links.new ≡ links.old }
+    ensures leaves { IfSome (S.left source.old) (λ input. LeavesShared sharing result.status input (K.taken sink.old) (K.taken sink.new)) }
+    ensures whole { is_whole result.status ≡ true → IsAtEnd (S.left source.new) }
+    ensures read { result.status ≡ Status.ReadFault → Rose (S.faults source.old) (S.faults source.new) }
+    ensures steady { result.status ≢ Status.ReadFault → S.faults source.new ≡ S.faults source.old }
+    ensures write { result.status ≡ Status.WriteFault → Rose (K.faults sink.old) (K.faults sink.new) }
+    ensures quiet { result.status ≢ Status.WriteFault → K.faults sink.new ≡ K.faults sink.old }
+    ensures unwritten { is_unwritten result.status ≡ true → sink.new ≡ sink.old }
+    ensures sent { result.status ≡ Status.Done → map L.faults links.new ≡ map L.faults links.old }
+    ensures linked { result.status ≡ Status.LinkFault → SomeRose (map L.faults links.old) (map L.faults links.new) }
+    ensures idle { is_idle result.status ≡ true → links.new ≡ links.old }
     ensures unsent { IfSome (S.left source.old) (λ input. IsBad (script_of sharing.workers (lines_of input)) → links.new ≡ links.old) }
-    ensures ends { result ≢ Status.Words }
-    ensures complete { IfSome (S.left source.old) (λ input. IsFitFor sharing.workers input → (Rose (S.faults source.old) (S.faults source.new) → ⊥) → (Rose (K.faults sink.old) (K.faults sink.new) → ⊥) → (SomeRose (map L.faults links.old) (map L.faults links.new) → ⊥) → EndsWell result) }
+    ensures told { Tells result }
+    ensures named { IfSome (S.left source.old) (λ input. IfSome result.bad_line (Names sharing.workers input)) }
+    ensures ends { result.status ≢ Status.Words }
+    ensures complete { IfSome (S.left source.old) (λ input. IsFitFor sharing.workers input → (Rose (S.faults source.old) (S.faults source.new) → ⊥) → (Rose (K.faults sink.old) (K.faults sink.new) → ⊥) → (SomeRose (map L.faults links.old) (map L.faults links.new) → ⊥) → EndsWell result.status) }
 {
     match read_all(alloc, source) {
         Ok(bytes) => answer(rt, alloc, sharing, bytes.as_slice(), sink, links),
-        Err(ReadRefusal::ReadFault) => Status::ReadFault,
-        Err(ReadRefusal::TooLong) => Status::TooLong,
-        Err(ReadRefusal::OutOfMemory) => Status::Memory,
+        Err(ReadRefusal::ReadFault) => RunOutcome::of(Status::ReadFault),
+        Err(ReadRefusal::TooLong) => RunOutcome::of(Status::TooLong),
+        Err(ReadRefusal::OutOfMemory) => RunOutcome::of(Status::Memory),
     }
 }

@@ -1,6 +1,6 @@
 -- The lines that a session takes are a script, and what they are answered is its print.
 use Rattle.std.proofs.Common.{◌≡◌, ℕ, ◌+◌, List, [], ◌∷◌, ◌++◌, Option, Some, None, Result, Ok, Err, refl, ap, ◌∙◌, false, inl, inr}
-use Rattle.std.specs.Prelude.{IfSome, map}
+use Rattle.std.specs.Prelude.{IfSome}
 use Rattle.zq_io.specs.Words.{◌>>=◌}
 use Rattle.zq_lines.specs.Split.{lines_of}
 use Rattle.zq_machine.specs.declared.call.Call.{Call}
@@ -10,7 +10,7 @@ use Rattle.zq_machine.specs.Machine.{after, step}
 use Rattle.zq_machine.specs.State.{State, opening_state}
 use Rattle.zq_lines.specs.Steps.{step_words}
 use Rattle.zq_script.specs.Head.{config_of, configured, ended, head_of, start_of}
-use Rattle.zq_script.specs.Live.{Answer, IsReplayed, all_words, answer, answers, good_answers}
+use Rattle.zq_script.specs.Live.{Answer, IsReplayed, all_words, answer, answers, good_answers, good_lines}
 use Rattle.zq_script.specs.Printing.{printed, printed_by, printed_on}
 use Rattle.zq_script.specs.Script.{Parts, onto, parts_from, script_call, script_of, with_line}
 use Rattle.zq_script.specs.Session.{Said, Spoken, Taken, fresh, opened, or_call, take_call, then}
@@ -23,10 +23,6 @@ calling s = record { state = Some s; said = None }
 -- behind the line `config`
 abbrev headed : State → Said → Spoken
 headed s c = record { state = Some s; said = Some c }
-
--- the lines that were taken
-abbrev good_lines : List Answer → List (List ℕ)
-good_lines said = map (λ a. a.line) (good_answers said)
 
 -- what they were answered
 abbrev good_words : List Answer → List ℕ

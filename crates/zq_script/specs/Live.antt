@@ -65,9 +65,13 @@ live_words lines = all_words (answers 1 fresh lines)
 abbrev pub good_answers : List Answer → List Answer
 good_answers said = filter (λ a. a.good) said
 
+-- the lines that were taken
+abbrev pub good_lines : List Answer → List (List ℕ)
+good_lines said = map (λ a. a.line) (good_answers said)
+
 -- the lines that were taken are a script, if there are any, and what they were answered is its print
 abbrev pub IsReplayed : List Answer → Type 0
-IsReplayed said = (good_answers said ≡ []) ⊎ (printed (script_of 0 (map (λ a. a.line) (good_answers said))) ≡ Ok (all_words (good_answers said)))
+IsReplayed said = (good_answers said ≡ []) ⊎ (printed (script_of 0 (good_lines said)) ≡ Ok (all_words (good_answers said)))
 
 -- each line that was read was answered, and behind them no byte was read but a front of the next, of which this holds
 abbrev pub AnswersAll : (List (List ℕ) → List ℕ → Type 0) → Option (List ℕ) → Option (List ℕ) → Option (List ℕ) → Option (List ℕ) → Type 0

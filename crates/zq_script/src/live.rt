@@ -1,8 +1,11 @@
 //! A gateway that answers each line at once.
 ghost use Rattle.std.specs.Prelude.{◌≡◌, ◌≢◌, IfOk, IfSome, OnOk};
 ghost use Rattle.zq_io.specs.Streams.{Rose};
+ghost use Rattle.zq_machine.specs.Headline.{RunPromise};
 ghost use Rattle.zq_lines.specs.Split.{lines_of};
-ghost use Rattle.zq_script.specs.Live.{LeavesLive, IsReplayed, answer_words, answers, bad_words, end_of, printed_step};
+ghost use Rattle.zq_script.specs.Live.{LeavesLive, IsReplayed, answer_words, answers, bad_words, end_of, good_lines, printed_step};
+ghost use Rattle.zq_script.specs.Running.{first_part};
+ghost use Rattle.zq_script.specs.Script.{script_of};
 ghost use Rattle.zq_script.specs.Session.{fresh, taken, then};
 
 use crate::bad::{BadLine, push_bad_line};
@@ -103,7 +106,8 @@ fn converse<S: Source, K: Sink>(
 /// Answers each line of a source at once: a line is read, its call is made, and the print of its
 /// step is given to the sink, before any byte of the next line is read. A bad line is answered
 /// `bad line N: why`, and changes nothing. It ends with the source. The lines that were taken are a
-/// script, and what they were answered is what `run` prints for it.
+/// script, what they were answered is what `run` prints for it, and its steps keep what each run
+/// promises.
 pub fn live<S: Source, K: Sink>(alloc: Global, source: &mut S, sink: &mut K) -> Status
     ensures leaves { LeavesLive result (S.left source.old) (S.left source.new) (K.taken sink.old) (K.taken sink.new) }
     ensures replayed { IfSome (S.left source.old) (λ input. IsReplayed (answers 1 fresh (lines_of input))) }
@@ -111,6 +115,7 @@ pub fn live<S: Source, K: Sink>(alloc: Global, source: &mut S, sink: &mut K) -> 
     ensures steady { result ≢ Status.ReadFault → S.faults source.new ≡ S.faults source.old }
     ensures write { result ≡ Status.WriteFault → Rose (K.faults sink.old) (K.faults sink.new) }
     ensures quiet { result ≢ Status.WriteFault → K.faults sink.new ≡ K.faults sink.old }
+    ensures headline { IfSome (S.left source.old) (λ input. IfOk (script_of 0 (good_lines (answers 1 fresh (lines_of input)))) (λ s. RunPromise s.config (first_part s.parts))) }
 {
     let mut session = Session::new();
     let status = converse(alloc, &mut session, source, sink);

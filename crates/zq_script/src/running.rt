@@ -127,7 +127,7 @@ pub fn command_of(words: &[Text]) -> Option<Command>
 }
 
 /// The line that names a bad line.
-fn print_bad_line(alloc: Global, number: u64) -> Result<Bytes, OutOfMemory>
+pub fn print_bad_line(alloc: Global, number: u64) -> Result<Bytes, OutOfMemory>
     ensures { IfOk result (λ b. b ≡ codes "bad line " ++ decimal number ++ 10 ∷ []) }
 {
     let mut out = Vec::new(alloc);

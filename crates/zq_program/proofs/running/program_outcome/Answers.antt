@@ -1,5 +1,5 @@
 use Rattle.zq_script.proofs.Promised.{promised}
-use Rattle.zq_program.proofs.running.program.Goals as goal
+use Rattle.zq_program.proofs.running.program_outcome.Goals as goal
 
 pub returns-in-Some-clause-headline : goal.returns-in-Some-clause-headline
 returns-in-Some-clause-headline g c = promised (g.S.Source.left c.args.source.now)
