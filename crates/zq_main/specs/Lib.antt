@@ -1,2 +1,1 @@
-pub mod Bad
 pub mod Words

@@ -1,24 +1,24 @@
-//! The command: replays a script from standard input to standard output, lets workers share it, makes a load, or shows a run.
+//! The command: replays a script from standard input to standard output, answers its lines one by one, looks for its bad lines, lets workers share it, makes a load, or shows a run.
 #![tactic(auto)]
 
 ghost use Rattle.std.specs.Prelude.{◌≡◌};
-ghost use Rattle.zq_main.specs.Words.{asked_of};
+ghost use Rattle.zq_main.specs.Words.{asked_of, asked_two};
 
-mod bad;
-mod kept;
-
-use bad::said_of;
-use kept::{KeptSink, KeptSource};
 use std::alloc::Global;
+use std::io::BufReader;
 use std::process::ExitCode;
 use std::rt::Env;
 use std::sync::Wait;
 use std::thread::Threads;
 use std::{env, io};
 use zq_io::streams::{ReadSource, Sink, Source, WriteSink};
+use zq_io::words::number;
 use zq_message::text::Text;
-use zq_program::program;
-use zq_script::running::Status;
+use zq_program::program_outcome;
+use zq_script::bad::BadLine;
+use zq_script::check;
+use zq_script::live::live;
+use zq_script::running::{RunOutcome, Status};
 use zq_shared::SureLink;
 use zq_show::shown::show;
 use zq_show::words::{Asked as Shown, Form, read_words as read_show_words};
@@ -26,17 +26,25 @@ use zq_show::words::{Asked as Shown, Form, read_words as read_show_words};
 const VERSION: &str = "zq 0.1.0, a port of zenoh 1.10.2's query gateway";
 
 const USAGE: &str = "usage: zq replay < SCRIPT
+       zq live < LINES
+       zq check-script [W] < SCRIPT
        zq share W SLOTS < SCRIPT
        zq load N
+       zq show [--request N] < SCRIPT
+       zq show --text [--color] < SCRIPT
 
 zq replay reads a script from standard input, one call a line, and prints what
 a gateway answers to each call and the messages that it hands out.
+zq live reads such lines, too, and answers each at once.
+zq check-script prints all bad lines of a script, and why they are bad; with W
+of one for zq share.
 zq share W SLOTS reads a script with up to W lines `worker`, 1 to 16. The calls
 behind each are made by a worker in a thread of its own, all on one gateway
 with SLOTS slots, 1 to 1024, one for each open request. It prints the calls in
 the order in which they were made, a line `--`, and what replay prints of them.
 zq load N makes the calls of N queries, 1 to 10000, and prints how many
 messages they hand out.
+zq show prints a page of a script's run, for a browser, or its lines as text.
 
   zq --help       prints this text
   zq --version    prints the version
@@ -46,44 +54,33 @@ failed, 5 no memory, 6 more than 16,777,216 bytes, 7 a link failed";
 
 const SHOW_VERSION: &str = "zq show 0.1.0";
 
-const SHOW_USAGE: &str = "usage: zq show [FILE]
-       zq show --request N [FILE]
-       zq show --text [FILE]
-
-zq show prints a page of a script's run, for a browser: each line with what it
-was answered and who was handed what, and a picture of the first hundred calls,
-or with --request of those that concern request #N. With --text it prints the
-lines as text; with colors in a terminal, unless NO_COLOR is set. Without a file
-it reads standard input. The statuses are those of zq replay.";
-
-/// What is said to a person where the words are others, and where the script has a bad line.
-#[derive(Clone, Copy)]
-struct Sayings {
-    usage: &'static str,
-    bad_line: &'static str,
-}
-
-/// Of a run.
-const RUN: Sayings = Sayings {
-    usage: USAGE,
-    bad_line: "zq: the script has a bad line; standard output names it.",
-};
-
-/// Of a run that is shown.
-const SHOW: Sayings = Sayings {
-    usage: SHOW_USAGE,
-    bad_line: "zq: the script has a bad line; what was expected there is shown.",
-};
-
 /// How many links there are: one for each worker.
 const LINKS: usize = 16;
+
+/// The most workers of a shared script.
+const WORKERS: u64 = 16;
 
 /// What the words ask for.
 enum Asked {
     Help,
     Version,
     Show,
+    Live,
+    Check(u8),
     Run,
+}
+
+fn read_two(word: &Text, other: &Text) -> Asked
+    ensures { result ≡ asked_two word.now other.now }
+{
+    match word.as_str() {
+        "check-script" => match number(WORKERS, other.as_str().as_bytes()) {
+            Some(workers) => Asked::Check(workers as u8),
+            None => Asked::Run,
+        },
+        "show" => Asked::Show,
+        _ => Asked::Run,
+    }
 }
 
 fn read_words(words: &[Text]) -> Asked
@@ -93,10 +90,13 @@ fn read_words(words: &[Text]) -> Asked
         [word] => match word.as_str() {
             "--help" => Asked::Help,
             "--version" => Asked::Version,
+            "live" => Asked::Live,
+            "check-script" => Asked::Check(0),
             "show" => Asked::Show,
             _ => Asked::Run,
         },
-        [word, _, ..] if word.as_str() == "show" => Asked::Show,
+        [word, other] => read_two(word, other),
+        [word, _, _, ..] if word.as_str() == "show" => Asked::Show,
         _ => Asked::Run,
     }
 }
@@ -120,16 +120,35 @@ fn words(rt: &(impl Env + Alloc), alloc: Global) -> Result<Vec<Text>, Status> {
 }
 
 /// One sentence for a person, where a run did not end well.
-fn sentence(sayings: Sayings, status: Status) -> &'static str {
+fn sentence(status: Status) -> &'static str {
     match status {
         Status::Done => "",
-        Status::Words => sayings.usage,
-        Status::Script => sayings.bad_line,
+        Status::Words => "zq: these words are no command; zq --help says which are.",
+        Status::Script => "zq: the script has a bad line.",
         Status::ReadFault => "zq: standard input could not be read.",
         Status::WriteFault => "zq: standard output could not be written.",
         Status::Memory => "zq: no memory was found.",
-        Status::TooLong => "zq: the script is longer than 16,777,216 bytes.",
+        Status::TooLong => "zq: more than 16,777,216 bytes were given.",
         Status::LinkFault => "zq: a link failed.",
+    }
+}
+
+fn ended(rt: &HostRuntime, status: Status) -> ExitCode {
+    if !matches!(status, Status::Done) {
+        let _ = eprintln!(rt; "{}", sentence(status));
+    }
+    ExitCode::from(status.code())
+}
+
+/// Says of a bad line why it is bad.
+fn ended_at(rt: &HostRuntime, bad: &BadLine) -> ExitCode {
+    let number = bad.number;
+    match str::from_utf8(bad.reason.as_slice()) {
+        Ok(reason) => {
+            let _ = eprintln!(rt; "zq: bad line {number}: {reason}");
+            ExitCode::from(Status::Script.code())
+        }
+        Err(_) => ended(rt, Status::Script),
     }
 }
 
@@ -140,40 +159,37 @@ fn run_words<R: Threads + Wait + Sync, S: Source, K: Sink>(
     words: &[Text],
     source: &mut S,
     sink: &mut K,
-) -> Status {
+) -> RunOutcome {
     let mut links = [SureLink::new(); LINKS];
-    program(rt, alloc, words, source, sink, &mut links)
+    program_outcome(rt, alloc, words, source, sink, &mut links)
 }
 
-/// The end of a run that gave this print for this script.
-fn ended_run(
-    rt: &HostRuntime,
-    alloc: Global,
-    status: Status,
-    print: &[u8],
-    script: &[u8],
-) -> ExitCode {
-    match (status, said_of(alloc, print, script)) {
-        (Status::Script, Ok(Some(sentence))) => ended_with(rt, status, sentence),
-        _ => ended(rt, RUN, status),
+/// How a run ended, and which line is bad, where one is.
+fn ended_run(rt: &HostRuntime, outcome: &RunOutcome) -> ExitCode {
+    match &outcome.bad_line {
+        Some(bad) => ended_at(rt, bad),
+        None => ended(rt, outcome.status),
     }
 }
 
-fn ended_with(rt: &HostRuntime, status: Status, sentence: Vec<u8>) -> ExitCode {
-    match String::from_utf8(sentence) {
-        Ok(sentence) => {
-            let _ = eprintln!(rt; "{sentence}");
-            ExitCode::from(status.code())
-        }
-        Err(_) => ended(rt, RUN, status),
-    }
+/// Answers the lines of standard input, which is read ahead where it gives more than a line.
+fn live_process(rt: &HostRuntime, alloc: Global) -> ExitCode {
+    let Ok(input) = BufReader::new(alloc, rt.stdin()) else {
+        return ended(rt, Status::Memory);
+    };
+    let mut source = ReadSource::new(input);
+    let mut sink = WriteSink::new(rt.stdout());
+    ended(rt, live(alloc, &mut source, &mut sink))
 }
 
-fn ended(rt: &HostRuntime, sayings: Sayings, status: Status) -> ExitCode {
-    if !matches!(status, Status::Done) {
-        let _ = eprintln!(rt; "{}", sentence(sayings, status));
+/// Prints the bad lines of the script on standard input; its status says whether there are any.
+fn check_process(rt: &HostRuntime, alloc: Global, workers: u8) -> ExitCode {
+    let mut source = ReadSource::new(rt.stdin());
+    let mut sink = WriteSink::new(rt.stdout());
+    match check(alloc, workers, &mut source, &mut sink) {
+        Status::Script => ExitCode::from(Status::Script.code()),
+        status => ended(rt, status),
     }
-    ExitCode::from(status.code())
 }
 
 fn say(rt: &HostRuntime, text: &str) -> ExitCode {
@@ -187,7 +203,15 @@ fn say(rt: &HostRuntime, text: &str) -> ExitCode {
 fn show_process(rt: &HostRuntime, alloc: Global, form: Form) -> ExitCode {
     let mut source = ReadSource::new(rt.stdin());
     let mut sink = WriteSink::new(rt.stdout());
-    ended(rt, SHOW, show(alloc, form, &mut source, &mut sink))
+    match show(alloc, form, &mut source, &mut sink) {
+        Status::Script => {
+            let _ = eprintln!(rt;
+                "zq: the script has a bad line; what was expected there is shown."
+            );
+            ExitCode::from(Status::Script.code())
+        }
+        status => ended(rt, status),
+    }
 }
 
 /// Does what the words behind `show` ask for.
@@ -195,28 +219,30 @@ fn show_words(rt: &HostRuntime, alloc: Global, words: &[Text]) -> ExitCode {
     match read_show_words(words) {
         Some(Shown::Version) => say(rt, SHOW_VERSION),
         Some(Shown::Run(form)) => show_process(rt, alloc, form),
-        None => ended(rt, SHOW, Status::Words),
+        None => ended(rt, Status::Words),
     }
 }
 
 fn main(rt: HostRuntime) -> ExitCode {
     let alloc = rt.alloc();
-    match words(&rt, alloc) {
-        Ok(words) => match read_words(words.as_slice()) {
-            Asked::Help => say(&rt, USAGE),
-            Asked::Version => say(&rt, VERSION),
-            Asked::Show => match words.as_slice().split_first() {
-                Some((_, rest)) => show_words(&rt, alloc, rest),
-                None => ended(&rt, SHOW, Status::Words),
-            },
-            Asked::Run => {
-                let mut source = KeptSource::new(alloc, ReadSource::new(rt.stdin()));
-                let mut sink = KeptSink::new(alloc, WriteSink::new(rt.stdout()));
-                let status = run_words(&rt, alloc, words.as_slice(), &mut source, &mut sink);
-                let (print, script) = (sink.kept.as_slice(), source.kept.as_slice());
-                ended_run(&rt, alloc, status, print, script)
-            }
+    let words = match words(&rt, alloc) {
+        Ok(words) => words,
+        Err(status) => return ended(&rt, status),
+    };
+    match read_words(words.as_slice()) {
+        Asked::Help => say(&rt, USAGE),
+        Asked::Version => say(&rt, VERSION),
+        Asked::Show => match words.as_slice().split_first() {
+            Some((_, rest)) => show_words(&rt, alloc, rest),
+            None => ended(&rt, Status::Words),
         },
-        Err(status) => ended(&rt, RUN, status),
+        Asked::Live => live_process(&rt, alloc),
+        Asked::Check(workers) => check_process(&rt, alloc, workers),
+        Asked::Run => {
+            let mut source = ReadSource::new(rt.stdin());
+            let mut sink = WriteSink::new(rt.stdout());
+            let outcome = run_words(&rt, alloc, words.as_slice(), &mut source, &mut sink);
+            ended_run(&rt, &outcome)
+        }
     }
 }

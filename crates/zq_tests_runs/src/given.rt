@@ -5,8 +5,9 @@ use std::thread::Threads;
 use zq_key::memory::OutOfMemory;
 use zq_key::text::{Bytes, Text};
 use zq_program::program;
+use zq_script::live::live;
 use zq_script::running::{Status, run};
-use zq_script::{MemorySink, MemorySource};
+use zq_script::{MemorySink, MemorySource, check};
 use zq_shared::{Link, MemoryLink};
 use zq_show::shown::show;
 use zq_show::words::Form;
@@ -60,6 +61,43 @@ pub(crate) fn ends_as(
     Ok(ended == wanted.0 && sink.taken() == wanted.1.as_bytes())
 }
 
+/// A source of these bytes, and a sink that takes pieces of 8 bytes, which fail so.
+fn streams(
+    alloc: Global,
+    given: &str,
+    fails: Fails,
+) -> Result<(MemorySource, MemorySink), OutOfMemory> {
+    let bytes = Bytes::new(alloc, given.as_bytes())?;
+    let source = MemorySource::new(bytes, vec![in alloc; fails.read]?, 1 << 20);
+    let sink = MemorySink::new(alloc, 4096, vec![in alloc; fails.write]?, 8)?;
+    Ok((source, sink))
+}
+
+/// Whether answering these lines at once ends so and wrote this. Each read is of one byte.
+pub(crate) fn lives_as(
+    alloc: Global,
+    lines: &str,
+    fails: Fails,
+    wanted: (Status, &str),
+) -> Result<bool, OutOfMemory> {
+    let (mut source, mut sink) = streams(alloc, lines, fails)?;
+    let ended = live(alloc, &mut source, &mut sink);
+    Ok(ended == wanted.0 && sink.taken() == wanted.1.as_bytes())
+}
+
+/// Whether looking at a script ends so and wrote this.
+pub(crate) fn checks_as(
+    alloc: Global,
+    workers: u8,
+    script: &str,
+    fails: Fails,
+    wanted: (Status, &str),
+) -> Result<bool, OutOfMemory> {
+    let (mut source, mut sink) = streams(alloc, script, fails)?;
+    let ended = check(alloc, workers, &mut source, &mut sink);
+    Ok(ended == wanted.0 && sink.taken() == wanted.1.as_bytes())
+}
+
 /// How the showing of a script in a form ends, and what it wrote.
 pub(crate) fn show_on(
     alloc: Global,
@@ -91,9 +129,7 @@ pub(crate) fn ends_over<L: Link + Send, R: Threads + Wait + Sync>(
     wanted: (Status, &str),
 ) -> Result<bool, OutOfMemory> {
     let words = texts(alloc, words)?;
-    let bytes = Bytes::new(alloc, script.as_bytes())?;
-    let mut source = MemorySource::new(bytes, vec![in alloc; fails.read]?, 1 << 20);
-    let mut sink = MemorySink::new(alloc, 4096, vec![in alloc; fails.write]?, 8)?;
+    let (mut source, mut sink) = streams(alloc, script, fails)?;
     let ended = program(rt, alloc, words.as_slice(), &mut source, &mut sink, links);
     Ok(ended == wanted.0 && sink.taken() == wanted.1.as_bytes())
 }
