@@ -35,6 +35,8 @@ GROUPS = {
     'threads': {
         'zq_hold': 'reference counts',
         'zq_shared': 'the lock, links',
+        'zq_journal_view': 'a journal, as seen',
+        'zq_pass': 'callers with passes',
     },
     'scripts and the command': {
         'zq_io': 'bytes and words',
@@ -54,6 +56,7 @@ OTHERS = {
         'zq_tests_hats': 'tests of regions and of selection',
         'zq_tests_calls': 'tests of calls, lines, prints and pages',
         'zq_tests_threads': 'tests of the lock and of callers in threads',
+        'zq_tests_pass': 'tests of callers with passes',
         'zq_tests_runs': 'whole scripts with their prints',
         'zq_tests_session': 'whole scripts in namespaces',
         'zq_working': 'the program that bench/share times',

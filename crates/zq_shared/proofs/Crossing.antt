@@ -101,7 +101,7 @@ journal_send = view_send _ _ _ _ _ (declared_send JournalIn.the_type (
   ),
 ))
 
-shared_send : IsSend Shared.the_row
+pub shared_send : IsSend Shared.the_row
 shared_send = view_send _ _ _ _ _ (declared_send SharedIn.the_type (
   search (send, sendable),
   (

@@ -1,12 +1,12 @@
 -- A gateway beside its calls: once one more is stored, and where memory was lacking.
-use Rattle.std.proofs.Common.{◌≡◌, ℕ, ◌+◌, ◌≤◌, List, [], ◌∷◌, ◌++◌, length, sym, ap, ◌∙◌, subst, arith}
+use Rattle.std.proofs.Common.{◌≡◌, ℕ, ◌+◌, ◌≤◌, List, [], ◌∷◌, ◌++◌, length, refl, sym, ap, ◌∙◌, subst, arith}
 use Rattle.zq_machine.specs.declared.call.Call.{Call}
 use Rattle.zq_machine.specs.Asked.{replies_of}
 use Rattle.zq_machine.specs.Configs.{Settings}
 use Rattle.zq_machine.specs.Machine.{after, state_after, step}
 use Rattle.zq_machine.specs.State.{State, opening_state}
-use Rattle.zq_shared.specs.Stored.{IsStored, flights}
-use Rattle.zq_shared.proofs.Journals.{stored_more}
+use Rattle.zq_shared.specs.Stored.{IsStored, flights, standing}
+use Rattle.zq_shared.proofs.Journals.{standing_is, stored_more}
 
 module _ (config : Settings) (gateway : State) (calls : List Call) (flying stored capacity : ℕ) (is : IsStored config gateway calls flying stored capacity) where
   -- the same, with more room
@@ -25,3 +25,12 @@ module _ (config : Settings) (gateway : State) (calls : List Call) (flying store
       subst (λ (l : List Call). IsStored config new l flying' stored' capacity') (sym more)
       (subst (λ n. IsStored config new (calls ++ c ∷ []) n stored' capacity') (sym counted)
       (stored_more config gateway calls flying stored capacity is c new (length (replies_of (step gateway c))) (length (replies_of (step gateway c))) stored' capacity' made (omega arith) (λ i. length (replies_of (step gateway c))) (omega (arith, room, counted)) long))
+
+  -- how many replies are in flight once the call is made and stored
+  pub most_flown : (c : Call) (n : ℕ) → flying + length (replies_of (step gateway c)) ≤ n → length (flights (standing (record { config = config; calls = calls ++ c ∷ [] }))) ≤ n
+  most_flown c n few =
+      let handed = length (replies_of (step gateway c)) in
+      let more = stored_more config gateway calls flying stored capacity is c (after gateway c) handed handed (stored + 1) (stored + (flying + handed + 1)) refl (omega arith) refl (omega arith) refl in
+      let flown = more.flown in
+      let same = ap (λ (s : State). length (flights s)) (standing_is (record { config = config; calls = calls ++ c ∷ [] }) ∙ sym more.stands) in
+      omega (arith, few, flown, same)

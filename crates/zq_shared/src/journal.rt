@@ -5,7 +5,7 @@ ghost use Rattle.zq_machine.specs.declared.call.Call.TheVariants as call;
 ghost use Rattle.zq_gateway.specs.Making.{Performs};
 ghost use Rattle.zq_machine.specs.Asked.{replies_of};
 ghost use Rattle.zq_machine.specs.Machine.{done, step};
-ghost use Rattle.zq_shared.specs.Stored.{answer_to, in_flight, is_flying, waiting, with_call};
+ghost use Rattle.zq_shared.specs.Stored.{answer_to, flights, in_flight, is_flying, standing, waiting, with_call};
 
 use std::alloc::Global;
 use std::marker::Model;
@@ -74,6 +74,14 @@ fn count_replies(handed: &[Handed]) -> usize
         count = more(count, is_flying(message));
     }
     count
+}
+
+/// At most how many replies are in flight once the call is made.
+fn all_flying(gateway: &Gateway, flying: usize, call: &Call) -> Result<usize, OutOfMemory>
+    ensures { IfOk result (λ n. flying + length (replies_of (step gateway.now call.now)) ≤ n) }
+{
+    let more = gateway.most_replies(call)?;
+    flying.checked_add(more).ok_or(OutOfMemory)
 }
 
 /// A number of places that holds the call and a report of each reply that is in flight behind it.
@@ -167,6 +175,13 @@ impl Journal {
         ensures { IfOk result (λ n. length (replies_of (answer_to self.now call.now)) ≤ n) }
     {
         self.gateway.most_replies(call)
+    }
+
+    /// At most how many replies are in flight once the call is made, and so how many reports may come behind it.
+    pub fn most_in_flight(&self, call: &Call) -> Result<usize, OutOfMemory>
+        ensures { IfOk result (λ n. length (flights (standing (with_call self.now call.now))) ≤ n) }
+    {
+        all_flying(&self.gateway, self.flying, call)
     }
 
     /// Makes one call, and stores it. Where memory is lacking all is as it was.

@@ -47,6 +47,7 @@ pub use link::{Link, send_all};
 pub use lock::TablesLock;
 pub use memory::{MemoryLink, SureLink};
 pub use refusal::CallRefusal;
+pub use sending::{send_on, send_one};
 pub use shared::{Shared, StepRefusal, Stepped};
 pub use tally::Tally;
 pub use zq_hold::{HoldSeat, NoSlot, SeatList, Slot};

@@ -6,7 +6,7 @@ use crate::{Link, send_all};
 use zq_machine::handed::Handed;
 
 /// Sends the messages that leave, unless there was a fault. It answers how many were sent with those before.
-pub(crate) fn send_on<L: Link>(
+pub fn send_on<L: Link>(
     link: &mut L,
     sent: Result<u64, u64>,
     messages: &[Handed],
@@ -21,7 +21,7 @@ pub(crate) fn send_on<L: Link>(
 }
 
 /// Sends a message, if it leaves and there was no fault.
-pub(crate) fn send_one<L: Link>(
+pub fn send_one<L: Link>(
     link: &mut L,
     sent: Result<u64, u64>,
     message: &Handed,

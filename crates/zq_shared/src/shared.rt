@@ -5,7 +5,7 @@ ghost use Rattle.zq_hold.specs.Marks.{HasMark};
 ghost use Rattle.zq_hold.specs.Owners.{owner_at};
 ghost use Rattle.zq_machine.specs.Calls.{is_sent};
 ghost use Rattle.zq_shared.specs.Holding.{AreHeld};
-ghost use Rattle.zq_shared.specs.Stored.{answer_to, asks_request, with_call};
+ghost use Rattle.zq_shared.specs.Stored.{answer_to, asks_request, flights, standing, with_call};
 ghost use Rattle.zq_shared.specs.Sharing.{HoldsReplies, IsFull, IsSameHolds, IsWithin, KeepsFlights, Refuses, Settles, all_spare, slot_vacated};
 
 use crate::LastList;
@@ -113,6 +113,13 @@ impl Shared {
         ensures { result.now ≡ self.now.stored.config }
     {
         self.journal.config()
+    }
+
+    /// At most how many replies are in flight once the call is made, and so how many reports may come behind it.
+    pub fn most_in_flight(&self, call: &Call) -> Result<usize, OutOfMemory>
+        ensures { IfOk result (λ n. length (flights (standing (with_call self.now.stored call.now))) ≤ n) }
+    {
+        self.journal.most_in_flight(call)
     }
 
     /// Tells a proof that no more requests wait for something than there are slots. It does nothing.

@@ -1,0 +1,4 @@
+pub mod Entries
+pub mod Passes
+pub mod Stepping
+pub mod Locking

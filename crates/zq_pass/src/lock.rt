@@ -1,0 +1,211 @@
+//! The state behind a lock.
+ghost use Rattle.std.specs.Prelude.{◌≡◌, ◌+◌, ◌<◌, ◌≤◌, ℕ, [], All, length, None, false, IfErr, IfOk, IfSome, OnErr, OnOk};
+ghost use mathlib.Core.List.{IsPrefix};
+ghost use Rattle.zq_hold.specs.Slots.{times};
+ghost use Rattle.zq_machine.specs.Calls.{is_sent};
+ghost use Rattle.zq_shared.specs.Holding.{AreHeld};
+ghost use Rattle.zq_pass.specs.Stepping.{IsMade};
+ghost use Rattle.zq_shared.specs.Answers.{IsFinal};
+ghost use Rattle.zq_shared.specs.Sending.{DeliversFinals, Sends};
+ghost use Rattle.zq_pass.specs.Locking.{IsLocked, Refuses, StepRefuses, more_stored};
+
+use crate::home::PassHome;
+use crate::locked::{Locked, Made};
+use crate::pass::Pass;
+use crate::state::PassState;
+use std::marker::PhantomData;
+use std::sync::ledger::{Book, Ledger, Share};
+use std::sync::{Mutex, Wait};
+use zq_hold::{Last, Slot};
+use zq_machine::call::{Call, Step};
+use zq_machine::handed::Handed;
+use zq_shared::{CallRefusal, LastList, Link, StepRefusal, send_on, send_one};
+
+/// The state that the name means, behind a lock, with the book of its stored calls that are no reports.
+pub struct PassLock<H: PassHome, M: Ledger> {
+    inner: Mutex<Locked<H, M>>,
+}
+
+impl<H: PassHome, M: Ledger> Drop for PassLock<H, M> {
+    fn drop(self) {
+        let PassLock { inner } = self;
+    }
+}
+
+/// What a call is answered, and its place in the journal.
+#[derive(Drop)]
+pub struct Passed {
+    /// What the call is answered, and the messages that it handed.
+    pub step: Step,
+    /// Its place; the first is 0.
+    pub place: u64,
+}
+
+impl<H: PassHome, M: Ledger> PassLock<H, M> {
+    /// Puts the state behind a lock. Takes no memory.
+    pub fn new(state: PassState, made: Book<M>) -> PassLock<H, M>
+        requires { IsLocked H.config H.home H.slots state made.total }
+    {
+        PassLock {
+            inner: Mutex::new(Locked {
+                state,
+                made,
+                home: PhantomData,
+            }),
+        }
+    }
+
+    /// Takes the lock away. Takes no memory.
+    pub(crate) fn into_state(self) -> (PassState, Book<M>)
+        ensures { IsLocked H.config H.home H.slots result.0 result.1.total }
+    {
+        let PassLock { inner } = self;
+        let Locked {
+            state,
+            made,
+            home: _,
+        } = inner.into_inner();
+        (state, made)
+    }
+
+    /// The part of a call under the lock.
+    fn step<R: Wait>(
+        &self,
+        rt: &R,
+        pass: &mut Pass,
+        made: &mut Share<M>,
+        call: Call,
+    ) -> Result<Made, StepRefusal>
+        requires home { pass.old.home ≡ H.home }
+        requires empty { pass.old.held ≡ [] }
+        requires unsent { is_sent call ≡ false }
+        requires part { 0 < made.old.parts }
+        ensures made { IfOk result (λ m. IsMade H.config pass.old.number (length pass.old.seen) pass.new.seen call m.place m.step) }
+        ensures held { IfOk result (λ m. AreHeld m.held.items pass.new.held) }
+        ensures once { OnOk result ((k : ℕ) → times k pass.new.held ≤ 1) }
+        ensures lasts { IfOk result (λ m. All (λ l. l.home ≡ H.home.holds) m.lasts.ended) }
+        ensures refused { IfErr result (StepRefuses H.slots pass.new.seen) }
+        ensures free { OnErr result (pass.new.held ≡ []) }
+        ensures pass { pass.new ≡ record pass.old { held = pass.new.held; ended = pass.new.ended; seen = pass.new.seen } }
+        ensures seen { IsPrefix pass.old.seen pass.new.seen }
+        ensures counted { OnOk result (made.new.amount ≡ made.old.amount + 1) }
+        ensures same { OnErr result (made.new.amount ≡ made.old.amount) }
+        ensures parts { made.new.parts ≡ made.old.parts }
+    {
+        self.inner.lock(rt).step(pass, made, call)
+    }
+
+    /// Settles what was released last, under the lock.
+    fn settle<R: Wait>(&self, rt: &R, pass: &Pass, last: Last) -> Option<Handed>
+        requires home { pass.now.home ≡ H.home }
+        requires last { last.home ≡ H.home.holds }
+        ensures { IfSome result (IsFinal H.config None) }
+    {
+        self.inner.lock(rt).settle(pass, last)
+    }
+
+    /// The same, and sends the final outside the lock, if it comes.
+    fn settle_one<L: Link, R: Wait>(
+        &self,
+        rt: &R,
+        pass: &Pass,
+        link: &mut L,
+        sent: Result<u64, u64>,
+        last: Last,
+    ) -> Result<u64, u64>
+        requires home { pass.now.home ≡ H.home }
+        requires last { last.home ≡ H.home.holds }
+        ensures { DeliversFinals H.config None (record { taken = L.taken link.old; faults = L.faults link.old; sent = sent }) (record { taken = L.taken link.new; faults = L.faults link.new; sent = result }) }
+    {
+        let end = self.settle(rt, pass, last);
+        match end {
+            Some(end) => send_one(link, sent, &end),
+            None => sent,
+        }
+    }
+
+    /// The same of all that is left to be settled.
+    fn settle_rest<L: Link, R: Wait>(
+        &self,
+        rt: &R,
+        pass: &Pass,
+        link: &mut L,
+        mut sent: Result<u64, u64>,
+        mut lasts: LastList,
+    ) -> Result<u64, u64>
+        requires home { pass.now.home ≡ H.home }
+        requires lasts { All (λ l. l.home ≡ H.home.holds) lasts.ended }
+        ensures { DeliversFinals H.config None (record { taken = L.taken link.old; faults = L.faults link.old; sent = sent }) (record { taken = L.taken link.new; faults = L.faults link.new; sent = result }) }
+    {
+        'lasts: while let Some(last) = lasts.take() {
+            sent = self.settle_one(rt, pass, link, sent, last);
+        }
+        lasts.end();
+        sent
+    }
+
+    /// The pass lets go all that it holds, without the lock. What it was the last to hold is settled.
+    fn release_all<L: Link, R: Wait>(
+        &self,
+        rt: &R,
+        pass: &mut Pass,
+        link: &mut L,
+        mut sent: Result<u64, u64>,
+        mut held: Vec<Slot>,
+    ) -> Result<u64, u64>
+        requires home { pass.old.home ≡ H.home }
+        requires held { AreHeld held.items pass.old.held }
+        requires once { (k : ℕ) → times k pass.old.held ≤ 1 }
+        ensures sends { DeliversFinals H.config None (record { taken = L.taken link.old; faults = L.faults link.old; sent = sent }) (record { taken = L.taken link.new; faults = L.faults link.new; sent = result }) }
+        ensures pass { pass.new ≡ record pass.old { held = []; ended = pass.new.ended } }
+    {
+        'slots: while let Some(slot) = held.pop() {
+            if let Some(last) = pass.release(slot) {
+                sent = self.settle_one(rt, pass, link, sent, last);
+            }
+        }
+        sent
+    }
+
+    /// Makes a call. It is one event under the lock, and what it hands is sent outside. At every answer the pass has seen what it had, and
+    /// more; its call stands at the place that is answered.
+    pub fn call<L: Link, R: Wait>(
+        &self,
+        rt: &R,
+        pass: &mut Pass,
+        made: &mut Share<M>,
+        link: &mut L,
+        call: Call,
+    ) -> Result<Passed, CallRefusal>
+        requires home { pass.old.home ≡ H.home }
+        requires empty { pass.old.held ≡ [] }
+        requires unsent { is_sent call ≡ false }
+        requires part { 0 < made.old.parts }
+        ensures seen { IsPrefix pass.old.seen pass.new.seen }
+        ensures made { IfOk result (λ p. IsMade H.config pass.old.number (length pass.old.seen) pass.new.seen call p.place p.step) }
+        ensures sends { IfOk result (λ p. Sends H.config None p.step.handed (L.taken link.old) (L.taken link.new)) }
+        ensures quiet { OnOk result (L.faults link.new ≡ L.faults link.old) }
+        ensures refused { IfErr result (λ e. Refuses H.config H.slots pass.old.number (length pass.old.seen) pass.new.seen call e (L.taken link.old) (L.taken link.new) (L.faults link.old) (L.faults link.new)) }
+        ensures counted { OnOk result (made.new.amount ≡ made.old.amount + 1) }
+        ensures counts { IfErr result (λ e. made.new.amount ≡ made.old.amount + more_stored e) }
+        ensures parts { made.new.parts ≡ made.old.parts }
+        ensures pass { pass.new ≡ record pass.old { ended = pass.new.ended; seen = pass.new.seen } }
+    {
+        let Made {
+            step,
+            place,
+            held,
+            lasts,
+        } = self.step(rt, pass, made, call)?;
+        let sent = send_on(link, Ok(0), step.handed.as_slice());
+        let sent = self.settle_rest(rt, pass, link, sent, lasts);
+        let sent = self.release_all(rt, pass, link, sent, held);
+        match sent {
+            Ok(_) => Ok(Passed { step, place }),
+            Err(sent) => Err(CallRefusal::LinkFault {
+                outcome: step.outcome,
+                sent,
+            }),
+        }
+    }
+}
