@@ -9,50 +9,69 @@ use std::marker::Brand;
 use std::sync::Wait;
 use std::sync::ledger::{Blank, Ledger};
 use std::test::Fail;
-use std::thread::{Threads, join};
+use std::thread::{Threads, join_mut};
 use zq_machine::call::Call;
 use zq_pass::{PassHome, PassList, PassLock, PassState};
 
 const CONFIG: &str = "config 1 10000 north:client local\n";
 
-/// Ten calls of one caller, in each of which a moment comes.
-fn make_ten<H: PassHome, M: Ledger, R: Wait>(
-    rt: &R,
-    lock: &PassLock<H, M>,
-    mut caller: Caller<M>,
-) -> Caller<M>
-    requires { IsReady H.home caller.pass caller.made.parts }
-    ensures { IsReady H.home result.pass result.made.parts }
-{
-    'moments: for now in 0..10u64 {
-        let _ = place_of(rt, lock, &mut caller, Call::Poll { now });
-    }
-    caller
+/// Where callers make their calls.
+pub(crate) trait Desk<W> {
+    /// The caller may begin.
+    ghost ready: { W → Type 0 };
+
+    /// The caller makes ten calls, in each of which a moment comes.
+    fn make_ten<R: Wait>(&self, rt: &R, caller: &mut W)
+        requires { ready caller.old }
+        ensures { ready caller.new };
 }
 
-/// Both callers at once. They are answered back.
-fn both_make<H: PassHome + Send + Sync, M: Ledger + Send + Sync, R: Threads + Wait + Sync>(
+impl<H: PassHome, M: Ledger> Desk<Caller<M>> for PassLock<H, M> {
+    ghost ready = { λ w. IsReady H.home w.pass w.made.parts };
+
+    fn make_ten<R: Wait>(&self, rt: &R, caller: &mut Caller<M>) {
+        'moments: for now in 0..10u64 {
+            let _ = place_of(rt, self, caller, Call::Poll { now });
+        }
+    }
+}
+
+/// Both callers at once.
+fn both_make<K: Desk<W> + Sync, W: Send, R: Threads + Wait + Sync>(
+    rt: &R,
+    desk: &K,
+    zero: &mut W,
+    one: &mut W,
+)
+    requires { K.ready zero.old × K.ready one.old }
+    ensures { K.ready zero.new × K.ready one.new }
+{
+    join_mut(
+        rt,
+        &mut ||
+            requires { K.ready zero.now }
+            ensures { K.ready zero.exit.now }
+        { desk.make_ten(rt, zero) },
+        &mut ||
+            requires { K.ready one.now }
+            ensures { K.ready one.exit.now }
+        { desk.make_ten(rt, one) },
+    );
+}
+
+/// The callers of a lock at once.
+fn both_on<H: PassHome + Send + Sync, M: Ledger + Send + Sync, R: Threads + Wait + Sync>(
     rt: &R,
     lock: &PassLock<H, M>,
-    zero: Caller<M>,
-    one: Caller<M>,
-) -> (Caller<M>, Caller<M>)
-    requires zero { IsReady H.home zero.pass zero.made.parts }
-    requires one { IsReady H.home one.pass one.made.parts }
-    ensures zero { IsReady H.home result.0.pass result.0.made.parts }
-    ensures one { IsReady H.home result.1.pass result.1.made.parts }
+    zero: &mut Caller<M>,
+    one: &mut Caller<M>,
+)
+    requires zero { IsReady H.home zero.old.pass zero.old.made.parts }
+    requires one { IsReady H.home one.old.pass one.old.made.parts }
+    ensures zero { IsReady H.home zero.new.pass zero.new.made.parts }
+    ensures one { IsReady H.home one.new.pass one.new.made.parts }
 {
-    join(
-        rt,
-        || -> Caller<M>
-            requires { IsReady H.home zero.pass zero.made.parts }
-            ensures { IsReady H.home result.pass result.made.parts }
-        { make_ten(rt, lock, zero) },
-        || -> Caller<M>
-            requires { IsReady H.home one.pass one.made.parts }
-            ensures { IsReady H.home result.pass result.made.parts }
-        { make_ten(rt, lock, one) },
-    )
+    both_make(rt, lock, zero, one);
 }
 
 /// Two callers of a new state, and how many calls they made.
@@ -72,17 +91,17 @@ fn made_by<H: PassHome + Send + Sync, M: Ledger + Send + Sync, R: Threads + Wait
     let second = first.split_off(1, 0);
     let (zero, one) = take_both::<H>(&mut list).ok_or("two passes")?;
     let lock = PassLock::<H, M>::new(state, book);
-    let zero = Caller {
+    let mut zero = Caller {
         alloc,
         pass: zero,
         made: first,
     };
-    let one = Caller {
+    let mut one = Caller {
         alloc,
         pass: one,
         made: second,
     };
-    let (zero, one) = both_make(rt, &lock, zero, one);
+    both_on(rt, &lock, &mut zero, &mut one);
     Ok(end_both(lock, list, zero, one).made)
 }
 

@@ -27,8 +27,20 @@ fn pass_on(first: &mut Pass, second: &mut Pass)
     second.meet(first.note());
 }
 
+/// What each has seen goes on to the next, so that the last has seen what all had.
+fn go_round(a: &mut Pass, b: &mut Pass, c: &mut Pass, d: &mut Pass)
+    requires { (a.old.home ≡ b.old.home) × (b.old.home ≡ c.old.home) × (c.old.home ≡ d.old.home) }
+    ensures homes { (a.new.home ≡ a.old.home) × (b.new.home ≡ b.old.home) × (c.new.home ≡ c.old.home) × (d.new.home ≡ d.old.home) }
+    ensures held { (a.new.held ≡ a.old.held) × (b.new.held ≡ b.old.held) × (c.new.held ≡ c.old.held) × (d.new.held ≡ d.old.held) }
+    ensures last { SeesAll a.old b.old c.old d.old d.new.seen }
+{
+    pass_on(a, b);
+    pass_on(b, c);
+    pass_on(c, d);
+}
+
 /// What each has seen goes round, until each has seen what all had.
-pub(crate) fn meet_in_ring(a: &mut Pass, b: &mut Pass, c: &mut Pass, d: &mut Pass)
+fn meet_in_ring(a: &mut Pass, b: &mut Pass, c: &mut Pass, d: &mut Pass)
     requires { (a.old.home ≡ b.old.home) × (b.old.home ≡ c.old.home) × (c.old.home ≡ d.old.home) }
     ensures homes { (a.new.home ≡ a.old.home) × (b.new.home ≡ b.old.home) × (c.new.home ≡ c.old.home) × (d.new.home ≡ d.old.home) }
     ensures held { (a.new.held ≡ a.old.held) × (b.new.held ≡ b.old.held) × (c.new.held ≡ c.old.held) × (d.new.held ≡ d.old.held) }
@@ -37,9 +49,7 @@ pub(crate) fn meet_in_ring(a: &mut Pass, b: &mut Pass, c: &mut Pass, d: &mut Pas
     ensures c { SeesAll a.old b.old c.old d.old c.new.seen }
     ensures d { SeesAll a.old b.old c.old d.old d.new.seen }
 {
-    pass_on(a, b);
-    pass_on(b, c);
-    pass_on(c, d);
+    go_round(a, b, c, d);
     pass_on(d, a);
     pass_on(a, b);
     pass_on(b, c);
