@@ -1,5 +1,5 @@
 -- The journal beside the stored calls: one call more, and some reports more.
-use Rattle.std.proofs.Common.{◌≡◌, ℕ, ◌+◌, ◌≤◌, true, false, List, [], ◌∷◌, ◌++◌, length, map, take, drop, ◌-◌, Bool, cond, Option, Some, None, refl, sym, ap, ◌∙◌, subst, inl, inr, arith, append_assoc, length-append}
+use Rattle.std.proofs.Common.{◌≡◌, ℕ, ◌+◌, ◌≤◌, true, false, List, [], ◌∷◌, ◌++◌, length, take, drop, ◌-◌, Bool, cond, Option, Some, None, refl, sym, ap, ◌∙◌, inl, inr, arith, append_assoc, length-append}
 use Rattle.std.proofs.lemmas.List.{append-nil, length-map, length-take-le, map-append, take_all}
 use Rattle.std.proofs.lemmas.Bool.{false≢true}
 use Rattle.zq_machine.specs.declared.call.Call.{Call}
@@ -12,17 +12,17 @@ use Rattle.zq_machine.specs.Configs.{Settings}
 use Rattle.zq_machine.specs.Deciding.{is_accepted, refusal_of}
 use Rattle.zq_machine.specs.Handing.{Handed}
 use Rattle.zq_machine.specs.Headline.{RefusesBy}
-use Rattle.zq_machine.specs.Machine.{after, state_after, step}
+use Rattle.zq_machine.specs.Machine.{state_after, step}
 use Rattle.zq_machine.specs.State.{State, opening_state}
 use Rattle.zq_machine.specs.TextCalls.{read}
 use Rattle.zq_machine.proofs.Children.{after_both}
-use Rattle.zq_shared.specs.Stored.{Stored, answer_to, flights, in_flight, standing, with_call}
+use Rattle.zq_shared.specs.Stored.{Stored, flights, in_flight, standing, with_call}
 use Rattle.zq_shared.specs.Ties.{Sharing}
 use Rattle.zq_shared.proofs.Flights.{flights_less, refusals}
 use Rattle.zq_shared.proofs.Journals.{answer_is, standing_is}
 use Rattle.zq_shared.specs.declared.shared.StepRefusal.{StepRefusal}
 use Rattle.zq_shared.specs.declared.shared.StepRefusal.TheVariants as refusal
-use Rattle.zq_shared.specs.Sharing.{AreDue, MaySpare, Refuses, Settles, reports, with_reports}
+use Rattle.zq_shared.specs.Sharing.{AreDue, Refuses, Settles, reports, with_reports}
 use Rattle.zq_shared.proofs.Reporting.{refused_unflown}
 use Rattle.zq_pass.specs.Entries.{Entry, IsJournal, calls_of, entries_by, made_in, owners_of}
 use Rattle.zq_pass.specs.Stepping.{PassRefuses}

@@ -1,7 +1,7 @@
 -- What the lock keeps.
-use Rattle.std.proofs.Common.{◌≡◌, ℕ, ◌+◌, ◌<◌, ◌≤◌, true, false, List, [], ◌∷◌, ◌++◌, length, Option, Some, None, refl, sym, ap, ◌∙◌, subst, inl, inr, arith, length-append}
+use Rattle.std.proofs.Common.{◌≡◌, ℕ, List, [], ◌∷◌, ◌++◌, length, Option, Some, None, refl, sym, ap, ◌∙◌, subst, inl, inr}
 use Rattle.std.specs.List.{filter}
-use Rattle.std.specs.Prelude.{◌⊎◌, IfSome, not}
+use Rattle.std.specs.Prelude.{IfSome, not}
 use Rattle.std.proofs.lemmas.List.{append-nil}
 use Rattle.std.proofs.lemmas.List.Elements.{All-cons, All-nil, filter-append}
 use Rattle.zq_machine.specs.declared.call.Call.{Call}
@@ -13,7 +13,7 @@ use Rattle.zq_machine.specs.Machine.{done}
 use Rattle.zq_shared.specs.Stored.{Stored, answer_to}
 use Rattle.zq_shared.specs.Sharing.{EndsIn, IsSameHolds, Settles, reports, with_reports}
 use Rattle.zq_pass.specs.Entries.{made_in}
-use Rattle.zq_pass.specs.Passes.{Journaled, PassId, home_of}
+use Rattle.zq_pass.specs.Passes.{Journaled, PassId}
 use Rattle.zq_shared.specs.Answers.{AllFinals, AllListed, IsFinal, MayStand, behind}
 use Rattle.zq_shared.specs.Sending.{Delivers, DeliversFinals, Mail}
 use Rattle.zq_shared.proofs.Mails.{delivers_on, finals_on}

@@ -1,5 +1,5 @@
 -- What contracts see of the state that callers with passes share, of a pass, and of a list of passes.
-use Rattle.std.specs.Prelude.{◌≡◌, ℕ, ◌+◌, List, [], ◌∷◌, ◌++◌}
+use Rattle.std.specs.Prelude.{ℕ, List, [], ◌∷◌, ◌++◌}
 use Rattle.std.proofs.Common.{zero, suc}
 use Rattle.atomic_table.specs.Seated.{TableId}
 use Rattle.zq_machine.specs.Configs.{Settings}

@@ -1,7 +1,7 @@
-use Rattle.std.proofs.Common.{◌≡◌, List, All, ◌∙◌, ap, sym, subst}
+use Rattle.std.proofs.Common.{List, All, ◌∙◌, ap, sym, subst}
 use mathlib.Core.List.{IsPrefix}
 use Rattle.zq_shared.specs.Ties.{Sharing}
-use Rattle.zq_pass.specs.Entries.{Entry, calls_of, owners_of}
+use Rattle.zq_pass.specs.Entries.{calls_of, owners_of}
 use Rattle.zq_pass.specs.Passes.{Passes, Passing, PassId}
 use Rattle.zq_pass.proofs.lock.PassLock.finish.Goals as goal
 

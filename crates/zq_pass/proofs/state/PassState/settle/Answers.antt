@@ -1,4 +1,4 @@
-use Rattle.std.proofs.Common.{◌+◌, ◌++◌, ◌≤◌, ◌-◌, List, take, drop, length, Some, ap, ◌∙◌, sym, subst}
+use Rattle.std.proofs.Common.{◌+◌, ◌++◌, ◌≤◌, List, length, Some, ap, ◌∙◌, sym, subst}
 use Rattle.std.specs.Prelude.{vec_capacity, vec_len}
 use Rattle.zq_hold.specs.Owners.{owner_at}
 use Rattle.zq_machine.specs.declared.call.Call.{Call}
