@@ -12,7 +12,7 @@ use Rattle.zq_lines.specs.Lines.{call_by, other_by}
 use Rattle.zq_script.specs.Bad.{bad_calls, bad_from, bad_line, bad_lines, first_number, is_config, stop_of, unless_call}
 use Rattle.zq_script.specs.Head.{Head, config_of, ended, head_of, start_at}
 use Rattle.zq_script.specs.Script.{Parts, made, new_part, onto, onto_parts, parts_from, script_call, script_of, with_line}
-use Rattle.zq_script.specs.Session.{Said}
+use Rattle.zq_script.specs.Conversation.{Said}
 use Rattle.zq_script.specs.declared.bad.BadLine.{BadLine}
 
 -- a line `worker` that may stand is passed over

@@ -12,10 +12,10 @@ use Rattle.zq_io.proofs.Transfers.{appends_more, appends_none, consumes_none}
 use Rattle.zq_lines.specs.Split.{lines_of}
 use Rattle.zq_script.specs.Live.{AnswersAll, AnswersFront, AnswersSome, IsTooLong, LeavesLive, after_lines, all_words, answer, answer_words, answers, end_of, live_words}
 use Rattle.zq_script.specs.Reading.{ReadsLines, ReadsPart}
-use Rattle.zq_script.specs.Session.{Spoken, Taken, fresh, taken, then}
+use Rattle.zq_script.specs.Conversation.{Spoken, Taken, fresh, taken, then}
 use Rattle.zq_script.specs.declared.running.Status.TheVariants as status
 
--- lines were read and answered: what was left and is, what was written and is, the number of the next line, and the session
+-- lines were read and answered: what was left and is, what was written and is, the number of the next line, and the conversation
 pub record Conversed (left behind old new : Option (List ℕ)) (n : ℕ) (s : Spoken) : Type 0 where
   pub lines : List (List ℕ)
   pub read : ReadsLines left behind lines

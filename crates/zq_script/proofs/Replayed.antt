@@ -1,4 +1,4 @@
--- The lines that a session takes are a script, and what they are answered is its print.
+-- The lines that a conversation takes are a script, and what they are answered is its print.
 use Rattle.std.proofs.Common.{◌≡◌, ℕ, ◌+◌, List, [], ◌∷◌, ◌++◌, Option, Some, None, Result, Ok, Err, refl, ap, ◌∙◌, false, inl, inr}
 use Rattle.std.specs.Prelude.{IfSome}
 use Rattle.zq_io.specs.Words.{◌>>=◌}
@@ -13,7 +13,7 @@ use Rattle.zq_script.specs.Head.{config_of, configured, ended, head_of, start_of
 use Rattle.zq_script.specs.Live.{Answer, IsReplayed, all_words, answer, answers, good_answers, good_lines}
 use Rattle.zq_script.specs.Printing.{printed, printed_by, printed_on}
 use Rattle.zq_script.specs.Script.{Parts, onto, parts_from, script_call, script_of, with_line}
-use Rattle.zq_script.specs.Session.{Said, Spoken, Taken, fresh, opened, or_call, take_call, then}
+use Rattle.zq_script.specs.Conversation.{Said, Spoken, Taken, fresh, opened, or_call, take_call, then}
 use Rattle.zq_script.proofs.Printed.{line_read, script_printed}
 
 -- behind all lines of the head

@@ -14,7 +14,7 @@ use Rattle.zq_script.specs.Bad.{bad_line_words}
 use Rattle.zq_script.specs.Printing.{printed}
 use Rattle.zq_script.specs.Reading.{ReadsLines, ReadsPart}
 use Rattle.zq_script.specs.Script.{script_of}
-use Rattle.zq_script.specs.Session.{Spoken, Taken, fresh, place, taken, then}
+use Rattle.zq_script.specs.Conversation.{Spoken, Taken, fresh, place, taken, then}
 use Rattle.zq_script.specs.declared.running.Status.{Status}
 use Rattle.zq_script.specs.declared.running.Status.TheVariants as status
 

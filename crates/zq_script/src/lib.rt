@@ -7,7 +7,7 @@
 //! - `running`: reads a script from a source, and gives the print of its steps to a sink.
 //! - `bad`: the bad lines of a script, and why they are bad.
 //! - `checking`: reads a script from a source, and gives its bad lines to a sink.
-//! - `session`: a gateway that is spoken to by lines.
+//! - `conversation`: a gateway that is spoken to by lines.
 //! - `reading`: lines that are read from a source one after another.
 //! - `live`: answers each line of a source at once.
 //!
@@ -16,6 +16,7 @@
 
 pub mod bad;
 mod checking;
+pub mod conversation;
 pub mod head;
 pub mod live;
 mod load;
@@ -24,7 +25,6 @@ pub mod reading;
 pub mod refusal;
 pub mod running;
 pub mod script;
-pub mod session;
 
 pub use checking::check;
 pub use load::{Counts, print_load};

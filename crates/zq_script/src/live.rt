@@ -6,12 +6,12 @@ ghost use Rattle.zq_lines.specs.Split.{lines_of};
 ghost use Rattle.zq_script.specs.Live.{LeavesLive, IsReplayed, answer_words, answers, bad_words, end_of, good_lines, printed_step};
 ghost use Rattle.zq_script.specs.Running.{first_part};
 ghost use Rattle.zq_script.specs.Script.{script_of};
-ghost use Rattle.zq_script.specs.Session.{fresh, taken, then};
+ghost use Rattle.zq_script.specs.Conversation.{fresh, taken, then};
 
 use crate::bad::{BadLine, push_bad_line};
+use crate::conversation::Conversation;
 use crate::reading::read_line;
 use crate::running::Status;
-use crate::session::Session;
 use std::alloc::{AllocError, Global};
 use zq_io::stop::Stop;
 use zq_io::streams::{Sink, Source};
@@ -43,18 +43,18 @@ fn print_bad(alloc: Global, number: u64, place: u64, line: &[u8]) -> Result<Byte
     Ok(Bytes::from_vec(print))
 }
 
-/// Gives a session the line of a number, and answers what is written for it.
+/// Gives a conversation the line of a number, and answers what is written for it.
 fn answer_line(
     alloc: Global,
-    session: &mut Session,
+    conversation: &mut Conversation,
     number: u64,
     line: &[u8],
 ) -> Result<Bytes, OutOfMemory>
-    ensures words { IfOk result (λ b. b ≡ answer_words number session.old line.now (taken session.old line.now)) }
-    ensures then { OnOk result (session.new ≡ then session.old (taken session.old line.now)) }
+    ensures words { IfOk result (λ b. b ≡ answer_words number conversation.old line.now (taken conversation.old line.now)) }
+    ensures then { OnOk result (conversation.new ≡ then conversation.old (taken conversation.old line.now)) }
 {
-    let place = session.place();
-    match session.take(alloc, line) {
+    let place = conversation.place();
+    match conversation.take(alloc, line) {
         Ok(step) => print_step(alloc, &step),
         Err(Stop::Bad) => print_bad(alloc, number, place, line),
         Err(Stop::OutOfMemory) => Err(OutOfMemory),
@@ -72,14 +72,14 @@ fn end_of(refusal: ReadRefusal) -> Status
     }
 }
 
-/// Gives a session the lines of a source, and a sink the answer to each before the next is read.
+/// Gives a conversation the lines of a source, and a sink the answer to each before the next is read.
 fn converse<S: Source, K: Sink>(
     alloc: Global,
-    session: &mut Session,
+    conversation: &mut Conversation,
     source: &mut S,
     sink: &mut K,
 ) -> Status
-    requires { session.old ≡ fresh }
+    requires { conversation.old ≡ fresh }
     ensures leaves { LeavesLive result (S.left source.old) (S.left source.new) (K.taken sink.old) (K.taken sink.new) }
     ensures read { result ≡ Status.ReadFault → Rose (S.faults source.old) (S.faults source.new) }
     ensures steady { result ≢ Status.ReadFault → S.faults source.new ≡ S.faults source.old }
@@ -93,7 +93,7 @@ fn converse<S: Source, K: Sink>(
             Ok(false) => return Status::Done,
             Err(refusal) => return end_of(refusal),
         }
-        let Ok(words) = answer_line(alloc, session, number, line.as_slice()) else {
+        let Ok(words) = answer_line(alloc, conversation, number, line.as_slice()) else {
             return Status::Memory;
         };
         if write_all(sink, words.as_slice()).is_err() {
@@ -117,8 +117,8 @@ pub fn live<S: Source, K: Sink>(alloc: Global, source: &mut S, sink: &mut K) -> 
     ensures quiet { result ≢ Status.WriteFault → K.faults sink.new ≡ K.faults sink.old }
     ensures headline { IfSome (S.left source.old) (λ input. IfOk (script_of 0 (good_lines (answers 1 fresh (lines_of input)))) (λ s. RunPromise s.config (first_part s.parts))) }
 {
-    let mut session = Session::new();
-    let status = converse(alloc, &mut session, source, sink);
-    drop(session);
+    let mut conversation = Conversation::new();
+    let status = converse(alloc, &mut conversation, source, sink);
+    drop(conversation);
     status
 }

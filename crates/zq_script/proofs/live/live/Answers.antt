@@ -1,6 +1,6 @@
 use Rattle.zq_lines.specs.Split.{lines_of}
 use Rattle.zq_script.specs.Live.{answers, good_lines}
-use Rattle.zq_script.specs.Session.{fresh}
+use Rattle.zq_script.specs.Conversation.{fresh}
 use Rattle.zq_script.proofs.Promised.{lines_promised}
 use Rattle.zq_script.proofs.Replayed.{replayed}
 use Rattle.zq_script.proofs.live.live.Goals as goal

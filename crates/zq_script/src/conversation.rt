@@ -16,21 +16,21 @@ use zq_machine::call::Step;
 use zq_machine::config::{Counters, EntryList};
 
 /// A gateway that is spoken to by lines.
-pub struct Session {
+pub struct Conversation {
     // The gateway, once a line `config` was taken.
     gateway: Option<Gateway>,
     // What that line said, while a line `start` may follow it.
     said: Option<(Zid, u64, EntryList)>,
 }
 
-impl Drop for Session {
+impl Drop for Conversation {
     fn drop(self) {
-        let Session { gateway, said } = self;
+        let Conversation { gateway, said } = self;
     }
 }
 
-impl Model for Session {
-    ghost use Rattle.zq_script.specs.Session.{Spoken};
+impl Model for Conversation {
+    ghost use Rattle.zq_script.specs.Conversation.{Spoken};
 
     ghost Value = { Spoken };
 
@@ -50,15 +50,15 @@ fn opened(alloc: Global, said: &(Zid, u64, EntryList), counters: Counters) -> Re
     }
 }
 
-impl Session {
-    ghost use Rattle.zq_script.specs.Session.{fresh, place, taken, take_call, take_config, take_start};
+impl Conversation {
+    ghost use Rattle.zq_script.specs.Conversation.{fresh, place, taken, take_call, take_config, take_start};
     ghost use Rattle.zq_script.specs.Script.{script_call};
 
     /// Before any line. Takes no memory.
-    pub fn new() -> Session
+    pub fn new() -> Conversation
         ensures { result ≡ fresh }
     {
-        Session {
+        Conversation {
             gateway: None,
             said: None,
         }
