@@ -14,12 +14,11 @@ use std::{env, io};
 use zq_io::streams::{ReadSource, Sink, Source, WriteSink};
 use zq_io::words::number;
 use zq_message::text::Text;
-use zq_program::program_outcome;
+use zq_program::{SureLink, program_outcome};
 use zq_script::bad::BadLine;
 use zq_script::check;
 use zq_script::live::live;
 use zq_script::running::{RunOutcome, Status};
-use zq_shared::SureLink;
 use zq_show::shown::show;
 use zq_show::words::{Asked as Shown, Form, read_words as read_show_words};
 

@@ -16,9 +16,8 @@ use zq_io::streams::{ReadSource, Sink, Source, WriteSink};
 use zq_io::words::number;
 use zq_machine::handed::Handed;
 use zq_message::text::Text;
-use zq_program::program;
+use zq_program::{Failed, Link, program};
 use zq_script::running::Status;
-use zq_shared::{Failed, Link};
 
 /// How many links there are: one for each worker.
 const LINKS: usize = 16;
