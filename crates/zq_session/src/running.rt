@@ -1,6 +1,5 @@
 //! Reads a script from a source, and gives to a sink what faces receive of its run in a namespace.
-ghost use Rattle.std.specs.Prelude.{◌≡◌, ◌≢◌, ◌≤◌, ◌↔◌, ◌⊎◌, ◌++◌, ◌∷◌, [], None, IfOk, IfSome, IsTrue, codes, false, length, option_copied, true};
-ghost use Rattle.std.specs.Fmt.{decimal};
+ghost use Rattle.std.specs.Prelude.{◌≡◌, ◌≢◌, ◌≤◌, ◌↔◌, ◌⊎◌, None, IfOk, IfSome, IsTrue, false, length, option_copied, true};
 ghost use Rattle.std.specs.Io.KnownBytes.{IsAtEnd};
 ghost use Rattle.zq_key.specs.Key.{is_plain as plain_of};
 ghost use Rattle.zq_lines.specs.Split.{lines_of};
@@ -12,12 +11,11 @@ ghost use Rattle.zq_io.specs.declared.transfer.TheConstants.{LIMIT};
 
 use crate::session::{print_inside, read_session};
 use std::alloc::Global;
-use zq_io::words::{push_number, push_text};
 use zq_key::memory::OutOfMemory;
 use zq_key::text::{Bytes, Text};
 use zq_key::{Key, KeyError, is_plain};
 use zq_script::refusal::ScriptRefusal;
-use zq_script::running::Status;
+use zq_script::running::{Status, print_bad_line};
 use zq_script::{ReadRefusal, Sink, Source, read_all, write_all};
 
 /// The namespace of the words `inside NS`, where it is a plain key.
@@ -28,17 +26,6 @@ fn space_of(words: &[Text]) -> Option<&str>
         [word, ns] if word.as_str() == "inside" && is_plain(ns.as_str()) => Some(ns.as_str()),
         _ => None,
     }
-}
-
-/// The line that names a bad line.
-fn print_bad_line(alloc: Global, number: u64) -> Result<Bytes, OutOfMemory>
-    ensures { IfOk result (λ b. b ≡ codes "bad line " ++ decimal number ++ 10 ∷ []) }
-{
-    let mut out = Vec::new(alloc);
-    push_text(&mut out, "bad line ")?;
-    push_number(&mut out, number)?;
-    push_text(&mut out, "\n")?;
-    Ok(Bytes::from_vec(out))
 }
 
 /// What is printed for the bytes, and the status where the print is taken.
