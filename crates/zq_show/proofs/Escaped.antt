@@ -10,8 +10,8 @@ use Rattle.percent_encoding.specs.AsciiSet.{should_percent_encode}
 use Rattle.percent_encoding.specs.declared.ascii_set.TheConstants.{CONTROLS}
 use Rattle.percent_encoding.proofs.AsciiSetLemmas.{ascii_from_kept}
 use Rattle.percent_encoding.proofs.PercentLemmas.{IsEscapeByte, All-percent_encode}
-use Rattle.zq_show.specs.Escape.{cut_words, entity, escaped, is_plain, is_printed, shown, shown_in_page, shown_short}
 use Rattle.zq_show.specs.declared.escape.TheConstants.{LABEL}
+use Rattle.zq_show.specs.Escape.{cut_words, entity, escaped, is_plain, is_printed, shown, shown_in_page, shown_short}
 
 -- the numbers below one, the greatest first
 abbrev below : ℕ → List ℕ
@@ -66,14 +66,17 @@ pub shown_is_printed : (bytes : List ℕ) → list_all is_printed (shown_in_page
 shown_is_printed bytes = printed_by (shown bytes) (All-percent_encode IsPrinted CONTROLS bytes kept_is_printed escape_is_printed)
 
 -- what stands in a picture is plain
-pub short_is_plain : (bytes : List ℕ) → list_all is_plain (shown_short bytes) ≡ true
-short_is_plain bytes = cut_is_plain (shown bytes)
+pub short_is_plain : (most : ℕ) (bytes : List ℕ) → list_all is_plain (shown_short most bytes) ≡ true
+short_is_plain most bytes = cut_is_plain (shown bytes)
   where
-    cut_is_plain : (text : List ℕ) → list_all is_plain (cut_words text) ≡ true
+    cut_is_plain : (text : List ℕ) → list_all is_plain (cut_words most text) ≡ true
     cut_is_plain text =
-        cond_both (nat_le (length text) LABEL) (escaped text) (escaped (take LABEL text) ++ codes "&#8230;") (λ w. list_all is_plain w ≡ true)
+        cond_both (nat_le (length text) most) (escaped text) (escaped (take most text) ++ codes "&#8230;") (λ w. list_all is_plain w ≡ true)
         (λ _. escaped_by is_plain entity_is_plain text)
-        (λ _. rw (list_all-append is_plain (escaped (take LABEL text)) (codes "&#8230;"), escaped_by is_plain entity_is_plain (take LABEL text)) refl)
+        (λ _. rw (list_all-append is_plain (escaped (take most text)) (codes "&#8230;"), escaped_by is_plain entity_is_plain (take most text)) refl)
+
+pub label_is_plain : (bytes : List ℕ) → list_all is_plain (shown_short LABEL bytes) ≡ true
+label_is_plain bytes = short_is_plain LABEL bytes
 
 all_printed : (bytes : List ℕ) → All IsPrinted bytes → list_all is_printed bytes ≡ true
 unfolding IsPrinted

@@ -1,5 +1,4 @@
 pub mod Escaped
 pub mod Numbers
 pub mod Ended
-pub mod Offered
 pub mod Replayed

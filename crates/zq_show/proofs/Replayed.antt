@@ -12,43 +12,44 @@ use Rattle.zq_show.specs.declared.page.BadLine.{BadLine}
 use Rattle.zq_script.specs.Head.{Head, head_of}
 use Rattle.zq_script.specs.Script.{Parts, made, onto_parts, parts_from, script_call, script_of, with_line, with_parts}
 use Rattle.zq_script.proofs.Printed.{line_read}
+use Rattle.zq_show.specs.Seen.{SeenState, no_faces}
 use Rattle.zq_show.specs.declared.entry.Entry.{Entry}
 use Rattle.zq_show.specs.declared.show.Run.{Run}
-use Rattle.zq_show.specs.Replay.{bad_by, bad_from, bad_line, bad_number, begun, calls_of, entries_from, entry_of, given, heard, lined, next, next_of, run_by, run_of, steps_of, told_calls, told_of, Adds, Shows}
+use Rattle.zq_show.specs.Replay.{bad_by, bad_from, bad_line, bad_number, begun, calls_of, entries_from, entry_of, given, lined, next, next_of, run_by, run_of, steps_of, seen_next, seen_of, Adds, Shows}
 
 -- a call of the next line is made
-pub next_entries : (n : ℕ) (s other then told : State) (line : List ℕ) (lines rest : List (List ℕ)) (c : Call) (entries more whole : List Entry) → rest ≡ line ∷ lines → script_call false line ≡ Some c → then ≡ next s c → told ≡ heard other (told_calls c) → more ≡ entries ++ entry_of s other n line c ∷ [] → entries ++ entries_from n s other rest ≡ whole → more ++ entries_from (n + 1) then told lines ≡ whole
+pub next_entries : (n : ℕ) (s : State) (other : SeenState) (then : State) (told : SeenState) (line : List ℕ) (lines rest : List (List ℕ)) (c : Call) (entries more whole : List Entry) → rest ≡ line ∷ lines → script_call false line ≡ Some c → then ≡ next s c → told ≡ seen_next s other c → more ≡ entries ++ entry_of s other n line c ∷ [] → entries ++ entries_from n s other rest ≡ whole → more ++ entries_from (n + 1) then told lines ≡ whole
 next_entries n s other then told line lines rest c entries more whole e f g h m i =
-    rw (g, h, m) (append_assoc entries (entry_of s other n line c ∷ []) (entries_from (n + 1) (next s c) (heard other (told_calls c)) lines) ∙ ap (λ (o : Option Call). entries ++ lined n s other line o (entries_from (n + 1) (next_of s o) (told_of other o) lines)) (sym f) ∙ ap (λ (ls : List (List ℕ)). entries ++ entries_from n s other ls) (sym e) ∙ i)
+    rw (g, h, m) (append_assoc entries (entry_of s other n line c ∷ []) (entries_from (n + 1) (next s c) (seen_next s other c) lines) ∙ ap (λ (o : Option Call). entries ++ lined n s other line o (entries_from (n + 1) (next_of s o) (seen_of s other o) lines)) (sym f) ∙ ap (λ (ls : List (List ℕ)). entries ++ entries_from n s other ls) (sym e) ∙ i)
 
 -- the call of a line was made
-pub adds : (n : ℕ) (line : List ℕ) (s other new told : State) (entries more : List Entry) (call : Call) (entry : Entry) → Some call ≡ script_call false line → new ≡ next s call → told ≡ heard other (told_calls call) → entry ≡ entry_of s other n line call → more ≡ entries ++ entry ∷ [] → Adds n line s other entries new told more
+pub adds : (n : ℕ) (line : List ℕ) (s : State) (other : SeenState) (new : State) (told : SeenState) (entries more : List Entry) (call : Call) (entry : Entry) → Some call ≡ script_call false line → new ≡ next s call → told ≡ seen_next s other call → entry ≡ entry_of s other n line call → more ≡ entries ++ entry ∷ [] → Adds n line s other entries new told more
 adds n line s other new told entries more call entry e f g h i =
-    record { call = call; is = sym e; made = f; hears = g; added = i ∙ ap (λ (x : Entry). entries ++ x ∷ []) h }
+    record { call = call; is = sym e; made = f; sees = g; added = i ∙ ap (λ (x : Entry). entries ++ x ∷ []) h }
 
-pub next_added : (n : ℕ) (s other new told : State) (line : List ℕ) (lines rest : List (List ℕ)) (entries more whole : List Entry) → rest ≡ line ∷ lines → Adds n line s other entries new told more → entries ++ entries_from n s other rest ≡ whole → more ++ entries_from (n + 1) new told lines ≡ whole
+pub next_added : (n : ℕ) (s : State) (other : SeenState) (new : State) (told : SeenState) (line : List ℕ) (lines rest : List (List ℕ)) (entries more whole : List Entry) → rest ≡ line ∷ lines → Adds n line s other entries new told more → entries ++ entries_from n s other rest ≡ whole → more ++ entries_from (n + 1) new told lines ≡ whole
 next_added n s other new told line lines rest entries more whole e a i =
-    next_entries n s other new told line lines rest a.call entries more whole e a.is a.made a.hears a.added i
+    next_entries n s other new told line lines rest a.call entries more whole e a.is a.made a.sees a.added i
 
--- the entries from new gateways on
-pub from_begun : {E : Type 0} (r : Result (List Entry × Option BadLine) E) (n : ℕ) (s other : State) (config : Settings) (lines : List (List ℕ)) → s ≡ begun config → other ≡ begun config → IfOk r (λ t. t.0 ≡ entries_from n s other lines) → IfOk r (λ t. t.0 ≡ entries_from n (begun config) (begun config) lines)
+-- the entries from a new gateway on
+pub from_begun : {E : Type 0} (r : Result (List Entry × Option BadLine) E) (n : ℕ) (s : State) (other : SeenState) (config : Settings) (lines : List (List ℕ)) → s ≡ begun config → other ≡ no_faces → IfOk r (λ t. t.0 ≡ entries_from n s other lines) → IfOk r (λ t. t.0 ≡ entries_from n (begun config) no_faces lines)
 from_begun (Ok t) n s other config lines e f g =
-    g ∙ ap (λ (x : State). entries_from n x other lines) e ∙ ap (λ (x : State). entries_from n (begun config) x lines) f
+    g ∙ ap (λ (x : State). entries_from n x other lines) e ∙ ap (λ (x : SeenState). entries_from n (begun config) x lines) f
 from_begun (Err x) n s other config lines e f g = tt
 
 -- a line that is no call ends the calls
-pub last_entries : (n : ℕ) (s other : State) (line : List ℕ) (lines rest : List (List ℕ)) (entries whole : List Entry) → rest ≡ line ∷ lines → script_call false line ≡ None → entries ++ entries_from n s other rest ≡ whole → entries ≡ whole
+pub last_entries : (n : ℕ) (s : State) (other : SeenState) (line : List ℕ) (lines rest : List (List ℕ)) (entries whole : List Entry) → rest ≡ line ∷ lines → script_call false line ≡ None → entries ++ entries_from n s other rest ≡ whole → entries ≡ whole
 last_entries n s other line lines rest entries whole e f i =
-    sym (append-nil entries) ∙ ap (λ (o : Option Call). entries ++ lined n s other line o (entries_from (n + 1) (next_of s o) (told_of other o) lines)) (sym f) ∙ ap (λ (ls : List (List ℕ)). entries ++ entries_from n s other ls) (sym e) ∙ i
+    sym (append-nil entries) ∙ ap (λ (o : Option Call). entries ++ lined n s other line o (entries_from (n + 1) (next_of s o) (seen_of s other o) lines)) (sym f) ∙ ap (λ (ls : List (List ℕ)). entries ++ entries_from n s other ls) (sym e) ∙ i
 
-pub ended_entries : (n : ℕ) (s other : State) (line : List ℕ) (lines rest : List (List ℕ)) (entries more whole : List Entry) → rest ≡ line ∷ lines → (script_call false line ≡ None) × (more ≡ entries) → entries ++ entries_from n s other rest ≡ whole → more ≡ whole
+pub ended_entries : (n : ℕ) (s : State) (other : SeenState) (line : List ℕ) (lines rest : List (List ℕ)) (entries more whole : List Entry) → rest ≡ line ∷ lines → (script_call false line ≡ None) × (more ≡ entries) → entries ++ entries_from n s other rest ≡ whole → more ≡ whole
 ended_entries n s other line lines rest entries more whole e f i = f.1 ∙ last_entries n s other line lines rest entries whole e f.0 i
 
 pub next_bad : (n : ℕ) (line : List ℕ) (lines rest : List (List ℕ)) (c : Call) (whole : Option BadLine) → rest ≡ line ∷ lines → script_call false line ≡ Some c → bad_from n rest ≡ whole → bad_from (n + 1) lines ≡ whole
 next_bad n line lines rest c whole e f i =
     ap (λ (o : Option Call). bad_by n line o (bad_from (n + 1) lines)) (sym f) ∙ ap (bad_from n) (sym e) ∙ i
 
-pub next_unbad : (n : ℕ) (s other new told : State) (line : List ℕ) (lines rest : List (List ℕ)) (entries more : List Entry) (whole : Option BadLine) → rest ≡ line ∷ lines → Adds n line s other entries new told more → bad_from n rest ≡ whole → bad_from (n + 1) lines ≡ whole
+pub next_unbad : (n : ℕ) (s : State) (other : SeenState) (new : State) (told : SeenState) (line : List ℕ) (lines rest : List (List ℕ)) (entries more : List Entry) (whole : Option BadLine) → rest ≡ line ∷ lines → Adds n line s other entries new told more → bad_from n rest ≡ whole → bad_from (n + 1) lines ≡ whole
 next_unbad n s other new told line lines rest entries more whole e a i = next_bad n line lines rest a.call whole e a.is i
 
 pub line_bad : (n : ℕ) (line : List ℕ) (lines rest : List (List ℕ)) (whole : Option BadLine) → rest ≡ line ∷ lines → script_call false line ≡ None → bad_from n rest ≡ whole → Some (bad_line n line) ≡ whole
@@ -74,15 +75,15 @@ abbrev Follows : State → List Entry → Option BadLine → Result Parts ℕ �
 Follows s entries bad (Ok parts) = (calls_of entries ≡ parts.0) × (steps_of entries ≡ given_all s parts.0) × (bad ≡ None)
 Follows s entries bad (Err n) = bad_number bad ≡ Some n
 
-follows_one : (n : ℕ) (s other : State) (line : List ℕ) (o : Option Call) (entries : List Entry) (bad : Option BadLine) (r : Result Parts ℕ) → Follows (next_of s o) entries bad r → Follows s (lined n s other line o entries) (bad_by n line o bad) (with_line n o r)
+follows_one : (n : ℕ) (s : State) (other : SeenState) (line : List ℕ) (o : Option Call) (entries : List Entry) (bad : Option BadLine) (r : Result Parts ℕ) → Follows (next_of s o) entries bad r → Follows s (lined n s other line o entries) (bad_by n line o bad) (with_line n o r)
 follows_one n s other line None entries bad r f = refl
 follows_one n s other line (Some c) entries bad (Ok parts) f = (ap (λ (cs : List Call). c ∷ cs) f.0, ap (λ (ts : List Step). given s c ∷ ts) f.1, f.2)
 follows_one n s other line (Some c) entries bad (Err m) f = f
 
-follows : (n : ℕ) (s other : State) (lines : List (List ℕ)) → Follows s (entries_from n s other lines) (bad_from n lines) (parts_from n false 0 lines)
+follows : (n : ℕ) (s : State) (other : SeenState) (lines : List (List ℕ)) → Follows s (entries_from n s other lines) (bad_from n lines) (parts_from n false 0 lines)
 follows n s other [] = (refl, refl, refl)
 follows n s other (line ∷ lines) =
-    rw (line_read n line lines) (follows_one n s other line (script_call false line) (entries_from (n + 1) (next_of s (script_call false line)) (told_of other (script_call false line)) lines) (bad_from (n + 1) lines) (parts_from (n + 1) false 0 lines) (follows (n + 1) (next_of s (script_call false line)) (told_of other (script_call false line)) lines))
+    rw (line_read n line lines) (follows_one n s other line (script_call false line) (entries_from (n + 1) (next_of s (script_call false line)) (seen_of s other (script_call false line)) lines) (bad_from (n + 1) lines) (parts_from (n + 1) false 0 lines) (follows (n + 1) (next_of s (script_call false line)) (seen_of s other (script_call false line)) lines))
 
 -- the parts of a script behind its head
 parts_show : (head : Head) (r : Result Parts ℕ) (run : Run) → run.head ≡ lines_of head.1 → Follows (begun head.0) run.entries run.bad r → Shows run (made head (onto_parts [] [] r))
@@ -91,7 +92,7 @@ parts_show head (Err n) run e f = f
 
 head_shows : (lines : List (List ℕ)) (head : Result Head ℕ) → Shows (run_by lines head) (with_parts 0 head)
 head_shows lines (Ok head) =
-    parts_show head (parts_from head.2 false 0 head.3) (run_by lines (Ok head)) refl (follows head.2 (begun head.0) (begun head.0) head.3)
+    parts_show head (parts_from head.2 false 0 head.3) (run_by lines (Ok head)) refl (follows head.2 (begun head.0) no_faces head.3)
 head_shows lines (Err n) = refl
 
 -- the run of lines shows the script that they are

@@ -3,7 +3,6 @@ use Rattle.std.specs.Prelude.{ℕ, ◌==◌, Bool, not, ◌&&◌, List, [], ◌�
 use Rattle.std.specs.List.{flat_map}
 use Rattle.percent_encoding.specs.Percent.{percent_encode}
 use Rattle.percent_encoding.specs.declared.ascii_set.TheConstants.{CONTROLS}
-use Rattle.zq_show.specs.declared.escape.TheConstants.{LABEL}
 
 -- what stands in a page for a byte: the entity of a byte that markup is made of, and else the byte
 abbrev pub entity : ℕ → List ℕ
@@ -27,13 +26,13 @@ shown bytes = percent_encode CONTROLS bytes
 abbrev pub shown_in_page : List ℕ → List ℕ
 shown_in_page bytes = escaped (shown bytes)
 
--- a text in a page, cut off where it is longer than a label
-abbrev pub cut_words : List ℕ → List ℕ
-cut_words text = if nat_le (length text) LABEL then escaped text else escaped (take LABEL text) ++ codes "&#8230;"
+-- a text in a page, cut off where it is longer than so many bytes
+abbrev pub cut_words : ℕ → List ℕ → List ℕ
+cut_words most text = if nat_le (length text) most then escaped text else escaped (take most text) ++ codes "&#8230;"
 
--- bytes as a label of a picture
-abbrev pub shown_short : List ℕ → List ℕ
-shown_short bytes = cut_words (shown bytes)
+-- bytes in a picture, of which no more than so many are shown
+abbrev pub shown_short : ℕ → List ℕ → List ℕ
+shown_short most bytes = cut_words most (shown bytes)
 
 -- the byte neither begins nor ends a tag or the value of an attribute
 abbrev pub is_plain : ℕ → Bool

@@ -2,10 +2,15 @@ pub mod Escape
 pub mod Numbered
 pub mod PageRows
 pub mod Choice
+pub mod Lanes
 pub mod Picture
 pub mod Page
 pub mod Plain
+pub mod Mermaid
 pub mod Answer
+pub mod Labels
+pub mod Seen
+pub mod Reasons
 pub mod Notes
 pub mod Rows
 pub mod Showing

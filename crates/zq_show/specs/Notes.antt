@@ -1,43 +1,42 @@
--- Which offers stood for a request, and whom its mode asked.
-use Rattle.std.specs.Prelude.{ℕ, ◌==◌, Bool, true, false, not, List, [], ◌∷◌, ◌++◌, Option, Some, None, codes, if◌then◌else◌, filter, map, length}
-use Rattle.std.specs.List.{flat_map, list_any}
+-- Whom a request asked, and why it did not ask others.
+use Rattle.std.specs.Prelude.{ℕ, ◌==◌, ◌&&◌, Bool, true, false, not, List, [], ◌∷◌, ◌++◌, Option, Some, None, codes, if◌then◌else◌, filter, map, length}
+use Rattle.std.specs.Fmt.{decimal}
+use Rattle.std.specs.List.{flat_map}
+use Rattle.std.specs.Option.{is_some}
 use Rattle.zq_message.specs.declared.message.FaceId.{FaceId}
 use Rattle.zq_message.specs.declared.message.Message.{Message}
 use Rattle.zq_message.specs.declared.message.Message.TheVariants as message
 use Rattle.zq_message.specs.declared.message.QueryTarget.{QueryTarget}
 use Rattle.zq_message.specs.declared.message.QueryTarget.TheVariants as target
+use Rattle.zq_message.specs.declared.message.Zid.{Zid}
 use Rattle.zq_machine.specs.declared.call.Call.{Call}
 use Rattle.zq_machine.specs.declared.call.Call.TheVariants as call
+use Rattle.zq_machine.specs.declared.call.Outcome.{Outcome}
+use Rattle.zq_machine.specs.declared.call.Outcome.TheVariants as outcome
 use Rattle.zq_machine.specs.Handing.{Handed}
 use Rattle.zq_io.specs.Words.{field}
 use Rattle.zq_io.specs.Values.{face_word}
 use Rattle.zq_show.specs.declared.entry.Entry.{Entry}
-use Rattle.zq_show.specs.declared.entry.Offers.{Offers}
+use Rattle.zq_show.specs.declared.reasons.Missed.{Missed}
+use Rattle.zq_show.specs.declared.reasons.Reason.{Reason}
+use Rattle.zq_show.specs.declared.reasons.Reason.TheVariants as reason
 
 -- the message is a request
 abbrev pub asks : Message → Bool
 asks (message.Request r) = true
 asks _ = false
 
--- what is handed is a request
-abbrev pub is_request : Handed → Bool
-is_request h = asks h.message
+-- what is handed is a request, and leaves or not
+abbrev pub is_request : Bool → Handed → Bool
+is_request leaves h = asks h.message && (if leaves then is_some h.leaves else not (is_some h.leaves))
 
 -- to whom it is handed
 abbrev pub to_of : Handed → FaceId
 to_of h = h.to
 
--- the faces that are handed a request, in order
-abbrev pub picked : List Handed → List FaceId
-picked handed = map to_of (filter is_request handed)
-
--- the face is among these
-abbrev pub is_among : List FaceId → FaceId → Bool
-is_among faces face = list_any (λ (other : FaceId). other.0 == face.0) faces
-
--- the faces that are not among others, in order
-abbrev pub others : List FaceId → List FaceId → List FaceId
-others among faces = filter (λ (face : FaceId). not (is_among among face)) faces
+-- the faces that are handed a request that leaves, or one that does not, in order
+abbrev pub picked : Bool → List Handed → List FaceId
+picked leaves handed = map to_of (filter (is_request leaves) handed)
 
 -- the numbers of faces
 abbrev pub numbers_words : List FaceId → List ℕ
@@ -47,34 +46,60 @@ numbers_words faces = flat_map (λ face. field (face_word face)) faces
 abbrev pub faces_words : List FaceId → List ℕ
 faces_words faces = if length faces == 0 then codes " none" else numbers_words faces
 
--- which offers stood: of which faces, and which of them are complete, or are of faces that did not say
-abbrev pub offers_note : Offers → List ℕ
-offers_note offers = codes "faces with an offer on this key:" ++ faces_words offers.all ++ codes "; complete, or not known to be:" ++ faces_words offers.complete
+-- the faces whose exits let nothing out
+unfoldable pub stop_words : List FaceId → List ℕ
+stop_words faces = codes "; stopped at the exit:" ++ numbers_words faces
+
+-- the faces whose exits let nothing out, if there are any
+unfoldable pub stopped_words : List FaceId → List ℕ
+stopped_words faces = if length faces == 0 then [] else stop_words faces
 
 -- what a mode asks, in each region
 abbrev pub mode_words : QueryTarget → List ℕ
 mode_words target.All = codes "`all` asks each; asked faces:"
 mode_words target.AllComplete = codes "`complete` asks those that are complete, or not known to be; asked faces:"
-mode_words target.BestMatching = codes "`best` asks in each region the nearest complete one, or all where none is known to be complete; asked faces:"
+mode_words target.BestMatching = codes "`best` asks in each region the nearest complete one, or all if none is; asked faces:"
 
--- the faces that were asked, and those of the offers that were not
-unfoldable pub asked_words : List FaceId → List FaceId → List ℕ
-asked_words offers faces = faces_words faces ++ codes "; not asked:" ++ faces_words (others faces offers)
+-- whom the mode asked, and whom it would have but for the exit
+abbrev pub asked_note : QueryTarget → List Handed → List ℕ
+asked_note target handed = mode_words target ++ faces_words (picked true handed) ++ stopped_words (picked false handed)
 
--- whom the mode asked of those, and whom not
-abbrev pub asked_note : QueryTarget → List FaceId → List FaceId → List ℕ
-asked_note target offers faces = mode_words target ++ asked_words offers faces
+-- the gateway that carries a request between two regions
+unfoldable pub carrier_words : Zid → List ℕ
+carrier_words zid = codes "by the list of gateways it is carried by gateway " ++ decimal zid.0
 
--- the notes of a request: which offers stood for it, and whom its mode asked of them
-abbrev pub note_list : QueryTarget → Offers → List Handed → List (List ℕ)
-note_list target offers handed = offers_note offers ∷ asked_note target offers.all (picked handed) ∷ []
+-- which gateway carries a request between two regions, or that none does
+abbrev pub carried_words : Option Zid → List ℕ
+carried_words (Some zid) = carrier_words zid
+carried_words None = codes "who asks is itself in the list of gateways"
 
--- the notes of a call, if it was asked which offers stood for it
-abbrev pub notes_by : Option Offers → Call → List Handed → List (List ℕ)
-notes_by None c handed = []
-notes_by (Some offers) (call.Request face request now) handed = note_list request.target offers handed
-notes_by (Some offers) _ handed = []
+-- why a queryable was not asked
+abbrev pub reason_words : Reason → List ℕ
+reason_words reason.Denied = codes "the asker may not ask for this key (entry deny list)"
+reason_words reason.Own = codes "its face is the asker's own"
+reason_words reason.Region = codes "its region offers nothing to its own faces"
+reason_words (reason.Carried carrier) = carried_words carrier
+reason_words reason.Incomplete = codes "it is not complete on the key"
+reason_words reason.Farther = codes "another is the nearest complete one"
+reason_words reason.Earlier = codes "its face is asked by an earlier offer"
+
+-- ids
+abbrev pub ids_words : List ℕ → List ℕ
+ids_words ids = flat_map (λ id. codes " " ++ decimal id) ids
+
+-- who declared a key: a face under ids, or a router behind it
+unfoldable pub owner_words : List ℕ → List ℕ
+owner_words ids = if length ids == 0 then codes "a router behind" else codes "queryable" ++ ids_words ids ++ codes " of"
+
+-- what was not asked, and why
+unfoldable pub missed_note : Missed → List ℕ
+missed_note m = codes "not asked: " ++ owner_words m.ids ++ codes " face " ++ decimal m.face.0 ++ codes " on " ++ m.key ++ codes ": " ++ reason_words m.reason
+
+-- the notes of a request that was accepted
+abbrev pub notes_by : Outcome → Call → List Handed → List Missed → List (List ℕ)
+notes_by (outcome.Asked n) (call.Request face request now) handed missed = asked_note request.target handed ∷ map missed_note missed
+notes_by _ _ handed missed = []
 
 -- the notes of a call
 abbrev pub notes_of : Entry → List (List ℕ)
-notes_of entry = notes_by entry.offers entry.call entry.step.handed
+notes_of entry = notes_by entry.step.outcome entry.call entry.step.handed entry.missed

@@ -8,7 +8,7 @@ use Rattle.zq_show.specs.declared.page.Shown.{Shown}
 use Rattle.zq_show.specs.declared.page.TheConstants.{BEGIN, LEGEND}
 use Rattle.zq_show.specs.declared.row.Row.{Row}
 use Rattle.zq_show.specs.Escape.{shown_in_page}
-use Rattle.zq_show.specs.Choice.{has_line, lanes_of}
+use Rattle.zq_show.specs.Choice.{has_line}
 use Rattle.zq_show.specs.Picture.{picture_words}
 
 -- a text between words of the page's own
@@ -71,10 +71,6 @@ abbrev pub bad_words : Option BadLine → List ℕ
 bad_words None = []
 bad_words (Some bad) = bad_line_words bad
 
--- the picture of the rows, with a lane for each face that they name
-unfoldable pub drawn_words : List Row → List ℕ
-drawn_words rows = picture_words (lanes_of rows) rows
-
 -- what stands before the lists of a page
 unfoldable pub begin_words : List ℕ
 begin_words = BEGIN.now
@@ -90,7 +86,7 @@ head_words shown = begin_words ++ list_words shown.head ++ codes "<h2>Faces</h2>
 -- the picture, with what it shows of the run
 unfoldable pub scene_words : Shown → List ℕ
 scene_words shown =
-    said_words (codes "<h2>Picture</h2><p>") shown.scope (codes "</p>") ++ legend_words ++ drawn_words shown.rows ++ codes "</div><h2>Lines</h2><ol class='lines'>"
+    said_words (codes "<h2>Picture</h2><p>") shown.scope (codes "</p>") ++ legend_words ++ picture_words shown.lanes shown.rows ++ codes "</div><h2>Lines</h2><ol class='lines'>"
 
 -- the page of a run
 abbrev pub page_words : Shown → List ℕ

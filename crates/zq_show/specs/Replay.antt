@@ -1,15 +1,11 @@
 -- The run of a script, as it is shown: each line's call with what a gateway answered it.
-use Rattle.std.specs.Prelude.{◌≡◌, ℕ, ◌+◌, Bool, false, true, if◌then◌else◌, List, [], ◌∷◌, ◌++◌, Option, Some, None, Result, Ok, Err, map}
-use Rattle.std.specs.Option.{option_map}
+use Rattle.std.specs.Prelude.{◌≡◌, ℕ, ◌+◌, false, List, [], ◌∷◌, ◌++◌, Option, Some, None, Result, Ok, Err, map}
+use Rattle.std.specs.Option.{option_map, option_map_or}
 use Rattle.zq_message.specs.declared.message.FaceId.{FaceId}
-use Rattle.zq_message.specs.declared.message.QueryTarget.{QueryTarget}
-use Rattle.zq_message.specs.declared.message.QueryTarget.TheVariants as target
 use Rattle.zq_message.specs.declared.message.Request.{Request}
 use Rattle.zq_lines.specs.Split.{lines_of}
 use Rattle.zq_machine.specs.declared.call.Call.{Call}
 use Rattle.zq_machine.specs.declared.call.Call.TheVariants as call
-use Rattle.zq_machine.specs.declared.call.Outcome.{Outcome}
-use Rattle.zq_machine.specs.declared.call.Outcome.TheVariants as outcome
 use Rattle.zq_machine.specs.declared.call.Step.{Step}
 use Rattle.zq_machine.specs.Configs.{Settings}
 use Rattle.zq_machine.specs.Machine.{after, step, steps}
@@ -19,9 +15,10 @@ use Rattle.zq_script.specs.Head.{Head, head_of}
 use Rattle.zq_script.specs.Running.{first_part}
 use Rattle.zq_script.specs.Script.{script_call}
 use Rattle.zq_script.specs.declared.script.Script.{Script}
-use Rattle.zq_show.specs.Notes.{picked}
+use Rattle.zq_show.specs.Reasons.{missed_for}
+use Rattle.zq_show.specs.Seen.{SeenState, no_faces, noticed, withdrawn}
+use Rattle.zq_show.specs.declared.reasons.Missed.{Missed}
 use Rattle.zq_show.specs.declared.entry.Entry.{Entry}
-use Rattle.zq_show.specs.declared.entry.Offers.{Offers}
 use Rattle.zq_show.specs.declared.show.Run.{Run}
 use Rattle.zq_lines.specs.Why.{reason}
 
@@ -37,100 +34,51 @@ next s c = after s c
 unfoldable pub given : State → Call → Step
 given s c = step s c
 
--- the state after calls
-unfoldable pub heard : State → List Call → State
-heard s [] = s
-heard s (c ∷ cs) = heard (next s c) cs
-
 -- the state after the call of a line, if it is one
 abbrev pub next_of : State → Option Call → State
 next_of s None = s
 next_of s (Some c) = next s c
-
--- the request with another target, and without its payload
-abbrev pub with_target : QueryTarget → Request → Request
-with_target target r = record { id = r.id; wire = r.wire; target = target; timeout = r.timeout; node = r.node; qos = r.qos; payload = [] }
-
--- the call that asks where a request would go with a target
-unfoldable pub question : QueryTarget → FaceId → Request → Call
-question target face r = call.Request face (with_target target r) 0
-
--- what the other gateway is asked before a request
-abbrev pub questions : FaceId → Request → List Call
-questions face r = question target.All face r ∷ question target.AllComplete face r ∷ []
 
 -- who asks what, if the call is a request
 abbrev pub asking : Call → Option (FaceId × Request)
 asking (call.Request face r now) = Some (face, r)
 asking _ = None
 
--- the other gateway hears the call: it is no request, no reply and no final, reports no reply, and is no moment that comes
-abbrev pub is_heard : Call → Bool
-is_heard (call.Request face r now) = false
-is_heard (call.Response face r) = false
-is_heard (call.ResponseFinal face rid) = false
-is_heard (call.Sent reply) = false
-is_heard (call.Poll now) = false
-is_heard _ = true
+-- what a call does not ask, if it is a request
+unfoldable pub missed_of : State → SeenState → Call → List Missed
+missed_of s seen c = option_map_or (λ (asked : FaceId × Request). missed_for s.core.hats s.core.config.zid seen asked.0 asked.1) (asking c) []
 
--- what the other gateway hears before a call that asks so
-abbrev pub told_by : Option (FaceId × Request) → Call → List Call
-told_by (Some asked) c = questions asked.0 asked.1
-told_by None c = if is_heard c then c ∷ [] else []
+-- what is seen after a call
+unfoldable pub seen_next : State → SeenState → Call → SeenState
+seen_next s seen c = noticed (next s c).core.hats (withdrawn s.core.hats seen.faces c) c (given s c) seen
 
--- what the other gateway hears before a call: the questions of a request, or the call, or nothing
-abbrev pub told_calls : Call → List Call
-told_calls c = told_by (asking c) c
+-- a call of a line with what it gives in a state, and what it does not ask
+abbrev pub entry_of : State → SeenState → ℕ → List ℕ → Call → Entry
+entry_of s seen number line c = record { number = number; text = line; call = c; step = given s c; missed = missed_of s seen c }
 
--- the faces that a state hands the requests of a call to
-unfoldable pub faces_asked : State → Call → List FaceId
-faces_asked s c = picked (given s c).handed
-
--- which offers stand in a state for a request
-unfoldable pub offers_of : State → FaceId → Request → Offers
-offers_of s face r =
-    record {
-      all = faces_asked s (question target.All face r);
-      complete = faces_asked (next s (question target.All face r)) (question target.AllComplete face r);
-    }
-
--- which offers stand in a state for a call, if it is a request
-abbrev pub offers_for : State → Call → Option Offers
-offers_for s c = option_map (λ (asked : FaceId × Request). offers_of s asked.0 asked.1) (asking c)
-
--- the offers, where a request was accepted
-abbrev pub offers_by : Outcome → Option Offers → Option Offers
-offers_by (outcome.Asked number) offers = offers
-offers_by _ offers = None
-
--- a call of a line with what it gives in a state, and the offers that stand in the other gateway's
-abbrev pub entry_of : State → State → ℕ → List ℕ → Call → Entry
-entry_of s other number line c =
-    record { number = number; text = line; call = c; step = given s c; offers = offers_by (given s c).outcome (offers_for other c) }
-
--- the other gateway's state after a line
-abbrev pub told_of : State → Option Call → State
-told_of other None = other
-told_of other (Some c) = heard other (told_calls c)
+-- what is seen after the call of a line, if it is one
+abbrev pub seen_of : State → SeenState → Option Call → SeenState
+seen_of s seen None = seen
+seen_of s seen (Some c) = seen_next s seen c
 
 -- a line before what is shown of the later ones; one that is no call ends what is shown
-abbrev pub lined : ℕ → State → State → List ℕ → Option Call → List Entry → List Entry
-lined number s other line None later = []
-lined number s other line (Some c) later = entry_of s other number line c ∷ later
+abbrev pub lined : ℕ → State → SeenState → List ℕ → Option Call → List Entry → List Entry
+lined number s seen line None later = []
+lined number s seen line (Some c) later = entry_of s seen number line c ∷ later
 
--- the calls of lines from this number on with what they give, from the two gateways' states on, up to the first line that is no call
-abbrev pub entries_from : ℕ → State → State → List (List ℕ) → List Entry
-entries_from number s other [] = []
-entries_from number s other (line ∷ lines) =
-    lined number s other line (script_call false line) (entries_from (number + 1) (next_of s (script_call false line)) (told_of other (script_call false line)) lines)
+-- the calls of lines from this number on with what they give, from a state and what was seen on, up to the first line that is no call
+abbrev pub entries_from : ℕ → State → SeenState → List (List ℕ) → List Entry
+entries_from number s seen [] = []
+entries_from number s seen (line ∷ lines) =
+    lined number s seen line (script_call false line) (entries_from (number + 1) (next_of s (script_call false line)) (seen_of s seen (script_call false line)) lines)
 
--- the call of a line was made: what it gave stands behind the entries, and both gateways went on
-pub record Adds (number : ℕ) (line : List ℕ) (s other : State) (entries : List Entry) (new told : State) (more : List Entry) : Type 0 where
+-- the call of a line was made: what it gave stands behind the entries, and the gateway and what is seen of it went on
+pub record Adds (number : ℕ) (line : List ℕ) (s : State) (seen : SeenState) (entries : List Entry) (new : State) (saw : SeenState) (more : List Entry) : Type 0 where
   pub call : Call
   pub is : script_call false line ≡ Some call
   pub made : new ≡ next s call
-  pub hears : told ≡ heard other (told_calls call)
-  pub added : more ≡ entries ++ entry_of s other number line call ∷ []
+  pub sees : saw ≡ seen_next s seen call
+  pub added : more ≡ entries ++ entry_of s seen number line call ∷ []
 
 -- the line of a number that could not be read, with what was expected there
 abbrev pub bad_line : ℕ → List ℕ → BadLine
@@ -157,7 +105,7 @@ run_by lines (Ok head) =
     record {
       head = lines_of head.1;
       timeout = head.0.timeout;
-      entries = entries_from head.2 (begun head.0) (begun head.0) head.3;
+      entries = entries_from head.2 (begun head.0) no_faces head.3;
       bad = bad_from head.2 head.3;
     }
 run_by lines (Err number) = record { head = []; timeout = 0; entries = []; bad = Some (bad_line number (first_line lines)) }

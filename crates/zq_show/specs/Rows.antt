@@ -1,5 +1,5 @@
 -- The rows of a picture: one for a call, and one for each message that it hands.
-use Rattle.std.specs.Prelude.{ℕ, ◌+◌, ◌-◌, ◌^◌, Bool, true, false, List, [], ◌∷◌, ◌++◌, Option, Some, None, codes, if◌then◌else◌, map, min}
+use Rattle.std.specs.Prelude.{ℕ, ◌+◌, ◌-◌, ◌^◌, Bool, true, false, List, [], ◌∷◌, ◌++◌, Option, Some, None, codes, if◌then◌else◌, map, min, is_none}
 use Rattle.std.specs.List.{flat_map}
 use Rattle.std.specs.Option.{unwrap_or}
 use Rattle.zq_message.specs.declared.message.Message.{Message}
@@ -10,15 +10,14 @@ use Rattle.zq_machine.specs.declared.call.Outcome.{Outcome}
 use Rattle.zq_machine.specs.declared.call.Outcome.TheVariants as outcome
 use Rattle.zq_machine.specs.declared.call.Step.{Step}
 use Rattle.zq_machine.specs.Handing.{Handed}
-use Rattle.zq_lines.specs.CallLines.{call_words}
-use Rattle.zq_lines.specs.Steps.{message_words}
 use Rattle.zq_show.specs.declared.row.Event.{Event}
 use Rattle.zq_show.specs.declared.row.Event.TheVariants as event
 use Rattle.zq_show.specs.declared.row.Kind.{Kind}
 use Rattle.zq_show.specs.declared.row.Kind.TheVariants as kind
 use Rattle.zq_show.specs.declared.row.Row.{Row}
 use Rattle.zq_show.specs.declared.entry.Entry.{Entry}
-use Rattle.zq_show.specs.Answer.{is_refused, number_tag, tag_words}
+use Rattle.zq_show.specs.Answer.{is_refused, number_tag}
+use Rattle.zq_show.specs.Labels.{call_label as read_call, message_label}
 
 -- the stroke of a call
 abbrev pub call_kind : Call → Kind
@@ -87,9 +86,9 @@ abbrev pub asked_tag : Outcome → List ℕ
 asked_tag (outcome.Asked n) = number_tag (Some n)
 asked_tag _ = []
 
--- what stands beside the arrow of a call: its words, behind the number of the request that it made
+-- what stands beside the arrow of a call: what a person reads of it, behind the number of the request that it made
 abbrev pub call_label : Call → Outcome → List ℕ
-call_label c o = asked_tag o ++ call_words c
+call_label c o = asked_tag o ++ read_call c
 
 -- the row of a call
 abbrev pub call_row : Entry → Row
@@ -100,6 +99,7 @@ call_row entry =
       face = call_face entry.step.outcome entry.call;
       handed = false;
       refused = is_refused entry.step.outcome;
+      stopped = false;
       event = call_event (is_refused entry.step.outcome) entry.call;
       request = request_of entry.step;
       label = call_label entry.call entry.step.outcome;
@@ -148,14 +148,17 @@ event_by _ until h = event.Nothing
 abbrev pub handed_event : ℕ → Handed → Event
 handed_event until h = event_by h.message until h
 
--- whether nothing leaves of a message
-abbrev pub leaves_tag : Option Message → List ℕ
-leaves_tag None = codes "(does not leave) "
-leaves_tag (Some m) = []
+-- nothing leaves of what is handed
+abbrev pub is_stopped : Handed → Bool
+is_stopped h = is_none h.leaves
 
--- what stands beside the arrow of a message: its words, behind the numbers that it is of
+-- whether nothing leaves of a message
+abbrev pub leaves_tag : Bool → List ℕ
+leaves_tag stopped = if stopped then codes "stopped at the exit: " else []
+
+-- what stands beside the arrow of a message: what a person reads of it, behind the number of its request
 abbrev pub handed_label : Handed → List ℕ
-handed_label h = leaves_tag h.leaves ++ tag_words h ++ message_words h.message
+handed_label h = number_tag h.number ++ leaves_tag (is_stopped h) ++ message_label h.message
 
 -- the row of a message that a line's call handed, whose requests are pending up to a moment
 abbrev pub handed_row : ℕ → ℕ → Handed → Row
@@ -166,6 +169,7 @@ handed_row number until h =
       face = Some h.to.0;
       handed = true;
       refused = false;
+      stopped = is_stopped h;
       event = handed_event until h;
       request = h.number;
       label = handed_label h;

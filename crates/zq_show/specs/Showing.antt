@@ -1,5 +1,5 @@
 -- What is shown of a run.
-use Rattle.std.specs.Prelude.{ℕ, Bool, true, false, List, [], ◌∷◌, ◌++◌, Option, Some, None, codes, if◌then◌else◌, nat_le, map, take, length}
+use Rattle.std.specs.Prelude.{ℕ, Bool, List, [], ◌∷◌, ◌++◌, Option, Some, None, codes, if◌then◌else◌, nat_le, map, take, length, filter, is_none, ◌||◌}
 use Rattle.std.specs.List.{flat_map}
 use Rattle.std.specs.Fmt.{decimal}
 use Rattle.zq_machine.specs.declared.call.Outcome.{Outcome}
@@ -9,7 +9,8 @@ use Rattle.zq_lines.specs.CallLines.{call_words}
 use Rattle.zq_show.specs.declared.page.Line.{Line}
 use Rattle.zq_show.specs.declared.page.Shown.{Shown}
 use Rattle.zq_show.specs.declared.row.Row.{Row}
-use Rattle.zq_show.specs.Choice.{chosen}
+use Rattle.zq_show.specs.Choice.{chosen, has_line}
+use Rattle.zq_show.specs.Lanes.{lanes_shown}
 use Rattle.zq_show.specs.declared.entry.Entry.{Entry}
 use Rattle.zq_show.specs.declared.show.Run.{Run}
 use Rattle.zq_show.specs.declared.show.TheConstants.{DRAWN}
@@ -33,9 +34,13 @@ line_of entry =
       messages = handed_texts entry.step.handed;
     }
 
--- what is shown of the calls, each once and in order
-abbrev pub lines_of : List Entry → List Line
-lines_of entries = map line_of entries
+-- a call is shown: each, or where a request is, one that has a row
+abbrev pub is_shown : Option ℕ → List Row → Entry → Bool
+is_shown request rows entry = is_none request || has_line entry.number rows
+
+-- what is shown of the calls, each once and in order: of all, or of those that concern a request
+abbrev pub lines_shown : Option ℕ → List Row → List Entry → List Line
+lines_shown request rows entries = map line_of (filter (is_shown request rows) entries)
 
 -- a face by its number and the call that opened it
 abbrev pub face_text : ℕ → Entry → List ℕ
@@ -61,7 +66,7 @@ rows_shown (Some request) timeout entries = chosen request (all_rows timeout ent
 
 -- which of the calls a picture shows
 abbrev pub scope_words : Option ℕ → ℕ → List ℕ
-scope_words (Some request) calls = codes "The picture shows the calls that concern request #" ++ decimal request ++ codes "."
+scope_words (Some request) calls = codes "The picture and the lines are of the calls that concern request #" ++ decimal request ++ codes "."
 scope_words None calls = if nat_le calls DRAWN then codes "The picture shows all calls." else codes "The picture shows the first 100 calls; `zq show --request N` draws those of request #N."
 
 -- what is shown of a run
@@ -70,8 +75,9 @@ shown_of run request =
     record {
       head = run.head;
       faces = face_lines run.entries;
-      lines = lines_of run.entries;
+      lines = lines_shown request (rows_shown request run.timeout run.entries) run.entries;
       bad = run.bad;
       scope = scope_words request (length run.entries);
+      lanes = lanes_shown run.entries (rows_shown request run.timeout run.entries);
       rows = rows_shown request run.timeout run.entries;
     }

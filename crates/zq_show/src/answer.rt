@@ -40,7 +40,7 @@ pub fn is_refused(outcome: Outcome) -> bool
 }
 
 /// Writes a name and a number.
-fn push_named(out: &mut Vec<u8>, name: &str, number: u64) -> Result<(), AllocError>
+pub fn push_named(out: &mut Vec<u8>, name: &str, number: u64) -> Result<(), AllocError>
     ensures { OnOk result (out.new.items ≡ out.old.items ++ named name.now number) }
 {
     push_text(out, name)?;

@@ -1,5 +1,6 @@
 //! A call of a run with what it gave.
 
+use crate::reasons::MissedList;
 use zq_key::items::Items;
 use zq_key::message::FaceId;
 use zq_key::text::Bytes;
@@ -7,15 +8,6 @@ use zq_machine::call::{Call, Step};
 
 /// Faces, in order.
 pub type FaceList = Items<FaceId>;
-
-/// The faces that a request would be handed to, had it another target: which offers stood for it.
-#[derive(Drop)]
-pub struct Offers {
-    /// The faces with the target `all`.
-    pub all: FaceList,
-    /// The faces with the target `complete`.
-    pub complete: FaceList,
-}
 
 /// A call of a run.
 #[derive(Drop)]
@@ -28,8 +20,8 @@ pub struct Entry {
     pub call: Call,
     /// What it gave.
     pub step: Step,
-    /// Which offers stood for it, if it is a request of which this was asked.
-    pub offers: Option<Offers>,
+    /// What was declared on keys that meet its own and was not asked, if it is a request.
+    pub missed: MissedList,
 }
 
 /// Calls of a run, in order.

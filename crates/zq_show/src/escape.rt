@@ -9,7 +9,7 @@ use std::alloc::{AllocError, Global};
 use zq_io::words::{push_byte, push_text};
 
 /// The bytes that a label in a picture has at most.
-pub const LABEL: usize = 52;
+pub const LABEL: usize = 40;
 
 /// Writes a byte, or the entity in its place.
 fn push_entity(out: &mut Vec<u8>, byte: u8) -> Result<(), AllocError>
@@ -64,23 +64,28 @@ pub fn push_in_page(alloc: Global, out: &mut Vec<u8>, bytes: &[u8]) -> Result<()
 }
 
 /// Writes a text with its markup escaped, cut off behind so many bytes where it is longer.
-fn push_cut(out: &mut Vec<u8>, text: &[u8]) -> Result<(), AllocError>
-    ensures { OnOk result (out.new.items ≡ out.old.items ++ cut_words text.now) }
+fn push_cut(out: &mut Vec<u8>, most: usize, text: &[u8]) -> Result<(), AllocError>
+    ensures { OnOk result (out.new.items ≡ out.old.items ++ cut_words most text.now) }
 {
-    if text.len() <= LABEL {
+    if text.len() <= most {
         return push_escaped(out, text);
     }
-    let (front, _) = text.split_at(LABEL);
+    let (front, _) = text.split_at(most);
     push_escaped(out, front)?;
     push_text(out, "&#8230;")
 }
 
-/// Writes bytes into a picture, as a label of which no more than the first `LABEL` bytes are shown.
-pub fn push_short(alloc: Global, out: &mut Vec<u8>, bytes: &[u8]) -> Result<(), AllocError>
-    ensures { OnOk result (out.new.items ≡ out.old.items ++ shown_short bytes.now) }
+/// Writes bytes into a picture, of which no more than so many are shown.
+pub fn push_short(
+    alloc: Global,
+    out: &mut Vec<u8>,
+    most: usize,
+    bytes: &[u8],
+) -> Result<(), AllocError>
+    ensures { OnOk result (out.new.items ≡ out.old.items ++ shown_short most bytes.now) }
 {
     let text = shown_of(alloc, bytes)?;
-    push_cut(out, text.as_slice())
+    push_cut(out, most, text.as_slice())
 }
 
 /// Bytes as they stand in a page: no byte of them ends or begins markup, and none is a control byte.
@@ -96,13 +101,13 @@ pub fn in_page(alloc: Global, bytes: &[u8]) -> Result<Vec<u8>, AllocError>
 }
 
 /// Bytes as they stand in a picture: no byte of them ends or begins markup.
-#[tactic(auto, using(crate::proofs::Escaped::short_is_plain))]
+#[tactic(auto, using(crate::proofs::Escaped::label_is_plain))]
 pub fn in_picture(alloc: Global, bytes: &[u8]) -> Result<Vec<u8>, AllocError>
-    ensures value { IfOk result (λ v. v.items ≡ shown_short bytes.now) }
+    ensures value { IfOk result (λ v. v.items ≡ shown_short LABEL bytes.now) }
     ensures plain { IfOk result (λ v. list_all is_plain v.items ≡ true) }
 {
     let mut out = Vec::new(alloc);
-    push_short(alloc, &mut out, bytes)?;
+    push_short(alloc, &mut out, LABEL, bytes)?;
     Ok(out)
 }
 

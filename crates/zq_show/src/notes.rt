@@ -1,56 +1,46 @@
-//! Which offers stood for a request, and whom its mode asked.
-ghost use Rattle.std.specs.Prelude.{◌≡◌, ◌++◌, IfOk, OnOk};
-ghost use Rattle.zq_show.specs.Notes.{asked_note, asked_words, faces_words, is_among, is_request, mode_words, note_list, notes_of, numbers_words, offers_note, others, picked};
+//! Whom a request asked, and why it did not ask others.
+ghost use Rattle.std.specs.Prelude.{◌≡◌, ◌++◌, IfOk, OnOk, map};
+ghost use Rattle.zq_show.specs.Notes.{asked_note, faces_words, is_request, missed_note, mode_words, notes_of, numbers_words, owner_words, ids_words, picked, reason_words, stopped_words, carried_words, carrier_words, stop_words};
 
-use crate::entry::{Entry, FaceList, Offers};
+use crate::entry::{Entry, FaceList};
+use crate::reasons::{Missed, Reason};
 use std::alloc::{AllocError, Global};
 use zq_io::show::push_field;
-use zq_io::words::push_text;
+use zq_io::words::{push_number, push_text};
 use zq_key::items::Items;
 use zq_key::memory::OutOfMemory;
-use zq_key::message::{FaceId, Message, QueryTarget};
+use zq_key::message::{FaceId, Message, QueryTarget, Zid};
 use zq_key::text::Bytes;
-use zq_machine::call::Call;
+use zq_machine::call::{Call, Outcome};
 use zq_machine::handed::Handed;
 
-/// Whether the message is a request.
-fn is_request(handed: &Handed) -> bool
-    ensures { result ≡ is_request handed.now }
+/// Whether the message is a request, and whether it leaves or not.
+fn is_request(leaves: bool, handed: &Handed) -> bool
+    ensures { result ≡ is_request leaves handed.now }
 {
-    matches!(handed.message(), Message::Request(_))
+    match handed.message() {
+        Message::Request(_) => {
+            if leaves {
+                handed.leaves().is_some()
+            } else {
+                handed.leaves().is_none()
+            }
+        }
+        _ => false,
+    }
 }
 
-/// The faces that are handed a request, in order.
-pub fn picked(alloc: Global, handed: &[Handed]) -> Result<FaceList, OutOfMemory>
-    ensures { IfOk result (λ l. l ≡ picked handed.now) }
+/// The faces that are handed a request that leaves, or one that does not, in order.
+fn picked(alloc: Global, leaves: bool, handed: &[Handed]) -> Result<FaceList, OutOfMemory>
+    ensures { IfOk result (λ l. l ≡ picked leaves handed.now) }
 {
     let mut faces = Items::new(alloc);
     for message in handed {
-        if is_request(message) {
+        if is_request(leaves, message) {
             faces.push(message.to())?;
         }
     }
     Ok(faces)
-}
-
-/// Whether the face is among these.
-fn is_among(faces: &[FaceId], face: FaceId) -> bool
-    ensures { result ≡ is_among faces.now face }
-{
-    faces.iter().any(|other| other.0 == face.0)
-}
-
-/// The faces that are not among others, in order.
-fn others(alloc: Global, faces: &[FaceId], among: &[FaceId]) -> Result<FaceList, OutOfMemory>
-    ensures { IfOk result (λ l. l ≡ others among.now faces.now) }
-{
-    let mut left = Items::new(alloc);
-    for face in faces {
-        if !is_among(among, *face) {
-            left.push(*face)?;
-        }
-    }
-    Ok(left)
 }
 
 /// Writes the numbers of faces.
@@ -73,17 +63,24 @@ fn push_faces(out: &mut Vec<u8>, faces: &[FaceId]) -> Result<(), AllocError>
     push_numbers(out, faces)
 }
 
-/// Which offers stood: of which faces, and which of them are complete, or are of faces that did not
-/// say.
-fn offers_note(alloc: Global, offers: &Offers) -> Result<Bytes, OutOfMemory>
-    ensures { IfOk result (λ b. b ≡ offers_note offers.now) }
+/// Writes the faces whose exits let nothing out.
+#[tactic(auto, unfolding(crate::specs::Notes::stop_words))]
+fn push_stops(out: &mut Vec<u8>, faces: &[FaceId]) -> Result<(), AllocError>
+    ensures { OnOk result (out.new.items ≡ out.old.items ++ stop_words faces.now) }
 {
-    let mut out = Vec::new(alloc);
-    push_text(&mut out, "faces with an offer on this key:")?;
-    push_faces(&mut out, offers.all.as_slice())?;
-    push_text(&mut out, "; complete, or not known to be:")?;
-    push_faces(&mut out, offers.complete.as_slice())?;
-    Ok(Bytes::from_vec(out))
+    push_text(out, "; stopped at the exit:")?;
+    push_numbers(out, faces)
+}
+
+/// Writes the faces whose exits let nothing out, if there are any.
+#[tactic(auto, unfolding(crate::specs::Notes::stopped_words))]
+fn push_stopped(out: &mut Vec<u8>, faces: &[FaceId]) -> Result<(), AllocError>
+    ensures { OnOk result (out.new.items ≡ out.old.items ++ stopped_words faces.now) }
+{
+    if faces.is_empty() {
+        return Ok(());
+    }
+    push_stops(out, faces)
 }
 
 /// What a mode asks, in each region.
@@ -96,67 +93,122 @@ fn mode(target: QueryTarget) -> &'static str
             "`complete` asks those that are complete, or not known to be; asked faces:"
         }
         QueryTarget::BestMatching => {
-            "`best` asks in each region the nearest complete one, or all where none is known to be complete; asked faces:"
+            "`best` asks in each region the nearest complete one, or all if none is; asked faces:"
         }
     }
 }
 
-/// Writes the faces that were asked, and those of the offers that were not.
-#[tactic(auto, unfolding(crate::specs::Notes::asked_words))]
-fn push_asked(
-    alloc: Global,
-    out: &mut Vec<u8>,
-    offers: &[FaceId],
-    faces: &[FaceId],
-) -> Result<(), OutOfMemory>
-    ensures { OnOk result (out.new.items ≡ out.old.items ++ asked_words offers.now faces.now) }
-{
-    let rest = others(alloc, offers, faces)?;
-    push_faces(out, faces)?;
-    push_text(out, "; not asked:")?;
-    push_faces(out, rest.as_slice())?;
-    Ok(())
-}
-
-/// Whom the mode asked of those, and whom not.
-fn asked_note(
-    alloc: Global,
-    target: QueryTarget,
-    offers: &[FaceId],
-    faces: &[FaceId],
-) -> Result<Bytes, OutOfMemory>
-    ensures { IfOk result (λ b. b ≡ asked_note target offers.now faces.now) }
+/// Whom the mode asked, and whom it would have but for the exit.
+fn asked_note(alloc: Global, target: QueryTarget, handed: &[Handed]) -> Result<Bytes, OutOfMemory>
+    ensures { IfOk result (λ b. b ≡ asked_note target handed.now) }
 {
     let mut out = Vec::new(alloc);
     push_text(&mut out, mode(target))?;
-    push_asked(alloc, &mut out, offers, faces)?;
+    let asked = picked(alloc, true, handed)?;
+    push_faces(&mut out, asked.as_slice())?;
+    let stopped = picked(alloc, false, handed)?;
+    push_stopped(&mut out, stopped.as_slice())?;
     Ok(Bytes::from_vec(out))
 }
 
-/// The notes of a request: which offers stood for it, and whom its mode asked of them.
-fn note_list(
-    alloc: Global,
-    target: QueryTarget,
-    offers: &Offers,
-    handed: &[Handed],
-) -> Result<Items<Bytes>, OutOfMemory>
-    ensures { IfOk result (λ l. l ≡ note_list target offers.now handed.now) }
+/// Writes the gateway that carries a request between two regions.
+#[tactic(auto, unfolding(crate::specs::Notes::carrier_words))]
+fn push_carrier(out: &mut Vec<u8>, zid: Zid) -> Result<(), AllocError>
+    ensures { OnOk result (out.new.items ≡ out.old.items ++ carrier_words zid) }
 {
-    let mut notes = Items::new(alloc);
-    notes.push(offers_note(alloc, offers)?)?;
-    let faces = picked(alloc, handed)?;
-    notes.push(asked_note(alloc, target, offers.all.as_slice(), faces.as_slice())?)?;
-    Ok(notes)
+    push_text(out, "by the list of gateways it is carried by gateway ")?;
+    push_number(out, zid.0)
 }
 
-/// The notes of a call: those of a request of which it was asked which offers stood, else none.
+/// Writes which gateway carries a request between two regions, or that none does.
+fn push_carried(out: &mut Vec<u8>, carrier: Option<Zid>) -> Result<(), AllocError>
+    ensures { OnOk result (out.new.items ≡ out.old.items ++ carried_words carrier) }
+{
+    match carrier {
+        Some(zid) => push_carrier(out, zid),
+        None => push_text(out, "who asks is itself in the list of gateways"),
+    }
+}
+
+/// Writes why a queryable was not asked.
+fn push_reason(out: &mut Vec<u8>, reason: Reason) -> Result<(), AllocError>
+    ensures { OnOk result (out.new.items ≡ out.old.items ++ reason_words reason) }
+{
+    match reason {
+        Reason::Denied => push_text(out, "the asker may not ask for this key (entry deny list)"),
+        Reason::Own => push_text(out, "its face is the asker's own"),
+        Reason::Region => push_text(out, "its region offers nothing to its own faces"),
+        Reason::Carried(carrier) => push_carried(out, carrier),
+        Reason::Incomplete => push_text(out, "it is not complete on the key"),
+        Reason::Farther => push_text(out, "another is the nearest complete one"),
+        Reason::Earlier => push_text(out, "its face is asked by an earlier offer"),
+    }
+}
+
+/// Writes ids.
+fn push_ids(out: &mut Vec<u8>, ids: &[u128]) -> Result<(), AllocError>
+    ensures { OnOk result (out.new.items ≡ out.old.items ++ ids_words ids.now) }
+{
+    for id in ids {
+        push_text(out, " ")?;
+        push_number(out, *id)?;
+    }
+    Ok(())
+}
+
+/// Writes who declared a key: a face under ids, or a router behind it.
+#[tactic(auto, unfolding(crate::specs::Notes::owner_words))]
+fn push_owner(out: &mut Vec<u8>, ids: &[u128]) -> Result<(), AllocError>
+    ensures { OnOk result (out.new.items ≡ out.old.items ++ owner_words ids.now) }
+{
+    if ids.is_empty() {
+        return push_text(out, "a router behind");
+    }
+    push_text(out, "queryable")?;
+    push_ids(out, ids)?;
+    push_text(out, " of")
+}
+
+/// What was not asked, and why.
+#[tactic(auto, unfolding(crate::specs::Notes::missed_note))]
+fn missed_note(alloc: Global, missed: &Missed) -> Result<Bytes, OutOfMemory>
+    ensures { IfOk result (λ b. b ≡ missed_note missed.now) }
+{
+    let mut out = Vec::new(alloc);
+    push_text(&mut out, "not asked: ")?;
+    push_owner(&mut out, missed.ids.as_slice())?;
+    push_text(&mut out, " face ")?;
+    push_number(&mut out, missed.face.0)?;
+    push_text(&mut out, " on ")?;
+    push_text(&mut out, missed.key.as_str())?;
+    push_text(&mut out, ": ")?;
+    push_reason(&mut out, missed.reason)?;
+    Ok(Bytes::from_vec(out))
+}
+
+/// Adds what was not asked, each with its reason.
+fn push_missed(
+    alloc: Global,
+    notes: &mut Items<Bytes>,
+    missed: &[Missed],
+) -> Result<(), OutOfMemory>
+    ensures { OnOk result (notes.new ≡ notes.old ++ map missed_note missed.now) }
+{
+    for one in missed {
+        notes.push(missed_note(alloc, one)?)?;
+    }
+    Ok(())
+}
+
+/// The notes of a call: of a request that was accepted whom it asked, and what it did not ask and why;
+/// of others none.
 pub fn notes_of(alloc: Global, entry: &Entry) -> Result<Items<Bytes>, OutOfMemory>
     ensures { IfOk result (λ l. l ≡ notes_of entry.now) }
 {
-    match (&entry.call, &entry.offers) {
-        (Call::Request { request, .. }, Some(offers)) => {
-            note_list(alloc, request.target, offers, entry.step.handed.as_slice())
-        }
-        _ => Ok(Items::new(alloc)),
+    let mut notes = Items::new(alloc);
+    if let (Call::Request { request, .. }, Outcome::Asked(_)) = (&entry.call, entry.step.outcome) {
+        notes.push(asked_note(alloc, request.target, entry.step.handed.as_slice())?)?;
+        push_missed(alloc, &mut notes, entry.missed.as_slice())?;
     }
+    Ok(notes)
 }

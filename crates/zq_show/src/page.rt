@@ -1,9 +1,10 @@
 //! The page of a run: the head, the faces, the picture, and the lines with what came of each.
 ghost use Rattle.std.specs.Prelude.{◌≡◌, ◌++◌, IfOk, OnOk};
-ghost use Rattle.zq_show.specs.Page.{answer_open, bad_line_words, bad_words, begin_words, came_words, drawn_words, head_words, items_words, legend_words, line_number_words, line_words, lines_words, link_words, linked, list_words, notes_words, page_words, said_words, scene_words};
+ghost use Rattle.zq_show.specs.Page.{answer_open, bad_line_words, bad_words, begin_words, came_words, head_words, items_words, legend_words, line_number_words, line_words, lines_words, link_words, linked, list_words, notes_words, page_words, said_words, scene_words};
 
-use crate::choice::{RowList, has_line, lanes_of};
+use crate::choice::{RowList, has_line};
 use crate::escape::push_in_page;
+use crate::lanes::LaneList;
 use crate::picture::push_picture;
 use crate::row::Row;
 use std::alloc::{AllocError, Global};
@@ -59,6 +60,8 @@ pub struct Shown {
     pub bad: Option<BadLine>,
     /// What the picture shows of the run, as a text.
     pub scope: Bytes,
+    /// The lanes of the picture.
+    pub lanes: LaneList,
     /// The rows of the picture.
     pub rows: RowList,
 }
@@ -91,7 +94,7 @@ path{fill:none;stroke:var(--ink);stroke-width:1.5}.lane{stroke:var(--rule)}.ask{
 
 /// How the picture is read.
 pub const LEGEND: &str =
-    "<p class='said'>Time goes down. Arrows: a thick line is a request, a dashed one a reply, a dotted one a final, a thin one a declaration; a cross in place of a head is a refusal. A filled bar beside a face is a request that is pending there, a hollow one a reply in flight. A rule across is a moment that came. At the left are the numbers of the script's lines, linked with what is said of them below; <code>#N</code> is the number of a request in this run, and the number behind a message's name the id by which its face knows it.</p>
+    "<p class='said'>Time goes down. A thick arrow is a request, a dashed one a reply, a dotted one a final, a thin one a declaration. A cross at the gateway is a refusal, and one before a face what its exit did not let out. A filled bar beside a face is a request that is pending there, a hollow one a reply in flight. A rule across is a moment that came. At the left are the numbers of the script's lines, linked with their words below; <code>#N</code> is the number of a request in this run.</p>
 <div class='picture'>
 ";
 
@@ -250,16 +253,6 @@ fn push_bad(alloc: Global, out: &mut Vec<u8>, bad: &Option<BadLine>) -> Result<(
     }
 }
 
-/// Writes the picture of the rows, with a lane for each face that they name.
-#[tactic(auto, unfolding(crate::specs::Page::drawn_words))]
-fn push_drawn(alloc: Global, out: &mut Vec<u8>, rows: &[Row]) -> Result<(), OutOfMemory>
-    ensures { OnOk result (out.new.items ≡ out.old.items ++ drawn_words rows.now) }
-{
-    let lanes = lanes_of(alloc, rows)?;
-    push_picture(alloc, out, lanes.as_slice(), rows)?;
-    Ok(())
-}
-
 /// Writes what stands before the lists of a page.
 #[tactic(auto, unfolding(crate::specs::Page::begin_words))]
 fn push_begin(out: &mut Vec<u8>) -> Result<(), AllocError>
@@ -289,12 +282,12 @@ fn push_head(alloc: Global, out: &mut Vec<u8>, shown: &Shown) -> Result<(), Allo
 
 /// Writes the picture, with what it shows of the run.
 #[tactic(auto, unfolding(crate::specs::Page::scene_words))]
-fn push_scene(alloc: Global, out: &mut Vec<u8>, shown: &Shown) -> Result<(), OutOfMemory>
+fn push_scene(alloc: Global, out: &mut Vec<u8>, shown: &Shown) -> Result<(), AllocError>
     ensures { OnOk result (out.new.items ≡ out.old.items ++ scene_words shown.now) }
 {
     push_said(alloc, out, "<h2>Picture</h2><p>", &shown.scope, "</p>")?;
     push_legend(out)?;
-    push_drawn(alloc, out, shown.rows.as_slice())?;
+    push_picture(alloc, out, shown.lanes.as_slice(), shown.rows.as_slice())?;
     push_text(out, "</div><h2>Lines</h2><ol class='lines'>")?;
     Ok(())
 }

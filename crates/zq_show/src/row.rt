@@ -113,6 +113,8 @@ pub struct Row {
     pub handed: bool,
     /// Whether the gateway refused it.
     pub refused: bool,
+    /// Whether nothing of it leaves: the exit of the face stops it.
+    pub stopped: bool,
     /// What begins or ends with it.
     pub event: Event,
     /// The request that it is of, if it is of one.

@@ -1,11 +1,11 @@
 //! The rows of a picture: one for a call, and one for each message that it hands.
 ghost use Rattle.std.specs.Prelude.{◌≡◌, IfOk, OnOk, ◌++◌};
-ghost use Rattle.std.specs.Option.{option_copied};
-ghost use Rattle.zq_show.specs.Rows.{call_event, call_face, call_kind, call_label, call_row, handed_event, handed_label, handed_row, handed_rows, kind_of, leaves_tag, opened, pending_from, request_of, rows_of, until, all_rows};
+ghost use Rattle.zq_show.specs.Rows.{call_event, call_face, call_kind, call_label, call_row, handed_event, handed_label, handed_row, handed_rows, is_stopped, kind_of, leaves_tag, opened, pending_from, request_of, rows_of, until, all_rows};
 
-use crate::answer::{is_refused, push_number_tag, push_tag};
+use crate::answer::{is_refused, push_number_tag};
 use crate::choice::RowList;
 use crate::entry::Entry;
+use crate::labels::{push_call_label, push_message_label};
 use crate::row::{Event, Kind, Row};
 use std::alloc::{AllocError, Global};
 use zq_io::words::push_text;
@@ -13,8 +13,6 @@ use zq_key::items::Items;
 use zq_key::memory::OutOfMemory;
 use zq_key::message::Message;
 use zq_key::text::Bytes;
-use zq_lines::calls::print_call;
-use zq_lines::steps::print_message;
 use zq_machine::call::{Call, Outcome, Step};
 use zq_machine::handed::Handed;
 
@@ -97,7 +95,8 @@ fn request_of(step: &Step) -> Option<u64>
     }
 }
 
-/// What stands beside the arrow of a call: its words, behind the number of the request that it made.
+/// What stands beside the arrow of a call: what a person reads of it, behind the number of the
+/// request that it made.
 fn call_label(alloc: Global, call: &Call, outcome: Outcome) -> Result<Bytes, OutOfMemory>
     ensures { IfOk result (λ b. b ≡ call_label call.now outcome) }
 {
@@ -105,7 +104,7 @@ fn call_label(alloc: Global, call: &Call, outcome: Outcome) -> Result<Bytes, Out
     if let Outcome::Asked(number) = outcome {
         push_number_tag(&mut out, Some(number))?;
     }
-    out.extend_from_slice(print_call(alloc, call)?.as_slice())?;
+    push_call_label(&mut out, call)?;
     Ok(Bytes::from_vec(out))
 }
 
@@ -120,6 +119,7 @@ fn call_row(alloc: Global, entry: &Entry) -> Result<Row, OutOfMemory>
         face: call_face(&entry.call, entry.step.outcome),
         handed: false,
         refused,
+        stopped: false,
         event: call_event(&entry.call, refused),
         request: request_of(&entry.step),
         label: call_label(alloc, &entry.call, entry.step.outcome)?,
@@ -177,24 +177,32 @@ fn handed_event(handed: &Handed, until: u64) -> Event
     }
 }
 
-/// Writes that nothing leaves of a message, if that is so.
-fn push_leaves_tag(out: &mut Vec<u8>, leaves: Option<&Message>) -> Result<(), AllocError>
-    ensures { OnOk result (out.new.items ≡ out.old.items ++ leaves_tag (option_copied leaves.entry)) }
+/// Whether nothing leaves of what is handed.
+fn is_stopped(handed: &Handed) -> bool
+    ensures { result ≡ is_stopped handed.now }
 {
-    match leaves {
-        Some(_) => Ok(()),
-        None => push_text(out, "(does not leave) "),
-    }
+    handed.leaves().is_none()
 }
 
-/// What stands beside the arrow of a message: its words, behind the numbers that it is of.
+/// Writes that nothing leaves of a message, if that is so.
+fn push_leaves_tag(out: &mut Vec<u8>, stopped: bool) -> Result<(), AllocError>
+    ensures { OnOk result (out.new.items ≡ out.old.items ++ leaves_tag stopped) }
+{
+    if stopped {
+        push_text(out, "stopped at the exit: ")?;
+    }
+    Ok(())
+}
+
+/// What stands beside the arrow of a message: what a person reads of it, behind the number of its
+/// request.
 fn handed_label(alloc: Global, handed: &Handed) -> Result<Bytes, OutOfMemory>
     ensures { IfOk result (λ b. b ≡ handed_label handed.now) }
 {
     let mut out = Vec::new(alloc);
-    push_leaves_tag(&mut out, handed.leaves())?;
-    push_tag(&mut out, handed)?;
-    out.extend_from_slice(print_message(alloc, handed.message())?.as_slice())?;
+    push_number_tag(&mut out, handed.number())?;
+    push_leaves_tag(&mut out, is_stopped(handed))?;
+    push_message_label(&mut out, handed.message())?;
     Ok(Bytes::from_vec(out))
 }
 
@@ -208,6 +216,7 @@ fn handed_row(alloc: Global, line: u64, until: u64, handed: &Handed) -> Result<R
         face: Some(handed.to().0),
         handed: true,
         refused: false,
+        stopped: is_stopped(handed),
         event: handed_event(handed, until),
         request: handed.number(),
         label: handed_label(alloc, handed)?,

@@ -1,15 +1,20 @@
 //! The page and the text of a run.
 ghost use Rattle.std.specs.Prelude.{◌≡◌, ◌++◌, IfOk, OnOk, None, take};
+ghost use Rattle.zq_show.specs.Lanes.{lanes_shown};
+ghost use Rattle.zq_show.specs.Mermaid.{mermaid_words};
 ghost use Rattle.zq_show.specs.Page.{page_words};
 ghost use Rattle.zq_show.specs.Plain.{plain_words};
-ghost use Rattle.zq_show.specs.Showing.{face_lines, face_text, face_texts, handed_texts, line_of, lines_of, rows_shown, scope_words, shown_of};
+ghost use Rattle.zq_show.specs.Showing.{face_lines, face_text, face_texts, handed_texts, is_shown, line_of, lines_shown, rows_shown, scope_words, shown_of};
 
 use crate::answer::{answer, handed_text, is_refused};
-use crate::choice::{RowList, chosen};
+use crate::choice::{RowList, chosen, has_line};
 use crate::entry::Entry;
+use crate::lanes::lanes_shown;
+use crate::mermaid::mermaid;
 use crate::notes::notes_of;
 use crate::page::{BadLine, BytesList, Line, LineList, Shown, page};
 use crate::plain::plain;
+use crate::row::Row;
 use crate::rows::all_rows;
 use std::alloc::Global;
 use zq_io::words::{push_number, push_text};
@@ -61,13 +66,27 @@ fn line_of(alloc: Global, entry: &Entry) -> Result<Line, OutOfMemory>
     })
 }
 
-/// What is shown of the calls, in order.
-fn lines_of(alloc: Global, entries: &[Entry]) -> Result<LineList, OutOfMemory>
-    ensures { IfOk result (λ l. l ≡ lines_of entries.now) }
+/// Whether a call is shown: each, or where a request is, one that has a row.
+fn is_shown(request: Option<u64>, rows: &[Row], entry: &Entry) -> bool
+    ensures { result ≡ is_shown request rows.now entry.now }
+{
+    request.is_none() || has_line(rows, entry.number)
+}
+
+/// What is shown of the calls, in order: of all, or of those that concern a request.
+fn lines_shown(
+    alloc: Global,
+    request: Option<u64>,
+    rows: &[Row],
+    entries: &[Entry],
+) -> Result<LineList, OutOfMemory>
+    ensures { IfOk result (λ l. l ≡ lines_shown request rows.now entries.now) }
 {
     let mut lines = Items::new(alloc);
     for entry in entries {
-        lines.push(line_of(alloc, entry)?)?;
+        if is_shown(request, rows, entry) {
+            lines.push(line_of(alloc, entry)?)?;
+        }
     }
     Ok(lines)
 }
@@ -140,7 +159,7 @@ fn scope(alloc: Global, request: Option<u64>, calls: usize) -> Result<Bytes, Out
         Some(number) => {
             push_text(
                 &mut out,
-                "The picture shows the calls that concern request #",
+                "The picture and the lines are of the calls that concern request #",
             )?;
             push_number(&mut out, number)?;
             push_text(&mut out, ".")?;
@@ -154,8 +173,8 @@ fn scope(alloc: Global, request: Option<u64>, calls: usize) -> Result<Bytes, Out
     Ok(Bytes::from_vec(out))
 }
 
-/// What is shown of a run: its calls once each and in order, each with the messages that it handed;
-/// the picture is of the first calls, or of those that concern a request.
+/// What is shown of a run: its calls once each and in order, each with the messages that it handed,
+/// and a picture of the first; or both of the calls that concern a request.
 fn shown_of(alloc: Global, run: Run, request: Option<u64>) -> Result<Shown, OutOfMemory>
     ensures value { IfOk result (λ s. s ≡ shown_of run request) }
 {
@@ -166,13 +185,15 @@ fn shown_of(alloc: Global, run: Run, request: Option<u64>) -> Result<Shown, OutO
         bad,
     } = run;
     let calls = entries.as_slice();
+    let rows = rows_shown(alloc, request, timeout, calls)?;
     Ok(Shown {
         head,
         faces: face_lines(alloc, calls)?,
-        lines: lines_of(alloc, calls)?,
+        lines: lines_shown(alloc, request, rows.as_slice(), calls)?,
         bad,
         scope: scope(alloc, request, calls.len())?,
-        rows: rows_shown(alloc, request, timeout, calls)?,
+        lanes: lanes_shown(alloc, calls, rows.as_slice())?,
+        rows,
     })
 }
 
@@ -182,6 +203,14 @@ pub fn show_page(alloc: Global, run: Run, request: Option<u64>) -> Result<Bytes,
 {
     let shown = shown_of(alloc, run, request)?;
     page(alloc, &shown)
+}
+
+/// The picture of a run as a sequence diagram.
+pub fn show_mermaid(alloc: Global, run: Run, request: Option<u64>) -> Result<Bytes, OutOfMemory>
+    ensures { IfOk result (λ b. b ≡ mermaid_words (shown_of run request)) }
+{
+    let shown = shown_of(alloc, run, request)?;
+    mermaid(alloc, &shown)
 }
 
 /// The text of a run for a terminal, with colours where they are wanted.

@@ -1,6 +1,6 @@
 //! What the words of the command ask for.
 ghost use Rattle.std.specs.Prelude.{◌≡◌};
-ghost use Rattle.zq_show.specs.Words.{asked_of, more_of, request_of};
+ghost use Rattle.zq_show.specs.Words.{asked_of, diagram_of, more_of, most_of, request_of};
 
 use zq_io::words::number;
 use zq_key::text::Text;
@@ -21,14 +21,34 @@ pub enum Form {
     Page(Option<u64>),
     /// As text, with colours or without.
     Plain(bool),
+    /// As a sequence diagram in the words of Mermaid, of the first calls or of a request.
+    Mermaid(Option<u64>),
 }
 
-/// A page with the picture of the request that digits name.
+/// A page of the request that digits name.
 fn request(digits: &str) -> Option<Asked>
     ensures { result ≡ request_of digits.now }
 {
     let request = number(u64::MAX, digits.as_bytes())?;
     Some(Asked::Run(Form::Page(Some(request))))
+}
+
+/// A diagram of the request that digits name.
+fn diagram(digits: &str) -> Option<Asked>
+    ensures { result ≡ diagram_of digits.now }
+{
+    let request = number(u64::MAX, digits.as_bytes())?;
+    Some(Asked::Run(Form::Mermaid(Some(request))))
+}
+
+/// What three words ask for.
+fn read_most(word: &Text, next: &Text, digits: &Text) -> Option<Asked>
+    ensures { result ≡ most_of word.now next.now digits.now }
+{
+    match (word.as_str(), next.as_str()) {
+        ("--mermaid", "--request") => diagram(digits.as_str()),
+        _ => None,
+    }
 }
 
 /// What words after the first ask for.
@@ -50,10 +70,12 @@ pub fn read_words(words: &[Text]) -> Option<Asked>
         [] => Some(Asked::Run(Form::Page(None))),
         [word] => match word.as_str() {
             "--text" => Some(Asked::Run(Form::Plain(false))),
+            "--mermaid" => Some(Asked::Run(Form::Mermaid(None))),
             "--version" => Some(Asked::Version),
             _ => None,
         },
         [word, next] => read_more(word, next),
+        [word, next, digits] => read_most(word, next, digits),
         _ => None,
     }
 }

@@ -16,4 +16,6 @@ mod primitives;
 #[cfg(test)]
 mod prints;
 #[cfg(test)]
+mod reasons;
+#[cfg(test)]
 mod why;

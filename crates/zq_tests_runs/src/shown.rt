@@ -16,9 +16,7 @@ const TEXT: &str = "1  config 1 10000 north:client local\n\
     3  open local 11 client north -\n    = opened: face 1\n\
     4  queryable 1 1 0:s:k c 0 0\n    = done\n\
     5  ask 0 3 0:s:k best - 0 0 - 0\n    = asked: request #0\n      \
-    faces with an offer on this key: 1; complete, or not known to be: 1\n      \
-    `best` asks in each region the nearest complete one, or all where none is known to be complete; \
-    asked faces: 1; not asked: none\n    \
+    `best` asks in each region the nearest complete one, or all if none is; asked faces: 1\n    \
     > to face 1: #0 request 1 0:s:k best - 0 0 -\n\
     6  sent 0\n    = refused: NotInFlight: no such reply is in flight\n";
 

@@ -11,10 +11,10 @@ use Rattle.zq_show.proofs.replay.entries_from.Goals as goal
 pub lines-preserved : goal.lines-preserved
 lines-preserved c =
     let ok : c.in_ok-push_line.field-0 ≡ true = first_of ((cc), (search rules), (grind (arith, nat_tests, common_steps))) in
-    let adds : Adds c.lines.number c.in-Some.line.now c.lines.gateway c.lines.other c.lines.entries c.push_line.new.gateway c.push_line.new.other c.push_line.new.entries = c.in_ok-push_line.ensures.called (first_of ((cc), (search rules), (grind (arith, common_steps)))) in
+    let adds : Adds c.lines.number c.in-Some.line.now c.lines.machine c.lines.seen c.lines.entries c.push_line.new.machine c.push_line.new.seen c.push_line.new.entries = c.in_ok-push_line.ensures.called (first_of ((cc), (search rules), (grind (arith, common_steps)))) in
     record {
-      entries = next_added c.lines.number c.lines.gateway c.lines.other c.push_line.new.gateway c.push_line.new.other c.in-Some.line.now (lines_of c.in-Some.after.now) (lines_of c.lines.rest.now) c.lines.entries c.push_line.new.entries _ c.in-Some.ensures.value adds c.lines.invariant.entries;
-      bad = next_unbad c.lines.number c.lines.gateway c.lines.other c.push_line.new.gateway c.push_line.new.other c.in-Some.line.now (lines_of c.in-Some.after.now) (lines_of c.lines.rest.now) c.lines.entries c.push_line.new.entries _ c.in-Some.ensures.value adds c.lines.invariant.bad;
+      entries = next_added c.lines.number c.lines.machine c.lines.seen c.push_line.new.machine c.push_line.new.seen c.in-Some.line.now (lines_of c.in-Some.after.now) (lines_of c.lines.rest.now) c.lines.entries c.push_line.new.entries _ c.in-Some.ensures.value adds c.lines.invariant.entries;
+      bad = next_unbad c.lines.number c.lines.machine c.lines.seen c.push_line.new.machine c.push_line.new.seen c.in-Some.line.now (lines_of c.in-Some.after.now) (lines_of c.lines.rest.now) c.lines.entries c.push_line.new.entries _ c.in-Some.ensures.value adds c.lines.invariant.bad;
       counted = omega (arith, c.in-Some.ensures.shorter, c.lines.invariant.counted);
     }
 
@@ -22,7 +22,7 @@ pub returns-then-not-branch-clause-entries : goal.returns-then-not-branch-clause
 returns-then-not-branch-clause-entries c =
     let no : c.in_ok-push_line.field-0 ≡ false = first_of ((cc), (search rules), (grind (arith, nat_tests, common_steps))) in
     let none : (script_call false c.in-Some.line.now ≡ None) × (c.push_line.new.entries ≡ c.lines.entries) = c.in_ok-push_line.ensures.bad (first_of ((cc), (search rules), (grind (arith, common_steps)))) in
-    ended_entries c.lines.number c.lines.gateway c.lines.other c.in-Some.line.now (lines_of c.in-Some.after.now) (lines_of c.lines.rest.now) c.lines.entries c.push_line.new.entries _ c.in-Some.ensures.value none c.lines.invariant.entries
+    ended_entries c.lines.number c.lines.machine c.lines.seen c.in-Some.line.now (lines_of c.in-Some.after.now) (lines_of c.lines.rest.now) c.lines.entries c.push_line.new.entries _ c.in-Some.ensures.value none c.lines.invariant.entries
 
 pub returns-then-not-branch-clause-bad : goal.returns-then-not-branch-clause-bad
 returns-then-not-branch-clause-bad c =

@@ -5,7 +5,7 @@ use Rattle.zq_show.proofs.replay.entries_from.Given as goal
 
 abbrev pub invariant-lines : goal.invariant-lines
 invariant-lines l = record {
-  entries : l.entries ++ entries_from l.number l.gateway l.other (lines_of l.rest) ≡ entries_from l.first l.fn.gateway l.fn.other (lines_of l.bytes);
+  entries : l.entries ++ entries_from l.number l.machine l.seen (lines_of l.rest) ≡ entries_from l.first l.fn.machine l.fn.seen (lines_of l.bytes);
   bad : bad_from l.number (lines_of l.rest) ≡ bad_from l.first (lines_of l.bytes);
   counted : l.number + length l.rest ≤ l.first + length l.bytes;
 }

@@ -1,0 +1,190 @@
+-- Why a queryable that meets the key of a request was not asked: at which stage of the selection it went.
+use Rattle.std.specs.Prelude.{ℕ, ◌==◌, Bool, true, false, not, ◌&&◌, ◌||◌, List, [], ◌∷◌, ◌++◌, Option, Some, None, if◌then◌else◌, fold, is_none}
+use Rattle.std.specs.List.{list_any}
+use Rattle.std.specs.Option.{option_and_then, option_map, option_map_or}
+use Rattle.std.specs.Map.{values_of}
+use Rattle.zq_key.specs.Key.{is_key}
+use Rattle.zq_message.specs.declared.message.FaceId.{FaceId}
+use Rattle.zq_message.specs.declared.message.QueryTarget.{QueryTarget}
+use Rattle.zq_message.specs.declared.message.QueryTarget.TheVariants as target
+use Rattle.zq_message.specs.declared.message.Region.{Region}
+use Rattle.zq_message.specs.declared.message.Region.TheVariants as region
+use Rattle.zq_message.specs.declared.message.Request.{Request}
+use Rattle.zq_message.specs.declared.message.Zid.{Zid}
+use Rattle.zq_namespace.specs.Denied.{is_denied}
+use Rattle.zq_strategy.specs.Kept.{has_face as has_face_of}
+use Rattle.zq_strategy.specs.Offers.{offers_of}
+use Rattle.zq_strategy.specs.Regions.{same_region, strategy_at}
+use Rattle.zq_strategy.specs.Routers.{context_at, source_at}
+use Rattle.zq_strategy.specs.State.{HatState}
+use Rattle.zq_strategy.specs.declared.offer.QueryTargetQabl.{QueryTargetQabl}
+use Rattle.zq_strategy.specs.declared.types.Strategy.{Strategy}
+use Rattle.zq_strategy.specs.declared.types.Strategy.TheVariants as strategy
+use Rattle.zq_route.specs.Built.{has_face}
+use Rattle.zq_route.specs.Filter.{gateways_of, greatest, has_zid}
+use Rattle.zq_route.specs.Selection.{is_complete, may_be_complete}
+use Rattle.zq_route.specs.declared.filter.InterRegionFilter.{InterRegionFilter}
+use Rattle.zq_route.specs.declared.gateways.Gateways.{Gateways}
+use Rattle.zq_tables.specs.declared.resolved.Resolved.{Resolved}
+use Rattle.zq_machine.specs.Gates.{denied_by, gate_at}
+use Rattle.zq_machine.specs.Selecting.{AskerState, carries_between, filter_for, full_text, offers_to, says_key}
+use Rattle.zq_machine.specs.State.{at, hat_at, is_region}
+use Rattle.zq_machine.specs.declared.face.OpenFace.{OpenFace}
+use Rattle.zq_show.specs.Seen.{Owned, SeenState, ids_on, said_in}
+use Rattle.zq_show.specs.declared.reasons.Missed.{Missed}
+use Rattle.zq_show.specs.declared.reasons.Panel.{Panel}
+use Rattle.zq_show.specs.declared.reasons.Reason.{Reason}
+use Rattle.zq_show.specs.declared.reasons.Reason.TheVariants as reason
+use Rattle.zq_show.specs.declared.reasons.Verdict.{Verdict}
+
+-- the gateway of a list that carries what a node asks; none where the node is itself listed, or is not known
+abbrev pub carrier_in : Option (List Zid) → Option Zid → Option Zid
+carrier_in None source = None
+carrier_in (Some zids) None = None
+carrier_in (Some zids) (Some source) = if has_zid source zids then None else Some (record { 0 = greatest zids })
+
+-- the gateway that carries a request between two regions, where a list says one
+abbrev pub carrier : List (ℕ × Gateways) → InterRegionFilter → Option Zid
+carrier lists f = if is_region f.src && is_region f.dst then carrier_in (gateways_of f lists) f.src_zid else None
+
+-- what an offer meets between two regions
+abbrev pub between : AskerState → InterRegionFilter → Option Reason
+between a f = if carries_between a.tables a.own f then None else Some (reason.Carried (carrier a.tables f))
+
+-- what an offer meets before the target looks at it
+abbrev pub barrier : Panel → AskerState → QueryTargetQabl → Option Reason
+barrier p a o =
+    if p.denied then Some reason.Denied
+    else (if o.face.0 == a.face.0 then Some reason.Own
+    else (if p.beside then Some reason.Region
+    else between a (filter_for a o)))
+
+-- the offer is complete, and reaches the target
+abbrev pub is_best : Panel → AskerState → QueryTargetQabl → Bool
+is_best p a o = is_complete o && is_none (barrier p a o)
+
+-- the target picks an offer, where one of those that reach it is complete, and a complete one came before
+abbrev pub picks : QueryTarget → Bool → Bool → QueryTargetQabl → Bool
+picks target.All complete found o = true
+picks target.AllComplete complete found o = may_be_complete o
+picks target.BestMatching complete found o = not complete || (is_complete o && not found)
+
+-- the target picks an offer that reaches it
+abbrev pub is_picked : Panel → Bool → QueryTargetQabl → Bool
+is_picked p found o = picks p.target p.complete found o
+
+-- why the target does not pick an offer
+abbrev pub unpicked : QueryTarget → Reason
+unpicked target.All = reason.Farther
+unpicked target.AllComplete = reason.Incomplete
+unpicked target.BestMatching = reason.Farther
+
+-- why an offer that reaches the target is not asked, if it isn't
+abbrev pub picked_after : Panel → Verdict → QueryTargetQabl → Option Reason
+picked_after p v o =
+    if not (is_picked p v.found o) then Some (unpicked p.target)
+    else (if has_face o.face.0 v.taken then Some reason.Earlier else None)
+
+-- what a face declared on the key of an offer
+abbrev pub missed_at : Owned → QueryTargetQabl → Reason → Missed
+missed_at owned o r = record { face = o.face; key = o.key; ids = ids_on o.face.0 o.key owned; reason = r }
+
+-- what was not asked, with one more where a declaration stands behind the offer
+abbrev pub with_missed : Owned → List Missed → QueryTargetQabl → Reason → List Missed
+with_missed owned missed o r = if is_none o.info then missed else missed ++ missed_at owned o r ∷ []
+
+-- an offer is missed, or its face is taken
+abbrev pub missed_or_taken : Owned → Verdict → QueryTargetQabl → Option Reason → Verdict
+missed_or_taken owned v o None = record v { taken = v.taken ++ (o.face.0, o.face) ∷ [] }
+missed_or_taken owned v o (Some r) = record v { missed = with_missed owned v.missed o r }
+
+-- a complete offer was found
+abbrev pub found_with : QueryTargetQabl → Verdict → Verdict
+found_with o v = record v { found = v.found || is_complete o }
+
+-- what comes of an offer that reaches the target
+abbrev pub picked : Owned → Panel → Verdict → QueryTargetQabl → Verdict
+picked owned p v o = found_with o (missed_or_taken owned v o (picked_after p v o))
+
+-- what comes of an offer, by what it meets before
+abbrev pub judged_by : Owned → Panel → Verdict → QueryTargetQabl → Option Reason → Verdict
+judged_by owned p v o None = picked owned p v o
+judged_by owned p v o (Some r) = record v { missed = with_missed owned v.missed o r }
+
+-- what comes of an offer
+unfoldable pub judged : Owned → Panel → AskerState → Verdict → QueryTargetQabl → Verdict
+judged owned p a v o = judged_by owned p v o (barrier p a o)
+
+-- before the offers of a region
+abbrev pub first_verdict : List Missed → Verdict
+first_verdict missed = record { missed = missed; taken = []; found = false }
+
+-- a region of clients or peers
+abbrev pub is_silent : Strategy → Bool
+is_silent strategy.Broker = false
+is_silent strategy.Client = true
+is_silent strategy.Peer = true
+is_silent strategy.Router = false
+
+-- a region offers nothing to an asker: one of clients or peers, to its own
+abbrev pub offers_nothing : AskerState → HatState → Bool
+offers_nothing a h = is_silent (strategy_at h) && same_region a.opened.region h.region
+
+-- what a region offers to the asker; what it would offer to another, where it offers nothing
+abbrev pub candidates : AskerState → List ℕ → HatState → List QueryTargetQabl
+candidates a key h = if offers_nothing a h then offers_of h region.Local key None else offers_to a key h
+
+-- what decides of the offers of a region, before it is known whether one is complete
+abbrev pub panel_at : Panel → AskerState → HatState → Panel
+panel_at p a h = record p { beside = offers_nothing a h }
+
+-- an offer that reaches the target is complete
+abbrev pub has_best : Panel → AskerState → List QueryTargetQabl → Bool
+has_best p a os = list_any (is_best p a) os
+
+-- what decides of the offers of a region
+abbrev pub panel_of : Panel → AskerState → HatState → List QueryTargetQabl → Panel
+panel_of p a h os = record (panel_at p a h) { complete = has_best (panel_at p a h) a os }
+
+-- what was not asked, with that of a region
+abbrev pub with_hat : Owned → Panel → AskerState → List ℕ → List Missed → HatState → List Missed
+with_hat owned p a key missed h = (fold (judged owned (panel_of p a h (candidates a key h)) a) (first_verdict missed) (candidates a key h)).missed
+
+-- the hat of a region, where it has the face
+abbrev pub home : List (ℕ × HatState) → Region → ℕ → Option HatState
+home hats r face = option_and_then (λ (h : HatState). if has_face_of face h then Some h else None) (hat_at r hats)
+
+-- the router that a node number of the face stands for, and its place
+abbrev pub origin : List (ℕ × HatState) → Region → ℕ → ℕ → Option Zid × Option ℕ
+origin hats r face node = (option_and_then (source_at face node) (home hats r face), option_and_then (context_at face node) (home hats r face))
+
+-- who asks, as it was opened
+abbrev pub asker_by : List (ℕ × HatState) → Zid → SeenState → FaceId → ℕ → OpenFace → AskerState
+asker_by hats own seen face node o =
+    record {
+      faces = seen.faces;
+      tables = seen.lists;
+      own = own;
+      face = face;
+      opened = o;
+      source = (origin hats o.region face.0 node).0;
+      context = (origin hats o.region face.0 node).1;
+    }
+
+-- the asker of a request, if the face is open
+abbrev pub asker_for : List (ℕ × HatState) → Zid → SeenState → FaceId → ℕ → Option AskerState
+asker_for hats own seen face node = option_map (asker_by hats own seen face node) (at face.0 seen.faces)
+
+-- what decides of a request on a key before a region is looked at
+abbrev pub first_panel : SeenState → FaceId → QueryTarget → List ℕ → Panel
+first_panel seen face t key = record { denied = is_key key && is_denied (denied_by (gate_at face.0 seen.gates)) key; beside = false; target = t; complete = false }
+
+-- what was not asked of all regions, on what an expression says
+unfoldable pub missed_on : List (ℕ × HatState) → SeenState → AskerState → QueryTarget → Resolved → List Missed
+missed_on hats seen a t said =
+    if says_key said then fold (with_hat seen.owned (first_panel seen a.face t (full_text said)) a (full_text said)) [] (values_of hats) else []
+
+-- what a request was not asked of, of all that was declared on keys that meet its own
+abbrev pub missed_for : List (ℕ × HatState) → Zid → SeenState → FaceId → Request → List Missed
+missed_for hats own seen face r =
+    option_map_or (λ (a : AskerState). missed_on hats seen a r.target (said_in seen.names seen.gates face r.wire)) (asker_for hats own seen face r.node) []

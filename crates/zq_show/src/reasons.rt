@@ -1,0 +1,479 @@
+//! Why a queryable that meets the key of a request was not asked: at which stage of the selection it
+//! went.
+ghost use Rattle.std.specs.Prelude.{◌≡◌, [], IfOk, OnOk, IsTrue, fold, option_copied, option_map};
+ghost use Rattle.std.specs.Map.{values_of};
+ghost use Rattle.zq_key.specs.Key.{is_key as key_of};
+ghost use Rattle.zq_machine.specs.Selecting.{carries_between, filter_for};
+ghost use Rattle.zq_route.specs.Selection.{is_complete};
+ghost use Rattle.zq_egress.specs.Askers.{asker_of};
+ghost use Rattle.zq_show.specs.Reasons.{asker_for, barrier, candidates, first_panel, first_verdict, found_with, has_best, home, is_best, is_picked, judged, missed_at, missed_for, missed_on, missed_or_taken, offers_nothing, origin, panel_at, panel_of, picked, picked_after, unpicked, with_hat, with_missed};
+
+use crate::carrier::carrier;
+use crate::seen::Seen;
+use zq_dispatcher::hats::{hat_at, is_region};
+use zq_egress::read::{full_text, says_key};
+use zq_egress::select::{Asker, zid_of};
+use zq_hat::Hat;
+use zq_key::items::Items;
+use zq_key::memory::OutOfMemory;
+use zq_key::message::{DEFAULT_NODE_ID, FaceId, NodeId, QueryTarget, Region, Request, Zid};
+use zq_key::text::Text;
+use zq_message::RegionMap;
+use zq_route::builder::RouteBuilder;
+use zq_route::filter::InterRegionFilter;
+use zq_strategy::strategy::same_region;
+use zq_strategy::{OfferList, QueryTargetQabl, Strategy};
+use zq_tables::resolved::Resolved;
+
+/// Why a queryable was not asked: the first stage of the selection that it did not pass.
+#[derive(Clone, Copy)]
+pub enum Reason {
+    /// The asker may not ask for the key.
+    Denied,
+    /// It is the asker's own.
+    Own,
+    /// Its region offers nothing to its own faces.
+    Region,
+    /// Another gateway carries the request there, if it is known which; none does where the asker's
+    /// node is itself listed.
+    Carried(Option<Zid>),
+    /// It is not complete on the key, as the target asks.
+    Incomplete,
+    /// Another is the nearest complete one of its region.
+    Farther,
+    /// An earlier offer of its face is asked.
+    Earlier,
+}
+
+/// What a face declared on a key, and was not asked for.
+#[derive(Drop)]
+pub struct Missed {
+    /// The face that would have been asked.
+    pub face: FaceId,
+    /// The key that was declared.
+    pub key: Text,
+    /// The ids under which the face declared it; none where a router behind it did.
+    pub ids: Items<u128>,
+    /// Why it was not asked.
+    pub reason: Reason,
+}
+
+/// What was not asked, region by region, in each by distance, key and face.
+pub type MissedList = Items<Missed>;
+
+/// What decides of the offers of a region.
+#[derive(Clone, Copy)]
+struct Panel {
+    /// Whether the asker may not ask for the key.
+    denied: bool,
+    /// Whether the region offers nothing to the asker.
+    beside: bool,
+    /// Whom the request asks for.
+    target: QueryTarget,
+    /// Whether an offer that reaches the target is complete.
+    complete: bool,
+}
+
+/// What came of the offers so far.
+#[derive(Drop)]
+struct Verdict {
+    /// What was not asked, of earlier regions, too.
+    missed: MissedList,
+    /// The faces that are asked.
+    taken: RouteBuilder<FaceId>,
+    /// Whether a complete offer was among those that reached the target.
+    found: bool,
+}
+
+/// Who asks, with what is seen.
+#[derive(Drop)]
+struct Asked<'a> {
+    seen: &'a Seen,
+    asker: Asker<'a>,
+}
+
+fn is_complete(offer: &QueryTargetQabl) -> bool
+    ensures { result ≡ is_complete offer.now }
+{
+    match offer.info {
+        Some(info) => info.complete,
+        None => false,
+    }
+}
+
+/// The way of a request between the regions of an asker and of an offer.
+fn filter_for(asker: &Asker<'_>, offer: &QueryTargetQabl) -> InterRegionFilter
+    ensures { result ≡ filter_for (asker_of asker.now) offer.now }
+{
+    InterRegionFilter {
+        src: asker.opened.region,
+        dst: offer.region,
+        src_zid: asker.source,
+        fwd_zid: Some(asker.opened.zid),
+        dst_zid: zid_of(asker.faces, offer.face),
+    }
+}
+
+/// Whether the gateway carries a request between two of its regions.
+fn carries(asker: &Asker<'_>, filter: InterRegionFilter) -> bool
+    ensures { result ≡ carries_between asker.now.tables.now asker.now.own filter }
+{
+    if !is_region(filter.src) {
+        return false;
+    }
+    if !is_region(filter.dst) {
+        return false;
+    }
+    filter.resolve(asker.tables, asker.own)
+}
+
+/// What an offer meets before the target looks at it.
+fn barrier(panel: Panel, asker: &Asker<'_>, offer: &QueryTargetQabl) -> Option<Reason>
+    ensures { result ≡ barrier panel (asker_of asker.now) offer.now }
+{
+    if panel.denied {
+        return Some(Reason::Denied);
+    }
+    if offer.face.0 == asker.face.0 {
+        return Some(Reason::Own);
+    }
+    if panel.beside {
+        return Some(Reason::Region);
+    }
+    let filter = filter_for(asker, offer);
+    if carries(asker, filter) {
+        return None;
+    }
+    Some(Reason::Carried(carrier(asker.tables, filter)))
+}
+
+/// Whether an offer is complete, and reaches the target.
+fn is_best(panel: Panel, asker: &Asker<'_>, offer: &QueryTargetQabl) -> bool
+    ensures { result ≡ is_best panel (asker_of asker.now) offer.now }
+{
+    is_complete(offer) && barrier(panel, asker, offer).is_none()
+}
+
+/// Whether the target picks an offer that reaches it, where a complete one came before or not.
+fn is_picked(panel: Panel, found: bool, offer: &QueryTargetQabl) -> bool
+    ensures { result ≡ is_picked panel found offer.now }
+{
+    match panel.target {
+        QueryTarget::All => true,
+        QueryTarget::AllComplete => offer.info.is_none() || is_complete(offer),
+        QueryTarget::BestMatching => !panel.complete || (is_complete(offer) && !found),
+    }
+}
+
+/// Why the target does not pick an offer.
+fn unpicked(target: QueryTarget) -> Reason
+    ensures { result ≡ unpicked target }
+{
+    match target {
+        QueryTarget::AllComplete => Reason::Incomplete,
+        QueryTarget::All | QueryTarget::BestMatching => Reason::Farther,
+    }
+}
+
+/// Why an offer that reaches the target is not asked, if it isn't.
+fn picked_after(panel: Panel, verdict: &Verdict, offer: &QueryTargetQabl) -> Option<Reason>
+    ensures { result ≡ picked_after panel verdict.now offer.now }
+{
+    if !is_picked(panel, verdict.found, offer) {
+        return Some(unpicked(panel.target));
+    }
+    if verdict.taken.has_face(offer.face) {
+        return Some(Reason::Earlier);
+    }
+    None
+}
+
+/// What a face declared on the key of an offer, and was not asked for.
+fn missed_at(seen: &Seen, offer: &QueryTargetQabl, reason: Reason) -> Result<Missed, OutOfMemory>
+    ensures { IfOk result (λ m. m ≡ missed_at seen.now.owned offer.now reason) }
+{
+    Ok(Missed {
+        face: offer.face,
+        key: offer.key.copy(seen.alloc())?,
+        ids: seen.ids_on(offer.face, offer.key.as_str())?,
+        reason,
+    })
+}
+
+/// Adds what was not asked, where a declaration stands behind the offer.
+fn miss(
+    seen: &Seen,
+    missed: &mut MissedList,
+    offer: &QueryTargetQabl,
+    reason: Reason,
+) -> Result<(), OutOfMemory>
+    ensures { OnOk result (missed.new ≡ with_missed seen.now.owned missed.old offer.now reason) }
+{
+    if offer.info.is_none() {
+        return Ok(());
+    }
+    missed.push(missed_at(seen, offer, reason)?)
+}
+
+/// An offer that reaches the target is missed, or its face is taken.
+fn settle(
+    seen: &Seen,
+    panel: Panel,
+    verdict: &mut Verdict,
+    offer: &QueryTargetQabl,
+) -> Result<(), OutOfMemory>
+    ensures { OnOk result (verdict.new ≡ missed_or_taken seen.now.owned verdict.old offer.now (picked_after panel verdict.old offer.now)) }
+{
+    match picked_after(panel, verdict, offer) {
+        Some(reason) => miss(seen, &mut verdict.missed, offer, reason),
+        None => verdict.taken.put(offer.face, offer.face),
+    }
+}
+
+/// Takes note of a complete offer.
+fn note_found(verdict: &mut Verdict, offer: &QueryTargetQabl)
+    ensures { verdict.new ≡ found_with offer.now verdict.old }
+{
+    verdict.found = verdict.found || is_complete(offer);
+}
+
+/// What comes of an offer that reaches the target.
+fn pick(
+    seen: &Seen,
+    panel: Panel,
+    verdict: &mut Verdict,
+    offer: &QueryTargetQabl,
+) -> Result<(), OutOfMemory>
+    ensures { OnOk result (verdict.new ≡ picked seen.now.owned panel verdict.old offer.now) }
+{
+    settle(seen, panel, verdict, offer)?;
+    note_found(verdict, offer);
+    Ok(())
+}
+
+/// What comes of an offer.
+#[tactic(auto, unfolding(crate::specs::Reasons::judged))]
+fn judge(
+    asked: &Asked<'_>,
+    panel: Panel,
+    verdict: &mut Verdict,
+    offer: &QueryTargetQabl,
+) -> Result<(), OutOfMemory>
+    ensures { OnOk result (verdict.new ≡ judged asked.now.seen.now.owned panel (asker_of asked.now.asker) verdict.old offer.now) }
+{
+    match barrier(panel, &asked.asker, offer) {
+        Some(reason) => miss(asked.seen, &mut verdict.missed, offer, reason),
+        None => pick(asked.seen, panel, verdict, offer),
+    }
+}
+
+/// What comes of the offers, in order.
+fn judge_all(
+    asked: &Asked<'_>,
+    panel: Panel,
+    missed: MissedList,
+    offers: &[QueryTargetQabl],
+) -> Result<Verdict, OutOfMemory>
+    ensures { IfOk result (λ v. v ≡ fold (judged asked.now.seen.now.owned panel (asker_of asked.now.asker)) (first_verdict missed) offers.now) }
+{
+    let mut verdict = Verdict {
+        missed,
+        taken: RouteBuilder::new(asked.seen.alloc()),
+        found: false,
+    };
+    for offer in offers {
+        judge(asked, panel, &mut verdict, offer)?;
+    }
+    Ok(verdict)
+}
+
+/// Whether a region offers nothing to an asker: one of clients or peers, to its own.
+fn offers_nothing(asker: &Asker<'_>, hat: &Hat) -> bool
+    ensures { result ≡ offers_nothing (asker_of asker.now) hat.now }
+{
+    match hat.strategy() {
+        Strategy::Broker | Strategy::Router => false,
+        Strategy::Client | Strategy::Peer => same_region(asker.opened.region, hat.region()),
+    }
+}
+
+/// What a region offers to the asker; what it would offer to another, where it offers nothing.
+fn candidates(asker: &Asker<'_>, key: &str, hat: &Hat) -> Result<OfferList, OutOfMemory>
+    requires { IsTrue (key_of key.now) }
+    ensures { IfOk result (λ o. o ≡ candidates (asker_of asker.now) key.now hat.now) }
+{
+    if offers_nothing(asker, hat) {
+        return hat.compute_query_route(&Region::Local, key, None);
+    }
+    let src = asker.opened.region;
+    let node = if same_region(src, hat.region()) {
+        asker.context
+    } else {
+        Some(DEFAULT_NODE_ID)
+    };
+    hat.compute_query_route(&src, key, node)
+}
+
+/// What decides of the offers of a region, before it is known whether one is complete.
+fn panel_at(panel: Panel, asker: &Asker<'_>, hat: &Hat) -> Panel
+    ensures { result ≡ panel_at panel (asker_of asker.now) hat.now }
+{
+    Panel {
+        denied: panel.denied,
+        beside: offers_nothing(asker, hat),
+        target: panel.target,
+        complete: panel.complete,
+    }
+}
+
+/// Whether an offer that reaches the target is complete.
+fn has_best(panel: Panel, asker: &Asker<'_>, offers: &[QueryTargetQabl]) -> bool
+    ensures { result ≡ has_best panel (asker_of asker.now) offers.now }
+{
+    offers.iter().any(|offer| is_best(panel, asker, offer))
+}
+
+/// What decides of the offers of a region, where this decides of all.
+fn panel_of(panel: Panel, asker: &Asker<'_>, hat: &Hat, offers: &[QueryTargetQabl]) -> Panel
+    ensures { result ≡ panel_of panel (asker_of asker.now) hat.now offers.now }
+{
+    let there = panel_at(panel, asker, hat);
+    Panel {
+        denied: there.denied,
+        beside: there.beside,
+        target: there.target,
+        complete: has_best(there, asker, offers),
+    }
+}
+
+/// Adds what was not asked of a region.
+fn add_hat(
+    asked: &Asked<'_>,
+    panel: Panel,
+    key: &str,
+    missed: MissedList,
+    hat: &Hat,
+) -> Result<MissedList, OutOfMemory>
+    requires { IsTrue (key_of key.now) }
+    ensures { IfOk result (λ m. m ≡ with_hat asked.now.seen.now.owned panel (asker_of asked.now.asker) key.now missed hat.now) }
+{
+    let offers = candidates(&asked.asker, key, hat)?;
+    let panel = panel_of(panel, &asked.asker, hat, offers.as_slice());
+    let verdict = judge_all(asked, panel, missed, offers.as_slice())?;
+    Ok(verdict.missed)
+}
+
+/// What was not asked of all regions, in the order of their places.
+fn missed_in(
+    asked: &Asked<'_>,
+    panel: Panel,
+    key: &str,
+    hats: &RegionMap<Hat>,
+) -> Result<MissedList, OutOfMemory>
+    requires { IsTrue (key_of key.now) }
+    ensures { IfOk result (λ m. m ≡ fold (with_hat asked.now.seen.now.owned panel (asker_of asked.now.asker) key.now) [] (values_of hats.now)) }
+{
+    let mut missed = Items::new(asked.seen.alloc());
+    for hat in hats.values() {
+        missed = add_hat(asked, panel, key, missed, hat)?;
+    }
+    Ok(missed)
+}
+
+/// The hat of a region, where it has the face.
+fn home(hats: &RegionMap<Hat>, region: Region, face: FaceId) -> Option<&Hat>
+    ensures { option_copied result ≡ home hats.now region face.0 }
+{
+    let hat = hat_at(hats, region)?;
+    if hat.has_face(face) { Some(hat) } else { None }
+}
+
+/// The router that a node number of the face stands for, and its place; outside regions of routers the
+/// face itself, and the first.
+fn origin(
+    hats: &RegionMap<Hat>,
+    region: Region,
+    face: FaceId,
+    node: NodeId,
+) -> (Option<Zid>, Option<NodeId>)
+    ensures { result ≡ origin hats.now region face.0 node }
+{
+    match home(hats, region, face) {
+        Some(hat) => (
+            hat.remote_node_id_to_zid(face, node),
+            hat.map_routing_context(face, node),
+        ),
+        None => (None, None),
+    }
+}
+
+/// The asker of a request, if the face is open.
+fn asker_for<'a>(
+    seen: &'a Seen,
+    hats: &RegionMap<Hat>,
+    own: Zid,
+    face: FaceId,
+    node: NodeId,
+) -> Option<Asker<'a>>
+    ensures { option_map asker_of result ≡ asker_for hats.now own seen.now face node }
+{
+    let opened = *seen.faces().get(&face.0)?;
+    let (source, context) = origin(hats, opened.region, face, node);
+    Some(Asker {
+        faces: seen.faces(),
+        tables: seen.lists(),
+        own,
+        face,
+        opened,
+        source,
+        context,
+    })
+}
+
+/// What decides of a request on a key, before a region is looked at.
+fn first_panel(seen: &Seen, face: FaceId, target: QueryTarget, key: &str) -> Panel
+    ensures { result ≡ first_panel seen.now face target key.now }
+{
+    Panel {
+        denied: seen.denies(face, key),
+        beside: false,
+        target,
+        complete: false,
+    }
+}
+
+/// What was not asked of all regions, on what an expression says.
+#[tactic(auto, unfolding(crate::specs::Reasons::missed_on))]
+fn missed_on(
+    asked: &Asked<'_>,
+    hats: &RegionMap<Hat>,
+    target: QueryTarget,
+    said: &Resolved,
+) -> Result<MissedList, OutOfMemory>
+    ensures { IfOk result (λ m. m ≡ missed_on hats.now asked.now.seen.now (asker_of asked.now.asker) target said.now) }
+{
+    if !says_key(said) {
+        return Ok(Items::new(asked.seen.alloc()));
+    }
+    let panel = first_panel(asked.seen, asked.asker.face, target, full_text(said));
+    missed_in(asked, panel, full_text(said), hats)
+}
+
+/// What a request was not asked of, of all that was declared on keys that meet its own.
+pub fn missed_for(
+    seen: &Seen,
+    hats: &RegionMap<Hat>,
+    own: Zid,
+    face: FaceId,
+    request: &Request,
+) -> Result<MissedList, OutOfMemory>
+    ensures { IfOk result (λ m. m ≡ missed_for hats.now own seen.now face request.now) }
+{
+    match asker_for(seen, hats, own, face, request.node) {
+        Some(asker) => {
+            let said = seen.said(face, &request.wire)?;
+            missed_on(&Asked { seen, asker }, hats, request.target, &said)
+        }
+        None => Ok(Items::new(seen.alloc())),
+    }
+}
