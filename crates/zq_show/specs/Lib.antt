@@ -4,6 +4,7 @@ pub mod PageRows
 pub mod Choice
 pub mod Lanes
 pub mod Picture
+pub mod Fit
 pub mod Page
 pub mod Plain
 pub mod Mermaid

@@ -5,9 +5,10 @@ use Rattle.std.specs.Fmt.{decimal}
 use Rattle.zq_show.specs.declared.page.Line.{Line}
 use Rattle.zq_show.specs.declared.page.BadLine.{BadLine}
 use Rattle.zq_show.specs.declared.page.Shown.{Shown}
-use Rattle.zq_show.specs.declared.page.TheConstants.{BEGIN, LEGEND}
+use Rattle.zq_show.specs.declared.page.TheConstants.{BEGIN, LEGEND, LINES_ROOM, LIST_ROOM}
 use Rattle.zq_show.specs.declared.row.Row.{Row}
 use Rattle.zq_show.specs.Escape.{shown_in_page}
+use Rattle.zq_show.specs.Fit.{fitted_by, room_of}
 use Rattle.zq_show.specs.Choice.{has_line}
 use Rattle.zq_show.specs.Picture.{picture_words}
 
@@ -26,6 +27,10 @@ items_words texts = flat_map item_words texts
 -- a list, and nothing where it is empty
 unfoldable pub list_words : List (List ℕ) → List ℕ
 list_words texts = if length texts == 0 then [] else codes "<ul>" ++ items_words texts ++ codes "</ul>"
+
+-- a list that has room for so many bytes
+unfoldable pub long_list_words : ℕ → List (List ℕ) → List ℕ
+long_list_words room texts = codes "<ul>" ++ fitted_by item_words (room_of room) texts ++ codes "</ul>"
 
 -- what there is to say of an answer, each as a paragraph
 abbrev pub notes_words : List (List ℕ) → List ℕ
@@ -56,9 +61,9 @@ unfoldable pub line_words : List Row → Line → List ℕ
 line_words rows line =
     line_number_words line.number (has_line line.number rows) ++ said_words (codes "<code>") line.text (codes "</code>") ++ came_words line ++ codes "</li>" ++ 10 ∷ []
 
--- the lines, in order
+-- the lines, in order, each where it fits
 abbrev pub lines_words : List Row → List Line → List ℕ
-lines_words rows lines = flat_map (line_words rows) lines
+lines_words rows lines = fitted_by (line_words rows) (room_of LINES_ROOM) lines
 
 -- the line that could not be read
 unfoldable pub bad_line_words : BadLine → List ℕ
@@ -81,7 +86,7 @@ legend_words = LEGEND.now
 
 -- the title, the configuration and the faces
 unfoldable pub head_words : Shown → List ℕ
-head_words shown = begin_words ++ list_words shown.head ++ codes "<h2>Faces</h2>" ++ list_words shown.faces
+head_words shown = begin_words ++ long_list_words LIST_ROOM shown.head ++ codes "<h2>Faces</h2>" ++ long_list_words LIST_ROOM shown.faces
 
 -- the picture, with what it shows of the run
 unfoldable pub scene_words : Shown → List ℕ

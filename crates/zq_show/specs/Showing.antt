@@ -13,7 +13,7 @@ use Rattle.zq_show.specs.Choice.{chosen, has_line}
 use Rattle.zq_show.specs.Lanes.{lanes_shown}
 use Rattle.zq_show.specs.declared.entry.Entry.{Entry}
 use Rattle.zq_show.specs.declared.show.Run.{Run}
-use Rattle.zq_show.specs.declared.show.TheConstants.{DRAWN}
+use Rattle.zq_show.specs.declared.show.TheConstants.{DRAWN, ROWS}
 use Rattle.zq_show.specs.Answer.{answer_words, handed_text, is_refused}
 use Rattle.zq_show.specs.Notes.{notes_of}
 use Rattle.zq_show.specs.Rows.{all_rows}
@@ -78,6 +78,6 @@ shown_of run request =
       lines = lines_shown request (rows_shown request run.timeout run.entries) run.entries;
       bad = run.bad;
       scope = scope_words request (length run.entries);
-      lanes = lanes_shown run.entries (rows_shown request run.timeout run.entries);
-      rows = rows_shown request run.timeout run.entries;
+      lanes = lanes_shown run.entries (take ROWS (rows_shown request run.timeout run.entries));
+      rows = take ROWS (rows_shown request run.timeout run.entries);
     }

@@ -5,6 +5,7 @@
 //! - `choice`: which rows concern a request, and the faces that rows name.
 //! - `lanes`: the lanes of a picture.
 //! - `picture`: the picture of rows.
+//! - `fit`: what fits into a list of a page.
 //! - `page`: the page: the head, the picture, and the lines with their answers.
 //! - `mermaid`: the picture as a sequence diagram.
 //! - `plain`: the lines as text for a terminal.
@@ -28,6 +29,7 @@ pub mod carrier;
 pub mod choice;
 pub mod entry;
 pub mod escape;
+pub mod fit;
 pub mod labels;
 pub mod lanes;
 pub mod machine;

@@ -1,9 +1,11 @@
 //! The page of a run: the head, the faces, the picture, and the lines with what came of each.
 ghost use Rattle.std.specs.Prelude.{◌≡◌, ◌++◌, IfOk, OnOk};
-ghost use Rattle.zq_show.specs.Page.{answer_open, bad_line_words, bad_words, begin_words, came_words, head_words, items_words, legend_words, line_number_words, line_words, lines_words, link_words, linked, list_words, notes_words, page_words, said_words, scene_words};
+ghost use Rattle.zq_show.specs.Fit.{fitted_by, room_of};
+ghost use Rattle.zq_show.specs.Page.{item_words, long_list_words, answer_open, bad_line_words, bad_words, begin_words, came_words, head_words, items_words, legend_words, line_number_words, line_words, lines_words, link_words, linked, list_words, notes_words, page_words, said_words, scene_words};
 
 use crate::choice::{RowList, has_line};
 use crate::escape::push_in_page;
+use crate::fit::{push_fit, push_left_out, room_of};
 use crate::lanes::LaneList;
 use crate::picture::push_picture;
 use crate::row::Row;
@@ -66,6 +68,13 @@ pub struct Shown {
     pub rows: RowList,
 }
 
+/// The bytes for which there is room in the list of the lines before the calls, and in that of the
+/// faces.
+pub const LIST_ROOM: usize = 300_000;
+
+/// The bytes for which there is room in the list of the lines.
+pub const LINES_ROOM: usize = 3_000_000;
+
 /// What stands before the lists of a page: the title, and how its parts look.
 pub const BEGIN: &str = "<!doctype html>
 <html lang='en'><head><meta charset='utf-8'>
@@ -94,7 +103,7 @@ path{fill:none;stroke:var(--ink);stroke-width:1.5}.lane{stroke:var(--rule)}.ask{
 
 /// How the picture is read.
 pub const LEGEND: &str =
-    "<p class='said'>Time goes down. A thick arrow is a request, a dashed one a reply, a dotted one a final, a thin one a declaration. A cross at the gateway is a refusal, and one before a face what its exit did not let out. A filled bar beside a face is a request that is pending there, a hollow one a reply in flight. A rule across is a moment that came. At the left are the numbers of the script's lines, linked with their words below; <code>#N</code> is the number of a request in this run.</p>
+    "<p class='said'>Time goes down. A thick arrow is a request, a dashed one a reply, a dotted one a final, a thin one a declaration. A cross at the gateway is a refusal, and one before a face what its exit did not let out. A filled bar beside a face is a request that is pending there, a hollow one a reply in flight. A rule across is a moment that came. There are at most 400 rows. At the left are the numbers of the script's lines, linked with their words below; <code>#N</code> is the number of a request in this run.</p>
 <div class='picture'>
 ";
 
@@ -122,6 +131,47 @@ fn push_items(alloc: Global, out: &mut Vec<u8>, texts: &[Bytes]) -> Result<(), A
         push_said(alloc, out, "<li><code>", text, "</code></li>")?;
     }
     Ok(())
+}
+
+/// An item of a list.
+fn item_of(alloc: Global, text: &Bytes) -> Result<Vec<u8>, AllocError>
+    ensures { IfOk result (λ v. v.items ≡ item_words text.now) }
+{
+    let mut item = Vec::new(alloc);
+    push_said(alloc, &mut item, "<li><code>", text, "</code></li>")?;
+    Ok(item)
+}
+
+/// Writes the items of a list that has room for so many bytes.
+fn push_fitted(
+    alloc: Global,
+    out: &mut Vec<u8>,
+    room: usize,
+    texts: &[Bytes],
+) -> Result<(), AllocError>
+    ensures { OnOk result (out.new.items ≡ out.old.items ++ fitted_by item_words (room_of room) texts.now) }
+{
+    let mut fit = room_of(room);
+    for text in texts {
+        let item = item_of(alloc, text)?;
+        fit = push_fit(out, fit, item.as_slice())?;
+    }
+    push_left_out(out, fit)
+}
+
+/// Writes a list that has room for so many bytes.
+#[tactic(auto, unfolding(crate::specs::Page::long_list_words))]
+fn push_long_list(
+    alloc: Global,
+    out: &mut Vec<u8>,
+    room: usize,
+    texts: &[Bytes],
+) -> Result<(), AllocError>
+    ensures { OnOk result (out.new.items ≡ out.old.items ++ long_list_words room texts.now) }
+{
+    push_text(out, "<ul>")?;
+    push_fitted(alloc, out, room, texts)?;
+    push_text(out, "</ul>")
 }
 
 /// Writes a list, and nothing where it is empty.
@@ -212,7 +262,16 @@ fn push_line(alloc: Global, out: &mut Vec<u8>, rows: &[Row], line: &Line) -> Res
     push_text(out, "\n")
 }
 
-/// Writes the lines, in order.
+/// A line, by itself.
+fn line_item(alloc: Global, rows: &[Row], line: &Line) -> Result<Vec<u8>, AllocError>
+    ensures { IfOk result (λ v. v.items ≡ line_words rows.now line.now) }
+{
+    let mut item = Vec::new(alloc);
+    push_line(alloc, &mut item, rows, line)?;
+    Ok(item)
+}
+
+/// Writes the lines, in order, each where it fits.
 fn push_lines(
     alloc: Global,
     out: &mut Vec<u8>,
@@ -221,10 +280,12 @@ fn push_lines(
 ) -> Result<(), AllocError>
     ensures { OnOk result (out.new.items ≡ out.old.items ++ lines_words rows.now lines.now) }
 {
+    let mut fit = room_of(LINES_ROOM);
     for line in lines {
-        push_line(alloc, out, rows, line)?;
+        let item = line_item(alloc, rows, line)?;
+        fit = push_fit(out, fit, item.as_slice())?;
     }
-    Ok(())
+    push_left_out(out, fit)
 }
 
 /// Writes the line that could not be read.
@@ -275,9 +336,9 @@ fn push_head(alloc: Global, out: &mut Vec<u8>, shown: &Shown) -> Result<(), Allo
     ensures { OnOk result (out.new.items ≡ out.old.items ++ head_words shown.now) }
 {
     push_begin(out)?;
-    push_list(alloc, out, shown.head.as_slice())?;
+    push_long_list(alloc, out, LIST_ROOM, shown.head.as_slice())?;
     push_text(out, "<h2>Faces</h2>")?;
-    push_list(alloc, out, shown.faces.as_slice())
+    push_long_list(alloc, out, LIST_ROOM, shown.faces.as_slice())
 }
 
 /// Writes the picture, with what it shows of the run.

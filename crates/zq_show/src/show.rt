@@ -28,6 +28,9 @@ use zq_machine::handed::Handed;
 /// How many calls a picture has where it is of no request.
 pub const DRAWN: usize = 100;
 
+/// How many rows a picture has at most.
+pub const ROWS: usize = 400;
+
 /// A run: the lines before the calls, the calls, and the line that could not be read.
 #[derive(Drop)]
 pub struct Run {
@@ -135,6 +138,26 @@ fn first_calls(entries: &[Entry]) -> &[Entry]
     front
 }
 
+/// The first rows, as many as a picture has.
+fn first_rows(rows: &[Row]) -> &[Row]
+    ensures { result.now ≡ take ROWS rows.now }
+{
+    if rows.len() <= ROWS {
+        return rows;
+    }
+    let (front, _) = rows.split_at(ROWS);
+    front
+}
+
+/// No more rows than a picture has.
+fn cut_off(rows: RowList) -> RowList
+    ensures { result ≡ take ROWS rows }
+{
+    let mut rows = rows.into_vec();
+    rows.truncate(ROWS);
+    Items::from_vec(rows)
+}
+
 /// The rows of the picture: of the first calls, or of those that concern a request.
 fn rows_shown(
     alloc: Global,
@@ -192,8 +215,8 @@ fn shown_of(alloc: Global, run: Run, request: Option<u64>) -> Result<Shown, OutO
         lines: lines_shown(alloc, request, rows.as_slice(), calls)?,
         bad,
         scope: scope(alloc, request, calls.len())?,
-        lanes: lanes_shown(alloc, calls, rows.as_slice())?,
-        rows,
+        lanes: lanes_shown(alloc, calls, first_rows(rows.as_slice()))?,
+        rows: cut_off(rows),
     })
 }
 
