@@ -5,6 +5,7 @@ pub mod Choice
 pub mod Lanes
 pub mod Picture
 pub mod Fit
+pub mod Narrow
 pub mod Page
 pub mod Plain
 pub mod Mermaid

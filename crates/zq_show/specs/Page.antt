@@ -10,6 +10,7 @@ use Rattle.zq_show.specs.declared.row.Row.{Row}
 use Rattle.zq_show.specs.Escape.{shown_in_page}
 use Rattle.zq_show.specs.Fit.{fitted_by, room_of}
 use Rattle.zq_show.specs.Choice.{has_line}
+use Rattle.zq_show.specs.Narrow.{narrow_words}
 use Rattle.zq_show.specs.Picture.{picture_words}
 
 -- a text between words of the page's own
@@ -91,7 +92,7 @@ head_words shown = begin_words ++ long_list_words LIST_ROOM shown.head ++ codes 
 -- the picture, with what it shows of the run
 unfoldable pub scene_words : Shown → List ℕ
 scene_words shown =
-    said_words (codes "<h2>Picture</h2><p>") shown.scope (codes "</p>") ++ legend_words ++ picture_words shown.lanes shown.rows ++ codes "</div><h2>Lines</h2><ol class='lines'>"
+    said_words (codes "<h2>Picture</h2><p>") shown.scope (codes "</p>") ++ legend_words ++ picture_words shown.lanes shown.rows ++ codes "</div>" ++ narrow_words shown.rows ++ codes "<h2>Lines</h2><ol class='lines'>"
 
 -- the page of a run
 abbrev pub page_words : Shown → List ℕ

@@ -6,6 +6,7 @@
 //! - `lanes`: the lanes of a picture.
 //! - `picture`: the picture of rows.
 //! - `fit`: what fits into a list of a page.
+//! - `narrow`: the rows of a picture as a list.
 //! - `page`: the page: the head, the picture, and the lines with their answers.
 //! - `mermaid`: the picture as a sequence diagram.
 //! - `plain`: the lines as text for a terminal.
@@ -34,6 +35,7 @@ pub mod labels;
 pub mod lanes;
 pub mod machine;
 pub mod mermaid;
+pub mod narrow;
 pub mod notes;
 pub mod page;
 pub mod picture;

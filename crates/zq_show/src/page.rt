@@ -7,6 +7,7 @@ use crate::choice::{RowList, has_line};
 use crate::escape::push_in_page;
 use crate::fit::{push_fit, push_left_out, room_of};
 use crate::lanes::LaneList;
+use crate::narrow::push_narrow;
 use crate::picture::push_picture;
 use crate::row::Row;
 use std::alloc::{AllocError, Global};
@@ -95,7 +96,8 @@ svg{display:block}svg text{font:12px ui-monospace,monospace;fill:var(--ink);pain
 svg .name{font-weight:600;text-anchor:middle}svg .number{fill:var(--link)}svg a:target text{font-weight:700}p code{font-size:inherit}
 path{fill:none;stroke:var(--ink);stroke-width:1.5}.lane{stroke:var(--rule)}.ask{stroke-width:2.5}.reply{stroke-dasharray:9 4}.final{stroke-dasharray:2 4}
 .tell{stroke:var(--soft);stroke-width:1}.time{stroke:var(--soft);stroke-dasharray:14 4 2 4}.head{fill:var(--ink);stroke:none}.cross{stroke:var(--bad);stroke-width:2.5}
-.dot{stroke-width:8;stroke-linecap:round}.pending{fill:var(--soft)}.flight{fill:var(--card);stroke:var(--ink)}
+.dot{stroke-width:8;stroke-linecap:round}.rows{display:none;list-style:none;padding:0}@media (max-width:40rem){.picture,.legend{display:none}.rows{display:block}}
+.pending{fill:var(--soft)}.flight{fill:var(--card);stroke:var(--ink)}
 </style></head><body>
 <h1>A run of the gateway</h1>
 <h2>Configuration</h2>
@@ -103,7 +105,7 @@ path{fill:none;stroke:var(--ink);stroke-width:1.5}.lane{stroke:var(--rule)}.ask{
 
 /// How the picture is read.
 pub const LEGEND: &str =
-    "<p class='said'>Time goes down. A thick arrow is a request, a dashed one a reply, a dotted one a final, a thin one a declaration. A cross at the gateway is a refusal, and one before a face what its exit did not let out. A filled bar beside a face is a request that is pending there, a hollow one a reply in flight. A rule across is a moment that came. There are at most 400 rows. At the left are the numbers of the script's lines, linked with their words below; <code>#N</code> is the number of a request in this run.</p>
+    "<p class='said legend'>Time goes down. A thick arrow is a request, a dashed one a reply, a dotted one a final, a thin one a declaration. A cross at the gateway is a refusal, and one before a face what its exit did not let out. A filled bar beside a face is a request that is pending there, a hollow one a reply in flight. A rule across is a moment that came. There are at most 400 rows. At the left are the numbers of the script's lines, linked with their words below; <code>#N</code> is the number of a request in this run.</p>
 <div class='picture'>
 ";
 
@@ -349,7 +351,9 @@ fn push_scene(alloc: Global, out: &mut Vec<u8>, shown: &Shown) -> Result<(), All
     push_said(alloc, out, "<h2>Picture</h2><p>", &shown.scope, "</p>")?;
     push_legend(out)?;
     push_picture(alloc, out, shown.lanes.as_slice(), shown.rows.as_slice())?;
-    push_text(out, "</div><h2>Lines</h2><ol class='lines'>")?;
+    push_text(out, "</div>")?;
+    push_narrow(alloc, out, shown.rows.as_slice())?;
+    push_text(out, "<h2>Lines</h2><ol class='lines'>")?;
     Ok(())
 }
 
