@@ -12,7 +12,7 @@ use Rattle.zq_hold.specs.declared.view.Role.{Role}
 use Rattle.zq_hold.specs.declared.view.Role.TheVariants.{Keeper, Seat, Pledge, Last, Spent}
 use Rattle.zq_hold.specs.Slots.{weight, times, stood, one_slot}
 use Rattle.zq_hold.specs.Rule.{HoldState, live, total, holders, standing, endings, outstanding, IsKeptBy, IsKept}
-use Rattle.zq_hold.specs.Laws.{IsStep, IsCut, IsJoin, FallsTo, InUse, OneSeat, SeatLeavesZero, SeatLeavesNone, SeatSteps, EntryIsEmpty, KeeperLeavesZero, KeeperLeavesNone, KeeperSteps, cleared, settled}
+use Rattle.zq_hold.specs.Laws.{IsStep, IsCut, IsJoin, FallsTo, InUse, OneSeat, SeatLeavesZero, SeatLeavesNone, SeatSteps, EntryIsEmpty, KeeperLeavesZero, KeeperLeavesNone, KeeperSteps, UnlentStands, cleared, settled}
 use Rattle.zq_hold.proofs.Totals.{total_set, total_snoc, total_one, total_at, total_both, weight_same, weight_one, weight_other}
 use Rattle.zq_hold.proofs.SeatSteps.{apart}
 use Rattle.zq_hold.proofs.Cuts.{keeper_rule, now_there, total_split, total_join}
@@ -460,3 +460,12 @@ entry_is_empty n s s' w t =
           let stand = sum (λ u. stood k u.stands) in
           let none_stood : stood k w.stands ≡ 0 = ap (stood k) idle in omega arith,
     )
+
+-- ---- slots that are not lent
+
+pub unlent_stands : UnlentStands
+unlent_stands n s keeper view r k used none away =
+    let alone = r.unlent k used none in
+    let up = r.owed k used (omega (arith, alone, away)) in
+    let most = r.stands k in
+    omega (arith, up, most)

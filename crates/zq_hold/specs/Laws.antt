@@ -6,7 +6,7 @@ use Rattle.zq_hold.specs.declared.view.HoldView.{HoldView}
 use Rattle.zq_hold.specs.declared.view.Role.{Role}
 use Rattle.zq_hold.specs.declared.view.Role.TheVariants.{Keeper, Seat, Pledge, Last, Spent}
 use Rattle.zq_hold.specs.Slots.{times, stood, one_slot}
-use Rattle.zq_hold.specs.Rule.{HoldState, live, IsKept}
+use Rattle.zq_hold.specs.Rule.{HoldState, live, standing, IsKept, IsKeptBy}
 
 -- ---- what the table does, from the state s to the state s', both under the rule of n slots
 
@@ -140,3 +140,9 @@ CutStands = (n : ℕ) (s s' : HoldState) (i k : ℕ) (v left right : HoldView) �
 -- nor does a join
 abbrev pub JoinStands : Type 0
 JoinStands = (n : ℕ) (s s' : HoldState) (i j k : ℕ) (v w both spent : HoldView) → IsJoin n s s' i j v w both spent → InUse k s' → stood k v.stands + stood k w.stands ≤ stood k both.stands + stood k spent.stands
+
+-- ---- slots that are not lent
+
+-- exactly one view stands for a slot that is in use, not lent, and not held by the keeper
+abbrev pub UnlentStands : Type 0
+UnlentStands = (n : ℕ) (s : HoldState) (keeper : ℕ) (view : HoldView) → IsKeptBy n s keeper view → (k : ℕ) → 0 < times k view.used → times k view.lent ≡ 0 → times k view.held ≡ 0 → standing k s.views ≡ 1

@@ -2,11 +2,12 @@
 ghost use Rattle.std.specs.Prelude.{◌≡◌, ◌<◌, IfNone, IfOk, IfSome, None, Some, length, replicate};
 ghost use Rattle.zq_hold.specs.Owners.{owned, owner_at};
 
-use std::alloc::{AllocError, Global};
+use std::alloc::Global;
+use zq_message::memory::OutOfMemory;
 
 /// That many slots without an owner.
 #[tactic(auto, using(std::proofs::lemmas::List::replicate_more))]
-pub(crate) fn no_owners(alloc: Global, count: usize) -> Result<Vec<Option<u64>>, AllocError>
+pub(crate) fn no_owners(alloc: Global, count: usize) -> Result<Vec<Option<u64>>, OutOfMemory>
     ensures { IfOk result (λ v. v.items ≡ replicate count None) }
 {
     let mut owners = Vec::with_capacity(alloc, count)?;

@@ -7,15 +7,16 @@ use crate::seat::{HoldSeat, SeatList};
 use crate::slot::Mark;
 use crate::table::{CountSeat, CountTable, make_seat};
 use atomic_table::Table;
-use std::alloc::{AllocError, Global};
+use std::alloc::Global;
 use std::sync::Arc;
+use zq_message::memory::OutOfMemory;
 
 /// The holds of one table: a keeper, slots and seats that belong together.
 pub struct Holds;
 
 impl Holds {
     /// A keeper of that many slots, each of which is spare, and that many seats, which hold nothing; no other seat is made.
-    pub fn new(alloc: Global, slots: u16, seats: u8) -> Result<(Keeper, SeatList), AllocError>
+    pub fn new(alloc: Global, slots: u16, seats: u8) -> Result<(Keeper, SeatList), OutOfMemory>
         requires slots { (0 < slots) × (slots ≤ 1024) }
         requires seats { (0 < seats) × (seats ≤ 63) }
         ensures keeper { IfOk result (λ r. r.0 ≡ record { home = r.0.home; marks = replicate slots Spare; lent = []; ended = 0; vacated = 0; made = seats; joined = 0 }) }

@@ -1,5 +1,5 @@
 //! The keeper of all slots, and what it does with slots that it allotted.
-ghost use Rattle.std.specs.Prelude.{◌≡◌, ◌<◌, ◌+◌, ◌∷◌, [], true, false, IfNone, IfSome, slice_set};
+ghost use Rattle.std.specs.Prelude.{◌≡◌, ◌<◌, ◌+◌, ◌∷◌, [], true, false, IfNone, IfSome, length, slice_set};
 ghost use Rattle.zq_hold.specs.declared.slot.Mark.TheVariants.{Gone, Kept, Spare, Vacant};
 ghost use Rattle.zq_hold.specs.Slots.{times, without};
 ghost use Rattle.zq_hold.specs.Marks.{AllAllotted, HasMark, IsNext};
@@ -52,6 +52,13 @@ impl Keeper {
         let Keeper { table, seat, marks } = self;
         open_slot(&**table, seat, marks.as_mut_slice(), at);
         Some(Slot(at as u16))
+    }
+
+    /// Tells a proof that each slot of its holds has a mark. It does nothing.
+    pub fn recall(&self)
+        ensures { length self.now.marks ≡ self.now.home.words }
+    {
+        let _ = &self.seat;
     }
 
     /// Whether the slot is allotted and the keeper holds it.

@@ -16,6 +16,7 @@ ghost use Rattle.zq_hold.specs.Laws.{
   SeatSteps,
   StepSettles,
   StepStands,
+  UnlentStands,
 };
 
 /// A seat that stood for nothing and leaves the number of a slot 0 stands for the slot afterwards, and its count goes up by one; if its
@@ -54,6 +55,12 @@ pub fn stands_on()
     ensures step { StepStands }
     ensures cut { CutStands }
     ensures join { JoinStands }
+{}
+
+/// A slot in use that is not lent and that the keeper does not hold has exactly one view that stands for it. Who let it go last was the
+/// keeper, as nobody else held it since it was allotted; and its `Last` is not taken in, as the slot is in use.
+pub fn unlent_stands()
+    ensures { UnlentStands }
 {}
 
 /// A view that enters the table counts nothing, stands for nothing, and leaves no number 0.

@@ -2,7 +2,7 @@
 //! Whoever lets a slot go last knows it, and gets a `Last`, which the keeper takes back. Each slot has a word in a table that all
 //! share: how many hold it.
 //!
-//! - `slot`: `Slot`, and `Mark`, how a slot stands with the keeper
+//! - `slot`: `Slot` with `SlotList`, and `Mark`, how a slot stands with the keeper
 //! - `holds`: `Holds::new`, which makes the keeper and the seats
 //! - `seat`: `HoldSeat` with `release` and the law `apart`, and `SeatList`
 //! - `keeper`: `Keeper` with `put_back`, `vacate` and `join`; `hold` and `release_kept`
@@ -49,8 +49,8 @@ pub use keeper::{Keeper, hold, release_kept};
 pub use last::Last;
 pub use laws::{
     counts_settle, entry_is_empty, keeper_step_counts, seat_cut_counts, seat_is_told,
-    seat_step_counts, stands_on,
+    seat_step_counts, stands_on, unlent_stands,
 };
 pub use seat::{HoldSeat, SeatList, apart, release};
-pub use slot::{Mark, Slot};
+pub use slot::{Mark, Slot, SlotList};
 pub use slots::Slots;

@@ -7,8 +7,9 @@ ghost use Rattle.zq_hold.specs.Owners.{IsSlotted, owned, owner_at, with_mark, wi
 
 use crate::find::{no_owners, place_of};
 use crate::{HoldSeat, Holds, Keeper, Last, NoSlot, SeatList, Slot, allot, hold, release_kept};
-use std::alloc::{AllocError, Global};
+use std::alloc::Global;
 use std::marker::Model;
+use zq_message::memory::OutOfMemory;
 
 /// The keeper of the slots, with the request that owns each.
 pub struct Slots {
@@ -34,7 +35,7 @@ impl Model for Slots {
 
 impl Slots {
     /// That many slots, each spare, and that many seats, which hold nothing; no other seat is made.
-    pub fn new(alloc: Global, slots: u16, seats: u8) -> Result<(Slots, SeatList), AllocError>
+    pub fn new(alloc: Global, slots: u16, seats: u8) -> Result<(Slots, SeatList), OutOfMemory>
         requires slots { (0 < slots) × (slots ≤ 1024) }
         requires seats { (0 < seats) × (seats ≤ 63) }
         ensures slots { IfOk result (λ r. r.0 ≡ record { keeper = record { home = r.0.keeper.home; marks = replicate slots Spare; lent = []; ended = 0; vacated = 0; made = seats; joined = 0 }; owners = replicate slots None }) }
@@ -48,9 +49,10 @@ impl Slots {
 
     /// Tells a proof what holds of the slots between any two calls. It does nothing.
     pub fn recall(&self)
-        ensures { IsSlotted self.now.keeper.marks self.now.owners }
+        ensures slotted { IsSlotted self.now.keeper.marks self.now.owners }
+        ensures sized { length self.now.keeper.marks ≡ self.now.keeper.home.words }
     {
-        let _ = &self.keeper;
+        self.keeper.recall();
     }
 
     /// How many slots there are.

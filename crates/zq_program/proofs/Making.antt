@@ -1,13 +1,14 @@
 -- Calls that were made, one after another.
-use Rattle.std.proofs.Common.{◌≡◌, ◌+◌, Bool, true, false, List, [], ◌∷◌, ◌++◌, length, refl, sym, ap, ◌∙◌, subst, arith, length-append}
+use Rattle.std.proofs.Common.{◌≡◌, ◌+◌, Bool, true, false, List, [], ◌∷◌, ◌++◌, length, take, refl, sym, ap, ◌∙◌, subst, arith, length-append}
 use Rattle.std.specs.Prelude.{◌&&◌, not, if◌then◌else◌}
 use Rattle.std.specs.List.{filter}
 use Rattle.std.proofs.lemmas.List.Elements.{filter-append}
+use Rattle.std.proofs.Math.Seq.{take-append_seam}
 use Rattle.zq_machine.specs.declared.call.Call.{Call}
 use Rattle.zq_machine.specs.Calls.{is_sent}
 use Rattle.zq_shared.specs.Stored.{asks_request}
 use Rattle.zq_shared.specs.Tallies.{Counts, Tallied, is_other, with_ask, with_full, with_other, with_stored}
-use Rattle.zq_program.specs.Working.{HasMade}
+use Rattle.zq_program.specs.Working.{HasBegun, HasMade}
 
 pub count_more : (p : Call → Bool) (xs ys : List Call) → length (filter p (xs ++ ys)) ≡ length (filter p xs) + length (filter p ys)
 count_more p xs ys = ap (λ (l : List Call). length l) (filter-append p xs ys) ∙ length-append (filter p xs) (filter p ys)
@@ -48,3 +49,15 @@ made_full c t u q h =
 pub kept_whole : (b : Bool) → not b ≡ false → b ≡ true
 kept_whole true e = refl
 kept_whole false e = absurd (cc)
+
+-- ---- calls of which a beginning was made
+pub begun_at : (cs front : List Call) (c : Call) (rest : List Call) → cs ≡ front ++ c ∷ rest → (a b d : Counts) → HasMade front a b → d ≡ b → HasBegun cs a d
+begun_at cs front c rest e a b d made same = (
+  length front,
+  (let long = ap (λ (l : List Call). length l) e in let both = length-append front (c ∷ rest) in omega (arith, long, both)),
+  subst (λ (l : List Call). HasMade l a d) (sym (ap (take (length front)) e ∙ take-append_seam front (c ∷ rest))) (subst (HasMade front a) (sym same) made),
+)
+
+pub not_whole : (b : Bool) → not b ≡ true → b ≡ false
+not_whole true e = absurd (cc)
+not_whole false e = refl

@@ -1,5 +1,5 @@
 -- What workers are given, and what they make of it.
-use Rattle.std.specs.Prelude.{◌≡◌, ◌+◌, Bool, true, false, All, List, [], Option}
+use Rattle.std.specs.Prelude.{◌≡◌, ℕ, ◌+◌, ◌<◌, Bool, true, false, All, List, [], Option, length, take}
 use Rattle.std.specs.List.{list_all}
 use Rattle.atomic_table.specs.Seated.{TableId}
 use Rattle.zq_hold.specs.Seats.{Holder, unused_seat}
@@ -33,10 +33,15 @@ pub record HasMade (cs : List Call) (old new : Counts) : Type 0 where
   pub others : new.calls ≡ old.calls + others_in cs
   pub asked : new.asks + new.full ≡ old.asks + old.full + requests_in cs
 
--- a worker made its calls, if it found memory for each
+-- of these calls a beginning was made, and neither the one behind it nor any later one
+abbrev pub HasBegun : List Call → Counts → Counts → Type 0
+HasBegun cs old new = (n : ℕ) × (n < length cs) × HasMade (take n cs) old new
+
+-- a worker made its calls, if it found memory for each; otherwise it made those before the first for which it found none
 pub record Worked (old new : Working) : Type 0 where
   pub parts : new.tally.parts ≡ old.tally.parts
   pub made : new.whole ≡ true → HasMade old.calls old.tally.made new.tally.made
+  pub begun : new.whole ≡ false → HasBegun old.calls old.tally.made new.tally.made
 
 -- all that the workers had to send was sent
 abbrev pub all_sent : List Working → Bool

@@ -19,7 +19,7 @@ use zq_message::items::Items;
 use zq_shared::{Home, Link, SeatList, Shared, TablesLock, Tally};
 
 /// The same over the gateway that the name means.
-#[tactic(auto, using(crate::proofs::Faults::fell_none, crate::proofs::Faults::fell_of, zq_shared::proofs::Due::orderly_none))]
+#[tactic(auto, using(crate::proofs::Faults::fell_none, crate::proofs::Faults::fell_of))]
 fn share_named<
     H: Home + Send + Sync,
     C: Ledger + Send + Sync,
@@ -36,7 +36,7 @@ fn share_named<
     parts: Vec<Items<Call>>,
     links: &mut [L],
 ) -> Result<(Shared, bool), OutOfMemory>
-    requires means { (H.config ≡ shared.stored.config) × (H.holds ≡ shared.slots.keeper.home) × (H.slots ≡ length shared.slots.keeper.marks) }
+    requires means { (H.config ≡ shared.stored.config) × (H.holds ≡ shared.slots.keeper.home) }
     requires list { H.list ≡ Some (all_calls parts.items) }
     requires fresh { shared.stored.calls ≡ [] }
     requires seats { (seats.home ≡ H.holds) × (vec_len parts ≤ seats.count) }
@@ -51,6 +51,7 @@ fn share_named<
     ensures faults { IfOk result (λ r. HaveFaults r.1 (map L.faults links.old) (map L.faults links.new)) }
     ensures later { NeverFell (map L.faults links.old) (map L.faults links.new) }
 {
+    shared.recall();
     let (calls, asks, full) = blanks;
     let (calls, all_calls) = calls.open::<C>();
     let (asks, all_asks) = asks.open::<Q>();
@@ -68,6 +69,7 @@ fn share_named<
         return Err(OutOfMemory);
     }
     let (shared, mut calls, mut asks, mut full) = lock.into_shared();
+    shared.recall();
     tally.audit(&mut calls, &mut asks, &mut full);
     Ok((shared, ended.sent))
 }

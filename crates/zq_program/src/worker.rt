@@ -4,7 +4,7 @@ ghost use Rattle.zq_machine.specs.Calls.{is_sent};
 ghost use Rattle.zq_program.specs.Faults.{HasFaults};
 ghost use Rattle.zq_shared.specs.Answers.{IsListed};
 ghost use Rattle.zq_shared.specs.Tallies.{HasParts};
-ghost use Rattle.zq_program.specs.Working.{HasMade, IsReady, MayMake, Worked};
+ghost use Rattle.zq_program.specs.Working.{HasBegun, HasMade, IsReady, MayMake, Worked};
 
 use crate::works::Works;
 use std::alloc::Global;
@@ -41,6 +41,7 @@ pub(crate) fn make_call<H: Home, C: Ledger, Q: Ledger, P: Ledger, L: Link, R: Wa
     ensures empty { seat.new.held ≡ [] }
     ensures parts { tally.new.parts ≡ tally.old.parts }
     ensures made { result.whole ≡ true → HasMade (call ∷ []) tally.old.made tally.new.made }
+    ensures lacked { result.whole ≡ false → tally.new.made ≡ tally.old.made }
     ensures faults { HasFaults result.sent (L.faults link.old) (L.faults link.new) }
 {
     match lock.call(rt, alloc, seat, tally, link, call) {
@@ -63,7 +64,7 @@ pub(crate) fn make_call<H: Home, C: Ledger, Q: Ledger, P: Ledger, L: Link, R: Wa
     }
 }
 
-/// Makes calls in order, as long as there is memory.
+/// Makes calls in order, and ends at the first for which there is no memory. A fault of the link ends nothing.
 pub(crate) fn make_calls<H: Home, C: Ledger, Q: Ledger, P: Ledger, L: Link, R: Wait>(
     rt: &R,
     alloc: Global,
@@ -81,6 +82,7 @@ pub(crate) fn make_calls<H: Home, C: Ledger, Q: Ledger, P: Ledger, L: Link, R: W
     ensures empty { seat.new.held ≡ [] }
     ensures parts { tally.new.parts ≡ tally.old.parts }
     ensures made { result.whole ≡ true → HasMade calls.items tally.old.made tally.new.made }
+    ensures begun { result.whole ≡ false → HasBegun calls.items tally.old.made tally.new.made }
     ensures faults { HasFaults result.sent (L.faults link.old) (L.faults link.new) }
 {
     let mut sent = true;

@@ -1,12 +1,14 @@
 -- A request and its slot.
-use Rattle.std.proofs.Common.{◌≡◌, ◌≢◌, ℕ, ◌<◌, Bool, true, false, cond, zero, suc, List, [], ◌∷◌, length, Option, Some, None, refl, sym, ap, ◌∙◌, subst, arith, inl, inr, get_or-set_other}
+use Rattle.std.proofs.Common.{◌≡◌, ◌≢◌, ℕ, ◌<◌, Bool, true, false, cond, zero, suc, List, [], ◌∷◌, length, Option, Some, None, refl, sym, ap, ◌∙◌, set, subst, arith, inl, inr, get_or-set_other, length-set}
+use mathlib.Core.Logic.{dite}
+use native.Mathlib.Decide.{ℕ_discrete}
 use Rattle.std.specs.Prelude.{IfNone, IfSome}
 use Rattle.std.specs.List.{filter, list_any}
 use Rattle.std.proofs.lemmas.Bool.{false≢true}
 use Rattle.std.proofs.lemmas.List.{set-set}
 use Rattle.zq_hold.specs.declared.slot.Mark.{Mark}
 use Rattle.zq_hold.specs.declared.slot.Mark.TheVariants.{Spare, Kept, Gone, Vacant}
-use Rattle.zq_hold.specs.Marks.{AllAllotted, IsNext}
+use Rattle.zq_hold.specs.Marks.{AllAllotted, HasMark, IsNext}
 use Rattle.zq_hold.specs.Slots.{times}
 use Rattle.zq_hold.specs.Owners.{IsSlotted, Slotted, owned, owner_at, with_mark, with_owner}
 use Rattle.zq_hold.proofs.Owning.{unowned}
@@ -26,8 +28,9 @@ use Rattle.zq_shared.proofs.Flights.{handed_in, promises, quiet}
 use Rattle.zq_shared.proofs.Frames.{request_of}
 use Rattle.zq_shared.proofs.Journals.{answer_is}
 use Rattle.zq_shared.proofs.Moves.{flies_stays, flying_is, next_given, waiting_is}
-use Rattle.zq_shared.proofs.Ties.{back_tied, given_tied, quiet_tied}
-use Rattle.zq_shared.specs.Sharing.{HoldsReplies, KeepsFlights}
+use Rattle.zq_shared.proofs.Ties.{back_tied, given_tied, mark_is, other_mark, quiet_tied}
+use Rattle.zq_shared.proofs.Lending.{none_last}
+use Rattle.zq_shared.specs.Sharing.{AreLast, HoldsReplies, KeepsFlights}
 
 -- ---- before any call
 pub none_open : (config : Settings) (n : ℕ) → IsOpen (record { config = config; calls = [] }) n → ⊥
@@ -126,6 +129,25 @@ module _ (s : Stored) (c : Call) (m : Slotted) (tied : IsTied s m) (asks : asks_
         → IfSome owner (λ n. m' ≡ with_owner m1 k (Some n)) → IfNone owner (m' ≡ with_mark m1 k Spare) → KeepsFlights None (record { stored = s; slots = m }) (record { stored = s1; slots = m' })
     asked_flights m1 m' s1 owner marked stored given back =
         stored_flights s c s1 stored (ap is_sent (request_of c asks).3) m m' (owners_stay m1 m' owner marked given back)
+
+    -- a slot that is gone once it was given another mark was gone before
+    gone_before : (marks : List Mark) (w : Mark) → k < length marks → (w ≡ Gone → ⊥) → (j : ℕ) → HasMark Gone (set marks k w) j → HasMark Gone marks j
+    gone_before marks w inside other j now = dite (ℕ_discrete j k)
+        (λ (e : j ≡ k). absurd (other (mark_is Gone marks k w inside (subst (HasMark Gone (set marks k w)) e now))))
+        (λ (ne : j ≢ k). other_mark Gone marks k w j ne now)
+
+    -- no slot was let go
+    pub asked_last : (m1 m' : Slotted) (owner : Option ℕ) → m1 ≡ with_mark m k Kept → IfSome owner (λ n. m' ≡ with_owner m1 k (Some n)) → IfNone owner (m' ≡ with_mark m1 k Spare) → AreLast m m' []
+    asked_last m1 m' None marked given back =
+        let is = back ∙ ap (λ (x : Slotted). with_mark x k Spare) marked in
+        let inside = next_inside m.keeper.marks k next in
+        none_last m m' (ap (λ (x : Slotted). x.keeper.ended) is) (ap (λ (x : Slotted). x.keeper.vacated) is)
+        (λ j now. gone_before m.keeper.marks Kept inside (λ e. cc) j
+        (gone_before (set m.keeper.marks k Kept) Spare (subst (λ n. k < n) (sym (length-set m.keeper.marks k Kept)) inside) (λ e. cc) j (subst (λ (x : Slotted). HasMark Gone x.keeper.marks j) is now)))
+    asked_last m1 m' (Some n) marked given back =
+        let is = given ∙ ap (λ (x : Slotted). with_owner x k (Some n)) marked in
+        none_last m m' (ap (λ (x : Slotted). x.keeper.ended) is) (ap (λ (x : Slotted). x.keeper.vacated) is)
+        (λ j now. gone_before m.keeper.marks Kept (next_inside m.keeper.marks k next) (λ e. cc) j (subst (λ (x : Slotted). HasMark Gone x.keeper.marks j) is now))
 
 -- a slot that was allotted in vain may be spare
 pub back_is : (m : Slotted) (k : ℕ) → with_mark (with_mark m k Kept) k Spare ≡ with_mark m k Spare

@@ -1,21 +1,23 @@
 -- Stored calls whose reports are due, and which ask no more than there are slots.
 use Rattle.std.proofs.Common.{◌≡◌, ℕ, ◌+◌, ◌<◌, ◌≤◌, false, true, List, [], ◌∷◌, ◌++◌, length, Option, Some, None, eqb, refl, sym, ap, ◌∙◌, subst, arith, inl, inr, append-nil, append_assoc, eq-eqb, ne_eqb}
-use Rattle.std.specs.Prelude.{◌⊎◌}
+use Rattle.std.specs.Prelude.{◌⊎◌, OnErr, OnOk, Result, Ok, Err}
 use mathlib.Core.Logic.{dite}
 use native.Mathlib.Decide.{ℕ_discrete}
 use Rattle.std.proofs.lemmas.Bool.{false≢true}
+use Rattle.zq_hold.specs.declared.slot.Mark.TheVariants.{Kept, Gone}
+use Rattle.zq_hold.specs.Marks.{HasMark}
 use Rattle.zq_hold.specs.Slots.{stood, times, weight}
 use Rattle.zq_hold.specs.Owners.{Slotted, owned}
 use Rattle.zq_machine.specs.declared.call.Call.{Call}
 use Rattle.zq_machine.specs.declared.call.Call.TheVariants as call
 use Rattle.zq_machine.specs.declared.call.Outcome.TheVariants as outcome
-use Rattle.zq_machine.specs.declared.call.Step.{Step}
 use Rattle.zq_machine.specs.Calls.{is_sent}
 use Rattle.zq_machine.specs.Configs.{Settings}
 use Rattle.zq_shared.specs.Stored.{IsOpen, Stored, answer_to, asks_request, in_flight, waiting, with_call}
 use Rattle.zq_shared.specs.Ties.{IsTied}
 use Rattle.zq_shared.proofs.Moves.{flying_is, open_before, waiting_is}
-use Rattle.zq_shared.specs.Sharing.{AreDue, AreOrderly, IsDue, IsWithin, reports}
+use Rattle.zq_shared.proofs.Ties.{zero_if}
+use Rattle.zq_shared.specs.Sharing.{AreDue, AreOrderly, IsDue, IsSameHolds, IsShared, IsWithin, OthersAreGone, reports, with_reports}
 
 -- ---- reports
 pub due_append : (s : Stored) (xs ys : List Call) → AreDue s xs → AreDue (record s { calls = s.calls ++ xs }) ys → AreDue s (xs ++ ys)
@@ -128,3 +130,46 @@ pub orderly_reports : (slots : ℕ) (s : Stored) (ks : List ℕ) → IsWithin sl
 orderly_reports slots s [] within due = within
 orderly_reports slots s (k ∷ ks) within due =
     (within, due.0, orderly_reports slots (with_call s (call.Sent k)) ks (λ ns once stands. within ns once (λ n some. report_open s k n (stands n some))) due.1)
+
+-- ---- slots and calls together
+-- an allotted slot that no open request owns
+pub others_gone : (s : Stored) (m : Slotted) → IsTied s m → OthersAreGone (record { stored = s; slots = m })
+others_gone s m t k allotted none = (by allotted, zero_if (times k m.keeper.lent) (λ some. (let sends = t.nearly.lent k some in none sends.0 sends.1 (inr (sends.2, sends.3)))))
+  where
+    by : (HasMark Kept m.keeper.marks k ⊎ HasMark Gone m.keeper.marks k) → HasMark Gone m.keeper.marks k
+    by (inl kept) = let owner = t.nearly.kept k kept in absurd (none owner.0 owner.1 (inl (t.waits k owner.0 kept owner.1)))
+    by (inr gone) = gone
+
+pub shared_start : (config : Settings) (m : Slotted) → IsTied (record { config = config; calls = [] }) m → IsShared (record { config = config; calls = [] }) m
+shared_start config m t = record { tied = t; orderly = none_within (length m.keeper.marks) config }
+
+module _ (s new : Stored) (m m' : Slotted) (h : IsShared s m) (tied : IsTied new m') (same : IsSameHolds m m') where
+  orderly_still : AreOrderly (length m'.keeper.marks) (record { config = s.config; calls = [] }) s.calls
+  orderly_still = subst (λ n. AreOrderly n (record { config = s.config; calls = [] }) s.calls) (sym same.1) h.orderly
+
+  with_calls : (x : Stored) → new ≡ x → AreOrderly (length m'.keeper.marks) (record { config = x.config; calls = [] }) x.calls → IsShared new m'
+  with_calls x stored orderly = record { tied = tied; orderly = subst (λ (y : Stored). AreOrderly (length m'.keeper.marks) (record { config = y.config; calls = [] }) y.calls) (sym stored) orderly }
+
+  -- nothing more is stored
+  pub shared_still : new ≡ s → IsShared new m'
+  shared_still stored = with_calls s stored orderly_still
+
+  -- a call that is no report
+  pub shared_call : (c : Call) → length m.owners ≡ length m.keeper.marks → is_sent c ≡ false → new ≡ with_call s c → IsShared new m'
+  shared_call c wide unsent stored =
+      with_calls (with_call s c) stored
+      (orderly_append (length m'.keeper.marks) (record { config = s.config; calls = [] }) s.calls (c ∷ []) orderly_still
+      (orderly_other (length m'.keeper.marks) s c unsent (orderly_end (length m'.keeper.marks) (record { config = s.config; calls = [] }) s.calls orderly_still)
+      (subst (IsWithin (length m'.keeper.marks)) stored (tied_within new m' tied (same.2 ∙ (wide ∙ sym same.1))))))
+
+  -- either way
+  pub shared_step : {T E : Type 0} (r : Result T E) (c : Call) → length m.owners ≡ length m.keeper.marks → is_sent c ≡ false → OnOk r (new ≡ with_call s c) → OnErr r (new ≡ s) → IsShared new m'
+  shared_step (Ok t) c wide unsent stored kept = shared_call c wide unsent stored
+  shared_step (Err e) c wide unsent stored kept = shared_still kept
+
+  -- due reports
+  pub shared_reports : (ks : List ℕ) → new ≡ with_reports s ks → AreDue s (reports ks) → IsShared new m'
+  shared_reports ks stored due =
+      with_calls (with_reports s ks) stored
+      (orderly_append (length m'.keeper.marks) (record { config = s.config; calls = [] }) s.calls (reports ks) orderly_still
+      (orderly_reports (length m'.keeper.marks) s ks (orderly_end (length m'.keeper.marks) (record { config = s.config; calls = [] }) s.calls orderly_still) due))

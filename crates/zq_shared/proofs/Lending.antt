@@ -1,5 +1,5 @@
 -- Replies that are held, and slots that are let go.
-use Rattle.std.proofs.Common.{◌≡◌, ◌≢◌, ℕ, ◌+◌, ◌<◌, ◌≤◌, Bool, true, false, cond, zero, suc, List, [], ◌∷◌, ◌++◌, length, set, Option, Some, None, refl, sym, ap, ◌∙◌, subst, arith, inl, inr, length-append, length-set}
+use Rattle.std.proofs.Common.{◌≡◌, ◌≢◌, ℕ, ◌+◌, ◌<◌, ◌≤◌, Bool, true, false, cond, zero, suc, List, [], ◌∷◌, ◌++◌, length, set, Option, Some, None, eqb, refl, sym, ap, ◌∙◌, subst, arith, inl, inr, get_or-set_same, get_or-set_other, length-append, length-set}
 use mathlib.Core.Logic.{dite}
 use native.Mathlib.Decide.{ℕ_discrete}
 use Rattle.std.specs.Prelude.{◌⊎◌, ◌&&◌, ◌==◌, All}
@@ -12,7 +12,8 @@ use Rattle.zq_hold.specs.declared.slot.Mark.{Mark}
 use Rattle.zq_hold.specs.declared.slot.Mark.TheVariants.{Spare, Kept, Gone, Vacant}
 use Rattle.zq_hold.specs.Marks.{HasMark, mark_at}
 use Rattle.zq_hold.specs.Seats.{Ended, Holder}
-use Rattle.zq_hold.specs.Slots.{times}
+use Rattle.zq_hold.specs.Slots.{times, weight}
+use Rattle.zq_hold.proofs.Totals.{weight_same, weight_other}
 use Rattle.zq_hold.specs.Owners.{IsSlotted, MayOwn, Slotted, owner_at}
 use Rattle.zq_machine.specs.declared.call.Call.{Call}
 use Rattle.zq_machine.specs.Handing.{Handed}
@@ -24,7 +25,7 @@ use Rattle.zq_shared.specs.Ties.{AreWaiting, IsNearlyTied, IsTied}
 use Rattle.zq_shared.proofs.Moves.{handed_waits, waits_stays}
 use Rattle.zq_shared.proofs.Ties.{mark_is, other_mark, released_nearly}
 use Rattle.zq_shared.specs.Lending.{Lends, LetsGo}
-use Rattle.zq_shared.specs.Sharing.{HasReply, HoldsReplies}
+use Rattle.zq_shared.specs.Sharing.{AreLast, HasReply, HoldsReplies, ended_slots}
 
 -- ---- replies
 -- a message with a number of its own is a reply of its request
@@ -198,6 +199,28 @@ module _ (s : Stored) (m : Slotted) (t : IsTied s m) (slotted : IsSlotted m.keep
       }
 
 -- ---- slots are let go
+ended_push : (k : ℕ) (ls : List Ended) (l : Ended) → times k (ended_slots (ls ++ l ∷ [])) ≡ times k (ended_slots ls) + weight (eqb l.slot k)
+ended_push k [] l = omega arith
+ended_push k (x ∷ xs) l = let ih = ended_push k xs l in omega (arith, ih)
+
+-- no slot has two marks
+two_marks : (marks : List Mark) (k : ℕ) → HasMark Kept marks k → HasMark Gone marks k → ⊥
+two_marks marks k kept gone = let clash : Kept ≡ Gone = sym kept.1 ∙ gone.1 in absurd (cc)
+
+-- none was let go
+pub none_last : (m m' : Slotted) → m'.keeper.ended ≡ m.keeper.ended → m'.keeper.vacated ≡ m.keeper.vacated → ((k : ℕ) → HasMark Gone m'.keeper.marks k → HasMark Gone m.keeper.marks k) → AreLast m m' []
+none_last m m' ended vacated gone = record {
+  home = λ k d inside. absurd (omega (arith, inside));
+  counted = omega (arith, ended);
+  vacated = vacated;
+  gone = λ k some. absurd (omega (arith, some));
+  unlent = λ k was now none. absurd (two_marks m.keeper.marks k was (gone k now));
+}
+
+-- whatever is lent before
+pub lent_last : (m m' : Slotted) (lent : List ℕ) (lasts : List Ended) → AreLast (record m { keeper = record m.keeper { lent = lent } }) m' lasts → AreLast m m' lasts
+lent_last m m' lent lasts h = record { home = h.home; counted = h.counted; vacated = h.vacated; gone = h.gone; unlent = h.unlent }
+
 module _ (s : Stored) (m : Slotted) where
   pub lets_start : IsNearlyTied None s m → LetsGo s m m [] 0
   lets_start t = record {
@@ -207,6 +230,10 @@ module _ (s : Stored) (m : Slotted) where
     waits = λ k n inside. absurd (omega (arith, inside));
     few = omega arith;
     home = λ k d inside. absurd (omega (arith, inside));
+    counted = omega arith;
+    before = λ k kept. kept;
+    gone = λ k some. absurd (omega (arith, some));
+    unlent = λ k was now none. absurd (two_marks m.keeper.marks k was now);
   }
 
   module _ (m' : Slotted) (lasts : List Ended) (i : ℕ) (go : LetsGo s m m' lasts i) where
@@ -221,6 +248,10 @@ module _ (s : Stored) (m : Slotted) where
           (λ (ne : k ≢ i). go.waits k n (omega (arith, inside, ne)) mark owner));
       few = (let few = go.few in omega (arith, few));
       home = go.home;
+      counted = go.counted;
+      before = go.before;
+      gone = go.gone;
+      unlent = go.unlent;
     }
 
     -- it is let go
@@ -229,8 +260,21 @@ module _ (s : Stored) (m : Slotted) where
       abbrev gone : Slotted
       gone = record m' { keeper = record m'.keeper { marks = set m'.keeper.marks i Gone; ended = ended } }
 
-      with_lasts : (ls : List Ended) → length ls ≤ i + 1 → All (λ (l : Ended). l.home ≡ m.keeper.home) ls → LetsGo s m m'' ls (i + 1)
-      with_lasts ls few home = subst (λ x. LetsGo s m x ls (i + 1)) (sym is) (record {
+      here : HasMark Gone (set m'.keeper.marks i Gone) i
+      here = (let inside = mark.0 in subst (λ j. i < j) (sym (length-set m'.keeper.marks i Gone)) inside, get_or-set_same m'.keeper.marks i Gone Vacant mark.0)
+
+      stays : (k : ℕ) → HasMark Gone m'.keeper.marks k → HasMark Gone (set m'.keeper.marks i Gone) k
+      stays k was = dite (ℕ_discrete k i)
+          (λ (e : k ≡ i). subst (HasMark Gone (set m'.keeper.marks i Gone)) (sym e) here)
+          (λ (ne : k ≢ i). (subst (λ j. k < j) (sym (length-set m'.keeper.marks i Gone)) was.0, get_or-set_other m'.keeper.marks i k Gone Vacant ne ∙ was.1))
+
+      lent_same : (k : ℕ) → times k m'.keeper.lent ≡ times k m.keeper.lent
+      lent_same k = ap (λ (x : Slotted). times k x.keeper.lent) go.slots
+
+      with_lasts : (ls : List Ended) → length ls ≤ i + 1 → All (λ (l : Ended). l.home ≡ m.keeper.home) ls → length ls + m.keeper.ended ≡ ended
+          → ((k : ℕ) → 0 < times k (ended_slots ls) → (0 < times k (ended_slots lasts)) ⊎ (k ≡ i)) → ((k : ℕ) → 0 < times k (ended_slots lasts) → 0 < times k (ended_slots ls))
+          → (times i m.keeper.lent ≡ 0 → 0 < times i (ended_slots ls)) → LetsGo s m m'' ls (i + 1)
+      with_lasts ls few home counted from more last = subst (λ x. LetsGo s m x ls (i + 1)) (sym is) (record {
         nearly = released_nearly s m' go.nearly i n ended mark owner none;
         slots = ap (λ (x : Slotted). record x { keeper = record x.keeper { marks = set m'.keeper.marks i Gone; ended = ended } }) go.slots;
         wide = length-set m'.keeper.marks i Gone ∙ go.wide;
@@ -239,20 +283,62 @@ module _ (s : Stored) (m : Slotted) where
             (λ (ne : k ≢ i). go.waits k o (omega (arith, inside, ne)) (other_mark Kept m'.keeper.marks i Gone k ne has) owns));
         few = few;
         home = home;
+        counted = counted;
+        before = λ k has. (dite (ℕ_discrete k i)
+            (λ (e : k ≡ i). subst (HasMark Kept m.keeper.marks) (sym e) (go.before i mark))
+            (λ (ne : k ≢ i). go.before k (other_mark Kept m'.keeper.marks i Gone k ne has)));
+        gone = λ k some. gone_of k (from k some);
+        unlent = λ k was now none. (dite (ℕ_discrete k i)
+            (λ (e : k ≡ i). subst (λ j. 0 < times j (ended_slots ls)) (sym e) (last (subst (λ j. times j m.keeper.lent ≡ 0) e none)))
+            (λ (ne : k ≢ i). more k (go.unlent k was (other_mark Gone m'.keeper.marks i Gone k ne now) none)));
       })
+        where
+          gone_of : (k : ℕ) → (0 < times k (ended_slots lasts)) ⊎ (k ≡ i) → HasMark Kept m.keeper.marks k × HasMark Gone (set m'.keeper.marks i Gone) k
+          gone_of k (inl old) = let was = go.gone k old in (was.0, stays k was.1)
+          gone_of k (inr e) = (subst (HasMark Kept m.keeper.marks) (sym e) (go.before i mark), subst (HasMark Gone (set m'.keeper.marks i Gone)) (sym e) here)
 
-      pub lets_go : LetsGo s m m'' lasts (i + 1)
-      lets_go = with_lasts lasts (let few = go.few in omega (arith, few)) go.home
-
-      pub lets_last : (l : Ended) → l.home ≡ m'.keeper.home → LetsGo s m m'' (lasts ++ l ∷ []) (i + 1)
-      lets_last l home =
+      pub lets_go : ended ≡ m'.keeper.ended → 0 < times i m'.keeper.lent → LetsGo s m m'' lasts (i + 1)
+      lets_go same lent =
           let few = go.few in
+          let counted = go.counted in
+          with_lasts lasts (omega (arith, few)) go.home (omega (arith, counted, same)) (λ k some. inl some) (λ k some. some)
+          (λ none. (let is = lent_same i in absurd (omega (arith, lent, none, is))))
+
+      pub lets_last : (l : Ended) → l ≡ record { home = m'.keeper.home; slot = i } → ended ≡ m'.keeper.ended + 1 → LetsGo s m m'' (lasts ++ l ∷ []) (i + 1)
+      lets_last l is one =
+          let few = go.few in
+          let counted = go.counted in
           let long = length-append lasts (l ∷ []) in
-          with_lasts (lasts ++ l ∷ []) (omega (arith, few, long)) (All-push (λ (x : Ended). x.home ≡ m.keeper.home) lasts l go.home (home ∙ ap (λ (x : Slotted). x.keeper.home) go.slots))
+          with_lasts (lasts ++ l ∷ []) (omega (arith, few, long)) (All-push (λ (x : Ended). x.home ≡ m.keeper.home) lasts l go.home (ap (λ (x : Ended). x.home) is ∙ ap (λ (x : Slotted). x.keeper.home) go.slots))
+          (omega (arith, counted, long, one)) from more (λ none. at i slot_is)
+        where
+          slot_is : l.slot ≡ i
+          slot_is = ap (λ (x : Ended). x.slot) is
+
+          at : (k : ℕ) → l.slot ≡ k → 0 < times k (ended_slots (lasts ++ l ∷ []))
+          at k e = let push = ended_push k lasts l in let one = subst (λ j. weight (eqb l.slot j) ≡ 1) e (weight_same l.slot) in omega (arith, push, one)
+
+          more : (k : ℕ) → 0 < times k (ended_slots lasts) → 0 < times k (ended_slots (lasts ++ l ∷ []))
+          more k some = let push = ended_push k lasts l in omega (arith, push, some)
+
+          from : (k : ℕ) → 0 < times k (ended_slots (lasts ++ l ∷ [])) → (0 < times k (ended_slots lasts)) ⊎ (k ≡ i)
+          from k some = dite (ℕ_discrete k i)
+              (λ (e : k ≡ i). inr e)
+              (λ (ne : k ≢ i). inl (let push = ended_push k lasts l in let none = weight_other l.slot k (λ e. ne (sym e ∙ slot_is)) in omega (arith, push, none, some)))
 
   -- once all slots were looked at, they are tied
   pub lets_end : (m' : Slotted) (lasts : List Ended) → LetsGo s m m' lasts (length m.keeper.marks) → IsTied s m'
   lets_end m' lasts go = record {
     nearly = go.nearly;
     waits = λ k n mark owner. (let wide = go.wide in let inside = mark.0 in go.waits k n (omega (arith, inside, wide)) mark owner);
+  }
+
+  -- what was let go last stands in the list
+  pub lets_ended : (m' : Slotted) (lasts : List Ended) (i : ℕ) → LetsGo s m m' lasts i → AreLast m m' lasts
+  lets_ended m' lasts i go = record {
+    home = go.home;
+    counted = go.counted;
+    vacated = ap (λ (x : Slotted). x.keeper.vacated) go.slots;
+    gone = go.gone;
+    unlent = λ k was now none. go.unlent k was now (ap (λ (x : Slotted). times k x.keeper.lent) (sym go.slots) ∙ none);
   }

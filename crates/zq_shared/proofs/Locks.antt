@@ -1,5 +1,5 @@
 -- What the lock keeps, one call or some reports more.
-use Rattle.std.proofs.Common.{◌≡◌, ℕ, ◌+◌, ◌<◌, ◌≤◌, Bool, true, false, List, [], ◌∷◌, ◌++◌, length, map, Option, Some, None, refl, sym, ap, ◌∙◌, subst, inl, inr, arith, append_assoc, length-append, All}
+use Rattle.std.proofs.Common.{◌≡◌, ℕ, ◌+◌, ◌≤◌, Bool, true, false, List, [], ◌∷◌, ◌++◌, length, Option, Some, None, refl, sym, ap, ◌∙◌, subst, inl, inr, arith, length-append}
 use Rattle.std.specs.List.{filter}
 use Rattle.std.specs.Prelude.{IfSome, ◌&&◌, not}
 use Rattle.std.proofs.lemmas.List.{append-nil}
@@ -13,8 +13,7 @@ use Rattle.zq_machine.specs.Handing.{Handed}
 use Rattle.zq_machine.specs.Machine.{done}
 use Rattle.zq_shared.specs.Stored.{Stored, answer_to, asks_request, requests_in, with_call}
 use Rattle.zq_shared.specs.Ties.{Sharing}
-use Rattle.zq_shared.specs.Sharing.{AreDue, AreOrderly, EndsIn, IsSameHolds, IsWithin, Settles, reports, with_reports}
-use Rattle.zq_shared.proofs.Due.{orderly_append, orderly_end, orderly_other, orderly_reports}
+use Rattle.zq_shared.specs.Sharing.{AreDue, EndsIn, IsSameHolds, Settles, reports, with_reports}
 use Rattle.zq_shared.specs.Answers.{AllListed, IsAnswer, IsFinal, IsListed, MayPrecede, MayStand, behind}
 use Rattle.zq_shared.specs.Locking.{IsLocked}
 use Rattle.zq_shared.specs.Tallies.{Counts, is_other, others_in}
@@ -52,7 +51,7 @@ requests_reported : (cs : List Call) (ks : List ℕ) → requests_in (cs ++ repo
 requests_reported cs ks = let more = count_more asks_request cs (reports ks) in let none = ap (λ (l : List Call). length l) (no_requests ks) in omega arith
 
 -- ---- what a settling stores
-settles_reports : (o : Option ℕ) (s : Stored) (a : Option Handed) (new : Stored) → Settles o s a new → (ks : List ℕ) × (new ≡ with_reports s ks) × EndsIn s ks a × AreDue s (reports ks)
+pub settles_reports : (o : Option ℕ) (s : Stored) (a : Option Handed) (new : Stored) → Settles o s a new → (ks : List ℕ) × (new ≡ with_reports s ks) × EndsIn s ks a × AreDue s (reports ks)
 settles_reports None s a new h = ([], h.1 ∙ ap (behind s.config) (sym (append-nil s.calls)), inl (refl, h.0), tt)
 settles_reports (Some n) s a new h = (h.0, h.1.stored, h.1.ends, h.1.due)
 
@@ -66,9 +65,9 @@ final_comes config list s ks (Some h) means all (inr e) = (
   All-append (MayStand list) s.calls (reports e.0) all (reports_listed list e.0),
 )
 
-module _ (config : Settings) (holds : TableId) (slots : ℕ) (list : Option (List Call)) (old new : Sharing) (totals : Counts) where
-  locked_reports : (ks : List ℕ) → AreDue old.stored (reports ks) → IsLocked config holds slots list old totals → new.stored ≡ with_reports old.stored ks → IsSameHolds old.slots new.slots → IsLocked config holds slots list new totals
-  locked_reports ks due h stored same =
+module _ (config : Settings) (holds : TableId) (list : Option (List Call)) (old new : Sharing) (totals : Counts) where
+  locked_reports : (ks : List ℕ) → IsLocked config holds list old totals → new.stored ≡ with_reports old.stored ks → IsSameHolds old.slots new.slots → IsLocked config holds list new totals
+  locked_reports ks h stored same =
       let others = others_reported old.stored.calls ks in
       let requests = requests_reported old.stored.calls ks in
       let calls = ap (λ (s : Stored). s.calls) stored in
@@ -77,24 +76,20 @@ module _ (config : Settings) (holds : TableId) (slots : ℕ) (list : Option (Lis
       record {
         means = ap (λ (s : Stored). s.config) stored ∙ h.means;
         home = same.0 ∙ h.home;
-        wide = same.1 ∙ h.wide;
         listed = subst (AllListed list) (sym calls) (All-append (MayStand list) old.stored.calls (reports ks) h.listed (reports_listed list ks));
-        orderly = subst (AreOrderly slots (behind config [])) (sym calls)
-            (orderly_append slots (behind config []) old.stored.calls (reports ks) h.orderly
-            (orderly_reports slots (behind config old.stored.calls) ks (orderly_end slots (behind config []) old.stored.calls h.orderly) (subst (λ (c : Settings). AreDue (behind c old.stored.calls) (reports ks)) h.means due)));
         others = h.others ∙ sym (o ∙ others);
         asked = h.asked ∙ sym (r ∙ requests);
         full = λ some. let f = h.full some in omega arith;
       }
 
-  pub locked_settled : (o : Option ℕ) (a : Option Handed) → IsLocked config holds slots list old totals → Settles o old.stored a new.stored → IsSameHolds old.slots new.slots → IsLocked config holds slots list new totals
-  locked_settled o a h s same = let r = settles_reports o old.stored a new.stored s in locked_reports r.0 r.3 h r.1 same
+  pub locked_settled : (o : Option ℕ) (a : Option Handed) → IsLocked config holds list old totals → Settles o old.stored a new.stored → IsSameHolds old.slots new.slots → IsLocked config holds list new totals
+  locked_settled o a h s same = let r = settles_reports o old.stored a new.stored s in locked_reports r.0 h r.1 same
 
-  pub settled_final : (o : Option ℕ) (a : Option Handed) → IsLocked config holds slots list old totals → Settles o old.stored a new.stored → IfSome a (IsFinal config list)
+  pub settled_final : (o : Option ℕ) (a : Option Handed) → IsLocked config holds list old totals → Settles o old.stored a new.stored → IfSome a (IsFinal config list)
   settled_final o a h s = let r = settles_reports o old.stored a new.stored s in final_comes config list old.stored r.0 a h.means h.listed r.2
 
   -- what a caller made is counted by the books, and so among the stored calls
-  module _ (made : Counts) (h : IsLocked config holds slots list old totals) (calls : made.calls ≤ totals.calls) (asks : made.asks ≤ totals.asks) where
+  module _ (made : Counts) (h : IsLocked config holds list old totals) (calls : made.calls ≤ totals.calls) (asks : made.asks ≤ totals.asks) where
     precedes : MayPrecede list made old.stored.calls
     precedes = let o = h.others in let a = h.asked in (h.listed, omega arith, omega arith)
 
@@ -102,7 +97,7 @@ module _ (config : Settings) (holds : TableId) (slots : ℕ) (list : Option (Lis
     answered c = (old.stored.calls, ap (λ (s : Settings). answer_to (behind s old.stored.calls) c) h.means, precedes)
 
   -- nothing more is stored
-  pub locked_same : IsLocked config holds slots list old totals → new.stored ≡ old.stored → IsSameHolds old.slots new.slots → IsLocked config holds slots list new totals
+  pub locked_same : IsLocked config holds list old totals → new.stored ≡ old.stored → IsSameHolds old.slots new.slots → IsLocked config holds list new totals
   locked_same h stored same =
       let calls = ap (λ (s : Stored). s.calls) stored in
       let o = ap others_in calls in
@@ -110,18 +105,16 @@ module _ (config : Settings) (holds : TableId) (slots : ℕ) (list : Option (Lis
       record {
         means = ap (λ (s : Stored). s.config) stored ∙ h.means;
         home = same.0 ∙ h.home;
-        wide = same.1 ∙ h.wide;
         listed = subst (AllListed list) (sym calls) h.listed;
-        orderly = subst (AreOrderly slots (behind config [])) (sym calls) h.orderly;
         others = h.others ∙ sym o;
         asked = h.asked ∙ sym r;
         full = λ some. let f = h.full some in omega arith;
       }
 
   -- a call more is stored, and counted
-  module _ (c : Call) (then : Counts) (h : IsLocked config holds slots list old totals) (unsent : is_sent c ≡ false) (listed : IsListed list c) (stored : new.stored ≡ with_call old.stored c) (same : IsSameHolds old.slots new.slots) (within : IsWithin slots new.stored)
+  module _ (c : Call) (then : Counts) (h : IsLocked config holds list old totals) (unsent : is_sent c ≡ false) (listed : IsListed list c) (stored : new.stored ≡ with_call old.stored c) (same : IsSameHolds old.slots new.slots)
       (others : then.calls ≡ totals.calls + length (filter is_other (c ∷ []))) (asked : then.asks ≡ totals.asks + length (filter asks_request (c ∷ []))) (full : then.full ≡ totals.full) where
-    locked_more : IsLocked config holds slots list new then
+    locked_more : IsLocked config holds list new then
     locked_more =
         let calls = ap (λ (s : Stored). s.calls) stored in
         let o = ap others_in calls ∙ count_more is_other old.stored.calls (c ∷ []) in
@@ -131,26 +124,21 @@ module _ (config : Settings) (holds : TableId) (slots : ℕ) (list : Option (Lis
         record {
           means = ap (λ (s : Stored). s.config) stored ∙ h.means;
           home = same.0 ∙ h.home;
-          wide = same.1 ∙ h.wide;
           listed = subst (AllListed list) (sym calls) (All-append (MayStand list) old.stored.calls (c ∷ []) h.listed (All-cons (MayStand list) c [] (inr listed) (All-nil (MayStand list))));
-          orderly = subst (AreOrderly slots (behind config [])) (sym calls)
-              (orderly_append slots (behind config []) old.stored.calls (c ∷ []) h.orderly
-              (orderly_other slots (behind config old.stored.calls) c unsent (orderly_end slots (behind config []) old.stored.calls h.orderly)
-              (subst (λ (x : Stored). IsWithin slots x) (stored ∙ ap (λ (d : Settings). with_call (behind d old.stored.calls) c) h.means) within)));
           others = omega arith;
           asked = omega arith;
           full = λ some. let f = h.full (omega arith) in omega arith;
         }
 
-  module _ (c : Call) (then : Counts) (h : IsLocked config holds slots list old totals) (unsent : is_sent c ≡ false) (listed : IsListed list c) (stored : new.stored ≡ with_call old.stored c) (same : IsSameHolds old.slots new.slots) (within : IsWithin slots new.stored) (full : then.full ≡ totals.full) where
-    pub locked_ask : asks_request c ≡ true → then.calls ≡ totals.calls → then.asks ≡ totals.asks + 1 → IsLocked config holds slots list new then
+  module _ (c : Call) (then : Counts) (h : IsLocked config holds list old totals) (unsent : is_sent c ≡ false) (listed : IsListed list c) (stored : new.stored ≡ with_call old.stored c) (same : IsSameHolds old.slots new.slots) (full : then.full ≡ totals.full) where
+    pub locked_ask : asks_request c ≡ true → then.calls ≡ totals.calls → then.asks ≡ totals.asks + 1 → IsLocked config holds list new then
     locked_ask asks others asked =
         let one = count_if asks_request c true asks in
         let none = count_if is_other c false (ap (λ b. not b && not (is_sent c)) asks) in
-        locked_more c then h unsent listed stored same within (omega arith) (omega arith) full
+        locked_more c then h unsent listed stored same (omega arith) (omega arith) full
 
-    pub locked_other : asks_request c ≡ false → then.calls ≡ totals.calls + 1 → then.asks ≡ totals.asks → IsLocked config holds slots list new then
+    pub locked_other : asks_request c ≡ false → then.calls ≡ totals.calls + 1 → then.asks ≡ totals.asks → IsLocked config holds list new then
     locked_other asks others asked =
         let none = count_if asks_request c false asks in
         let one = count_if is_other c true (ap (λ b. not b && not (is_sent c)) asks ∙ ap not unsent) in
-        locked_more c then h unsent listed stored same within (omega arith) (omega arith) full
+        locked_more c then h unsent listed stored same (omega arith) (omega arith) full

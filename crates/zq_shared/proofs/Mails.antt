@@ -1,5 +1,7 @@
 -- Messages that go on where others were sent.
-use Rattle.std.proofs.Common.{◌≡◌, ℕ, ◌+◌, ◌-◌, ◌^◌, ◌≤◌, min, List, [], ◌∷◌, ◌++◌, length, take, Option, Some, None, Result, Ok, Err, refl, sym, ap, ◌∙◌, subst, arith, append_assoc, length-append, All}
+use Rattle.std.proofs.Common.{◌≡◌, ℕ, ◌+◌, List, [], ◌∷◌, ◌++◌, length, take, Option, Some, None, Result, Ok, Err, refl, sym, ap, ◌∙◌, subst, arith, append_assoc, length-append}
+use Rattle.std.specs.List.{cons_option}
+use Rattle.std.specs.Prelude.{IfSome}
 use Rattle.std.proofs.lemmas.List.{append-nil, take-append-le}
 use Rattle.std.proofs.lemmas.List.Elements.{All-nil, All-cons, All-append, filter-append}
 use Rattle.std.proofs.Math.Seq.{take-append-add}
@@ -53,7 +55,7 @@ goes_on hs gs a b c (Err n) s x y h k =
 pub delivers_on : (hs gs : List Handed) (a b c : Mail) → Delivers hs a b → Delivers gs b c → Delivers (hs ++ gs) a c
 delivers_on hs gs a b c h k = subst (λ (l : List Handed). GoesOn a.sent l a c) (sym (filter-append leaves hs gs)) (goes_on (leaving hs) (leaving gs) a b c a.sent b.sent refl refl h k)
 
-none_sent : (a : Mail) (r : Result ℕ ℕ) → a.sent ≡ r → GoesOn r [] a a
+pub none_sent : (a : Mail) (r : Result ℕ ℕ) → a.sent ≡ r → GoesOn r [] a a
 none_sent a (Ok n) e = subst (Takes n [] a a) (sym e) ((let P : ℕ → Type 0 = λ m. counted n ≡ counted m in omega arith), taken_none a.taken, refl)
 none_sent a (Err n) e = refl
 
@@ -61,8 +63,9 @@ module _ (config : Settings) (list : Option (List Call)) where
   pub finals_none : (a : Mail) → DeliversFinals config list a a
   finals_none a = ([], All-nil (IsFinal config list), none_sent a a.sent refl)
 
-  pub finals_one : (a b : Mail) (h : Handed) → IsFinal config list h → Delivers (h ∷ []) a b → DeliversFinals config list a b
-  finals_one a b h final k = (h ∷ [], All-cons (IsFinal config list) h [] final (All-nil (IsFinal config list)), k)
+  pub finals_one : (a b : Mail) (o : Option Handed) → IfSome o (IsFinal config list) → Delivers (cons_option o []) a b → DeliversFinals config list a b
+  finals_one a b None final k = ([], All-nil (IsFinal config list), k)
+  finals_one a b (Some h) final k = (h ∷ [], All-cons (IsFinal config list) h [] final (All-nil (IsFinal config list)), k)
 
   pub finals_on : (a b c : Mail) → DeliversFinals config list a b → DeliversFinals config list b c → DeliversFinals config list a c
   finals_on a b c h k = (h.0 ++ k.0, All-append (IsFinal config list) h.0 k.0 h.1 k.1, delivers_on h.0 k.0 a b c h.2 k.2)

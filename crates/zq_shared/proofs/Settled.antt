@@ -1,5 +1,5 @@
 -- The reports of all replies of a request, and the slot that is free then.
-use Rattle.std.proofs.Common.{◌≡◌, ◌≢◌, ℕ, ◌+◌, ◌<◌, Bool, true, false, cond, not, List, [], ◌∷◌, ◌++◌, map, length, set, Option, Some, None, refl, sym, ap, ◌∙◌, subst, arith, inl, inr, append-nil, append_assoc, eqb-true, ne_eqb, eq-eqb, get_or-set_same, get_or-set_other}
+use Rattle.std.proofs.Common.{◌≡◌, ◌≢◌, ℕ, ◌+◌, ◌<◌, Bool, true, false, cond, not, List, [], ◌∷◌, ◌++◌, map, length, set, Option, Some, None, refl, sym, ap, ◌∙◌, subst, arith, inl, inr, append-nil, append_assoc, eqb-true, ne_eqb, eq-eqb, get_or-set_same, get_or-set_other, length-set}
 use mathlib.Core.Logic.{dite}
 use native.Mathlib.Decide.{ℕ_discrete}
 use Rattle.std.specs.Prelude.{◌⊎◌, ◌||◌, ◌&&◌, ◌==◌}
@@ -29,7 +29,7 @@ use Rattle.zq_shared.proofs.Holding.{has_owner}
 use Rattle.zq_shared.proofs.Moves.{waits_still}
 use Rattle.zq_shared.proofs.Ties.{counted_set, mark_is, other_mark, zero_if}
 use Rattle.zq_shared.specs.Keeping.{KeepsOthers, KeepsTies, Reported}
-use Rattle.zq_shared.specs.Sharing.{AreDue, KeepsFlights, Reports, reports, slot_vacated, with_reports}
+use Rattle.zq_shared.specs.Sharing.{AreDue, IsSameHolds, KeepsFlights, Reports, reports, slot_vacated, with_reports}
 use Rattle.zq_shared.proofs.Reporting.{landed, other_stays, report_keeps}
 use Rattle.zq_shared.proofs.Due.{due_append, due_report}
 
@@ -217,3 +217,7 @@ module _ (s : Stored) (m : Slotted) (t : IsTied s m) (k : ℕ) (mark : HasMark G
         opened : (o : ℕ) → IsOpen new o → (b : Bool) → (n == o) ≡ b → 0 < owned o (set m.owners k None) + stood o (Some n) → 0 < owned o (set m.owners k None) + stood o None
         opened o stands true f some = absurd (closed (subst (IsOpen new) (sym (eqb-true n o f)) stands))
         opened o stands false f some = let zeroth : stood o (Some n) ≡ 0 = ap weight f in omega (arith, some, zeroth)
+
+-- the same holds, with as many slots
+pub vacated_same : (m : Slotted) (k : ℕ) → IsSameHolds m (slot_vacated m k)
+vacated_same m k = (refl, length-set m.keeper.marks k Vacant, length-set m.owners k None)

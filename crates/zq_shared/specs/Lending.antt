@@ -1,6 +1,6 @@
 -- What holds between two moments of a step: replies that are held, and slots that are let go.
-use Rattle.std.specs.Prelude.{◌≡◌, ◌⊎◌, ℕ, ◌<◌, ◌≤◌, List, length, All, Some, None}
-use Rattle.zq_hold.specs.declared.slot.Mark.TheVariants.{Kept}
+use Rattle.std.specs.Prelude.{◌≡◌, ◌⊎◌, ℕ, ◌+◌, ◌<◌, ◌≤◌, List, length, All, Some, None}
+use Rattle.zq_hold.specs.declared.slot.Mark.TheVariants.{Kept, Gone}
 use Rattle.zq_hold.specs.Marks.{HasMark}
 use Rattle.zq_hold.specs.Seats.{Ended, Holder}
 use Rattle.zq_hold.specs.Slots.{times}
@@ -8,7 +8,7 @@ use Rattle.zq_hold.specs.Owners.{Slotted, owner_at}
 use Rattle.zq_machine.specs.Handing.{Handed}
 use Rattle.zq_shared.specs.Stored.{Stored, waiting}
 use Rattle.zq_shared.specs.Ties.{IsNearlyTied}
-use Rattle.zq_shared.specs.Sharing.{HasReply}
+use Rattle.zq_shared.specs.Sharing.{HasReply, ended_slots}
 
 -- the seat came to hold the slots of the requests of the replies among these messages, each once, and no others; nothing else of the slots changed but what is lent
 pub record Lends (hs : List Handed) (m m' : Slotted) (seat seat' : Holder) : Type 0 where
@@ -28,3 +28,7 @@ pub record LetsGo (s : Stored) (m m' : Slotted) (lasts : List Ended) (i : ℕ) :
   pub waits : (k n : ℕ) → k < i → HasMark Kept m'.keeper.marks k → owner_at m'.owners k ≡ Some n → 0 < waiting s n
   pub few : length lasts ≤ i
   pub home : All (λ (l : Ended). l.home ≡ m.keeper.home) lasts
+  pub counted : length lasts + m.keeper.ended ≡ m'.keeper.ended
+  pub before : (k : ℕ) → HasMark Kept m'.keeper.marks k → HasMark Kept m.keeper.marks k
+  pub gone : (k : ℕ) → 0 < times k (ended_slots lasts) → HasMark Kept m.keeper.marks k × HasMark Gone m'.keeper.marks k
+  pub unlent : (k : ℕ) → HasMark Kept m.keeper.marks k → HasMark Gone m'.keeper.marks k → times k m.keeper.lent ≡ 0 → 0 < times k (ended_slots lasts)

@@ -1,11 +1,12 @@
 -- What a step and a settling make of a gateway beside its calls, and of the slots of its requests.
-use Rattle.std.specs.Prelude.{◌≡◌, ◌⊎◌, ℕ, ◌+◌, ◌<◌, ◌≤◌, true, List, [], ◌∷◌, ◌++◌, length, map, replicate, slice_set, Option, Some, None}
+use Rattle.std.specs.Prelude.{◌≡◌, ◌⊎◌, ℕ, ◌+◌, ◌<◌, ◌≤◌, true, List, [], ◌∷◌, ◌++◌, length, map, replicate, slice_set, Option, Some, None, All}
 use Rattle.std.specs.List.{cons_option, list_any}
 use Rattle.std.specs.List.Sorted.{IsStrictlySortedBy}
 use Rattle.std.specs.Ordering.{nat_cmp}
 use Rattle.atomic_table.specs.Seated.{TableId}
-use Rattle.zq_hold.specs.declared.slot.Mark.TheVariants.{Spare, Vacant}
-use Rattle.zq_hold.specs.Marks.{AllAllotted, IsNext}
+use Rattle.zq_hold.specs.declared.slot.Mark.TheVariants.{Spare, Kept, Gone, Vacant}
+use Rattle.zq_hold.specs.Marks.{AllAllotted, HasMark, IsNext}
+use Rattle.zq_hold.specs.Seats.{Ended}
 use Rattle.zq_hold.specs.Slots.{times, without}
 use Rattle.zq_hold.specs.Owners.{Slotted, owner_at, with_mark}
 use Rattle.zq_query.specs.Records.{is_reply}
@@ -15,13 +16,13 @@ use Rattle.zq_machine.specs.Handing.{Handed}
 use Rattle.zq_machine.specs.Machine.{done}
 use Rattle.zq_machine.specs.Waiting.{hands_reply}
 use Rattle.zq_shared.specs.Stored.{IsOpen, Stored, answer_to, asks_request, in_flight, requests_in, waiting, with_call}
-use Rattle.zq_shared.specs.Ties.{Sharing}
+use Rattle.zq_shared.specs.Ties.{IsTied, Sharing}
 use Rattle.zq_shared.specs.declared.shared.StepRefusal.{StepRefusal}
 use Rattle.zq_shared.specs.declared.shared.StepRefusal.TheVariants as refusal
 
 -- the same holds, with as many slots
 abbrev pub IsSameHolds : Slotted → Slotted → Type 0
-IsSameHolds old new = (new.keeper.home ≡ old.keeper.home) × (length new.keeper.marks ≡ length old.keeper.marks)
+IsSameHolds old new = (new.keeper.home ≡ old.keeper.home) × (length new.keeper.marks ≡ length old.keeper.marks) × (length new.owners ≡ length old.owners)
 
 -- that many slots of these holds, each spare and without an owner, and so many seats made
 abbrev pub all_spare : TableId → ℕ → ℕ → Slotted
@@ -40,6 +41,26 @@ pub record HoldsReplies (hs : List Handed) (m : Slotted) (held : List ℕ) : Typ
 -- a reply in flight keeps its slot's owner, and stays in flight, unless its slot is the one left out
 abbrev pub KeepsFlights : Option ℕ → Sharing → Sharing → Type 0
 KeepsFlights but old new = (k n r : ℕ) → (but ≡ Some k → ⊥) → owner_at old.slots.owners k ≡ Some n → in_flight old.stored n r ≡ true → (owner_at new.slots.owners k ≡ Some n) × (in_flight new.stored n r ≡ true)
+
+-- the slots that nobody holds
+abbrev pub ended_slots : List Ended → List ℕ
+ended_slots ls = map (λ (l : Ended). l.slot) ls
+
+-- these are the releases of the keeper that were last: as many as were counted, each of a slot that it held and holds no more; the slots that it let go and that are not lent are among them; and no slot was vacated
+pub record AreLast (old new : Slotted) (lasts : List Ended) : Type 0 where
+  pub home : All (λ (l : Ended). l.home ≡ old.keeper.home) lasts
+  pub counted : length lasts + old.keeper.ended ≡ new.keeper.ended
+  pub vacated : new.keeper.vacated ≡ old.keeper.vacated
+  pub gone : (k : ℕ) → 0 < times k (ended_slots lasts) → HasMark Kept old.keeper.marks k × HasMark Gone new.keeper.marks k
+  pub unlent : (k : ℕ) → HasMark Kept old.keeper.marks k → HasMark Gone new.keeper.marks k → times k new.keeper.lent ≡ 0 → 0 < times k (ended_slots lasts)
+
+-- the slot is allotted
+abbrev pub IsAllotted : Slotted → ℕ → Type 0
+IsAllotted m k = HasMark Kept m.keeper.marks k ⊎ HasMark Gone m.keeper.marks k
+
+-- an allotted slot that no open request owns was let go by the keeper, and is not lent
+abbrev pub OthersAreGone : Sharing → Type 0
+OthersAreGone x = (k : ℕ) → IsAllotted x.slots k → ((n : ℕ) → owner_at x.slots.owners k ≡ Some n → IsOpen x.stored n → ⊥) → HasMark Gone x.slots.keeper.marks k × (times k x.slots.keeper.lent ≡ 0)
 
 -- the call is a request, and every slot is allotted
 abbrev pub IsFull : Sharing → Call → Type 0
@@ -79,6 +100,11 @@ IsWithin slots s = (ns : List ℕ) → ((n : ℕ) → times n ns ≤ 1) → ((n 
 abbrev pub AreOrderly : ℕ → Stored → List Call → Type 0
 AreOrderly slots s [] = IsWithin slots s
 AreOrderly slots s (c ∷ cs) = IsWithin slots s × IsDue s c × AreOrderly slots (with_call s c) cs
+
+-- the slots stand with the open requests, and the calls are orderly
+pub record IsShared (s : Stored) (m : Slotted) : Type 0 where
+  pub tied : IsTied s m
+  pub orderly : AreOrderly (length m.keeper.marks) (record { config = s.config; calls = [] }) s.calls
 
 -- what the last of these reports is answered: the final, if it comes; and nothing where nothing is reported
 abbrev pub EndsIn : Stored → List ℕ → Option Handed → Type 0

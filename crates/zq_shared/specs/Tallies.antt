@@ -3,7 +3,7 @@ use Rattle.std.specs.Prelude.{ℕ, ◌+◌, ◌<◌, if◌then◌else◌, List, 
 use Rattle.std.specs.List.{filter}
 use Rattle.zq_machine.specs.declared.call.Call.{Call}
 use Rattle.zq_machine.specs.Calls.{is_sent}
-use Rattle.zq_shared.specs.Stored.{asks_request, requests_in}
+use Rattle.zq_shared.specs.Stored.{asks_request}
 
 -- of each of the three ledgers: of the stored calls other than requests and reports, of the stored requests, and of the calls that found every slot allotted
 pub record Counts : Type 0 where

@@ -1,5 +1,5 @@
 //! A request gets its slot.
-ghost use Rattle.std.specs.Prelude.{◌≡◌, ℕ, ◌<◌, [], true, None, Some, IfErr, IfNone, IfOk, IfSome, OnOk};
+ghost use Rattle.std.specs.Prelude.{◌≡◌, ℕ, ◌<◌, [], true, None, Some, IfErr, IfNone, IfOk, IfSome, OnErr, OnOk};
 ghost use Rattle.zq_hold.specs.declared.slot.Mark.TheVariants.{Kept, Spare};
 ghost use Rattle.zq_hold.specs.Marks.{HasMark};
 ghost use Rattle.zq_hold.specs.Slots.{times};
@@ -7,13 +7,13 @@ ghost use Rattle.zq_hold.specs.Owners.{owned, owner_at, with_mark, with_owner};
 ghost use Rattle.zq_machine.specs.declared.call.Outcome.TheVariants.{Asked};
 ghost use Rattle.zq_shared.specs.Stored.{answer_to, asks_request, waiting, with_call};
 ghost use Rattle.zq_shared.specs.Ties.{IsTied};
-ghost use Rattle.zq_shared.specs.Sharing.{IsFull, IsSameHolds, KeepsFlights, Refuses};
+ghost use Rattle.zq_shared.specs.Sharing.{AreLast, IsFull, IsSameHolds, KeepsFlights, Refuses};
 
 use crate::LastList;
 use crate::journal::Journal;
 use crate::shared::{StepRefusal, Stepped};
 use std::alloc::Global;
-use zq_hold::{Slot, Slots};
+use zq_hold::{Slot, SlotList, Slots};
 use zq_machine::call::{Call, Outcome};
 
 /// The number of the request that waits for something, if the outcome asks one.
@@ -58,8 +58,9 @@ pub(crate) fn ask(
     ensures step { IfOk result (λ t. t.step ≡ answer_to journal.old call) }
     ensures stored { OnOk result (journal.new ≡ with_call journal.old call) }
     ensures room { OnOk result (IsFull (record { stored = journal.old; slots = slots.old }) call → ⊥) }
-    ensures held { IfOk result (λ t. t.held.items ≡ []) }
-    ensures lasts { IfOk result (λ t. t.lasts.ended ≡ []) }
+    ensures unstored { OnErr result (journal.new ≡ journal.old) }
+    ensures held { IfOk result (λ t. t.held ≡ []) }
+    ensures lasts { IfOk result (λ t. AreLast slots.old slots.new t.lasts.ended) }
     ensures refused { IfErr result (λ e. Refuses (record { stored = journal.old; slots = slots.old }) call e (record { stored = journal.new; slots = slots.new })) }
     ensures flights { KeepsFlights None (record { stored = journal.old; slots = slots.old }) (record { stored = journal.new; slots = slots.new }) }
     ensures same { IsSameHolds slots.old slots.new }
@@ -76,7 +77,7 @@ pub(crate) fn ask(
     give_to(slots, slot, number_of(journal, step.outcome));
     Ok(Stepped {
         step,
-        held: Vec::new(alloc),
+        held: SlotList::new(alloc),
         lasts: LastList::new(alloc),
     })
 }

@@ -1,5 +1,5 @@
-//! A link whose first send is held, as tests of threads need it.
-ghost use Rattle.std.specs.Prelude.{◌≡◌};
+//! A link of which one send is held, as tests of threads need it.
+ghost use Rattle.std.specs.Prelude.{◌≡◌, ◌+◌, ◌-◌, ◌^◌, min};
 
 use crate::link::Link;
 use std::sync::atomic::{AtomicU64, Ordering};
@@ -19,27 +19,33 @@ pub fn is_set(flag: &AtomicU64) -> bool {
     false
 }
 
-/// A link whose first send sets a flag, and is held until another flag is set.
+/// A link of which one send, named by its count, sets a flag and is held until another flag is set: by a call that another thread is
+/// answered, or by the held send of another such link. It fails where the flag is not set in 100,000,000 turns, and where the link in it
+/// does.
 #[derive(Drop)]
 pub struct GateLink<'a, L: Link + Drop> {
     inner: L,
+    held: u64,
     begun: &'a AtomicU64,
     opened: &'a AtomicU64,
-    is_begun: bool,
-    is_late: bool,
+    sends: u64,
+    faults: u64,
 }
 
 impl<'a, L: Link + Drop> GateLink<'a, L> {
-    /// The link, over which nothing was sent yet; the flag that its first send sets, and the one that ends the wait.
-    pub fn new(inner: L, begun: &'a AtomicU64, opened: &'a AtomicU64) -> GateLink<'a, L>
-        ensures { result.inner ≡ inner }
+    /// The link, over which nothing was sent yet; the number of the send that is held, where sends are counted from 0; the flag that this
+    /// send sets, and the one that ends the wait.
+    pub fn new(inner: L, held: u64, begun: &'a AtomicU64, opened: &'a AtomicU64) -> GateLink<'a, L>
+        ensures inner { result.inner ≡ inner }
+        ensures fresh { (result.sends ≡ 0) × (result.faults ≡ 0) }
     {
         GateLink {
             inner,
+            held,
             begun,
             opened,
-            is_begun: false,
-            is_late: false,
+            sends: 0,
+            faults: 0,
         }
     }
 
@@ -50,25 +56,32 @@ impl<'a, L: Link + Drop> GateLink<'a, L> {
         &self.inner
     }
 
-    /// Whether the first send went on without its flag, after a long wait.
-    pub fn is_late(&self) -> bool
-        ensures { result ≡ self.now.is_late }
+    /// Counts a send. If it is the one that is held, it waits, and says whether its flag was set in time.
+    fn is_opened(&mut self) -> bool
+        ensures same { (self.new.inner ≡ self.old.inner) × (self.new.faults ≡ self.old.faults) }
+        ensures counted { self.new.sends ≡ min (self.old.sends + 1) (2 ^ 64 - 1) }
     {
-        self.is_late
+        let number = self.sends;
+        self.sends = self.sends.saturating_add(1);
+        if number != self.held {
+            return true;
+        }
+        self.begun.store(1, Ordering::SeqCst);
+        is_set(self.opened)
     }
 }
 
+#[tactic(auto, using(zq_io::proofs::Transfers::rose_by_one))]
 impl<'a, L: Link + Drop> Link for GateLink<'a, L> {
     ghost taken = { λ g. L.taken g.inner };
 
-    ghost faults = { λ g. L.faults g.inner };
+    ghost faults = { λ g. g.faults };
 
     fn send(&mut self, handed: &Handed) -> Result<(), Failed> {
-        if !self.is_begun {
-            self.is_begun = true;
-            self.begun.store(1, Ordering::SeqCst);
-            self.is_late = !is_set(self.opened);
+        if self.is_opened() && self.inner.send(handed).is_ok() {
+            return Ok(());
         }
-        self.inner.send(handed)
+        self.faults = self.faults.saturating_add(1);
+        Err(Failed)
     }
 }

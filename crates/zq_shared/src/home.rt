@@ -1,10 +1,10 @@
 //! Which shared gateway a lock is of.
 use std::marker::Brand;
 
-/// A name for a shared gateway. It means a configuration, the holds of one `Shared::new` with their number of slots, and a list of
-/// calls or none; with a list, each stored call that reports no reply is one of it.
+/// A name for a shared gateway. It means a configuration, the holds of one `Shared::new`, and a list of calls or none; with a list,
+/// each stored call that reports no reply is one of it.
 pub trait Home {
-    ghost use Rattle.std.specs.Prelude.{ℕ, List, Option};
+    ghost use Rattle.std.specs.Prelude.{List, Option};
     ghost use Rattle.atomic_table.specs.Seated.{TableId};
     ghost use Rattle.zq_machine.specs.declared.call.Call.{Call};
     ghost use Rattle.zq_machine.specs.Configs.{Settings};
@@ -12,8 +12,6 @@ pub trait Home {
     ghost config: { Settings };
 
     ghost holds: { TableId };
-
-    ghost slots: { ℕ };
 
     ghost list: { Option (List Call) };
 }
@@ -25,8 +23,6 @@ impl Home for Brand {
     ghost config = { no_config };
 
     ghost holds = { no_holds };
-
-    ghost slots = { 0 };
 
     ghost list = { None };
 }

@@ -88,10 +88,7 @@ fn all_flying(gateway: &Gateway, flying: usize, call: &Call) -> Result<usize, Ou
 fn room_for(gateway: &Gateway, flying: usize, call: &Call) -> Result<usize, OutOfMemory>
     ensures { IfOk result (λ room. flying + length (replies_of (step gateway.now call.now)) + 1 ≤ room) }
 {
-    let more = gateway.most_replies(call)?;
-    let Some(room) = flying.checked_add(more) else {
-        return Err(OutOfMemory);
-    };
+    let room = all_flying(gateway, flying, call)?;
     room.checked_add(1).ok_or(OutOfMemory)
 }
 

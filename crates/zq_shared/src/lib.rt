@@ -3,7 +3,7 @@
 //!
 //! - `link`: a link, which counts its faults, and messages sent over it one by one
 //! - `memory`: a link in memory, and one that never fails
-//! - `held`: a link whose first send is held, as tests of threads need it
+//! - `held`: a link of which one send is held, as tests of threads need it
 //! - `hold`: a reply that is to be sent holds the slot of its request
 //! - `lasts`: what was released last
 //! - `journal`: the gateway beside the calls that it stands for
@@ -14,7 +14,8 @@
 //! - `home`: which shared gateway a lock is of
 //! - `tally`: what each caller keeps, by which stored calls are counted over all callers
 //! - `locked`: what lies under the lock
-//! - `lock`: `TablesLock`, and its `call`
+//! - `lock`: `TablesLock`, and what takes the lock
+//! - `calling`: its `call`, which sends once the lock is free
 //! - `refusal`: why a call was refused
 //! - `sending`: messages that go on where others were sent
 //!
@@ -22,6 +23,7 @@
 #![tactic(auto)]
 
 mod asking;
+mod calling;
 mod held;
 mod hold;
 mod home;
@@ -47,8 +49,8 @@ pub use link::{Link, send_all};
 pub use lock::TablesLock;
 pub use memory::{MemoryLink, SureLink};
 pub use refusal::CallRefusal;
-pub use sending::{send_on, send_one};
+pub use sending::{send_final, send_on};
 pub use shared::{Shared, StepRefusal, Stepped};
 pub use tally::Tally;
-pub use zq_hold::{HoldSeat, NoSlot, SeatList, Slot};
+pub use zq_hold::{HoldSeat, NoSlot, SeatList, Slot, SlotList};
 pub use zq_io::streams::Failed;

@@ -14,7 +14,7 @@ use crate::{LastList, Shared, StepRefusal, Stepped};
 use std::alloc::Global;
 use std::marker::{Model, PhantomData};
 use std::sync::ledger::{Book, Ledger};
-use zq_hold::{HoldSeat, Last, Slot};
+use zq_hold::{HoldSeat, Last, SlotList};
 use zq_machine::call::{Call, Step};
 use zq_machine::handed::Handed;
 
@@ -36,14 +36,14 @@ impl<H: Home, C: Ledger, Q: Ledger, P: Ledger> Model for Locked<H, C, Q, P> {
 
     ghost view = { λ s. s.shared };
 
-    ghost invariant = { λ s. IsLocked H.config H.holds H.slots H.list s.shared (record { calls = s.calls.total; asks = s.asks.total; full = s.full.total }) };
+    ghost invariant = { λ s. IsLocked H.config H.holds H.list s.shared (record { calls = s.calls.total; asks = s.asks.total; full = s.full.total }) };
 }
 
 /// What a call leaves to its caller: its answer, the slots that the seat holds, what was released last and is not settled yet, and
 /// the finals of what was.
 pub(crate) struct Made {
     pub(crate) step: Step,
-    pub(crate) held: Vec<Slot>,
+    pub(crate) held: SlotList,
     pub(crate) lasts: LastList,
     pub(crate) finals: Vec<Handed>,
 }
@@ -69,20 +69,20 @@ impl<H: Home, C: Ledger, Q: Ledger, P: Ledger> Locked<H, C, Q, P> {
         requires listed { IsListed H.list call }
         requires parts { HasParts tally.old }
         ensures step { IfOk result (λ t. IsAnswer H.config H.list tally.old.made call t.step) }
-        ensures held { IfOk result (λ t. AreHeld t.held.items seat.new.held) }
+        ensures held { IfOk result (λ t. AreHeld t.held seat.new.held) }
         ensures once { OnOk result ((k : ℕ) → times k seat.new.held ≤ 1) }
         ensures lasts { IfOk result (λ t. All (λ l. l.home ≡ H.holds) t.lasts.ended) }
         ensures free { OnErr result (seat.new.held ≡ []) }
         ensures seat { seat.new.home ≡ H.holds }
         ensures made { OnOk result (tally.new ≡ with_stored call tally.old) }
         ensures refused { IfErr result (λ e. StepCounts call e tally.old tally.new) }
-        ensures full { IfErr result (StepRefuses H.list H.slots tally.old) }
+        ensures full { IfErr result (StepRefuses H.list H.holds.words tally.old) }
     {
         tally.bound(&mut self.calls, &mut self.asks);
+        self.shared.recall();
         let asks = asks(&call);
         match self.shared.step(seat, call) {
             Ok(stepped) => {
-                self.shared.recall();
                 if asks {
                     tally.add_ask(&mut self.asks);
                 } else {
@@ -138,7 +138,7 @@ impl<H: Home, C: Ledger, Q: Ledger, P: Ledger> Locked<H, C, Q, P> {
         requires listed { IsListed H.list call }
         requires parts { HasParts tally.old }
         ensures step { IfOk result (λ m. IsAnswer H.config H.list tally.old.made call m.step) }
-        ensures held { IfOk result (λ m. AreHeld m.held.items seat.new.held) }
+        ensures held { IfOk result (λ m. AreHeld m.held seat.new.held) }
         ensures once { OnOk result ((k : ℕ) → times k seat.new.held ≤ 1) }
         ensures lasts { IfOk result (λ m. All (λ l. l.home ≡ H.holds) m.lasts.ended) }
         ensures finals { IfOk result (λ m. AllFinals H.config H.list m.finals.items) }
@@ -146,7 +146,7 @@ impl<H: Home, C: Ledger, Q: Ledger, P: Ledger> Locked<H, C, Q, P> {
         ensures seat { seat.new.home ≡ H.holds }
         ensures made { OnOk result (tally.new ≡ with_stored call tally.old) }
         ensures refused { IfErr result (λ e. StepCounts call e tally.old tally.new) }
-        ensures full { IfErr result (StepRefuses H.list H.slots tally.old) }
+        ensures full { IfErr result (StepRefuses H.list H.holds.words tally.old) }
     {
         let Stepped {
             step,

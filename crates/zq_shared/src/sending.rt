@@ -1,5 +1,6 @@
-//! Messages that go on where others were sent.
+//! Messages that go on where others were sent. No function here may wait, so none takes a lock.
 ghost use Rattle.std.specs.Prelude.{[], ◌∷◌};
+ghost use Rattle.std.specs.List.{cons_option};
 ghost use Rattle.zq_shared.specs.Sending.{Delivers};
 
 use crate::{Link, send_all};
@@ -21,11 +22,7 @@ pub fn send_on<L: Link>(
 }
 
 /// Sends a message, if it leaves and there was no fault.
-pub fn send_one<L: Link>(
-    link: &mut L,
-    sent: Result<u64, u64>,
-    message: &Handed,
-) -> Result<u64, u64>
+fn send_one<L: Link>(link: &mut L, sent: Result<u64, u64>, message: &Handed) -> Result<u64, u64>
     ensures { Delivers (message.now ∷ []) (record { taken = L.taken link.old; faults = L.faults link.old; sent = sent }) (record { taken = L.taken link.new; faults = L.faults link.new; sent = result }) }
 {
     let before = sent?;
@@ -35,5 +32,19 @@ pub fn send_one<L: Link>(
     match link.send(message) {
         Ok(()) => Ok(before.saturating_add(1)),
         Err(_) => Err(before),
+    }
+}
+
+/// Sends a final, if there is one and there was no fault.
+pub fn send_final<L: Link>(
+    link: &mut L,
+    sent: Result<u64, u64>,
+    end: Option<Handed>,
+) -> Result<u64, u64>
+    ensures { Delivers (cons_option end []) (record { taken = L.taken link.old; faults = L.faults link.old; sent = sent }) (record { taken = L.taken link.new; faults = L.faults link.new; sent = result }) }
+{
+    match end {
+        Some(end) => send_one(link, sent, &end),
+        None => sent,
     }
 }

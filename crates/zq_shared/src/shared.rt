@@ -1,12 +1,13 @@
 //! The state that many threads share, under one lock.
-ghost use Rattle.std.specs.Prelude.{◌≡◌, ◌<◌, ◌≤◌, [], length, All, false, None, Some, IfErr, IfOk, OnErr, OnOk};
+ghost use Rattle.std.specs.Prelude.{◌≡◌, ◌<◌, ◌≤◌, [], length, false, None, Some, IfErr, IfOk, OnErr, OnOk};
 ghost use Rattle.zq_hold.specs.declared.slot.Mark.TheVariants.{Gone};
 ghost use Rattle.zq_hold.specs.Marks.{HasMark};
 ghost use Rattle.zq_hold.specs.Owners.{owner_at};
 ghost use Rattle.zq_machine.specs.Calls.{is_sent};
 ghost use Rattle.zq_shared.specs.Holding.{AreHeld};
 ghost use Rattle.zq_shared.specs.Stored.{answer_to, asks_request, flights, standing, with_call};
-ghost use Rattle.zq_shared.specs.Sharing.{HoldsReplies, IsFull, IsSameHolds, IsWithin, KeepsFlights, Refuses, Settles, all_spare, slot_vacated};
+ghost use Rattle.zq_shared.specs.Answers.{behind};
+ghost use Rattle.zq_shared.specs.Sharing.{AreLast, AreOrderly, HoldsReplies, IsFull, IsSameHolds, IsWithin, KeepsFlights, OthersAreGone, Refuses, Settles, all_spare, slot_vacated};
 
 use crate::LastList;
 use crate::asking::ask;
@@ -15,7 +16,7 @@ use crate::settling::report_all;
 use crate::telling::tell;
 use std::alloc::Global;
 use std::marker::Model;
-use zq_hold::{HoldSeat, Last, NoSlot, SeatList, Slot, Slots};
+use zq_hold::{HoldSeat, Last, NoSlot, SeatList, SlotList, Slots};
 use zq_key::memory::OutOfMemory;
 use zq_machine::call::{Call, Step};
 use zq_machine::config::Config;
@@ -39,13 +40,14 @@ impl Drop for Shared {
 }
 
 impl Model for Shared {
-    ghost use Rattle.zq_shared.specs.Ties.{IsTied, Sharing};
+    ghost use Rattle.zq_shared.specs.Ties.{Sharing};
+    ghost use Rattle.zq_shared.specs.Sharing.{IsShared};
 
     ghost Value = { Sharing };
 
     ghost view = { λ s. record { stored = s.journal; slots = s.slots } };
 
-    ghost invariant = { λ s. IsTied s.journal s.slots };
+    ghost invariant = { λ s. IsShared s.journal s.slots };
 }
 
 /// What a step gives: what the call is answered, the slots that the seat holds for the replies that it put in flight, and what it released last.
@@ -54,8 +56,8 @@ pub struct Stepped {
     /// What the call is answered, and the messages that it hands.
     pub step: Step,
     /// The slots of the requests of which the seat sends replies, each once. Each has to be released behind its replies.
-    pub held: Vec<Slot>,
-    /// What was let go last, each to be settled.
+    pub held: SlotList,
+    /// The `Last` of each release of the keeper in this call that was last, each to be settled.
     pub lasts: LastList,
 }
 
@@ -122,16 +124,20 @@ impl Shared {
         self.journal.most_in_flight(call)
     }
 
-    /// Tells a proof that no more requests wait for something than there are slots. It does nothing.
+    /// Tells a proof what holds between any two calls: no more requests wait for something than there are slots, at each point of the
+    /// calls; and an allotted slot that no open request owns was let go by the keeper, and is not lent. It does nothing.
     pub fn recall(&self)
-        ensures { IsWithin (length self.now.slots.keeper.marks) self.now.stored }
+        ensures within { IsWithin (length self.now.slots.keeper.marks) self.now.stored }
+        ensures orderly { AreOrderly (length self.now.slots.keeper.marks) (behind self.now.stored.config []) self.now.stored.calls }
+        ensures sized { length self.now.slots.keeper.marks ≡ self.now.slots.keeper.home.words }
+        ensures others { OthersAreGone self.now }
     {
         self.slots.recall();
     }
 
     /// Makes one call that is no report, and stores it. A request that is asked and waits for something owns a slot from then on; `Full` exactly
     /// where every slot is allotted. The seat holds the slot of the request of each reply that the call puts in flight, until it releases it. A
-    /// reply that was in flight before keeps its slot's owner, and stays in flight. The slots of requests that wait for nothing any more are let go; a moment,
+    /// reply that was in flight before keeps its slot's owner, and stays in flight. The slots of requests that wait for nothing any more are let go, and none is vacated; a moment,
     /// a closing and a final look at each slot for that, of which there are at most 1024, and no other call does. Where memory is lacking all but one slot,
     /// which may be spare then, is as it was; room for the reports is made here.
     pub fn step(&mut self, seat: &mut HoldSeat, call: Call) -> Result<Stepped, StepRefusal>
@@ -142,8 +148,8 @@ impl Shared {
         ensures stored { OnOk result (self.new.stored ≡ with_call self.old.stored call) }
         ensures room { OnOk result (IsFull self.old call → ⊥) }
         ensures holds { IfOk result (λ t. HoldsReplies t.step.handed self.new.slots seat.new.held) }
-        ensures held { IfOk result (λ t. AreHeld t.held.items seat.new.held) }
-        ensures lasts { IfOk result (λ t. All (λ l. l.home ≡ self.old.slots.keeper.home) t.lasts.ended) }
+        ensures held { IfOk result (λ t. AreHeld t.held seat.new.held) }
+        ensures lasts { IfOk result (λ t. AreLast self.old.slots self.new.slots t.lasts.ended) }
         ensures refused { IfErr result (λ e. Refuses self.old call e self.new) }
         ensures flights { KeepsFlights None self.old self.new }
         ensures seat { seat.new.home ≡ seat.old.home }
@@ -155,6 +161,7 @@ impl Shared {
             journal,
             slots,
         } = self;
+        slots.recall();
         if asks_request(&call) {
             return ask(*alloc, journal, slots, call);
         }

@@ -1,5 +1,5 @@
 //! A call that asks no request: what it puts in flight is held, and what waits for nothing any more is released.
-ghost use Rattle.std.specs.Prelude.{◌≡◌, ℕ, ◌<◌, ◌≤◌, ◌+◌, ◌∷◌, [], All, false, true, if◌then◌else◌, length, vec_capacity, vec_len, None, IfNone, IfOk, IfSome, OnErr, OnOk};
+ghost use Rattle.std.specs.Prelude.{◌≡◌, ℕ, ◌<◌, ◌≤◌, ◌+◌, ◌∷◌, [], false, true, if◌then◌else◌, length, vec_capacity, vec_len, None, IfNone, IfOk, IfSome, OnErr, OnOk};
 ghost use Rattle.std.specs.List.{count_by, list_any};
 ghost use Rattle.zq_hold.specs.Owners.{Slotted};
 ghost use Rattle.zq_query.specs.Records.{Pending};
@@ -8,14 +8,14 @@ ghost use Rattle.zq_machine.specs.Waiting.{ends_entry, hands_reply};
 ghost use Rattle.zq_shared.specs.Holding.{AreHeld, OwnsKept};
 ghost use Rattle.zq_shared.specs.Stored.{answer_to, asks_request, is_flying, with_call};
 ghost use Rattle.zq_shared.specs.Ties.{AreWaiting, IsNearlyTied, IsTied};
-ghost use Rattle.zq_shared.specs.Sharing.{HoldsReplies, IsSameHolds, KeepsFlights};
+ghost use Rattle.zq_shared.specs.Sharing.{AreLast, HoldsReplies, IsSameHolds, KeepsFlights};
 ghost use Rattle.zq_shared.specs.Lending.{Lends, LetsGo};
 
 use crate::journal::Journal;
 use crate::shared::Stepped;
 use crate::{LastList, hold_for};
 use std::alloc::Global;
-use zq_hold::{HoldSeat, Slot, Slots};
+use zq_hold::{HoldSeat, Slot, SlotList, Slots};
 use zq_key::memory::OutOfMemory;
 use zq_machine::call::Call;
 use zq_machine::handed::Handed;
@@ -112,7 +112,7 @@ fn release_ended(journal: &Journal, slots: &mut Slots, lasts: &mut LastList, end
     ensures tied { IsTied journal.now slots.new }
     ensures slots { slots.new ≡ record slots.old { keeper = record slots.old.keeper { marks = slots.new.keeper.marks; ended = slots.new.keeper.ended } } }
     ensures wide { length slots.new.keeper.marks ≡ length slots.old.keeper.marks }
-    ensures lasts { All (λ l. l.home ≡ slots.old.keeper.home) lasts.new.ended }
+    ensures lasts { AreLast slots.old slots.new lasts.new.ended }
 {
     if ends {
         release_all(journal, slots, lasts);
@@ -152,8 +152,8 @@ pub(crate) fn tell(
     ensures step { IfOk result (λ t. t.step ≡ answer_to journal.old call) }
     ensures stored { OnOk result (journal.new ≡ with_call journal.old call) }
     ensures holds { IfOk result (λ t. HoldsReplies t.step.handed slots.new seat.new.held) }
-    ensures held { IfOk result (λ t. AreHeld t.held.items seat.new.held) }
-    ensures lasts { IfOk result (λ t. All (λ l. l.home ≡ slots.old.keeper.home) t.lasts.ended) }
+    ensures held { IfOk result (λ t. AreHeld t.held seat.new.held) }
+    ensures lasts { IfOk result (λ t. AreLast slots.old slots.new t.lasts.ended) }
     ensures same { OnErr result ((journal.new ≡ journal.old) × (slots.new ≡ slots.old) × (seat.new ≡ seat.old)) }
     ensures flights { KeepsFlights None (record { stored = journal.old; slots = slots.old }) (record { stored = journal.new; slots = slots.new }) }
     ensures seat { seat.new.home ≡ seat.old.home }
@@ -168,5 +168,6 @@ pub(crate) fn tell(
     };
     hold_all(slots, seat, &mut held, step.handed.as_slice());
     release_ended(journal, slots, &mut lasts, ends);
+    let held = SlotList::from_vec(held);
     Ok(Stepped { step, held, lasts })
 }

@@ -80,12 +80,13 @@ const BOTH: &str = "config 1 10000 north:client local\n\
     = asked 1\n\
     > 0 1 - request 2 0:s:k all - 0 0 hi\n";
 
-/// Whether two workers, each of whose sends is held until the other's has begun, make their calls, and each sends over its own link.
+/// Whether two workers, each of whose sends is held until the other's has begun and fails where that takes too long, make their calls,
+/// and each sends over its own link.
 fn both_send<R: Threads + Wait + Sync>(rt: &R, alloc: Global) -> Result<bool, OutOfMemory> {
     let (one, two) = (AtomicU64::new(0), AtomicU64::new(0));
     let mut links = [
-        GateLink::new(MemoryLink::new(alloc, Vec::new(alloc)), &one, &two),
-        GateLink::new(MemoryLink::new(alloc, Vec::new(alloc)), &two, &one),
+        GateLink::new(MemoryLink::new(alloc, Vec::new(alloc)), 0, &one, &two),
+        GateLink::new(MemoryLink::new(alloc, Vec::new(alloc)), 0, &two, &one),
     ];
     let wanted = (Status::Done, BOTH);
     let ended = ends_over(
@@ -99,7 +100,7 @@ fn both_send<R: Threads + Wait + Sync>(rt: &R, alloc: Global) -> Result<bool, Ou
     )?;
     let mut each = ended;
     for link in &links {
-        each = each && !link.is_late() && link.inner().taken().len() == 1;
+        each = each && link.inner().taken().len() == 1;
     }
     Ok(each)
 }

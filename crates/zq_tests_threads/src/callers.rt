@@ -1,18 +1,19 @@
 //! Two callers of a locked gateway.
-ghost use Rattle.std.specs.Prelude.{◌≡◌, [], None, false, IfOk, IfSome, length};
+ghost use Rattle.std.specs.Prelude.{◌≡◌, [], None, false, IfOk, IfSome};
 ghost use Rattle.zq_machine.specs.Calls.{is_sent};
 ghost use Rattle.zq_shared.specs.Tallies.{HasParts, each};
 ghost use Rattle.zq_tests_threads.specs.Callers.{IsReady};
 
 use crate::given::print_calls;
-use std::alloc::Global;
+use std::alloc::{AllocError, Global};
 use std::mem;
 use std::sync::Wait;
 use std::sync::ledger::{Blank, Ledger};
 use std::test::Fail;
 use zq_lines::steps::push_step;
-use zq_machine::call::{Call, Step};
-use zq_shared::{HoldSeat, Home, Link, SeatList, Shared, TablesLock, Tally};
+use zq_machine::call::{Call, Outcome, Step};
+use zq_machine::handed::HandedList;
+use zq_shared::{CallRefusal, HoldSeat, Home, Link, SeatList, Shared, TablesLock, Tally};
 
 /// One that calls a gateway: its seat, what it counts, the calls that it is to make, and the steps of those that it made.
 pub(crate) struct Caller<C: Ledger, Q: Ledger, P: Ledger> {
@@ -35,14 +36,14 @@ impl<C: Ledger, Q: Ledger, P: Ledger> Drop for Caller<C, Q, P> {
     }
 }
 
-/// Makes a call that is no report. It gives the step, where it is made and all is sent.
+/// Makes a call that is no report.
 fn make_call<H: Home, C: Ledger, Q: Ledger, P: Ledger, L: Link, R: Wait>(
     rt: &R,
     lock: &TablesLock<H, C, Q, P>,
     caller: &mut Caller<C, Q, P>,
     link: &mut L,
     call: Call,
-) -> Option<Step>
+) -> Result<Step, CallRefusal>
     requires list { H.list ≡ None }
     requires unsent { is_sent call ≡ false }
     requires ready { IsReady H.holds caller.old.seat caller.old.tally }
@@ -50,10 +51,33 @@ fn make_call<H: Home, C: Ledger, Q: Ledger, P: Ledger, L: Link, R: Wait>(
 {
     let alloc = caller.alloc;
     lock.call(rt, alloc, &mut caller.seat, &mut caller.tally, link, call)
-        .ok()
 }
 
-/// Makes a call, and prints its step. It says whether it is no report, and was made and all was sent.
+/// Prints what a call whose link failed was answered, and how many of its messages were taken.
+fn push_fault(
+    alloc: Global,
+    print: &mut Vec<u8>,
+    outcome: Outcome,
+    sent: u64,
+) -> Result<(), AllocError> {
+    let handed = HandedList::new(alloc);
+    push_step(print, &Step { outcome, handed })?;
+    let line = format!(in alloc; "link fault {sent}\n")?;
+    print.extend_from_slice(line.as_str().as_bytes())
+}
+
+/// Prints what a call is answered. It says whether the call is stored.
+fn push_answer(alloc: Global, print: &mut Vec<u8>, answer: Result<Step, CallRefusal>) -> bool {
+    match answer {
+        Ok(step) => push_step(print, &step).is_ok(),
+        Err(CallRefusal::LinkFault { outcome, sent }) => {
+            push_fault(alloc, print, outcome, sent).is_ok()
+        }
+        Err(_) => false,
+    }
+}
+
+/// Makes a call, and prints what it is answered. It says whether it is no report, and is stored.
 fn print_call<H: Home, C: Ledger, Q: Ledger, P: Ledger, L: Link, R: Wait>(
     rt: &R,
     lock: &TablesLock<H, C, Q, P>,
@@ -68,13 +92,11 @@ fn print_call<H: Home, C: Ledger, Q: Ledger, P: Ledger, L: Link, R: Wait>(
     if call.is_sent() {
         return false;
     }
-    match make_call(rt, lock, caller, link, call) {
-        Some(step) => push_step(&mut caller.print, &step).is_ok(),
-        None => false,
-    }
+    let answer = make_call(rt, lock, caller, link, call);
+    push_answer(caller.alloc, &mut caller.print, answer)
 }
 
-/// Makes calls in order, up to one that is not made.
+/// Makes calls in order, up to one that is not stored.
 fn make_calls<H: Home, C: Ledger, Q: Ledger, P: Ledger, L: Link, R: Wait>(
     rt: &R,
     lock: &TablesLock<H, C, Q, P>,
@@ -99,10 +121,13 @@ pub(crate) trait Desk<W> {
     /// The caller may begin.
     ghost ready: { W → Type 0 };
 
-    /// The caller makes its calls over the link, and prints their steps. It says whether each is no report, and was made and all was sent.
+    /// The caller makes its calls over the link, and prints what they are answered. It says whether each is no report, and is stored.
     fn make<L: Link, R: Wait>(&self, rt: &R, caller: &mut W, link: &mut L) -> bool
         requires { ready caller.old }
         ensures { ready caller.new };
+
+    /// What the caller printed.
+    fn printed(&self, alloc: Global, caller: &W) -> Result<Vec<u8>, AllocError>;
 }
 
 impl<H: Home, C: Ledger, Q: Ledger, P: Ledger> Desk<Caller<C, Q, P>> for TablesLock<H, C, Q, P> {
@@ -111,6 +136,10 @@ impl<H: Home, C: Ledger, Q: Ledger, P: Ledger> Desk<Caller<C, Q, P>> for TablesL
     fn make<L: Link, R: Wait>(&self, rt: &R, caller: &mut Caller<C, Q, P>, link: &mut L) -> bool {
         let calls = mem::replace(&mut caller.calls, Vec::new(caller.alloc));
         make_calls(rt, self, caller, link, calls)
+    }
+
+    fn printed(&self, alloc: Global, caller: &Caller<C, Q, P>) -> Result<Vec<u8>, AllocError> {
+        Vec::from_slice(alloc, caller.print.as_slice())
     }
 }
 
@@ -149,12 +178,11 @@ fn halve<C: Ledger, Q: Ledger, P: Ledger>(
 }
 
 /// A gateway behind its lock, and what two that call it count.
-#[tactic(auto, using(zq_shared::proofs::Due::orderly_none))]
 fn lock_for_two<H: Home, C: Ledger, Q: Ledger, P: Ledger>(
     shared: Shared,
     blanks: (Blank, Blank, Blank),
 ) -> (TablesLock<H, C, Q, P>, Tally<C, Q, P>)
-    requires means { (H.config ≡ shared.stored.config) × (H.holds ≡ shared.slots.keeper.home) × (H.slots ≡ length shared.slots.keeper.marks) }
+    requires means { (H.config ≡ shared.stored.config) × (H.holds ≡ shared.slots.keeper.home) }
     requires list { H.list ≡ None }
     requires fresh { shared.stored.calls ≡ [] }
     requires calls { (blanks.0.name ≡ C.name) × (blanks.0.parts ≡ C.parts) × (C.parts ≡ 2) }
@@ -182,7 +210,7 @@ pub(crate) fn open_two<H: Home, C: Ledger, Q: Ledger, P: Ledger>(
     mut seats: SeatList,
     blanks: (Blank, Blank, Blank),
 ) -> Result<(TablesLock<H, C, Q, P>, Caller<C, Q, P>, Caller<C, Q, P>), Fail>
-    requires means { (H.config ≡ shared.stored.config) × (H.holds ≡ shared.slots.keeper.home) × (H.slots ≡ length shared.slots.keeper.marks) }
+    requires means { (H.config ≡ shared.stored.config) × (H.holds ≡ shared.slots.keeper.home) }
     requires list { H.list ≡ None }
     requires fresh { shared.stored.calls ≡ [] }
     requires seats { seats.home ≡ H.holds }

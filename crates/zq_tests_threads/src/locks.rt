@@ -1,5 +1,5 @@
 //! What a lock answers and sends.
-ghost use Rattle.std.specs.Prelude.{◌≡◌, [], None, length};
+ghost use Rattle.std.specs.Prelude.{◌≡◌, [], None};
 ghost use Rattle.zq_tests_threads.specs.Callers.{IsReady};
 
 use crate::callers::{Caller, Desk, open_two, print_stored};
@@ -73,7 +73,7 @@ fn two_callers<H: Home, C: Ledger, Q: Ledger, P: Ledger, R: Wait>(
     blanks: (Blank, Blank, Blank),
     parts: (Vec<Call>, Vec<Call>),
 ) -> Result<Vec<Vec<u8>>, Fail>
-    requires means { (H.config ≡ shared.stored.config) × (H.holds ≡ shared.slots.keeper.home) × (H.slots ≡ length shared.slots.keeper.marks) }
+    requires means { (H.config ≡ shared.stored.config) × (H.holds ≡ shared.slots.keeper.home) }
     requires list { H.list ≡ None }
     requires fresh { shared.stored.calls ≡ [] }
     requires seats { seats.home ≡ H.holds }

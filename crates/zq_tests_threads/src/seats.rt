@@ -9,7 +9,7 @@ use std::test::Fail;
 use zq_hold::{Last, release};
 use zq_lines::steps::push_step;
 use zq_machine::call::Call;
-use zq_shared::{HoldSeat, LastList, Shared, Slot, StepRefusal, Stepped};
+use zq_shared::{HoldSeat, LastList, Shared, SlotList, StepRefusal, Stepped};
 
 const ONE_SLOT: &str = "config 1 10000 north:client local\n\
     open local 10 client north -\n\
@@ -70,11 +70,11 @@ fn give(
     seat: &mut HoldSeat,
     print: &mut Vec<u8>,
     call: Call,
-) -> Result<Vec<Slot>, Fail>
+) -> Result<SlotList, Fail>
     requires home { seat.old.home ≡ shared.old.slots.keeper.home }
     requires empty { seat.old.held ≡ [] }
     ensures home { (seat.new.home ≡ seat.old.home) × (shared.new.slots.keeper.home ≡ shared.old.slots.keeper.home) }
-    ensures held { IfOk result (λ h. AreHeld h.items seat.new.held) }
+    ensures held { IfOk result (λ h. AreHeld h seat.new.held) }
 {
     if call.is_sent() {
         return Err(Fail::from("no report"));
@@ -88,14 +88,14 @@ fn give(
         }
         Err(StepRefusal::Full(_)) => {
             print.extend_from_slice(b"full\n")?;
-            Ok(Vec::new(alloc))
+            Ok(SlotList::new(alloc))
         }
         Err(StepRefusal::OutOfMemory) => Err(Fail::from("memory")),
     }
 }
 
 /// Whether a seat that holds these slots holds nothing.
-fn holds_nothing(held: &[Slot], seat: &HoldSeat) -> bool
+fn holds_nothing(held: &SlotList, seat: &HoldSeat) -> bool
     requires { AreHeld held.now seat.now.held }
     ensures { result ≡ true → seat.now.held ≡ [] }
 {
@@ -118,7 +118,7 @@ fn give_all(
 {
     for call in calls {
         let held = give(alloc, shared, seat, print, call)?;
-        if !holds_nothing(held.as_slice(), seat) {
+        if !holds_nothing(&held, seat) {
             return Err(Fail::from("nothing in flight"));
         }
     }
@@ -126,10 +126,11 @@ fn give_all(
 }
 
 /// The seat lets go one of the slots that it holds. It gives the slot's `Last`, where the seat was the last to hold it.
-fn let_go(seat: &mut HoldSeat, mut held: Vec<Slot>) -> Option<Last>
-    requires { AreHeld held.items seat.old.held }
+fn let_go(seat: &mut HoldSeat, held: SlotList) -> Option<Last>
+    requires { AreHeld held seat.old.held }
     ensures { IfSome result (λ l. l.home ≡ seat.old.home) }
 {
+    let mut held = held.into_vec();
     let Some(slot) = held.pop() else {
         return None;
     };
@@ -143,11 +144,11 @@ fn give_last(
     seat: &mut HoldSeat,
     print: &mut Vec<u8>,
     mut calls: Vec<Call>,
-) -> Result<Vec<Slot>, Fail>
+) -> Result<SlotList, Fail>
     requires home { seat.old.home ≡ shared.old.slots.keeper.home }
     requires empty { seat.old.held ≡ [] }
     ensures home { OnOk result ((seat.new.home ≡ seat.old.home) × (shared.new.slots.keeper.home ≡ shared.old.slots.keeper.home)) }
-    ensures held { IfOk result (λ h. AreHeld h.items seat.new.held) }
+    ensures held { IfOk result (λ h. AreHeld h seat.new.held) }
 {
     let Some(call) = calls.pop() else {
         return Err(Fail::from("a call"));

@@ -6,8 +6,9 @@ use Rattle.zq_hold.specs.Owners.{Slotted, owned, owner_at, with_mark}
 use Rattle.zq_machine.specs.declared.call.Step.{Step}
 use Rattle.zq_shared.specs.Stored.{Stored}
 use Rattle.zq_shared.specs.Ties.{IsTied, Sharing}
+use Rattle.zq_shared.specs.Sharing.{AreLast}
 use Rattle.zq_shared.proofs.Ties.{back_tied}
-use Rattle.zq_shared.proofs.Asked.{all_used, asked_after, asked_flights, back_is, new_unowned, next_free, next_inside, still_flights}
+use Rattle.zq_shared.proofs.Asked.{all_used, asked_after, asked_flights, asked_last, back_is, new_unowned, next_free, next_inside, still_flights}
 use Rattle.zq_shared.proofs.asking.ask.Goals as goal
 
 pub returns-in-Err-clause-refused : goal.returns-in-Err-clause-refused
@@ -52,7 +53,7 @@ give_to-requires-clause-new c =
 pub returns-clause-tied : goal.returns-clause-tied
 returns-clause-tied c =
     let next = c.in-Ok.ensures.ok in
-    asked_after c.args.journal.now c.args.call c.args.slots.now c.requires.tied c.requires.asks c.in-Ok.slot.0 c.recall.ensures next.0
+    asked_after c.args.journal.now c.args.call c.args.slots.now c.requires.tied c.requires.asks c.in-Ok.slot.0 c.recall.ensures.slotted next.0
     (ap (λ (m : Slotted). owner_at m.owners c.in-Ok.slot.0) (sym next.1) ∙ c.in-Ok.ensures.free)
     (ap (λ (m : Slotted). times c.in-Ok.slot.0 m.keeper.lent) (sym next.1) ∙ c.in-Ok.ensures.lent)
     c.allot.new.self c.give_to.new.slots c.step.new.self c.in-Ok-step.step c.number_of.result next.1 c.in-Ok-step.ensures.stored c.in-Ok-step.ensures.step
@@ -61,7 +62,16 @@ returns-clause-tied c =
 pub returns-clause-flights : goal.returns-clause-flights
 returns-clause-flights c =
     let next = c.in-Ok.ensures.ok in
-    asked_flights c.args.journal.now c.args.call c.args.slots.now c.requires.tied c.requires.asks c.in-Ok.slot.0 c.recall.ensures next.0
+    asked_flights c.args.journal.now c.args.call c.args.slots.now c.requires.tied c.requires.asks c.in-Ok.slot.0 c.recall.ensures.slotted next.0
     (ap (λ (m : Slotted). owner_at m.owners c.in-Ok.slot.0) (sym next.1) ∙ c.in-Ok.ensures.free)
     (ap (λ (m : Slotted). times c.in-Ok.slot.0 m.keeper.lent) (sym next.1) ∙ c.in-Ok.ensures.lent)
     c.allot.new.self c.give_to.new.slots c.step.new.self c.number_of.result next.1 c.in-Ok-step.ensures.stored c.give_to.ensures.given c.give_to.ensures.back
+
+pub returns-clause-lasts : goal.returns-clause-lasts
+returns-clause-lasts c =
+    let next = c.in-Ok.ensures.ok in
+    subst (AreLast c.args.slots.now c.give_to.new.slots) (sym c.new-2.ensures)
+    (asked_last c.args.journal.now c.args.call c.args.slots.now c.requires.tied c.requires.asks c.in-Ok.slot.0 c.recall.ensures.slotted next.0
+    (ap (λ (m : Slotted). owner_at m.owners c.in-Ok.slot.0) (sym next.1) ∙ c.in-Ok.ensures.free)
+    (ap (λ (m : Slotted). times c.in-Ok.slot.0 m.keeper.lent) (sym next.1) ∙ c.in-Ok.ensures.lent)
+    c.allot.new.self c.give_to.new.slots c.number_of.result next.1 c.give_to.ensures.given c.give_to.ensures.back)

@@ -8,7 +8,7 @@ use Rattle.zq_shared.proofs.hold.hold_for.Goals as goal
 
 pub returns-then-is_held-clause-holds : goal.returns-then-is_held-clause-holds
 returns-then-is_held-clause-holds c = (λ k owns.
-    (let e = one_owner c.args.number c.args.slots.now.owners c.in-Some.slot.0 k c.in-Some.ensures.some.1 owns (c.recall.ensures.once c.args.number) in
+    (let e = one_owner c.args.number c.args.slots.now.owners c.in-Some.slot.0 k c.in-Some.ensures.some.1 owns (c.recall.ensures.slotted.once c.args.number) in
     let held = subst (λ (l : List Slot). 0 < times c.in-Some.slot.0 (places l)) c.as_slice.ensures.value (c.is_held.ensures.yes c.if-is_held.true) in
     let same = c.requires.same c.in-Some.slot.0 in
     let here : 0 < times c.in-Some.slot.0 c.args.seat.now.held = omega (arith, held, same) in
@@ -22,7 +22,7 @@ returns-clause-same c = (λ k.
 
 pub returns-clause-holds : goal.returns-clause-holds
 returns-clause-holds c = (λ k owns.
-    (let e = one_owner c.args.number c.args.slots.now.owners c.in-Some.slot.0 k c.in-Some.ensures.some.1 owns (c.recall.ensures.once c.args.number) in
+    (let e = one_owner c.args.number c.args.slots.now.owners c.in-Some.slot.0 k c.in-Some.ensures.some.1 owns (c.recall.ensures.slotted.once c.args.number) in
     let seat = ap (λ (h : Holder). times k h.held) c.hold.ensures.seat in
     let here = ap weight (eq-eqb c.in-Some.slot.0 k e) in
     omega (arith, seat, here)))

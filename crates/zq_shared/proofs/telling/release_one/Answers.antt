@@ -13,7 +13,7 @@ returns-in-Some-release_kept-clause-more c = (λ m go.
     let none : waiting c.args.journal.now c.in-Some.number ≡ 0 = omega (arith, counted, few) in
     subst (λ (l : List Ended). LetsGo c.args.journal.now m c.release_kept.new.self l (c.args.slot.0 + 1)) (sym (ap (λ (l : Lasts). l.ended) c.push.ensures))
     (lets_last c.args.journal.now m c.args.slots.now c.args.lasts.now.ended c.args.slot.0 go c.in-Some.number c.release_kept.new.self.keeper.ended c.release_kept.new.self
-    c.in-Some.ensures.some.1 c.in-Some.ensures.some.0 none c.release_kept.ensures.keeper c.in-Some-release_kept.last (ap (λ (l : Ended). l.home) c.in-Some-release_kept.ensures.last.0))))
+    c.in-Some.ensures.some.1 c.in-Some.ensures.some.0 none c.release_kept.ensures.keeper c.in-Some-release_kept.last c.in-Some-release_kept.ensures.last.0 c.in-Some-release_kept.ensures.last.1)))
 
 pub returns-in_default-release_kept-clause-more : goal.returns-in_default-release_kept-clause-more
 returns-in_default-release_kept-clause-more c = (λ m go.
@@ -21,4 +21,4 @@ returns-in_default-release_kept-clause-more c = (λ m go.
     let few = c.if-pending_of-gt0.false in
     let none : waiting c.args.journal.now c.in-Some.number ≡ 0 = omega (arith, counted, few) in
     lets_go c.args.journal.now m c.args.slots.now c.args.lasts.now.ended c.args.slot.0 go c.in-Some.number c.release_kept.new.self.keeper.ended c.release_kept.new.self
-    c.in-Some.ensures.some.1 c.in-Some.ensures.some.0 none c.release_kept.ensures.keeper))
+    c.in-Some.ensures.some.1 c.in-Some.ensures.some.0 none c.release_kept.ensures.keeper c.in_default-release_kept.ensures.none.0 c.in_default-release_kept.ensures.none.1))

@@ -9,12 +9,13 @@ use Rattle.zq_shared.specs.Ties.{AreWaiting, IsNearlyTied}
 use Rattle.zq_shared.proofs.Moves.{handed_waits}
 use Rattle.zq_shared.proofs.Ties.{told_nearly}
 use Rattle.zq_shared.proofs.Asked.{still_flights, stored_flights}
-use Rattle.zq_shared.proofs.Lending.{lends_nearly, lends_waits, replied_owns}
+use Rattle.zq_shared.specs.Sharing.{AreLast}
+use Rattle.zq_shared.proofs.Lending.{lends_nearly, lends_waits, lent_last, replied_owns}
 use Rattle.zq_shared.proofs.telling.tell.Goals as goal
 
 pub hold_all-requires-clause-owns : goal.hold_all-requires-clause-owns
 hold_all-requires-clause-owns c = (λ n r h.
-    replied_owns c.args.journal.now c.args.slots.now c.requires.tied c.recall.ensures c.args.call n r
+    replied_owns c.args.journal.now c.args.slots.now c.requires.tied c.recall.ensures.slotted c.args.call n r
     (ap (λ (l : List Handed). list_any (hands_reply n r) l) (sym (c.as_slice.ensures ∙ ap (λ (t : Step). t.handed) c.in-Ok.ensures.step)) ∙ h))
 
 pub release_ended-requires-clause-tied : goal.release_ended-requires-clause-tied
@@ -41,3 +42,8 @@ returns-in_err-held-clause-flights c = still_flights c.args.journal.now c.args.j
 
 pub returns-in_default-clause-flights : goal.returns-in_default-clause-flights
 returns-in_default-clause-flights c = still_flights c.args.journal.now c.step.new.self c.in_default.ensures.same c.args.slots.now c.args.slots.now refl
+
+pub returns-clause-lasts : goal.returns-clause-lasts
+returns-clause-lasts c =
+    lent_last c.args.slots.now c.release_ended.new.slots c.hold_all.new.slots.keeper.lent c.release_ended.new.lasts.ended
+    (subst (λ (m : Slotted). AreLast m c.release_ended.new.slots c.release_ended.new.lasts.ended) c.hold_all.ensures.lends.slots c.release_ended.ensures.lasts)

@@ -1,8 +1,8 @@
-use Rattle.std.proofs.Common.{None, length}
-use Rattle.zq_tests_threads.proofs.gates.meanwhile.Given as goal
+use Rattle.std.proofs.Common.{None}
+use Rattle.zq_tests_threads.proofs.stage.play_script.Given as goal
 
 abbrev pub ghosts-two_callers-H-Home : goal.ghosts-two_callers-H-Home
-ghosts-two_callers-H-Home g a = record { config = a.shared.stored.config; holds = a.shared.slots.keeper.home; slots = length a.shared.slots.keeper.marks; list = None }
+ghosts-two_callers-H-Home g a = record { config = a.shared.stored.config; holds = a.shared.slots.keeper.home; list = None }
 
 abbrev pub ghosts-two_callers-C-Ledger : goal.ghosts-two_callers-C-Ledger
 ghosts-two_callers-C-Ledger g a = record { name = a.blanks.0.name; parts = a.blanks.0.parts }
