@@ -305,6 +305,24 @@ fn best_keys_of_both_sides(rt: HostRuntime) {
     assert_eq!(rt; are_of_both(&mut known, rt.alloc()), Ok([true, true]));
 }
 
+// Whether an equal face has the same ids, and its own ids alone change once one is given up there.
+fn copy_apart(known: &mut Known, alloc: Global) -> Result<[bool; 2], NameRefusal> {
+    name_nested(known, alloc)?;
+    let mut copy = known.face.copy(alloc)?;
+    let same = copy.first_id() == known.face.first_id();
+    copy.unregister_expr(&mut known.names, 2)?;
+    Ok([
+        same && known.face.first_id() == Some(2),
+        copy.first_id() == Some(3),
+    ])
+}
+
+#[test]
+fn copied_ids(rt: HostRuntime) {
+    let mut known = Known::new(rt.alloc()).ok().expect(&rt, "memory");
+    assert_eq!(rt; copy_apart(&mut known, rt.alloc()), Ok([true, true]));
+}
+
 // Lets the face name `a` by each id up to this.
 fn name_often(known: &mut Known, alloc: Global, last: u16) -> Result<(), NameRefusal> {
     for id in 1..=last {

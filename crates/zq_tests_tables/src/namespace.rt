@@ -3,8 +3,8 @@ use zq_given::wire;
 use zq_key::memory::OutOfMemory;
 use zq_key::message::{Message, QueryTarget, Request, WireExpr};
 use zq_key::text::Bytes;
-use zq_key::{Key, is_plain};
-use zq_namespace::{ENamespace, Namespace};
+use zq_key::{Key, is_key, is_plain};
+use zq_namespace::{ENamespace, KeyList, Mux, Namespace};
 
 // Whether an expression on the text enters as the other.
 fn enters(
@@ -72,4 +72,43 @@ fn a_key_leaves(rt: HostRuntime) {
     assert!(rt; is_plain(ns.as_str()));
     let mut exit = ENamespace::new(rt.alloc(), ns);
     assert_eq!(rt; leaves_within(&mut exit, rt.alloc()), Ok([true, true]));
+}
+
+// Whether of three requests the exit of a face lets out the one within its namespace that is not denied.
+fn leaves_not_denied(exit: &mut Mux, alloc: Global) -> Result<[bool; 3], OutOfMemory> {
+    Ok([
+        passes(exit, alloc, "acme/x/b", Some("b"))?,
+        passes(exit, alloc, "acme/x/no/b", None)?,
+        passes(exit, alloc, "acme/y/b", None)?,
+    ])
+}
+
+// Whether a request on the text passes the exit of a face like that.
+fn passes(
+    exit: &mut Mux,
+    alloc: Global,
+    text: &str,
+    left: Option<&str>,
+) -> Result<bool, OutOfMemory> {
+    if !is_key(text) {
+        return Ok(false);
+    }
+    let request = asking(alloc, wire(alloc, 0, text)?);
+    Ok(is_left(&exit.leave(text, &request)?, left))
+}
+
+#[test]
+fn a_key_passes_an_exit(rt: HostRuntime) {
+    let ns = Key::new(rt.alloc(), "acme/x").ok().expect(&rt, "a key");
+    assert!(rt; is_plain(ns.as_str()));
+    let mut denied = KeyList::new(rt.alloc());
+    let no = Key::new(rt.alloc(), "acme/x/no/**")
+        .ok()
+        .expect(&rt, "a key");
+    denied.push(no).ok().expect(&rt, "memory");
+    let mut exit = Mux::new(rt.alloc(), Some(ns), denied);
+    assert_eq!(rt;
+        leaves_not_denied(&mut exit, rt.alloc()),
+        Ok([true, true, true])
+    );
 }

@@ -139,6 +139,35 @@ fn ids_go_round(rt: HostRuntime) {
     assert!(rt; go_round(&mut queries));
 }
 
+// The next id is pending.
+fn passes_over_one(queries: &mut Queries) -> bool {
+    queries.start_at(NEAR, u32::MAX).is_ok()
+        && ask(queries, ASKER, NEAR, 100) == Ok((0, Some(0)))
+        && queries.start_at(NEAR, u32::MAX).is_ok()
+        && ask(queries, ASKER, NEAR, 100) == Ok((1, Some(1)))
+}
+
+// The last six ids and the first are pending.
+fn passes_over_seven(queries: &mut Queries) -> bool {
+    queries.start_at(NEAR, u32::MAX - 6).is_ok()
+        && ask_each(queries, 7).is_ok()
+        && queries.is_pending(NEAR, 0)
+        && queries.start_at(NEAR, u32::MAX - 6).is_ok()
+        && ask(queries, ASKER, NEAR, 100) == Ok((7, Some(1)))
+}
+
+#[test]
+fn one_pending_id_is_passed_over(rt: HostRuntime) {
+    let mut queries = Queries::new(rt.alloc(), 0, 0, 0);
+    assert!(rt; passes_over_one(&mut queries));
+}
+
+#[test]
+fn seven_pending_ids_are_passed_over(rt: HostRuntime) {
+    let mut queries = Queries::new(rt.alloc(), 0, 0, 0);
+    assert!(rt; passes_over_seven(&mut queries));
+}
+
 fn takes_the_last(queries: &mut Queries) -> bool {
     ask(queries, ASKER, NEAR, 100) == Ok((u64::MAX - 1, Some(1)))
         && ask(queries, ASKER, FAR, 100) == Err(AskRefusal::NoFreeId)

@@ -1,3 +1,4 @@
+ghost use Rattle.std.specs.Prelude.{All};
 ghost use Rattle.zq_message.specs.Region.{HasIndex};
 
 use std::alloc::Global;
@@ -85,4 +86,30 @@ fn half(map: &mut RegionMap<u32>, alloc: Global) -> Result<Option<u32>, OutOfMem
 fn each_changed(rt: HostRuntime) {
     let mut map = RegionMap::new(rt.alloc());
     assert!(rt; half(&mut map, rt.alloc()) == Ok(Some(3)));
+}
+
+// What stands in the clients and in North of a map that is made of entries, of which each is taken and doubled.
+fn doubled(
+    alloc: Global,
+    entries: Vec<(Region, u32)>,
+) -> Result<(Option<u32>, Option<u32>), OutOfMemory>
+    requires { All (λ e. HasIndex e.0) entries.items }
+{
+    let map = RegionMap::from_entries(alloc, entries)?;
+    let doubled = map.map(alloc, |d| d.wrapping_mul(2))?;
+    Ok((
+        doubled.get(&CLIENTS).copied(),
+        doubled.get(&Region::North).copied(),
+    ))
+}
+
+// The same of three entries, of which the last stands in the place of the first.
+fn doubled_three(alloc: Global) -> Result<(Option<u32>, Option<u32>), OutOfMemory> {
+    let entries = vec![in alloc; (CLIENTS, 7), (Region::North, 5), (CLIENTS, 9)]?;
+    doubled(alloc, entries)
+}
+
+#[test]
+fn each_taken(rt: HostRuntime) {
+    assert!(rt; doubled_three(rt.alloc()) == Ok((Some(18), Some(10))));
 }
