@@ -1,6 +1,7 @@
 /* Counts what a program asks of malloc, calloc and realloc, and refuses the one of the number REFUSE.
    At the end the count goes to the file ASKED. */
 
+#include <errno.h>
 #include <fcntl.h>
 #include <stdio.h>
 #include <stdlib.h>
@@ -13,10 +14,15 @@ void *__libc_realloc(void *old, size_t size);
 
 static unsigned long asked;
 
+/* The C library itself asks for memory to start a thread, and looks for the reason where it gets none. */
 static int is_refused(void) {
     const char *refused = getenv("REFUSE");
     asked += 1;
-    return refused && asked == strtoul(refused, NULL, 10);
+    if (!refused || asked != strtoul(refused, NULL, 10)) {
+        return 0;
+    }
+    errno = ENOMEM;
+    return 1;
 }
 
 void *malloc(size_t size) {
