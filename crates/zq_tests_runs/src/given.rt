@@ -33,28 +33,27 @@ fn texts(alloc: Global, words: &[&str]) -> Result<Vec<Text>, OutOfMemory> {
     Ok(texts)
 }
 
-/// How a run ends, and what it wrote in pieces of 8 bytes, where the read and the write of the
-/// number `fails` fail.
+/// How a run ends that reads pieces of 16 bytes, and what it wrote in pieces of 8, where one read and one write fail.
 pub(crate) fn run_on(
     alloc: Global,
     words: &[&str],
     script: &[u8],
-    fails: u64,
+    fails: Fails,
 ) -> Result<(Status, MemorySink), OutOfMemory> {
     let words = texts(alloc, words)?;
     let bytes = Bytes::new(alloc, script)?;
-    let mut source = MemorySource::new(bytes, vec![in alloc; fails]?, 1 << 20);
-    let mut sink = MemorySink::new(alloc, 4096, vec![in alloc; fails]?, 8)?;
+    let mut source = MemorySource::new(bytes, vec![in alloc; fails.read]?, 16);
+    let mut sink = MemorySink::new(alloc, 4096, vec![in alloc; fails.write]?, 8)?;
     let status = run(alloc, words.as_slice(), &mut source, &mut sink);
     Ok((status, sink))
 }
 
-/// Whether a run, where the read and the write of the number `fails` fail, ends so and wrote this.
+/// Whether a run, where one read and one write fail, ends so and wrote this.
 pub(crate) fn ends_as(
     alloc: Global,
     words: &[&str],
     script: &[u8],
-    fails: u64,
+    fails: Fails,
     wanted: (Status, &str),
 ) -> Result<bool, OutOfMemory> {
     let (ended, sink) = run_on(alloc, words, script, fails)?;

@@ -1,4 +1,4 @@
-use crate::given::ends_as;
+use crate::given::{Fails, NONE, ends_as};
 use std::alloc::Global;
 use zq_key::memory::OutOfMemory;
 use zq_script::LIMIT;
@@ -46,16 +46,25 @@ fn parts_of_a_script(rt: HostRuntime) {
     assert_eq!(rt; parted, Ok(true));
 }
 
+/// The read and the write of the same number fail.
+fn both(number: u64) -> Fails {
+    Fails {
+        read: number,
+        write: number,
+    }
+}
+
 #[test]
 fn replays_end(rt: HostRuntime) {
     let late = "config 1 10000 north:client local\npoll 0\npoll 0\npoll";
-    for (script, fails, status, print) in [
+    for (script, number, status, print) in [
         ("", 9, Status::Script, "bad line 1\n"),
         (late, 9, Status::Script, "bad line 4\n"),
         (HEAD, 1, Status::ReadFault, ""),
         ("", 1, Status::WriteFault, "bad line"),
     ] {
         let wanted = (status, print);
+        let fails = both(number);
         let ended = ends_as(rt.alloc(), &["replay"], script.as_bytes(), fails, wanted);
         assert_eq!(rt; ended, Ok(true), "{script}");
     }
@@ -72,7 +81,7 @@ fn other_words_are_refused(rt: HostRuntime) {
         &["load", "+1"],
     ] {
         let wanted = (Status::Words, "");
-        let ended = ends_as(rt.alloc(), words, HEAD.as_bytes(), u64::MAX, wanted);
+        let ended = ends_as(rt.alloc(), words, HEAD.as_bytes(), NONE, wanted);
         assert_eq!(rt; ended, Ok(true));
     }
 }
@@ -80,12 +89,15 @@ fn other_words_are_refused(rt: HostRuntime) {
 #[test]
 fn loads_end(rt: HostRuntime) {
     let counts = "calls 24 handed 9 requests 3 responses 3 finals 3\n";
-    for (count, fails, status, print) in [
+    let most = "calls 40012 handed 30000 requests 10000 responses 10000 finals 10000\n";
+    for (count, number, status, print) in [
         ("3", 9, Status::Done, counts),
+        ("10000", 9, Status::Done, most),
         ("1", 0, Status::WriteFault, ""),
     ] {
         let words = ["load", count];
         let wanted = (status, print);
+        let fails = both(number);
         let ended = ends_as(rt.alloc(), &words, HEAD.as_bytes(), fails, wanted);
         assert_eq!(rt; ended, Ok(true), "{count}");
     }
@@ -112,7 +124,7 @@ fn is_too_long(alloc: Global) -> Result<bool, OutOfMemory> {
         alloc,
         &["replay"],
         bytes.as_slice(),
-        u64::MAX,
+        NONE,
         (Status::TooLong, ""),
     )
 }

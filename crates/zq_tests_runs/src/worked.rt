@@ -1,5 +1,5 @@
 //! Worked scripts, each with the print that is wanted.
-use crate::given::ends_as;
+use crate::given::{NONE, ends_as};
 use zq_script::running::Status;
 
 /// What a script tells of, its lines, its print, and how its run ends.
@@ -673,7 +673,7 @@ const ROWS: [(&str, &str, &str, Status); 32] = [
 fn rows(rt: HostRuntime) {
     for (name, script, print, status) in &ROWS {
         let wanted = (*status, *print);
-        let ends = ends_as(rt.alloc(), &["replay"], script.as_bytes(), u64::MAX, wanted);
+        let ends = ends_as(rt.alloc(), &["replay"], script.as_bytes(), NONE, wanted);
         assert!(rt; ends == Ok(true), "{name}");
     }
 }
