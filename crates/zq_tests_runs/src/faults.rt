@@ -26,17 +26,26 @@ const PRINT: &str = "= opened 0\n\
     = done\n\
     > 1 0 - final 7 0\n";
 
-/// Of the print's 155 bytes, which are written in pieces of 8, those before the write that fails are taken.
+/// Whether a run whose write of that number fails took what was written before it, in pieces of 8 bytes.
+fn takes_front(alloc: Global, number: u64) -> Result<bool, OutOfMemory> {
+    let fails = Fails {
+        read: u64::MAX,
+        write: number,
+    };
+    let (ended, sink) = run_on(alloc, &["replay"], SCRIPT.as_bytes(), fails)?;
+    let taken = sink.taken();
+    Ok(
+        ended == Status::WriteFault
+            && taken.len() as u64 == number.saturating_mul(8)
+            && PRINT.as_bytes().starts_with(taken),
+    )
+}
+
+/// The print's 155 bytes are written by 20 writes, the last one of 3 bytes.
 #[test]
 fn each_write_fails(rt: HostRuntime) {
     for number in 0..20u64 {
-        let fails = Fails {
-            read: u64::MAX,
-            write: number,
-        };
-        let wanted = (Status::WriteFault, &PRINT[..8 * number as usize]);
-        let ended = ends_as(rt.alloc(), &["replay"], SCRIPT.as_bytes(), fails, wanted);
-        assert_eq!(rt; ended, Ok(true), "{number}");
+        assert_eq!(rt; takes_front(rt.alloc(), number), Ok(true), "{number}");
     }
 }
 
