@@ -108,3 +108,30 @@ fn rows(rt: HostRuntime) {
         }
     }
 }
+
+/// A network of 65537 routers, where the last is the child of the first in its tree, and a queryable below the gateway.
+fn wide_network(alloc: Global) -> Result<String, OutOfMemory> {
+    let head = "config 1 10000 north:router local\n\
+        open north 65537 router north -\n\
+        open local 10 client north -\n\
+        network north 1";
+    let mut text = String::from_str(alloc, head)?;
+    for id in 2..=65537u32 {
+        let item = format!(in alloc; ",{id}")?;
+        text.push_str(item.as_str())?;
+    }
+    text.push_str(" 65536/x -\nqueryable 1 1 0:s:m p 0 0\n")?;
+    Ok(text)
+}
+
+/// Whether a child above index 65535 is handed nothing.
+fn hands_nothing_above(alloc: Global) -> Result<bool, OutOfMemory> {
+    let script = wide_network(alloc)?;
+    let wanted = (Status::Done, "= opened 0\n= opened 1\n= done\n= done\n");
+    ends_as(alloc, &["replay"], script.as_str().as_bytes(), NONE, wanted)
+}
+
+#[test]
+fn nothing_above_the_last_index(rt: HostRuntime) {
+    assert_eq!(rt; hands_nothing_above(rt.alloc()), Ok(true));
+}
