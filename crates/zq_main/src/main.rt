@@ -31,6 +31,7 @@ const USAGE: &str = "usage: zq replay < SCRIPT
        zq load N
        zq show [--request N] < SCRIPT
        zq show --text [--color] < SCRIPT
+       zq show --mermaid [--request N] < SCRIPT
 
 zq replay reads a script from standard input, one call a line, and prints what
 a gateway answers to each call and the messages that it hands out.
@@ -43,7 +44,8 @@ with SLOTS slots, 1 to 1024, one for each open request. It prints the calls in
 the order in which they were made, a line `--`, and what replay prints of them.
 zq load N makes the calls of N queries, 1 to 10000, and prints how many
 messages they hand out.
-zq show prints a page of a script's run, for a browser, or its lines as text.
+zq show prints a page of a script's run, for a browser, or its lines as text,
+or its picture as a sequence diagram.
 
   zq --help       prints this text
   zq --version    prints the version
