@@ -41,7 +41,7 @@ showing k = total (λ v. stood k v.shows)
 abbrev pub seated : List HoldView → ℕ
 seated = total (λ v. live v.role)
 
--- how often all together let a slot go last
+-- how often all together released a slot last
 abbrev pub endings : List HoldView → ℕ
 endings = total (λ v. v.ended)
 
@@ -73,7 +73,7 @@ pub record IsKeptBy (n : ℕ) (s : HoldState) (keeper : ℕ) (view : HoldView) :
   pub ended : (k : ℕ) → 0 < standing k s.views → (0 < times k view.used) × (holders k s.views ≡ 0)
   -- a slot that is not vacated and that nobody holds has a view that stands for it: who leaves the number 0 has it
   pub owed : (k : ℕ) → 0 < times k view.used → holders k s.views ≡ 0 → 0 < standing k s.views
-  -- each time that a slot was let go last, the keeper took its `Last` in, or a view stands for it still; the keeper and seats alone count such times
+  -- each time that a slot was released last, the keeper took its `Last` in, or a view stands for it still; the keeper and seats alone count such times
   pub counted : endings s.views ≡ view.vacated + outstanding s.views
   pub idle : (j : ℕ) (v : HoldView) → get_elem? s.views j ≡ some v → live v.role ≡ 0 → v.ended ≡ 0
   -- one view, which is not the keeper's, shows the pledged slot, and none another; the keeper holds the pledged slot, and it is lent

@@ -11,7 +11,7 @@ use Rattle.zq_hold.specs.Slots.{times}
 use Rattle.zq_hold.specs.Views.{last_of}
 use Rattle.zq_hold.specs.Marks.{AllMarked}
 
--- a seat: of which holds it is, the slots that it holds, and how often it let a slot go last
+-- a seat: of which holds it is, the slots that it holds, and how often it released a slot last
 pub record Holder : Type 0 where
   pub home : TableId
   pub held : List ℕ
@@ -31,7 +31,7 @@ pub record Ended : Type 0 where
   pub home : TableId
   pub slot : ℕ
 
--- the keeper: of which holds it is, the mark of each slot, the slots that are lent, how often it let a slot go last, or a seat did that joined back, how often it vacated a slot, and how many seats were made and how many joined back
+-- the keeper: of which holds it is, the mark of each slot, the slots that are lent, how often it released a slot last, or a seat did that joined back, how often it vacated a slot, and how many seats were made and how many joined back
 pub record Keeping : Type 0 where
   pub home : TableId
   pub marks : List Mark

@@ -89,7 +89,7 @@ impl Keeper {
         vacate_slot(&**table, seat, marks.as_mut_slice(), last)
     }
 
-    /// A seat that holds nothing is given back, and is no seat any more. What it let go last counts as the keeper's.
+    /// A seat that holds nothing is given back, and is no seat any more. What it released last counts as the keeper's.
     pub fn join(&mut self, seat: HoldSeat)
         requires home { self.old.home ≡ seat.home }
         requires empty { seat.held ≡ [] }
@@ -128,7 +128,7 @@ pub fn hold(keeper: &mut Keeper, seat: &mut HoldSeat, slot: Slot)
     hold_slot(&**table, mine, theirs, slot);
 }
 
-/// The keeper lets the slot go, by one step. `Last` exactly where nobody holds it afterwards, and so always where it is not lent.
+/// The keeper releases the slot, by one step. `Last` exactly where nobody holds it afterwards, and so always where it is not lent.
 pub fn release_kept(keeper: &mut Keeper, slot: Slot) -> Option<Last>
     requires { HasMark Kept keeper.old.marks slot.0 }
     ensures keeper { keeper.new ≡ record keeper.old { marks = slice_set keeper.old.marks slot.0 Gone; ended = keeper.new.ended } }

@@ -18,7 +18,7 @@
 //!
 //! The rule that holds between any two steps of any threads is `IsKept`, in `specs/Rule.antt`: among others, that the number of a slot is
 //! how many hold it, and that exactly one view stands for a slot that is not vacated and that nobody holds. The keeper and each seat count
-//! how often they let a slot go last (`ended`), and the sum of these counts is how many slots the keeper vacated and how many views stand
+//! how often they released a slot last (`ended`), and the sum of these counts is how many slots the keeper vacated and how many views stand
 //! for one. `laws` says what follows for whatever keeps the rule: a seat that stood for nothing and leaves the number of a slot 0 stands
 //! for the slot, and its count goes up by one, and so it is with the keeper, unless it vacates the slot by that very step; no cut of a
 //! seat, nor its join with a view that is neither seat nor keeper, loses either, and one of the keeper's only where the slot is vacated.

@@ -28,7 +28,7 @@ impl Model for HoldSeat {
     ghost invariant = { λ s. IsSeat s.seat (arc_value s.table).shared };
 }
 
-/// The seat lets the slot go, by one step. `Last` exactly where nobody holds it afterwards.
+/// The seat releases the slot, by one step. `Last` exactly where nobody holds it afterwards.
 pub fn release(seat: &mut HoldSeat, slot: Slot) -> Option<Last>
     requires { 0 < times slot.0 seat.old.held }
     ensures seat { seat.new ≡ record seat.old { held = without slot.0 seat.old.held; ended = seat.new.ended } }

@@ -125,7 +125,7 @@ impl Slots {
         hold(&mut self.keeper, seat, slot);
     }
 
-    /// The keeper lets the slot go, by one step. `Last` exactly where nobody holds it afterwards, and so always where it is not lent.
+    /// The keeper releases the slot, by one step. `Last` exactly where nobody holds it afterwards, and so always where it is not lent.
     pub fn release_kept(&mut self, slot: Slot) -> Option<Last>
         requires { HasMark Kept self.old.keeper.marks slot.0 }
         ensures keeper { self.new ≡ record self.old { keeper = record self.old.keeper { marks = slice_set self.old.keeper.marks slot.0 Gone; ended = self.new.keeper.ended } } }

@@ -26,7 +26,7 @@ pub struct HoldView {
     pub shows: Option<u64>,
     /// The slot that it stands for: its step left the number 0.
     pub stands: Option<u64>,
-    /// How often it let a slot go last: its step left the number 0.
+    /// How often it released a slot last: its step left the number 0.
     pub ended: u64,
     /// Of the keeper: how many seats were made.
     pub made: u64,

@@ -251,7 +251,7 @@ fn moved_call(alloc: Global, ns: &str, call: &Call) -> Result<Call, OutOfMemory>
     }
 }
 
-/// The same calls in the namespace: each face is opened in it, and each text of a mark and of a deny list goes
+/// The calls as they are made in the namespace: each face is opened in it, and each text of a mark and of a deny list goes
 /// behind it.
 pub fn moved(alloc: Global, ns: &Key, calls: &[Call]) -> Result<Items<Call>, OutOfMemory>
     requires plain { IsTrue (is_plain ns.now) }

@@ -105,7 +105,7 @@ impl Known {
         })
     }
 
-    /// The same, where there is one.
+    /// An expression by its whole text, where there is one.
     fn option_in_full(&self, wire: &Option<WireExpr>) -> Result<Option<WireExpr>, OutOfMemory>
         ensures { IfOk result (λ w. w ≡ option_map (in_full self.now) wire.now) }
     {
@@ -265,7 +265,7 @@ impl Known {
         self.learn(message)
     }
 
-    /// The same of a message that is handed, to this face or another.
+    /// Puts what the face reads of a message that is handed, to this face or another, behind what it read before.
     fn take_handed(
         &mut self,
         face: FaceId,
@@ -284,7 +284,7 @@ impl Known {
         }
     }
 
-    /// The same of all that a call hands.
+    /// Puts what the face reads of all that a call hands behind what it read before.
     fn take_all(
         &mut self,
         face: FaceId,
@@ -300,7 +300,7 @@ impl Known {
         Ok(())
     }
 
-    /// The same of a call that is answered by this step.
+    /// Puts what the face reads of a call that is answered by this step behind what it read before.
     fn take_step(
         &mut self,
         face: FaceId,

@@ -20,7 +20,7 @@ pub record Journaled : Type 0 where
 abbrev pub home_of : Journaled → PassId
 home_of s = record { holds = s.sharing.slots.keeper.home; journal = s.journal }
 
--- a pass: of which state it is, its number, the slots that it holds, how often it let a slot go last, and what it has seen
+-- a pass: of which state it is, its number, the slots that it holds, how often it released a slot last, and what it has seen
 pub record Passing : Type 0 where
   pub home : PassId
   pub number : ℕ

@@ -11,7 +11,7 @@ use Rattle.zq_shared.specs.declared.shared.StepRefusal.TheVariants as refusal
 use Rattle.zq_shared.specs.Sharing.{IsFull, MaySpare}
 use Rattle.zq_pass.specs.Entries.{Entry, calls_of}
 
--- why a step is refused, and what it leaves; want of memory may come before a request is found to have no slot
+-- why a step is refused, and what it leaves; lack of memory may come before a request is found to have no slot
 abbrev pub PassRefuses : Sharing → Call → StepRefusal → Sharing → Type 0
 PassRefuses old c (refusal.Full full) new = IsFull old c × (length old.slots.keeper.marks ≤ requests_in old.stored.calls) × (new ≡ old)
 PassRefuses old c refusal.OutOfMemory new = MaySpare old new

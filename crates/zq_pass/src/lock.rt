@@ -104,7 +104,7 @@ impl<H: PassHome, M: Ledger> PassLock<H, M> {
         self.inner.lock(rt).settle(pass, last)
     }
 
-    /// The same, and sends the final outside the lock, if it comes.
+    /// Settles what was released last, and sends the final outside the lock, if it comes.
     fn settle_one<L: Link, R: Wait>(
         &self,
         rt: &R,
@@ -124,7 +124,7 @@ impl<H: PassHome, M: Ledger> PassLock<H, M> {
         }
     }
 
-    /// The same of all that is left to be settled.
+    /// Settles all that is left to be settled, and sends each final that comes, outside the lock.
     fn settle_rest<L: Link, R: Wait>(
         &self,
         rt: &R,
@@ -144,7 +144,7 @@ impl<H: PassHome, M: Ledger> PassLock<H, M> {
         sent
     }
 
-    /// The pass lets go all that it holds, without the lock. What it was the last to hold is settled.
+    /// The pass releases all that it holds, without the lock. What it was the last to hold is settled.
     fn release_all<L: Link, R: Wait>(
         &self,
         rt: &R,

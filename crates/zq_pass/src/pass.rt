@@ -36,7 +36,7 @@ impl Pass {
         self.number
     }
 
-    /// It lets the slot go, by one step. `Last` exactly where nobody holds it afterwards.
+    /// It releases the slot, by one step. `Last` exactly where nobody holds it afterwards.
     pub fn release(&mut self, slot: Slot) -> Option<Last>
         requires { 0 < times slot.0 self.old.held }
         ensures pass { self.new ≡ record self.old { held = without slot.0 self.old.held; ended = self.new.ended } }

@@ -18,7 +18,7 @@ use zq_machine::config::Config;
 use zq_message::items::Items;
 use zq_shared::{Home, Link, SeatList, Shared, TablesLock, Tally};
 
-/// The same over the gateway that the name means.
+/// Workers share the calls over the gateway that the name means.
 #[tactic(auto, using(crate::proofs::Faults::fell_none, crate::proofs::Faults::fell_of))]
 fn share_named<
     H: Home + Send + Sync,

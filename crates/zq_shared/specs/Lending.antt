@@ -1,4 +1,4 @@
--- What holds between two moments of a step: replies that are held, and slots that are let go.
+-- What holds between two moments of a step: replies that are held, and slots that are released.
 use Rattle.std.specs.Prelude.{◌≡◌, ◌⊎◌, ℕ, ◌+◌, ◌<◌, ◌≤◌, List, length, All, Some, None}
 use Rattle.zq_hold.specs.declared.slot.Mark.TheVariants.{Kept, Gone}
 use Rattle.zq_hold.specs.Marks.{HasMark}
@@ -20,7 +20,7 @@ pub record Lends (hs : List Handed) (m m' : Slotted) (seat seat' : Holder) : Typ
   pub only : (k : ℕ) → 0 < times k seat'.held → (0 < times k seat.held) ⊎ HasReply hs m k
   pub once : ((k : ℕ) → times k seat.held ≤ 1) → (k : ℕ) → times k seat'.held ≤ 1
 
--- of the first slots, i in number, the keeper let go those of requests that wait for nothing; what nobody holds stands in the list
+-- of the first slots, i in number, the keeper released those of requests that wait for nothing; what nobody holds stands in the list
 pub record LetsGo (s : Stored) (m m' : Slotted) (lasts : List Ended) (i : ℕ) : Type 0 where
   pub nearly : IsNearlyTied None s m'
   pub slots : m' ≡ record m { keeper = record m.keeper { marks = m'.keeper.marks; ended = m'.keeper.ended } }

@@ -58,7 +58,7 @@ pub record AreLast (old new : Slotted) (lasts : List Ended) : Type 0 where
 abbrev pub IsAllotted : Slotted → ℕ → Type 0
 IsAllotted m k = HasMark Kept m.keeper.marks k ⊎ HasMark Gone m.keeper.marks k
 
--- an allotted slot that no open request owns was let go by the keeper, and is not lent
+-- an allotted slot that no open request owns was released by the keeper, and is not lent
 abbrev pub OthersAreGone : Sharing → Type 0
 OthersAreGone x = (k : ℕ) → IsAllotted x.slots k → ((n : ℕ) → owner_at x.slots.owners k ≡ Some n → IsOpen x.stored n → ⊥) → HasMark Gone x.slots.keeper.marks k × (times k x.slots.keeper.lent ≡ 0)
 

@@ -28,7 +28,7 @@ HasOwner m k = (n : ℕ) × (owner_at m.owners k ≡ Some n)
 abbrev pub IsSending : Stored → Slotted → ℕ → Type 0
 IsSending s m k = (n : ℕ) × (owner_at m.owners k ≡ Some n) × (r : ℕ) × (in_flight s n r ≡ true)
 
--- a slot that the keeper holds for a request has an owner, and one that it let go has none with entries pending; owners were asked; each open request owns a slot, but for one that may own none; what is lent has an owner with a reply in flight; and no more slots are used than requests were made
+-- a slot that the keeper holds for a request has an owner, and one that it released has none with entries pending; owners were asked; each open request owns a slot, but for one that may own none; what is lent has an owner with a reply in flight; and no more slots are used than requests were made
 pub record IsNearlyTied (but : Option ℕ) (s : Stored) (m : Slotted) : Type 0 where
   pub kept : (k : ℕ) → HasMark Kept m.keeper.marks k → HasOwner m k
   pub gone : (k n : ℕ) → HasMark Gone m.keeper.marks k → owner_at m.owners k ≡ Some n → waiting s n ≡ 0

@@ -36,7 +36,7 @@ impl<H: Home, C: Ledger, Q: Ledger, P: Ledger> TablesLock<H, C, Q, P> {
         send_final(link, sent, end)
     }
 
-    /// The same of all that is left to be settled.
+    /// Settles all that is left to be settled, and sends each final that comes, outside the lock.
     fn settle_rest<L: Link, R: Wait>(
         &self,
         rt: &R,
@@ -54,7 +54,7 @@ impl<H: Home, C: Ledger, Q: Ledger, P: Ledger> TablesLock<H, C, Q, P> {
         sent
     }
 
-    /// The seat lets go all that it holds, without the lock. What it was the last to hold is settled.
+    /// The seat releases all that it holds, without the lock. What it was the last to hold is settled.
     fn release_all<L: Link, R: Wait>(
         &self,
         rt: &R,

@@ -125,7 +125,7 @@ impl Shared {
     }
 
     /// Tells a proof what holds between any two calls: no more requests wait for something than there are slots, at each point of the
-    /// calls; and an allotted slot that no open request owns was let go by the keeper, and is not lent. It does nothing.
+    /// calls; and an allotted slot that no open request owns was released by the keeper, and is not lent. It does nothing.
     pub fn recall(&self)
         ensures within { IsWithin (length self.now.slots.keeper.marks) self.now.stored }
         ensures orderly { AreOrderly (length self.now.slots.keeper.marks) (behind self.now.stored.config []) self.now.stored.calls }
@@ -137,7 +137,7 @@ impl Shared {
 
     /// Makes one call that is no report, and stores it. A request that is asked and waits for something owns a slot from then on; `Full` exactly
     /// where every slot is allotted. The seat holds the slot of the request of each reply that the call puts in flight, until it releases it. A
-    /// reply that was in flight before keeps its slot's owner, and stays in flight. The slots of requests that wait for nothing any more are let go, and none is vacated; a moment,
+    /// reply that was in flight before keeps its slot's owner, and stays in flight. The slots of requests that wait for nothing any more are released, and none is vacated; a moment,
     /// a closing and a final look at each slot for that, of which there are at most 1024, and no other call does. Where memory is lacking all but one slot,
     /// which may be spare then, is as it was; room for the reports is made here.
     pub fn step(&mut self, seat: &mut HoldSeat, call: Call) -> Result<Stepped, StepRefusal>

@@ -72,7 +72,7 @@ fn hold_all(slots: &mut Slots, seat: &mut HoldSeat, held: &mut Vec<Slot>, handed
     }
 }
 
-/// The keeper lets the slot go, if its request waits for nothing; who held it last is told.
+/// The keeper releases the slot, if its request waits for nothing; who held it last is told.
 fn release_one(journal: &Journal, slots: &mut Slots, lasts: &mut LastList, slot: Slot)
     requires within { slot.0 < length slots.old.keeper.marks }
     requires room { length lasts.old.ended < lasts.old.most }
@@ -90,7 +90,7 @@ fn release_one(journal: &Journal, slots: &mut Slots, lasts: &mut LastList, slot:
     }
 }
 
-/// The keeper lets the slots of requests go that wait for nothing; who held each last is told.
+/// The keeper releases the slots of requests that wait for nothing; who held each last is told.
 fn release_all(journal: &Journal, slots: &mut Slots, lasts: &mut LastList)
     requires tied { IsNearlyTied None journal.now slots.old }
     requires none { lasts.old.ended ≡ [] }
@@ -103,7 +103,8 @@ fn release_all(journal: &Journal, slots: &mut Slots, lasts: &mut LastList)
     }
 }
 
-/// The same, where a call may have ended entries; otherwise all requests still wait that did.
+/// The keeper releases the slots of requests that wait for nothing, where a call may have ended entries; otherwise all requests still
+/// wait that did.
 fn release_ended(journal: &Journal, slots: &mut Slots, lasts: &mut LastList, ends: bool)
     requires tied { IsNearlyTied None journal.now slots.old }
     requires quiet { ends ≡ false → AreWaiting journal.now slots.old }
@@ -119,7 +120,7 @@ fn release_ended(journal: &Journal, slots: &mut Slots, lasts: &mut LastList, end
     }
 }
 
-/// Room for the slots that the call may come to hold, and for those that are let go if it ends entries.
+/// Room for the slots that the call may come to hold, and for those that are released if it ends entries.
 fn room_for(
     alloc: Global,
     journal: &Journal,
@@ -136,7 +137,7 @@ fn room_for(
     Ok((held, lasts))
 }
 
-/// Makes a call that asks no request. The seat holds what it puts in flight, and the slots of requests that wait for nothing any more are let go.
+/// Makes a call that asks no request. The seat holds what it puts in flight, and the slots of requests that wait for nothing any more are released.
 pub(crate) fn tell(
     alloc: Global,
     journal: &mut Journal,

@@ -61,7 +61,7 @@ fn counted<H: HatQueriesTrait>(
     Ok([offers, keys, matching, declared, asked])
 }
 
-/// The same where nobody asks.
+/// What is counted where nobody asks.
 fn counted_unasked<H: HatQueriesTrait>(
     alloc: Global,
     hat: &H,
@@ -92,7 +92,7 @@ fn asked(alloc: Global, hat: &Hat, key: &Key) -> Answers {
     Some((found, told(hat, "k").ok()?))
 }
 
-/// The same as face 1 declares the key, and withdraws it then.
+/// What they answer as face 1 declares the key, and withdraws it then.
 fn asked_between(hat: &mut Hat, alloc: Global, key: &Key) -> Answers {
     if !hat.has_face(FaceId(1)) || !declared(hat, key) {
         return None;
@@ -104,7 +104,7 @@ fn asked_between(hat: &mut Hat, alloc: Global, key: &Key) -> Answers {
     Some(found)
 }
 
-/// The same of the key `k`, once face 1 is open.
+/// What they answer of the key `k`, once face 1 is open.
 fn by_its_trait(hat: &mut Hat, alloc: Global) -> Answers {
     open(hat)?;
     match Key::new(alloc, "k") {

@@ -259,7 +259,7 @@ fn numbers_beside(interests: &Interests, face: u32, entry: &InterestEntry) -> [O
     ]
 }
 
-/// The same once three ask, with an interest in the key, or in all.
+/// What is counted once three ask, with an interest in the key, or in all.
 fn numbers_with(
     asked: &mut Interests,
     alloc: Global,

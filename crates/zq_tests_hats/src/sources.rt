@@ -207,7 +207,7 @@ fn doubled(alloc: Global, ids: &ZidList) -> Result<u128, OutOfMemory> {
     }
 }
 
-/// The same of one id.
+/// One id under clients, followed by an equal value.
 fn doubled_one(alloc: Global) -> Result<u128, OutOfMemory> {
     match list(alloc, [Zid(1)].as_slice()) {
         Ok(one) => doubled(alloc, &one),

@@ -41,7 +41,7 @@ fn places_in(net: &IndexedNetwork) -> [Option<NodeId>; 4] {
     ]
 }
 
-/// The same in the network of three routers.
+/// The places of routers in the network of three routers.
 fn places_of(alloc: Global) -> Result<[Option<NodeId>; 4], OutOfMemory> {
     match small_net(alloc) {
         Ok(net) => Ok(places_in(&net)),
@@ -97,7 +97,7 @@ fn first_of(tellings: &[Telling]) -> (usize, u32, u16) {
     }
 }
 
-/// The same once they are in order.
+/// How many tellings there are, and the face and the node of the first once they are in order.
 fn first_in_order(alloc: Global, tellings: &[Telling]) -> Result<(usize, u32, u16), OutOfMemory> {
     let tellings = in_order(alloc, tellings)?;
     Ok(first_of(tellings.as_slice()))
@@ -148,7 +148,7 @@ fn fresh_in(alloc: Global, net: &IndexedNetwork) -> Result<usize, OutOfMemory> {
     Ok(fresh_ids(alloc, net, Zid(1), &[Zid(2), Zid(4), Zid(3)])?.len())
 }
 
-/// The same in the network of three routers.
+/// How many ids are new to the children of root 1 in the network of three routers.
 fn fresh(alloc: Global) -> Result<usize, OutOfMemory> {
     match small_net(alloc) {
         Ok(net) => fresh_in(alloc, &net),

@@ -133,7 +133,7 @@ pub(crate) fn ends_over<L: Link + Send, R: Threads + Wait + Sync>(
     Ok(ended == wanted.0 && sink.taken() == wanted.1.as_bytes())
 }
 
-/// The same over two links in memory.
+/// How a shared run ends over two links in memory.
 pub(crate) fn ends_as_shared<R: Threads + Wait + Sync>(
     rt: &R,
     alloc: Global,

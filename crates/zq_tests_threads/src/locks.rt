@@ -35,7 +35,7 @@ fn in_turn<K: Desk<W>, W, R: Wait>(
     Ok(prints)
 }
 
-/// The same on the gateway under the lock.
+/// Calls in turn on the gateway under the lock.
 fn in_turn_on<H: Home, C: Ledger, Q: Ledger, P: Ledger, R: Wait>(
     rt: &R,
     alloc: Global,

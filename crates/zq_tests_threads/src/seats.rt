@@ -56,7 +56,7 @@ fn push_times(print: &mut Vec<u8>, times: u64, line: &str) -> Result<(), Fail> {
     Ok(())
 }
 
-/// A line `last` for each slot that was let go last, and a line `end` for each final that came of it.
+/// A line `last` for each slot that was released last, and a line `end` for each final that came of it.
 fn push_counts(print: &mut Vec<u8>, counts: (u64, u64)) -> Result<(), Fail> {
     push_times(print, counts.0, "last\n")?;
     push_times(print, counts.1, "end\n")
@@ -125,7 +125,7 @@ fn give_all(
     Ok(())
 }
 
-/// The seat lets go one of the slots that it holds. It gives the slot's `Last`, where the seat was the last to hold it.
+/// The seat releases one of the slots that it holds. It gives the slot's `Last`, where the seat was the last to hold it.
 fn let_go(seat: &mut HoldSeat, held: SlotList) -> Option<Last>
     requires { AreHeld held seat.old.held }
     ensures { IfSome result (λ l. l.home ≡ seat.old.home) }
@@ -156,7 +156,7 @@ fn give_last(
     give(alloc, shared, seat, print, call)
 }
 
-/// What comes of a slot that was let go last, and what is stored then.
+/// What comes of a slot that was released last, and what is stored then.
 fn push_end(alloc: Global, shared: &mut Shared, print: &mut Vec<u8>, last: Last) -> Result<(), Fail>
     requires { last.home ≡ shared.old.slots.keeper.home }
 {
@@ -176,7 +176,7 @@ struct Parts {
     ends: Vec<Call>,
 }
 
-/// The first seat replies, the second ends the request, and the first lets go last; what all this gives, and what is stored.
+/// The first seat replies, the second ends the request, and the first releases it last; what all this gives, and what is stored.
 fn two_seats(
     alloc: Global,
     shared: &mut Shared,
@@ -198,7 +198,7 @@ fn two_seats(
     Ok(print)
 }
 
-/// The same on a gateway of one slot.
+/// What two seats come to on a gateway of one slot.
 fn one_slot(alloc: Global) -> Result<Vec<u8>, Fail> {
     let (config, mut parts) = parts_of(alloc, ONE_SLOT)?;
     let ends = last_part(&mut parts)?;
