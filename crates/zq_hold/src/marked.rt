@@ -36,7 +36,7 @@ pub(crate) fn open_slot(table: &CountTable, keeper: &mut CountSeat, marks: &mut 
     marks[at] = Mark::Kept;
 }
 
-/// The keeper lets a slot go. If it was the last to hold it, the view of a `Last` is split off.
+/// The keeper releases a slot. If it was the last to hold it, the view of a `Last` is split off.
 pub(crate) fn release_marked(
     table: &CountTable,
     keeper: &mut CountSeat,

@@ -32,7 +32,7 @@ impl Play<(), HoldView> for Releases {
     ghost then = { Releases };
 }
 
-/// The keeper lets a slot go: minus 1.
+/// The keeper releases a slot: minus 1.
 pub struct ReleasesKept;
 
 impl Play<(), HoldView> for ReleasesKept {
