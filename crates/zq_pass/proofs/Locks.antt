@@ -28,11 +28,10 @@ made_reported cs ks =
     ap (λ (l : List Call). length l) (filter-append (λ (c : Call). not (is_sent c)) cs (reports ks) ∙ (ap (λ (l : List Call). filter (λ (c : Call). not (is_sent c)) cs ++ l) (none_made ks) ∙ append-nil (filter (λ (c : Call). not (is_sent c)) cs)))
 
 -- some reports more
-pub locked_settled : (config : Settings) (home : PassId) (slots : ℕ) (old new : Journaled) (total : ℕ) (ks : List ℕ) → IsLocked config home slots old total → new.sharing.stored ≡ with_reports old.sharing.stored ks → IsSameHolds old.sharing.slots new.sharing.slots → new.journal ≡ old.journal → IsLocked config home slots new total
-locked_settled config home slots old new total ks h stored same journal = record {
+pub locked_settled : (config : Settings) (home : PassId) (old new : Journaled) (total : ℕ) (ks : List ℕ) → IsLocked config home old total → new.sharing.stored ≡ with_reports old.sharing.stored ks → IsSameHolds old.sharing.slots new.sharing.slots → new.journal ≡ old.journal → IsLocked config home new total
+locked_settled config home old new total ks h stored same journal = record {
   means = ap (λ (s : Stored). s.config) stored ∙ h.means;
   here = (λ i. record { holds = same.0 i; journal = journal i }) ∙ h.here;
-  wide = same.1 ∙ h.wide;
   counted = h.counted ∙ (sym (made_reported old.sharing.stored.calls ks) ∙ ap (λ (s : Stored). made_in s.calls) (sym stored));
 }
 

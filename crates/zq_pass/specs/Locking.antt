@@ -16,11 +16,10 @@ use Rattle.zq_pass.specs.Stepping.{IsMade}
 use Rattle.zq_shared.specs.Refusals.{IsQuiet}
 use Rattle.zq_shared.specs.Sending.{Breaks, Fails}
 
--- a name means this configuration, this state and this number of slots; the book's total is how many of the stored calls are no reports
-pub record IsLocked (config : Settings) (home : PassId) (slots : ℕ) (s : Journaled) (total : ℕ) : Type 0 where
+-- a name means this configuration and this state; the book's total is how many of the stored calls are no reports
+pub record IsLocked (config : Settings) (home : PassId) (s : Journaled) (total : ℕ) : Type 0 where
   pub means : s.sharing.stored.config ≡ config
   pub here : home_of s ≡ home
-  pub wide : length s.sharing.slots.keeper.marks ≡ slots
   pub counted : total ≡ made_in s.sharing.stored.calls
 
 -- what a refused step says of what the pass has seen: where every slot is allotted, it has as many requests as there are slots

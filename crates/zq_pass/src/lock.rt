@@ -16,10 +16,10 @@ use crate::state::PassState;
 use std::marker::PhantomData;
 use std::sync::ledger::{Book, Ledger, Share};
 use std::sync::{Mutex, Wait};
-use zq_hold::{Last, Slot};
+use zq_hold::{Last, SlotList};
 use zq_machine::call::{Call, Step};
 use zq_machine::handed::Handed;
-use zq_shared::{CallRefusal, LastList, Link, StepRefusal, send_on, send_one};
+use zq_shared::{CallRefusal, LastList, Link, StepRefusal, send_final, send_on};
 
 /// The state that the name means, behind a lock, with the book of its stored calls that are no reports.
 pub struct PassLock<H: PassHome, M: Ledger> {
@@ -44,7 +44,7 @@ pub struct Passed {
 impl<H: PassHome, M: Ledger> PassLock<H, M> {
     /// Puts the state behind a lock. Takes no memory.
     pub fn new(state: PassState, made: Book<M>) -> PassLock<H, M>
-        requires { IsLocked H.config H.home H.slots state made.total }
+        requires { IsLocked H.config H.home state made.total }
     {
         PassLock {
             inner: Mutex::new(Locked {
@@ -57,7 +57,7 @@ impl<H: PassHome, M: Ledger> PassLock<H, M> {
 
     /// Takes the lock away. Takes no memory.
     pub(crate) fn into_state(self) -> (PassState, Book<M>)
-        ensures { IsLocked H.config H.home H.slots result.0 result.1.total }
+        ensures { IsLocked H.config H.home result.0 result.1.total }
     {
         let PassLock { inner } = self;
         let Locked {
@@ -81,10 +81,10 @@ impl<H: PassHome, M: Ledger> PassLock<H, M> {
         requires unsent { is_sent call ≡ false }
         requires part { 0 < made.old.parts }
         ensures made { IfOk result (λ m. IsMade H.config pass.old.number (length pass.old.seen) pass.new.seen call m.place m.step) }
-        ensures held { IfOk result (λ m. AreHeld m.held.items pass.new.held) }
+        ensures held { IfOk result (λ m. AreHeld m.held pass.new.held) }
         ensures once { OnOk result ((k : ℕ) → times k pass.new.held ≤ 1) }
         ensures lasts { IfOk result (λ m. All (λ l. l.home ≡ H.home.holds) m.lasts.ended) }
-        ensures refused { IfErr result (StepRefuses H.slots pass.new.seen) }
+        ensures refused { IfErr result (StepRefuses H.home.holds.words pass.new.seen) }
         ensures free { OnErr result (pass.new.held ≡ []) }
         ensures pass { pass.new ≡ record pass.old { held = pass.new.held; ended = pass.new.ended; seen = pass.new.seen } }
         ensures seen { IsPrefix pass.old.seen pass.new.seen }
@@ -118,10 +118,7 @@ impl<H: PassHome, M: Ledger> PassLock<H, M> {
         ensures { DeliversFinals H.config None (record { taken = L.taken link.old; faults = L.faults link.old; sent = sent }) (record { taken = L.taken link.new; faults = L.faults link.new; sent = result }) }
     {
         let end = self.settle(rt, pass, last);
-        match end {
-            Some(end) => send_one(link, sent, &end),
-            None => sent,
-        }
+        send_final(link, sent, end)
     }
 
     /// Settles all that is left to be settled, and sends each final that comes, outside the lock.
@@ -151,14 +148,15 @@ impl<H: PassHome, M: Ledger> PassLock<H, M> {
         pass: &mut Pass,
         link: &mut L,
         mut sent: Result<u64, u64>,
-        mut held: Vec<Slot>,
+        held: SlotList,
     ) -> Result<u64, u64>
         requires home { pass.old.home ≡ H.home }
-        requires held { AreHeld held.items pass.old.held }
+        requires held { AreHeld held pass.old.held }
         requires once { (k : ℕ) → times k pass.old.held ≤ 1 }
         ensures sends { DeliversFinals H.config None (record { taken = L.taken link.old; faults = L.faults link.old; sent = sent }) (record { taken = L.taken link.new; faults = L.faults link.new; sent = result }) }
         ensures pass { pass.new ≡ record pass.old { held = []; ended = pass.new.ended } }
     {
+        let mut held = held.into_vec();
         'slots: while let Some(slot) = held.pop() {
             if let Some(last) = pass.release(slot) {
                 sent = self.settle_one(rt, pass, link, sent, last);
@@ -185,7 +183,7 @@ impl<H: PassHome, M: Ledger> PassLock<H, M> {
         ensures made { IfOk result (λ p. IsMade H.config pass.old.number (length pass.old.seen) pass.new.seen call p.place p.step) }
         ensures sends { IfOk result (λ p. Sends H.config None p.step.handed (L.taken link.old) (L.taken link.new)) }
         ensures quiet { OnOk result (L.faults link.new ≡ L.faults link.old) }
-        ensures refused { IfErr result (λ e. Refuses H.config H.slots pass.old.number (length pass.old.seen) pass.new.seen call e (L.taken link.old) (L.taken link.new) (L.faults link.old) (L.faults link.new)) }
+        ensures refused { IfErr result (λ e. Refuses H.config H.home.holds.words pass.old.number (length pass.old.seen) pass.new.seen call e (L.taken link.old) (L.taken link.new) (L.faults link.old) (L.faults link.new)) }
         ensures counted { OnOk result (made.new.amount ≡ made.old.amount + 1) }
         ensures counts { IfErr result (λ e. made.new.amount ≡ made.old.amount + more_stored e) }
         ensures parts { made.new.parts ≡ made.old.parts }

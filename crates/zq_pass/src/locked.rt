@@ -13,7 +13,7 @@ use crate::pass::Pass;
 use crate::state::PassState;
 use std::marker::{Model, PhantomData};
 use std::sync::ledger::{Book, Ledger, Share};
-use zq_hold::{Last, Slot};
+use zq_hold::{Last, SlotList};
 use zq_machine::call::{Call, Step};
 use zq_machine::handed::Handed;
 use zq_shared::{LastList, StepRefusal, Stepped};
@@ -34,18 +34,25 @@ impl<H: PassHome, M: Ledger> Model for Locked<H, M> {
 
     ghost view = { λ s. s.state };
 
-    ghost invariant = { λ s. IsLocked H.config H.home H.slots s.state s.made.total };
+    ghost invariant = { λ s. IsLocked H.config H.home s.state s.made.total };
 }
 
 /// What a call leaves to its caller: its answer and place, the slots that the pass holds, and what was released last.
 pub(crate) struct Made {
     pub(crate) step: Step,
     pub(crate) place: u64,
-    pub(crate) held: Vec<Slot>,
+    pub(crate) held: SlotList,
     pub(crate) lasts: LastList,
 }
 
 impl<H: PassHome, M: Ledger> Locked<H, M> {
+    /// Tells a proof how many slots there are. It does nothing.
+    fn recall(&self)
+        ensures { length self.now.sharing.slots.keeper.marks ≡ H.home.holds.words }
+    {
+        self.state.recall();
+    }
+
     /// Makes the call, and counts it.
     pub(crate) fn step(
         &mut self,
@@ -58,10 +65,10 @@ impl<H: PassHome, M: Ledger> Locked<H, M> {
         requires unsent { is_sent call ≡ false }
         requires part { 0 < made.old.parts }
         ensures made { IfOk result (λ m. IsMade H.config pass.old.number (length pass.old.seen) pass.new.seen call m.place m.step) }
-        ensures held { IfOk result (λ m. AreHeld m.held.items pass.new.held) }
+        ensures held { IfOk result (λ m. AreHeld m.held pass.new.held) }
         ensures once { OnOk result ((k : ℕ) → times k pass.new.held ≤ 1) }
         ensures lasts { IfOk result (λ m. All (λ l. l.home ≡ H.home.holds) m.lasts.ended) }
-        ensures refused { IfErr result (StepRefuses H.slots pass.new.seen) }
+        ensures refused { IfErr result (StepRefuses H.home.holds.words pass.new.seen) }
         ensures free { OnErr result (pass.new.held ≡ []) }
         ensures pass { pass.new ≡ record pass.old { held = pass.new.held; ended = pass.new.ended; seen = pass.new.seen } }
         ensures seen { IsPrefix pass.old.seen pass.new.seen }
@@ -70,6 +77,7 @@ impl<H: PassHome, M: Ledger> Locked<H, M> {
         ensures parts { made.new.parts ≡ made.old.parts }
     {
         let place = self.state.len();
+        self.recall();
         let Stepped { step, held, lasts } = self.state.step(pass, call)?;
         self.made.add(made, 1);
         Ok(Made {

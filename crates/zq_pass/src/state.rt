@@ -7,7 +7,7 @@ ghost use Rattle.zq_hold.specs.Owners.{owner_at};
 ghost use Rattle.zq_machine.specs.Calls.{is_sent};
 ghost use Rattle.zq_shared.specs.Holding.{AreHeld};
 ghost use Rattle.zq_shared.specs.Stored.{answer_to, flights, standing, with_call};
-ghost use Rattle.zq_shared.specs.Sharing.{HoldsReplies, IsFull, IsSameHolds, KeepsFlights, Settles, all_spare, reports, slot_vacated, with_reports};
+ghost use Rattle.zq_shared.specs.Sharing.{AreLast, HoldsReplies, IsFull, IsSameHolds, KeepsFlights, Settles, all_spare, reports, slot_vacated, with_reports};
 ghost use Rattle.zq_pass.specs.Entries.{IsJournal, calls_of, entries_by, owners_of};
 ghost use Rattle.zq_pass.specs.Passes.{home_of, unused_pass, unused_passes};
 ghost use Rattle.zq_pass.specs.Stepping.{PassRefuses};
@@ -86,8 +86,8 @@ fn store(
     ensures stored { OnOk result (shared.new.stored ≡ with_call shared.old.stored call) }
     ensures room { OnOk result (IsFull shared.old call → ⊥) }
     ensures holds { IfOk result (λ t. HoldsReplies t.step.handed shared.new.slots seat.new.held) }
-    ensures held { IfOk result (λ t. AreHeld t.held.items seat.new.held) }
-    ensures lasts { IfOk result (λ t. All (λ l. l.home ≡ shared.old.slots.keeper.home) t.lasts.ended) }
+    ensures held { IfOk result (λ t. AreHeld t.held seat.new.held) }
+    ensures lasts { IfOk result (λ t. AreLast shared.old.slots shared.new.slots t.lasts.ended) }
     ensures refused { IfErr result (λ e. PassRefuses shared.old call e shared.new) }
     ensures flights { KeepsFlights None shared.old shared.new }
     ensures seat { seat.new.home ≡ seat.old.home }
@@ -183,8 +183,8 @@ impl PassState {
         ensures stored { OnOk result (self.new.sharing.stored ≡ with_call self.old.sharing.stored call) }
         ensures room { OnOk result (IsFull self.old.sharing call → ⊥) }
         ensures holds { IfOk result (λ t. HoldsReplies t.step.handed self.new.sharing.slots pass.new.held) }
-        ensures held { IfOk result (λ t. AreHeld t.held.items pass.new.held) }
-        ensures lasts { IfOk result (λ t. All (λ l. l.home ≡ self.old.sharing.slots.keeper.home) t.lasts.ended) }
+        ensures held { IfOk result (λ t. AreHeld t.held pass.new.held) }
+        ensures lasts { IfOk result (λ t. AreLast self.old.sharing.slots self.new.sharing.slots t.lasts.ended) }
         ensures refused { IfErr result (λ e. PassRefuses self.old.sharing call e self.new.sharing) }
         ensures flights { KeepsFlights None self.old.sharing self.new.sharing }
         ensures pass { pass.new ≡ record pass.old { held = pass.new.held; ended = pass.new.ended; seen = pass.new.seen } }
@@ -209,6 +209,13 @@ impl PassState {
         );
         pass.seen.meet(self.keeper.note());
         made
+    }
+
+    /// Tells a proof that there is a word for each slot. It does nothing.
+    pub fn recall(&self)
+        ensures { length self.now.sharing.slots.keeper.marks ≡ self.now.sharing.slots.keeper.home.words }
+    {
+        self.shared.recall();
     }
 
     /// Reports all replies in flight of the request that owns the slot, as `Shared::settle`; the entries of the reports are those of the pass.

@@ -81,7 +81,7 @@ fn made_by<H: PassHome + Send + Sync, M: Ledger + Send + Sync, R: Threads + Wait
     new: (PassState, PassList),
     blank: Blank,
 ) -> Result<u64, Fail>
-    requires means { (H.config ≡ new.0.sharing.stored.config) × (H.home ≡ home_of new.0) × (H.slots ≡ length new.0.sharing.slots.keeper.marks) }
+    requires means { (H.config ≡ new.0.sharing.stored.config) × (H.home ≡ home_of new.0) }
     requires fresh { new.0.sharing.stored.calls ≡ [] }
     requires list { new.1 ≡ record { home = H.home; passes = unused_passes H.home 2; most = 2 } }
     requires blank { (blank.name ≡ M.name) × (blank.parts ≡ M.parts) × (M.parts ≡ 2) }

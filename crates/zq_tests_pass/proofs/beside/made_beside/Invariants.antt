@@ -3,7 +3,7 @@ use Rattle.zq_pass.specs.Passes.{home_of}
 use Rattle.zq_tests_pass.proofs.beside.made_beside.Given as goal
 
 abbrev pub ghosts-made_by-H-PassHome : goal.ghosts-made_by-H-PassHome
-ghosts-made_by-H-PassHome g a = record { config = a.new.0.sharing.stored.config; home = home_of a.new.0; slots = length a.new.0.sharing.slots.keeper.marks }
+ghosts-made_by-H-PassHome g a = record { config = a.new.0.sharing.stored.config; home = home_of a.new.0 }
 
 abbrev pub ghosts-made_by-M-Ledger : goal.ghosts-made_by-M-Ledger
 ghosts-made_by-M-Ledger g a = record { name = a.blank.name; parts = a.blank.parts }
