@@ -56,7 +56,6 @@ OTHERS = {
         'zq_tests_hats': 'tests of regions and of selection',
         'zq_tests_calls': 'tests of calls, lines, prints and pages',
         'zq_tests_threads': 'tests of the lock and of callers in threads',
-        'zq_tests_pass': 'tests of callers with passes',
         'zq_tests_runs': 'whole scripts with their prints',
         'zq_tests_session': 'whole scripts in namespaces',
         'zq_working': 'the program that bench/share times',

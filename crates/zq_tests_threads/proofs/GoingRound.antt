@@ -4,7 +4,7 @@ use mathlib.Core.List.{IsPrefix}
 use Rattle.zq_journal_view.proofs.Prefixes.{prefix_trans}
 use Rattle.zq_pass.specs.Entries.{Entry}
 use Rattle.zq_pass.specs.Passes.{Passing}
-use Rattle.zq_tests_pass.specs.Callers.{SeesAll}
+use Rattle.zq_tests_threads.specs.Passing.{SeesAll}
 
 module _ (a b c d : Passing) where
   -- what goes on from a list that begins with all, does so too

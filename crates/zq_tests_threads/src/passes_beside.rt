@@ -1,9 +1,9 @@
 //! Two callers, each in a thread of its own.
 ghost use Rattle.std.specs.Prelude.{◌≡◌, [], length};
 ghost use Rattle.zq_pass.specs.Passes.{home_of, unused_passes};
-ghost use Rattle.zq_tests_pass.specs.Callers.{IsReady};
+ghost use Rattle.zq_tests_threads.specs.Passing.{MayPass};
 
-use crate::callers::{Caller, calls_of, end_both, place_of, take_both};
+use crate::passes::{Caller, calls_of, end_both, place_of, take_both};
 use std::alloc::Global;
 use std::marker::Brand;
 use std::sync::Wait;
@@ -27,7 +27,7 @@ pub(crate) trait Desk<W> {
 }
 
 impl<H: PassHome, M: Ledger> Desk<Caller<M>> for PassLock<H, M> {
-    ghost ready = { λ w. IsReady H.home w.pass w.made.parts };
+    ghost ready = { λ w. MayPass H.home w.pass w.made.parts };
 
     fn make_ten<R: Wait>(&self, rt: &R, caller: &mut Caller<M>) {
         'moments: for now in 0..10u64 {
@@ -66,10 +66,10 @@ fn both_on<H: PassHome + Send + Sync, M: Ledger + Send + Sync, R: Threads + Wait
     zero: &mut Caller<M>,
     one: &mut Caller<M>,
 )
-    requires zero { IsReady H.home zero.old.pass zero.old.made.parts }
-    requires one { IsReady H.home one.old.pass one.old.made.parts }
-    ensures zero { IsReady H.home zero.new.pass zero.new.made.parts }
-    ensures one { IsReady H.home one.new.pass one.new.made.parts }
+    requires zero { MayPass H.home zero.old.pass zero.old.made.parts }
+    requires one { MayPass H.home one.old.pass one.old.made.parts }
+    ensures zero { MayPass H.home zero.new.pass zero.new.made.parts }
+    ensures one { MayPass H.home one.new.pass one.new.made.parts }
 {
     both_make(rt, lock, zero, one);
 }

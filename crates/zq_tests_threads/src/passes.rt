@@ -1,7 +1,7 @@
 //! Callers, each with its pass and its part of the ledger.
 ghost use Rattle.std.specs.Prelude.{◌≡◌, ◌+◌, ◌<◌, [], IfSome};
 ghost use Rattle.zq_pass.specs.Passes.{unused_pass, unused_passes};
-ghost use Rattle.zq_tests_pass.specs.Callers.{IsReady};
+ghost use Rattle.zq_tests_threads.specs.Passing.{MayPass};
 
 use std::alloc::Global;
 use std::sync::Wait;
@@ -42,8 +42,8 @@ pub(crate) fn place_of<H: PassHome, M: Ledger, R: Wait>(
     caller: &mut Caller<M>,
     call: Call,
 ) -> Result<u64, bool>
-    requires { IsReady H.home caller.old.pass caller.old.made.parts }
-    ensures { IsReady H.home caller.new.pass caller.new.made.parts }
+    requires { MayPass H.home caller.old.pass caller.old.made.parts }
+    ensures { MayPass H.home caller.new.pass caller.new.made.parts }
 {
     if call.is_sent() {
         return Err(false);

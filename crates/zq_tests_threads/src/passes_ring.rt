@@ -2,9 +2,9 @@
 ghost use Rattle.std.specs.Prelude.{◌≡◌, ◌<◌, [], IfSome, length};
 ghost use mathlib.Core.List.{IsPrefix};
 ghost use Rattle.zq_pass.specs.Passes.{home_of, unused_pass, unused_passes};
-ghost use Rattle.zq_tests_pass.specs.Callers.{SeesAll};
+ghost use Rattle.zq_tests_threads.specs.Passing.{SeesAll};
 
-use crate::callers::calls_of;
+use crate::passes::calls_of;
 use std::alloc::Global;
 use std::marker::Brand;
 use std::sync::Wait;

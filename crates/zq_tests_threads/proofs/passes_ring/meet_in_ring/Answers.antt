@@ -1,5 +1,5 @@
-use Rattle.zq_tests_pass.proofs.GoingRound.{go_on, still}
-use Rattle.zq_tests_pass.proofs.ring.meet_in_ring.Goals as goal
+use Rattle.zq_tests_threads.proofs.GoingRound.{go_on, still}
+use Rattle.zq_tests_threads.proofs.passes_ring.meet_in_ring.Goals as goal
 
 pub returns-clause-a : goal.returns-clause-a
 returns-clause-a c =

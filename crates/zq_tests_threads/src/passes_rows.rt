@@ -1,9 +1,9 @@
 //! Two callers on one thread.
 ghost use Rattle.std.specs.Prelude.{◌≡◌, [], length};
 ghost use Rattle.zq_pass.specs.Passes.{home_of, unused_passes};
-ghost use Rattle.zq_tests_pass.specs.Callers.{IsReady};
+ghost use Rattle.zq_tests_threads.specs.Passing.{MayPass};
 
-use crate::callers::{Caller, calls_of, end_both, place_of, take_both};
+use crate::passes::{Caller, calls_of, end_both, place_of, take_both};
 use std::alloc::Global;
 use std::marker::Brand;
 use std::sync::Wait;
@@ -44,10 +44,10 @@ fn take_turn<H: PassHome, M: Ledger, R: Wait>(
     one: &mut Caller<M>,
     turn: Turn,
 ) -> Result<u64, bool>
-    requires zero { IsReady H.home zero.old.pass zero.old.made.parts }
-    requires one { IsReady H.home one.old.pass one.old.made.parts }
-    ensures zero { IsReady H.home zero.new.pass zero.new.made.parts }
-    ensures one { IsReady H.home one.new.pass one.new.made.parts }
+    requires zero { MayPass H.home zero.old.pass zero.old.made.parts }
+    requires one { MayPass H.home one.old.pass one.old.made.parts }
+    ensures zero { MayPass H.home zero.new.pass zero.new.made.parts }
+    ensures one { MayPass H.home one.new.pass one.new.made.parts }
 {
     if turn.of_second {
         return place_of(rt, lock, one, turn.call);
@@ -74,10 +74,10 @@ fn make_in_turn<H: PassHome, M: Ledger, R: Wait>(
     one: &mut Caller<M>,
     turns: Vec<Turn>,
 ) -> Result<Vec<Result<u64, bool>>, Fail>
-    requires zero { IsReady H.home zero.old.pass zero.old.made.parts }
-    requires one { IsReady H.home one.old.pass one.old.made.parts }
-    ensures zero { IsReady H.home zero.new.pass zero.new.made.parts }
-    ensures one { IsReady H.home one.new.pass one.new.made.parts }
+    requires zero { MayPass H.home zero.old.pass zero.old.made.parts }
+    requires one { MayPass H.home one.old.pass one.old.made.parts }
+    ensures zero { MayPass H.home zero.new.pass zero.new.made.parts }
+    ensures one { MayPass H.home one.new.pass one.new.made.parts }
 {
     let mut places = Vec::new(zero.alloc);
     let mut count = 0usize;

@@ -1,5 +1,5 @@
-use Rattle.zq_tests_pass.proofs.GoingRound.{once_round}
-use Rattle.zq_tests_pass.proofs.ring.go_round.Goals as goal
+use Rattle.zq_tests_threads.proofs.GoingRound.{once_round}
+use Rattle.zq_tests_threads.proofs.passes_ring.go_round.Goals as goal
 
 pub returns-clause-last : goal.returns-clause-last
 returns-clause-last c =
