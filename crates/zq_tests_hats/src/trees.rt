@@ -159,8 +159,8 @@ fn fresh(alloc: Global) -> Result<usize, OutOfMemory> {
 /// Nodes 1 to 65537, of which 1 has those at the last two places as children.
 fn wide_net(alloc: Global) -> Result<IndexedNetwork, OutOfMemory> {
     let mut nodes = Items::new(alloc);
-    for zid in 1..=65537 {
-        nodes.push(Zid(zid))?;
+    for zid in 1..65538u32 {
+        nodes.push(Zid(u128::from(zid)))?;
     }
     let mut trees = Items::new(alloc);
     trees.push(tree(alloc, &[65535, 65536], &[])?)?;

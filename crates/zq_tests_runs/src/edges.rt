@@ -116,7 +116,7 @@ fn wide_network(alloc: Global) -> Result<String, OutOfMemory> {
         open local 10 client north -\n\
         network north 1";
     let mut text = String::from_str(alloc, head)?;
-    for id in 2..=65537u32 {
+    for id in 2..65538u32 {
         let item = format!(in alloc; ",{id}")?;
         text.push_str(item.as_str())?;
     }
