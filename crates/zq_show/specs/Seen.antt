@@ -153,11 +153,11 @@ with_opened_owner _ owned = owned
 
 -- the ids of queryables after a call that was not refused, by the hats after it and the key of the one that it withdraws
 abbrev pub owned_after : List (ℕ × HatState) → List (ℕ × OpenFace) → Option (List ℕ) → Outcome → Call → Owned → Owned
-owned_after hats faces gone o (call.Open opening) owned = with_opened_owner o owned
-owned_after hats faces gone o (call.Close face) owned = remove_entry (is_at (nat_cmp face.0)) owned
-owned_after hats faces gone o (call.DeclareQueryable face id wire info node) owned = held_with face.0 id info (key_by hats faces face.0 id) owned
-owned_after hats faces gone o (call.UndeclareQueryable face id wire node) owned = held_without face.0 id gone owned
-owned_after hats faces gone o _ owned = owned
+owned_after hats faces key o (call.Open opening) owned = with_opened_owner o owned
+owned_after hats faces key o (call.Close face) owned = remove_entry (is_at (nat_cmp face.0)) owned
+owned_after hats faces key o (call.DeclareQueryable face id wire info node) owned = held_with face.0 id info (key_by hats faces face.0 id) owned
+owned_after hats faces key o (call.UndeclareQueryable face id wire node) owned = held_without face.0 id key owned
+owned_after hats faces key o _ owned = owned
 
 -- what is seen after a call that was not refused
 abbrev pub seen_after : List (ℕ × HatState) → Option (List ℕ) → Call → Step → SeenState → SeenState
