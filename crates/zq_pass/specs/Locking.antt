@@ -1,11 +1,11 @@
 -- What a lock round the state of callers with passes keeps, and what a call through it says.
-use Rattle.std.specs.Prelude.{◌≡◌, ℕ, ◌≤◌, List, length, All, Option, None}
+use Rattle.std.specs.Prelude.{◌≡◌, ℕ, ◌≤◌, List, length, true, All, Option, None}
 use mathlib.Core.List.{IsPrefix}
 use Rattle.zq_machine.specs.declared.call.Call.{Call}
 use Rattle.zq_machine.specs.declared.call.Step.{Step}
 use Rattle.zq_machine.specs.Configs.{Settings}
 use Rattle.zq_machine.specs.Handing.{Handed}
-use Rattle.zq_shared.specs.Stored.{requests_in}
+use Rattle.zq_shared.specs.Stored.{asks_request, requests_in}
 use Rattle.zq_shared.specs.declared.shared.StepRefusal.{StepRefusal}
 use Rattle.zq_shared.specs.declared.shared.StepRefusal.TheVariants as step_refusal
 use Rattle.zq_shared.specs.declared.refusal.CallRefusal.{CallRefusal}
@@ -22,14 +22,14 @@ pub record IsLocked (config : Settings) (home : PassId) (s : Journaled) (total :
   pub here : home_of s ≡ home
   pub counted : total ≡ made_in s.sharing.stored.calls
 
--- what a refused step says of what the pass has seen: where every slot is allotted, it has as many requests as there are slots
-abbrev pub StepRefuses : ℕ → List Entry → StepRefusal → Type 0
-StepRefuses slots seen (step_refusal.Full none) = slots ≤ requests_in (calls_of seen)
-StepRefuses slots seen step_refusal.OutOfMemory = Unit {0}
+-- what a refused step says of the call and of what the pass has seen: only a request finds every slot allotted, and only where the pass has seen as many requests as there are slots
+abbrev pub StepRefuses : ℕ → Call → List Entry → StepRefusal → Type 0
+StepRefuses slots c seen (step_refusal.Full none) = (asks_request c ≡ true) × (slots ≤ requests_in (calls_of seen))
+StepRefuses slots c seen step_refusal.OutOfMemory = Unit {0}
 
--- what a refused call says: a call whose link failed is stored, and stands in what the pass has seen
+-- what a refused call says: only a request finds every slot allotted; a call whose link failed is stored, and stands in what the pass has seen
 abbrev pub Refuses : Settings → ℕ → ℕ → ℕ → List Entry → Call → CallRefusal → Option (List Handed) → Option (List Handed) → ℕ → ℕ → Type 0
-Refuses config slots number old seen c (refusal.Full none) before now faults faults' = IsQuiet before now faults faults' × (slots ≤ requests_in (calls_of seen))
+Refuses config slots number old seen c (refusal.Full none) before now faults faults' = IsQuiet before now faults faults' × (asks_request c ≡ true) × (slots ≤ requests_in (calls_of seen))
 Refuses config slots number old seen c (refusal.LinkFault outcome sent) before now faults faults' = Fails faults faults' × (place : ℕ) × (s : Step) × IsMade config number old seen c place s × (s.outcome ≡ outcome) × Breaks config None s.handed sent before now
 Refuses config slots number old seen c refusal.OutOfMemory before now faults faults' = IsQuiet before now faults faults'
 

@@ -6,10 +6,12 @@
 //! - `owning`: stored calls get their entries
 //! - `home`: which state a lock is of
 //! - `locked`: what lies under the lock
-//! - `lock`: `PassLock`, and its `call`
+//! - `lock`: `PassLock`, and what takes the lock
+//! - `calling`: its `call`, which sends once the lock is free
 //! - `finish`: the end: who made each stored call
 #![tactic(auto)]
 
+mod calling;
 mod finish;
 mod home;
 mod lock;
@@ -18,9 +20,10 @@ mod owning;
 mod pass;
 mod state;
 
+pub use calling::Passed;
 pub use finish::Finished;
 pub use home::PassHome;
-pub use lock::{PassLock, Passed};
+pub use lock::PassLock;
 pub use pass::{Pass, PassList};
 pub use state::PassState;
 pub use zq_journal_view::Note;

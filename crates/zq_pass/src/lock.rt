@@ -1,4 +1,4 @@
-//! The state behind a lock.
+//! The state behind a lock. Here alone the lock is taken, and nothing is sent: what is answered is owned, and the lock is free behind it.
 ghost use Rattle.std.specs.Prelude.{◌≡◌, ◌+◌, ◌<◌, ◌≤◌, ℕ, [], All, length, None, false, IfErr, IfOk, IfSome, OnErr, OnOk};
 ghost use mathlib.Core.List.{IsPrefix};
 ghost use Rattle.zq_hold.specs.Slots.{times};
@@ -6,8 +6,7 @@ ghost use Rattle.zq_machine.specs.Calls.{is_sent};
 ghost use Rattle.zq_shared.specs.Holding.{AreHeld};
 ghost use Rattle.zq_pass.specs.Stepping.{IsMade};
 ghost use Rattle.zq_shared.specs.Answers.{IsFinal};
-ghost use Rattle.zq_shared.specs.Sending.{DeliversFinals, Sends};
-ghost use Rattle.zq_pass.specs.Locking.{IsLocked, Refuses, StepRefuses, more_stored};
+ghost use Rattle.zq_pass.specs.Locking.{IsLocked, StepRefuses};
 
 use crate::home::PassHome;
 use crate::locked::{Locked, Made};
@@ -16,10 +15,10 @@ use crate::state::PassState;
 use std::marker::PhantomData;
 use std::sync::ledger::{Book, Ledger, Share};
 use std::sync::{Mutex, Wait};
-use zq_hold::{Last, SlotList};
-use zq_machine::call::{Call, Step};
+use zq_hold::Last;
+use zq_machine::call::Call;
 use zq_machine::handed::Handed;
-use zq_shared::{CallRefusal, LastList, Link, StepRefusal, send_final, send_on};
+use zq_shared::StepRefusal;
 
 /// The state that the name means, behind a lock, with the book of its stored calls that are no reports.
 pub struct PassLock<H: PassHome, M: Ledger> {
@@ -30,15 +29,6 @@ impl<H: PassHome, M: Ledger> Drop for PassLock<H, M> {
     fn drop(self) {
         let PassLock { inner } = self;
     }
-}
-
-/// What a call is answered, and its place in the journal.
-#[derive(Drop)]
-pub struct Passed {
-    /// What the call is answered, and the messages that it handed.
-    pub step: Step,
-    /// Its place; the first is 0.
-    pub place: u64,
 }
 
 impl<H: PassHome, M: Ledger> PassLock<H, M> {
@@ -69,7 +59,7 @@ impl<H: PassHome, M: Ledger> PassLock<H, M> {
     }
 
     /// The part of a call under the lock.
-    fn step<R: Wait>(
+    pub(crate) fn step<R: Wait>(
         &self,
         rt: &R,
         pass: &mut Pass,
@@ -84,7 +74,7 @@ impl<H: PassHome, M: Ledger> PassLock<H, M> {
         ensures held { IfOk result (λ m. AreHeld m.held pass.new.held) }
         ensures once { OnOk result ((k : ℕ) → times k pass.new.held ≤ 1) }
         ensures lasts { IfOk result (λ m. All (λ l. l.home ≡ H.home.holds) m.lasts.ended) }
-        ensures refused { IfErr result (StepRefuses H.home.holds.words pass.new.seen) }
+        ensures refused { IfErr result (StepRefuses H.home.holds.words call pass.new.seen) }
         ensures free { OnErr result (pass.new.held ≡ []) }
         ensures pass { pass.new ≡ record pass.old { held = pass.new.held; ended = pass.new.ended; seen = pass.new.seen } }
         ensures seen { IsPrefix pass.old.seen pass.new.seen }
@@ -95,115 +85,12 @@ impl<H: PassHome, M: Ledger> PassLock<H, M> {
         self.inner.lock(rt).step(pass, made, call)
     }
 
-    /// Settles what was released last, under the lock.
-    fn settle<R: Wait>(&self, rt: &R, pass: &Pass, last: Last) -> Option<Handed>
+    /// Settles what was released last, under the lock, and answers the final, if it comes.
+    pub(crate) fn settle<R: Wait>(&self, rt: &R, pass: &Pass, last: Last) -> Option<Handed>
         requires home { pass.now.home ≡ H.home }
         requires last { last.home ≡ H.home.holds }
         ensures { IfSome result (IsFinal H.config None) }
     {
         self.inner.lock(rt).settle(pass, last)
-    }
-
-    /// Settles what was released last, and sends the final outside the lock, if it comes.
-    fn settle_one<L: Link, R: Wait>(
-        &self,
-        rt: &R,
-        pass: &Pass,
-        link: &mut L,
-        sent: Result<u64, u64>,
-        last: Last,
-    ) -> Result<u64, u64>
-        requires home { pass.now.home ≡ H.home }
-        requires last { last.home ≡ H.home.holds }
-        ensures { DeliversFinals H.config None (record { taken = L.taken link.old; faults = L.faults link.old; sent = sent }) (record { taken = L.taken link.new; faults = L.faults link.new; sent = result }) }
-    {
-        let end = self.settle(rt, pass, last);
-        send_final(link, sent, end)
-    }
-
-    /// Settles all that is left to be settled, and sends each final that comes, outside the lock.
-    fn settle_rest<L: Link, R: Wait>(
-        &self,
-        rt: &R,
-        pass: &Pass,
-        link: &mut L,
-        mut sent: Result<u64, u64>,
-        mut lasts: LastList,
-    ) -> Result<u64, u64>
-        requires home { pass.now.home ≡ H.home }
-        requires lasts { All (λ l. l.home ≡ H.home.holds) lasts.ended }
-        ensures { DeliversFinals H.config None (record { taken = L.taken link.old; faults = L.faults link.old; sent = sent }) (record { taken = L.taken link.new; faults = L.faults link.new; sent = result }) }
-    {
-        'lasts: while let Some(last) = lasts.take() {
-            sent = self.settle_one(rt, pass, link, sent, last);
-        }
-        lasts.end();
-        sent
-    }
-
-    /// The pass releases all that it holds, without the lock. What it was the last to hold is settled.
-    fn release_all<L: Link, R: Wait>(
-        &self,
-        rt: &R,
-        pass: &mut Pass,
-        link: &mut L,
-        mut sent: Result<u64, u64>,
-        held: SlotList,
-    ) -> Result<u64, u64>
-        requires home { pass.old.home ≡ H.home }
-        requires held { AreHeld held pass.old.held }
-        requires once { (k : ℕ) → times k pass.old.held ≤ 1 }
-        ensures sends { DeliversFinals H.config None (record { taken = L.taken link.old; faults = L.faults link.old; sent = sent }) (record { taken = L.taken link.new; faults = L.faults link.new; sent = result }) }
-        ensures pass { pass.new ≡ record pass.old { held = []; ended = pass.new.ended } }
-    {
-        let mut held = held.into_vec();
-        'slots: while let Some(slot) = held.pop() {
-            if let Some(last) = pass.release(slot) {
-                sent = self.settle_one(rt, pass, link, sent, last);
-            }
-        }
-        sent
-    }
-
-    /// Makes a call. It is one event under the lock, and what it hands is sent outside. At every answer the pass has seen what it had, and
-    /// more; its call stands at the place that is answered.
-    pub fn call<L: Link, R: Wait>(
-        &self,
-        rt: &R,
-        pass: &mut Pass,
-        made: &mut Share<M>,
-        link: &mut L,
-        call: Call,
-    ) -> Result<Passed, CallRefusal>
-        requires home { pass.old.home ≡ H.home }
-        requires empty { pass.old.held ≡ [] }
-        requires unsent { is_sent call ≡ false }
-        requires part { 0 < made.old.parts }
-        ensures seen { IsPrefix pass.old.seen pass.new.seen }
-        ensures made { IfOk result (λ p. IsMade H.config pass.old.number (length pass.old.seen) pass.new.seen call p.place p.step) }
-        ensures sends { IfOk result (λ p. Sends H.config None p.step.handed (L.taken link.old) (L.taken link.new)) }
-        ensures quiet { OnOk result (L.faults link.new ≡ L.faults link.old) }
-        ensures refused { IfErr result (λ e. Refuses H.config H.home.holds.words pass.old.number (length pass.old.seen) pass.new.seen call e (L.taken link.old) (L.taken link.new) (L.faults link.old) (L.faults link.new)) }
-        ensures counted { OnOk result (made.new.amount ≡ made.old.amount + 1) }
-        ensures counts { IfErr result (λ e. made.new.amount ≡ made.old.amount + more_stored e) }
-        ensures parts { made.new.parts ≡ made.old.parts }
-        ensures pass { pass.new ≡ record pass.old { ended = pass.new.ended; seen = pass.new.seen } }
-    {
-        let Made {
-            step,
-            place,
-            held,
-            lasts,
-        } = self.step(rt, pass, made, call)?;
-        let sent = send_on(link, Ok(0), step.handed.as_slice());
-        let sent = self.settle_rest(rt, pass, link, sent, lasts);
-        let sent = self.release_all(rt, pass, link, sent, held);
-        match sent {
-            Ok(_) => Ok(Passed { step, place }),
-            Err(sent) => Err(CallRefusal::LinkFault {
-                outcome: step.outcome,
-                sent,
-            }),
-        }
     }
 }

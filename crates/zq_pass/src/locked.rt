@@ -68,7 +68,7 @@ impl<H: PassHome, M: Ledger> Locked<H, M> {
         ensures held { IfOk result (λ m. AreHeld m.held pass.new.held) }
         ensures once { OnOk result ((k : ℕ) → times k pass.new.held ≤ 1) }
         ensures lasts { IfOk result (λ m. All (λ l. l.home ≡ H.home.holds) m.lasts.ended) }
-        ensures refused { IfErr result (StepRefuses H.home.holds.words pass.new.seen) }
+        ensures refused { IfErr result (StepRefuses H.home.holds.words call pass.new.seen) }
         ensures free { OnErr result (pass.new.held ≡ []) }
         ensures pass { pass.new ≡ record pass.old { held = pass.new.held; ended = pass.new.ended; seen = pass.new.seen } }
         ensures seen { IsPrefix pass.old.seen pass.new.seen }

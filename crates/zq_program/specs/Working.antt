@@ -33,11 +33,11 @@ pub record HasMade (cs : List Call) (old new : Counts) : Type 0 where
   pub others : new.calls ≡ old.calls + others_in cs
   pub asked : new.asks + new.full ≡ old.asks + old.full + requests_in cs
 
--- of these calls a beginning was made, and neither the one behind it nor any later one
+-- as many calls of each kind were made as some beginning of these has, which is not all of them
 abbrev pub HasBegun : List Call → Counts → Counts → Type 0
 HasBegun cs old new = (n : ℕ) × (n < length cs) × HasMade (take n cs) old new
 
--- a worker made its calls, if it found memory for each; otherwise it made those before the first for which it found none
+-- a worker made its calls, if it found memory for each; otherwise as many of each kind as some beginning of them has, and not all
 pub record Worked (old new : Working) : Type 0 where
   pub parts : new.tally.parts ≡ old.tally.parts
   pub made : new.whole ≡ true → HasMade old.calls old.tally.made new.tally.made

@@ -80,7 +80,7 @@ impl<H: Home, C: Ledger, Q: Ledger, P: Ledger> TablesLock<H, C, Q, P> {
     }
 
     /// Makes a call. It is one event under the lock, and what it hands is sent outside: first the messages of its step, then the finals
-    /// of the requests of which it was the last to send a reply.
+    /// of requests of whose slots the step or the seat was the last to hold one, each settled under the lock.
     pub fn call<L: Link, R: Wait>(
         &self,
         rt: &R,
