@@ -11,7 +11,7 @@ pub fn moves_twice()
     ensures { MovesTwice }
 {}
 
-/// A run that is in a namespace already may be moved under a prefix: it is answered as before, and each face receives the same.
+/// A run that was moved into a namespace may be moved under a prefix: it is answered as before, and each face receives the same.
 pub fn nests_unnoticed()
     ensures { NestsUnnoticed }
 {}

@@ -1,5 +1,5 @@
 //! One gateway for callers that each keep a pass. Every stored call stands in one journal, with the number of the pass that made it, and
-//! each answer names its place there.
+//! each step is answered with its place there.
 //!
 //! - `pass`: `Pass`, and `PassList`
 //! - `state`: `PassState`, the shared gateway with the journal of its calls

@@ -9,6 +9,8 @@ use std::sync::ledger::{Ledger, Share};
 use std::test::Fail;
 use zq_machine::call::Call;
 use zq_machine::config::Config;
+use zq_machine::handed::Handed;
+use zq_message::message::Message;
 use zq_pass::{CallRefusal, Finished, Pass, PassHome, PassList, PassLock};
 use zq_script::script::{Script, read_script};
 use zq_shared::MemoryLink;
@@ -19,6 +21,8 @@ pub(crate) struct Caller<M: Ledger> {
     pub(crate) alloc: Global,
     pub(crate) pass: Pass,
     pub(crate) made: Share<M>,
+    /// How many finals were sent over its links.
+    pub(crate) finals: usize,
 }
 
 /// The configuration and the calls of a script.
@@ -35,7 +39,18 @@ pub(crate) fn calls_of(alloc: Global, text: &str) -> Result<(Config, Vec<Call>),
     }
 }
 
-/// Makes a call that is no report. It answers its place, or whether every slot is allotted.
+/// How many of the messages are finals.
+fn finals_in(messages: &[Handed]) -> usize {
+    let mut count = 0usize;
+    for message in messages {
+        if matches!(message.message(), Message::ResponseFinal(_)) {
+            count = count.saturating_add(1);
+        }
+    }
+    count
+}
+
+/// Makes a call that is no report, over a link in memory. It answers its place, or whether every slot is allotted.
 pub(crate) fn place_of<H: PassHome, M: Ledger, R: Wait>(
     rt: &R,
     lock: &PassLock<H, M>,
@@ -49,7 +64,9 @@ pub(crate) fn place_of<H: PassHome, M: Ledger, R: Wait>(
         return Err(false);
     }
     let mut link = MemoryLink::new(caller.alloc, Vec::new(caller.alloc));
-    match lock.call(rt, &mut caller.pass, &mut caller.made, &mut link, call) {
+    let answer = lock.call(rt, &mut caller.pass, &mut caller.made, &mut link, call);
+    caller.finals = caller.finals.saturating_add(finals_in(link.taken()));
+    match answer {
         Ok(passed) => Ok(passed.place),
         Err(CallRefusal::Full(_)) => Err(true),
         Err(_) => Err(false),
@@ -83,12 +100,14 @@ pub(crate) fn end_both<H: PassHome, M: Ledger>(
         alloc: _,
         pass,
         mut made,
+        finals: _,
     } = zero;
     list.put(pass);
     let Caller {
         alloc: _,
         pass,
         made: more,
+        finals: _,
     } = one;
     list.put(pass);
     made.merge(more);

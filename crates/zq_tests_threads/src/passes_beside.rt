@@ -95,11 +95,13 @@ fn made_by<H: PassHome + Send + Sync, M: Ledger + Send + Sync, R: Threads + Wait
         alloc,
         pass: zero,
         made: first,
+        finals: 0,
     };
     let mut one = Caller {
         alloc,
         pass: one,
         made: second,
+        finals: 0,
     };
     both_on(rt, &lock, &mut zero, &mut one);
     Ok(end_both(lock, list, zero, one).made)

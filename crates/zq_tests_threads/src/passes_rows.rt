@@ -90,14 +90,22 @@ fn make_in_turn<H: PassHome, M: Ledger, R: Wait>(
     Ok(places)
 }
 
-/// The same of two callers on a new state, and what is left.
+/// What two callers came to: the places of their calls, how many finals were sent to each, and what is left.
+#[derive(Drop)]
+struct Turns {
+    places: Vec<Result<u64, bool>>,
+    finals: (usize, usize),
+    end: Finished,
+}
+
+/// The calls of two callers on a new state.
 fn in_turn<H: PassHome, M: Ledger, R: Wait>(
     rt: &R,
     alloc: Global,
     new: (PassState, PassList),
     blank: Blank,
     turns: Vec<Turn>,
-) -> Result<(Vec<Result<u64, bool>>, Finished), Fail>
+) -> Result<Turns, Fail>
     requires means { (H.config ≡ new.0.sharing.stored.config) × (H.home ≡ home_of new.0) }
     requires fresh { new.0.sharing.stored.calls ≡ [] }
     requires list { new.1 ≡ record { home = H.home; passes = unused_passes H.home 2; most = 2 } }
@@ -112,14 +120,21 @@ fn in_turn<H: PassHome, M: Ledger, R: Wait>(
         alloc,
         pass: zero,
         made: first,
+        finals: 0,
     };
     let mut one = Caller {
         alloc,
         pass: one,
         made: second,
+        finals: 0,
     };
     let places = make_in_turn(rt, &lock, &mut zero, &mut one, turns)?;
-    Ok((places, end_both(lock, list, zero, one)))
+    let finals = (zero.finals, one.finals);
+    Ok(Turns {
+        places,
+        finals,
+        end: end_both(lock, list, zero, one),
+    })
 }
 
 /// The calls of a script, each with who makes it.
@@ -133,12 +148,7 @@ fn turns_of(alloc: Global, calls: Vec<Call>, seconds: &[bool]) -> Result<Vec<Tur
 }
 
 /// What the calls of a script are answered, on a state with one slot.
-fn places_of<R: Wait>(
-    rt: &R,
-    alloc: Global,
-    text: &str,
-    seconds: &[bool],
-) -> Result<(Vec<Result<u64, bool>>, Finished), Fail> {
+fn places_of<R: Wait>(rt: &R, alloc: Global, text: &str, seconds: &[bool]) -> Result<Turns, Fail> {
     let (config, calls) = calls_of(alloc, text)?;
     let turns = turns_of(alloc, calls, seconds)?;
     let new = PassState::new(alloc, &config, 1, 2)?;
@@ -147,8 +157,13 @@ fn places_of<R: Wait>(
 
 #[test]
 fn two_in_turn(rt: HostRuntime) -> Result<(), Fail> {
-    let (places, end) = places_of(&rt, rt.alloc(), OPENS, &[false, false, true, false, true])?;
+    let Turns {
+        places,
+        finals,
+        end,
+    } = places_of(&rt, rt.alloc(), OPENS, &[false, false, true, false, true])?;
     assert!(rt; places.as_slice() == [Ok(0), Ok(1), Ok(2), Ok(3), Err(true)].as_slice());
+    assert!(rt; finals == (0, 0));
     assert!(rt; end.made == 4 && end.owners.as_slice() == [0, 0, 1, 0].as_slice());
     Ok(())
 }
@@ -156,7 +171,12 @@ fn two_in_turn(rt: HostRuntime) -> Result<(), Fail> {
 #[test]
 fn a_reply_is_reported(rt: HostRuntime) -> Result<(), Fail> {
     let seconds = [false, false, false, false, false, true];
-    let (places, end) = places_of(&rt, rt.alloc(), REPLIED, &seconds)?;
+    let Turns {
+        places,
+        finals,
+        end,
+    } = places_of(&rt, rt.alloc(), REPLIED, &seconds)?;
+    assert!(rt; finals == (0, 1));
     assert!(rt; places.as_slice() == [Ok(0), Ok(1), Ok(2), Ok(3), Ok(4), Ok(5)].as_slice());
     assert!(rt; end.made == 6 && end.owners.as_slice() == [0, 0, 0, 0, 0, 1, 1].as_slice());
     Ok(())
