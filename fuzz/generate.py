@@ -36,7 +36,7 @@ EDGES = (
     b' north local south south:0:client south:00:client south:256:peer south:4294967296:peer south:1 south:1:peer:'
     b' South:0:peer north:client client Client peer router 0:s: 0:s:- 0:s 0:t:a :s:a 1:r:a 65535:s:a 65536:s:a'
     b' 0:s:a:b:c 0:s:: 0:s:% 0:s:%4 0:s:%ff 0:s:%C3%A9 0:s:%c3 0:s:\xc3\xa9 0:s:\xed\xa0\x80 0:s:%F4%90%80%80'
-    b' 0:s:%C0%AF 0:s:a%2Fb 0:s:a%zz 0:s:%252F ok err OK by:1 by: by:01 c p k all best complete none 1=2 1=2,3;2=-'
+    b' 0:s:%C0%AF 0:s:a%2Fb 0:s:a%zz 0:s:%252F ok err OK by:1 by: by:01 c p k all best region overall start complete none 1=2 1=2,3;2=-'
     b' 1=2; ;1=2 1= =1 1=2,,3 1=,2 1=2=3 1=-,2 in: in:- out:%FF in:a in initial key worker interest nodes'
     b' \t \r 0\r \x00 \xff 1\x0b ').split(b' ')
 
@@ -105,6 +105,7 @@ class Writer:
         self.config = read_config(self.lines[0].split(b' '))
         if theme == 'counters' or rng.random() < 0.15:
             self.write_start()
+        self.write_best()
         self.gateway = Gateway(self.config)
         self.keys = [some_key(rng) for _ in range(rng.randint(2, 5))]
         self.queryable_ids = [0, 1, 2, 3, U32]
@@ -116,6 +117,13 @@ class Writer:
         face, *others = (self.rng.choice([0, top - self.rng.randint(0, 9)]) for top in (U32, U64, U64, U32, U32))
         self.config.start = min(face, U32 - self.rng.randint(2, 8)), *others
         self.lines.append(b'start %d %d %d %d %d' % self.config.start)
+
+    def write_best(self):
+        """The choice of best matching, or no line of it. Half of the scripts choose over all regions."""
+        chance = self.rng.random()
+        if chance < 0.6:
+            self.config.best = 'overall' if chance < 0.5 else 'region'
+            self.lines.append(b'best ' + self.config.best.encode())
 
     def write(self, count):
         """A script of so many lines. A line that would be bad is left out."""

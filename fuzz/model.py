@@ -48,6 +48,12 @@ def pick(offers, target):
     return offers
 
 
+def nearest(regions):
+    """Of all regions together the first complete offer alone, or all of them."""
+    complete = sorted(offer for offers in regions for offer in offers if offer.complete)
+    return [complete[:1]] if complete else regions
+
+
 class Gateway(Declared):
     def __init__(self, config):
         self.config = config
@@ -197,13 +203,18 @@ class Gateway(Declared):
             return {}
         if any(includes(barred, key) for barred in asker.barred):
             return {}
-        picked, source = [], at(asker.nodes, node) if asker.region in self.routed else asker.id
-        for where in sorted(self.config.regions, key=region_order):
-            offers = self.offers(where, key, asker, node)
-            picked += pick([offer for offer in offers if self.may_ask(asker, source, self.faces[offer.face])], target)
+        source = at(asker.nodes, node) if asker.region in self.routed else asker.id
+        regions = [[offer for offer in self.offers(where, key, asker, node)
+                    if self.may_ask(asker, source, self.faces[offer.face])]
+                   for where in sorted(self.config.regions, key=region_order)]
+        if target == 'best' and self.config.best == 'overall':
+            picked = nearest(regions)
+        else:
+            picked = [pick(offers, target) for offers in regions]
         nodes = {}
-        for offer in picked:
-            nodes.setdefault(offer.face, offer.node)
+        for offers in picked:
+            for offer in offers:
+                nodes.setdefault(offer.face, offer.node)
         return nodes
 
     # The life of a query

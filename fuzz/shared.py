@@ -10,7 +10,7 @@ program. Exits with 0, or says what is wrong and exits with 1."""
 import sys
 
 from model import Gateway, replay
-from words import BadLine, read_call, read_script
+from words import BadLine, head_of, read_call, read_script
 
 
 def call(line):
@@ -24,7 +24,7 @@ def is_ask(read):
 
 def parts_of(lines):
     """The lines before the calls, and the calls of each part."""
-    head = lines[:2] if len(lines) > 1 and lines[1].startswith(b'start ') else lines[:1]
+    head = lines[:head_of(lines)]
     parts = [[]]
     for line in lines[len(head):]:
         if line == b'worker':

@@ -139,6 +139,7 @@ class Config:
     regions: list = field(default_factory=list)
     north_mode: str = ''
     start: tuple = (0, 0, 0, 0, 0)
+    best: str = 'region'
 
     def mode(self, where):
         """What a region is made of; Local is of applications."""
@@ -205,17 +206,27 @@ def read_call(words):
     return kind, fields(values, *READERS[kind, len(values)])
 
 
+def head_of(lines):
+    """How many lines stand before the calls: `config`, then `start` or none, then `best` or none."""
+    at = 1
+    for first in (b'start', b'best'):
+        at += lines[at:at + 1] != [] and lines[at].split(b' ')[0] == first
+    return at
+
+
 def read_script(lines, may=lambda *call: True):
     """The configuration and the calls, all of which may be made; the number of the first bad line is raised with it."""
-    config, calls = None, []
+    config, calls, head = None, [], head_of(lines)
     for at, line in enumerate(lines, start=1):
         words = line.split(b' ')
         try:
             require(b'' not in words)
             if at == 1:
                 config = read_config(words)
-            elif at == 2 and words[0] == b'start':
+            elif at <= head and words[0] == b'start':
                 config.start = fields(words[1:], u32, u64, u64, u32, u32)
+            elif at <= head:
+                config.best, = fields(words[1:], choice('region', 'overall'))
             else:
                 calls.append(read_call(words))
                 require(may(*calls[-1]))
