@@ -5,3 +5,5 @@ pub mod Going
 pub mod Held
 pub mod Telling
 pub mod Unsent
+pub mod Selected
+pub mod Nearest

@@ -3,9 +3,11 @@ ghost use Rattle.std.specs.Prelude.{◌≡◌, ℕ, [], Bool, IfOk, OnOk, Some, 
 ghost use Rattle.std.specs.Map.{values_of};
 ghost use Rattle.zq_key.specs.Key.{is_key as key_of};
 ghost use Rattle.zq_query.specs.Asking.{are_distinct, face_numbers};
-ghost use Rattle.zq_machine.specs.Selecting.{target_of, carries_between, filter_for, offers_to, passes, with_part, zid_of};
+ghost use Rattle.zq_route.specs.Selection.{best_overall, chosen, joined, picked, with_offers};
+ghost use Rattle.zq_machine.specs.Selecting.{target_of, carries_between, filter_for, offers_to, part_for, parts_for, passes, zid_of};
 ghost use Rattle.zq_egress.specs.Askers.{asker_of};
-ghost use Rattle.std.specs.Prelude.{filter, fold, map, true};
+ghost use Rattle.std.specs.List.{flat_map};
+ghost use Rattle.std.specs.Prelude.{map, true};
 
 use std::alloc::{AllocError, Global};
 use std::collections::BTreeMap;
@@ -18,7 +20,8 @@ use zq_machine::face::OpenFace;
 use zq_route::builder::RouteBuilder;
 use zq_route::filter::InterRegionFilter;
 use zq_route::gateways::Gateways;
-use zq_route::selection::take_final_route;
+use zq_route::overall::take_best_overall;
+use zq_route::selection::{Best, take_final_route};
 use zq_strategy::strategy::{is_north, same_region};
 use zq_strategy::types::{OfferList, QueryTargetQabl};
 use zq_tables::RegionMap;
@@ -111,39 +114,24 @@ impl<'a> Asker<'a> {
         hat.compute_query_route(&src, key, node)
     }
 
-    // The offers that are for the asker's request.
-    fn passing(&self, alloc: Global, offers: OfferList) -> Result<OfferList, OutOfMemory>
-        ensures { IfOk result (λ l. l ≡ filter (passes (asker_of self.now)) offers) }
-    {
-        let mut kept = Items::new(alloc);
-        for offer in offers.into_vec() {
-            if self.passes(&offer) {
-                kept.push(offer)?;
-            }
-        }
-        Ok(kept)
-    }
-
-    // A region's part joins what earlier regions gave. The offers that pass are picked out first, so
-    // that the target picks among all that are left.
-    #[tactic(auto, using(zq_machine::proofs::Routes::filter_all))]
+    // A region's part joins what earlier regions gave: the target picks among the offers that pass.
     fn add_part(
         &self,
-        alloc: Global,
         key: &str,
         target: QueryTarget,
         route: &mut RouteBuilder<QueryTargetQabl>,
         hat: &Hat,
     ) -> Result<(), OutOfMemory>
         requires { IsTrue (key_of key.now) }
-        ensures { OnOk result (route.new ≡ with_part (asker_of self.now) key.now target route.old hat.now) }
+        ensures { OnOk result (route.new ≡ with_offers route.old (chosen target (part_for (asker_of self.now) key.now hat.now))) }
     {
-        let offers = self.passing(alloc, self.offers_in(key, hat)?)?;
-        take_final_route(target, route, offers, is_any)
+        let offers = self.offers_in(key, hat)?;
+        take_final_route(target, route, offers, |offer| self.passes(offer))
     }
 
     // Region by region, in the order of their places.
-    fn route(
+    #[tactic(auto, using(crate::proofs::Selected::one_more))]
+    fn route_by_region(
         &self,
         alloc: Global,
         hats: &RegionMap<Hat>,
@@ -151,16 +139,73 @@ impl<'a> Asker<'a> {
         target: QueryTarget,
     ) -> Result<RouteBuilder<QueryTargetQabl>, OutOfMemory>
         requires { IsTrue (key_of key.now) }
-        ensures { IfOk result (λ r. r ≡ fold (with_part (asker_of self.now) key.now target) [] (values_of hats.now)) }
+        ensures { IfOk result (λ r. r ≡ with_offers [] (flat_map (chosen target) (parts_for (asker_of self.now) key.now (values_of hats.now)))) }
     {
         let mut route = RouteBuilder::new(alloc);
         for hat in hats.values() {
-            self.add_part(alloc, key, target, &mut route, hat)?;
+            self.add_part(key, target, &mut route, hat)?;
         }
         Ok(route)
     }
 
-    /// The offers that the asker's request on a key is handed to, of each face one.
+    // What all regions offer to the asker, one region after the other.
+    fn offers_in_all(
+        &self,
+        alloc: Global,
+        hats: &RegionMap<Hat>,
+        key: &str,
+    ) -> Result<OfferList, OutOfMemory>
+        requires { IsTrue (key_of key.now) }
+        ensures { IfOk result (λ o. o ≡ flat_map (offers_to (asker_of self.now) key.now) (values_of hats.now)) }
+    {
+        let mut all = Vec::new(alloc);
+        for hat in hats.values() {
+            let mut offers = self.offers_in(key, hat)?.into_vec();
+            all.append(&mut offers)?;
+        }
+        Ok(Items::from_vec(all))
+    }
+
+    // The best of the offers of all regions together that pass.
+    #[tactic(auto, using(crate::proofs::Selected::passing_joined))]
+    fn route_overall(
+        &self,
+        alloc: Global,
+        hats: &RegionMap<Hat>,
+        key: &str,
+    ) -> Result<RouteBuilder<QueryTargetQabl>, OutOfMemory>
+        requires { IsTrue (key_of key.now) }
+        ensures { IfOk result (λ r. r ≡ with_offers [] (best_overall (joined (parts_for (asker_of self.now) key.now (values_of hats.now))))) }
+    {
+        let offers = self.offers_in_all(alloc, hats, key)?;
+        let mut route = RouteBuilder::new(alloc);
+        take_best_overall(alloc, &mut route, offers, |offer| self.passes(offer))?;
+        Ok(route)
+    }
+
+    // What the target picks under a choice.
+    fn route(
+        &self,
+        alloc: Global,
+        hats: &RegionMap<Hat>,
+        key: &str,
+        target: QueryTarget,
+        best: Best,
+    ) -> Result<RouteBuilder<QueryTargetQabl>, OutOfMemory>
+        requires { IsTrue (key_of key.now) }
+        ensures { IfOk result (λ r. r ≡ with_offers [] (picked best target (parts_for (asker_of self.now) key.now (values_of hats.now)))) }
+    {
+        match best {
+            Best::ByRegion => self.route_by_region(alloc, hats, key, target),
+            Best::Overall => match target {
+                QueryTarget::BestMatching => self.route_overall(alloc, hats, key),
+                QueryTarget::All => self.route_by_region(alloc, hats, key, target),
+                QueryTarget::AllComplete => self.route_by_region(alloc, hats, key, target),
+            },
+        }
+    }
+
+    /// The offers that the asker's request on a key is handed to under a choice, of each face one.
     #[tactic(auto, using(zq_machine::proofs::Routes::route_distinct))]
     pub fn select(
         &self,
@@ -168,17 +213,12 @@ impl<'a> Asker<'a> {
         hats: &RegionMap<Hat>,
         key: &str,
         target: QueryTarget,
+        best: Best,
     ) -> Result<Vec<QueryTargetQabl>, OutOfMemory>
         requires { IsTrue (key_of key.now) }
-        ensures offers { IfOk result (λ v. v.items ≡ values_of (fold (with_part (asker_of self.now) key.now target) [] (values_of hats.now))) }
+        ensures offers { IfOk result (λ v. v.items ≡ values_of (with_offers [] (picked best target (parts_for (asker_of self.now) key.now (values_of hats.now))))) }
         ensures distinct { IfOk result (λ v. are_distinct (face_numbers (map target_of v.items)) ≡ true) }
     {
-        Ok(self.route(alloc, hats, key, target)?.build())
+        Ok(self.route(alloc, hats, key, target, best)?.build())
     }
-}
-
-fn is_any(_offer: &QueryTargetQabl) -> bool
-    ensures { result ≡ true }
-{
-    true
 }

@@ -51,7 +51,13 @@ impl Tables {
             source: hats::router_by(&self.hats, opened.region, face, request.node),
             context: hats::place_by(&self.hats, opened.region, face, request.node),
         };
-        asker.select(self.alloc, &self.hats, full_text(said), request.target)
+        asker.select(
+            self.alloc,
+            &self.hats,
+            full_text(said),
+            request.target,
+            self.config.best(),
+        )
     }
 
     // What a request hands, and what leaves of it: a message to the face of each offer, and behind

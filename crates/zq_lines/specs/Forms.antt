@@ -5,7 +5,7 @@ use Rattle.zq_lines.specs.declared.kind.Kind.{Kind}
 use Rattle.zq_lines.specs.declared.kind.Kind.TheVariants as kind
 use Rattle.zq_lines.specs.declared.form.Span.{Span}
 use Rattle.zq_lines.specs.declared.form.Span.TheVariants as span
-use Rattle.zq_lines.specs.declared.form.TheConstants.{CONFIG, START, OPEN, FACE, IDS, KEY, UNKEY, QUERYABLE, UNQUERYABLE, INTEREST, FINALIZE, ASK, REPLY, LONG, GATEWAYS, NETWORK, NODES}
+use Rattle.zq_lines.specs.declared.form.TheConstants.{CONFIG, START, BEST, OPEN, FACE, IDS, KEY, UNKEY, QUERYABLE, UNQUERYABLE, INTEREST, FINALIZE, ASK, REPLY, LONG, GATEWAYS, NETWORK, NODES}
 
 -- the words of a call that speaks of keys and queryables
 abbrev pub declaring_form : List ℕ → Option (List Kind)
@@ -38,12 +38,13 @@ form_of name =
     else (if bytes_eq name (codes "sent") || bytes_eq name (codes "poll") then Some LONG.now
     else other_form name)))
 
--- the words of a line of a number and a name, if there are such: of a call, of the configuration, which stands first, or of the counters, which may stand second
+-- the words of a line of a number and a name, if there are such: of a call, of the configuration, which stands first, of the counters or of the choice
 abbrev pub form_at : ℕ → List ℕ → Option (List Kind)
 form_at number name =
     if number == 1 && bytes_eq name (codes "config") then Some CONFIG.now
-    else (if number == 2 && bytes_eq name (codes "start") then Some START.now
-    else form_of name)
+    else (if bytes_eq name (codes "start") then Some START.now
+    else (if bytes_eq name (codes "best") then Some BEST.now
+    else form_of name))
 
 -- how many words the call of a name may have: further ones, or one less, or just its own
 abbrev pub span_of : List ℕ → Span

@@ -50,6 +50,7 @@ is_kind kind.Body word = is_flag (codes "ok") (codes "err") word
 is_kind kind.Mark word = is_flag (codes "initial") (codes "key") word
 is_kind kind.Item word = is_item word
 is_kind kind.Responder word = is_named zid_of (codes "by") word
+is_kind kind.Choice word = is_flag (codes "region") (codes "overall") word
 is_kind kind.Entry word = is_entry word
 is_kind kind.Any word = true
 
@@ -76,5 +77,6 @@ expected kind.Body = codes "neither `ok` nor `err`"
 expected kind.Mark = codes "no mark: `initial` or `key`"
 expected kind.Item = codes "no item of a deny list: `in:TEXT` or `out:TEXT`"
 expected kind.Responder = codes "no responder: `by:` and an id below 2^128"
+expected kind.Choice = codes "neither `region` nor `overall`"
 expected kind.Entry = codes "no region of a gateway: `north:MODE`, `local` or `south:NUM:MODE`"
 expected kind.Any = codes "no word"

@@ -6,7 +6,7 @@ use Rattle.zq_lines.specs.declared.kind.Kind.{Kind}
 use Rattle.std.specs.Str.{bytes_eq}
 use Rattle.percent_encoding.specs.Percent.{percent_encode}
 use Rattle.percent_encoding.specs.declared.ascii_set.TheConstants.{CONTROLS}
-use Rattle.zq_lines.specs.declared.why.TheConstants.{CONFIG, EMPTY, FINALIZE, FORM, GATEWAYS, NETWORK, REPLY, SENT}
+use Rattle.zq_lines.specs.declared.why.TheConstants.{BEST, CONFIG, EMPTY, FINALIZE, FORM, GATEWAYS, NETWORK, REPLY, SENT, START}
 use Rattle.zq_lines.specs.declared.foreign.TheConstants.{WORKER}
 use Rattle.zq_lines.specs.declared.form.Span.{Span}
 use Rattle.zq_lines.specs.declared.form.Span.TheVariants as span
@@ -78,12 +78,14 @@ first_wrong (k ∷ ks) rest = wrong_or k (word_at rest) (first_wrong ks)
 abbrev pub form_words : List ℕ → List ℕ
 form_words name =
     if bytes_eq name (codes "config") then CONFIG.now
+    else (if bytes_eq name (codes "start") then START.now
+    else (if bytes_eq name (codes "best") then BEST.now
     else (if bytes_eq name (codes "sent") then SENT.now
     else (if bytes_eq name (codes "reply") then REPLY.now
     else (if bytes_eq name (codes "finalize") then FINALIZE.now
     else (if bytes_eq name (codes "gateways") then GATEWAYS.now
     else (if bytes_eq name (codes "network") then NETWORK.now
-    else FORM.now)))))
+    else FORM.now)))))))
 
 -- what is said of the first wrong word, or where there is none
 abbrev pub word_reason : List ℕ → Option (Kind × List ℕ) → List ℕ

@@ -10,6 +10,8 @@ use zq_io::words::is;
 pub const CONFIG: &[Kind] = &[Kind::Id, Kind::Long];
 /// The words of `start`, the counters.
 pub const START: &[Kind] = &[Kind::Int, Kind::Long, Kind::Long, Kind::Int, Kind::Int];
+/// The word of `best`, the choice.
+pub const BEST: &[Kind] = &[Kind::Choice];
 /// The words of `open`; deny lists may follow.
 pub const OPEN: &[Kind] = &[
     Kind::Region,
@@ -131,15 +133,18 @@ fn form_of(name: &[u8]) -> Option<&'static [Kind]>
 }
 
 /// The words of a line of a number and a name, if there are such: of a call, of the configuration, which
-/// stands first, or of the counters, which may stand second.
+/// stands first, of the counters or of the choice.
 pub fn form_at(number: u64, name: &[u8]) -> Option<&'static [Kind]>
     ensures { option_map (λ k. k.now) result ≡ form_at number name.now }
 {
     if number == 1 && is(name, "config") {
         return Some(CONFIG);
     }
-    if number == 2 && is(name, "start") {
+    if is(name, "start") {
         return Some(START);
+    }
+    if is(name, "best") {
+        return Some(BEST);
     }
     form_of(name)
 }

@@ -56,6 +56,8 @@ pub enum Kind {
     Item,
     /// The responder of a reply: `by:` and an id.
     Responder,
+    /// Where the best offer is looked for: `region` or `overall`.
+    Choice,
     /// An entry of the configuration: `north:MODE`, `local` or `south:NUM:MODE`.
     Entry,
     /// Any word.
@@ -136,6 +138,7 @@ pub fn is_kind(alloc: Global, kind: Kind, word: &[u8]) -> Result<bool, OutOfMemo
         Kind::Mark => Ok(is_flag("initial", "key", word)),
         Kind::Item => is_item(alloc, word),
         Kind::Responder => is_named::<Zid>(alloc, "by", word),
+        Kind::Choice => Ok(is_flag("region", "overall", word)),
         Kind::Entry => is_entry(alloc, word),
         Kind::Any => Ok(true),
     }
@@ -167,6 +170,7 @@ pub fn expected(kind: Kind) -> &'static str
         Kind::Mark => "no mark: `initial` or `key`",
         Kind::Item => "no item of a deny list: `in:TEXT` or `out:TEXT`",
         Kind::Responder => "no responder: `by:` and an id below 2^128",
+        Kind::Choice => "neither `region` nor `overall`",
         Kind::Entry => "no region of a gateway: `north:MODE`, `local` or `south:NUM:MODE`",
         Kind::Any => "no word",
     }

@@ -18,6 +18,13 @@ use zq_message::text::Bytes;
 pub const CONFIG: &str =
     "the first line is `config`, an id, a timeout and the regions: one is north, none stands twice, and the ids of the South are at most 255";
 
+/// What is said of a line `start` that is well formed: it stands at another place.
+pub const START: &str = "`start` stands directly behind `config`, and nowhere else";
+
+/// What is said of a line `best` that is well formed: it stands at another place.
+pub const BEST: &str =
+    "`best` stands once, directly behind `start`, or behind `config` where no `start` stands";
+
 /// What is said of a line `sent` that is well formed: it is bad where workers share a gateway.
 pub const SENT: &str =
     "`sent` stands in no script for `share`: the gateway itself reports what was sent";
@@ -193,6 +200,10 @@ fn form_words(name: &[u8]) -> &'static str
 {
     if is(name, "config") {
         CONFIG
+    } else if is(name, "start") {
+        START
+    } else if is(name, "best") {
+        BEST
     } else if is(name, "sent") {
         SENT
     } else if is(name, "reply") {

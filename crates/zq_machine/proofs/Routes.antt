@@ -1,8 +1,9 @@
 -- Routes over the regions: each face stands once, and the asker is not among them.
 use Rattle.std.proofs.Common.{◌≡◌, ℕ, Bool, true, false, cond, not, List, [], ◌∷◌, ◌++◌, map, Option, Some, None, refl, sym, ap, ◌∙◌, true≢false, ne_eqb, eq-eqb}
-use Rattle.std.specs.List.{filter, list_any}
+use Rattle.std.specs.List.{AllByRecursion, filter, flat_map, list_any}
 use Rattle.std.specs.Prelude.{find, fold, ◌==◌, ◌&&◌}
 use Rattle.std.specs.Option.{option_map_or}
+use Rattle.std.specs.Ordering.{is_lt}
 use Rattle.std.proofs.lemmas.Bool.{and_parts, not-true, or_parts}
 use Rattle.std.specs.Map.{keys_of, values_of}
 use Rattle.zq_message.specs.declared.message.FaceId.{FaceId}
@@ -10,19 +11,18 @@ use Rattle.zq_message.specs.declared.message.QueryTarget.{QueryTarget}
 use Rattle.zq_message.specs.declared.message.QueryTarget.TheVariants as mode
 use Rattle.zq_message.specs.declared.message.Request.{Request}
 use Rattle.zq_strategy.specs.declared.offer.QueryTargetQabl.{QueryTargetQabl}
+use Rattle.zq_strategy.specs.OfferOrder.{offer_cmp}
 use Rattle.zq_strategy.specs.State.{HatState}
 use Rattle.zq_query.specs.Asking.{are_distinct, face_numbers}
 use Rattle.zq_route.specs.Built.{has_face, with_first}
-use Rattle.zq_route.specs.Selection.{by_face, chosen, is_complete, may_be_complete, with_offers}
+use Rattle.zq_route.specs.declared.selection.Best.{Best}
+use Rattle.zq_route.specs.declared.selection.Best.TheVariants as choice
+use Rattle.zq_route.specs.Selection.{best_overall, by_face, chosen, is_complete, joined, may_be_complete, nearer, nearest, picked, with_offers}
 use Rattle.zq_machine.specs.declared.face.OpenFace.{OpenFace}
 use Rattle.zq_tables.specs.declared.resolved.Resolved.{Resolved}
 use Rattle.zq_machine.specs.Asked.{is_own}
-use Rattle.zq_machine.specs.Selecting.{AskerState, asker_in, carries_between, filter_for, offers_to, full_text, passes, route_for, says_key, select, select_for, target_of, with_part}
+use Rattle.zq_machine.specs.Selecting.{AskerState, asker_in, carries_between, filter_for, offers_to, full_text, parts_for, passes, route_for, says_key, select, select_for, target_of}
 use Rattle.zq_machine.specs.State.{Core, at}
-
-pub filter_all : {X : Type 0} (xs : List X) → filter (λ _. true) xs ≡ xs
-filter_all [] = refl
-filter_all (x ∷ xs) = ap (λ l. x ∷ l) (filter_all xs)
 
 -- the offers of a route stand beside their faces, each face once
 pub record IsRoute (r : List (ℕ × QueryTargetQabl)) : Type 0 where
@@ -67,16 +67,11 @@ offers_route : (os : List QueryTargetQabl) (r : List (ℕ × QueryTargetQabl)) �
 offers_route [] r is = is
 offers_route (o ∷ os) r is = offers_route os (with_first r (by_face o)) (first_route r o is)
 
-module _ (a : AskerState) (key : List ℕ) (target : QueryTarget) where
-  parts_route : (hats : List HatState) (r : List (ℕ × QueryTargetQabl)) → IsRoute r → IsRoute (fold (with_part a key target) r hats)
-  parts_route [] r is = is
-  parts_route (h ∷ hats) r is = parts_route hats (with_part a key target r h) (offers_route (chosen target (filter (passes a) (offers_to a key h))) r is)
-
-  -- each face is selected once
-  pub route_distinct : (hats : List HatState) → are_distinct (face_numbers (map target_of (values_of (fold (with_part a key target) [] hats)))) ≡ true
-  route_distinct hats =
-      let is = parts_route hats [] (record { faces = refl; once = refl }) in
-      ap are_distinct is.faces ∙ is.once
+-- each face is selected once
+pub route_distinct : (os : List QueryTargetQabl) → are_distinct (face_numbers (map target_of (values_of (with_offers [] os)))) ≡ true
+route_distinct os =
+    let is = offers_route os [] (record { faces = refl; once = refl }) in
+    ap are_distinct is.faces ∙ is.once
 
 -- ---- the asker is not among them
 module _ {X : Type 0} (p : X → Bool) where
@@ -126,6 +121,64 @@ none_offered p (o ∷ os) r none h =
     let parts = or_parts (p o) (list_any p os) h in
     none_offered p os (with_first r (by_face o)) (none_first p r o none parts.0) parts.1
 
+-- ---- what fails for every offer that passes fails for what is picked of them
+module _ (p : QueryTargetQabl → Bool) where
+  abbrev NoneOf : List QueryTargetQabl → Type 0
+  NoneOf os = list_any p os ≡ false
+
+  none_appended : (xs ys : List QueryTargetQabl) → NoneOf xs → NoneOf ys → NoneOf (xs ++ ys)
+  none_appended [] ys e h = h
+  none_appended (x ∷ xs) ys e h =
+      let parts = or_parts (p x) (list_any p xs) e in
+      rw (parts.0, none_appended xs ys parts.1 h) refl
+
+  none_of_each : (f : List QueryTargetQabl → List QueryTargetQabl) → ((os : List QueryTargetQabl) → NoneOf os → NoneOf (f os)) → (parts : List (List QueryTargetQabl)) → AllByRecursion NoneOf parts → NoneOf (flat_map f parts)
+  none_of_each f none [] all = refl
+  none_of_each f none (os ∷ parts) all = none_appended (f os) (flat_map f parts) (none os all.0) (none_of_each f none parts all.1)
+
+  -- the nearest is one of them
+  abbrev NotFound : Option QueryTargetQabl → Type 0
+  NotFound None = Unit {0}
+  NotFound (Some o) = p o ≡ false
+
+  none_nearer : (m : Option QueryTargetQabl) (o : QueryTargetQabl) → NotFound m → p o ≡ false → NotFound (nearer m o)
+  none_nearer None o none h = h
+  none_nearer (Some m) o none h = by (is_lt (offer_cmp o m))
+    where
+      by : (b : Bool) → p (cond b o m) ≡ false
+      by true = h
+      by false = none
+
+  none_nearest : (m : Option QueryTargetQabl) (os : List QueryTargetQabl) → NotFound m → NoneOf os → NotFound (fold nearer m os)
+  none_nearest m [] none e = none
+  none_nearest m (o ∷ os) none e =
+      let parts = or_parts (p o) (list_any p os) e in
+      none_nearest (nearer m o) os (none_nearer m o none parts.0) parts.1
+
+  none_best : (found : Option QueryTargetQabl) (os : List QueryTargetQabl) → NotFound found → NoneOf os → NoneOf (option_map_or (λ o. o ∷ []) found os)
+  none_best None os none e = e
+  none_best (Some o) os none e = rw none refl
+
+  none_overall : (os : List QueryTargetQabl) → NoneOf os → NoneOf (best_overall os)
+  none_overall os e = none_best (nearest (filter is_complete os)) os (none_nearest None (filter is_complete os) tt (none_filtered p is_complete os e)) e
+
+  none_picked : (best : Best) (target : QueryTarget) (parts : List (List QueryTargetQabl)) → AllByRecursion NoneOf parts → NoneOf (picked best target parts)
+  none_picked choice.Overall mode.BestMatching parts all = none_overall (joined parts) (none_of_each (λ part. part) (λ _ e. e) parts all)
+  none_picked choice.Overall mode.All parts all = none_of_each (chosen mode.All) (none_chosen p mode.All) parts all
+  none_picked choice.Overall mode.AllComplete parts all = none_of_each (chosen mode.AllComplete) (none_chosen p mode.AllComplete) parts all
+  none_picked choice.ByRegion target parts all = none_of_each (chosen target) (none_chosen p target) parts all
+
+  none_routed : (best : Best) (target : QueryTarget) (parts : List (List QueryTargetQabl)) → AllByRecursion NoneOf parts → list_any p (values_of (with_offers [] (picked best target parts))) ≡ false
+  none_routed best target parts all = none_offered p (picked best target parts) [] refl (none_picked best target parts all)
+
+  none_in_parts : (a : AskerState) (key : List ℕ) (hats : List HatState) → AllByRecursion (λ h. NoneOf (offers_to a key h)) hats → AllByRecursion NoneOf (parts_for a key hats)
+  none_in_parts a key [] all = tt
+  none_in_parts a key (h ∷ hats) all = (none_filtered p (passes a) (offers_to a key h) all.0, none_in_parts a key hats all.1)
+
+  -- so it fails where it fails for every offer of every hat
+  pub none_in_route : (c : Core) (a : AskerState) (key : List ℕ) (target : QueryTarget) → AllByRecursion (λ h. list_any p (offers_to a key h) ≡ false) (values_of c.hats) → list_any p (values_of (route_for c a key target)) ≡ false
+  none_in_route c a key target all = none_routed c.config.best target (parts_for a key (values_of c.hats)) (none_in_parts a key (values_of c.hats) all)
+
 module _ (a : AskerState) where
   none_own : (os : List QueryTargetQabl) → list_any (is_own a.face) (filter (passes a) os) ≡ false
   none_own [] = refl
@@ -139,13 +192,9 @@ module _ (a : AskerState) where
       by false false e none = none
       by false true e none = rw (e, none) refl
 
-  none_in_parts : (key : List ℕ) (target : QueryTarget) (hats : List HatState) (r : List (ℕ × QueryTargetQabl)) → list_any (is_own a.face) (values_of r) ≡ false
-      → list_any (is_own a.face) (values_of (fold (with_part a key target) r hats)) ≡ false
-  none_in_parts key target [] r none = none
-  none_in_parts key target (h ∷ hats) r none =
-      let os = offers_to a key h in
-      none_in_parts key target hats (with_part a key target r h)
-      (none_offered (is_own a.face) (chosen target (filter (passes a) os)) r none (none_chosen (is_own a.face) target _ (none_own os)))
+  no_part_own : (key : List ℕ) (hats : List HatState) → AllByRecursion (λ os. list_any (is_own a.face) os ≡ false) (parts_for a key hats)
+  no_part_own key [] = tt
+  no_part_own key (h ∷ hats) = (none_own (offers_to a key h), no_part_own key hats)
 
 -- what is selected is never the asker
 pub none_to_asker : (c : Core) (asker : FaceId) (s : Resolved) (r : Request) → list_any (is_own asker) (select c asker s r) ≡ false
@@ -156,5 +205,5 @@ none_to_asker c asker s r = by (at asker.0 c.faces)
     by (Some opened) = keyed (says_key s)
       where
         keyed : (b : Bool) → list_any (is_own asker) (cond b (values_of (route_for c (asker_in c asker r.node opened) (full_text s) r.target)) []) ≡ false
-        keyed true = none_in_parts (asker_in c asker r.node opened) (full_text s) r.target (values_of c.hats) [] refl
+        keyed true = none_routed (is_own asker) c.config.best r.target _ (no_part_own (asker_in c asker r.node opened) (full_text s) (values_of c.hats))
         keyed false = refl

@@ -1,5 +1,5 @@
 -- The faces that a request is handed to are open, each is one target, and each entry that is pending stays at an open face.
-use Rattle.std.proofs.Common.{◌≡◌, ◌∙◌, refl, sym, ap, subst, ℕ, Bool, true, false, cond, not, List, [], ◌∷◌, ◌++◌, fold, map, Option, Some, None, ◌⊎◌, inl, inr, append-nil}
+use Rattle.std.proofs.Common.{◌≡◌, ◌∙◌, refl, sym, ap, subst, ℕ, Bool, true, false, cond, not, List, [], ◌∷◌, ◌++◌, map, Option, Some, None, ◌⊎◌, inl, inr, append-nil}
 use Rattle.std.specs.Prelude.{◌==◌, ◌||◌}
 use Rattle.std.specs.List.{All, AllByRecursion, filter, list_any}
 use Rattle.std.specs.List.Sorted.{IsStrictlySortedBy}
@@ -13,7 +13,6 @@ use Rattle.std.proofs.lemmas.List.Elements.{All-head, All-tail}
 use Rattle.std.proofs.lemmas.Map.Lookups.{exact_unsigned}
 use Rattle.std.specs.Cmp.{nat_eq_equiv}
 use Rattle.zq_message.specs.declared.message.FaceId.{FaceId}
-use Rattle.zq_message.specs.declared.message.QueryTarget.{QueryTarget}
 use Rattle.zq_message.specs.declared.message.Region.{Region}
 use Rattle.zq_message.specs.declared.message.Request.{Request}
 use Rattle.zq_strategy.specs.declared.offer.QueryTargetQabl.{QueryTargetQabl}
@@ -28,12 +27,12 @@ use Rattle.zq_query.specs.Polling.{after_timeout, is_due, timeouts, timing_out}
 use Rattle.zq_query.specs.Records.{Pending, QueryState, Record, after_put, is_entry, is_left, is_none_left, next_reply, without, without_reply}
 use Rattle.zq_tables.specs.declared.resolved.Resolved.{Resolved}
 use Rattle.zq_tables.specs.Naming.{NamingState}
-use Rattle.zq_route.specs.Selection.{chosen}
+use Rattle.zq_route.specs.Selection.{picked}
 use Rattle.zq_machine.specs.declared.face.OpenFace.{OpenFace}
 use Rattle.zq_machine.specs.Agreeing.{all_pending, pending_of, stands_in}
 use Rattle.zq_machine.specs.Configs.{Settings}
 use Rattle.zq_machine.specs.Deciding.{accepted, after_replied, deadline, opened}
-use Rattle.zq_machine.specs.Selecting.{AskerState, asker_in, full_text, offers_to, passes, route_for, says_key, select, select_for, target_of, with_part}
+use Rattle.zq_machine.specs.Selecting.{AskerState, asker_in, full_text, offers_to, parts_for, route_for, says_key, select, select_for, target_of}
 use Rattle.zq_machine.specs.State.{Core, at}
 use Rattle.zq_machine.specs.TextCalls.{TextCall, opening, closing, naming, unnaming, declaring, withdrawing, asking, replying, ending, reporting, passing, listing, finalizing, announcing, retracting, networking, tabling, hearing, unhearing}
 use Rattle.zq_machine.proofs.Agreeing.{Tied}
@@ -42,18 +41,10 @@ use Rattle.zq_machine.proofs.Hats.{AreHatsOf, IsIndex}
 use Rattle.zq_machine.proofs.Lists.{all_append, all_failing, all_mapped, all_passing, all_weaker}
 use Rattle.zq_machine.proofs.NewEntries.{each_entry, pending_more}
 use Rattle.zq_machine.proofs.Numbered.{all_still, put_pending}
-use Rattle.zq_machine.proofs.Routes.{none_chosen, none_filtered, none_offered, route_distinct}
+use Rattle.zq_machine.proofs.Routes.{none_in_route, route_distinct}
 use Rattle.zq_key.proofs.Lookups.{each_entry as each_at, found_after_insertion, found_after_removal}
 
 -- ---- what fails for every offer of every hat fails for what is selected
-module _ (p : QueryTargetQabl → Bool) (a : AskerState) (key : List ℕ) (target : QueryTarget) where
-  none_in_parts : (hats : List HatState) (r : List (ℕ × QueryTargetQabl)) → AllByRecursion (λ h. list_any p (offers_to a key h) ≡ false) hats → list_any p (values_of r) ≡ false
-      → list_any p (values_of (fold (with_part a key target) r hats)) ≡ false
-  none_in_parts [] r all none = none
-  none_in_parts (h ∷ hats) r all none =
-      let os = offers_to a key h in
-      none_in_parts hats (with_part a key target r h) all.1 (none_offered p (chosen target (filter (passes a) os)) r none (none_chosen p target _ (none_filtered p (passes a) os all.0)))
-
 none_selected : (p : QueryTargetQabl → Bool) (c : Core) (asker : FaceId) (s : Resolved) (r : Request)
     → ((a : AskerState) → AllByRecursion (λ h. list_any p (offers_to a (full_text s) h) ≡ false) (values_of c.hats)) → list_any p (select c asker s r) ≡ false
 none_selected p c asker s r all = by (at asker.0 c.faces)
@@ -63,7 +54,7 @@ none_selected p c asker s r all = by (at asker.0 c.faces)
     by (Some o) = keyed (says_key s)
       where
         keyed : (b : Bool) → list_any p (cond b (values_of (route_for c (asker_in c asker r.node o) (full_text s) r.target)) []) ≡ false
-        keyed true = none_in_parts p (asker_in c asker r.node o) (full_text s) r.target (values_of c.hats) [] (all (asker_in c asker r.node o)) refl
+        keyed true = none_in_route p c (asker_in c asker r.node o) (full_text s) r.target (all (asker_in c asker r.node o))
         keyed false = refl
 
 -- each face is one target
@@ -75,7 +66,7 @@ targets_distinct c asker s r = by (at asker.0 c.faces)
     by (Some o) = keyed (says_key s)
       where
         keyed : (b : Bool) → are_distinct (face_numbers (map target_of (cond b (values_of (route_for c (asker_in c asker r.node o) (full_text s) r.target)) []))) ≡ true
-        keyed true = route_distinct (asker_in c asker r.node o) (full_text s) r.target (values_of c.hats)
+        keyed true = route_distinct (picked c.config.best r.target (parts_for (asker_in c asker r.node o) (full_text s) (values_of c.hats)))
         keyed false = refl
 
 -- ---- the faces of hats are open

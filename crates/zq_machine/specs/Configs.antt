@@ -7,6 +7,8 @@ use Rattle.zq_message.specs.declared.message.Region.{Region}
 use Rattle.zq_message.specs.declared.message.Region.TheVariants as region
 use Rattle.zq_message.specs.declared.message.Zid.{Zid}
 use Rattle.zq_message.specs.Region.{region_index}
+use Rattle.zq_route.specs.declared.selection.Best.{Best}
+use Rattle.zq_route.specs.declared.selection.Best.TheVariants as best
 use Rattle.zq_machine.specs.declared.config.Entry.{Entry}
 use Rattle.zq_machine.specs.declared.config.Entry.TheVariants as entry
 use Rattle.zq_machine.specs.declared.config.BadConfig.{BadConfig}
@@ -22,10 +24,15 @@ pub record Settings : Type 0 where
   pub entries : List Entry
   pub timeout : ℕ
   pub start : Counters
+  pub best : Best
 
 -- the counters of a gateway that gave no number yet
 abbrev pub no_counts : Counters
 no_counts = record { faces = 0; requests = 0; replies = 0; told = 0; request_ids = 0 }
+
+-- where the best offer is looked for, unless a configuration says it
+abbrev pub usual_best : Best
+usual_best = best.ByRegion
 
 -- the region of an entry
 abbrev pub region_of : Entry → Region

@@ -1,5 +1,5 @@
 -- Which offers a request is handed to.
-use Rattle.std.specs.Prelude.{ℕ, ◌==◌, Bool, true, false, not, ◌&&◌, List, [], fold, Option, Some, None, if◌then◌else◌}
+use Rattle.std.specs.Prelude.{ℕ, ◌==◌, Bool, true, false, not, ◌&&◌, List, [], map, Option, Some, None, if◌then◌else◌}
 use Rattle.std.specs.List.{filter}
 use Rattle.std.specs.Map.{values_of}
 use Rattle.std.specs.Option.{option_and_then, option_map}
@@ -18,7 +18,7 @@ use Rattle.zq_tables.specs.declared.resolved.Resolved.TheVariants as said
 use Rattle.zq_route.specs.declared.filter.InterRegionFilter.{InterRegionFilter}
 use Rattle.zq_route.specs.declared.gateways.Gateways.{Gateways}
 use Rattle.zq_route.specs.Filter.{passes_between}
-use Rattle.zq_route.specs.Selection.{chosen, with_offers}
+use Rattle.zq_route.specs.Selection.{picked, with_offers}
 use Rattle.zq_interests.specs.declared.types.InterestEntry.{InterestEntry}
 use Rattle.zq_machine.specs.declared.face.OpenFace.{OpenFace}
 use Rattle.zq_machine.specs.State.{Core, at, hat_of, is_region}
@@ -106,13 +106,17 @@ passes a o = not (o.face.0 == a.face.0) && carries_between a.tables a.own (filte
 abbrev pub offers_to : AskerState → List ℕ → HatState → List QueryTargetQabl
 offers_to a key h = offers_of h a.opened.region key (if same_region a.opened.region h.region then a.context else Some 0)
 
--- a region's part joins what earlier regions gave: the offers that pass and that the target picks, each face once
-abbrev pub with_part : AskerState → List ℕ → QueryTarget → List (ℕ × QueryTargetQabl) → HatState → List (ℕ × QueryTargetQabl)
-with_part a key target route h = with_offers route (chosen target (filter (passes a) (offers_to a key h)))
+-- what a region offers to the asker, and passes
+abbrev pub part_for : AskerState → List ℕ → HatState → List QueryTargetQabl
+part_for a key h = filter (passes a) (offers_to a key h)
 
--- region by region, in the order of their places
+-- the offers that pass, region by region, in the order of the regions' places
+abbrev pub parts_for : AskerState → List ℕ → List HatState → List (List QueryTargetQabl)
+parts_for a key hats = map (part_for a key) hats
+
+-- what the target picks of them, under the configuration's choice, each face once
 abbrev pub route_for : Core → AskerState → List ℕ → QueryTarget → List (ℕ × QueryTargetQabl)
-route_for c a key target = fold (with_part a key target) [] (values_of c.hats)
+route_for c a key target = with_offers [] (picked c.config.best target (parts_for a key (values_of c.hats)))
 
 -- the offers that a request of an open face is handed to
 abbrev pub select_for : Core → FaceId → Resolved → Request → Option OpenFace → List QueryTargetQabl

@@ -9,6 +9,7 @@ use std::marker::Model;
 use zq_key::items::Items;
 use zq_key::memory::OutOfMemory;
 use zq_key::message::{Mode, Region, Zid};
+use zq_route::selection::Best;
 
 /// The greatest id of a South region.
 pub const SOUTH_IDS: u32 = 255;
@@ -64,12 +65,13 @@ pub enum ConfigRefusal {
 }
 
 /// A valid configuration: the gateway's id, its regions, the timeout in milliseconds of a request
-/// that gives none, and the counters to begin with.
+/// that gives none, the counters to begin with, and where the best offer is looked for.
 pub struct Config {
     zid: Zid,
     entries: EntryList,
     timeout: u64,
     start: Counters,
+    best: Best,
 }
 
 impl Drop for Config {
@@ -79,6 +81,7 @@ impl Drop for Config {
             entries,
             timeout,
             start,
+            best,
         } = self;
     }
 }
@@ -89,7 +92,7 @@ impl Model for Config {
 
     ghost Value = { Settings };
 
-    ghost view = { λ c. record { zid = c.zid; entries = c.entries; timeout = c.timeout; start = c.start } };
+    ghost view = { λ c. record { zid = c.zid; entries = c.entries; timeout = c.timeout; start = c.start; best = c.best } };
 
     ghost invariant = { λ c. bad_config c.entries ≡ None };
 }
@@ -200,8 +203,9 @@ impl Config {
         entries: &[Entry],
         timeout: u64,
         start: Counters,
+        best: Best,
     ) -> Result<Config, ConfigRefusal>
-        ensures ok { IfOk result (λ c. (c.zid ≡ zid) × (c.entries ≡ entries.now) × (c.timeout ≡ timeout) × (c.start ≡ start)) }
+        ensures ok { IfOk result (λ c. (c.zid ≡ zid) × (c.entries ≡ entries.now) × (c.timeout ≡ timeout) × (c.start ≡ start) × (c.best ≡ best)) }
         ensures valid { IfOk result (λ c. bad_config c.entries ≡ None) }
         ensures refused { IfErr result (λ e. IsRefusal e entries.now) }
     {
@@ -215,6 +219,7 @@ impl Config {
                     entries,
                     timeout,
                     start,
+                    best,
                 }),
             },
         }
@@ -229,6 +234,7 @@ impl Config {
             entries: copy_entries(alloc, self.entries.as_slice())?,
             timeout: self.timeout,
             start: self.start,
+            best: self.best,
         })
     }
 
@@ -265,6 +271,13 @@ impl Config {
         ensures { result.now ≡ self.now.start }
     {
         &self.start
+    }
+
+    /// Where the best offer is looked for.
+    pub fn best(&self) -> Best
+        ensures { result ≡ self.now.best }
+    {
+        self.best
     }
 
     /// The timeout in milliseconds of a request that gives none.

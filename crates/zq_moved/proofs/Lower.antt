@@ -1,5 +1,5 @@
 -- Facts about what the crates below define, which are proved there for those crates alone.
-use Rattle.std.proofs.Common.{◌≡◌, ◌∙◌, refl, sym, ap, ℕ, Bool, true, false, cond, List, [], ◌∷◌, ◌++◌, fold, Option, Some, None, ◌⊎◌, inr, length, arith, eqb-true, append_assoc, ◌<◌, inl, take, drop}
+use Rattle.std.proofs.Common.{◌≡◌, ◌∙◌, refl, sym, ap, ℕ, Bool, true, false, cond, List, [], ◌∷◌, ◌++◌, Option, Some, None, ◌⊎◌, inr, length, arith, eqb-true, append_assoc, ◌<◌, inl, take, drop}
 use Rattle.std.specs.Prelude.{find, ◌==◌, ◌&&◌, is_none}
 use Rattle.std.specs.List.{AllByRecursion, filter, list_any, position}
 use Rattle.std.specs.Map.{values_of}
@@ -7,21 +7,18 @@ use Rattle.std.specs.Option.{option_map}
 use Rattle.std.proofs.lemmas.Bool.{false≢true, and_parts}
 use Rattle.zq_key.specs.Key.{is_key, is_chunk}
 use Rattle.zq_message.specs.declared.message.FaceId.{FaceId}
-use Rattle.zq_message.specs.declared.message.QueryTarget.{QueryTarget}
 use Rattle.zq_message.specs.declared.message.Request.{Request}
 use Rattle.zq_namespace.specs.Entry.{is_bare}
-use Rattle.zq_strategy.specs.State.{HatState}
 use Rattle.zq_strategy.specs.declared.offer.QueryTargetQabl.{QueryTargetQabl}
 use Rattle.zq_query.specs.declared.records.Final.{Final}
 use Rattle.zq_query.specs.Records.{Record, final_of}
-use Rattle.zq_route.specs.Selection.{chosen}
 use Rattle.zq_tables.specs.declared.resolved.Resolved.{Resolved}
 use Rattle.zq_tables.specs.declared.resolved.Resolved.TheVariants as said
 use Rattle.zq_machine.specs.declared.face.OpenFace.{OpenFace}
-use Rattle.zq_machine.specs.Selecting.{AskerState, asker_in, full_text, offers_to, passes, route_for, says_key, select, select_for, with_part}
+use Rattle.zq_machine.specs.Selecting.{AskerState, asker_in, full_text, offers_to, route_for, says_key, select, select_for}
 use Rattle.zq_machine.specs.State.{Core, at}
 use Rattle.zq_machine.proofs.Changing.{changed, put_changed}
-use Rattle.zq_machine.proofs.Routes.{none_chosen, none_filtered, none_offered}
+use Rattle.zq_machine.proofs.Routes.{none_in_route}
 use Rattle.zq_message.specs.declared.message.WireExpr.{WireExpr}
 use Rattle.zq_namespace.specs.Leaves.{gives}
 use Rattle.zq_tables.specs.Naming.{FaceNaming, said_of, said_plainly, said_under, sent_side, text_at}
@@ -99,15 +96,6 @@ module _ (P : FaceId → Type 0) where
       by false rest = rest
 
 -- ---- what fails for every offer of every hat fails for what is selected
-module _ (p : QueryTargetQabl → Bool) (a : AskerState) (key : List ℕ) (target : QueryTarget) where
-  none_in_parts : (hats : List HatState) (r : List (ℕ × QueryTargetQabl)) → AllByRecursion (λ h. list_any p (offers_to a key h) ≡ false) hats → list_any p (values_of r) ≡ false
-      → list_any p (values_of (fold (with_part a key target) r hats)) ≡ false
-  none_in_parts [] r all none = none
-  none_in_parts (h ∷ hats) r all none =
-      let os = offers_to a key h in
-      none_in_parts hats (with_part a key target r h) all.1 (none_offered p (chosen target (filter (passes a) os)) r none (none_chosen p target _ (none_filtered p (passes a) os all.0)))
-
--- so it fails for each face that is selected
 pub none_selected : (p : QueryTargetQabl → Bool) (c : Core) (asker : FaceId) (s : Resolved) (r : Request)
     → ((a : AskerState) → AllByRecursion (λ h. list_any p (offers_to a (full_text s) h) ≡ false) (values_of c.hats)) → list_any p (select c asker s r) ≡ false
 none_selected p c asker s r all = by (at asker.0 c.faces)
@@ -117,5 +105,5 @@ none_selected p c asker s r all = by (at asker.0 c.faces)
     by (Some o) = keyed (says_key s)
       where
         keyed : (b : Bool) → list_any p (cond b (values_of (route_for c (asker_in c asker r.node o) (full_text s) r.target)) []) ≡ false
-        keyed true = none_in_parts p (asker_in c asker r.node o) (full_text s) r.target (values_of c.hats) [] (all (asker_in c asker r.node o)) refl
+        keyed true = none_in_route p c (asker_in c asker r.node o) (full_text s) r.target (all (asker_in c asker r.node o))
         keyed false = refl

@@ -2,7 +2,7 @@
 use Rattle.std.specs.Prelude.{ℕ, List, [], ◌∷◌, ◌++◌}
 use Rattle.std.proofs.Common.{zero, suc}
 use Rattle.atomic_table.specs.Seated.{TableId}
-use Rattle.zq_machine.specs.Configs.{Settings}
+use Rattle.zq_machine.specs.Configs.{Settings, usual_best}
 use Rattle.zq_shared.specs.Ties.{Sharing}
 use Rattle.zq_pass.specs.Entries.{Entry}
 
@@ -45,7 +45,7 @@ pub record Passes : Type 0 where
 
 -- what a name means before a caller picks it
 abbrev pub no_config : Settings
-no_config = record { zid = record { 0 = 0 }; entries = []; timeout = 0; start = record { faces = 0; requests = 0; replies = 0; told = 0; request_ids = 0 } }
+no_config = record { zid = record { 0 = 0 }; entries = []; timeout = 0; start = record { faces = 0; requests = 0; replies = 0; told = 0; request_ids = 0 }; best = usual_best }
 
 abbrev pub no_table : TableId
 no_table = record { words = 0; slots = 0; views_name = 0; atom = 0; block = 0; offset = 0; slot_names = [] }

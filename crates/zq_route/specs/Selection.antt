@@ -1,9 +1,14 @@
--- Which offers of a region a request is handed to.
-use Rattle.std.specs.Prelude.{ℕ, Bool, true, false, ◌||◌, ◌==◌, not, List, [], ◌∷◌, map, filter, find, fold, is_none, if◌then◌else◌}
+-- Which offers of the regions a request is handed to.
+use Rattle.std.specs.Prelude.{ℕ, Bool, true, false, ◌||◌, ◌==◌, not, List, [], ◌∷◌, map, filter, find, fold, is_none, Option, Some, None, if◌then◌else◌}
+use Rattle.std.specs.List.{flat_map}
 use Rattle.std.specs.Option.{option_map_or}
+use Rattle.std.specs.Ordering.{is_lt}
 use Rattle.zq_message.specs.declared.message.QueryTarget.{QueryTarget}
 use Rattle.zq_message.specs.declared.message.QueryTarget.TheVariants as target
 use Rattle.zq_strategy.specs.declared.offer.QueryTargetQabl.{QueryTargetQabl}
+use Rattle.zq_strategy.specs.OfferOrder.{offer_cmp}
+use Rattle.zq_route.specs.declared.selection.Best.{Best}
+use Rattle.zq_route.specs.declared.selection.Best.TheVariants as by
 use Rattle.zq_route.specs.Built.{with_first}
 
 -- the offer's information is complete; without information it is not
@@ -35,6 +40,30 @@ abbrev pub chosen : QueryTarget → List QueryTargetQabl → List QueryTargetQab
 chosen target.All offers = offers
 chosen target.AllComplete offers = filter may_be_complete offers
 chosen target.BestMatching offers = best offers
+
+-- the one of two offers that comes first by distance, key text and face number
+abbrev pub nearer : Option QueryTargetQabl → QueryTargetQabl → Option QueryTargetQabl
+nearer None offer = Some offer
+nearer (Some first) offer = Some (if is_lt (offer_cmp offer first) then offer else first)
+
+-- the one of offers that comes first by distance, key text and face number
+abbrev pub nearest : List QueryTargetQabl → Option QueryTargetQabl
+nearest offers = fold nearer None offers
+
+-- the nearest complete offer, or all where none is complete
+abbrev pub best_overall : List QueryTargetQabl → List QueryTargetQabl
+best_overall offers = option_map_or (λ o. o ∷ []) (nearest (filter is_complete offers)) offers
+
+-- the offers of all regions, one region after the other
+abbrev pub joined : List (List QueryTargetQabl) → List QueryTargetQabl
+joined parts = flat_map (λ part. part) parts
+
+-- what a target picks of the offers that pass, region by region: in each region for itself, but the best one of all regions together where the choice is overall
+abbrev pub picked : Best → QueryTarget → List (List QueryTargetQabl) → List QueryTargetQabl
+picked by.Overall target.BestMatching parts = best_overall (joined parts)
+picked by.Overall target.All parts = flat_map (chosen target.All) parts
+picked by.Overall target.AllComplete parts = flat_map (chosen target.AllComplete) parts
+picked by.ByRegion target parts = flat_map (chosen target) parts
 
 -- the offer beside its face
 abbrev pub by_face : QueryTargetQabl → ℕ × QueryTargetQabl

@@ -4,10 +4,12 @@
 pub mod builder;
 pub mod filter;
 pub mod gateways;
+pub mod overall;
 pub mod selection;
 mod taken;
 
 pub use builder::RouteBuilder;
 pub use filter::InterRegionFilter;
 pub use gateways::{GatewayEntry, GatewayEntryList, Gateways};
-pub use selection::compute_final_route;
+pub use overall::compute_best_overall;
+pub use selection::{Best, compute_final_route};

@@ -1,4 +1,4 @@
-//! Which offers of a region a request is handed to.
+//! Which offers of a region a request is handed to, and the choice of where the best one is looked for.
 ghost use Rattle.std.specs.Prelude.{◌≡◌, ◌<◌, ℕ, Bool, ◌&&◌, IfOk, IfSome, IfNone, None, OnOk, OnErr, find, filter, length, option_to_list, slice_get, take};
 ghost use Rattle.std.specs.Fn.{FnReturnsAt};
 ghost use Rattle.zq_route.specs.Built.{with_first};
@@ -10,6 +10,15 @@ use zq_key::items::Items;
 use zq_key::memory::OutOfMemory;
 use zq_key::message::QueryTarget;
 use zq_strategy::types::{OfferList, QueryTargetQabl};
+
+/// Among which offers `BestMatching` looks for the complete one that it keeps.
+#[derive(Clone, Copy, Debug, PartialEq, Eq)]
+pub enum Best {
+    /// Among those of each region for itself: it keeps one in each region that has one.
+    ByRegion,
+    /// Among those of all regions together: it keeps the nearest alone.
+    Overall,
+}
 
 fn is_complete(offer: &QueryTargetQabl) -> bool
     ensures { result ≡ is_complete offer.now }
@@ -38,7 +47,7 @@ fn is_kept(target: QueryTarget, offer: &QueryTargetQabl) -> bool
 }
 
 /// Adds the offer, unless its face is there.
-fn add_offer(
+pub(crate) fn add_offer(
     route: &mut RouteBuilder<QueryTargetQabl>,
     offer: QueryTargetQabl,
 ) -> Result<(), OutOfMemory>
@@ -84,7 +93,7 @@ fn add_if_kept<F: Fn(&QueryTargetQabl) -> bool>(
 }
 
 /// Adds the offers that pass and that the target keeps.
-fn add_kept<F: Fn(&QueryTargetQabl) -> bool>(
+pub(crate) fn add_kept<F: Fn(&QueryTargetQabl) -> bool>(
     target: QueryTarget,
     route: &mut RouteBuilder<QueryTargetQabl>,
     offers: OfferList,
@@ -106,7 +115,7 @@ fn add_kept<F: Fn(&QueryTargetQabl) -> bool>(
 }
 
 /// Whether the offer passes and is complete.
-fn is_best<F: Fn(&QueryTargetQabl) -> bool>(offer: &QueryTargetQabl, passes: &F) -> bool
+pub(crate) fn is_best<F: Fn(&QueryTargetQabl) -> bool>(offer: &QueryTargetQabl, passes: &F) -> bool
     ghost test: { QueryTargetQabl → Bool }
     requires callable { F.IsAlwaysCallable passes.now }
     requires answers { (offer : QueryTargetQabl) (answer : Bool) → FnReturnsAt F.Fn passes.now offer answer → answer ≡ test offer }
@@ -119,7 +128,7 @@ fn is_best<F: Fn(&QueryTargetQabl) -> bool>(offer: &QueryTargetQabl, passes: &F)
 }
 
 /// The place of the first complete offer that passes.
-fn first_complete<F: Fn(&QueryTargetQabl) -> bool>(
+pub(crate) fn first_complete<F: Fn(&QueryTargetQabl) -> bool>(
     offers: &[QueryTargetQabl],
     passes: &F,
 ) -> Option<usize>

@@ -4,13 +4,12 @@ use Rattle.std.proofs.lemmas.List.{append-nil}
 use Rattle.std.specs.Prelude.{◌&&◌, codes, nat_lt}
 use Rattle.std.specs.Str.{bytes_eq}
 use Rattle.zq_machine.specs.declared.call.Call.{Call}
-use Rattle.zq_machine.specs.declared.config.Counters.{Counters}
-use Rattle.zq_machine.specs.Configs.{bad_config, no_counts}
+use Rattle.zq_machine.specs.Configs.{bad_config}
 use Rattle.zq_machine.specs.declared.config.BadConfig.{BadConfig}
 use Rattle.zq_io.proofs.Back.{same_bytes}
 use Rattle.zq_lines.specs.Lines.{call_by, other_by}
-use Rattle.zq_script.specs.Bad.{bad_calls, bad_from, bad_line, bad_lines, first_number, is_config, stop_of, unless_call}
-use Rattle.zq_script.specs.Head.{Head, config_of, ended, head_of, start_at}
+use Rattle.zq_script.specs.Bad.{bad_calls, bad_line, bad_lines, first_number, is_config, stop_of, unless_call}
+use Rattle.zq_script.specs.Head.{Head, behind_config, config_of, head_of}
 use Rattle.zq_script.specs.Script.{Parts, made, new_part, onto, onto_parts, parts_from, script_call, script_of, with_line}
 use Rattle.zq_script.specs.Conversation.{Said}
 use Rattle.zq_script.specs.declared.bad.BadLine.{BadLine}
@@ -72,25 +71,17 @@ head_stops workers n lines all head e f g =
     calls_stop n (nat_lt 0 workers) workers lines
     ∙ rw (← f, ← g, e) (sym (stop_made head (parts_from head.2 (nat_lt 0 workers) workers head.3)))
 
-start_stops : (workers : ℕ) (line : List ℕ) (lines : List (List ℕ)) (c : Said) (o : Option (Counters × List ℕ × List (List ℕ))) → config_of line ≡ Some c → bad_config c.2 ≡ None → start_at lines ≡ o
-    → first_number (bad_from workers lines o) ≡ stop_of (script_of workers (line ∷ lines))
-start_stops workers line lines c None e f g =
-    head_stops workers 2 lines (line ∷ lines) (record { zid = c.0; entries = c.2; timeout = c.1; start = no_counts }, ended line, 2, lines) (rw (e, g, f) refl) refl refl
-start_stops workers line lines c (Some s) e f g =
-    head_stops workers 3 s.2 (line ∷ lines) (record { zid = c.0; entries = c.2; timeout = c.1; start = s.0 }, ended line ++ ended s.1, 3, s.2) (rw (e, g, f) refl) refl refl
-
-bad_head : (o : Option (Counters × List ℕ × List (List ℕ))) (line : List ℕ) (lines : List (List ℕ)) (c : Said) (b : BadConfig) → config_of line ≡ Some c → bad_config c.2 ≡ Some b → start_at lines ≡ o → head_of (line ∷ lines) ≡ Err 1
-bad_head None line lines c b e f g = rw (e, g, f) refl
-bad_head (Some s) line lines c b e f g = rw (e, g, f) refl
-
 entries_stop : (workers : ℕ) (line : List ℕ) (lines : List (List ℕ)) (c : Said) (o : Option BadConfig) → config_of line ≡ Some c → bad_config c.2 ≡ o
     → first_number (bad_lines workers (line ∷ lines)) ≡ stop_of (script_of workers (line ∷ lines))
 entries_stop workers line lines c None e f =
+    let b = behind_config line lines in
     let is : is_config line ≡ true = rw (e, f) refl in
-    rw is (start_stops workers line lines c (start_at lines) e f refl)
-entries_stop workers line lines c (Some b) e f =
+    let head : head_of (line ∷ lines) ≡ Ok (record { zid = c.0; entries = c.2; timeout = c.1; start = b.start; best = b.best }, b.text, b.number, b.lines) = rw (e, f) refl in
+    rw is (head_stops workers b.number b.lines (line ∷ lines) (record { zid = c.0; entries = c.2; timeout = c.1; start = b.start; best = b.best }, b.text, b.number, b.lines) head refl refl)
+entries_stop workers line lines c (Some x) e f =
     let is : is_config line ≡ false = rw (e, f) refl in
-    rw (is, bad_head (start_at lines) line lines c b e f refl) refl
+    let head : head_of (line ∷ lines) ≡ Err 1 = rw (e, f) refl in
+    rw (is, head) refl
 
 config_stops : (workers : ℕ) (line : List ℕ) (lines : List (List ℕ)) (o : Option Said) → config_of line ≡ o → first_number (bad_lines workers (line ∷ lines)) ≡ stop_of (script_of workers (line ∷ lines))
 config_stops workers line lines None e =

@@ -1,5 +1,5 @@
 -- The calls of a script fit their lines.
-use Rattle.std.proofs.Common.{◌≡◌, ℕ, ◌+◌, ◌-◌, ◌<◌, List, [], ◌∷◌, Option, Some, None, Result, Ok, Err, Bool, true, false, cond, refl, subst}
+use Rattle.std.proofs.Common.{◌≡◌, ℕ, ◌+◌, ◌-◌, ◌<◌, List, [], ◌∷◌, ◌++◌, Option, Some, None, Result, Ok, Err, Bool, true, false, cond, refl, subst}
 use Rattle.std.proofs.lemmas.List.Elements.{All-head, All-tail, All-nil, All-cons}
 use Rattle.std.specs.Prelude.{◌==◌, ◌&&◌, nat_lt, codes, IfOk}
 use Rattle.std.specs.Str.{bytes_eq}
@@ -12,7 +12,8 @@ use Rattle.zq_machine.specs.Calls.{is_sent}
 use Rattle.zq_machine.specs.Configs.{Settings, no_counts}
 use Rattle.zq_io.specs.Fits.{IsBytes}
 use Rattle.zq_lines.specs.Fits.{FitsCall}
-use Rattle.zq_script.specs.Head.{Head, start_of, config_of, start_at, ended, configured, headed, with_start, with_config, head_of}
+use Rattle.zq_route.specs.declared.selection.Best.{Best}
+use Rattle.zq_script.specs.Head.{Behind, Head, behind_config, best_at, best_of, start_of, config_of, start_at, ended, configured, headed, with_best, with_start, with_config, head_of}
 use Rattle.zq_lines.specs.Split.{lines_of}
 use Rattle.zq_script.specs.Script.{Parts, onto, new_part, with_line, script_call, parts_from, onto_parts, made, with_parts, script_of, Gives, Holds}
 use Rattle.zq_script.specs.declared.refusal.ScriptRefusal.{ScriptRefusal}
@@ -72,21 +73,33 @@ abbrev RestFits : Result Head ℕ → Type 0
 RestFits (Ok head) = AllByRecursion IsBytes head.3
 RestFits (Err n) = Unit {0}
 
-headed_fits : (text : List ℕ) (n : ℕ) (lines : List (List ℕ)) (r : Result Settings ℕ) → AllByRecursion IsBytes lines → RestFits (headed text n lines r)
-headed_fits text n lines (Ok config) a = a
-headed_fits text n lines (Err m) a = tt
+headed_fits : (b : Behind) (r : Result Settings ℕ) → AllByRecursion IsBytes b.lines → RestFits (headed b r)
+headed_fits b (Ok config) a = a
+headed_fits b (Err m) a = tt
 
 start_given : (lines : List (List ℕ)) → AllByRecursion IsBytes lines → Given (λ (s : Counters × List ℕ × List (List ℕ)). AllByRecursion IsBytes s.2) (start_at lines)
 start_given [] a = no_one
 start_given (line ∷ lines) a = bind (any_given (start_of line)) (λ start u. one {P = λ (s : Counters × List ℕ × List (List ℕ)). AllByRecursion IsBytes s.2} a.1)
 
-start_fits : (line : List ℕ) (lines : List (List ℕ)) (c : Zid × ℕ × List Entry) (o : Option (Counters × List ℕ × List (List ℕ))) → AllByRecursion IsBytes lines → Given (λ (s : Counters × List ℕ × List (List ℕ)). AllByRecursion IsBytes s.2) o → RestFits (with_start line lines c o)
-start_fits line lines c None a g = headed_fits (ended line) 2 lines (configured c no_counts) a
-start_fits line lines c (Some s) a g = headed_fits _ 3 s.2 (configured c s.0) (g.at s refl)
+best_given : (lines : List (List ℕ)) → AllByRecursion IsBytes lines → Given (λ (b : Best × List ℕ × List (List ℕ)). AllByRecursion IsBytes b.2) (best_at lines)
+best_given [] a = no_one
+best_given (line ∷ lines) a = bind (any_given (best_of line)) (λ choice u. one {P = λ (b : Best × List ℕ × List (List ℕ)). AllByRecursion IsBytes b.2} a.1)
+
+best_fits : (start : Counters) (text : List ℕ) (n : ℕ) (lines : List (List ℕ)) (o : Option (Best × List ℕ × List (List ℕ))) → AllByRecursion IsBytes lines → Given (λ (b : Best × List ℕ × List (List ℕ)). AllByRecursion IsBytes b.2) o
+    → AllByRecursion IsBytes (with_best start text n lines o).lines
+best_fits start text n lines None a g = a
+best_fits start text n lines (Some b) a g = g.at b refl
+
+start_fits : (text : List ℕ) (lines : List (List ℕ)) (o : Option (Counters × List ℕ × List (List ℕ))) → AllByRecursion IsBytes lines → Given (λ (s : Counters × List ℕ × List (List ℕ)). AllByRecursion IsBytes s.2) o
+    → AllByRecursion IsBytes (with_start text lines o).lines
+start_fits text lines None a g = best_fits no_counts text 2 lines (best_at lines) a (best_given lines a)
+start_fits text lines (Some s) a g = best_fits s.0 (text ++ ended s.1) 3 s.2 (best_at s.2) (g.at s refl) (best_given s.2 (g.at s refl))
 
 config_fits : (line : List ℕ) (lines : List (List ℕ)) (o : Option (Zid × ℕ × List Entry)) → AllByRecursion IsBytes lines → RestFits (with_config line lines o)
 config_fits line lines None a = tt
-config_fits line lines (Some c) a = start_fits line lines c (start_at lines) a (start_given lines a)
+config_fits line lines (Some c) a =
+    let b = behind_config line lines in
+    headed_fits b (configured c b.start b.best) (start_fits (ended line) lines (start_at lines) a (start_given lines a))
 
 head_fits : (lines : List (List ℕ)) → AllByRecursion IsBytes lines → RestFits (head_of lines)
 head_fits [] a = tt

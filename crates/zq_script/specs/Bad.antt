@@ -5,10 +5,10 @@ use Rattle.std.specs.List.{flat_map}
 use Rattle.std.specs.Str.{bytes_eq}
 use Rattle.zq_machine.specs.declared.call.Call.{Call}
 use Rattle.zq_machine.specs.declared.config.Counters.{Counters}
-use Rattle.zq_machine.specs.Configs.{Settings, no_counts}
+use Rattle.zq_machine.specs.Configs.{Settings, no_counts, usual_best}
 use Rattle.zq_io.specs.Words.{◌>>=◌}
 use Rattle.zq_lines.specs.Why.{reason}
-use Rattle.zq_script.specs.Head.{config_of, configured, start_at}
+use Rattle.zq_script.specs.Head.{Behind, behind_config, config_of, configured}
 use Rattle.zq_lines.specs.Split.{lines_of}
 use Rattle.zq_script.specs.Script.{script_call, script_of}
 use Rattle.zq_script.specs.declared.bad.BadLine.{BadLine}
@@ -44,14 +44,13 @@ bad_calls n shared workers (line ∷ lines) =
     if bytes_eq line (codes "worker") && nat_lt 0 workers then bad_calls (n + 1) shared (workers - 1) lines
     else unless_call n line (script_call shared line) (bad_calls (n + 1) shared workers lines)
 
--- the bad ones behind the first line, by whether a line `start` stands second: behind it calls are to stand
-abbrev pub bad_from : ℕ → List (List ℕ) → Option (Counters × List ℕ × List (List ℕ)) → List BadLine
-bad_from workers lines None = bad_calls 2 (nat_lt 0 workers) workers lines
-bad_from workers lines (Some s) = bad_calls 3 (nat_lt 0 workers) workers s.2
+-- the bad ones of the lines behind the head: there calls are to stand
+abbrev pub bad_from : ℕ → Behind → List BadLine
+bad_from workers b = bad_calls b.number (nat_lt 0 workers) workers b.lines
 
 -- the bad ones of the lines behind the first
-abbrev pub bad_behind : ℕ → List (List ℕ) → List BadLine
-bad_behind workers lines = bad_from workers lines (start_at lines)
+abbrev pub bad_behind : ℕ → List ℕ → List (List ℕ) → List BadLine
+bad_behind workers line lines = bad_from workers (behind_config line lines)
 
 -- a line `config` with these entries says settings
 abbrev pub is_configured : Option (Result Settings ℕ) → Bool
@@ -61,7 +60,7 @@ is_configured (Some (Err n)) = false
 
 -- the line is a line `config`, and nothing is wrong with its entries
 abbrev pub is_config : List ℕ → Bool
-is_config line = is_configured (config_of line >>= (λ c. Some (configured c no_counts)))
+is_config line = is_configured (config_of line >>= (λ c. Some (configured c no_counts usual_best)))
 
 -- a first line that says no settings is bad
 abbrev pub unless_config : List ℕ → List BadLine
@@ -70,7 +69,7 @@ unless_config line = if is_config line then [] else bad_line 1 line ∷ []
 -- all bad lines of a script, in order, with so many lines `worker` at most
 abbrev pub bad_lines : ℕ → List (List ℕ) → List BadLine
 bad_lines workers [] = lacking ∷ []
-bad_lines workers (line ∷ lines) = unless_config line ++ bad_behind workers lines
+bad_lines workers (line ∷ lines) = unless_config line ++ bad_behind workers line lines
 
 -- the number of the first of these lines, if there is one
 abbrev pub first_number : List BadLine → Option ℕ

@@ -13,7 +13,7 @@ use Rattle.zq_machine.specs.declared.call.Call.TheVariants as call
 use Rattle.zq_machine.specs.Handing.{Handed}
 use Rattle.zq_machine.specs.declared.call.Step.{Step}
 use Rattle.zq_machine.specs.declared.config.Entry.TheVariants as entry
-use Rattle.zq_machine.specs.Configs.{Settings, no_counts}
+use Rattle.zq_machine.specs.Configs.{Settings, no_counts, usual_best}
 use Rattle.zq_script.specs.declared.load.Kind.{Kind}
 use Rattle.zq_script.specs.declared.load.Kind.TheVariants as kind
 use Rattle.zq_machine.specs.Headline.{asks, is_final, replies_to}
@@ -22,7 +22,7 @@ use Rattle.zq_script.specs.declared.load.Counts.{Counts}
 
 -- `config 1 10000 north:client local`
 abbrev pub load_config : Settings
-load_config = record { zid = record { 0 = 1 }; entries = entry.North mode.Client ∷ entry.Local ∷ []; timeout = 10000; start = no_counts }
+load_config = record { zid = record { 0 = 1 }; entries = entry.North mode.Client ∷ entry.Local ∷ []; timeout = 10000; start = no_counts; best = usual_best }
 
 -- the key on which a face declares
 abbrev pub declared_key : ℕ → List ℕ

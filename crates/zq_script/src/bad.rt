@@ -1,10 +1,12 @@
 //! The bad lines of a script, and why they are bad.
-ghost use Rattle.std.specs.Prelude.{◌≡◌, ◌<◌, ◌+◌, ◌^◌, ◌++◌, ◌∷◌, [], IfOk, OnOk, is_some, length, nat_lt};
+ghost use Rattle.std.specs.Prelude.{ℕ, List, ◌≡◌, ◌<◌, ◌≤◌, ◌+◌, ◌^◌, ◌++◌, ◌∷◌, [], IfOk, OnOk, is_some, length, nat_lt};
 ghost use Rattle.zq_lines.specs.Split.{lines_of};
-ghost use Rattle.zq_script.specs.Bad.{bad_behind, bad_calls, bad_line, bad_line_at, bad_line_words, bad_lines, bad_lines_words, first_number, is_config, lacking, line_at, stop_of, unless_call, unless_config};
+ghost use Rattle.zq_script.specs.Bad.{bad_behind, bad_calls, bad_from, bad_line, bad_line_at, bad_line_words, bad_lines, bad_lines_words, first_number, is_config, lacking, line_at, stop_of, unless_call, unless_config};
+ghost use Rattle.zq_machine.specs.declared.config.Counters.{Counters};
+ghost use Rattle.zq_script.specs.Head.{best_at, with_best};
 ghost use Rattle.zq_script.specs.Script.{script_call, script_of};
 
-use crate::head::{NO_COUNTS, config_of, configured, start_at};
+use crate::head::{NO_COUNTS, USUAL_BEST, best_at, config_of, configured, start_at};
 use crate::refusal::ScriptRefusal;
 use crate::script::script_call;
 use std::alloc::{AllocError, Global};
@@ -93,12 +95,12 @@ fn is_call(alloc: Global, shared: bool, line: &[u8]) -> Result<bool, OutOfMemory
 fn is_config(alloc: Global, line: &[u8]) -> Result<bool, OutOfMemory>
     ensures { IfOk result (λ b. b ≡ is_config line.now) }
 {
-    let (zid, timeout, entries) = match config_of(alloc, line) {
+    let said = match config_of(alloc, line) {
         Ok(said) => said,
         Err(Stop::Bad) => return Ok(false),
         Err(Stop::OutOfMemory) => return Err(OutOfMemory),
     };
-    match configured(alloc, zid, timeout, entries.as_slice(), NO_COUNTS) {
+    match configured(alloc, &said, NO_COUNTS, USUAL_BEST) {
         Ok(_) => Ok(true),
         Err(ScriptRefusal::BadLine(_)) => Ok(false),
         Err(ScriptRefusal::OutOfMemory) => Err(OutOfMemory),
@@ -150,6 +152,23 @@ fn push_bad_calls(
     Ok(())
 }
 
+/// Appends the bad ones of the lines from a number on, where a line `best` may stand and then calls.
+fn push_bad_from(
+    alloc: Global,
+    found: &mut Vec<BadLine>,
+    number: u64,
+    workers: u8,
+    bytes: &[u8],
+) -> Result<(), OutOfMemory>
+    requires { number ≤ 3 }
+    ensures { (start : Counters) (text : List ℕ) → OnOk result (found.new.items ≡ found.old.items ++ bad_from workers (with_best start text number (lines_of bytes.now) (best_at (lines_of bytes.now)))) }
+{
+    match best_at(bytes) {
+        Some((_, _, rest)) => push_bad_calls(alloc, found, number + 1, workers, rest),
+        None => push_bad_calls(alloc, found, number, workers, bytes),
+    }
+}
+
 /// Appends the bad lines behind the first.
 fn push_bad_behind(
     alloc: Global,
@@ -157,11 +176,11 @@ fn push_bad_behind(
     workers: u8,
     bytes: &[u8],
 ) -> Result<(), OutOfMemory>
-    ensures { OnOk result (found.new.items ≡ found.old.items ++ bad_behind workers (lines_of bytes.now)) }
+    ensures { (line : List ℕ) → OnOk result (found.new.items ≡ found.old.items ++ bad_behind workers line (lines_of bytes.now)) }
 {
     match start_at(alloc, bytes) {
-        Ok((_, _, rest)) => push_bad_calls(alloc, found, 3, workers, rest),
-        Err(Stop::Bad) => push_bad_calls(alloc, found, 2, workers, bytes),
+        Ok((_, _, rest)) => push_bad_from(alloc, found, 3, workers, rest),
+        Err(Stop::Bad) => push_bad_from(alloc, found, 2, workers, bytes),
         Err(Stop::OutOfMemory) => Err(OutOfMemory),
     }
 }

@@ -4,28 +4,34 @@ ghost use Rattle.zq_io.specs.declared.stop.Stop.TheVariants as stop;
 ghost use Rattle.zq_machine.specs.State.{opening_state};
 ghost use Rattle.zq_script.specs.Head.{configured};
 
-use crate::head::{NO_COUNTS, config_of, configured, start_of};
+use crate::head::{NO_COUNTS, Said, USUAL_BEST, best_of, config_of, configured, start_of};
 use crate::refusal::ScriptRefusal;
 use crate::script::script_call;
 use std::alloc::Global;
 use std::marker::Model;
 use zq_gateway::gateway::Gateway;
 use zq_io::stop::Stop;
-use zq_key::message::Zid;
 use zq_machine::call::Step;
-use zq_machine::config::{Counters, EntryList};
+use zq_machine::config::Counters;
+use zq_route::selection::Best;
 
 /// A gateway that is spoken to by lines.
 pub struct Conversation {
     // The gateway, once a line `config` was taken.
     gateway: Option<Gateway>,
-    // What that line said, while a line `start` may follow it.
-    said: Option<(Zid, u64, EntryList)>,
+    // What that line said, while further lines of the head may follow it.
+    said: Option<Said>,
+    // What a line `start` said behind it.
+    start: Option<Counters>,
 }
 
 impl Drop for Conversation {
     fn drop(self) {
-        let Conversation { gateway, said } = self;
+        let Conversation {
+            gateway,
+            said,
+            start,
+        } = self;
     }
 }
 
@@ -34,16 +40,15 @@ impl Model for Conversation {
 
     ghost Value = { Spoken };
 
-    ghost view = { λ s. record { state = s.gateway; said = s.said } };
+    ghost view = { λ s. record { state = s.gateway; said = s.said; start = s.start } };
 }
 
-/// A gateway of what a line `config` said, with these counters.
-fn opened(alloc: Global, said: &(Zid, u64, EntryList), counters: Counters) -> Result<Gateway, Stop>
-    ensures gateway { IfOk result (λ g. (c : _) × (configured said.now counters ≡ Ok c) × (g ≡ opening_state c)) }
-    ensures bad { result ≡ Err stop.Bad → (n : _) × (configured said.now counters ≡ Err n) }
+/// A gateway of what a line `config` said, with these counters and this choice.
+fn opened(alloc: Global, said: &Said, counters: Counters, best: Best) -> Result<Gateway, Stop>
+    ensures gateway { IfOk result (λ g. (c : _) × (configured said.now counters best ≡ Ok c) × (g ≡ opening_state c)) }
+    ensures bad { result ≡ Err stop.Bad → (n : _) × (configured said.now counters best ≡ Err n) }
 {
-    let (zid, timeout, entries) = said;
-    match configured(alloc, *zid, *timeout, entries.as_slice(), counters) {
+    match configured(alloc, said, counters, best) {
         Ok(config) => Ok(Gateway::new(alloc, &config)?),
         Err(ScriptRefusal::BadLine(_)) => Err(Stop::Bad),
         Err(ScriptRefusal::OutOfMemory) => Err(Stop::OutOfMemory),
@@ -51,7 +56,7 @@ fn opened(alloc: Global, said: &(Zid, u64, EntryList), counters: Counters) -> Re
 }
 
 impl Conversation {
-    ghost use Rattle.zq_script.specs.Conversation.{fresh, place, taken, take_call, take_config, take_start};
+    ghost use Rattle.zq_script.specs.Conversation.{fresh, place, taken, take_best, take_call, take_config, take_head, take_start};
     ghost use Rattle.zq_script.specs.Script.{script_call};
 
     /// Before any line. Takes no memory.
@@ -61,17 +66,20 @@ impl Conversation {
         Conversation {
             gateway: None,
             said: None,
+            start: None,
         }
     }
 
-    /// Which line of a script may come next: 1, `config`; 2, `start` or a call; 3, a call.
+    /// Which line of a script may come next: 1, `config`; 2, `start`, `best` or a call; 3, `best` or
+    /// a call; 4, a call.
     pub fn place(&self) -> u64
         ensures { result ≡ place self.now }
     {
-        match (&self.gateway, &self.said) {
-            (None, _) => 1,
-            (Some(_), Some(_)) => 2,
-            (Some(_), None) => 3,
+        match (&self.gateway, &self.said, &self.start) {
+            (None, _, _) => 1,
+            (Some(_), Some(_), None) => 2,
+            (Some(_), Some(_), Some(_)) => 3,
+            (Some(_), None, _) => 4,
         }
     }
 
@@ -82,30 +90,70 @@ impl Conversation {
         ensures kept { OnErr result (self.new ≡ self.old) }
     {
         let said = config_of(alloc, line)?;
-        self.gateway = Some(opened(alloc, &said, NO_COUNTS)?);
+        self.gateway = Some(opened(alloc, &said, NO_COUNTS, USUAL_BEST)?);
         self.said = Some(said);
+        self.start = None;
         Ok(())
     }
 
     /// Takes a line `start`, where it may stand; false where it is none.
     fn restart(&mut self, alloc: Global, line: &[u8]) -> Result<bool, Stop>
-        ensures ok { result ≡ Ok true → take_start self.old.said line.now ≡ Some (Some (None, self.new)) }
-        ensures none { result ≡ Ok false → take_start self.old.said line.now ≡ None }
-        ensures bad { result ≡ Err stop.Bad → take_start self.old.said line.now ≡ Some None }
+        ensures ok { result ≡ Ok true → take_start self.old.said self.old.start line.now ≡ Some (Some (None, self.new)) }
+        ensures none { result ≡ Ok false → take_start self.old.said self.old.start line.now ≡ None }
+        ensures bad { result ≡ Err stop.Bad → take_start self.old.said self.old.start line.now ≡ Some None }
         ensures unchanged { result ≡ Ok false → self.new ≡ self.old }
         ensures kept { OnErr result (self.new ≡ self.old) }
     {
         let Some(said) = &self.said else {
             return Ok(false);
         };
+        match self.start {
+            Some(_) => return Ok(false),
+            None => {}
+        }
         let counters = match start_of(alloc, line) {
             Ok(counters) => counters,
             Err(Stop::Bad) => return Ok(false),
             Err(Stop::OutOfMemory) => return Err(Stop::OutOfMemory),
         };
-        self.gateway = Some(opened(alloc, said, counters)?);
-        self.said = None;
+        self.gateway = Some(opened(alloc, said, counters, USUAL_BEST)?);
+        self.start = Some(counters);
         Ok(true)
+    }
+
+    /// Takes a line `best`, where it may stand; false where it is none.
+    fn choose(&mut self, alloc: Global, line: &[u8]) -> Result<bool, Stop>
+        ensures ok { result ≡ Ok true → take_best self.old.said self.old.start line.now ≡ Some (Some (None, self.new)) }
+        ensures none { result ≡ Ok false → take_best self.old.said self.old.start line.now ≡ None }
+        ensures bad { result ≡ Err stop.Bad → take_best self.old.said self.old.start line.now ≡ Some None }
+        ensures unchanged { result ≡ Ok false → self.new ≡ self.old }
+        ensures kept { OnErr result (self.new ≡ self.old) }
+    {
+        let Some(said) = &self.said else {
+            return Ok(false);
+        };
+        let Some(best) = best_of(line) else {
+            return Ok(false);
+        };
+        let counters = self.start.unwrap_or(NO_COUNTS);
+        self.gateway = Some(opened(alloc, said, counters, best)?);
+        self.said = None;
+        self.start = None;
+        Ok(true)
+    }
+
+    /// Takes a further line of the head, where it may stand; false where it is none.
+    fn tune(&mut self, alloc: Global, line: &[u8]) -> Result<bool, Stop>
+        ensures ok { result ≡ Ok true → take_head self.old line.now ≡ Some (Some (None, self.new)) }
+        ensures none { result ≡ Ok false → take_head self.old line.now ≡ None }
+        ensures bad { result ≡ Err stop.Bad → take_head self.old line.now ≡ Some None }
+        ensures unchanged { result ≡ Ok false → self.new ≡ self.old }
+        ensures kept { OnErr result (self.new ≡ self.old) }
+    {
+        if self.restart(alloc, line)? {
+            return Ok(true);
+        }
+        self.choose(alloc, line)
     }
 
     /// Makes the call of a line.
@@ -120,6 +168,7 @@ impl Conversation {
         };
         let step = gateway.call(&call)?;
         self.said = None;
+        self.start = None;
         Ok(step)
     }
 
@@ -134,7 +183,7 @@ impl Conversation {
             self.begin(alloc, line)?;
             return Ok(None);
         }
-        if self.restart(alloc, line)? {
+        if self.tune(alloc, line)? {
             return Ok(None);
         }
         Ok(Some(self.call(alloc, line)?))

@@ -7,6 +7,7 @@ ghost use Rattle.zq_machine.specs.Machine.{after, step, steps};
 ghost use Rattle.zq_machine.specs.State.{opening_state};
 ghost use Rattle.zq_script.specs.Load.{IsBelow, ask_call, asked_key, count, declare_call, declared_key, handed_over, load_call, load_calls, load_config, load_line, open_call, plus, query_call, reply_call, kind_test};
 
+use crate::head::USUAL_BEST;
 use std::alloc::Global;
 use zq_egress::write::whole;
 use zq_gateway::gateway::Gateway;
@@ -94,7 +95,14 @@ fn load_config(alloc: Global) -> Result<Config, OutOfMemory>
     ensures { IfOk result (λ c. c ≡ load_config) }
 {
     let entries = [Entry::North(Mode::Client), Entry::Local];
-    match Config::new(alloc, Zid(1), &entries, 10_000, Counters::default()) {
+    match Config::new(
+        alloc,
+        Zid(1),
+        &entries,
+        10_000,
+        Counters::default(),
+        USUAL_BEST,
+    ) {
         Ok(config) => Ok(config),
         Err(ConfigRefusal::OutOfMemory) => Err(OutOfMemory),
         Err(ConfigRefusal::BadConfig(_)) => unreachable!(),

@@ -3,9 +3,10 @@ use std::alloc::Global;
 use zq_gateway::gateway::Gateway;
 use zq_key::message::{Mode, Region, Zid};
 use zq_machine::config::{BadConfig, Config, ConfigRefusal, Counters, Entry};
+use zq_route::selection::Best;
 
 fn refusal(alloc: Global, entries: &[Entry]) -> Option<BadConfig> {
-    match Config::new(alloc, Zid(1), entries, 10_000, FIRST).err() {
+    match Config::new(alloc, Zid(1), entries, 10_000, FIRST, Best::ByRegion).err() {
         Some(ConfigRefusal::BadConfig(found)) => Some(found),
         _ => None,
     }

@@ -7,6 +7,7 @@ use zq_key::memory::OutOfMemory;
 use zq_key::message::{Bound, Mode, Region, Zid};
 use zq_machine::call::{Opening, Outcome, Step};
 use zq_machine::config::{Config, ConfigRefusal, Counters, Entry};
+use zq_route::selection::Best;
 
 /// Counters that begin at 0.
 pub const FIRST: Counters = Counters {
@@ -20,7 +21,14 @@ pub const FIRST: Counters = Counters {
 /// The gateway 1 with an upstream and a region of applications.
 pub(crate) fn config(alloc: Global) -> Result<Config, ConfigRefusal> {
     let entries = [Entry::North(Mode::Client), Entry::Local];
-    Config::new(alloc, Zid(1), entries.as_slice(), 10_000, FIRST)
+    Config::new(
+        alloc,
+        Zid(1),
+        entries.as_slice(),
+        10_000,
+        FIRST,
+        Best::ByRegion,
+    )
 }
 
 /// What is done with a gateway, and what is found of it.

@@ -53,6 +53,11 @@ fn bad_lines_have_a_reason(rt: HostRuntime) -> Result<(), Fail> {
             "`sent` stands in no script for `share`: the gateway itself reports what was sent",
         ),
         ("start 1 2 3", "`start` has 6 words, this has 4"),
+        ("best all", "`all` is neither `region` nor `overall`"),
+        (
+            "best overall",
+            "`best` stands once, directly behind `start`, or behind `config` where no `start` stands",
+        ),
     ] {
         let said = why(rt.alloc(), 2, line.as_bytes())?;
         assert_eq!(rt; said.as_slice(), sentence.as_bytes());

@@ -8,6 +8,7 @@ use zq_message::RegionMap;
 use zq_route::builder::RouteBuilder;
 use zq_route::filter::InterRegionFilter;
 use zq_route::gateways::{GatewayEntry, GatewayEntryList, Gateways};
+use zq_route::overall::compute_best_overall;
 use zq_route::selection::compute_final_route;
 use zq_strategy::types::{OfferList, QueryTargetQabl};
 
@@ -95,6 +96,47 @@ fn picks_by_target(rt: HostRuntime) {
         (QueryTarget::BestMatching, [4].as_slice()),
     ] {
         assert!(rt; picks(rt.alloc(), target, want) == (Ok(()), true));
+    }
+}
+
+/// One offer of each of two regions, that of the first farther away, and both complete or not.
+fn put_regions(
+    offers: &mut RegionMap<OfferList>,
+    alloc: Global,
+    complete: bool,
+) -> Result<(), OutOfMemory> {
+    for (region, face, distance) in [(Region::Local, 2, 1), (CLIENTS, 3, 0)] {
+        let mut part = Items::new(alloc);
+        part.push(QueryTargetQabl {
+            face: FaceId(face),
+            info: Some(information(complete, distance)),
+            key: Text::new(alloc, "k")?,
+            region,
+            node: 0,
+        })?;
+        offers.insert(region, part)?;
+    }
+    Ok(())
+}
+
+/// The route takes what is kept of these offers of all regions.
+fn pick_overall(
+    route: &mut RouteBuilder<QueryTargetQabl>,
+    offers: &mut RegionMap<OfferList>,
+    alloc: Global,
+    complete: bool,
+) -> Result<(), OutOfMemory> {
+    put_regions(offers, alloc, complete)?;
+    compute_best_overall(alloc, route, offers, |o| o.face.0 != 9)
+}
+
+#[test]
+fn picks_of_all_regions(rt: HostRuntime) {
+    for (complete, want) in [(true, [3].as_slice()), (false, [2, 3].as_slice())] {
+        let mut offers = RegionMap::new(rt.alloc());
+        let mut route = RouteBuilder::new(rt.alloc());
+        let picked = pick_overall(&mut route, &mut offers, rt.alloc(), complete);
+        assert!(rt; (picked, are_of(&route.build(), want)) == (Ok(()), true));
     }
 }
 

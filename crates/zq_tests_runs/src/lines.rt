@@ -18,7 +18,7 @@ const ANSWERS: &str = "bad line 1: the first line is `config`, an id, a timeout 
     bad line 3: blank lines are no part of the format\n\
     bad line 5: `opn` is no call; is `open` meant?\n\
     = opened 5\n\
-    bad line 7: `start` is no call\n\
+    bad line 7: `start` stands directly behind `config`, and nowhere else\n\
     bad line 8: the line ends with a space\n\
     = done\n";
 

@@ -3,7 +3,7 @@ use crate::given::{NONE, ends_as};
 use zq_script::running::Status;
 
 /// What a script tells of, its lines, its print, and how its run ends.
-const ROWS: [(&str, &str, &str, Status); 32] = [
+const ROWS: [(&str, &str, &str, Status); 35] = [
     (
         "one query",
         "config 1 10000 north:client local\n\
@@ -666,6 +666,66 @@ const ROWS: [(&str, &str, &str, Status); 32] = [
          = asked 2\n\
          > 1 2 - final 3 0\n",
         Status::Done,
+    ),
+    (
+        "the best of each region",
+        "config 1 10000 north:client local south:0:client\n\
+         open local 10 client north -\n\
+         open south:0:client 20 client north -\n\
+         open local 12 client north -\n\
+         queryable 0 1 0:s:k p 0 0\n\
+         queryable 1 1 0:s:k c 0 0\n\
+         ask 2 1 0:s:k best - 0 0 - 0\n\
+         queryable 1 1 0:s:k p 0 0\n\
+         ask 2 2 0:s:k best - 0 0 - 0\n",
+        "= opened 0\n\
+         = opened 1\n\
+         = opened 2\n\
+         = done\n\
+         = done\n\
+         = asked 0\n\
+         > 0 0 - request 1 0:s:k best - 0 0 -\n\
+         > 1 0 - request 1 0:s:k best - 0 0 -\n\
+         = done\n\
+         = asked 1\n\
+         > 0 1 - request 2 0:s:k best - 0 0 -\n\
+         > 1 1 - request 2 0:s:k best - 0 0 -\n",
+        Status::Done,
+    ),
+    (
+        "the best of all regions together",
+        "config 1 10000 north:client local south:0:client\n\
+         best overall\n\
+         open local 10 client north -\n\
+         open south:0:client 20 client north -\n\
+         open local 12 client north -\n\
+         queryable 0 1 0:s:k p 0 0\n\
+         queryable 1 1 0:s:k c 0 0\n\
+         ask 2 1 0:s:k best - 0 0 - 0\n\
+         queryable 1 1 0:s:k p 0 0\n\
+         ask 2 2 0:s:k best - 0 0 - 0\n",
+        "= opened 0\n\
+         = opened 1\n\
+         = opened 2\n\
+         = done\n\
+         = done\n\
+         = asked 0\n\
+         > 1 0 - request 1 0:s:k best - 0 0 -\n\
+         = done\n\
+         = asked 1\n\
+         > 0 1 - request 1 0:s:k best - 0 0 -\n\
+         > 1 1 - request 2 0:s:k best - 0 0 -\n",
+        Status::Done,
+    ),
+    (
+        "a choice that is said twice",
+        "config 1 10000 north:client local\n\
+         start 5 0 0 0 0\n\
+         best region\n\
+         best overall\n\
+         open local 10 client north -\n",
+        "bad line 4\n",
+        Status::Script,
     ),
 ];
 
