@@ -3,7 +3,7 @@
 use crate::reasons::MissedList;
 use zq_key::items::Items;
 use zq_key::message::FaceId;
-use zq_key::text::Bytes;
+use zq_key::text::{Bytes, Text};
 use zq_machine::call::{Call, Step};
 
 /// Faces, in order.
@@ -18,6 +18,8 @@ pub struct Entry {
     pub text: Bytes,
     /// The call.
     pub call: Call,
+    /// The key that its expression says, where it has one that says a key.
+    pub key: Option<Text>,
     /// What it gave.
     pub step: Step,
     /// What was declared on keys that meet its own and was not asked, if it is a request.

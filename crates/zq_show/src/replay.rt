@@ -3,7 +3,7 @@ ghost use Rattle.std.specs.Prelude.{◌≡◌, ◌<◌, ◌+◌, ◌^◌, [], If
 ghost use Rattle.std.specs.Option.{option_map};
 ghost use Rattle.zq_lines.specs.Split.{lines_of};
 ghost use Rattle.zq_script.specs.Script.{script_call, script_of};
-ghost use Rattle.zq_show.specs.Replay.{asking, bad_from, bad_line, begun, entries_from, entry_of, first_line, given, missed_of, next, run_of, seen_next, Adds, Shows};
+ghost use Rattle.zq_show.specs.Replay.{asking, bad_from, bad_line, begun, entries_from, entry_of, first_line, given, key_of, missed_of, next, run_of, seen_next, written, Adds, Shows};
 ghost use Rattle.zq_show.specs.Seen.{no_faces};
 
 use crate::entry::{Entry, EntryList};
@@ -16,8 +16,8 @@ use std::alloc::Global;
 use zq_io::stop::Stop;
 use zq_key::items::Items;
 use zq_key::memory::OutOfMemory;
-use zq_key::message::{FaceId, Request};
-use zq_key::text::Bytes;
+use zq_key::message::{FaceId, Request, WireExpr};
+use zq_key::text::{Bytes, Text};
 use zq_lines::split::next_line;
 use zq_lines::why::why;
 use zq_machine::call::{Call, Step};
@@ -33,6 +33,37 @@ fn asking(call: &Call) -> Option<(FaceId, &Request)>
     match call {
         Call::Request { face, request, .. } => Some((*face, request)),
         _ => None,
+    }
+}
+
+/// The expression of a call that has one, and the face that writes it.
+fn written(call: &Call) -> Option<(FaceId, &WireExpr)>
+    ensures { option_map (λ t. (t.0, t.1.now)) result ≡ written call.now }
+{
+    match call {
+        Call::DeclareKeyExpr { face, wire, .. } | Call::DeclareQueryable { face, wire, .. } => {
+            Some((*face, wire))
+        }
+        Call::UndeclareQueryable { face, wire, .. } | Call::Interest { face, wire, .. } => {
+            match wire {
+                Some(wire) => Some((*face, wire)),
+                None => None,
+            }
+        }
+        Call::Request { face, request, .. } => Some((*face, &request.wire)),
+        Call::Response { face, response } => Some((*face, &response.wire)),
+        _ => None,
+    }
+}
+
+/// The key that a call's expression says, where it has one that says a key.
+#[tactic(auto, unfolding(crate::specs::Replay::key_of))]
+fn key_of(seen: &Seen, call: &Call) -> Result<Option<Text>, OutOfMemory>
+    ensures { IfOk result (λ k. k ≡ key_of seen.now call.now) }
+{
+    match written(call) {
+        Some((face, wire)) => seen.key_said(face, wire),
+        None => Ok(None),
     }
 }
 
@@ -79,12 +110,14 @@ fn entry_of(
     ensures seen { OnOk result (seen.new ≡ seen_next machine.old seen.old call) }
 {
     let missed = missed_of(alloc, machine, seen, &call)?;
+    let key = key_of(seen, &call)?;
     let step = make(machine, seen, &call)?;
     let text = Bytes::new(alloc, line)?;
     Ok(Entry {
         number,
         text,
         call,
+        key,
         step,
         missed,
     })
