@@ -16,6 +16,7 @@ use Rattle.zq_machine.specs.declared.call.Outcome.TheVariants as outcome
 use Rattle.zq_machine.specs.Handing.{Handed}
 use Rattle.zq_io.specs.Words.{field}
 use Rattle.zq_io.specs.Values.{face_word}
+use Rattle.zq_hat.specs.declared.unreached.RouterEntry.{RouterEntry}
 use Rattle.zq_show.specs.declared.entry.Entry.{Entry}
 use Rattle.zq_show.specs.declared.reasons.Missed.{Missed}
 use Rattle.zq_show.specs.declared.reasons.Reason.{Reason}
@@ -95,11 +96,15 @@ owner_words ids = if length ids == 0 then codes "a router behind" else codes "qu
 unfoldable pub missed_note : Missed → List ℕ
 missed_note m = codes "not asked: " ++ owner_words m.ids ++ codes " face " ++ decimal m.face.0 ++ codes " on " ++ m.key ++ codes ": " ++ reason_words m.reason
 
+-- an entry of a router to which no way leads
+unfoldable pub unreached_note : RouterEntry → List ℕ
+unreached_note e = codes "not asked: queryable of router " ++ decimal e.router.0 ++ codes " on " ++ e.key ++ codes ": no way leads to it"
+
 -- the notes of a request that was accepted
-abbrev pub notes_by : Outcome → Call → List Handed → List Missed → List (List ℕ)
-notes_by (outcome.Asked n) (call.Request face request now) handed missed = asked_note request.target handed ∷ map missed_note missed
-notes_by _ _ handed missed = []
+abbrev pub notes_by : Outcome → Call → List Handed → List Missed → List RouterEntry → List (List ℕ)
+notes_by (outcome.Asked n) (call.Request face request now) handed missed unreached = asked_note request.target handed ∷ map missed_note missed ++ map unreached_note unreached
+notes_by _ _ handed missed unreached = []
 
 -- the notes of a call
 abbrev pub notes_of : Entry → List (List ℕ)
-notes_of entry = notes_by entry.step.outcome entry.call entry.step.handed entry.missed
+notes_of entry = notes_by entry.step.outcome entry.call entry.step.handed entry.missed entry.unreached

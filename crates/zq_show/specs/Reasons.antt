@@ -130,6 +130,10 @@ is_silent strategy.Router = false
 abbrev pub offers_nothing : AskerState → HatState → Bool
 offers_nothing a h = is_silent (strategy_at h) && same_region a.opened.region h.region
 
+-- the node from which a region's ways begin: in the asker's own region that of its request, in another the gateway's
+abbrev pub node_for : AskerState → HatState → Option ℕ
+node_for a h = if same_region a.opened.region h.region then a.context else Some 0
+
 -- what a region offers to the asker; what it would offer to another, where it offers nothing
 abbrev pub candidates : AskerState → List ℕ → HatState → List QueryTargetQabl
 candidates a key h = if offers_nothing a h then offers_of h region.Local key None else offers_to a key h

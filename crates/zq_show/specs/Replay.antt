@@ -17,6 +17,8 @@ use Rattle.zq_script.specs.Running.{first_part}
 use Rattle.zq_script.specs.Script.{script_call}
 use Rattle.zq_script.specs.declared.script.Script.{Script}
 use Rattle.zq_show.specs.Reasons.{missed_for}
+use Rattle.zq_show.specs.Unreached.{unreached_for}
+use Rattle.zq_hat.specs.declared.unreached.RouterEntry.{RouterEntry}
 use Rattle.zq_show.specs.Seen.{SeenState, key_in_full, no_faces, noticed, said_in, withdrawn}
 use Rattle.zq_show.specs.declared.reasons.Missed.{Missed}
 use Rattle.zq_show.specs.declared.entry.Entry.{Entry}
@@ -67,13 +69,17 @@ key_of seen c = option_and_then (λ (w : FaceId × WireExpr). key_in_full (said_
 unfoldable pub missed_of : State → SeenState → Call → List Missed
 missed_of s seen c = option_map_or (λ (asked : FaceId × Request). missed_for s.core.hats s.core.config.zid seen asked.0 asked.1) (asking c) []
 
+-- the entries of routers that a call does not reach, if it is a request
+unfoldable pub unreached_of : State → SeenState → Call → List RouterEntry
+unreached_of s seen c = option_map_or (λ (asked : FaceId × Request). unreached_for s.core.hats s.core.config.zid seen asked.0 asked.1) (asking c) []
+
 -- what is seen after a call
 unfoldable pub seen_next : State → SeenState → Call → SeenState
 seen_next s seen c = noticed (next s c).core.hats (withdrawn s.core.hats seen.faces c) c (given s c) seen
 
 -- a call of a line with its key and what it gives in a state, and what it does not ask
 abbrev pub entry_of : State → SeenState → ℕ → List ℕ → Call → Entry
-entry_of s seen number line c = record { number = number; text = line; call = c; key = key_of seen c; step = given s c; missed = missed_of s seen c }
+entry_of s seen number line c = record { number = number; text = line; call = c; key = key_of seen c; step = given s c; missed = missed_of s seen c; unreached = unreached_of s seen c }
 
 -- what is seen after the call of a line, if it is one
 abbrev pub seen_of : State → SeenState → Option Call → SeenState

@@ -1,6 +1,7 @@
 //! A call of a run with what it gave.
 
 use crate::reasons::MissedList;
+use zq_hat::RouterEntryList;
 use zq_key::items::Items;
 use zq_key::message::FaceId;
 use zq_key::text::{Bytes, Text};
@@ -24,6 +25,8 @@ pub struct Entry {
     pub step: Step,
     /// What was declared on keys that meet its own and was not asked, if it is a request.
     pub missed: MissedList,
+    /// The entries of routers on keys that meet its own to which no way leads, if it is a request.
+    pub unreached: RouterEntryList,
 }
 
 /// Calls of a run, in order.

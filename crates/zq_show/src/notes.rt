@@ -1,10 +1,11 @@
 //! Whom a request asked, and why it did not ask others.
 ghost use Rattle.std.specs.Prelude.{◌≡◌, ◌++◌, IfOk, OnOk, map};
-ghost use Rattle.zq_show.specs.Notes.{asked_note, faces_words, is_request, missed_note, mode_words, notes_of, numbers_words, owner_words, ids_words, picked, reason_words, stopped_words, carried_words, carrier_words, stop_words};
+ghost use Rattle.zq_show.specs.Notes.{asked_note, faces_words, is_request, missed_note, mode_words, notes_of, numbers_words, owner_words, ids_words, picked, reason_words, stopped_words, carried_words, carrier_words, stop_words, unreached_note};
 
 use crate::entry::{Entry, FaceList};
 use crate::reasons::{Missed, Reason};
 use std::alloc::{AllocError, Global};
+use zq_hat::RouterEntry;
 use zq_io::show::push_field;
 use zq_io::words::{push_number, push_text};
 use zq_key::items::Items;
@@ -200,6 +201,34 @@ fn push_missed(
     Ok(())
 }
 
+/// An entry of a router to which no way leads.
+#[tactic(auto, unfolding(crate::specs::Notes::unreached_note))]
+fn unreached_note(alloc: Global, entry: &RouterEntry) -> Result<Bytes, OutOfMemory>
+    ensures { IfOk result (λ b. b ≡ unreached_note entry.now) }
+{
+    let mut out = Vec::new(alloc);
+    push_text(&mut out, "not asked: queryable of router ")?;
+    push_number(&mut out, entry.router.0)?;
+    push_text(&mut out, " on ")?;
+    push_text(&mut out, entry.key.as_str())?;
+    push_text(&mut out, ": no way leads to it")?;
+    Ok(Bytes::from_vec(out))
+}
+
+/// Adds the entries of routers to which no way leads.
+fn push_unreached(
+    alloc: Global,
+    notes: &mut Items<Bytes>,
+    unreached: &[RouterEntry],
+) -> Result<(), OutOfMemory>
+    ensures { OnOk result (notes.new ≡ notes.old ++ map unreached_note unreached.now) }
+{
+    for entry in unreached {
+        notes.push(unreached_note(alloc, entry)?)?;
+    }
+    Ok(())
+}
+
 /// The notes of a call: of a request that was accepted whom it asked, and what it did not ask and why;
 /// of others none.
 pub fn notes_of(alloc: Global, entry: &Entry) -> Result<Items<Bytes>, OutOfMemory>
@@ -209,6 +238,7 @@ pub fn notes_of(alloc: Global, entry: &Entry) -> Result<Items<Bytes>, OutOfMemor
     if let (Call::Request { request, .. }, Outcome::Asked(_)) = (&entry.call, entry.step.outcome) {
         notes.push(asked_note(alloc, request.target, entry.step.handed.as_slice())?)?;
         push_missed(alloc, &mut notes, entry.missed.as_slice())?;
+        push_unreached(alloc, &mut notes, entry.unreached.as_slice())?;
     }
     Ok(notes)
 }

@@ -6,7 +6,7 @@ ghost use Rattle.zq_key.specs.Key.{is_key as key_of};
 ghost use Rattle.zq_machine.specs.Selecting.{carries_between, filter_for};
 ghost use Rattle.zq_route.specs.Selection.{is_complete};
 ghost use Rattle.zq_egress.specs.Askers.{asker_of};
-ghost use Rattle.zq_show.specs.Reasons.{asker_for, barrier, candidates, first_panel, first_verdict, found_with, has_best, home, is_best, is_picked, judged, missed_at, missed_for, missed_on, missed_or_taken, offers_nothing, origin, panel_at, panel_of, picked, picked_after, unpicked, with_hat, with_missed};
+ghost use Rattle.zq_show.specs.Reasons.{asker_for, barrier, candidates, first_panel, first_verdict, found_with, has_best, home, is_best, is_picked, judged, missed_at, missed_for, missed_on, missed_or_taken, node_for, offers_nothing, origin, panel_at, panel_of, picked, picked_after, unpicked, with_hat, with_missed};
 
 use crate::carrier::carrier;
 use crate::seen::Seen;
@@ -297,6 +297,18 @@ fn offers_nothing(asker: &Asker<'_>, hat: &Hat) -> bool
     }
 }
 
+/// The node from which a region's ways begin: in the asker's own region that of its request, in another
+/// the gateway's.
+pub fn node_for(asker: &Asker<'_>, hat: &Hat) -> Option<NodeId>
+    ensures { result ≡ node_for (asker_of asker.now) hat.now }
+{
+    if same_region(asker.opened.region, hat.region()) {
+        asker.context
+    } else {
+        Some(DEFAULT_NODE_ID)
+    }
+}
+
 /// What a region offers to the asker; what it would offer to another, where it offers nothing.
 fn candidates(asker: &Asker<'_>, key: &str, hat: &Hat) -> Result<OfferList, OutOfMemory>
     requires { IsTrue (key_of key.now) }
@@ -305,13 +317,7 @@ fn candidates(asker: &Asker<'_>, key: &str, hat: &Hat) -> Result<OfferList, OutO
     if offers_nothing(asker, hat) {
         return hat.compute_query_route(&Region::Local, key, None);
     }
-    let src = asker.opened.region;
-    let node = if same_region(src, hat.region()) {
-        asker.context
-    } else {
-        Some(DEFAULT_NODE_ID)
-    };
-    hat.compute_query_route(&src, key, node)
+    hat.compute_query_route(&asker.opened.region, key, node_for(asker, hat))
 }
 
 /// What decides of the offers of a region, before it is known whether one is complete.
@@ -408,7 +414,7 @@ fn origin(
 }
 
 /// The asker of a request, if the face is open.
-fn asker_for<'a>(
+pub fn asker_for<'a>(
     seen: &'a Seen,
     hats: &RegionMap<Hat>,
     own: Zid,

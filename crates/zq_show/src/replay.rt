@@ -3,7 +3,7 @@ ghost use Rattle.std.specs.Prelude.{◌≡◌, ◌<◌, ◌+◌, ◌^◌, [], If
 ghost use Rattle.std.specs.Option.{option_map};
 ghost use Rattle.zq_lines.specs.Split.{lines_of};
 ghost use Rattle.zq_script.specs.Script.{script_call, script_of};
-ghost use Rattle.zq_show.specs.Replay.{asking, bad_from, bad_line, begun, entries_from, entry_of, first_line, given, key_of, missed_of, next, run_of, seen_next, written, Adds, Shows};
+ghost use Rattle.zq_show.specs.Replay.{asking, bad_from, bad_line, begun, entries_from, entry_of, first_line, given, key_of, missed_of, next, run_of, seen_next, unreached_of, written, Adds, Shows};
 ghost use Rattle.zq_show.specs.Seen.{no_faces};
 
 use crate::entry::{Entry, EntryList};
@@ -12,7 +12,9 @@ use crate::page::{BadLine, BytesList};
 use crate::reasons::{MissedList, missed_for};
 use crate::seen::Seen;
 use crate::show::Run;
+use crate::unreached::unreached_for;
 use std::alloc::Global;
+use zq_hat::RouterEntryList;
 use zq_io::stop::Stop;
 use zq_key::items::Items;
 use zq_key::memory::OutOfMemory;
@@ -83,6 +85,22 @@ fn missed_of(
     }
 }
 
+/// The entries of routers that a call does not reach, if it is a request.
+#[tactic(auto, unfolding(crate::specs::Replay::unreached_of))]
+fn unreached_of(
+    alloc: Global,
+    machine: &Machine,
+    seen: &Seen,
+    call: &Call,
+) -> Result<RouterEntryList, OutOfMemory>
+    ensures { IfOk result (λ l. l ≡ unreached_of machine.now seen.now call.now) }
+{
+    match asking(call) {
+        Some((face, request)) => unreached_for(seen, machine.hats(), machine.own(), face, request),
+        None => Ok(Items::new(alloc)),
+    }
+}
+
 /// Makes a call, and takes note of it.
 #[tactic(auto, unfolding(crate::specs::Replay::seen_next))]
 fn make(machine: &mut Machine, seen: &mut Seen, call: &Call) -> Result<Step, OutOfMemory>
@@ -110,6 +128,7 @@ fn entry_of(
     ensures seen { OnOk result (seen.new ≡ seen_next machine.old seen.old call) }
 {
     let missed = missed_of(alloc, machine, seen, &call)?;
+    let unreached = unreached_of(alloc, machine, seen, &call)?;
     let key = key_of(seen, &call)?;
     let step = make(machine, seen, &call)?;
     let text = Bytes::new(alloc, line)?;
@@ -120,6 +139,7 @@ fn entry_of(
         key,
         step,
         missed,
+        unreached,
     })
 }
 
