@@ -16,11 +16,11 @@ use Rattle.zq_script.specs.Head.{Head, head_of}
 use Rattle.zq_script.specs.Running.{first_part}
 use Rattle.zq_script.specs.Script.{script_call}
 use Rattle.zq_script.specs.declared.script.Script.{Script}
-use Rattle.zq_show.specs.Reasons.{missed_for}
+use Rattle.zq_show.specs.Reasons.{judged_for, no_judgement}
 use Rattle.zq_show.specs.Unreached.{unreached_for}
 use Rattle.zq_hat.specs.declared.unreached.RouterEntry.{RouterEntry}
 use Rattle.zq_show.specs.Seen.{SeenState, key_in_full, no_faces, noticed, said_in, withdrawn}
-use Rattle.zq_show.specs.declared.reasons.Missed.{Missed}
+use Rattle.zq_show.specs.declared.reasons.Judgement.{Judgement}
 use Rattle.zq_show.specs.declared.entry.Entry.{Entry}
 use Rattle.zq_show.specs.declared.show.Run.{Run}
 use Rattle.zq_lines.specs.Why.{reason}
@@ -65,9 +65,9 @@ written _ = None
 unfoldable pub key_of : SeenState → Call → Option (List ℕ)
 key_of seen c = option_and_then (λ (w : FaceId × WireExpr). key_in_full (said_in seen.names seen.gates w.0 w.1)) (written c)
 
--- what a call does not ask, if it is a request
-unfoldable pub missed_of : State → SeenState → Call → List Missed
-missed_of s seen c = option_map_or (λ (asked : FaceId × Request). missed_for s.core.hats s.core.config.zid seen asked.0 asked.1) (asking c) []
+-- what comes of a call's choice, if it is a request
+unfoldable pub judgement_of : State → SeenState → Call → Judgement
+judgement_of s seen c = option_map_or (λ (asked : FaceId × Request). judged_for s.core.hats s.core.config seen asked.0 asked.1) (asking c) no_judgement
 
 -- the entries of routers that a call does not reach, if it is a request
 unfoldable pub unreached_of : State → SeenState → Call → List RouterEntry
@@ -77,9 +77,9 @@ unreached_of s seen c = option_map_or (λ (asked : FaceId × Request). unreached
 unfoldable pub seen_next : State → SeenState → Call → SeenState
 seen_next s seen c = noticed (next s c).core.hats (withdrawn s.core.hats seen.faces c) c (given s c) seen
 
--- a call of a line with its key and what it gives in a state, and what it does not ask
+-- a call of a line with its key and what it gives in a state, and what comes of its choice
 abbrev pub entry_of : State → SeenState → ℕ → List ℕ → Call → Entry
-entry_of s seen number line c = record { number = number; text = line; call = c; key = key_of seen c; step = given s c; missed = missed_of s seen c; unreached = unreached_of s seen c }
+entry_of s seen number line c = record { number = number; text = line; call = c; key = key_of seen c; step = given s c; best = s.core.config.best; judgement = judgement_of s seen c; unreached = unreached_of s seen c }
 
 -- what is seen after the call of a line, if it is one
 abbrev pub seen_of : State → SeenState → Option Call → SeenState

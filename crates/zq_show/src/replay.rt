@@ -3,13 +3,13 @@ ghost use Rattle.std.specs.Prelude.{◌≡◌, ◌<◌, ◌+◌, ◌^◌, [], If
 ghost use Rattle.std.specs.Option.{option_map};
 ghost use Rattle.zq_lines.specs.Split.{lines_of};
 ghost use Rattle.zq_script.specs.Script.{script_call, script_of};
-ghost use Rattle.zq_show.specs.Replay.{asking, bad_from, bad_line, begun, entries_from, entry_of, first_line, given, key_of, missed_of, next, run_of, seen_next, unreached_of, written, Adds, Shows};
+ghost use Rattle.zq_show.specs.Replay.{asking, bad_from, bad_line, begun, entries_from, entry_of, first_line, given, judgement_of, key_of, next, run_of, seen_next, unreached_of, written, Adds, Shows};
 ghost use Rattle.zq_show.specs.Seen.{no_faces};
 
 use crate::entry::{Entry, EntryList};
 use crate::machine::Machine;
 use crate::page::{BadLine, BytesList};
-use crate::reasons::{MissedList, missed_for};
+use crate::reasons::{Judgement, judged_for, no_judgement};
 use crate::seen::Seen;
 use crate::show::Run;
 use crate::unreached::unreached_for;
@@ -69,19 +69,21 @@ fn key_of(seen: &Seen, call: &Call) -> Result<Option<Text>, OutOfMemory>
     }
 }
 
-/// What a call would not ask, if it is a request.
-#[tactic(auto, unfolding(crate::specs::Replay::missed_of))]
-fn missed_of(
+/// What comes of a call's choice, if it is a request.
+#[tactic(auto, unfolding(crate::specs::Replay::judgement_of))]
+fn judgement_of(
     alloc: Global,
     machine: &Machine,
     seen: &Seen,
     call: &Call,
-) -> Result<MissedList, OutOfMemory>
-    ensures { IfOk result (λ m. m ≡ missed_of machine.now seen.now call.now) }
+) -> Result<Judgement, OutOfMemory>
+    ensures { IfOk result (λ j. j ≡ judgement_of machine.now seen.now call.now) }
 {
     match asking(call) {
-        Some((face, request)) => missed_for(seen, machine.hats(), machine.own(), face, request),
-        None => Ok(Items::new(alloc)),
+        Some((face, request)) => {
+            judged_for(seen, machine.hats(), machine.config(), face, request)
+        }
+        None => Ok(no_judgement(alloc)),
     }
 }
 
@@ -114,7 +116,7 @@ fn make(machine: &mut Machine, seen: &mut Seen, call: &Call) -> Result<Step, Out
     Ok(step)
 }
 
-/// Makes a call, and keeps what it gave, and what it did not ask.
+/// Makes a call, and keeps what it gave, and what came of its choice.
 fn entry_of(
     alloc: Global,
     machine: &mut Machine,
@@ -127,7 +129,7 @@ fn entry_of(
     ensures after { OnOk result (machine.new ≡ next machine.old call) }
     ensures seen { OnOk result (seen.new ≡ seen_next machine.old seen.old call) }
 {
-    let missed = missed_of(alloc, machine, seen, &call)?;
+    let judgement = judgement_of(alloc, machine, seen, &call)?;
     let unreached = unreached_of(alloc, machine, seen, &call)?;
     let key = key_of(seen, &call)?;
     let step = make(machine, seen, &call)?;
@@ -138,7 +140,8 @@ fn entry_of(
         call,
         key,
         step,
-        missed,
+        best: machine.config().best(),
+        judgement,
         unreached,
     })
 }
