@@ -5,3 +5,4 @@ pub mod Joining
 pub mod Sourced
 pub mod Infos
 pub mod Status
+pub mod Unreached

@@ -8,6 +8,7 @@ ghost use Rattle.std.specs.Ordering.{nat_cmp};
 ghost use Rattle.zq_key.specs.Key.{intersects, is_key};
 ghost use Rattle.zq_strategy.specs.Kept.{declared_keys, new_hat, with_face_opened, without_face, keys_of_face, has_face, clashes_at, declaration_at, has_any, is_full, change_face, registered, unregistered, unregister_result, faces_info, region_info, routers_info, changed, at_id, face_at, declare, withdraw, declaration};
 ghost use Rattle.zq_hat.specs.Tied.{without_declared};
+ghost use Rattle.zq_hat.specs.Unreached.{unreached};
 ghost use Rattle.zq_strategy.specs.State.{FaceState};
 ghost use Rattle.zq_strategy.specs.Marks.{finalized, marked};
 ghost use Rattle.zq_strategy.specs.OfferOrder.{offer_cmp, sorted};
@@ -31,6 +32,7 @@ use crate::faces::{
     add_numbers, changed, copy_faces, declare, forget, set_mark, set_nodes, take_seat, withdraw,
 };
 use crate::offers;
+use crate::unreached::{RouterEntryList, Ways, unreached_for};
 use std::alloc::Global;
 use std::collections::{BTreeMap, BTreeSet};
 use std::marker::Model;
@@ -444,6 +446,29 @@ impl Hat {
         };
         let offers = offers_for(self.alloc, &routers, self.entries.by_key(), key)?;
         Ok(Items::from_vec(offers))
+    }
+
+    /// The entries of routers on keys that meet the key to which no way leads from an asker of region
+    /// `src`: to their routers leads none from its node in this region, and from the gateway for another
+    /// region; or no open face is on it. They are in no offer. By key and router.
+    pub fn unreached(
+        &self,
+        src: &Region,
+        key: &str,
+        node: Option<u16>,
+    ) -> Result<RouterEntryList, OutOfMemory>
+        requires key { IsTrue (is_key key.now) }
+        requires routers { strategy_at self.now ≡ Strategy.Router }
+        ensures { IfOk result (λ l. l ≡ unreached self.now src.now key.now node) }
+    {
+        let ways = Ways {
+            alloc: self.alloc,
+            net: &self.net,
+            seats: &self.seats,
+            source: self.source_for(*src, node),
+        };
+        let found = unreached_for(&ways, self.entries.by_key(), key)?;
+        Ok(Items::from_vec(found))
     }
 
     /// The router's entry on the key.

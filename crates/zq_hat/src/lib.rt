@@ -13,6 +13,7 @@
 //! - `infos`: what a region has on each of its keys
 //! - `status`: whether a key is matched
 //! - `neighbours`: what a face was told of a key, and whether it wants numbers for it
+//! - `unreached`: the entries of routers to which no way leads
 //! - `queries`: `HatQueriesTrait`, and `Hat` as one that has it
 #![tactic(auto)]
 
@@ -30,12 +31,14 @@ mod queries;
 pub mod queryables;
 pub mod sources;
 pub mod status;
+pub mod unreached;
 
 pub use hat::Hat;
 pub use infos::InfoList;
 pub use queries::HatQueriesTrait;
 pub use sources::{SourceList, Sources};
 pub use status::Locality;
+pub use unreached::{RouterEntry, RouterEntryList};
 pub use zq_index::info::merge_qabl_infos;
 pub use zq_strategy::{
     DirectionList, FaceRecord, FinalMark, HatRefusal, Network, NodeIds, OfferList, QueryTargetQabl,

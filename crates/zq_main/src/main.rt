@@ -211,6 +211,10 @@ fn show_process(rt: &HostRuntime, alloc: Global, form: Form) -> ExitCode {
             );
             ExitCode::from(Status::Script.code())
         }
+        Status::Words => {
+            let _ = eprintln!(rt; "zq: no call of this script made a request of that number.");
+            ExitCode::from(Status::Words.code())
+        }
         status => ended(rt, status),
     }
 }

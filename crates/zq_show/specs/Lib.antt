@@ -13,6 +13,7 @@ pub mod Answer
 pub mod Labels
 pub mod Seen
 pub mod Reasons
+pub mod Unreached
 pub mod Notes
 pub mod Rows
 pub mod Showing

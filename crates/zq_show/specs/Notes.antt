@@ -14,8 +14,13 @@ use Rattle.zq_machine.specs.declared.call.Call.TheVariants as call
 use Rattle.zq_machine.specs.declared.call.Outcome.{Outcome}
 use Rattle.zq_machine.specs.declared.call.Outcome.TheVariants as outcome
 use Rattle.zq_machine.specs.Handing.{Handed}
+use Rattle.zq_route.specs.declared.selection.Best.{Best}
+use Rattle.zq_route.specs.declared.selection.Best.TheVariants as best
+use Rattle.zq_strategy.specs.OfferOrder.{distance}
+use Rattle.zq_strategy.specs.declared.offer.QueryTargetQabl.{QueryTargetQabl}
 use Rattle.zq_io.specs.Words.{field}
 use Rattle.zq_io.specs.Values.{face_word}
+use Rattle.zq_hat.specs.declared.unreached.RouterEntry.{RouterEntry}
 use Rattle.zq_show.specs.declared.entry.Entry.{Entry}
 use Rattle.zq_show.specs.declared.reasons.Missed.{Missed}
 use Rattle.zq_show.specs.declared.reasons.Reason.{Reason}
@@ -54,15 +59,29 @@ stop_words faces = codes "; stopped at the exit:" ++ numbers_words faces
 unfoldable pub stopped_words : List FaceId → List ℕ
 stopped_words faces = if length faces == 0 then [] else stop_words faces
 
--- what a mode asks, in each region
-abbrev pub mode_words : QueryTarget → List ℕ
-mode_words target.All = codes "`all` asks each; asked faces:"
-mode_words target.AllComplete = codes "`complete` asks those that are complete, or not known to be; asked faces:"
-mode_words target.BestMatching = codes "`best` asks in each region the nearest complete one, or all if none is; asked faces:"
+-- what the target `best` asks
+abbrev pub best_words : Best → List ℕ
+best_words best.ByRegion = codes "`best` asks in each region the nearest complete one, or all if none is; asked faces:"
+best_words best.Overall = codes "`best` asks over all regions the nearest complete one, or all if none is; asked faces:"
 
--- whom the mode asked, and whom it would have but for the exit
-abbrev pub asked_note : QueryTarget → List Handed → List ℕ
-asked_note target handed = mode_words target ++ faces_words (picked true handed) ++ stopped_words (picked false handed)
+-- what a target asks
+abbrev pub mode_words : Best → QueryTarget → List ℕ
+mode_words b target.All = codes "`all` asks each; asked faces:"
+mode_words b target.AllComplete = codes "`complete` asks those that are complete, or not known to be; asked faces:"
+mode_words b target.BestMatching = best_words b
+
+-- an offer as the nearest complete one
+unfoldable pub won_words : QueryTargetQabl → List ℕ
+won_words o = codes "; the nearest: face " ++ decimal o.face.0 ++ codes " on " ++ o.key ++ codes ", at distance " ++ decimal (distance o)
+
+-- the nearest complete offer of all regions, where the choice fell on it
+abbrev pub nearest_words : Option QueryTargetQabl → List ℕ
+nearest_words None = []
+nearest_words (Some o) = won_words o
+
+-- whom the target asked, and whom it would have but for the exit
+abbrev pub asked_note : Best → QueryTarget → Option QueryTargetQabl → List Handed → List ℕ
+asked_note b target nearest handed = mode_words b target ++ faces_words (picked true handed) ++ stopped_words (picked false handed) ++ nearest_words nearest
 
 -- the gateway that carries a request between two regions
 unfoldable pub carrier_words : Zid → List ℕ
@@ -95,11 +114,15 @@ owner_words ids = if length ids == 0 then codes "a router behind" else codes "qu
 unfoldable pub missed_note : Missed → List ℕ
 missed_note m = codes "not asked: " ++ owner_words m.ids ++ codes " face " ++ decimal m.face.0 ++ codes " on " ++ m.key ++ codes ": " ++ reason_words m.reason
 
+-- an entry of a router to which no way leads
+unfoldable pub unreached_note : RouterEntry → List ℕ
+unreached_note e = codes "not asked: queryable of router " ++ decimal e.router.0 ++ codes " on " ++ e.key ++ codes ": no way leads to it"
+
 -- the notes of a request that was accepted
-abbrev pub notes_by : Outcome → Call → List Handed → List Missed → List (List ℕ)
-notes_by (outcome.Asked n) (call.Request face request now) handed missed = asked_note request.target handed ∷ map missed_note missed
-notes_by _ _ handed missed = []
+abbrev pub notes_by : Outcome → Call → Entry → List (List ℕ)
+notes_by (outcome.Asked n) (call.Request face request now) e = asked_note e.best request.target e.judgement.nearest e.step.handed ∷ map missed_note e.judgement.missed ++ map unreached_note e.unreached
+notes_by _ _ e = []
 
 -- the notes of a call
 abbrev pub notes_of : Entry → List (List ℕ)
-notes_of entry = notes_by entry.step.outcome entry.call entry.step.handed entry.missed
+notes_of entry = notes_by entry.step.outcome entry.call entry

@@ -1,13 +1,13 @@
 -- The page of a run.
-use Rattle.std.specs.Prelude.{ℕ, Bool, false, List, [], ◌∷◌, ◌++◌, Option, Some, None, codes, if◌then◌else◌, ◌==◌, length}
+use Rattle.std.specs.Prelude.{ℕ, Bool, false, List, [], ◌∷◌, ◌++◌, Option, Some, None, codes, if◌then◌else◌, ◌==◌, length, nat_le}
 use Rattle.std.specs.List.{flat_map}
 use Rattle.std.specs.Fmt.{decimal}
 use Rattle.zq_show.specs.declared.page.Line.{Line}
 use Rattle.zq_show.specs.declared.page.BadLine.{BadLine}
 use Rattle.zq_show.specs.declared.page.Shown.{Shown}
-use Rattle.zq_show.specs.declared.page.TheConstants.{BEGIN, LEGEND, LINES_ROOM, LIST_ROOM}
+use Rattle.zq_show.specs.declared.page.TheConstants.{BAD_REST, BAD_ROOM, BEGIN, LEGEND, LINES_ROOM, LIST_ROOM}
 use Rattle.zq_show.specs.declared.row.Row.{Row}
-use Rattle.zq_show.specs.Escape.{shown_in_page}
+use Rattle.zq_show.specs.Escape.{shown_in_page, shown_short}
 use Rattle.zq_show.specs.Fit.{fitted_by, room_of}
 use Rattle.zq_show.specs.Choice.{has_line}
 use Rattle.zq_show.specs.Narrow.{narrow_words}
@@ -66,11 +66,19 @@ line_words rows line =
 abbrev pub lines_words : List Row → List Line → List ℕ
 lines_words rows lines = fitted_by (line_words rows) (room_of LINES_ROOM) lines
 
+-- a text of which no more than `BAD_ROOM` bytes are shown
+unfoldable pub short_words : List ℕ → List ℕ → List ℕ → List ℕ
+short_words before text after = before ++ shown_short BAD_ROOM text ++ after
+
+-- that the line that could not be read is not shown whole, where it is longer than that
+abbrev pub rest_of_bad : BadLine → List ℕ
+rest_of_bad bad = if nat_le (length bad.text) BAD_ROOM then [] else BAD_REST.now
+
 -- the line that could not be read
 unfoldable pub bad_line_words : BadLine → List ℕ
 bad_line_words bad =
-    line_number_words bad.number false ++ said_words (codes "<code>") bad.text (codes "</code>")
-    ++ said_words (codes "<p class='no'>bad line: ") bad.reason (codes "</p></li>")
+    line_number_words bad.number false ++ short_words (codes "<code>") bad.text (codes "</code>") ++ rest_of_bad bad
+    ++ short_words (codes "<p class='no'>bad line: ") bad.reason (codes "</p></li>")
 
 -- the line that could not be read, if there is one
 abbrev pub bad_words : Option BadLine → List ℕ

@@ -1,6 +1,6 @@
 -- Why a queryable that meets the key of a request was not asked: at which stage of the selection it went.
-use Rattle.std.specs.Prelude.{ℕ, ◌==◌, Bool, true, false, not, ◌&&◌, ◌||◌, List, [], ◌∷◌, ◌++◌, Option, Some, None, if◌then◌else◌, fold, is_none}
-use Rattle.std.specs.List.{list_any}
+use Rattle.std.specs.Prelude.{ℕ, ◌==◌, Bool, true, false, not, ◌&&◌, ◌||◌, List, [], ◌∷◌, ◌++◌, Option, Some, None, if◌then◌else◌, filter, fold, is_none, is_some}
+use Rattle.std.specs.List.{flat_map, list_any}
 use Rattle.std.specs.Option.{option_and_then, option_map, option_map_or}
 use Rattle.std.specs.Map.{values_of}
 use Rattle.zq_key.specs.Key.{is_key}
@@ -22,7 +22,10 @@ use Rattle.zq_strategy.specs.declared.types.Strategy.{Strategy}
 use Rattle.zq_strategy.specs.declared.types.Strategy.TheVariants as strategy
 use Rattle.zq_route.specs.Built.{has_face}
 use Rattle.zq_route.specs.Filter.{gateways_of, greatest, has_zid}
-use Rattle.zq_route.specs.Selection.{is_complete, may_be_complete}
+use Rattle.zq_route.specs.Selection.{is_complete, may_be_complete, nearest}
+use Rattle.zq_route.specs.declared.selection.Best.{Best}
+use Rattle.zq_route.specs.declared.selection.Best.TheVariants as best
+use Rattle.zq_machine.specs.Configs.{Settings}
 use Rattle.zq_route.specs.declared.filter.InterRegionFilter.{InterRegionFilter}
 use Rattle.zq_route.specs.declared.gateways.Gateways.{Gateways}
 use Rattle.zq_tables.specs.declared.resolved.Resolved.{Resolved}
@@ -31,6 +34,7 @@ use Rattle.zq_machine.specs.Selecting.{AskerState, carries_between, filter_for, 
 use Rattle.zq_machine.specs.State.{at, hat_at, is_region}
 use Rattle.zq_machine.specs.declared.face.OpenFace.{OpenFace}
 use Rattle.zq_show.specs.Seen.{Owned, SeenState, ids_on, said_in}
+use Rattle.zq_show.specs.declared.reasons.Judgement.{Judgement}
 use Rattle.zq_show.specs.declared.reasons.Missed.{Missed}
 use Rattle.zq_show.specs.declared.reasons.Panel.{Panel}
 use Rattle.zq_show.specs.declared.reasons.Reason.{Reason}
@@ -71,7 +75,7 @@ picks target.BestMatching complete found o = not complete || (is_complete o && n
 
 -- the target picks an offer that reaches it
 abbrev pub is_picked : Panel → Bool → QueryTargetQabl → Bool
-is_picked p found o = picks p.target p.complete found o
+is_picked p found o = picks p.target p.complete (found || p.elsewhere) o
 
 -- why the target does not pick an offer
 abbrev pub unpicked : QueryTarget → Reason
@@ -130,6 +134,10 @@ is_silent strategy.Router = false
 abbrev pub offers_nothing : AskerState → HatState → Bool
 offers_nothing a h = is_silent (strategy_at h) && same_region a.opened.region h.region
 
+-- the node from which a region's ways begin: in the asker's own region that of its request, in another the gateway's
+abbrev pub node_for : AskerState → HatState → Option ℕ
+node_for a h = if same_region a.opened.region h.region then a.context else Some 0
+
 -- what a region offers to the asker; what it would offer to another, where it offers nothing
 abbrev pub candidates : AskerState → List ℕ → HatState → List QueryTargetQabl
 candidates a key h = if offers_nothing a h then offers_of h region.Local key None else offers_to a key h
@@ -142,9 +150,25 @@ panel_at p a h = record p { beside = offers_nothing a h }
 abbrev pub has_best : Panel → AskerState → List QueryTargetQabl → Bool
 has_best p a os = list_any (is_best p a) os
 
+-- an offer on which the choice falls is complete: one of the region, or, where the choice is over all regions, one of any
+abbrev pub is_complete_in : Panel → AskerState → HatState → List QueryTargetQabl → Bool
+is_complete_in p a h os = if p.overall then is_some p.nearest else has_best (panel_at p a h) a os
+
+-- the nearest complete offer of all regions is another region's
+abbrev pub is_elsewhere : Panel → HatState → Bool
+is_elsewhere p h = option_map_or (λ r. not (same_region r h.region)) p.nearest false
+
 -- what decides of the offers of a region
 abbrev pub panel_of : Panel → AskerState → HatState → List QueryTargetQabl → Panel
-panel_of p a h os = record (panel_at p a h) { complete = has_best (panel_at p a h) a os }
+panel_of p a h os = record (panel_at p a h) { complete = is_complete_in p a h os; elsewhere = is_elsewhere p h }
+
+-- the offers of a region that reach the target
+abbrev pub reaching : Panel → AskerState → List ℕ → HatState → List QueryTargetQabl
+reaching p a key h = filter (λ o. is_none (barrier (panel_at p a h) a o)) (candidates a key h)
+
+-- the nearest complete offer of all regions, where the choice is over all regions
+abbrev pub nearest_in : List (ℕ × HatState) → Panel → AskerState → List ℕ → Option QueryTargetQabl
+nearest_in hats p a key = if p.overall then nearest (filter is_complete (flat_map (reaching p a key) (values_of hats))) else None
 
 -- what was not asked, with that of a region
 abbrev pub with_hat : Owned → Panel → AskerState → List ℕ → List Missed → HatState → List Missed
@@ -175,16 +199,49 @@ asker_by hats own seen face node o =
 abbrev pub asker_for : List (ℕ × HatState) → Zid → SeenState → FaceId → ℕ → Option AskerState
 asker_for hats own seen face node = option_map (asker_by hats own seen face node) (at face.0 seen.faces)
 
+-- the choice is over all regions, and the target makes one
+abbrev pub is_overall : Best → QueryTarget → Bool
+is_overall best.Overall target.BestMatching = true
+is_overall best.Overall target.All = false
+is_overall best.Overall target.AllComplete = false
+is_overall best.ByRegion t = false
+
 -- what decides of a request on a key before a region is looked at
-abbrev pub first_panel : SeenState → FaceId → QueryTarget → List ℕ → Panel
-first_panel seen face t key = record { denied = is_key key && is_denied (denied_by (gate_at face.0 seen.gates)) key; beside = false; target = t; complete = false }
+abbrev pub first_panel : SeenState → Best → FaceId → QueryTarget → List ℕ → Panel
+first_panel seen b face t key =
+    record {
+      denied = is_key key && is_denied (denied_by (gate_at face.0 seen.gates)) key;
+      beside = false;
+      target = t;
+      complete = false;
+      overall = is_overall b t;
+      nearest = None;
+      elsewhere = false;
+    }
 
--- what was not asked of all regions, on what an expression says
-unfoldable pub missed_on : List (ℕ × HatState) → SeenState → AskerState → QueryTarget → Resolved → List Missed
-missed_on hats seen a t said =
-    if says_key said then fold (with_hat seen.owned (first_panel seen a.face t (full_text said)) a (full_text said)) [] (values_of hats) else []
+-- the region of an offer
+abbrev pub region_of : QueryTargetQabl → Region
+region_of o = o.region
 
--- what a request was not asked of, of all that was declared on keys that meet its own
-abbrev pub missed_for : List (ℕ × HatState) → Zid → SeenState → FaceId → Request → List Missed
-missed_for hats own seen face r =
-    option_map_or (λ (a : AskerState). missed_on hats seen a r.target (said_in seen.names seen.gates face r.wire)) (asker_for hats own seen face r.node) []
+-- what decides, where the nearest complete offer of all regions is looked for first
+abbrev pub with_nearest : Option QueryTargetQabl → Panel → Panel
+with_nearest o p = record p { nearest = option_map region_of o }
+
+-- what came of a request on a key: the nearest complete offer of all regions, where the choice is over all regions, and what was not asked
+abbrev pub judged_on : List (ℕ × HatState) → SeenState → AskerState → Panel → List ℕ → Option QueryTargetQabl → Judgement
+judged_on hats seen a p key o = record { nearest = o; missed = fold (with_hat seen.owned (with_nearest o p) a key) [] (values_of hats) }
+
+-- where nothing is asked
+abbrev pub no_judgement : Judgement
+no_judgement = record { nearest = None; missed = [] }
+
+-- what came of a request on what an expression says
+unfoldable pub judged_said : List (ℕ × HatState) → SeenState → Best → AskerState → QueryTarget → Resolved → Judgement
+judged_said hats seen b a t said =
+    if says_key said then judged_on hats seen a (first_panel seen b a.face t (full_text said)) (full_text said) (nearest_in hats (first_panel seen b a.face t (full_text said)) a (full_text said))
+    else no_judgement
+
+-- what came of a request: what it chose over all regions, and what it was not asked of, of all that was declared on keys that meet its own
+abbrev pub judged_for : List (ℕ × HatState) → Settings → SeenState → FaceId → Request → Judgement
+judged_for hats config seen face r =
+    option_map_or (λ (a : AskerState). judged_said hats seen config.best a r.target (said_in seen.names seen.gates face r.wire)) (asker_for hats config.zid seen face r.node) no_judgement

@@ -1,8 +1,9 @@
 -- The run of a script, as it is shown: each line's call with what a gateway answered it.
 use Rattle.std.specs.Prelude.{◌≡◌, ℕ, ◌+◌, false, List, [], ◌∷◌, ◌++◌, Option, Some, None, Result, Ok, Err, map}
-use Rattle.std.specs.Option.{option_map, option_map_or}
+use Rattle.std.specs.Option.{option_and_then, option_map, option_map_or}
 use Rattle.zq_message.specs.declared.message.FaceId.{FaceId}
 use Rattle.zq_message.specs.declared.message.Request.{Request}
+use Rattle.zq_message.specs.declared.message.WireExpr.{WireExpr}
 use Rattle.zq_lines.specs.Split.{lines_of}
 use Rattle.zq_machine.specs.declared.call.Call.{Call}
 use Rattle.zq_machine.specs.declared.call.Call.TheVariants as call
@@ -15,9 +16,11 @@ use Rattle.zq_script.specs.Head.{Head, head_of}
 use Rattle.zq_script.specs.Running.{first_part}
 use Rattle.zq_script.specs.Script.{script_call}
 use Rattle.zq_script.specs.declared.script.Script.{Script}
-use Rattle.zq_show.specs.Reasons.{missed_for}
-use Rattle.zq_show.specs.Seen.{SeenState, no_faces, noticed, withdrawn}
-use Rattle.zq_show.specs.declared.reasons.Missed.{Missed}
+use Rattle.zq_show.specs.Reasons.{judged_for, no_judgement}
+use Rattle.zq_show.specs.Unreached.{unreached_for}
+use Rattle.zq_hat.specs.declared.unreached.RouterEntry.{RouterEntry}
+use Rattle.zq_show.specs.Seen.{SeenState, key_in_full, no_faces, noticed, said_in, withdrawn}
+use Rattle.zq_show.specs.declared.reasons.Judgement.{Judgement}
 use Rattle.zq_show.specs.declared.entry.Entry.{Entry}
 use Rattle.zq_show.specs.declared.show.Run.{Run}
 use Rattle.zq_lines.specs.Why.{reason}
@@ -44,17 +47,39 @@ abbrev pub asking : Call → Option (FaceId × Request)
 asking (call.Request face r now) = Some (face, r)
 asking _ = None
 
--- what a call does not ask, if it is a request
-unfoldable pub missed_of : State → SeenState → Call → List Missed
-missed_of s seen c = option_map_or (λ (asked : FaceId × Request). missed_for s.core.hats s.core.config.zid seen asked.0 asked.1) (asking c) []
+-- the expression of an optional one, and the face that writes it
+abbrev pub written_by : FaceId → Option WireExpr → Option (FaceId × WireExpr)
+written_by face wire = option_map (λ w. (face, w)) wire
+
+-- the expression of a call that has one, and the face that writes it
+abbrev pub written : Call → Option (FaceId × WireExpr)
+written (call.DeclareKeyExpr face id wire) = Some (face, wire)
+written (call.DeclareQueryable face id wire info node) = Some (face, wire)
+written (call.UndeclareQueryable face id wire node) = written_by face wire
+written (call.Interest face id keys aggregate wire) = written_by face wire
+written (call.Request face r now) = Some (face, r.wire)
+written (call.Response face r) = Some (face, r.wire)
+written _ = None
+
+-- the key that a call's expression says, where it has one that says a key
+unfoldable pub key_of : SeenState → Call → Option (List ℕ)
+key_of seen c = option_and_then (λ (w : FaceId × WireExpr). key_in_full (said_in seen.names seen.gates w.0 w.1)) (written c)
+
+-- what comes of a call's choice, if it is a request
+unfoldable pub judgement_of : State → SeenState → Call → Judgement
+judgement_of s seen c = option_map_or (λ (asked : FaceId × Request). judged_for s.core.hats s.core.config seen asked.0 asked.1) (asking c) no_judgement
+
+-- the entries of routers that a call does not reach, if it is a request
+unfoldable pub unreached_of : State → SeenState → Call → List RouterEntry
+unreached_of s seen c = option_map_or (λ (asked : FaceId × Request). unreached_for s.core.hats s.core.config.zid seen asked.0 asked.1) (asking c) []
 
 -- what is seen after a call
 unfoldable pub seen_next : State → SeenState → Call → SeenState
 seen_next s seen c = noticed (next s c).core.hats (withdrawn s.core.hats seen.faces c) c (given s c) seen
 
--- a call of a line with what it gives in a state, and what it does not ask
+-- a call of a line with its key and what it gives in a state, and what comes of its choice
 abbrev pub entry_of : State → SeenState → ℕ → List ℕ → Call → Entry
-entry_of s seen number line c = record { number = number; text = line; call = c; step = given s c; missed = missed_of s seen c }
+entry_of s seen number line c = record { number = number; text = line; call = c; key = key_of seen c; step = given s c; best = s.core.config.best; judgement = judgement_of s seen c; unreached = unreached_of s seen c }
 
 -- what is seen after the call of a line, if it is one
 abbrev pub seen_of : State → SeenState → Option Call → SeenState

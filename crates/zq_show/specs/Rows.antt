@@ -87,8 +87,8 @@ asked_tag (outcome.Asked n) = number_tag (Some n)
 asked_tag _ = []
 
 -- what stands beside the arrow of a call: what a person reads of it, behind the number of the request that it made
-abbrev pub call_label : Call → Outcome → List ℕ
-call_label c o = asked_tag o ++ read_call c
+abbrev pub call_label : Option (List ℕ) → Call → Outcome → List ℕ
+call_label key c o = asked_tag o ++ read_call key c
 
 -- the row of a call
 abbrev pub call_row : Entry → Row
@@ -102,7 +102,7 @@ call_row entry =
       stopped = false;
       event = call_event (is_refused entry.step.outcome) entry.call;
       request = request_of entry.step;
-      label = call_label entry.call entry.step.outcome;
+      label = call_label entry.key entry.call entry.step.outcome;
     }
 
 -- the stroke of a message
@@ -157,14 +157,14 @@ abbrev pub leaves_tag : Bool → List ℕ
 leaves_tag stopped = if stopped then codes "stopped at the exit: " else []
 
 -- what stands beside the arrow of a message: what a person reads of it, behind the number of its request
-abbrev pub handed_label : Handed → List ℕ
-handed_label h = number_tag h.number ++ leaves_tag (is_stopped h) ++ message_label h.message
+abbrev pub handed_label : Option (List ℕ) → Handed → List ℕ
+handed_label key h = number_tag h.number ++ leaves_tag (is_stopped h) ++ message_label key h.message
 
--- the row of a message that a line's call handed, whose requests are pending up to a moment
-abbrev pub handed_row : ℕ → ℕ → Handed → Row
-handed_row number until h =
+-- the row of a message that a call handed, whose requests are pending up to a moment
+abbrev pub handed_row : Entry → ℕ → Handed → Row
+handed_row entry until h =
     record {
-      line = number;
+      line = entry.number;
       kind = kind_of h.message;
       face = Some h.to.0;
       handed = true;
@@ -172,16 +172,16 @@ handed_row number until h =
       stopped = is_stopped h;
       event = handed_event until h;
       request = h.number;
-      label = handed_label h;
+      label = handed_label entry.key h;
     }
 
 -- the rows of messages
-abbrev pub handed_rows : ℕ → ℕ → List Handed → List Row
-handed_rows line until handed = map (handed_row line until) handed
+abbrev pub handed_rows : Entry → ℕ → List Handed → List Row
+handed_rows entry until handed = map (handed_row entry until) handed
 
 -- the rows of a call: its own, and one for each message that it handed, in order
 abbrev pub rows_of : ℕ → Entry → List Row
-rows_of timeout entry = call_row entry ∷ [] ++ handed_rows entry.number (until timeout entry.call) entry.step.handed
+rows_of timeout entry = call_row entry ∷ [] ++ handed_rows entry (until timeout entry.call) entry.step.handed
 
 -- the rows of calls, in order; a request that gives no timeout has this one
 abbrev pub all_rows : ℕ → List Entry → List Row

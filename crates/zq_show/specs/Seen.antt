@@ -18,6 +18,7 @@ use Rattle.zq_strategy.specs.Kept.{declaration_at}
 use Rattle.zq_strategy.specs.State.{HatState}
 use Rattle.zq_route.specs.declared.gateways.Gateways.{Gateways}
 use Rattle.zq_tables.specs.declared.resolved.Resolved.{Resolved}
+use Rattle.zq_tables.specs.declared.resolved.Resolved.TheVariants as said
 use Rattle.zq_tables.specs.FaceTexts.{declared_key}
 use Rattle.zq_tables.specs.Naming.{NamingState, change_naming, declare_refusal, face_naming, no_keys, said_of, with_name, with_told_number, without_name}
 use Rattle.zq_machine.specs.declared.call.Call.{Call}
@@ -54,6 +55,12 @@ no_faces = record { faces = []; lists = []; names = []; gates = []; owned = [] }
 -- what an expression says that a face sends, behind its namespace
 abbrev pub said_in : NamingState → Gates → FaceId → WireExpr → Resolved
 said_in names gates face w = said_of (face_naming face.0 names) (entered_by (space_of (gate_at face.0 gates)) w)
+
+-- the text that is said in full, where there is one
+abbrev pub key_in_full : Resolved → Option (List ℕ)
+key_in_full said.Unscoped = None
+key_in_full said.Empty = None
+key_in_full (said.Full text) = Some text
 
 -- the hat of an open face
 abbrev pub hat_by : List (ℕ × HatState) → List (ℕ × OpenFace) → ℕ → Option HatState

@@ -1,10 +1,12 @@
 //! A call of a run with what it gave.
 
-use crate::reasons::MissedList;
+use crate::reasons::Judgement;
+use zq_hat::RouterEntryList;
 use zq_key::items::Items;
 use zq_key::message::FaceId;
-use zq_key::text::Bytes;
+use zq_key::text::{Bytes, Text};
 use zq_machine::call::{Call, Step};
+use zq_route::selection::Best;
 
 /// Faces, in order.
 pub type FaceList = Items<FaceId>;
@@ -18,10 +20,17 @@ pub struct Entry {
     pub text: Bytes,
     /// The call.
     pub call: Call,
+    /// The key that its expression says, where it has one that says a key.
+    pub key: Option<Text>,
     /// What it gave.
     pub step: Step,
-    /// What was declared on keys that meet its own and was not asked, if it is a request.
-    pub missed: MissedList,
+    /// Whether the target `best` chooses in each region, or over all regions.
+    pub best: Best,
+    /// What was declared on keys that meet its own and was not asked, and what was chosen over all
+    /// regions, if it is a request.
+    pub judgement: Judgement,
+    /// The entries of routers on keys that meet its own to which no way leads, if it is a request.
+    pub unreached: RouterEntryList,
 }
 
 /// Calls of a run, in order.

@@ -16,6 +16,7 @@
 //! - `seen`: what decides of a request beside the hats, kept call by call.
 //! - `carrier`: which gateway carries a request between two regions.
 //! - `reasons`: why a queryable was not asked.
+//! - `unreached`: entries of routers that a request does not reach.
 //! - `notes`: whom a request asked, and why it did not ask others.
 //! - `labels`: what a person reads of a call and of a message.
 //! - `rows`: the rows of a picture.
@@ -47,4 +48,5 @@ pub mod rows;
 pub mod seen;
 pub mod show;
 pub mod shown;
+pub mod unreached;
 pub mod words;

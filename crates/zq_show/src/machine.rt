@@ -59,6 +59,13 @@ impl Machine {
         self.tables.hats()
     }
 
+    /// The configuration.
+    pub fn config(&self) -> &Config
+        ensures { result.now ≡ self.now.core.config }
+    {
+        self.tables.config()
+    }
+
     /// The gateway's own id.
     pub fn own(&self) -> Zid
         ensures { result ≡ self.now.core.config.zid }

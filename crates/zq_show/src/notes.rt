@@ -1,10 +1,12 @@
 //! Whom a request asked, and why it did not ask others.
 ghost use Rattle.std.specs.Prelude.{◌≡◌, ◌++◌, IfOk, OnOk, map};
-ghost use Rattle.zq_show.specs.Notes.{asked_note, faces_words, is_request, missed_note, mode_words, notes_of, numbers_words, owner_words, ids_words, picked, reason_words, stopped_words, carried_words, carrier_words, stop_words};
+ghost use Rattle.zq_strategy.specs.OfferOrder.{distance};
+ghost use Rattle.zq_show.specs.Notes.{asked_note, best_words, faces_words, is_request, missed_note, mode_words, nearest_words, notes_of, numbers_words, owner_words, ids_words, picked, reason_words, stopped_words, carried_words, carrier_words, stop_words, unreached_note, won_words};
 
 use crate::entry::{Entry, FaceList};
 use crate::reasons::{Missed, Reason};
 use std::alloc::{AllocError, Global};
+use zq_hat::RouterEntry;
 use zq_io::show::push_field;
 use zq_io::words::{push_number, push_text};
 use zq_key::items::Items;
@@ -13,6 +15,8 @@ use zq_key::message::{FaceId, Message, QueryTarget, Zid};
 use zq_key::text::Bytes;
 use zq_machine::call::{Call, Outcome};
 use zq_machine::handed::Handed;
+use zq_route::selection::Best;
+use zq_strategy::QueryTargetQabl;
 
 /// Whether the message is a request, and whether it leaves or not.
 fn is_request(leaves: bool, handed: &Handed) -> bool
@@ -83,31 +87,82 @@ fn push_stopped(out: &mut Vec<u8>, faces: &[FaceId]) -> Result<(), AllocError>
     push_stops(out, faces)
 }
 
-/// What a mode asks, in each region.
-fn mode(target: QueryTarget) -> &'static str
-    ensures { result.now ≡ mode_words target }
+/// What the target `best` asks.
+fn best_mode(best: Best) -> &'static str
+    ensures { result.now ≡ best_words best }
+{
+    match best {
+        Best::ByRegion => {
+            "`best` asks in each region the nearest complete one, or all if none is; asked faces:"
+        }
+        Best::Overall => {
+            "`best` asks over all regions the nearest complete one, or all if none is; asked faces:"
+        }
+    }
+}
+
+/// What a target asks.
+fn mode(best: Best, target: QueryTarget) -> &'static str
+    ensures { result.now ≡ mode_words best target }
 {
     match target {
         QueryTarget::All => "`all` asks each; asked faces:",
         QueryTarget::AllComplete => {
             "`complete` asks those that are complete, or not known to be; asked faces:"
         }
-        QueryTarget::BestMatching => {
-            "`best` asks in each region the nearest complete one, or all if none is; asked faces:"
-        }
+        QueryTarget::BestMatching => best_mode(best),
     }
 }
 
-/// Whom the mode asked, and whom it would have but for the exit.
-fn asked_note(alloc: Global, target: QueryTarget, handed: &[Handed]) -> Result<Bytes, OutOfMemory>
-    ensures { IfOk result (λ b. b ≡ asked_note target handed.now) }
+fn distance(offer: &QueryTargetQabl) -> u16
+    ensures { result ≡ distance offer.now }
+{
+    match offer.info {
+        Some(info) => info.distance,
+        None => u16::MAX,
+    }
+}
+
+/// Writes an offer as the nearest complete one.
+#[tactic(auto, unfolding(crate::specs::Notes::won_words))]
+fn push_won(out: &mut Vec<u8>, offer: &QueryTargetQabl) -> Result<(), AllocError>
+    ensures { OnOk result (out.new.items ≡ out.old.items ++ won_words offer.now) }
+{
+    push_text(out, "; the nearest: face ")?;
+    push_number(out, offer.face.0)?;
+    push_text(out, " on ")?;
+    push_text(out, offer.key.as_str())?;
+    push_text(out, ", at distance ")?;
+    push_number(out, distance(offer))
+}
+
+/// Writes the nearest complete offer of all regions, where the choice fell on it.
+fn push_nearest(out: &mut Vec<u8>, nearest: &Option<QueryTargetQabl>) -> Result<(), AllocError>
+    ensures { OnOk result (out.new.items ≡ out.old.items ++ nearest_words nearest.now) }
+{
+    match nearest {
+        Some(offer) => push_won(out, offer),
+        None => Ok(()),
+    }
+}
+
+/// Whom the target asked, and whom it would have but for the exit.
+fn asked_note(
+    alloc: Global,
+    best: Best,
+    target: QueryTarget,
+    nearest: &Option<QueryTargetQabl>,
+    handed: &[Handed],
+) -> Result<Bytes, OutOfMemory>
+    ensures { IfOk result (λ b. b ≡ asked_note best target nearest.now handed.now) }
 {
     let mut out = Vec::new(alloc);
-    push_text(&mut out, mode(target))?;
+    push_text(&mut out, mode(best, target))?;
     let asked = picked(alloc, true, handed)?;
     push_faces(&mut out, asked.as_slice())?;
     let stopped = picked(alloc, false, handed)?;
     push_stopped(&mut out, stopped.as_slice())?;
+    push_nearest(&mut out, nearest)?;
     Ok(Bytes::from_vec(out))
 }
 
@@ -200,6 +255,34 @@ fn push_missed(
     Ok(())
 }
 
+/// An entry of a router to which no way leads.
+#[tactic(auto, unfolding(crate::specs::Notes::unreached_note))]
+fn unreached_note(alloc: Global, entry: &RouterEntry) -> Result<Bytes, OutOfMemory>
+    ensures { IfOk result (λ b. b ≡ unreached_note entry.now) }
+{
+    let mut out = Vec::new(alloc);
+    push_text(&mut out, "not asked: queryable of router ")?;
+    push_number(&mut out, entry.router.0)?;
+    push_text(&mut out, " on ")?;
+    push_text(&mut out, entry.key.as_str())?;
+    push_text(&mut out, ": no way leads to it")?;
+    Ok(Bytes::from_vec(out))
+}
+
+/// Adds the entries of routers to which no way leads.
+fn push_unreached(
+    alloc: Global,
+    notes: &mut Items<Bytes>,
+    unreached: &[RouterEntry],
+) -> Result<(), OutOfMemory>
+    ensures { OnOk result (notes.new ≡ notes.old ++ map unreached_note unreached.now) }
+{
+    for entry in unreached {
+        notes.push(unreached_note(alloc, entry)?)?;
+    }
+    Ok(())
+}
+
 /// The notes of a call: of a request that was accepted whom it asked, and what it did not ask and why;
 /// of others none.
 pub fn notes_of(alloc: Global, entry: &Entry) -> Result<Items<Bytes>, OutOfMemory>
@@ -207,8 +290,17 @@ pub fn notes_of(alloc: Global, entry: &Entry) -> Result<Items<Bytes>, OutOfMemor
 {
     let mut notes = Items::new(alloc);
     if let (Call::Request { request, .. }, Outcome::Asked(_)) = (&entry.call, entry.step.outcome) {
-        notes.push(asked_note(alloc, request.target, entry.step.handed.as_slice())?)?;
-        push_missed(alloc, &mut notes, entry.missed.as_slice())?;
+        let handed = entry.step.handed.as_slice();
+        let judgement = &entry.judgement;
+        notes.push(asked_note(
+            alloc,
+            entry.best,
+            request.target,
+            &judgement.nearest,
+            handed,
+        )?)?;
+        push_missed(alloc, &mut notes, judgement.missed.as_slice())?;
+        push_unreached(alloc, &mut notes, entry.unreached.as_slice())?;
     }
     Ok(notes)
 }

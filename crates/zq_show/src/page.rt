@@ -1,10 +1,10 @@
 //! The page of a run: the head, the faces, the picture, and the lines with what came of each.
 ghost use Rattle.std.specs.Prelude.{◌≡◌, ◌++◌, IfOk, OnOk};
 ghost use Rattle.zq_show.specs.Fit.{fitted_by, room_of};
-ghost use Rattle.zq_show.specs.Page.{item_words, long_list_words, answer_open, bad_line_words, bad_words, begin_words, came_words, head_words, items_words, legend_words, line_number_words, line_words, lines_words, link_words, linked, list_words, notes_words, page_words, said_words, scene_words};
+ghost use Rattle.zq_show.specs.Page.{item_words, long_list_words, answer_open, bad_line_words, bad_words, begin_words, came_words, head_words, items_words, legend_words, line_number_words, line_words, lines_words, link_words, linked, list_words, notes_words, page_words, rest_of_bad, said_words, scene_words, short_words};
 
 use crate::choice::{RowList, has_line};
-use crate::escape::push_in_page;
+use crate::escape::{push_in_page, push_short};
 use crate::fit::{push_fit, push_left_out, room_of};
 use crate::lanes::LaneList;
 use crate::narrow::push_narrow;
@@ -75,6 +75,13 @@ pub const LIST_ROOM: usize = 300_000;
 
 /// The bytes for which there is room in the list of the lines.
 pub const LINES_ROOM: usize = 3_000_000;
+
+/// The bytes that are shown of a line that could not be read, and of what was expected there.
+pub const BAD_ROOM: usize = 10_000;
+
+/// What is said of a line that could not be read and is longer than what is shown of it.
+pub const BAD_REST: &str =
+    "<p class='no'>cut off here; <code>zq show --text</code> prints all of it</p>";
 
 /// What stands before the lists of a page: the title, and how its parts look.
 pub const BEGIN: &str = "<!doctype html>
@@ -290,14 +297,41 @@ fn push_lines(
     push_left_out(out, fit)
 }
 
+/// Writes a text of which no more than `BAD_ROOM` bytes are shown.
+#[tactic(auto, unfolding(crate::specs::Page::short_words))]
+fn push_short_said(
+    alloc: Global,
+    out: &mut Vec<u8>,
+    before: &str,
+    text: &Bytes,
+    after: &str,
+) -> Result<(), AllocError>
+    ensures { OnOk result (out.new.items ≡ out.old.items ++ short_words before.now text.now after.now) }
+{
+    push_text(out, before)?;
+    push_short(alloc, out, BAD_ROOM, text.as_slice())?;
+    push_text(out, after)
+}
+
+/// Writes that the line that could not be read is not shown whole, where it is longer than that.
+fn push_rest_of_bad(out: &mut Vec<u8>, bad: &BadLine) -> Result<(), AllocError>
+    ensures { OnOk result (out.new.items ≡ out.old.items ++ rest_of_bad bad.now) }
+{
+    if bad.text.as_slice().len() <= BAD_ROOM {
+        return Ok(());
+    }
+    push_text(out, BAD_REST)
+}
+
 /// Writes the line that could not be read.
 #[tactic(auto, unfolding(crate::specs::Page::bad_line_words))]
 fn push_bad_line(alloc: Global, out: &mut Vec<u8>, bad: &BadLine) -> Result<(), AllocError>
     ensures { OnOk result (out.new.items ≡ out.old.items ++ bad_line_words bad.now) }
 {
     push_line_number(out, bad.number, false)?;
-    push_said(alloc, out, "<code>", &bad.text, "</code>")?;
-    push_said(
+    push_short_said(alloc, out, "<code>", &bad.text, "</code>")?;
+    push_rest_of_bad(out, bad)?;
+    push_short_said(
         alloc,
         out,
         "<p class='no'>bad line: ",

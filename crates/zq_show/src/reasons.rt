@@ -1,12 +1,13 @@
 //! Why a queryable that meets the key of a request was not asked: at which stage of the selection it
 //! went.
-ghost use Rattle.std.specs.Prelude.{◌≡◌, [], IfOk, OnOk, IsTrue, fold, option_copied, option_map};
+ghost use Rattle.std.specs.Prelude.{◌≡◌, ◌++◌, [], IfOk, OnOk, IsTrue, fold, option_copied, option_map, true};
+ghost use Rattle.std.specs.List.{flat_map};
 ghost use Rattle.std.specs.Map.{values_of};
 ghost use Rattle.zq_key.specs.Key.{is_key as key_of};
 ghost use Rattle.zq_machine.specs.Selecting.{carries_between, filter_for};
 ghost use Rattle.zq_route.specs.Selection.{is_complete};
 ghost use Rattle.zq_egress.specs.Askers.{asker_of};
-ghost use Rattle.zq_show.specs.Reasons.{asker_for, barrier, candidates, first_panel, first_verdict, found_with, has_best, home, is_best, is_picked, judged, missed_at, missed_for, missed_on, missed_or_taken, offers_nothing, origin, panel_at, panel_of, picked, picked_after, unpicked, with_hat, with_missed};
+ghost use Rattle.zq_show.specs.Reasons.{asker_for, barrier, candidates, first_panel, first_verdict, found_with, has_best, home, is_best, is_picked, is_complete_in, is_elsewhere, is_overall, judged, judged_for, judged_on, judged_said, missed_at, missed_or_taken, nearest_in, no_judgement, node_for, offers_nothing, origin, panel_at, panel_of, picked, picked_after, reaching, unpicked, with_hat, with_missed, with_nearest};
 
 use crate::carrier::carrier;
 use crate::seen::Seen;
@@ -19,8 +20,11 @@ use zq_key::memory::OutOfMemory;
 use zq_key::message::{DEFAULT_NODE_ID, FaceId, NodeId, QueryTarget, Region, Request, Zid};
 use zq_key::text::Text;
 use zq_message::RegionMap;
+use zq_machine::config::Config;
 use zq_route::builder::RouteBuilder;
 use zq_route::filter::InterRegionFilter;
+use zq_route::overall::nearest;
+use zq_route::selection::Best;
 use zq_strategy::strategy::same_region;
 use zq_strategy::{OfferList, QueryTargetQabl, Strategy};
 use zq_tables::resolved::Resolved;
@@ -70,8 +74,24 @@ struct Panel {
     beside: bool,
     /// Whom the request asks for.
     target: QueryTarget,
-    /// Whether an offer that reaches the target is complete.
+    /// Whether an offer is complete that reaches the target: of the region, or, where the choice is over
+    /// all regions, of any.
     complete: bool,
+    /// Whether the choice is over all regions.
+    overall: bool,
+    /// The region of the nearest complete offer of all regions, where the choice is over these.
+    nearest: Option<Region>,
+    /// Whether that is another region.
+    elsewhere: bool,
+}
+
+/// What came of a request.
+#[derive(Drop)]
+pub struct Judgement {
+    /// The nearest complete offer of all regions, where the choice is over all regions.
+    pub nearest: Option<QueryTargetQabl>,
+    /// What was not asked.
+    pub missed: MissedList,
 }
 
 /// What came of the offers so far.
@@ -161,7 +181,9 @@ fn is_picked(panel: Panel, found: bool, offer: &QueryTargetQabl) -> bool
     match panel.target {
         QueryTarget::All => true,
         QueryTarget::AllComplete => offer.info.is_none() || is_complete(offer),
-        QueryTarget::BestMatching => !panel.complete || (is_complete(offer) && !found),
+        QueryTarget::BestMatching => {
+            !panel.complete || (is_complete(offer) && !(found || panel.elsewhere))
+        }
     }
 }
 
@@ -297,6 +319,18 @@ fn offers_nothing(asker: &Asker<'_>, hat: &Hat) -> bool
     }
 }
 
+/// The node from which a region's ways begin: in the asker's own region that of its request, in another
+/// the gateway's.
+pub fn node_for(asker: &Asker<'_>, hat: &Hat) -> Option<NodeId>
+    ensures { result ≡ node_for (asker_of asker.now) hat.now }
+{
+    if same_region(asker.opened.region, hat.region()) {
+        asker.context
+    } else {
+        Some(DEFAULT_NODE_ID)
+    }
+}
+
 /// What a region offers to the asker; what it would offer to another, where it offers nothing.
 fn candidates(asker: &Asker<'_>, key: &str, hat: &Hat) -> Result<OfferList, OutOfMemory>
     requires { IsTrue (key_of key.now) }
@@ -305,13 +339,7 @@ fn candidates(asker: &Asker<'_>, key: &str, hat: &Hat) -> Result<OfferList, OutO
     if offers_nothing(asker, hat) {
         return hat.compute_query_route(&Region::Local, key, None);
     }
-    let src = asker.opened.region;
-    let node = if same_region(src, hat.region()) {
-        asker.context
-    } else {
-        Some(DEFAULT_NODE_ID)
-    };
-    hat.compute_query_route(&src, key, node)
+    hat.compute_query_route(&asker.opened.region, key, node_for(asker, hat))
 }
 
 /// What decides of the offers of a region, before it is known whether one is complete.
@@ -323,6 +351,9 @@ fn panel_at(panel: Panel, asker: &Asker<'_>, hat: &Hat) -> Panel
         beside: offers_nothing(asker, hat),
         target: panel.target,
         complete: panel.complete,
+        overall: panel.overall,
+        nearest: panel.nearest,
+        elsewhere: panel.elsewhere,
     }
 }
 
@@ -331,6 +362,31 @@ fn has_best(panel: Panel, asker: &Asker<'_>, offers: &[QueryTargetQabl]) -> bool
     ensures { result ≡ has_best panel (asker_of asker.now) offers.now }
 {
     offers.iter().any(|offer| is_best(panel, asker, offer))
+}
+
+/// Whether an offer on which the choice falls is complete.
+fn is_complete_in(
+    panel: Panel,
+    asker: &Asker<'_>,
+    hat: &Hat,
+    offers: &[QueryTargetQabl],
+) -> bool
+    ensures { result ≡ is_complete_in panel (asker_of asker.now) hat.now offers.now }
+{
+    if panel.overall {
+        return panel.nearest.is_some();
+    }
+    has_best(panel_at(panel, asker, hat), asker, offers)
+}
+
+/// Whether the nearest complete offer of all regions is another region's.
+fn is_elsewhere(panel: Panel, hat: &Hat) -> bool
+    ensures { result ≡ is_elsewhere panel hat.now }
+{
+    match panel.nearest {
+        Some(region) => !same_region(region, hat.region()),
+        None => false,
+    }
 }
 
 /// What decides of the offers of a region, where this decides of all.
@@ -342,7 +398,10 @@ fn panel_of(panel: Panel, asker: &Asker<'_>, hat: &Hat, offers: &[QueryTargetQab
         denied: there.denied,
         beside: there.beside,
         target: there.target,
-        complete: has_best(there, asker, offers),
+        complete: is_complete_in(panel, asker, hat, offers),
+        overall: there.overall,
+        nearest: there.nearest,
+        elsewhere: is_elsewhere(panel, hat),
     }
 }
 
@@ -380,6 +439,68 @@ fn missed_in(
     Ok(missed)
 }
 
+/// Adds the offers of a region that reach the target.
+fn add_reaching(
+    asker: &Asker<'_>,
+    panel: Panel,
+    key: &str,
+    all: &mut OfferList,
+    hat: &Hat,
+) -> Result<(), OutOfMemory>
+    requires { IsTrue (key_of key.now) }
+    ensures { OnOk result (all.new ≡ all.old ++ reaching panel (asker_of asker.now) key.now hat.now) }
+{
+    let there = panel_at(panel, asker, hat);
+    for offer in candidates(asker, key, hat)?.into_vec() {
+        if barrier(there, asker, &offer).is_none() {
+            all.push(offer)?;
+        }
+    }
+    Ok(())
+}
+
+/// The offers of all regions that reach the target.
+fn all_reaching(
+    alloc: Global,
+    asker: &Asker<'_>,
+    panel: Panel,
+    key: &str,
+    hats: &RegionMap<Hat>,
+) -> Result<OfferList, OutOfMemory>
+    requires { IsTrue (key_of key.now) }
+    ensures { IfOk result (λ o. o ≡ flat_map (reaching panel (asker_of asker.now) key.now) (values_of hats.now)) }
+{
+    let mut all = Items::new(alloc);
+    for hat in hats.values() {
+        add_reaching(asker, panel, key, &mut all, hat)?;
+    }
+    Ok(all)
+}
+
+fn is_any(_offer: &QueryTargetQabl) -> bool
+    ensures { result ≡ true }
+{
+    true
+}
+
+/// The nearest complete offer of all regions, where the choice is over all regions.
+fn nearest_in(
+    alloc: Global,
+    asker: &Asker<'_>,
+    panel: Panel,
+    key: &str,
+    hats: &RegionMap<Hat>,
+) -> Result<Option<QueryTargetQabl>, OutOfMemory>
+    requires { IsTrue (key_of key.now) }
+    ensures { IfOk result (λ o. o ≡ nearest_in hats.now panel (asker_of asker.now) key.now) }
+{
+    if !panel.overall {
+        return Ok(None);
+    }
+    let offers = all_reaching(alloc, asker, panel, key, hats)?;
+    Ok(nearest(alloc, offers, &is_any)?.pop())
+}
+
 /// The hat of a region, where it has the face.
 fn home(hats: &RegionMap<Hat>, region: Region, face: FaceId) -> Option<&Hat>
     ensures { option_copied result ≡ home hats.now region face.0 }
@@ -408,7 +529,7 @@ fn origin(
 }
 
 /// The asker of a request, if the face is open.
-fn asker_for<'a>(
+pub fn asker_for<'a>(
     seen: &'a Seen,
     hats: &RegionMap<Hat>,
     own: Zid,
@@ -430,50 +551,116 @@ fn asker_for<'a>(
     })
 }
 
+/// Whether the choice is over all regions, and the target makes one.
+fn is_overall(best: Best, target: QueryTarget) -> bool
+    ensures { result ≡ is_overall best target }
+{
+    match (best, target) {
+        (Best::Overall, QueryTarget::BestMatching) => true,
+        (Best::Overall, QueryTarget::All | QueryTarget::AllComplete) => false,
+        (Best::ByRegion, _) => false,
+    }
+}
+
 /// What decides of a request on a key, before a region is looked at.
-fn first_panel(seen: &Seen, face: FaceId, target: QueryTarget, key: &str) -> Panel
-    ensures { result ≡ first_panel seen.now face target key.now }
+fn first_panel(seen: &Seen, best: Best, face: FaceId, target: QueryTarget, key: &str) -> Panel
+    ensures { result ≡ first_panel seen.now best face target key.now }
 {
     Panel {
         denied: seen.denies(face, key),
         beside: false,
         target,
         complete: false,
+        overall: is_overall(best, target),
+        nearest: None,
+        elsewhere: false,
     }
 }
 
-/// What was not asked of all regions, on what an expression says.
-#[tactic(auto, unfolding(crate::specs::Reasons::missed_on))]
-fn missed_on(
+/// What decides, where the nearest complete offer of all regions is looked for first.
+fn with_nearest(nearest: &Option<QueryTargetQabl>, panel: Panel) -> Panel
+    ensures { result ≡ with_nearest nearest.now panel }
+{
+    Panel {
+        denied: panel.denied,
+        beside: panel.beside,
+        target: panel.target,
+        complete: panel.complete,
+        overall: panel.overall,
+        nearest: match nearest {
+            Some(offer) => Some(offer.region),
+            None => None,
+        },
+        elsewhere: panel.elsewhere,
+    }
+}
+
+/// What came of a request on a key.
+fn judged_on(
+    asked: &Asked<'_>,
+    panel: Panel,
+    key: &str,
+    hats: &RegionMap<Hat>,
+) -> Result<Judgement, OutOfMemory>
+    requires { IsTrue (key_of key.now) }
+    ensures { IfOk result (λ j. j ≡ judged_on hats.now asked.now.seen.now (asker_of asked.now.asker) panel key.now (nearest_in hats.now panel (asker_of asked.now.asker) key.now)) }
+{
+    let nearest = nearest_in(asked.seen.alloc(), &asked.asker, panel, key, hats)?;
+    let missed = missed_in(asked, with_nearest(&nearest, panel), key, hats)?;
+    Ok(Judgement { nearest, missed })
+}
+
+/// What came of a call that asks nothing.
+pub fn no_judgement(alloc: Global) -> Judgement
+    ensures { result ≡ no_judgement }
+{
+    Judgement {
+        nearest: None,
+        missed: Items::new(alloc),
+    }
+}
+
+/// What came of a request on what an expression says.
+#[tactic(auto, unfolding(crate::specs::Reasons::judged_said))]
+fn judged_said(
     asked: &Asked<'_>,
     hats: &RegionMap<Hat>,
+    best: Best,
     target: QueryTarget,
     said: &Resolved,
-) -> Result<MissedList, OutOfMemory>
-    ensures { IfOk result (λ m. m ≡ missed_on hats.now asked.now.seen.now (asker_of asked.now.asker) target said.now) }
+) -> Result<Judgement, OutOfMemory>
+    ensures { IfOk result (λ j. j ≡ judged_said hats.now asked.now.seen.now best (asker_of asked.now.asker) target said.now) }
 {
     if !says_key(said) {
-        return Ok(Items::new(asked.seen.alloc()));
+        return Ok(no_judgement(asked.seen.alloc()));
     }
-    let panel = first_panel(asked.seen, asked.asker.face, target, full_text(said));
-    missed_in(asked, panel, full_text(said), hats)
+    let key = full_text(said);
+    let panel = first_panel(asked.seen, best, asked.asker.face, target, key);
+    judged_on(asked, panel, key, hats)
 }
 
-/// What a request was not asked of, of all that was declared on keys that meet its own.
-pub fn missed_for(
+/// What came of a request: what it chose over all regions, where the choice is over these, and what it was
+/// not asked of, of all that was declared on keys that meet its own.
+pub fn judged_for(
     seen: &Seen,
     hats: &RegionMap<Hat>,
-    own: Zid,
+    config: &Config,
     face: FaceId,
     request: &Request,
-) -> Result<MissedList, OutOfMemory>
-    ensures { IfOk result (λ m. m ≡ missed_for hats.now own seen.now face request.now) }
+) -> Result<Judgement, OutOfMemory>
+    ensures { IfOk result (λ j. j ≡ judged_for hats.now config.now seen.now face request.now) }
 {
-    match asker_for(seen, hats, own, face, request.node) {
+    match asker_for(seen, hats, config.zid(), face, request.node) {
         Some(asker) => {
             let said = seen.said(face, &request.wire)?;
-            missed_on(&Asked { seen, asker }, hats, request.target, &said)
+            judged_said(
+                &Asked { seen, asker },
+                hats,
+                config.best(),
+                request.target,
+                &said,
+            )
         }
-        None => Ok(Items::new(seen.alloc())),
+        None => Ok(no_judgement(seen.alloc())),
     }
 }

@@ -3,21 +3,23 @@ ghost use Rattle.std.specs.Prelude.{◌≡◌, ◌<◌, ◌+◌, ◌^◌, [], If
 ghost use Rattle.std.specs.Option.{option_map};
 ghost use Rattle.zq_lines.specs.Split.{lines_of};
 ghost use Rattle.zq_script.specs.Script.{script_call, script_of};
-ghost use Rattle.zq_show.specs.Replay.{asking, bad_from, bad_line, begun, entries_from, entry_of, first_line, given, missed_of, next, run_of, seen_next, Adds, Shows};
+ghost use Rattle.zq_show.specs.Replay.{asking, bad_from, bad_line, begun, entries_from, entry_of, first_line, given, judgement_of, key_of, next, run_of, seen_next, unreached_of, written, Adds, Shows};
 ghost use Rattle.zq_show.specs.Seen.{no_faces};
 
 use crate::entry::{Entry, EntryList};
 use crate::machine::Machine;
 use crate::page::{BadLine, BytesList};
-use crate::reasons::{MissedList, missed_for};
+use crate::reasons::{Judgement, judged_for, no_judgement};
 use crate::seen::Seen;
 use crate::show::Run;
+use crate::unreached::unreached_for;
 use std::alloc::Global;
+use zq_hat::RouterEntryList;
 use zq_io::stop::Stop;
 use zq_key::items::Items;
 use zq_key::memory::OutOfMemory;
-use zq_key::message::{FaceId, Request};
-use zq_key::text::Bytes;
+use zq_key::message::{FaceId, Request, WireExpr};
+use zq_key::text::{Bytes, Text};
 use zq_lines::split::next_line;
 use zq_lines::why::why;
 use zq_machine::call::{Call, Step};
@@ -36,18 +38,67 @@ fn asking(call: &Call) -> Option<(FaceId, &Request)>
     }
 }
 
-/// What a call would not ask, if it is a request.
-#[tactic(auto, unfolding(crate::specs::Replay::missed_of))]
-fn missed_of(
+/// The expression of a call that has one, and the face that writes it.
+fn written(call: &Call) -> Option<(FaceId, &WireExpr)>
+    ensures { option_map (λ t. (t.0, t.1.now)) result ≡ written call.now }
+{
+    match call {
+        Call::DeclareKeyExpr { face, wire, .. } | Call::DeclareQueryable { face, wire, .. } => {
+            Some((*face, wire))
+        }
+        Call::UndeclareQueryable { face, wire, .. } | Call::Interest { face, wire, .. } => {
+            match wire {
+                Some(wire) => Some((*face, wire)),
+                None => None,
+            }
+        }
+        Call::Request { face, request, .. } => Some((*face, &request.wire)),
+        Call::Response { face, response } => Some((*face, &response.wire)),
+        _ => None,
+    }
+}
+
+/// The key that a call's expression says, where it has one that says a key.
+#[tactic(auto, unfolding(crate::specs::Replay::key_of))]
+fn key_of(seen: &Seen, call: &Call) -> Result<Option<Text>, OutOfMemory>
+    ensures { IfOk result (λ k. k ≡ key_of seen.now call.now) }
+{
+    match written(call) {
+        Some((face, wire)) => seen.key_said(face, wire),
+        None => Ok(None),
+    }
+}
+
+/// What comes of a call's choice, if it is a request.
+#[tactic(auto, unfolding(crate::specs::Replay::judgement_of))]
+fn judgement_of(
     alloc: Global,
     machine: &Machine,
     seen: &Seen,
     call: &Call,
-) -> Result<MissedList, OutOfMemory>
-    ensures { IfOk result (λ m. m ≡ missed_of machine.now seen.now call.now) }
+) -> Result<Judgement, OutOfMemory>
+    ensures { IfOk result (λ j. j ≡ judgement_of machine.now seen.now call.now) }
 {
     match asking(call) {
-        Some((face, request)) => missed_for(seen, machine.hats(), machine.own(), face, request),
+        Some((face, request)) => {
+            judged_for(seen, machine.hats(), machine.config(), face, request)
+        }
+        None => Ok(no_judgement(alloc)),
+    }
+}
+
+/// The entries of routers that a call does not reach, if it is a request.
+#[tactic(auto, unfolding(crate::specs::Replay::unreached_of))]
+fn unreached_of(
+    alloc: Global,
+    machine: &Machine,
+    seen: &Seen,
+    call: &Call,
+) -> Result<RouterEntryList, OutOfMemory>
+    ensures { IfOk result (λ l. l ≡ unreached_of machine.now seen.now call.now) }
+{
+    match asking(call) {
+        Some((face, request)) => unreached_for(seen, machine.hats(), machine.own(), face, request),
         None => Ok(Items::new(alloc)),
     }
 }
@@ -65,7 +116,7 @@ fn make(machine: &mut Machine, seen: &mut Seen, call: &Call) -> Result<Step, Out
     Ok(step)
 }
 
-/// Makes a call, and keeps what it gave, and what it did not ask.
+/// Makes a call, and keeps what it gave, and what came of its choice.
 fn entry_of(
     alloc: Global,
     machine: &mut Machine,
@@ -78,15 +129,20 @@ fn entry_of(
     ensures after { OnOk result (machine.new ≡ next machine.old call) }
     ensures seen { OnOk result (seen.new ≡ seen_next machine.old seen.old call) }
 {
-    let missed = missed_of(alloc, machine, seen, &call)?;
+    let judgement = judgement_of(alloc, machine, seen, &call)?;
+    let unreached = unreached_of(alloc, machine, seen, &call)?;
+    let key = key_of(seen, &call)?;
     let step = make(machine, seen, &call)?;
     let text = Bytes::new(alloc, line)?;
     Ok(Entry {
         number,
         text,
         call,
+        key,
         step,
-        missed,
+        best: machine.config().best(),
+        judgement,
+        unreached,
     })
 }
 

@@ -1,5 +1,5 @@
 //! The rows of a picture: one for a call, and one for each message that it hands.
-ghost use Rattle.std.specs.Prelude.{◌≡◌, IfOk, OnOk, ◌++◌};
+ghost use Rattle.std.specs.Prelude.{◌≡◌, IfOk, OnOk, ◌++◌, option_copied};
 ghost use Rattle.zq_show.specs.Rows.{call_event, call_face, call_kind, call_label, call_row, handed_event, handed_label, handed_row, handed_rows, is_stopped, kind_of, leaves_tag, opened, pending_from, request_of, rows_of, until, all_rows};
 
 use crate::answer::{is_refused, push_number_tag};
@@ -12,7 +12,7 @@ use zq_io::words::push_text;
 use zq_key::items::Items;
 use zq_key::memory::OutOfMemory;
 use zq_key::message::Message;
-use zq_key::text::Bytes;
+use zq_key::text::{Bytes, Text};
 use zq_machine::call::{Call, Outcome, Step};
 use zq_machine::handed::Handed;
 
@@ -97,14 +97,19 @@ fn request_of(step: &Step) -> Option<u64>
 
 /// What stands beside the arrow of a call: what a person reads of it, behind the number of the
 /// request that it made.
-fn call_label(alloc: Global, call: &Call, outcome: Outcome) -> Result<Bytes, OutOfMemory>
-    ensures { IfOk result (λ b. b ≡ call_label call.now outcome) }
+fn call_label(
+    alloc: Global,
+    key: Option<&Text>,
+    call: &Call,
+    outcome: Outcome,
+) -> Result<Bytes, OutOfMemory>
+    ensures { IfOk result (λ b. b ≡ call_label (option_copied key.entry) call.now outcome) }
 {
     let mut out = Vec::new(alloc);
     if let Outcome::Asked(number) = outcome {
         push_number_tag(&mut out, Some(number))?;
     }
-    push_call_label(&mut out, call)?;
+    push_call_label(&mut out, key, call)?;
     Ok(Bytes::from_vec(out))
 }
 
@@ -122,7 +127,7 @@ fn call_row(alloc: Global, entry: &Entry) -> Result<Row, OutOfMemory>
         stopped: false,
         event: call_event(&entry.call, refused),
         request: request_of(&entry.step),
-        label: call_label(alloc, &entry.call, entry.step.outcome)?,
+        label: call_label(alloc, entry.key.as_ref(), &entry.call, entry.step.outcome)?,
     })
 }
 
@@ -196,22 +201,31 @@ fn push_leaves_tag(out: &mut Vec<u8>, stopped: bool) -> Result<(), AllocError>
 
 /// What stands beside the arrow of a message: what a person reads of it, behind the number of its
 /// request.
-fn handed_label(alloc: Global, handed: &Handed) -> Result<Bytes, OutOfMemory>
-    ensures { IfOk result (λ b. b ≡ handed_label handed.now) }
+fn handed_label(
+    alloc: Global,
+    key: Option<&Text>,
+    handed: &Handed,
+) -> Result<Bytes, OutOfMemory>
+    ensures { IfOk result (λ b. b ≡ handed_label (option_copied key.entry) handed.now) }
 {
     let mut out = Vec::new(alloc);
     push_number_tag(&mut out, handed.number())?;
     push_leaves_tag(&mut out, is_stopped(handed))?;
-    push_message_label(&mut out, handed.message())?;
+    push_message_label(&mut out, key, handed.message())?;
     Ok(Bytes::from_vec(out))
 }
 
-/// The row of a message that a line's call handed, whose requests are pending up to a moment.
-fn handed_row(alloc: Global, line: u64, until: u64, handed: &Handed) -> Result<Row, OutOfMemory>
-    ensures { IfOk result (λ r. r ≡ handed_row line until handed.now) }
+/// The row of a message that a call handed, whose requests are pending up to a moment.
+fn handed_row(
+    alloc: Global,
+    entry: &Entry,
+    until: u64,
+    handed: &Handed,
+) -> Result<Row, OutOfMemory>
+    ensures { IfOk result (λ r. r ≡ handed_row entry.now until handed.now) }
 {
     Ok(Row {
-        line,
+        line: entry.number,
         kind: kind_of(handed.message()),
         face: Some(handed.to().0),
         handed: true,
@@ -219,22 +233,22 @@ fn handed_row(alloc: Global, line: u64, until: u64, handed: &Handed) -> Result<R
         stopped: is_stopped(handed),
         event: handed_event(handed, until),
         request: handed.number(),
-        label: handed_label(alloc, handed)?,
+        label: handed_label(alloc, entry.key.as_ref(), handed)?,
     })
 }
 
-/// Adds the rows of messages.
+/// Adds the rows of the messages that a call handed.
 fn push_handed(
     alloc: Global,
     rows: &mut RowList,
-    line: u64,
     until: u64,
-    handed: &[Handed],
+    entry: &Entry,
 ) -> Result<(), OutOfMemory>
-    ensures { OnOk result (rows.new ≡ rows.old ++ handed_rows line until handed.now) }
+    ensures { OnOk result (rows.new ≡ rows.old ++ handed_rows entry.now until entry.now.step.handed) }
 {
+    let handed = entry.step.handed.as_slice();
     for message in handed {
-        rows.push(handed_row(alloc, line, until, message)?)?;
+        rows.push(handed_row(alloc, entry, until, message)?)?;
     }
     Ok(())
 }
@@ -250,13 +264,7 @@ fn push_rows(
 {
     rows.push(call_row(alloc, entry)?)?;
     let until = until(timeout, &entry.call);
-    push_handed(
-        alloc,
-        rows,
-        entry.number,
-        until,
-        entry.step.handed.as_slice(),
-    )
+    push_handed(alloc, rows, until, entry)
 }
 
 /// The rows of calls, in order; a request that gives no timeout has this one.

@@ -6,7 +6,7 @@ ghost use Rattle.zq_index.specs.Holders.{held_at};
 ghost use Rattle.zq_key.specs.Key.{is_key as is_key_of};
 ghost use Rattle.zq_machine.specs.Gates.{denied_by, gate_at};
 ghost use Rattle.zq_namespace.specs.Denied.{is_denied};
-ghost use Rattle.zq_show.specs.Seen.{faces_after, gates_after, held_with, held_without, ids_on, key_by, lists_after, named, names_after, no_faces, noticed, owned_after, said_in, told_key, with_given, with_told, withdrawn};
+ghost use Rattle.zq_show.specs.Seen.{faces_after, gates_after, held_with, held_without, ids_on, key_by, key_in_full, lists_after, named, names_after, no_faces, noticed, owned_after, said_in, told_key, with_given, with_told, withdrawn};
 
 use crate::answer::is_refused;
 use std::alloc::Global;
@@ -413,6 +413,16 @@ impl Seen {
         ensures { IfOk result (λ s. s ≡ said_in self.now.names self.now.gates face wire.now) }
     {
         said_in(&self.names, &self.gates, face, wire)
+    }
+
+    /// The key that an expression says which a face sends, if it says one.
+    pub fn key_said(&self, face: FaceId, wire: &WireExpr) -> Result<Option<Text>, OutOfMemory>
+        ensures { IfOk result (λ k. k ≡ key_in_full (said_in self.now.names self.now.gates face wire.now)) }
+    {
+        match self.said(face, wire)? {
+            Resolved::Full(text) => Ok(Some(text)),
+            Resolved::Unscoped | Resolved::Empty => Ok(None),
+        }
     }
 
     /// Whether a text is a key that a face may not ask for.
