@@ -12,3 +12,4 @@ pub mod Gathering
 pub mod Listing
 pub mod Parts
 pub mod Regions
+pub mod AllPut

@@ -1,13 +1,13 @@
 -- The entries of routers to which no way leads.
 use Rattle.std.specs.Prelude.{ℕ, Bool, List, [], Option, Some, None, filter, is_none, map}
 use Rattle.std.specs.List.{flat_map}
+use Rattle.std.specs.Option.{option_and_then}
 use Rattle.zq_message.specs.declared.message.QueryableInfoType.{QueryableInfoType}
 use Rattle.zq_message.specs.declared.message.Region.{Region}
 use Rattle.zq_message.specs.declared.message.Zid.{Zid}
 use Rattle.zq_strategy.specs.declared.network.Network.{Network}
 use Rattle.zq_strategy.specs.Entries.{Routed}
 use Rattle.zq_strategy.specs.Met.{is_met}
-use Rattle.zq_strategy.specs.Nets.{◌>>=◌}
 use Rattle.zq_strategy.specs.Routed.{way_to}
 use Rattle.zq_strategy.specs.Routers.{face_with, source_for}
 use Rattle.zq_strategy.specs.State.{HatState}
@@ -15,7 +15,7 @@ use Rattle.zq_hat.specs.declared.unreached.RouterEntry.{RouterEntry}
 
 -- no open face stands on the way from a source to a router, where faces are found by their ids
 abbrev pub is_unreached : Network → (Zid → Option ℕ) → Option ℕ → ℕ × QueryableInfoType → Bool
-is_unreached net face source e = is_none (source >>= λ n. way_to net face n e.0)
+is_unreached net face source e = is_none (option_and_then (λ n. way_to net face n e.0) source)
 
 -- a router's entry on a key
 abbrev pub entry_on : List ℕ → ℕ × QueryableInfoType → RouterEntry

@@ -1,9 +1,9 @@
 //! The entries of routers to which no way leads.
 ghost use Rattle.std.specs.Prelude.{◌≡◌, ◌++◌, IfOk, OnOk, IsTrue, filter, is_none};
 ghost use Rattle.std.specs.List.{AllByRecursion, flat_map};
+ghost use Rattle.std.specs.Option.{option_and_then};
 ghost use Rattle.zq_key.specs.Key.{is_key};
 ghost use Rattle.zq_strategy.specs.Met.{is_met};
-ghost use Rattle.zq_strategy.specs.Nets.{◌>>=◌};
 ghost use Rattle.zq_strategy.specs.OfferOrder.{IsKeyed};
 ghost use Rattle.zq_strategy.specs.Routed.{way_to};
 ghost use Rattle.zq_strategy.specs.Seating.{seated};
@@ -48,7 +48,7 @@ pub(crate) struct Ways<'a> {
 impl<'a> Ways<'a> {
     /// Whether no open face stands on the way to a router.
     fn is_unreached(&self, router: u128) -> bool
-        ensures { result ≡ is_none (self.now.source >>= λ n. way_to self.now.net.now (λ zid. seated zid self.now.seats.now) n router) }
+        ensures { result ≡ is_none (option_and_then (λ n. way_to self.now.net.now (λ zid. seated zid self.now.seats.now) n router) self.now.source) }
     {
         let Some(source) = self.source else {
             return true;
