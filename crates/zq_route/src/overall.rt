@@ -26,8 +26,8 @@ fn keep_first(kept: &mut Vec<QueryTargetQabl>, offer: QueryTargetQabl) -> Result
     Ok(())
 }
 
-/// The nearest complete offer that passes, alone.
-fn nearest<F: Fn(&QueryTargetQabl) -> bool>(
+/// The complete offer that passes and is first by distance, key text and face number, if there is one.
+pub fn nearest<F: Fn(&QueryTargetQabl) -> bool>(
     alloc: Global,
     offers: OfferList,
     passes: &F,
