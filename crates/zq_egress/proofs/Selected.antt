@@ -1,5 +1,5 @@
 -- What is selected of the regions' offers, one region after the other.
-use Rattle.std.proofs.Common.{◌≡◌, ◌∙◌, sym, ap, refl, ℕ, List, [], ◌∷◌, ◌++◌}
+use Rattle.std.proofs.Common.{◌≡◌, ◌∙◌, sym, ap, refl, ℕ, true, List, [], ◌∷◌, ◌++◌}
 use Rattle.std.specs.List.{filter, flat_map}
 use Rattle.std.proofs.lemmas.List.Elements.{filter-append}
 use Rattle.zq_message.specs.declared.message.QueryTarget.{QueryTarget}
@@ -8,6 +8,10 @@ use Rattle.zq_strategy.specs.State.{HatState}
 use Rattle.zq_route.specs.Selection.{chosen, joined, with_offers}
 use Rattle.zq_route.proofs.SelectionLaws.{with_offers_joined}
 use Rattle.zq_machine.specs.Selecting.{AskerState, offers_to, part_for, parts_for, passes}
+
+pub filter_all : {X : Type 0} (xs : List X) → filter (λ _. true) xs ≡ xs
+filter_all [] = refl
+filter_all (x ∷ xs) = ap (λ l. x ∷ l) (filter_all xs)
 
 module _ (a : AskerState) (key : List ℕ) where
   -- a region joins, and then the others

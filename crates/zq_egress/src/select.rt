@@ -7,7 +7,7 @@ ghost use Rattle.zq_route.specs.Selection.{best_overall, chosen, joined, picked,
 ghost use Rattle.zq_machine.specs.Selecting.{target_of, carries_between, filter_for, offers_to, part_for, parts_for, passes, zid_of};
 ghost use Rattle.zq_egress.specs.Askers.{asker_of};
 ghost use Rattle.std.specs.List.{flat_map};
-ghost use Rattle.std.specs.Prelude.{map, true};
+ghost use Rattle.std.specs.Prelude.{filter, map, true};
 
 use std::alloc::{AllocError, Global};
 use std::collections::BTreeMap;
@@ -114,9 +114,25 @@ impl<'a> Asker<'a> {
         hat.compute_query_route(&src, key, node)
     }
 
-    // A region's part joins what earlier regions gave: the target picks among the offers that pass.
+    // The offers that are for the asker's request.
+    fn passing(&self, alloc: Global, offers: OfferList) -> Result<OfferList, OutOfMemory>
+        ensures { IfOk result (λ l. l ≡ filter (passes (asker_of self.now)) offers) }
+    {
+        let mut kept = Items::new(alloc);
+        for offer in offers.into_vec() {
+            if self.passes(&offer) {
+                kept.push(offer)?;
+            }
+        }
+        Ok(kept)
+    }
+
+    // A region's part joins what earlier regions gave. The offers that pass are picked out first, so
+    // that the target picks among all that are left.
+    #[tactic(auto, using(crate::proofs::Selected::filter_all))]
     fn add_part(
         &self,
+        alloc: Global,
         key: &str,
         target: QueryTarget,
         route: &mut RouteBuilder<QueryTargetQabl>,
@@ -125,8 +141,8 @@ impl<'a> Asker<'a> {
         requires { IsTrue (key_of key.now) }
         ensures { OnOk result (route.new ≡ with_offers route.old (chosen target (part_for (asker_of self.now) key.now hat.now))) }
     {
-        let offers = self.offers_in(key, hat)?;
-        take_final_route(target, route, offers, |offer| self.passes(offer))
+        let offers = self.passing(alloc, self.offers_in(key, hat)?)?;
+        take_final_route(target, route, offers, is_any)
     }
 
     // Region by region, in the order of their places.
@@ -143,7 +159,7 @@ impl<'a> Asker<'a> {
     {
         let mut route = RouteBuilder::new(alloc);
         for hat in hats.values() {
-            self.add_part(key, target, &mut route, hat)?;
+            self.add_part(alloc, key, target, &mut route, hat)?;
         }
         Ok(route)
     }
@@ -167,7 +183,7 @@ impl<'a> Asker<'a> {
     }
 
     // The best of the offers of all regions together that pass.
-    #[tactic(auto, using(crate::proofs::Selected::passing_joined))]
+    #[tactic(auto, using(crate::proofs::Selected::passing_joined, crate::proofs::Selected::filter_all))]
     fn route_overall(
         &self,
         alloc: Global,
@@ -177,9 +193,9 @@ impl<'a> Asker<'a> {
         requires { IsTrue (key_of key.now) }
         ensures { IfOk result (λ r. r ≡ with_offers [] (best_overall (joined (parts_for (asker_of self.now) key.now (values_of hats.now))))) }
     {
-        let offers = self.offers_in_all(alloc, hats, key)?;
+        let offers = self.passing(alloc, self.offers_in_all(alloc, hats, key)?)?;
         let mut route = RouteBuilder::new(alloc);
-        take_best_overall(alloc, &mut route, offers, |offer| self.passes(offer))?;
+        take_best_overall(alloc, &mut route, offers, is_any)?;
         Ok(route)
     }
 
@@ -221,4 +237,10 @@ impl<'a> Asker<'a> {
     {
         Ok(self.route(alloc, hats, key, target, best)?.build())
     }
+}
+
+fn is_any(_offer: &QueryTargetQabl) -> bool
+    ensures { result ≡ true }
+{
+    true
 }
