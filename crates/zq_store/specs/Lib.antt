@@ -1,0 +1,4 @@
+pub mod Held
+pub mod Bus
+pub mod Getting
+pub mod Room

@@ -1,0 +1,26 @@
+//! Storages that answer queries, and a tool that asks them, over one gateway.
+//!
+//! - `held`: the pairs of a storage
+//! - `storage`: a storage, and what storages answer
+//! - `stores`: the storages of a bus
+//! - `room`: whether the numbers that are left suffice for replies
+//! - `joining`: faces of Local
+//! - `got`: what a get brings
+//! - `asking`: the calls of a get
+//! - `bus`: the gateway with its asker and its storages
+//! - `laws`: which storages a pair's key leads to
+#![tactic(auto)]
+
+mod asking;
+pub mod bus;
+pub mod got;
+mod held;
+mod joining;
+pub mod laws;
+mod room;
+pub mod storage;
+pub mod stores;
+
+pub use bus::{Bus, BusRefusal};
+pub use got::{Got, GotList, GotReply, StoreId};
+pub use stores::PutRefusal;
