@@ -1,2 +1,9 @@
 pub mod Lists
 pub mod Sorting
+pub mod Picked
+pub mod Quiet
+pub mod Selected
+pub mod Ends
+pub mod Joining
+pub mod First
+pub mod Seating
