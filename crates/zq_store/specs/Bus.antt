@@ -7,7 +7,6 @@ use Rattle.zq_message.specs.declared.message.Mode.TheVariants as mode
 use Rattle.zq_message.specs.declared.message.QueryableInfoType.{QueryableInfoType}
 use Rattle.zq_message.specs.declared.message.Region.TheVariants as region
 use Rattle.zq_message.specs.declared.message.Zid.{Zid}
-use Rattle.zq_key.specs.Key.{includes, is_plain}
 use Rattle.zq_tables.specs.Naming.{plain}
 use Rattle.zq_machine.specs.declared.call.Call.{Call}
 use Rattle.zq_machine.specs.declared.call.Call.TheVariants as call
@@ -15,17 +14,11 @@ use Rattle.zq_machine.specs.declared.call.Opening.{Opening}
 use Rattle.zq_machine.specs.Configs.{Settings, has_local}
 use Rattle.zq_machine.specs.Machine.{after, state_after}
 use Rattle.zq_machine.specs.State.{State, opening_state}
-use Rattle.zq_store.specs.Held.{Change, Pairs, changed}
+use Rattle.zq_store.specs.Held.{Change}
+use Rattle.zq_store.specs.Stores.{Stored, change_at, holds_own, new_store, numbered, refusal_at}
 use Rattle.zq_store.specs.declared.bus.BusRefusal.{BusRefusal}
 use Rattle.zq_store.specs.declared.bus.BusRefusal.TheVariants as refusal
 use Rattle.zq_store.specs.declared.stores.PutRefusal.{PutRefusal}
-use Rattle.zq_store.specs.declared.stores.PutRefusal.TheVariants as unput
-
--- a storage: the key that it answers for, its face, and what it holds
-pub record Stored : Type 0 where
-  pub key : List ℕ
-  pub face : FaceId
-  pub held : Pairs
 
 -- a gateway with its asker and its storages; the numbers of its next face, request and reply; and whether a call found no memory
 pub record BusState : Type 0 where
@@ -79,10 +72,6 @@ join_calls zid face key complete = call.Open (local_opening zid) ∷ store_call 
 abbrev pub free_face : BusState → FaceId
 free_face b = record { 0 = b.next_face }
 
--- a storage with no pairs
-abbrev pub new_store : List ℕ → FaceId → Stored
-new_store key face = record { key = key; face = face; held = [] }
-
 -- the bus after a storage joined
 abbrev pub added : List ℕ → Bool → BusState → BusState
 added key complete b = record b {
@@ -93,48 +82,15 @@ added key complete b = record b {
 
 -- ---- puts and deletes
 
--- why a storage, if it is one, does not take the key
-abbrev pub refusal_at : List ℕ → Option Stored → Option PutRefusal
-refusal_at key None = Some unput.UnknownStore
-refusal_at key (Some s) =
-    if not (is_plain key) then Some unput.NotPlain
-    else (if not (includes s.key key) then Some unput.Outside else None)
-
 -- why the storage with this number does not take the key
 abbrev pub put_refusal : ℕ → List ℕ → BusState → Option PutRefusal
 put_refusal store key b = refusal_at key (slice_get b.stores store)
-
--- the storage after a change of its pairs
-abbrev pub changed_store : Change → Stored → Stored
-changed_store c s = record s { held = changed s.held c }
-
--- the storages, of which this one, if it is one, is changed
-abbrev pub change_by : ℕ → Change → List Stored → Option Stored → List Stored
-change_by store c stores None = stores
-change_by store c stores (Some s) = slice_set stores store (changed_store c s)
-
--- the storages, of which the one with this number is changed
-abbrev pub change_at : ℕ → Change → List Stored → List Stored
-change_at store c stores = change_by store c stores (slice_get stores store)
 
 -- the bus after a change of a storage
 abbrev pub with_change : ℕ → Change → BusState → BusState
 with_change store c b = record b { stores = change_at store c b.stores }
 
 -- ---- what is kept
-
--- the pair's key is a plain one that the storage's key includes
-abbrev pub fits_store : List ℕ → List ℕ × List ℕ → Bool
-fits_store key p = is_plain p.0 && includes key p.0
-
--- all pairs of the storage fit it
-abbrev pub holds_own : Stored → Bool
-holds_own s = list_all (fits_store s.key) s.held
-
--- the faces of the storages are numbered one after another, from this number on
-abbrev pub numbered : ℕ → List Stored → Bool
-numbered n [] = true
-numbered n (s ∷ more) = (s.face.0 == n) && numbered (n + 1) more
 
 -- what holds of a bus between two calls, spent or not
 pub record IsBus (b : BusState) : Type 0 where

@@ -9,15 +9,15 @@ use Rattle.zq_message.specs.declared.message.QueryTarget.{QueryTarget}
 use Rattle.zq_message.specs.declared.message.ReplyBody.TheVariants as body
 use Rattle.zq_message.specs.declared.message.Request.{Request}
 use Rattle.zq_message.specs.declared.message.Response.{Response}
-use Rattle.zq_key.specs.Key.{intersects}
 use Rattle.zq_tables.specs.Naming.{plain}
 use Rattle.zq_machine.specs.declared.call.Call.{Call}
 use Rattle.zq_machine.specs.declared.call.Call.TheVariants as call
 use Rattle.zq_machine.specs.declared.call.Step.{Step}
 use Rattle.zq_machine.specs.Handing.{Handed}
 use Rattle.zq_machine.specs.Machine.{state_after, step, steps_from}
-use Rattle.zq_store.specs.Held.{Pairs}
-use Rattle.zq_store.specs.Bus.{BusState, Stored}
+use Rattle.zq_store.specs.Held.{meeting}
+use Rattle.zq_store.specs.Stores.{Stored, count_all, held_at, is_face}
+use Rattle.zq_store.specs.Bus.{BusState}
 use Rattle.zq_store.specs.declared.bus.BusRefusal.{BusRefusal}
 use Rattle.zq_store.specs.declared.bus.BusRefusal.TheVariants as refusal
 use Rattle.zq_store.specs.declared.got.Got.{Got}
@@ -26,18 +26,6 @@ use Rattle.zq_store.specs.declared.storage.Answer.{Answer}
 use Rattle.zq_store.specs.declared.storage.AskedStore.{AskedStore}
 
 -- ---- who answers what
-
--- the pair's key meets the key
-abbrev pub meets_key : List ℕ → List ℕ × List ℕ → Bool
-meets_key key p = intersects p.0 key
-
--- the pairs that meet the key, in their order
-abbrev pub meeting : List ℕ → Pairs → Pairs
-meeting key pairs = filter (meets_key key) pairs
-
--- the storage has this face
-abbrev pub is_face : FaceId → Stored → Bool
-is_face face s = s.face.0 == face.0
 
 -- the storage with this number is asked at its face, under this id
 abbrev pub asked_at : FaceId → ℕ → ℕ → AskedStore
@@ -59,10 +47,6 @@ asked_in stores h = asked_by stores h.to h.message
 -- the storages that are asked, in the order in which they are handed the request
 abbrev pub asked_of : List Stored → List Handed → List AskedStore
 asked_of stores hs = flat_map (asked_in stores) hs
-
--- the pairs of the storage with this number
-abbrev pub held_at : List Stored → ℕ → Pairs
-held_at stores store = option_map_or (λ (s : Stored). s.held) (slice_get stores store) []
 
 -- a storage's answer by one of its pairs
 abbrev pub answer_by : AskedStore → List ℕ × List ℕ → Answer
@@ -145,14 +129,6 @@ after_get b key target now = record b {
 }
 
 -- ---- why nothing is asked
-
--- how many pairs of a storage meet the key
-abbrev pub count_in : List ℕ → Stored → ℕ
-count_in key s = length (meeting key s.held)
-
--- how many pairs of all storages meet the key
-abbrev pub count_all : List ℕ → List Stored → ℕ
-count_all key stores = sum_by (count_in key) stores
 
 -- a number is left for the request
 abbrev pub has_request : BusState → Bool

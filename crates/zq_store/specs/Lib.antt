@@ -1,4 +1,5 @@
 pub mod Held
+pub mod Pair
+pub mod Stores
 pub mod Bus
 pub mod Getting
-pub mod Room

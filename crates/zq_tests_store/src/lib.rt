@@ -1,0 +1,5 @@
+//! Tests of storages, as a caller uses them.
+#![tactic(auto)]
+
+#[cfg(test)]
+mod rows;
