@@ -19,13 +19,13 @@ lesser n k less = sym (nat_cmp_is n k Less less)
 pub itself : (n : ℕ) → is_at (nat_cmp n) n ≡ true
 itself n = at_itself nat_cmp_total exact_unsigned n
 
+apart : (n k : ℕ) → k < n → is_at (nat_cmp n) k ≡ false
+apart n k less = ap is_eq (greater n k less)
+
 module _ {X : Type 0} (n : ℕ) where
   -- all stand before the number
   abbrev pub AreBefore : List (ℕ × X) → Type 0
   AreBefore es = AllByRecursion (λ (e : ℕ × X). e.0 < n) es
-
-  apart : (k : ℕ) → k < n → is_at (nat_cmp n) k ≡ false
-  apart k less = ap is_eq (greater n k less)
 
   pub inserted_last : (v : X) (es : List (ℕ × X)) → AreBefore es → insert_entry nat_cmp es n v ≡ es ++ (n, v) ∷ []
   inserted_last v [] all = refl
@@ -35,14 +35,14 @@ module _ {X : Type 0} (n : ℕ) where
 
   pub none_last : (es : List (ℕ × X)) → AreBefore es → lookup (is_at (nat_cmp n)) es ≡ None
   none_last [] all = refl
-  none_last (e ∷ es) all = ap (λ b. cond b (Some e.1) (lookup (is_at (nat_cmp n)) es)) (apart e.0 all.0) ∙ none_last es all.1
+  none_last (e ∷ es) all = ap (λ b. cond b (Some e.1) (lookup (is_at (nat_cmp n)) es)) (apart n e.0 all.0) ∙ none_last es all.1
 
   pub found_last : (v : X) (es more : List (ℕ × X)) → AreBefore es → lookup (is_at (nat_cmp n)) (es ++ (n, v) ∷ more) ≡ Some v
   found_last v [] more all = ap (λ b. cond b (Some v) (lookup (is_at (nat_cmp n)) more)) (itself n)
-  found_last v (e ∷ es) more all = ap (λ b. cond b (Some e.1) (lookup (is_at (nat_cmp n)) (es ++ (n, v) ∷ more))) (apart e.0 all.0) ∙ found_last v es more all.1
+  found_last v (e ∷ es) more all = ap (λ b. cond b (Some e.1) (lookup (is_at (nat_cmp n)) (es ++ (n, v) ∷ more))) (apart n e.0 all.0) ∙ found_last v es more all.1
 
   pub set_last : (v w : X) (es more : List (ℕ × X)) → AreBefore es → set_value (is_at (nat_cmp n)) (es ++ (n, v) ∷ more) w ≡ es ++ (n, w) ∷ more
   set_last v w [] more all = ap (λ b. cond b ((n, w) ∷ more) ((n, v) ∷ set_value (is_at (nat_cmp n)) more w)) (itself n)
   set_last v w (e ∷ es) more all =
-      ap (λ b. cond b ((e.0, w) ∷ (es ++ (n, v) ∷ more)) (e ∷ set_value (is_at (nat_cmp n)) (es ++ (n, v) ∷ more) w)) (apart e.0 all.0)
+      ap (λ b. cond b ((e.0, w) ∷ (es ++ (n, v) ∷ more)) (e ∷ set_value (is_at (nat_cmp n)) (es ++ (n, v) ∷ more) w)) (apart n e.0 all.0)
       ∙ ap (λ l. e ∷ l) (set_last v w es more all.1)

@@ -7,3 +7,4 @@ pub mod Ends
 pub mod Joining
 pub mod First
 pub mod Seating
+pub mod Running

@@ -1,7 +1,8 @@
 -- A list in order is sorted as it is, and a route takes all offers of different faces.
+use mathlib.Core.List.{reverse-cons}
 use Rattle.std.proofs.Common.{◌≡◌, ◌∙◌, refl, sym, ap, subst, ℕ, ◌+◌, ◌-◌, Bool, true, false, cond, List, [], ◌∷◌, ◌++◌, map, length, take, drop, append_assoc, append-nil, arith}
-use Rattle.std.specs.Prelude.{fold, ◌==◌, ◌||◌}
-use Rattle.std.specs.List.{AllByRecursion, insert, list_any, prefix_len, reverse, suffix_len}
+use Rattle.std.specs.Prelude.{fold, reverse, ◌==◌, ◌||◌}
+use Rattle.std.specs.List.{AllByRecursion, insert, list_any, prefix_len, suffix_len}
 use Rattle.std.specs.Map.{values_of}
 use Rattle.std.specs.declared.cmp.Ordering.{Ordering}
 use Rattle.std.specs.Ordering.{is_lt}
@@ -25,7 +26,7 @@ module _ {X : Type 0} (cmp : X → X → Ordering) where
 
   all_turned : (P : X → Type 0) (xs : List X) → AllByRecursion P xs → AllByRecursion P (reverse xs)
   all_turned P [] all = tt
-  all_turned P (x ∷ xs) all = all_append P (reverse xs) (x ∷ []) (all_turned P xs all.1) (all.0, tt)
+  all_turned P (x ∷ xs) all = subst (AllByRecursion P) (sym (reverse-cons x xs)) (all_append P (reverse xs) (x ∷ []) (all_turned P xs all.1) (all.0, tt))
 
   at_end : (xs : List X) (x : X) → insert xs (length xs) x ≡ xs ++ x ∷ []
   at_end [] x = refl
@@ -34,7 +35,8 @@ module _ {X : Type 0} (cmp : X → X → Ordering) where
   placed : (xs : List X) (x : X) → AllByRecursion (λ y. Ordered y x) xs → place cmp xs x ≡ xs ++ x ∷ []
   placed xs x all =
       let none : suffix_len (λ y. is_lt (cmp x y)) xs ≡ 0 = none_passes (λ y. is_lt (cmp x y)) (reverse xs) (all_turned (λ y. Ordered y x) xs all) in
-      ap (λ n. insert xs (length xs - n) x) none ∙ at_end xs x
+      let whole : length xs - suffix_len (λ y. is_lt (cmp x y)) xs ≡ length xs = omega (arith, none) in
+      ap (λ n. insert xs n x) whole ∙ at_end xs x
 
   -- those before are not greater than those to come
   abbrev Before : List X → List X → Type 0
