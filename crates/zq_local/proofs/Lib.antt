@@ -8,3 +8,4 @@ pub mod Joining
 pub mod First
 pub mod Seating
 pub mod Running
+pub mod Asked
