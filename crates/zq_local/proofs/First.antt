@@ -149,11 +149,11 @@ module _ (config : Settings) where
 
   is_there : (es : List Entry) (mid : Option HatState) → list_any is_local_entry es ≡ true → mid_after es mid ≡ Some local
   is_there [] mid h = absurd (false≢true h)
-  is_there (e ∷ es) mid h = by (is_local_entry e) h
+  is_there (e ∷ es) mid h = by (is_local_entry e) h (is_there es mid)
     where
-      by : (b : Bool) → (b || list_any is_local_entry es) ≡ true → mid_after es (cond b (Some local) mid) ≡ Some local
-      by true g = stays es
-      by false g = is_there es mid g
+      by : (b : Bool) → (b || list_any is_local_entry es) ≡ true → (list_any is_local_entry es ≡ true → mid_after es mid ≡ Some local) → mid_after es (cond b (Some local) mid) ≡ Some local
+      by true g more = stays es
+      by false g more = more g
 
   pub first_are : has_local config.entries ≡ true → AreHats (first_hats config) local
   first_are h =

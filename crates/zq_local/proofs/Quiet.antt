@@ -10,7 +10,7 @@ use Rattle.zq_message.specs.declared.message.QueryTarget.{QueryTarget}
 use Rattle.zq_message.specs.declared.message.Request.{Request}
 use Rattle.zq_message.specs.declared.message.Response.{Response}
 use Rattle.zq_message.specs.declared.message.ReplyBody.TheVariants as body
-use Rattle.zq_key.specs.Key.{is_key}
+use Rattle.zq_key.specs.Key.{is_chunk, is_key}
 use Rattle.zq_query.specs.declared.records.Final.{Final}
 use Rattle.zq_query.specs.declared.records.ReplyTo.{ReplyTo}
 use Rattle.zq_query.specs.Asking.{after_ask, is_full}
@@ -75,7 +75,7 @@ module _ (s : State) (t : TextCall) (none : told_of s.core t ≡ []) (ungated : 
 
 -- ---- a key by itself says itself
 pub says_itself : (key : List ℕ) → is_key key ≡ true → said_plainly key ≡ said.Full key
-unfolding is_key
+unfolding is_key is_chunk
 says_itself [] h = absurd (false≢true h)
 says_itself (b ∷ t) h = refl
 

@@ -44,14 +44,14 @@ module _ (core : Core) (names : NamingState) (number : ℕ) (asker : FaceId) (id
 
     abbrev pub calls : ℕ → List A → List Call
     calls n [] = []
-    calls n (a ∷ as) = reply_call a ∷ call.Sent n ∷ calls (n + 1) as
+    calls n (a ∷ xs) = reply_call a ∷ call.Sent n ∷ calls (n + 1) xs
 
     abbrev pub sent_one : ℕ → A → Handed
     sent_one n a = sent_reply (record { to = asker; number = number; reply = n; id = id; text = key a; qos = qos; payload = body.Reply (value a); responder = None })
 
     abbrev pub sent_all : ℕ → List A → List Handed
     sent_all n [] = []
-    sent_all n (a ∷ as) = sent_one n a ∷ sent_all (n + 1) as
+    sent_all n (a ∷ xs) = sent_one n a ∷ sent_all (n + 1) xs
 
     -- a reply of a storage that is open and was asked, on a key
     abbrev pub IsFit : A → Type 0
@@ -74,18 +74,18 @@ module _ (core : Core) (names : NamingState) (number : ℕ) (asker : FaceId) (id
       first_hands : (step (waiting pending n) (reply_call a)).handed ≡ sent_one n a ∷ []
       first_hands = reply_hands core names number asker id qos last_ids requests request_ids pending (face a) (rid a) fit.0 fit.1 n (key a) (value a) fit.2 fits
 
-    pub replies_hand : (as : List A) (n : ℕ) → AllByRecursion IsFit as → n + length as < 2 ^ 64 → handed_by (steps_from (waiting pending n) (calls n as)) ≡ sent_all n as
+    pub replies_hand : (xs : List A) (n : ℕ) → AllByRecursion IsFit xs → n + length xs < 2 ^ 64 → handed_by (steps_from (waiting pending n) (calls n xs)) ≡ sent_all n xs
     replies_hand [] n fit less = refl
-    replies_hand (a ∷ as) n fit less =
+    replies_hand (a ∷ xs) n fit less =
         let fits = not_last n (omega (arith, less)) in
-        (λ j. first_hands a fit.0 n fits j ++ (flying_hands a fit.0 n fits j ++ handed_by (steps_from (flying_leaves a fit.0 n fits j) (calls (n + 1) as))))
-        ∙ ap (λ l. sent_one n a ∷ l) (replies_hand as (n + 1) fit.1 (omega (arith, less)))
+        (λ j. first_hands a fit.0 n fits j ++ (flying_hands a fit.0 n fits j ++ handed_by (steps_from (flying_leaves a fit.0 n fits j) (calls (n + 1) xs))))
+        ∙ ap (λ l. sent_one n a ∷ l) (replies_hand xs (n + 1) fit.1 (omega (arith, less)))
 
-    pub replies_leave : (as : List A) (n m : ℕ) → AllByRecursion IsFit as → n + length as < 2 ^ 64 → m ≡ n + length as → state_after (waiting pending n) (calls n as) ≡ waiting pending m
+    pub replies_leave : (xs : List A) (n m : ℕ) → AllByRecursion IsFit xs → n + length xs < 2 ^ 64 → m ≡ n + length xs → state_after (waiting pending n) (calls n xs) ≡ waiting pending m
     replies_leave [] n m fit less is = ap (waiting pending) (omega (arith, is))
-    replies_leave (a ∷ as) n m fit less is =
+    replies_leave (a ∷ xs) n m fit less is =
         let fits = not_last n (omega (arith, less)) in
-        ap (λ s. state_after s (calls (n + 1) as)) (flying_leaves a fit.0 n fits) ∙ replies_leave as (n + 1) m fit.1 (omega (arith, less)) (omega (arith, is))
+        ap (λ s. state_after s (calls (n + 1) xs)) (flying_leaves a fit.0 n fits) ∙ replies_leave xs (n + 1) m fit.1 (omega (arith, less)) (omega (arith, is))
 
   module _ {T : Type 0} (face : T → FaceId) (rid : T → ℕ) (n : ℕ) where
     abbrev pub end_call : T → Call
@@ -125,13 +125,13 @@ module _ (core : Core) (names : NamingState) (number : ℕ) (asker : FaceId) (id
 
     still_there : (t u : T) → IsApart t u → (pending : List Pending) → list_any (is_its u) pending ≡ true → list_any (is_its u) (less t pending) ≡ true
     still_there t u apart [] its = absurd (false≢true its)
-    still_there t u apart (e ∷ pending) its = by (is_its u e) (not (is_its t e)) refl refl its
+    still_there t u apart (e ∷ pending) its = by (is_its u e) (not (is_its t e)) refl refl its (still_there t u apart pending)
       where
-        by : (b c : Bool) → is_its u e ≡ b → not (is_its t e) ≡ c → (b || list_any (is_its u) pending) ≡ true → list_any (is_its u) (cond c (e ∷ less t pending) (less t pending)) ≡ true
-        by true true here kept some = ap (λ b. b || list_any (is_its u) (less t pending)) here
-        by true false here kept some = absurd (false≢true (sym kept ∙ none_of_two t u e apart here))
-        by false true here kept some = ap (λ b. b || list_any (is_its u) (less t pending)) here ∙ still_there t u apart pending some
-        by false false here kept some = still_there t u apart pending some
+        by : (b c : Bool) → is_its u e ≡ b → not (is_its t e) ≡ c → (b || list_any (is_its u) pending) ≡ true → (list_any (is_its u) pending ≡ true → list_any (is_its u) (less t pending) ≡ true) → list_any (is_its u) (cond c (e ∷ less t pending) (less t pending)) ≡ true
+        by true true here kept some more = ap (λ b. b || list_any (is_its u) (less t pending)) here
+        by true false here kept some more = absurd (false≢true (sym kept ∙ none_of_two t u e apart here))
+        by false true here kept some more = ap (λ b. b || list_any (is_its u) (less t pending)) here ∙ more some
+        by false false here kept some more = more some
 
     still_of : (t : T) (ts : List T) (pending : List Pending) → AreOf (t ∷ ts) pending → AreOf ts (less t pending)
     still_of t ts [] all = tt

@@ -1,19 +1,21 @@
 -- A new gateway with its asker, and a storage that joins.
-use Rattle.std.proofs.Common.{◌≡◌, ◌∙◌, refl, sym, ap, subst, ℕ, ◌+◌, ◌<◌, ◌^◌, Bool, true, false, List, [], ◌∷◌, ◌++◌, map, length, arith}
+use Rattle.std.proofs.Common.{◌≡◌, ◌∙◌, refl, sym, ap, subst, ℕ, ◌+◌, ◌<◌, ◌^◌, Bool, true, false, List, [], ◌∷◌, ◌++◌, map, length, length-append, arith}
 use Rattle.std.specs.Prelude.{◌==◌}
 use Rattle.std.specs.List.{AllByRecursion}
 use Rattle.std.proofs.lemmas.List.{map-append}
 use Rattle.zq_key.specs.Key.{is_key}
 use Rattle.zq_tables.specs.Naming.{plain}
+use Rattle.zq_strategy.specs.Kept.{declare}
 use Rattle.zq_strategy.specs.State.{FaceState}
 use Rattle.zq_machine.specs.declared.call.Call.{Call}
 use Rattle.zq_machine.specs.declared.call.Call.TheVariants as call
 use Rattle.zq_machine.specs.declared.face.OpenFace.{OpenFace}
 use Rattle.zq_machine.specs.Configs.{Settings, has_local}
-use Rattle.zq_machine.specs.Machine.{after, state_after}
+use Rattle.zq_machine.specs.Deciding.{opened}
+use Rattle.zq_machine.specs.Machine.{after}
 use Rattle.zq_machine.specs.State.{State, opening_state}
 use Rattle.zq_local.specs.Picking.{Seat}
-use Rattle.zq_local.specs.Seated.{AreHats, AreNumbered, IsSeated, hat_faces, hat_with, local_opening, open_entry, open_faces, seat_entry, seat_info}
+use Rattle.zq_local.specs.Seated.{AreHats, AreNumbered, IsSeated, bare_face, hat_faces, hat_with, local_opening, open_entry, open_faces, seat_entry, seat_info}
 use Rattle.zq_local.proofs.Ends.{AreBefore}
 use Rattle.zq_local.proofs.First.{first_are}
 use Rattle.zq_local.proofs.Joining.{IsLocal, Stands, declare_core, declare_gates, open_core, open_gates}
@@ -109,12 +111,12 @@ module _ (asker : ℕ) (ss : List Seat) (requests replies : ℕ) (s : State) (se
       let st = declare_core g faces n seats requests replies open_state it free faces_first seats_first locals seat.key keyed (seat_info seat) in
       let number : seat.face.0 ≡ n = ap (λ f. f.0) face in
       let all_faces : joined_state.core.faces ≡ open_faces g.zid asker (ss ++ seat ∷ []) =
-          st.opens ∙ ap (λ l. (asker, _) ∷ l) (ap (λ k. map (open_entry g.zid) ss ++ (k, _) ∷ []) (sym number) ∙ sym (map-append (open_entry g.zid) ss (seat ∷ []))) in
-      let all_seats : hat_with g (seats ++ (n, _) ∷ []) ≡ hat_with g (hat_faces g asker (ss ++ seat ∷ [])) =
-          ap (λ l. hat_with g ((asker, _) ∷ l)) (ap (λ k. map (seat_entry g) ss ++ (k, _) ∷ []) (sym number) ∙ sym (map-append (seat_entry g) ss (seat ∷ []))) in
+          st.opens ∙ ap (λ l. (asker, opened (local_opening g.zid)) ∷ l) (ap (λ k. map (open_entry g.zid) ss ++ (k, opened (local_opening g.zid)) ∷ []) (sym number) ∙ sym (map-append (open_entry g.zid) ss (seat ∷ []))) in
+      let all_seats : hat_with g (seats ++ (n, declare 1 seat.key (seat_info seat) (bare_face g n)) ∷ []) ≡ hat_with g (hat_faces g asker (ss ++ seat ∷ [])) =
+          ap (λ l. hat_with g ((asker, bare_face g asker) ∷ l)) (ap (λ k. map (seat_entry g) ss ++ (k, declare 1 seat.key (seat_info seat) (bare_face g k)) ∷ []) (sym number) ∙ sym (map-append (seat_entry g) ss (seat ∷ []))) in
       record {
         numbered = numbered_more (asker + 1) ss seat seated.numbered (omega (arith, number, is));
-        next = let e = st.numbers in omega (arith, e, is);
+        next = let e = st.numbers in let long = length-append ss (seat ∷ []) in omega (arith, e, is, long);
         faces = subst (λ c. joined_state.core.faces ≡ open_faces c.zid asker (ss ++ seat ∷ [])) (sym st.of) all_faces;
         hats = subst (λ c. AreHats joined_state.core.hats (hat_with c (hat_faces c asker (ss ++ seat ∷ [])))) (sym st.of) (subst (AreHats joined_state.core.hats) all_seats st.hats);
         interests = st.interests;

@@ -45,16 +45,16 @@ none_beside st r src q true c = refl
 none_beside st r src q false true = refl
 none_beside st r src q false false = refl
 
-offers_none : (st : Strategy) (h : HatState) → IsBare h → (src : Region) (q : List ℕ) (node : Option ℕ) → offers_by st h src q node ≡ []
-offers_none strategy.Broker h bare src q node = ap (λ (l : List (ℕ × FaceState)). declared_offers h.region l q) bare.faces
-offers_none strategy.Client h bare src q node =
+offers_none : (st : Strategy) (h : HatState) → IsBare h → (src : Region) (q : List ℕ) (place : Option ℕ) → offers_by st h src q place ≡ []
+offers_none strategy.Broker h bare src q place = ap (λ (l : List (ℕ × FaceState)). declared_offers h.region l q) bare.faces
+offers_none strategy.Client h bare src q place =
     ap (λ (l : List (ℕ × FaceState)). offers_beside strategy.Client h.region src l q) bare.faces
     ∙ none_beside strategy.Client h.region src q (same_region src h.region) (is_north h.region && not (is_north src))
-offers_none strategy.Peer h bare src q node =
+offers_none strategy.Peer h bare src q place =
     ap (λ (l : List (ℕ × FaceState)). offers_beside strategy.Peer h.region src l q) bare.faces
     ∙ none_beside strategy.Peer h.region src q (same_region src h.region) (is_north h.region && not (is_north src))
-offers_none strategy.Router h bare src q node =
-    ap (λ l. option_map_or (λ source. flat_map (entries_offers h q source) l) (source_for h src node) []) bare.entries ∙ by (source_for h src node)
+offers_none strategy.Router h bare src q place =
+    ap (λ l. option_map_or (λ source. flat_map (entries_offers h q source) l) (source_for h src place) []) bare.entries ∙ by (source_for h src place)
   where
     by : (o : Option ℕ) → option_map_or (λ source. flat_map (entries_offers h q source) []) o [] ≡ []
     by None = refl
