@@ -20,10 +20,11 @@ use Rattle.zq_store.specs.Stores.{Stored, count_all, held_at, is_face}
 use Rattle.zq_store.specs.Bus.{BusState}
 use Rattle.zq_store.specs.declared.bus.BusRefusal.{BusRefusal}
 use Rattle.zq_store.specs.declared.bus.BusRefusal.TheVariants as refusal
+use Rattle.zq_store.specs.declared.held.Pair.{Pair}
 use Rattle.zq_store.specs.declared.got.Got.{Got}
 use Rattle.zq_store.specs.declared.got.GotReply.{GotReply}
-use Rattle.zq_store.specs.declared.storage.Answer.{Answer}
-use Rattle.zq_store.specs.declared.storage.AskedStore.{AskedStore}
+use Rattle.zq_store.specs.declared.answers.Answer.{Answer}
+use Rattle.zq_store.specs.declared.answers.AskedStore.{AskedStore}
 
 -- ---- who answers what
 
@@ -51,6 +52,10 @@ asked_of stores hs = flat_map (asked_in stores) hs
 -- a storage's answer by one of its pairs
 abbrev pub answer_by : AskedStore → List ℕ × List ℕ → Answer
 answer_by a p = record { asked = a; key = p.0; value = p.1 }
+
+-- the same by a pair that it handed out
+abbrev pub answer_of : AskedStore → Pair → Answer
+answer_of a p = record { asked = a; key = p.key; value = p.value }
 
 -- what a storage answers: its pairs that meet the key
 abbrev pub answers_at : List Stored → List ℕ → AskedStore → List Answer

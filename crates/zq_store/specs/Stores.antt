@@ -1,5 +1,5 @@
 -- The storages of a bus.
-use Rattle.std.specs.Prelude.{ℕ, ◌+◌, ◌==◌, ◌&&◌, Bool, true, not, List, [], ◌∷◌, Option, Some, None, if◌then◌else◌, length, slice_get, slice_set, sum_by}
+use Rattle.std.specs.Prelude.{ℕ, ◌+◌, ◌-◌, ◌^◌, ◌<◌, ◌≤◌, ◌==◌, ◌&&◌, Bool, true, not, List, [], ◌∷◌, Option, Some, None, if◌then◌else◌, length, slice_get, slice_set, sum_by}
 use Rattle.std.specs.List.{list_all}
 use Rattle.std.specs.Option.{option_map_or}
 use Rattle.zq_message.specs.declared.message.FaceId.{FaceId}
@@ -80,3 +80,7 @@ holds_own s = list_all (fits_store s.key) s.held
 abbrev pub numbered : ℕ → List Stored → Bool
 numbered n [] = true
 numbered n (s ∷ more) = (s.face.0 == n) && numbered (n + 1) more
+
+-- the number is no less than that of all pairs, unless it is the greatest of 64 bits
+abbrev pub IsSize : ℕ → List Stored → Type 0
+IsSize n stores = n < 2 ^ 64 - 1 → size_all stores ≤ n

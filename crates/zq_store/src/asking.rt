@@ -7,7 +7,7 @@ ghost use Rattle.zq_store.specs.Getting.{ask_call, end_call, got_reply, handed_o
 
 use crate::got::{GotList, GotReply, StoreId};
 use crate::joining::plain;
-use crate::storage::{Answer, AskedStore};
+use crate::answers::{Answer, AskedStore};
 use std::alloc::Global;
 use zq_gateway::Gateway;
 use zq_key::Key;

@@ -10,7 +10,7 @@ use crate::asking::{end_all, replies_of, reply_all, request};
 use crate::got::{Got, StoreId};
 use crate::joining::{join, open_local};
 use crate::room::has_room;
-use crate::storage::{answers_of, asked_of};
+use crate::answers::{answers_of, asked_of};
 use crate::stores::{PutRefusal, Stores};
 use std::alloc::Global;
 use std::marker::Model;

@@ -1,5 +1,5 @@
 //! The pairs of a storage.
-ghost use Rattle.std.specs.Prelude.{◌≡◌, ◌++◌, ◌∷◌, [], true, map, IfOk, IfOk, OnOk, OnErr, length};
+ghost use Rattle.std.specs.Prelude.{◌≡◌, ◌+◌, ◌++◌, ◌∷◌, [], IfOk, OnOk, OnErr, if◌then◌else◌, is_some, length, map, true};
 ghost use Rattle.std.specs.BTreeMap.{insert_entry, is_at};
 ghost use Rattle.std.specs.Map.{remove_entry};
 ghost use Rattle.zq_index.specs.Texts.{at_text, text_cmp};
@@ -103,6 +103,7 @@ impl Held {
         requires { is_plain key.now ≡ true }
         ensures old { IfOk result (λ o. o ≡ at_text key.now self.old) }
         ensures new { OnOk result (self.new ≡ insert_entry text_cmp self.old key.now value.now) }
+        ensures size { IfOk result (λ o. length self.new ≡ length self.old + (if is_some o then 0 else 1)) }
         ensures err { OnErr result (self.new ≡ self.old) }
     {
         let text = String::from_str(self.alloc, key.as_str())?;
@@ -118,6 +119,7 @@ impl Held {
     pub fn delete(&mut self, key: &str) -> Option<Bytes>
         ensures old { result ≡ at_text key.now self.old }
         ensures new { self.new ≡ remove_entry (is_at (text_cmp key.now)) self.old }
+        ensures size { length self.new + (if is_some result then 1 else 0) ≡ length self.old }
     {
         self.pairs.remove(key)
     }

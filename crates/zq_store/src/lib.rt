@@ -1,8 +1,9 @@
 //! Storages that answer queries, and a tool that asks them, over one gateway.
 //!
 //! - `held`: the pairs of a storage
-//! - `storage`: a storage, and what storages answer
+//! - `storage`: a storage
 //! - `stores`: the storages of a bus
+//! - `answers`: which storages are asked, and what they answer
 //! - `room`: whether the numbers that are left suffice for replies
 //! - `joining`: faces of Local
 //! - `got`: what a get brings
@@ -11,6 +12,7 @@
 //! - `laws`: which storages a pair's key leads to
 #![tactic(auto)]
 
+pub mod answers;
 mod asking;
 pub mod bus;
 pub mod got;

@@ -1,10 +1,9 @@
 //! The storages of a bus.
-ghost use Rattle.std.specs.Prelude.{◌≡◌, ◌+◌, ◌++◌, ◌∷◌, ◌<◌, ◌^◌, [], None, IfOk, IfErr, IfSome, IsTrue, Err, OnOk, OnErr, length, nat_lt, slice_get};
+ghost use Rattle.std.specs.Prelude.{◌≡◌, ℕ, ◌+◌, ◌-◌, ◌++◌, ◌∷◌, ◌<◌, ◌≤◌, ◌^◌, [], None, IfOk, IfErr, IfSome, IsTrue, Err, OnOk, OnErr, if◌then◌else◌, is_some, length, slice_get};
 ghost use Rattle.std.specs.Option.{option_copied};
 ghost use Rattle.std.specs.Result.{is_ok};
 ghost use Rattle.zq_index.specs.Texts.{at_text};
-ghost use Rattle.zq_store.specs.Bus.{change_at, refusal_at};
-ghost use Rattle.zq_store.specs.Getting.{count_all, held_at};
+ghost use Rattle.zq_store.specs.Stores.{IsSize, change_at, held_at, refusal_at, size_all};
 ghost use Rattle.zq_store.specs.Held.{delete, put};
 
 use crate::storage::Storage;
@@ -27,31 +26,119 @@ pub enum PutRefusal {
     OutOfMemory,
 }
 
-/// Storages by number.
+/// Storages by number, and how many pairs they have.
 pub struct Stores {
-    pub(crate) list: Vec<Storage>,
+    list: Vec<Storage>,
+    /// No less than the number of all pairs, unless it is the greatest number.
+    size: u64,
 }
 
 impl Drop for Stores {
     fn drop(self) {
-        let Stores { list } = self;
+        let Stores { list, size } = self;
     }
 }
 
 impl Model for Stores {
     ghost use Rattle.std.specs.Prelude.{List};
-    ghost use Rattle.zq_store.specs.Bus.{Stored};
+    ghost use Rattle.zq_store.specs.Stores.{IsSize, Stored};
 
     ghost Value = { List Stored };
 
     ghost view = { λ s. s.list.items };
+
+    ghost invariant = { λ s. IsSize s.size s.list.items };
 }
 
 /// The storage with this number.
-fn storage_at(list: &[Storage], number: u32) -> Option<&Storage>
+pub fn storage_at(list: &[Storage], number: u32) -> Option<&Storage>
     ensures { option_copied result ≡ slice_get list.now number }
 {
     list.get(number as usize)
+}
+
+/// Why the storage does not take the key, if it does not.
+fn refusal_at(list: &[Storage], store: u32, key: &Key) -> Option<PutRefusal>
+    ensures { result ≡ refusal_at key.now (slice_get list.now store) }
+{
+    match storage_at(list, store) {
+        None => Some(PutRefusal::UnknownStore),
+        Some(storage) => {
+            if !is_plain(key.as_str()) {
+                Some(PutRefusal::NotPlain)
+            } else if !includes(storage.key.as_str(), key.as_str()) {
+                Some(PutRefusal::Outside)
+            } else {
+                None
+            }
+        }
+    }
+}
+
+/// The storage with this number has the value at the key from now on; answers the value before.
+fn put_at(
+    list: &mut Vec<Storage>,
+    store: u32,
+    key: &Key,
+    value: &Bytes,
+) -> Result<Option<Bytes>, PutRefusal>
+    ensures old { IfOk result (λ o. o ≡ at_text key.now (held_at list.old.items store)) }
+    ensures new { OnOk result (list.new.items ≡ change_at store (put key.now value.now) list.old.items) }
+    ensures size { IfOk result (λ o. size_all list.new.items ≡ size_all list.old.items + (if is_some o then 0 else 1)) }
+    ensures refused { IfSome (refusal_at key.now (slice_get list.old.items store)) (λ e. result ≡ Err e) }
+    ensures memory { refusal_at key.now (slice_get list.old.items store) ≡ None → IfErr result (λ e. e ≡ PutRefusal.OutOfMemory) }
+    ensures kept { OnErr result (list.new.items ≡ list.old.items) }
+{
+    if let Some(refusal) = refusal_at(list.as_slice(), store, key) {
+        return Err(refusal);
+    }
+    match list.get_mut(store as usize) {
+        Some(storage) => match storage.held.put(key, value) {
+            Ok(before) => Ok(before),
+            Err(_) => Err(PutRefusal::OutOfMemory),
+        },
+        None => Err(PutRefusal::UnknownStore),
+    }
+}
+
+/// The storage with this number has no value at the key from now on; answers the value before.
+fn delete_at(list: &mut Vec<Storage>, store: u32, key: &Key) -> Result<Option<Bytes>, PutRefusal>
+    ensures old { IfOk result (λ o. o ≡ at_text key.now (held_at list.old.items store)) }
+    ensures new { OnOk result (list.new.items ≡ change_at store (delete key.now) list.old.items) }
+    ensures size { IfOk result (λ o. size_all list.new.items + (if is_some o then 1 else 0) ≡ size_all list.old.items) }
+    ensures refused { IfSome (refusal_at key.now (slice_get list.old.items store)) (λ e. result ≡ Err e) }
+    ensures taken { refusal_at key.now (slice_get list.old.items store) ≡ None → IsTrue (is_ok result) }
+    ensures kept { OnErr result (list.new.items ≡ list.old.items) }
+{
+    if let Some(refusal) = refusal_at(list.as_slice(), store, key) {
+        return Err(refusal);
+    }
+    match list.get_mut(store as usize) {
+        Some(storage) => Ok(storage.held.delete(key.as_str())),
+        None => Err(PutRefusal::UnknownStore),
+    }
+}
+
+/// One more, up to the greatest number, unless one was replaced.
+fn more_by(size: u64, replaced: bool) -> u64
+    ensures { (m n : ℕ) → (size < 2 ^ 64 - 1 → m ≤ size) → n ≡ m + (if replaced then 0 else 1) → result < 2 ^ 64 - 1 → n ≤ result }
+{
+    if replaced {
+        size
+    } else {
+        size.saturating_add(1)
+    }
+}
+
+/// One less, where one was taken, but not of the greatest number.
+fn less_by(size: u64, taken: bool) -> u64
+    ensures { (m n : ℕ) → (size < 2 ^ 64 - 1 → m ≤ size) → n + (if taken then 1 else 0) ≡ m → result < 2 ^ 64 - 1 → n ≤ result }
+{
+    if taken && size < u64::MAX && size > 0 {
+        size - 1
+    } else {
+        size
+    }
 }
 
 impl Stores {
@@ -61,6 +148,7 @@ impl Stores {
     {
         Stores {
             list: Vec::new(alloc),
+            size: 0,
         }
     }
 
@@ -71,6 +159,13 @@ impl Stores {
         self.list.len()
     }
 
+    /// No less than the number of all pairs, unless it is the greatest number.
+    pub fn size(&self) -> u64
+        ensures { IsSize result self.now }
+    {
+        self.size
+    }
+
     /// All of them.
     pub fn as_slice(&self) -> &[Storage]
         ensures { result.now ≡ self.now }
@@ -78,31 +173,14 @@ impl Stores {
         self.list.as_slice()
     }
 
-    /// One more, which stands last.
+    /// One more, which has no pairs yet and stands last.
     pub fn push(&mut self, storage: Storage) -> Result<(), OutOfMemory>
+        requires { storage.held ≡ [] }
         ensures ok { OnOk result (self.new ≡ self.old ++ storage ∷ []) }
         ensures err { OnErr result (self.new ≡ self.old) }
     {
         self.list.push(storage)?;
         Ok(())
-    }
-
-    /// Why the storage does not take the key, if it does not.
-    fn refusal_at(&self, store: u32, key: &Key) -> Option<PutRefusal>
-        ensures { result ≡ refusal_at key.now (slice_get self.now store) }
-    {
-        match storage_at(self.list.as_slice(), store) {
-            None => Some(PutRefusal::UnknownStore),
-            Some(storage) => {
-                if !is_plain(key.as_str()) {
-                    Some(PutRefusal::NotPlain)
-                } else if !includes(storage.key.as_str(), key.as_str()) {
-                    Some(PutRefusal::Outside)
-                } else {
-                    None
-                }
-            }
-        }
     }
 
     /// The storage has this value at the key from now on; answers the value before.
@@ -118,16 +196,9 @@ impl Stores {
         ensures memory { refusal_at key.now (slice_get self.old store) ≡ None → IfErr result (λ e. e ≡ PutRefusal.OutOfMemory) }
         ensures kept { OnErr result (self.new ≡ self.old) }
     {
-        if let Some(refusal) = self.refusal_at(store, key) {
-            return Err(refusal);
-        }
-        match self.list.get_mut(store as usize) {
-            Some(storage) => match storage.held.put(key, value) {
-                Ok(old) => Ok(old),
-                Err(_) => Err(PutRefusal::OutOfMemory),
-            },
-            None => Err(PutRefusal::UnknownStore),
-        }
+        let before = put_at(&mut self.list, store, key, value)?;
+        self.size = more_by(self.size, before.is_some());
+        Ok(before)
     }
 
     /// The storage has no value at the key from now on; answers the value before. It takes no memory.
@@ -138,12 +209,8 @@ impl Stores {
         ensures taken { refusal_at key.now (slice_get self.old store) ≡ None → IsTrue (is_ok result) }
         ensures kept { OnErr result (self.new ≡ self.old) }
     {
-        if let Some(refusal) = self.refusal_at(store, key) {
-            return Err(refusal);
-        }
-        match self.list.get_mut(store as usize) {
-            Some(storage) => Ok(storage.held.delete(key.as_str())),
-            None => Err(PutRefusal::UnknownStore),
-        }
+        let before = delete_at(&mut self.list, store, key)?;
+        self.size = less_by(self.size, before.is_some());
+        Ok(before)
     }
 }
