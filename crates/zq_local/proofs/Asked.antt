@@ -47,7 +47,7 @@ any_mapped : {X Y : Type 0} (p : Y → Bool) (f : X → Y) (xs : List X) → lis
 any_mapped p f [] = refl
 any_mapped p f (x ∷ xs) = ap (λ b. p (f x) || b) (any_mapped p f xs)
 
-targets_mapped : (key : List ℕ) (q : QueryState) (ss : List Seat) → map (given_place q) (map target_of (map (offer key) ss)) ≡ map (λ (s : Seat). (s.face.0, given_id q s.face)) ss
+pub targets_mapped : (key : List ℕ) (q : QueryState) (ss : List Seat) → map (given_place q) (map target_of (map (offer key) ss)) ≡ map (λ (s : Seat). (s.face.0, given_id q s.face)) ss
 targets_mapped key q [] = refl
 targets_mapped key q (s ∷ ss) = ap (λ l. (s.face.0, given_id q s.face) ∷ l) (targets_mapped key q ss)
 

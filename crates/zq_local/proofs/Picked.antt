@@ -123,7 +123,7 @@ all_found (s ∷ ss) p =
 abbrev Stands : Seat → Seat → Type 0
 Stands s t = (is_lt (ordering_then (text_cmp t.key s.key) (nat_cmp t.face.0 s.face.0)) ≡ false) × ((t.face.0 == s.face.0) ≡ false)
 
-text_itself : (k : List ℕ) → text_cmp k k ≡ Equal
+pub text_itself : (k : List ℕ) → text_cmp k k ≡ Equal
 text_itself k = by (text_cmp k k) refl
   where
     by : (r : Ordering) → text_cmp k k ≡ r → text_cmp k k ≡ Equal
@@ -208,11 +208,14 @@ none_sorted : IsStrictlySortedBy text_cmp []
 unfolding IsStrictlySortedBy
 none_sorted = tt
 
+pub keys_in_order : (ss : List Seat) → IsStrictlySortedBy text_cmp (keys_in ss)
+keys_in_order ss = keys_sorted [] ss none_sorted
+
 -- the storages that meet, by key, stand in the order of their offers, each with another face
 stand_by_key : (n : ℕ) (ss : List Seat) → AreNumbered n ss → Pairwise Stands (by_key ss)
 stand_by_key n ss all =
     let rises = rising n ss all in
-    all_stand ss (all_found ss rises) rises (keys_in ss) (keys_sorted [] ss none_sorted)
+    all_stand ss (all_found ss rises) rises (keys_in ss) (keys_in_order ss)
 
 pub stand_apart : (n : ℕ) (ss : List Seat) → AreNumbered n ss → Pairwise (λ (s t : Seat). (t.face.0 == s.face.0) ≡ false) (by_key ss)
 stand_apart n ss all =

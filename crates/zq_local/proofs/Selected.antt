@@ -84,7 +84,7 @@ module _ (a : AskerState) (q : List ℕ) (t : QueryTarget) where
       ∙ bare_route (λ n. 1 < n) (with_part a q t [] local) are.after are.none_after
 
 -- ---- those that are picked have what all have
-all_by_key : (P : Seat → Type 0) (ss : List Seat) → AllByRecursion P ss → AllByRecursion P (by_key ss)
+pub all_by_key : (P : Seat → Type 0) (ss : List Seat) → AllByRecursion P ss → AllByRecursion P (by_key ss)
 all_by_key P ss all = all_flat P (λ key. filter (is_on key) ss) (keys_in ss) (all_of (λ key. AllByRecursion P (filter (is_on key) ss)) (λ key. all_filter P (is_on key) ss all) (keys_in ss))
 
 found_first : (P : Seat → Type 0) (p : Seat → Bool) (xs : List Seat) → AllByRecursion P xs → AllByRecursion P (option_map_or (λ s. s ∷ []) (find p xs) [])

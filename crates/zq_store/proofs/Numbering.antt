@@ -11,7 +11,7 @@ use Rattle.zq_local.proofs.Picked.{not_same}
 use Rattle.zq_store.specs.Stores.{Stored, fits_store, held_at, holds_own, is_face, numbered}
 use Rattle.zq_store.specs.Answered.{seats_from}
 
-found_behind : {X : Type 0} (front : List X) (x : X) (rest : List X) → slice_get (front ++ x ∷ rest) (length front) ≡ Some x
+pub found_behind : {X : Type 0} (front : List X) (x : X) (rest : List X) → slice_get (front ++ x ∷ rest) (length front) ≡ Some x
 found_behind [] x rest = refl
 found_behind (y ∷ front) x rest = found_behind front x rest
 

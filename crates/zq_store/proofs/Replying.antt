@@ -62,8 +62,8 @@ module _ (stores : List Stored) (key : List ℕ) (q : QueryState) where
 
 -- ---- a storage that does not meet the key has no pair that does
 none_meets : (key own : List ℕ) (ps : List (List ℕ × List ℕ)) → list_all (fits_store own) ps ≡ true → intersects own key ≡ false → filter (meets_key key) ps ≡ []
-none_meets key own [] fits no = refl
-none_meets key own (p ∷ ps) fits no = by (intersects p.0 key) refl (none_meets key own ps parts.1 no)
+none_meets key own [] fits apart = refl
+none_meets key own (p ∷ ps) fits apart = by (intersects p.0 key) refl (none_meets key own ps parts.1 apart)
   where
     parts : (fits_store own p ≡ true) × (list_all (fits_store own) ps ≡ true)
     parts = and_parts (fits_store own p) (list_all (fits_store own) ps) fits
@@ -72,7 +72,7 @@ none_meets key own (p ∷ ps) fits no = by (intersects p.0 key) refl (none_meets
     both = and_parts (is_plain p.0) (includes own p.0) parts.0
 
     by : (b : Bool) → intersects p.0 key ≡ b → filter (meets_key key) ps ≡ [] → cond b (p ∷ filter (meets_key key) ps) (filter (meets_key key) ps) ≡ []
-    by true e rest = absurd (false≢true (sym no ∙ includes_meets own p.0 key both.0 both.1 e))
+    by true e rest = absurd (false≢true (sym apart ∙ includes_meets own p.0 key both.0 both.1 e))
     by false e rest = rest
 
 module _ (m : ℕ) (stores : List Stored) (key : List ℕ) where
