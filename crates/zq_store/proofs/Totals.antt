@@ -112,7 +112,7 @@ module _ (stores : List Stored) (key : List ℕ) where
   answers_count q (s ∷ ss) =
       let rest = answers_count q ss in
       let joined = length-append (answers_at stores key (ask_at q s)) (answers_of stores key (map (ask_at q) ss)) in
-      let own : length (answers_at stores key (ask_at q s)) ≡ pairs_of s = length-map (answer_by (ask_at q s)) (meeting key (held_at stores s.number)) in
+      let own : length (answers_at stores key (ask_at q s)) ≡ pairs_of s = length-map (meeting key (held_at stores s.number)) (answer_by (ask_at q s)) in
       omega (arith, rest, joined, own)
 
   counted : (n acc : ℕ) (front rest : List Stored) → n ≡ length front → stores ≡ front ++ rest → fold (λ a x. a + count_in key x) acc rest ≡ acc + total pairs_of (seats_from n rest)

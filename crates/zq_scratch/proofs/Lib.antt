@@ -1,0 +1,5 @@
+pub mod Mach
+pub mod Lists
+pub mod Sorting
+pub mod Ends
+pub mod Picked
