@@ -77,7 +77,7 @@ abbrev pub added : List ℕ → Bool → BusState → BusState
 added key complete b = record b {
   gateway = state_after b.gateway (join_calls b.gateway.core.config.zid (free_face b) key complete);
   next_face = b.next_face + 1;
-  stores = b.stores ++ new_store key (free_face b) ∷ [];
+  stores = b.stores ++ new_store key (free_face b) complete ∷ [];
 }
 
 -- ---- puts and deletes

@@ -8,15 +8,16 @@ use Rattle.zq_store.specs.Held.{Change, Pairs, changed, meeting}
 use Rattle.zq_store.specs.declared.stores.PutRefusal.{PutRefusal}
 use Rattle.zq_store.specs.declared.stores.PutRefusal.TheVariants as refusal
 
--- a storage: the key that it answers for, its face, and what it holds
+-- a storage: the key that it answers for, its face, whether it is complete, and what it holds
 pub record Stored : Type 0 where
   pub key : List ℕ
   pub face : FaceId
+  pub complete : Bool
   pub held : Pairs
 
 -- a storage with no pairs
-abbrev pub new_store : List ℕ → FaceId → Stored
-new_store key face = record { key = key; face = face; held = [] }
+abbrev pub new_store : List ℕ → FaceId → Bool → Stored
+new_store key face complete = record { key = key; face = face; complete = complete; held = [] }
 
 -- the storage has this face
 abbrev pub is_face : FaceId → Stored → Bool
