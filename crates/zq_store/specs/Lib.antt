@@ -1,6 +1,10 @@
 pub mod Held
 pub mod Pair
+pub mod Span
 pub mod Stores
 pub mod Room
 pub mod Bus
 pub mod Getting
+pub mod Lines
+pub mod Printing
+pub mod Running

@@ -8,7 +8,7 @@ use Rattle.zq_store.specs.Held.{Change, Pairs, changed, meeting}
 use Rattle.zq_store.specs.declared.stores.PutRefusal.{PutRefusal}
 use Rattle.zq_store.specs.declared.stores.PutRefusal.TheVariants as refusal
 
--- a storage: the key that it answers for, its face, whether it says that it has all of the key, and what it holds
+-- a storage: the key that it answers for, its face, whether it is complete, and what it holds
 pub record Stored : Type 0 where
   pub key : List ℕ
   pub face : FaceId

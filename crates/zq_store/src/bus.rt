@@ -205,7 +205,7 @@ impl Bus {
         if self.spent {
             return Err(BusRefusal::Spent);
         }
-        if self.next_request == u64::MAX || !has_room(self.stores.as_slice(), key, self.next_reply) {
+        if self.next_request == u64::MAX || !has_room(&self.stores, key, self.next_reply) {
             return Err(BusRefusal::NoFreeId);
         }
         match self.ask(key, target, now) {

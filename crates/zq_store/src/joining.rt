@@ -90,7 +90,7 @@ pub fn join(
     key: &Key,
     complete: bool,
 ) -> Result<Storage, OutOfMemory>
-    ensures storage { IfOk result (λ s. s ≡ new_store key.now face) }
+    ensures storage { IfOk result (λ s. s ≡ new_store key.now face complete) }
     ensures after { OnOk result (gateway.new ≡ state_after gateway.old (join_calls gateway.old.core.config.zid face key.now complete)) }
 {
     open_local(alloc, gateway)?;
@@ -98,6 +98,7 @@ pub fn join(
     Ok(Storage {
         key: key.copy(alloc)?,
         face,
+        complete,
         held: Held::new(alloc),
     })
 }

@@ -1,4 +1,0 @@
-//! What a gateway hands whose faces are all in Local.
-#![tactic(auto)]
-
-pub mod laws;
