@@ -1,5 +1,5 @@
 -- The asker asks: the storages that its target picks are handed the request, and an entry is pending for each.
-use Rattle.std.proofs.Common.{◌≡◌, ◌∙◌, refl, sym, ap, subst, ℕ, ◌+◌, ◌^◌, Bool, true, false, cond, not, List, [], ◌∷◌, ◌++◌, map, Option, Some, None, eq-eqb}
+use Rattle.std.proofs.Common.{◌≡◌, ◌∙◌, refl, sym, ap, subst, ℕ, ◌+◌, ◌^◌, Bool, true, false, cond, List, [], ◌∷◌, map, Some, None, eq-eqb}
 use Rattle.std.specs.Prelude.{◌==◌, ◌&&◌, ◌||◌}
 use Rattle.std.specs.List.{AllByRecursion, list_any}
 use Rattle.std.specs.Option.{is_some}
@@ -7,27 +7,24 @@ use Rattle.std.specs.BTreeMap.{is_at}
 use Rattle.std.specs.Ordering.{nat_cmp}
 use Rattle.std.proofs.Math.Bool.{or-true}
 use Rattle.zq_key.specs.Key.{is_key}
-use Rattle.zq_message.specs.declared.message.FaceId.{FaceId}
 use Rattle.zq_message.specs.declared.message.QueryTarget.{QueryTarget}
 use Rattle.zq_message.specs.declared.message.Request.{Request}
-use Rattle.zq_strategy.specs.declared.offer.QueryTargetQabl.{QueryTargetQabl}
 use Rattle.zq_query.specs.Asking.{after_ask, entries_at, entry_at, given_id, given_place}
 use Rattle.zq_query.specs.Records.{Pending, QueryState, is_entry}
-use Rattle.zq_tables.specs.Naming.{NamingState, plain}
-use Rattle.zq_tables.specs.declared.resolved.Resolved.TheVariants as said
+use Rattle.zq_tables.specs.Naming.{plain}
 use Rattle.zq_machine.specs.declared.call.Call.{Call}
 use Rattle.zq_machine.specs.declared.call.Call.TheVariants as call
 use Rattle.zq_machine.specs.Deciding.{deadline, handed_requests, opened}
 use Rattle.zq_machine.specs.Machine.{after, step}
 use Rattle.zq_machine.specs.Selecting.{target_of}
-use Rattle.zq_machine.specs.State.{Core, State, at, is_open}
+use Rattle.zq_machine.specs.State.{State, at, is_open}
 use Rattle.zq_machine.specs.Writing.{write}
 use Rattle.zq_machine.specs.declared.face.OpenFace.{OpenFace}
 use Rattle.zq_machine.proofs.Lists.{all_weaker}
 use Rattle.zq_machine.proofs.NewEntries.{each_entry}
 use Rattle.zq_machine.proofs.Waiting.{entries_are}
 use Rattle.zq_local.specs.Picking.{Seat, picked}
-use Rattle.zq_local.specs.Seated.{IsSeated, local_opening, open_entry, open_faces}
+use Rattle.zq_local.specs.Seated.{IsSeated, local_opening, open_entry}
 use Rattle.zq_local.proofs.Ends.{itself}
 use Rattle.zq_local.proofs.Lists.{all_back}
 use Rattle.zq_local.proofs.Picked.{offer}
@@ -90,9 +87,10 @@ seats_open faces mine ss e = all_weaker (λ (s : Seat). is_some (at s.face.0 (ma
 
     own : (ss : List Seat) → AllByRecursion (λ (s : Seat). is_some (at s.face.0 (map (λ (s : Seat). (s.face.0, mine)) ss)) ≡ true) ss
     own [] = tt
-    own (s ∷ ss) =
-        (ap (λ b. is_some (cond b (Some mine) (at s.face.0 (map (λ (s : Seat). (s.face.0, mine)) ss)))) (itself s.face.0),
-         all_weaker (λ (u : Seat). is_some (at u.face.0 (map (λ (s : Seat). (s.face.0, mine)) ss)) ≡ true) (λ (u : Seat). is_some (at u.face.0 (map (λ (s : Seat). (s.face.0, mine)) (s ∷ ss))) ≡ true) (λ u is. later (s.face.0, mine) u.face.0 _ is) ss (own ss))
+    own (s ∷ ss) = (
+      ap (λ b. is_some (cond b (Some mine) (at s.face.0 (map (λ (s : Seat). (s.face.0, mine)) ss)))) (itself s.face.0),
+      all_weaker (λ (u : Seat). is_some (at u.face.0 (map (λ (s : Seat). (s.face.0, mine)) ss)) ≡ true) (λ (u : Seat). is_some (at u.face.0 (map (λ (s : Seat). (s.face.0, mine)) (s ∷ ss))) ≡ true) (λ u is. later (s.face.0, mine) u.face.0 _ is) ss (own ss),
+    )
 
 module _ (asker : ℕ) (ss : List Seat) (requests replies : ℕ) (s : State) (seated : IsSeated asker ss requests replies s) where
   pub asker_open : is_open asker s.core ≡ true

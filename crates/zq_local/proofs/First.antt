@@ -1,5 +1,5 @@
 -- The first hats of a configuration: that of Local stands among bare ones.
-use Rattle.std.proofs.Common.{◌≡◌, ◌∙◌, refl, sym, ap, subst, ℕ, ◌+◌, ◌*◌, ◌<◌, Bool, true, false, cond, List, [], ◌∷◌, ◌++◌, Option, Some, None, arith}
+use Rattle.std.proofs.Common.{◌≡◌, ◌∙◌, refl, sym, ap, subst, ℕ, ◌<◌, Bool, true, false, cond, List, [], ◌∷◌, ◌++◌, Option, Some, None, arith}
 use Rattle.std.specs.Prelude.{fold, ◌||◌}
 use Rattle.std.specs.BTreeMap.{insert_entry}
 use Rattle.std.specs.Cmp.{nat_cmp_is}
@@ -8,12 +8,10 @@ use Rattle.std.specs.Ordering.{match_ordering, nat_cmp}
 use Rattle.std.specs.declared.cmp.Ordering.{Ordering}
 use Rattle.std.specs.declared.cmp.Ordering.TheVariants.{Less, Equal, Greater}
 use Rattle.std.proofs.lemmas.Bool.{false≢true}
-use Rattle.zq_message.specs.declared.message.Region.TheVariants as region
-use Rattle.zq_strategy.specs.Kept.{new_hat}
 use Rattle.zq_strategy.specs.State.{HatState}
 use Rattle.zq_machine.specs.declared.config.Entry.{Entry}
 use Rattle.zq_machine.specs.declared.config.Entry.TheVariants as entry
-use Rattle.zq_machine.specs.Configs.{Settings, has_local, is_local_entry, north_of}
+use Rattle.zq_machine.specs.Configs.{Settings, has_local, is_local_entry}
 use Rattle.zq_machine.specs.State.{first_hats, with_hat}
 use Rattle.zq_local.specs.Seated.{AreHats, IsBare, hat_with}
 use Rattle.zq_local.proofs.Ends.{greater, lesser}

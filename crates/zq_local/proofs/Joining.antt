@@ -1,5 +1,5 @@
 -- A face of Local is opened, and declares its key: both are accepted, for nothing is due to anyone.
-use Rattle.std.proofs.Common.{◌≡◌, ◌∙◌, refl, sym, ap, subst, ℕ, ◌+◌, ◌<◌, ◌^◌, Bool, true, false, cond, not, List, [], ◌∷◌, ◌++◌, map, Option, Some, None, arith}
+use Rattle.std.proofs.Common.{◌≡◌, ◌∙◌, refl, sym, ap, subst, ℕ, ◌+◌, ◌<◌, ◌^◌, Bool, true, false, cond, not, List, [], ◌∷◌, ◌++◌, map, Option, Some, None}
 use Rattle.std.specs.Prelude.{◌==◌, ◌&&◌, fold, is_none}
 use Rattle.std.specs.BTreeMap.{insert_entry, is_at}
 use Rattle.std.specs.List.{AllByRecursion, filter, flat_map}
@@ -139,12 +139,19 @@ module _ (config : Settings) (faces : List (ℕ × OpenFace)) (n : ℕ) (seats :
 
   pub open_fits : (n + 1 == 2 ^ 32) ≡ false → refusal_of c (opening o) ≡ None
   open_fits fits =
-      none_of (causes c (opening o))
-      (ap (λ h. not (is_some h)) (hat_found c.hats (hat_with config seats) st.hats),
-      (refl,
-      (ap (λ h. option_map_or is_full h false) (hat_found c.hats (hat_with config seats) st.hats),
-      (ap (λ k. k + 1 == 2 ^ 32) st.numbers ∙ fits,
-      (open_lacks, tt)))))
+      none_of (causes c (opening o)) (
+        ap (λ h. not (is_some h)) (hat_found c.hats (hat_with config seats) st.hats),
+        (
+          refl,
+          (
+            ap (λ h. option_map_or is_full h false) (hat_found c.hats (hat_with config seats) st.hats),
+            (
+              ap (λ k. k + 1 == 2 ^ 32) st.numbers ∙ fits,
+              (open_lacks, tt),
+            ),
+          ),
+        ),
+      )
 
   pub open_stands : Stands config (faces ++ (n, mine) ∷ []) (n + 1) (seats ++ (n, bare_face config n) ∷ []) requests replies (accepted c (opening o))
   open_stands = record { of = opened_stands.of; opens = opened_stands.opens; numbers = opened_stands.numbers; hats = opened_stands.hats; interests = opened_stands.interests; quiet = opened_stands.quiet }
@@ -193,12 +200,19 @@ module _ (config : Settings) (faces : List (ℕ × OpenFace)) (n : ℕ) (seats :
 
   pub declare_fits : refusal_of c declares ≡ None
   declare_fits =
-      none_of (causes c declares)
-      (ap (λ x. not (is_some x)) face_found,
-      (refl,
-      (ap not is,
-      (ap (clashes_in n 1 key) face_hat ∙ ap (λ x. option_map_or (is_apart key) (option_and_then (declaration 1) x) false) seat_found,
-      (declare_lacks, tt)))))
+      none_of (causes c declares) (
+        ap (λ x. not (is_some x)) face_found,
+        (
+          refl,
+          (
+            ap not is,
+            (
+              ap (clashes_in n 1 key) face_hat ∙ ap (λ x. option_map_or (is_apart key) (option_and_then (declaration 1) x) false) seat_found,
+              (declare_lacks, tt),
+            ),
+          ),
+        ),
+      )
 
   pub declare_stands : Stands config (faces ++ (n, opened (local_opening config.zid)) ∷ []) (n + 1) (seats ++ (n, declared) ∷ []) requests replies (accepted c declares)
   declare_stands = record { of = st.of; opens = st.opens; numbers = st.numbers; hats = declared_hats; interests = st.interests; quiet = st.quiet }

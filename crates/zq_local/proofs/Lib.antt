@@ -9,3 +9,4 @@ pub mod First
 pub mod Seating
 pub mod Running
 pub mod Asked
+pub mod Promised

@@ -1,12 +1,12 @@
 -- What a region of storages offers for a request, in order.
-use Rattle.std.proofs.Common.{◌≡◌, ◌∙◌, refl, sym, ap, subst, ℕ, ◌+◌, ◌<◌, Bool, true, false, cond, not, List, [], ◌∷◌, ◌++◌, map, Option, Some, None, true≢false, eqb-true, eq-eqb, arith}
-use Rattle.std.specs.Prelude.{◌==◌, ◌&&◌, ◌||◌, find, fold}
+use Rattle.std.proofs.Common.{◌≡◌, ◌∙◌, refl, sym, ap, subst, ℕ, ◌+◌, ◌<◌, Bool, true, false, cond, List, [], ◌∷◌, ◌++◌, map, Option, Some, None, eqb-true, eq-eqb, arith}
+use Rattle.std.specs.Prelude.{◌==◌, find, fold}
 use Rattle.std.specs.BTreeSet.{insert_key}
 use Rattle.std.specs.Cmp.{nat_cmp_is}
 use Rattle.std.specs.List.{AllByRecursion, filter, flat_map}
 use Rattle.std.specs.List.Sorted.{IsStrictlySortedBy}
 use Rattle.std.specs.Option.{option_map, option_map_or}
-use Rattle.std.specs.Ordering.{is_eq, is_lt, nat_cmp, ordering_reverse, ordering_then}
+use Rattle.std.specs.Ordering.{is_lt, nat_cmp, ordering_reverse, ordering_then}
 use Rattle.std.specs.Str.{bytes_eq}
 use Rattle.std.specs.declared.cmp.Ordering.{Ordering}
 use Rattle.std.specs.declared.cmp.Ordering.TheVariants.{Less, Equal, Greater}
@@ -17,21 +17,20 @@ use Rattle.std.proofs.lemmas.Slice.Eq.{bytes_eq-Decides}
 use Rattle.zq_key.specs.Key.{intersects}
 use Rattle.zq_key.proofs.Sorted.{sorted_put}
 use Rattle.zq_index.specs.Texts.{text_cmp}
-use Rattle.zq_index.proofs.Orders.{text_exact, text_total}
+use Rattle.zq_index.proofs.Orders.{text_total}
 use Rattle.zq_message.specs.declared.message.QueryTarget.{QueryTarget}
 use Rattle.zq_message.specs.declared.message.QueryTarget.TheVariants as target
 use Rattle.zq_message.specs.declared.message.Region.TheVariants as region
 use Rattle.zq_strategy.specs.declared.offer.QueryTargetQabl.{QueryTargetQabl}
-use Rattle.zq_strategy.specs.Kept.{declared_keys, with_key, with_keys}
+use Rattle.zq_strategy.specs.Kept.{declared_keys, with_keys}
 use Rattle.zq_strategy.specs.OfferOrder.{offer_cmp, offer_of, sorted}
 use Rattle.zq_strategy.specs.Offers.{declared_offers, offer_list, offers_for, offers_on}
-use Rattle.zq_strategy.specs.State.{FaceState}
 use Rattle.zq_route.specs.Selection.{best, chosen, is_complete, may_be_complete}
 use Rattle.zq_machine.specs.Configs.{Settings}
-use Rattle.zq_machine.proofs.Lists.{all_append, all_filter, all_weaker}
-use Rattle.zq_local.specs.Picking.{Seat, by_key, has_all, is_on, key_of, keys_in, meets, on_keys, picked, picks}
-use Rattle.zq_local.specs.Seated.{AreNumbered, bare_face, hat_faces, seat_entry, seat_info}
-use Rattle.zq_local.proofs.Lists.{Across, Pairwise, all_both, all_flat, all_of, filter_map_by, find_map_by, pairs_append, pairs_back, pairs_filter, pairs_stronger}
+use Rattle.zq_machine.proofs.Lists.{all_append, all_weaker}
+use Rattle.zq_local.specs.Picking.{Seat, by_key, has_all, is_on, key_of, keys_in, meets, on_keys, picks}
+use Rattle.zq_local.specs.Seated.{AreNumbered, hat_faces, seat_entry, seat_info}
+use Rattle.zq_local.proofs.Lists.{Across, Pairwise, all_both, all_of, filter_map_by, find_map_by, pairs_append, pairs_back, pairs_filter, pairs_stronger}
 use Rattle.zq_local.proofs.Sorting.{Ordered, sorted_whole}
 
 -- the offer of a storage
@@ -115,9 +114,10 @@ later_found s ss t less found = by (s.face.0 == t.face.0) refl
 
 pub all_found : (ss : List Seat) → Pairwise Below ss → AllByRecursion (IsFound ss) ss
 all_found [] p = tt
-all_found (s ∷ ss) p =
-    (ap (λ b. cond b (Some s) (find (has_face s.face.0) ss)) (eq-eqb s.face.0 s.face.0 refl),
-     all_both (λ t. Below s t) (IsFound ss) (IsFound (s ∷ ss)) (λ t less found. later_found s ss t less found) ss p.0 (all_found ss p.1))
+all_found (s ∷ ss) p = (
+  ap (λ b. cond b (Some s) (find (has_face s.face.0) ss)) (eq-eqb s.face.0 s.face.0 refl),
+  all_both (λ t. Below s t) (IsFound ss) (IsFound (s ∷ ss)) (λ t less found. later_found s ss t less found) ss p.0 (all_found ss p.1),
+)
 
 -- ---- in the order of the offers, each of another face
 abbrev Stands : Seat → Seat → Type 0

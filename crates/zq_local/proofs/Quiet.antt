@@ -1,5 +1,5 @@
 -- Calls of a gateway without gates that tell nothing: what they hand, and what they leave.
-use Rattle.std.proofs.Common.{◌≡◌, ◌∙◌, refl, sym, ap, ℕ, ◌+◌, ◌%◌, ◌^◌, Bool, true, false, cond, not, List, [], ◌∷◌, ◌++◌, map, Option, Some, None, append-nil, eq-eqb}
+use Rattle.std.proofs.Common.{◌≡◌, ◌∙◌, refl, ap, ℕ, ◌+◌, ◌%◌, ◌^◌, Bool, true, false, cond, not, List, [], ◌∷◌, ◌++◌, map, Some, None, append-nil, eq-eqb}
 use Rattle.std.specs.Prelude.{◌==◌, ◌&&◌, ◌||◌}
 use Rattle.std.specs.List.{filter, list_any}
 use Rattle.std.specs.Option.{is_some, option_map}
@@ -11,16 +11,14 @@ use Rattle.zq_message.specs.declared.message.Request.{Request}
 use Rattle.zq_message.specs.declared.message.Response.{Response}
 use Rattle.zq_message.specs.declared.message.ReplyBody.TheVariants as body
 use Rattle.zq_key.specs.Key.{is_chunk, is_key}
-use Rattle.zq_query.specs.declared.records.Final.{Final}
 use Rattle.zq_query.specs.declared.records.ReplyTo.{ReplyTo}
 use Rattle.zq_query.specs.Asking.{after_ask, is_full}
 use Rattle.zq_query.specs.Closing.{has_open_asker}
-use Rattle.zq_query.specs.Records.{Pending, QueryState, Record, final_of, first_free, is_entry, is_left, is_none_left, is_over, is_reply, last_given, needs_number, next_id, next_reply, reply_to}
+use Rattle.zq_query.specs.Records.{Pending, QueryState, Record, final_of, is_entry, is_left, is_none_left, is_over, last_given, needs_number, next_reply, reply_to}
 use Rattle.zq_query.proofs.Ids.{stops}
 use Rattle.zq_tables.specs.declared.resolved.Resolved.{Resolved}
 use Rattle.zq_tables.specs.declared.resolved.Resolved.TheVariants as said
 use Rattle.zq_tables.specs.Naming.{NamingState, plain, said_plainly}
-use Rattle.zq_machine.specs.declared.call.Call.{Call}
 use Rattle.zq_machine.specs.declared.call.Call.TheVariants as call
 use Rattle.zq_machine.specs.Deciding.{Cause, after_replied, causes, deadline, first_of, handed_requests, messages_of, refusal_of, regated, replied, targets, told_of, with_queries}
 use Rattle.zq_machine.specs.Gates.{through}

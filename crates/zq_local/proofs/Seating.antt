@@ -1,5 +1,5 @@
 -- A new gateway with its asker, and a storage that joins.
-use Rattle.std.proofs.Common.{◌≡◌, ◌∙◌, refl, sym, ap, subst, ℕ, ◌+◌, ◌<◌, ◌^◌, Bool, true, false, List, [], ◌∷◌, ◌++◌, map, length, length-append, arith}
+use Rattle.std.proofs.Common.{◌≡◌, ◌∙◌, refl, sym, ap, subst, ℕ, ◌+◌, ◌<◌, ◌^◌, true, false, List, [], ◌∷◌, ◌++◌, map, length, length-append, arith}
 use Rattle.std.specs.Prelude.{◌==◌}
 use Rattle.std.specs.List.{AllByRecursion}
 use Rattle.std.proofs.lemmas.List.{map-append}
@@ -111,9 +111,9 @@ module _ (asker : ℕ) (ss : List Seat) (requests replies : ℕ) (s : State) (se
       let st = declare_core g faces n seats requests replies open_state it free faces_first seats_first locals seat.key keyed (seat_info seat) in
       let number : seat.face.0 ≡ n = ap (λ f. f.0) face in
       let all_faces : joined_state.core.faces ≡ open_faces g.zid asker (ss ++ seat ∷ []) =
-          st.opens ∙ ap (λ l. (asker, opened (local_opening g.zid)) ∷ l) (ap (λ k. map (open_entry g.zid) ss ++ (k, opened (local_opening g.zid)) ∷ []) (sym number) ∙ sym (map-append (open_entry g.zid) ss (seat ∷ []))) in
+      st.opens ∙ ap (λ l. (asker, opened (local_opening g.zid)) ∷ l) (ap (λ k. map (open_entry g.zid) ss ++ (k, opened (local_opening g.zid)) ∷ []) (sym number) ∙ sym (map-append (open_entry g.zid) ss (seat ∷ []))) in
       let all_seats : hat_with g (seats ++ (n, declare 1 seat.key (seat_info seat) (bare_face g n)) ∷ []) ≡ hat_with g (hat_faces g asker (ss ++ seat ∷ [])) =
-          ap (λ l. hat_with g ((asker, bare_face g asker) ∷ l)) (ap (λ k. map (seat_entry g) ss ++ (k, declare 1 seat.key (seat_info seat) (bare_face g k)) ∷ []) (sym number) ∙ sym (map-append (seat_entry g) ss (seat ∷ []))) in
+      ap (λ l. hat_with g ((asker, bare_face g asker) ∷ l)) (ap (λ k. map (seat_entry g) ss ++ (k, declare 1 seat.key (seat_info seat) (bare_face g k)) ∷ []) (sym number) ∙ sym (map-append (seat_entry g) ss (seat ∷ []))) in
       record {
         numbered = numbered_more (asker + 1) ss seat seated.numbered (omega (arith, number, is));
         next = let e = st.numbers in let long = length-append ss (seat ∷ []) in omega (arith, e, is, long);

@@ -1,28 +1,24 @@
 -- What is selected for a request of the asker: the storages that its target picks.
-use Rattle.std.proofs.Common.{◌≡◌, ◌∙◌, refl, sym, ap, subst, ℕ, ◌+◌, ◌<◌, Bool, true, false, cond, not, List, [], ◌∷◌, ◌++◌, map, Option, Some, None, arith}
+use Rattle.std.proofs.Common.{◌≡◌, ◌∙◌, refl, ap, ℕ, ◌+◌, ◌<◌, Bool, true, false, cond, not, List, [], ◌∷◌, ◌++◌, map, Option, Some, None, arith}
 use Rattle.std.specs.Prelude.{◌==◌, ◌&&◌, find, fold}
-use Rattle.std.specs.BTreeMap.{is_at}
 use Rattle.std.specs.List.{AllByRecursion, filter, flat_map}
 use Rattle.std.specs.Map.{values_of}
 use Rattle.std.specs.Option.{option_map_or}
-use Rattle.std.specs.Ordering.{nat_cmp}
 use Rattle.std.proofs.lemmas.Cmp.{nat_cmp_total}
 use Rattle.std.proofs.lemmas.List.{map-append}
 use Rattle.std.proofs.lemmas.List.Sums.{fold-append}
 use Rattle.std.proofs.lemmas.Map.Lookups.{exact_unsigned}
 use Rattle.zq_key.specs.Key.{is_key}
 use Rattle.zq_key.proofs.Lookups.{at_itself}
-use Rattle.zq_message.specs.declared.message.FaceId.{FaceId}
 use Rattle.zq_message.specs.declared.message.QueryTarget.{QueryTarget}
 use Rattle.zq_message.specs.declared.message.QueryTarget.TheVariants as target
 use Rattle.zq_message.specs.declared.message.Region.{Region}
-use Rattle.zq_message.specs.declared.message.Region.TheVariants as region
 use Rattle.zq_message.specs.declared.message.Request.{Request}
 use Rattle.zq_strategy.specs.declared.offer.QueryTargetQabl.{QueryTargetQabl}
 use Rattle.zq_strategy.specs.declared.types.Strategy.{Strategy}
 use Rattle.zq_strategy.specs.declared.types.Strategy.TheVariants as strategy
 use Rattle.zq_strategy.specs.OfferOrder.{offer_cmp, sorted}
-use Rattle.zq_strategy.specs.Offers.{bare_offers, bare_on, declared_offers, offers_beside, offers_by}
+use Rattle.zq_strategy.specs.Offers.{bare_on, declared_offers, offers_beside, offers_by}
 use Rattle.zq_strategy.specs.Regions.{is_north, same_region, strategy_at}
 use Rattle.zq_strategy.specs.Routers.{entries_offers, source_for}
 use Rattle.zq_strategy.specs.State.{FaceState, HatState}
@@ -36,7 +32,7 @@ use Rattle.zq_machine.proofs.Lists.{all_filter, all_weaker}
 use Rattle.zq_local.specs.Picking.{Seat, by_key, has_all, is_on, keys_in, meets, picked, picks}
 use Rattle.zq_local.specs.Seated.{AreHats, AreNumbered, IsBare, hat_faces, hat_with, local_opening, open_entry, open_faces}
 use Rattle.zq_local.proofs.Lists.{Pairwise, all_back, all_flat, all_of, filter_whole, pairs_filter, pairs_back}
-use Rattle.zq_local.proofs.Sorting.{Apart, values_whole, route_whole}
+use Rattle.zq_local.proofs.Sorting.{Apart, values_whole}
 use Rattle.zq_local.proofs.Picked.{above_all, chosen_are, not_same, offer, offers_sorted, stand_apart}
 
 -- ---- a region without faces and entries offers nothing

@@ -1,17 +1,17 @@
 -- A list in order is sorted as it is, and a route takes all offers of different faces.
 use mathlib.Core.List.{reverse-cons}
-use Rattle.std.proofs.Common.{◌≡◌, ◌∙◌, refl, sym, ap, subst, ℕ, ◌+◌, ◌-◌, Bool, true, false, cond, List, [], ◌∷◌, ◌++◌, map, length, take, drop, append_assoc, append-nil, arith}
+use Rattle.std.proofs.Common.{◌≡◌, ◌∙◌, refl, sym, ap, subst, ℕ, ◌+◌, ◌-◌, Bool, false, cond, List, [], ◌∷◌, ◌++◌, map, length, append_assoc, append-nil, arith}
 use Rattle.std.specs.Prelude.{fold, reverse, ◌==◌, ◌||◌}
-use Rattle.std.specs.List.{AllByRecursion, insert, list_any, prefix_len, suffix_len}
+use Rattle.std.specs.List.{AllByRecursion, insert, prefix_len, suffix_len}
 use Rattle.std.specs.Map.{values_of}
 use Rattle.std.specs.declared.cmp.Ordering.{Ordering}
 use Rattle.std.specs.Ordering.{is_lt}
 use Rattle.std.proofs.lemmas.List.Folds.{list_any-append}
 use Rattle.zq_strategy.specs.declared.offer.QueryTargetQabl.{QueryTargetQabl}
 use Rattle.zq_strategy.specs.OfferOrder.{place, sorted}
-use Rattle.zq_route.specs.Built.{has_face, is_face, with_first}
+use Rattle.zq_route.specs.Built.{has_face, is_face}
 use Rattle.zq_route.specs.Selection.{by_face, with_offers}
-use Rattle.zq_machine.proofs.Lists.{all_append, all_weaker}
+use Rattle.zq_machine.proofs.Lists.{all_append}
 use Rattle.zq_local.proofs.Lists.{Pairwise, all_both}
 
 -- ---- sorting

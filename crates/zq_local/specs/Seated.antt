@@ -2,12 +2,10 @@
 use Rattle.std.specs.Prelude.{◌≡◌, ◌<◌, ℕ, ◌+◌, List, [], ◌∷◌, ◌++◌, map, None, length}
 use Rattle.std.specs.List.{AllByRecursion}
 use Rattle.zq_message.specs.declared.message.Bound.TheVariants as bound
-use Rattle.zq_message.specs.declared.message.FaceId.{FaceId}
 use Rattle.zq_message.specs.declared.message.Mode.TheVariants as mode
 use Rattle.zq_message.specs.declared.message.QueryableInfoType.{QueryableInfoType}
 use Rattle.zq_message.specs.declared.message.Region.TheVariants as region
 use Rattle.zq_message.specs.declared.message.Zid.{Zid}
-use Rattle.zq_strategy.specs.declared.types.FaceRecord.{FaceRecord}
 use Rattle.zq_strategy.specs.Kept.{declare, new_face, new_hat}
 use Rattle.zq_strategy.specs.State.{FaceState, HatState}
 use Rattle.zq_query.specs.Records.{QueryState}

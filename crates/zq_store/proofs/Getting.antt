@@ -32,9 +32,10 @@ use Rattle.zq_local.proofs.Running.{AreOf, IsApart, IsAsked, IsFit, calls, ends_
 use Rattle.zq_local.proofs.Selected.{all_picked, picked_apart}
 use Rattle.zq_store.specs.Held.{meeting, meets_key}
 use Rattle.zq_store.specs.Stores.{Stored, count_all, fits_store, held_at, holds_own, numbered}
-use Rattle.zq_store.specs.Bus.{BusState}
+use Rattle.zq_store.specs.Bus.{BusState, IsServed}
 use Rattle.zq_store.specs.Getting.{after_get, answer_by, answers_at, answers_of, ask_call, end_call, get_answers, get_asks, get_calls, got_of, got_reply, handed_over, reply_call, reply_calls}
-use Rattle.zq_store.specs.Answered.{IsAnswered, IsServed, final_message, is_to, message_in, messages_to, picked_replies, reply_message, seats}
+use Rattle.zq_store.specs.Answered.{IsAnswered, final_message, is_to, message_in, messages_to, picked_replies, reply_message}
+use Rattle.zq_store.specs.Seats.{seats}
 use Rattle.zq_store.specs.declared.answers.Answer.{Answer}
 use Rattle.zq_store.specs.declared.answers.AskedStore.{AskedStore}
 use Rattle.zq_store.specs.declared.got.GotReply.{GotReply}

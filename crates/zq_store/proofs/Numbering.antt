@@ -9,7 +9,7 @@ use Rattle.zq_local.specs.Picking.{Seat}
 use Rattle.zq_local.specs.Seated.{AreNumbered}
 use Rattle.zq_local.proofs.Picked.{not_same}
 use Rattle.zq_store.specs.Stores.{Stored, fits_store, held_at, holds_own, is_face, numbered}
-use Rattle.zq_store.specs.Answered.{seats_from}
+use Rattle.zq_store.specs.Seats.{seats_from}
 
 pub found_behind : {X : Type 0} (front : List X) (x : X) (rest : List X) → slice_get (front ++ x ∷ rest) (length front) ≡ Some x
 found_behind [] x rest = refl

@@ -22,9 +22,10 @@ use Rattle.zq_local.proofs.Picked.{offer}
 use Rattle.zq_local.proofs.Selected.{all_by_key, all_picked}
 use Rattle.zq_store.specs.Held.{meeting, meets_key}
 use Rattle.zq_store.specs.Stores.{Stored, fits_store, held_at, holds_own, is_face, numbered}
-use Rattle.zq_store.specs.Bus.{BusState}
+use Rattle.zq_store.specs.Bus.{BusState, IsServed}
 use Rattle.zq_store.specs.Getting.{answer_by, answers_at, answers_of, ask_call, asked_of, get_answers, get_asks, got_reply}
-use Rattle.zq_store.specs.Answered.{IsServed, meeting_replies, picked_replies, replies_by, reply_by, seats}
+use Rattle.zq_store.specs.Answered.{meeting_replies, picked_replies, replies_by, reply_by}
+use Rattle.zq_store.specs.Seats.{seats}
 use Rattle.zq_store.specs.declared.answers.Answer.{Answer}
 use Rattle.zq_store.specs.declared.answers.AskedStore.{AskedStore}
 use Rattle.zq_store.specs.declared.got.GotReply.{GotReply}

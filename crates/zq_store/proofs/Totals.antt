@@ -20,7 +20,7 @@ use Rattle.zq_local.proofs.Picked.{keys_in_order, text_itself}
 use Rattle.zq_store.specs.Held.{meeting}
 use Rattle.zq_store.specs.Stores.{Stored, count_all, count_in, held_at}
 use Rattle.zq_store.specs.Getting.{answer_by, answers_at, answers_of}
-use Rattle.zq_store.specs.Answered.{seats, seats_from}
+use Rattle.zq_store.specs.Seats.{seats, seats_from}
 use Rattle.zq_store.proofs.Numbering.{found_behind}
 use Rattle.zq_store.proofs.Replying.{ask_at}
 

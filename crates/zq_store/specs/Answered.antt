@@ -9,21 +9,12 @@ use Rattle.zq_message.specs.declared.message.ReplyBody.TheVariants as body
 use Rattle.zq_tables.specs.Naming.{plain}
 use Rattle.zq_machine.specs.Handing.{Handed}
 use Rattle.zq_local.specs.Picking.{Seat, by_key, picked}
-use Rattle.zq_local.specs.Seated.{IsSeated}
 use Rattle.zq_store.specs.Held.{meeting}
 use Rattle.zq_store.specs.Stores.{Stored, held_at}
+use Rattle.zq_store.specs.Seats.{seats}
 use Rattle.zq_store.specs.Bus.{BusState}
 use Rattle.zq_store.specs.declared.got.Got.{Got}
 use Rattle.zq_store.specs.declared.got.GotReply.{GotReply}
-
--- the storages, numbered from this number on
-abbrev pub seats_from : ℕ → List Stored → List Seat
-seats_from n [] = []
-seats_from n (s ∷ more) = record { number = n; key = s.key; face = s.face; complete = s.complete } ∷ seats_from (n + 1) more
-
--- the storages by number
-abbrev pub seats : List Stored → List Seat
-seats stores = seats_from 0 stores
 
 -- ---- the replies
 
@@ -69,9 +60,3 @@ final_message = message.ResponseFinal (record { rid = 0; qos = 0 })
 pub record IsAnswered (key : List ℕ) (target : QueryTarget) (b : BusState) (g : Got) : Type 0 where
   pub replies : g.replies ≡ picked_replies key target b.stores
   pub to_asker : messages_to b.asker g.handed ≡ map reply_message g.replies ++ final_message ∷ []
-
--- ---- what is kept
-
--- the asker and the storages are the faces of the gateway, and nothing is open, between two calls of a bus that is not spent
-abbrev pub IsServed : BusState → Type 0
-IsServed b = IsSeated b.asker.0 (seats b.stores) b.next_request b.next_reply b.gateway

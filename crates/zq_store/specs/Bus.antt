@@ -14,8 +14,10 @@ use Rattle.zq_machine.specs.declared.call.Opening.{Opening}
 use Rattle.zq_machine.specs.Configs.{Settings, has_local}
 use Rattle.zq_machine.specs.Machine.{after, state_after}
 use Rattle.zq_machine.specs.State.{State, opening_state}
+use Rattle.zq_local.specs.Seated.{IsSeated}
 use Rattle.zq_store.specs.Held.{Change}
 use Rattle.zq_store.specs.Stores.{Stored, change_at, holds_own, new_store, numbered, refusal_at}
+use Rattle.zq_store.specs.Seats.{seats}
 use Rattle.zq_store.specs.declared.bus.BusRefusal.{BusRefusal}
 use Rattle.zq_store.specs.declared.bus.BusRefusal.TheVariants as refusal
 use Rattle.zq_store.specs.declared.stores.PutRefusal.{PutRefusal}
@@ -92,11 +94,16 @@ with_change store c b = record b { stores = change_at store c b.stores }
 
 -- ---- what is kept
 
--- what holds of a bus between two calls, spent or not
+-- the asker and the storages are the faces of the gateway, nothing is open, and these are the next numbers
+abbrev pub IsServed : BusState → Type 0
+IsServed b = IsSeated b.asker.0 (seats b.stores) b.next_request b.next_reply b.gateway
+
+-- what holds of a bus between two calls; of its gateway while it is not spent
 pub record IsBus (b : BusState) : Type 0 where
   pub next : b.next_face ≡ b.asker.0 + 1 + length b.stores
   pub faces : numbered (b.asker.0 + 1) b.stores ≡ true
   pub held : list_all holds_own b.stores ≡ true
+  pub served : b.spent ≡ false → IsServed b
 
 -- a call found no memory: the bus is spent, and holds what it held
 pub record IsSpent (old new : BusState) : Type 0 where
