@@ -1,0 +1,83 @@
+-- What holds of a bus holds after each of its calls, and a get that nothing refuses is answered by the storages that its target picks.
+use Rattle.std.proofs.Common.{◌≡◌, ◌∙◌, refl, sym, ap, subst, ℕ, ◌+◌, ◌<◌, ◌^◌, Bool, true, false, cond, not, List, [], ◌∷◌, ◌++◌, Option, Some, None, length, arith, eq-eqb, length-append}
+use Rattle.std.specs.Prelude.{◌==◌, ◌&&◌, ◌||◌, nat_lt}
+use Rattle.std.specs.List.{list_all}
+use Rattle.std.proofs.lemmas.Bool.{and_parts, ltb-true}
+use Rattle.zq_key.specs.Key.{is_key}
+use Rattle.zq_message.specs.declared.message.QueryTarget.{QueryTarget}
+use Rattle.zq_message.specs.declared.message.QueryTarget.TheVariants as target
+use Rattle.zq_machine.specs.Configs.{Settings}
+use Rattle.zq_store.specs.Held.{Change}
+use Rattle.zq_store.specs.Stores.{Stored, count_all, holds_own, new_store, numbered}
+use Rattle.zq_store.specs.Bus.{BusState, IsBus, IsServed, add_refusal, added, free_face, new_bus, new_refusal}
+use Rattle.zq_store.specs.Getting.{after_get, get_answers, get_refusal, got_of, has_replies, has_request}
+use Rattle.zq_store.specs.Answered.{IsAnswered, meeting_replies, picked_replies}
+use Rattle.zq_store.specs.declared.bus.BusRefusal.TheVariants as refusal
+use Rattle.zq_store.proofs.Keeping.{added_served, new_served}
+use Rattle.zq_store.proofs.Replying.{all_replies}
+use Rattle.zq_store.proofs.Serving.{get_answered, get_served, room_for_all}
+
+-- ---- a new bus
+pub new_is_bus : (config : Settings) → new_refusal config ≡ None → IsBus (new_bus config)
+new_is_bus config none = record { next = omega arith; faces = refl; held = refl; served = λ e. new_served config none }
+
+-- ---- a storage joins
+numbered_more : (n : ℕ) (xs : List Stored) (s : Stored) → numbered n xs ≡ true → (s.face.0 == n + length xs) ≡ true → numbered n (xs ++ s ∷ []) ≡ true
+numbered_more n [] s all is = (λ j. ap (λ k. s.face.0 == k) (let e : n ≡ n + 0 = omega arith in e) j && true) ∙ ap (λ b. b && true) is
+numbered_more n (x ∷ xs) s all is =
+    let here = and_parts (x.face.0 == n) (numbered (n + 1) xs) all in
+    let next : n + length (x ∷ xs) ≡ n + 1 + length xs = omega arith in
+    (λ j. here.0 j && numbered_more (n + 1) xs s here.1 (ap (λ k. s.face.0 == k) (sym next) ∙ is) j)
+
+all_more : (p : Stored → Bool) (xs : List Stored) (s : Stored) → list_all p xs ≡ true → p s ≡ true → list_all p (xs ++ s ∷ []) ≡ true
+all_more p [] s all is = ap (λ b. b && true) is
+all_more p (x ∷ xs) s all is = let here = and_parts (p x) (list_all p xs) all in (λ j. here.0 j && all_more p xs s here.1 is j)
+
+same_number : (n m : ℕ) → n ≡ m → (n == m) ≡ true
+same_number n m e = eq-eqb n m e
+
+pub added_is_bus : (key : List ℕ) (complete : Bool) (b : BusState) → IsBus b → add_refusal b ≡ None → is_key key ≡ true → IsBus (added key complete b)
+added_is_bus key complete b bus none keyed = record {
+  next = let e = bus.next in let long = length-append b.stores (new_store key (free_face b) complete ∷ []) in omega (arith, e, long);
+  faces = numbered_more (b.asker.0 + 1) b.stores (new_store key (free_face b) complete) bus.faces (same_number b.next_face (b.asker.0 + 1 + length b.stores) bus.next);
+  held = all_more holds_own b.stores (new_store key (free_face b) complete) bus.held refl;
+  served = λ e. added_served key complete b bus.next (bus.served e) none keyed;
+}
+
+-- ---- a get
+get_parts : (spent asks fits : Bool) → cond spent (Some refusal.Spent) (cond (not asks || not fits) (Some refusal.NoFreeId) None) ≡ None → (spent ≡ false) × ((asks ≡ true) × (fits ≡ true))
+get_parts true asks fits e = absurd (cc)
+get_parts false true true e = (refl, (refl, refl))
+get_parts false true false e = absurd (cc)
+get_parts false false fits e = absurd (cc)
+
+not_true : (c : Bool) → not c ≡ true → c ≡ false
+not_true true e = sym e
+not_true false e = refl
+
+module _ (b : BusState) (bus : IsBus b) (key : List ℕ) (is : is_key key ≡ true) (t : QueryTarget) (now : ℕ) (none : get_refusal key b ≡ None) where
+  parts : (b.spent ≡ false) × ((has_request b ≡ true) × (has_replies key b ≡ true))
+  parts = get_parts b.spent (has_request b) (has_replies key b) none
+
+  served : IsServed b
+  served = bus.served parts.0
+
+  fits : (b.next_request + 1 == 2 ^ 64) ≡ false
+  fits = not_true (b.next_request + 1 == 2 ^ 64) parts.1.0
+
+  room : b.next_reply + count_all key b.stores < 2 ^ 64
+  room = ltb-true (b.next_reply + count_all key b.stores) (2 ^ 64) parts.1.1
+
+  -- the replies have numbers
+  pub replies_fit : b.next_reply + length (get_answers b key t now) < 2 ^ 64
+  replies_fit = room_for_all b served bus.faces bus.held key is t now fits room
+
+  pub answered : IsAnswered key t b (got_of b key t now)
+  answered = get_answered b served bus.faces bus.held key is t now fits room
+
+  -- for the target All these are all pairs that meet the key
+  pub answered_all : t ≡ target.All → (got_of b key t now).replies ≡ meeting_replies key b.stores
+  answered_all e = answered.replies ∙ ap (λ x. picked_replies key x b.stores) e ∙ all_replies (b.asker.0 + 1) b.stores key bus.faces bus.held
+
+  pub got_is_bus : IsBus (after_get b key t now)
+  got_is_bus = record { next = bus.next; faces = bus.faces; held = bus.held; served = λ e. get_served b served bus.faces bus.held key is t now fits room }
