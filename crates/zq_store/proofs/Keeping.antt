@@ -67,7 +67,7 @@ seats_set n zero (x ∷ xs) c s there =
     ap (λ y. seat_of n y ∷ seats_from (n + 1) xs) (sym same)
 seats_set n (suc i) (x ∷ xs) c s there = ap (λ l. seat_of n x ∷ l) (seats_set (n + 1) i xs c s there)
 
-seats_changed : (i : ℕ) (c : Change) (xs : List Stored) (o : Option Stored) → slice_get xs i ≡ o → seats (change_by i c xs o) ≡ seats xs
+pub seats_changed : (i : ℕ) (c : Change) (xs : List Stored) (o : Option Stored) → slice_get xs i ≡ o → seats (change_by i c xs o) ≡ seats xs
 seats_changed i c xs None there = refl
 seats_changed i c xs (Some s) there = seats_set 0 i xs c s there
 

@@ -2,8 +2,10 @@
 ghost use Rattle.std.specs.Prelude.{◌≡◌, ◌+◌, ◌++◌, ◌∷◌, ◌<◌, ◌^◌, [], None, IfOk, IfErr, IfSome, IsTrue, Err, OnOk, OnErr, length};
 ghost use Rattle.std.specs.Result.{is_ok};
 ghost use Rattle.zq_index.specs.Texts.{at_text};
+ghost use Rattle.zq_store.specs.Answered.{IsAnswered, meeting_replies};
 ghost use Rattle.zq_store.specs.Bus.{IsSpent, add_refusal, added, new_bus, new_refusal, put_refusal, with_change};
-ghost use Rattle.zq_store.specs.Getting.{after_get, get_refusal, got_of, held_at};
+ghost use Rattle.zq_store.specs.Getting.{after_get, get_refusal, got_of};
+ghost use Rattle.zq_store.specs.Stores.{held_at};
 ghost use Rattle.zq_store.specs.Held.{delete, put};
 
 use crate::asking::{end_all, replies_of, reply_all, request};
@@ -120,6 +122,7 @@ impl Bus {
         if self.next_face == u32::MAX {
             return Err(BusRefusal::NoFreeId);
         }
+        let _text = key.as_str();
         let face = FaceId(self.next_face);
         let Ok(storage) = join(self.alloc, &mut self.gateway, face, key, complete) else {
             self.spent = true;
@@ -168,37 +171,42 @@ impl Bus {
         self.stores.delete(store.0, key)
     }
 
-    /// The calls of a get.
+    /// The calls of a get: the bus is spent while it is amid them.
     fn ask(&mut self, key: &Key, target: QueryTarget, now: u64) -> Result<Got, OutOfMemory>
-        requires { self.old.next_request + 1 < 2 ^ 64 }
+        requires { get_refusal key.now self.old ≡ None }
         ensures ok { IfOk result (λ g. g ≡ got_of self.old key.now target now) }
         ensures new { OnOk result (self.new ≡ after_get self.old key.now target now) }
-        ensures err { OnErr result (self.new.stores ≡ self.old.stores) }
+        ensures answered { IfOk result (λ g. IsAnswered key.now target self.old g) }
+        ensures all { IfOk result (λ g. target ≡ QueryTarget.All → g.replies ≡ meeting_replies key.now self.old.stores) }
+        ensures err { OnErr result (IsSpent self.old self.new) }
     {
         let alloc = self.alloc;
+        let _text = key.as_str();
+        self.spent = true;
         let mut handed = request(alloc, &mut self.gateway, self.asker, key, target, now)?;
         let stores = self.stores.as_slice();
         let asked = asked_of(alloc, stores, handed.as_slice())?;
         let answers = answers_of(alloc, stores, asked.as_slice(), key)?;
         let first = self.next_reply;
-        let Some(next) = first.checked_add(answers.len() as u64) else {
-            return Err(OutOfMemory);
-        };
+        let next = first + answers.len() as u64;
         reply_all(alloc, &mut self.gateway, &mut handed, first, answers.as_slice())?;
         end_all(&mut self.gateway, &mut handed, asked.as_slice())?;
         let replies = replies_of(alloc, answers)?;
         self.next_request += 1;
         self.next_reply = next;
+        self.spent = false;
         Ok(Got { replies, handed })
     }
 
     /// Asks on the key at a moment, and brings what the storages that the gateway picks reply with, in its
     /// order: each its pairs that meet the key, by text. Each reply is reported as sent, and then each storage
-    /// ends. `NoFreeId` where no number is left for the request, or fewer for replies than there are pairs
-    /// that meet the key.
+    /// ends; nothing stays open. `NoFreeId` where no number is left for the request, or fewer for replies
+    /// than there are pairs that meet the key. For the target `All` the replies are all pairs that meet it.
     pub fn get(&mut self, key: &Key, target: QueryTarget, now: u64) -> Result<Got, BusRefusal>
         ensures ok { IfOk result (λ g. g ≡ got_of self.old key.now target now) }
         ensures new { OnOk result (self.new ≡ after_get self.old key.now target now) }
+        ensures answered { IfOk result (λ g. IsAnswered key.now target self.old g) }
+        ensures all { IfOk result (λ g. target ≡ QueryTarget.All → g.replies ≡ meeting_replies key.now self.old.stores) }
         ensures refused { IfSome (get_refusal key.now self.old) (λ e. (result ≡ Err e) × (self.new ≡ self.old)) }
         ensures memory { get_refusal key.now self.old ≡ None → IfErr result (λ e. (e ≡ BusRefusal.OutOfMemory) × IsSpent self.old self.new) }
     {
@@ -210,10 +218,7 @@ impl Bus {
         }
         match self.ask(key, target, now) {
             Ok(got) => Ok(got),
-            Err(_) => {
-                self.spent = true;
-                Err(BusRefusal::OutOfMemory)
-            }
+            Err(_) => Err(BusRefusal::OutOfMemory),
         }
     }
 }
