@@ -3,10 +3,11 @@ ghost use Rattle.std.specs.Prelude.{◌≡◌, ◌+◌, ◌++◌, ◌∷◌, ◌
 ghost use Rattle.std.specs.Result.{is_ok};
 ghost use Rattle.zq_index.specs.Texts.{at_text};
 ghost use Rattle.zq_store.specs.Bus.{IsSpent, add_refusal, added, new_bus, new_refusal, put_refusal, with_change};
-ghost use Rattle.zq_store.specs.Getting.{after_get, get_refusal, got_of, held_at};
+ghost use Rattle.zq_store.specs.Getting.{after_get, get_refusal, got_of};
 ghost use Rattle.zq_store.specs.Held.{delete, put};
+ghost use Rattle.zq_store.specs.Stores.{held_at};
 
-use crate::asking::{end_all, replies_of, reply_all, request};
+use crate::asking::{end_all, number_after, replies_of, reply_all, request};
 use crate::got::{Got, StoreId};
 use crate::joining::{join, open_local};
 use crate::room::has_room;
@@ -76,6 +77,7 @@ impl Model for Bus {
 impl Bus {
     /// A bus over a new gateway, with its asker. `NoLocal` where the configuration has no Local;
     /// `NoFreeId` where no face can be opened.
+    #[tactic(auto, using(crate::proofs::Keeping::new_keeps))]
     pub fn new(alloc: Global, config: &Config) -> Result<Bus, BusRefusal>
         ensures ok { IfOk result (λ b. b ≡ new_bus config.now) }
         ensures refused { IfSome (new_refusal config.now) (λ e. result ≡ Err e) }
@@ -106,8 +108,24 @@ impl Bus {
         })
     }
 
-    /// A storage joins, which answers for the key. `NoFreeId` where no face can be opened. The answers
-    /// number the storages from 0.
+    /// A storage joins at the next face.
+    #[tactic(auto, using(crate::proofs::Keeping::added_keeps))]
+    fn join(&mut self, key: &Key, complete: bool) -> Result<StoreId, OutOfMemory>
+        requires { self.old.next_face + 1 < 2 ^ 32 }
+        ensures ok { IfOk result (λ s. s.0 ≡ length self.old.stores) }
+        ensures new { OnOk result (self.new ≡ added key.now complete self.old) }
+        ensures err { OnErr result (self.new.stores ≡ self.old.stores) }
+    {
+        let face = FaceId(self.next_face);
+        let storage = join(self.alloc, &mut self.gateway, face, key, complete)?;
+        let number = self.stores.len() as u32;
+        self.stores.push(storage)?;
+        self.next_face += 1;
+        Ok(StoreId(number))
+    }
+
+    /// A storage joins, which answers for the key, and is complete there or not. `NoFreeId` where no face can
+    /// be opened. The answers number the storages from 0.
     pub fn add(&mut self, key: &Key, complete: bool) -> Result<StoreId, BusRefusal>
         ensures ok { IfOk result (λ s. s.0 ≡ length self.old.stores) }
         ensures new { OnOk result (self.new ≡ added key.now complete self.old) }
@@ -120,17 +138,8 @@ impl Bus {
         if self.next_face == u32::MAX {
             return Err(BusRefusal::NoFreeId);
         }
-        let face = FaceId(self.next_face);
-        let Ok(storage) = join(self.alloc, &mut self.gateway, face, key, complete) else {
-            self.spent = true;
-            return Err(BusRefusal::OutOfMemory);
-        };
-        let number = self.stores.len() as u32;
-        match self.stores.push(storage) {
-            Ok(()) => {
-                self.next_face += 1;
-                Ok(StoreId(number))
-            }
+        match self.join(key, complete) {
+            Ok(store) => Ok(store),
             Err(_) => {
                 self.spent = true;
                 Err(BusRefusal::OutOfMemory)
@@ -141,6 +150,7 @@ impl Bus {
     /// The storage has this value at the key from now on; answers the value before. `UnknownStore` where no
     /// storage has the number, `NotPlain` where the key is not plain, and `Outside` where the storage's key
     /// does not include it.
+    #[tactic(auto, using(crate::proofs::Keeping::put_keeps))]
     pub fn put(
         &mut self,
         store: StoreId,
@@ -158,6 +168,7 @@ impl Bus {
 
     /// The storage has no value at the key from now on; answers the value before. It takes no memory, and is
     /// refused as `put` is.
+    #[tactic(auto, using(crate::proofs::Keeping::delete_keeps))]
     pub fn delete(&mut self, store: StoreId, key: &Key) -> Result<Option<Bytes>, PutRefusal>
         ensures old { IfOk result (λ o. o ≡ at_text key.now (held_at self.old.stores store.0)) }
         ensures new { OnOk result (self.new ≡ with_change store.0 (delete key.now) self.old) }
@@ -178,10 +189,10 @@ impl Bus {
         let alloc = self.alloc;
         let mut handed = request(alloc, &mut self.gateway, self.asker, key, target, now)?;
         let stores = self.stores.as_slice();
-        let asked = asked_of(alloc, stores, handed.as_slice())?;
+        let asked = asked_of(alloc, stores, self.asker.0 + 1, handed.as_slice())?;
         let answers = answers_of(alloc, stores, asked.as_slice(), key)?;
         let first = self.next_reply;
-        let Some(next) = first.checked_add(answers.len() as u64) else {
+        let Some(next) = number_after(first, answers.len()) else {
             return Err(OutOfMemory);
         };
         reply_all(alloc, &mut self.gateway, &mut handed, first, answers.as_slice())?;
