@@ -1,6 +1,6 @@
 -- What holds of a bus between two calls is kept.
 use Rattle.std.proofs.Common.{◌≡◌, ◌∙◌, ℕ, ◌+◌, Bool, true, false, not, List, [], ◌∷◌, ◌++◌, Option, Some, None, refl, sym, ap, subst, length, arith}
-use Rattle.std.specs.Prelude.{◌==◌, ◌&&◌, if◌then◌else◌, slice_get, slice_set, suc, unwrap_or, zero}
+use Rattle.std.specs.Prelude.{◌==◌, ◌&&◌, Err, IfSome, Ok, OnErr, OnOk, Result, if◌then◌else◌, slice_get, slice_set, suc, unwrap_or, zero}
 use Rattle.std.specs.BTreeMap.{is_at}
 use Rattle.std.specs.List.{list_all}
 use Rattle.std.proofs.lemmas.Bool.{and_parts}
@@ -118,3 +118,10 @@ delete_keeps store key b is = changed_keeps b store (delete key) (λ s there own
 
 pub get_keeps : (b : BusState) (key : List ℕ) (target : QueryTarget) (now : ℕ) → IsBus b → IsBus (after_get b key target now)
 get_keeps b key target now is = record { next = is.next; faces = is.faces; held = is.held }
+
+-- a change that was made, or refused
+pub changed_goes : {X : Type 0} (r : Result X PutRefusal) (b : BusState) (new there : List Stored) (o : Option PutRefusal)
+    → OnOk r (new ≡ there) → OnErr r (new ≡ b.stores) → IfSome o (λ e. r ≡ Err e) → (o ≡ None → IsBus (record b { stores = there })) → IsBus b → IsBus (record b { stores = new })
+changed_goes (Ok v) b new there None ok err no keeps is = subst (λ l. IsBus (record b { stores = l })) (sym ok) (keeps refl)
+changed_goes (Ok v) b new there (Some e) ok err no keeps is = cc
+changed_goes (Err e) b new there o ok err no keeps is = subst (λ l. IsBus (record b { stores = l })) (sym err) is

@@ -109,7 +109,6 @@ impl Bus {
     }
 
     /// A storage joins at the next face.
-    #[tactic(auto, using(crate::proofs::Keeping::added_keeps))]
     fn join(&mut self, key: &Key, complete: bool) -> Result<StoreId, OutOfMemory>
         requires { self.old.next_face + 1 < 2 ^ 32 }
         ensures ok { IfOk result (λ s. s.0 ≡ length self.old.stores) }
@@ -150,7 +149,6 @@ impl Bus {
     /// The storage has this value at the key from now on; answers the value before. `UnknownStore` where no
     /// storage has the number, `NotPlain` where the key is not plain, and `Outside` where the storage's key
     /// does not include it.
-    #[tactic(auto, using(crate::proofs::Keeping::put_keeps))]
     pub fn put(
         &mut self,
         store: StoreId,
@@ -168,7 +166,6 @@ impl Bus {
 
     /// The storage has no value at the key from now on; answers the value before. It takes no memory, and is
     /// refused as `put` is.
-    #[tactic(auto, using(crate::proofs::Keeping::delete_keeps))]
     pub fn delete(&mut self, store: StoreId, key: &Key) -> Result<Option<Bytes>, PutRefusal>
         ensures old { IfOk result (λ o. o ≡ at_text key.now (held_at self.old.stores store.0)) }
         ensures new { OnOk result (self.new ≡ with_change store.0 (delete key.now) self.old) }
