@@ -122,6 +122,6 @@ get_keeps b key target now is = record { next = is.next; faces = is.faces; held 
 -- a change that was made, or refused
 pub changed_goes : {X : Type 0} (r : Result X PutRefusal) (b : BusState) (new there : List Stored) (o : Option PutRefusal)
     → OnOk r (new ≡ there) → OnErr r (new ≡ b.stores) → IfSome o (λ e. r ≡ Err e) → (o ≡ None → IsBus (record b { stores = there })) → IsBus b → IsBus (record b { stores = new })
-changed_goes (Ok v) b new there None ok err no keeps is = subst (λ l. IsBus (record b { stores = l })) (sym ok) (keeps refl)
-changed_goes (Ok v) b new there (Some e) ok err no keeps is = cc
-changed_goes (Err e) b new there o ok err no keeps is = subst (λ l. IsBus (record b { stores = l })) (sym err) is
+changed_goes (Ok v) b new there None ok err kept keeps is = subst (λ l. IsBus (record b { stores = l })) (sym ok) (keeps refl)
+changed_goes (Ok v) b new there (Some e) ok err kept keeps is = cc
+changed_goes (Err e) b new there o ok err kept keeps is = subst (λ l. IsBus (record b { stores = l })) (sym err) is
