@@ -1,4 +1,4 @@
--- What holds of a bus holds after each of its calls, and a get that nothing refuses is answered by the storages that its target picks.
+-- A get that nothing refuses is answered by the storages that its target picks, and leaves nothing open; and how a get is put together of its parts.
 use Rattle.std.proofs.Common.{◌≡◌, ◌∙◌, refl, sym, ap, subst, ℕ, ◌+◌, ◌<◌, ◌^◌, Bool, true, false, cond, not, List, [], ◌∷◌, ◌++◌, map, Option, Some, None, length, arith, eq-eqb, length-append}
 use Rattle.std.specs.Prelude.{◌==◌, ◌&&◌, ◌||◌, nat_lt, slice_get, Result, Ok, Err, OnOk, OnErr}
 use Rattle.std.specs.List.{list_all}
@@ -22,37 +22,10 @@ use Rattle.zq_store.specs.declared.answers.AskedStore.{AskedStore}
 use Rattle.zq_store.specs.declared.bus.BusRefusal.TheVariants as refusal
 use Rattle.zq_store.specs.declared.got.Got.{Got}
 use Rattle.zq_store.specs.declared.got.GotReply.{GotReply}
-use Rattle.zq_store.proofs.Keeping.{added_served, new_served, seats_changed}
+use Rattle.zq_store.proofs.Served.{seats_changed}
 use Rattle.zq_store.proofs.Replying.{all_replies}
 use Rattle.zq_store.proofs.Runs.{after_whole, handed_whole}
 use Rattle.zq_store.proofs.Serving.{get_answered, get_served, room_for_all}
-
--- ---- a new bus
-pub new_is_bus : (config : Settings) → new_refusal config ≡ None → IsBus (new_bus config)
-new_is_bus config none = record { next = omega arith; faces = refl; held = refl; served = λ e. new_served config none }
-
--- ---- a storage joins
-numbered_more : (n : ℕ) (xs : List Stored) (s : Stored) → numbered n xs ≡ true → (s.face.0 == n + length xs) ≡ true → numbered n (xs ++ s ∷ []) ≡ true
-numbered_more n [] s all is = (λ j. ap (λ k. s.face.0 == k) (let e : n ≡ n + 0 = omega arith in e) j && true) ∙ ap (λ b. b && true) is
-numbered_more n (x ∷ xs) s all is =
-    let here = and_parts (x.face.0 == n) (numbered (n + 1) xs) all in
-    let next : n + length (x ∷ xs) ≡ n + 1 + length xs = omega arith in
-    (λ j. here.0 j && numbered_more (n + 1) xs s here.1 (ap (λ k. s.face.0 == k) (sym next) ∙ is) j)
-
-all_more : (p : Stored → Bool) (xs : List Stored) (s : Stored) → list_all p xs ≡ true → p s ≡ true → list_all p (xs ++ s ∷ []) ≡ true
-all_more p [] s all is = ap (λ b. b && true) is
-all_more p (x ∷ xs) s all is = let here = and_parts (p x) (list_all p xs) all in (λ j. here.0 j && all_more p xs s here.1 is j)
-
-same_number : (n m : ℕ) → n ≡ m → (n == m) ≡ true
-same_number n m e = eq-eqb n m e
-
-pub added_is_bus : (key : List ℕ) (complete : Bool) (b : BusState) → IsBus b → add_refusal b ≡ None → is_key key ≡ true → IsBus (added key complete b)
-added_is_bus key complete b bus none keyed = record {
-  next = let e = bus.next in let long = length-append b.stores (new_store key (free_face b) complete ∷ []) in omega (arith, e, long);
-  faces = numbered_more (b.asker.0 + 1) b.stores (new_store key (free_face b) complete) bus.faces (same_number b.next_face (b.asker.0 + 1 + length b.stores) bus.next);
-  held = all_more holds_own b.stores (new_store key (free_face b) complete) bus.held refl;
-  served = λ e. added_served key complete b bus.next (bus.served e) none keyed;
-}
 
 -- ---- a get
 get_parts : (spent asks fits : Bool) → cond spent (Some refusal.Spent) (cond (not asks || not fits) (Some refusal.NoFreeId) None) ≡ None → (spent ≡ false) × ((asks ≡ true) × (fits ≡ true))
@@ -65,12 +38,9 @@ not_true : (c : Bool) → not c ≡ true → c ≡ false
 not_true true e = sym e
 not_true false e = refl
 
-module _ (b : BusState) (bus : IsBus b) (key : List ℕ) (is : is_key key ≡ true) (t : QueryTarget) (now : ℕ) (none : get_refusal key b ≡ None) where
+module _ (b : BusState) (bus : IsBus b) (served : IsServed b) (key : List ℕ) (is : is_key key ≡ true) (t : QueryTarget) (now : ℕ) (none : get_refusal key b ≡ None) where
   parts : (b.spent ≡ false) × ((has_request b ≡ true) × (has_replies key b ≡ true))
   parts = get_parts b.spent (has_request b) (has_replies key b) none
-
-  served : IsServed b
-  served = bus.served parts.0
 
   fits : (b.next_request + 1 == 2 ^ 64) ≡ false
   fits = not_true (b.next_request + 1 == 2 ^ 64) parts.1.0
@@ -89,8 +59,9 @@ module _ (b : BusState) (bus : IsBus b) (key : List ℕ) (is : is_key key ≡ tr
   pub answered_all : t ≡ target.All → (got_of b key t now).replies ≡ meeting_replies key b.stores
   answered_all e = answered.replies ∙ ap (λ x. picked_replies key x b.stores) e ∙ all_replies (b.asker.0 + 1) b.stores key bus.faces bus.held
 
-  pub got_is_bus : IsBus (after_get b key t now)
-  got_is_bus = record { next = bus.next; faces = bus.faces; held = bus.held; served = λ e. get_served b served bus.faces bus.held key is t now fits room }
+  -- nothing stays open
+  pub got_served : IsServed (after_get b key t now)
+  got_served = get_served b served bus.faces bus.held key is t now fits room
 
 -- ---- a get, from its parts
 module _ (b : BusState) (key : List ℕ) (t : QueryTarget) (now : ℕ) (h i j : List Handed) (g k m : State) (asked : List AskedStore) (answers : List Answer)
@@ -119,8 +90,8 @@ module _ (b : BusState) (key : List ℕ) (t : QueryTarget) (now : ℕ) (h i j : 
         λ x. record b { gateway = left x; next_request = b.next_request + 1; next_reply = b.next_reply + length (answers_are x) }
 
   -- the answers have numbers
-  pub answers_fit : IsBus b → is_key key ≡ true → get_refusal key b ≡ None → b.next_reply + length answers < 2 ^ 64
-  answers_fit bus is none = subst (λ l. b.next_reply + length l < 2 ^ 64) (sym answers_are) (replies_fit b bus key is t now none)
+  pub answers_fit : IsBus b → IsServed b → is_key key ≡ true → get_refusal key b ≡ None → b.next_reply + length answers < 2 ^ 64
+  answers_fit bus served is none = subst (λ l. b.next_reply + length l < 2 ^ 64) (sym answers_are) (replies_fit b bus served key is t now none)
 
 pub not_spent : (b : BusState) (key : List ℕ) → get_refusal key b ≡ None → b.spent ≡ false
 not_spent b key none = (get_parts b.spent (has_request b) (has_replies key b) none).0

@@ -6,8 +6,8 @@ use Rattle.zq_machine.specs.declared.call.Call.TheVariants as call
 use Rattle.zq_machine.specs.Handing.{Handed}
 use Rattle.zq_machine.specs.Machine.{after, state_after, step, steps_from}
 use Rattle.zq_machine.specs.State.{State}
-use Rattle.zq_store.specs.declared.storage.Answer.{Answer}
-use Rattle.zq_store.specs.declared.storage.AskedStore.{AskedStore}
+use Rattle.zq_store.specs.declared.answers.Answer.{Answer}
+use Rattle.zq_store.specs.declared.answers.AskedStore.{AskedStore}
 use Rattle.zq_store.specs.Getting.{end_call, handed_over, reply_call, reply_calls}
 
 pub ended_next : (h : List Handed) (s : State) (t : AskedStore) (ts : List AskedStore)

@@ -1,7 +1,9 @@
 //! Which storages are asked, and what they answer.
-ghost use Rattle.std.specs.Prelude.{◌≡◌, ◌++◌, ◌<◌, ◌^◌, IfOk, OnOk, length, map, position};
+ghost use Rattle.std.specs.Prelude.{◌≡◌, ◌++◌, ◌<◌, ◌^◌, IfOk, OnOk, length, map, position, true};
 ghost use Rattle.zq_store.specs.Getting.{answer_of, answers_at, answers_of, asked_in, asked_of};
-ghost use Rattle.zq_store.specs.Stores.{is_face};
+ghost use Rattle.zq_store.specs.Held.{meeting};
+ghost use Rattle.zq_store.specs.Pair.{pair_of};
+ghost use Rattle.zq_store.specs.Stores.{held_at, is_face, numbered};
 
 use crate::held::Pair;
 use crate::storage::Storage;
@@ -36,47 +38,63 @@ pub struct Answer {
     pub value: Bytes,
 }
 
-/// The number of the storage at a face.
-fn store_at(stores: &[Storage], face: FaceId) -> Option<usize>
+/// The number of the storage at a face, where the first storage has this face.
+#[tactic(auto, using(crate::proofs::Faces::found_below, crate::proofs::Faces::found_there, crate::proofs::Faces::found_above))]
+fn store_at(stores: &[Storage], first: u32, face: FaceId) -> Option<u32>
+    requires few { length stores.now < 2 ^ 32 }
+    requires faces { numbered first stores.now ≡ true }
     ensures { result ≡ position (is_face face) stores.now }
 {
-    stores.iter().position(|store| store.face == face)
+    if face.0 < first {
+        return None;
+    }
+    let number = face.0 - first;
+    if (number as usize) < stores.len() {
+        Some(number)
+    } else {
+        None
+    }
 }
 
 /// Puts the storage that a message asks behind the others, if it asks one.
 fn push_asked(
     asked: &mut Items<AskedStore>,
     stores: &[Storage],
+    first: u32,
     message: &Handed,
 ) -> Result<(), OutOfMemory>
-    requires { length stores.now < 2 ^ 32 }
+    requires few { length stores.now < 2 ^ 32 }
+    requires faces { numbered first stores.now ≡ true }
     ensures { OnOk result (asked.new ≡ asked.old ++ asked_in stores.now message.now) }
 {
     let Message::Request(request) = message.message() else {
         return Ok(());
     };
-    let Some(store) = store_at(stores, message.to()) else {
+    let Some(store) = store_at(stores, first, message.to()) else {
         return Ok(());
     };
     asked.push(AskedStore {
-        store: store as u32,
+        store,
         face: message.to(),
         rid: request.id,
     })
 }
 
-/// The storages that were handed the request, in the order in which they were.
+/// The storages that were handed the request, in the order in which they were, where the first storage has
+/// this face.
 pub fn asked_of(
     alloc: Global,
     stores: &[Storage],
+    first: u32,
     handed: &[Handed],
 ) -> Result<Items<AskedStore>, OutOfMemory>
-    requires { length stores.now < 2 ^ 32 }
+    requires few { length stores.now < 2 ^ 32 }
+    requires faces { numbered first stores.now ≡ true }
     ensures { IfOk result (λ l. l ≡ asked_of stores.now handed.now) }
 {
     let mut asked = Items::new(alloc);
     for message in handed {
-        push_asked(&mut asked, stores, message)?;
+        push_asked(&mut asked, stores, first, message)?;
     }
     Ok(asked)
 }
@@ -95,8 +113,23 @@ fn push_pairs(
     Ok(())
 }
 
+/// The pairs that the storage with this number has and that meet the key.
+fn meeting_at(
+    alloc: Global,
+    stores: &[Storage],
+    store: u32,
+    key: &Key,
+) -> Result<Items<Pair>, OutOfMemory>
+    ensures { IfOk result (λ l. l ≡ map pair_of (meeting key.now (held_at stores.now store))) }
+{
+    match storage_at(stores, store) {
+        Some(storage) => storage.held.meeting(alloc, key),
+        None => Ok(Items::new(alloc)),
+    }
+}
+
 /// Puts what the storage answers behind the answers.
-#[tactic(auto, using(crate::proofs::Pairs::nothing_more))]
+#[tactic(auto, using(crate::proofs::Pairs::answers_as))]
 fn push_answers(
     alloc: Global,
     answers: &mut Items<Answer>,
@@ -106,10 +139,9 @@ fn push_answers(
 ) -> Result<(), OutOfMemory>
     ensures { OnOk result (answers.new ≡ answers.old ++ answers_at stores.now key.now asked) }
 {
-    match storage_at(stores, asked.store) {
-        Some(storage) => push_pairs(answers, asked, storage.held.meeting(alloc, key)?),
-        None => Ok(()),
-    }
+    let pairs = meeting_at(alloc, stores, asked.store, key)?;
+    push_pairs(answers, asked, pairs)?;
+    Ok(())
 }
 
 /// What storages answer to a request on a key, one after another.

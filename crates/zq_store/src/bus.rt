@@ -2,13 +2,12 @@
 ghost use Rattle.std.specs.Prelude.{◌≡◌, ◌+◌, ◌++◌, ◌∷◌, ◌<◌, ◌^◌, [], None, IfOk, IfErr, IfSome, IsTrue, Err, OnOk, OnErr, length};
 ghost use Rattle.std.specs.Result.{is_ok};
 ghost use Rattle.zq_index.specs.Texts.{at_text};
-ghost use Rattle.zq_store.specs.Answered.{IsAnswered, meeting_replies};
 ghost use Rattle.zq_store.specs.Bus.{IsSpent, add_refusal, added, new_bus, new_refusal, put_refusal, with_change};
 ghost use Rattle.zq_store.specs.Getting.{after_get, get_refusal, got_of};
-ghost use Rattle.zq_store.specs.Stores.{held_at};
 ghost use Rattle.zq_store.specs.Held.{delete, put};
+ghost use Rattle.zq_store.specs.Stores.{held_at};
 
-use crate::asking::{end_all, replies_of, reply_all, request};
+use crate::asking::{end_all, number_after, replies_of, reply_all, request};
 use crate::got::{Got, StoreId};
 use crate::joining::{join, open_local};
 use crate::room::has_room;
@@ -78,6 +77,7 @@ impl Model for Bus {
 impl Bus {
     /// A bus over a new gateway, with its asker. `NoLocal` where the configuration has no Local;
     /// `NoFreeId` where no face can be opened.
+    #[tactic(auto, using(crate::proofs::Keeping::new_keeps))]
     pub fn new(alloc: Global, config: &Config) -> Result<Bus, BusRefusal>
         ensures ok { IfOk result (λ b. b ≡ new_bus config.now) }
         ensures refused { IfSome (new_refusal config.now) (λ e. result ≡ Err e) }
@@ -108,8 +108,23 @@ impl Bus {
         })
     }
 
-    /// A storage joins, which answers for the key. `NoFreeId` where no face can be opened. The answers
-    /// number the storages from 0.
+    /// A storage joins at the next face.
+    fn join(&mut self, key: &Key, complete: bool) -> Result<StoreId, OutOfMemory>
+        requires { self.old.next_face + 1 < 2 ^ 32 }
+        ensures ok { IfOk result (λ s. s.0 ≡ length self.old.stores) }
+        ensures new { OnOk result (self.new ≡ added key.now complete self.old) }
+        ensures err { OnErr result (self.new.stores ≡ self.old.stores) }
+    {
+        let face = FaceId(self.next_face);
+        let storage = join(self.alloc, &mut self.gateway, face, key, complete)?;
+        let number = self.stores.len() as u32;
+        self.stores.push(storage)?;
+        self.next_face += 1;
+        Ok(StoreId(number))
+    }
+
+    /// A storage joins, which answers for the key, and is complete there or not. `NoFreeId` where no face can
+    /// be opened. The answers number the storages from 0.
     pub fn add(&mut self, key: &Key, complete: bool) -> Result<StoreId, BusRefusal>
         ensures ok { IfOk result (λ s. s.0 ≡ length self.old.stores) }
         ensures new { OnOk result (self.new ≡ added key.now complete self.old) }
@@ -122,18 +137,8 @@ impl Bus {
         if self.next_face == u32::MAX {
             return Err(BusRefusal::NoFreeId);
         }
-        let _text = key.as_str();
-        let face = FaceId(self.next_face);
-        let Ok(storage) = join(self.alloc, &mut self.gateway, face, key, complete) else {
-            self.spent = true;
-            return Err(BusRefusal::OutOfMemory);
-        };
-        let number = self.stores.len() as u32;
-        match self.stores.push(storage) {
-            Ok(()) => {
-                self.next_face += 1;
-                Ok(StoreId(number))
-            }
+        match self.join(key, complete) {
+            Ok(store) => Ok(store),
             Err(_) => {
                 self.spent = true;
                 Err(BusRefusal::OutOfMemory)
@@ -171,42 +176,37 @@ impl Bus {
         self.stores.delete(store.0, key)
     }
 
-    /// The calls of a get: the bus is spent while it is amid them.
+    /// The calls of a get.
     fn ask(&mut self, key: &Key, target: QueryTarget, now: u64) -> Result<Got, OutOfMemory>
-        requires { get_refusal key.now self.old ≡ None }
+        requires { self.old.next_request + 1 < 2 ^ 64 }
         ensures ok { IfOk result (λ g. g ≡ got_of self.old key.now target now) }
         ensures new { OnOk result (self.new ≡ after_get self.old key.now target now) }
-        ensures answered { IfOk result (λ g. IsAnswered key.now target self.old g) }
-        ensures all { IfOk result (λ g. target ≡ QueryTarget.All → g.replies ≡ meeting_replies key.now self.old.stores) }
-        ensures err { OnErr result (IsSpent self.old self.new) }
+        ensures err { OnErr result (self.new.stores ≡ self.old.stores) }
     {
         let alloc = self.alloc;
-        let _text = key.as_str();
-        self.spent = true;
         let mut handed = request(alloc, &mut self.gateway, self.asker, key, target, now)?;
         let stores = self.stores.as_slice();
-        let asked = asked_of(alloc, stores, handed.as_slice())?;
+        let asked = asked_of(alloc, stores, self.asker.0 + 1, handed.as_slice())?;
         let answers = answers_of(alloc, stores, asked.as_slice(), key)?;
         let first = self.next_reply;
-        let next = first + answers.len() as u64;
+        let Some(next) = number_after(first, answers.len()) else {
+            return Err(OutOfMemory);
+        };
         reply_all(alloc, &mut self.gateway, &mut handed, first, answers.as_slice())?;
         end_all(&mut self.gateway, &mut handed, asked.as_slice())?;
         let replies = replies_of(alloc, answers)?;
         self.next_request += 1;
         self.next_reply = next;
-        self.spent = false;
         Ok(Got { replies, handed })
     }
 
     /// Asks on the key at a moment, and brings what the storages that the gateway picks reply with, in its
     /// order: each its pairs that meet the key, by text. Each reply is reported as sent, and then each storage
-    /// ends; nothing stays open. `NoFreeId` where no number is left for the request, or fewer for replies
-    /// than there are pairs that meet the key. For the target `All` the replies are all pairs that meet it.
+    /// ends. `NoFreeId` where no number is left for the request, or fewer for replies than there are pairs
+    /// that meet the key.
     pub fn get(&mut self, key: &Key, target: QueryTarget, now: u64) -> Result<Got, BusRefusal>
         ensures ok { IfOk result (λ g. g ≡ got_of self.old key.now target now) }
         ensures new { OnOk result (self.new ≡ after_get self.old key.now target now) }
-        ensures answered { IfOk result (λ g. IsAnswered key.now target self.old g) }
-        ensures all { IfOk result (λ g. target ≡ QueryTarget.All → g.replies ≡ meeting_replies key.now self.old.stores) }
         ensures refused { IfSome (get_refusal key.now self.old) (λ e. (result ≡ Err e) × (self.new ≡ self.old)) }
         ensures memory { get_refusal key.now self.old ≡ None → IfErr result (λ e. (e ≡ BusRefusal.OutOfMemory) × IsSpent self.old self.new) }
     {
@@ -218,7 +218,10 @@ impl Bus {
         }
         match self.ask(key, target, now) {
             Ok(got) => Ok(got),
-            Err(_) => Err(BusRefusal::OutOfMemory),
+            Err(_) => {
+                self.spent = true;
+                Err(BusRefusal::OutOfMemory)
+            }
         }
     }
 }

@@ -3,7 +3,8 @@ ghost use Rattle.std.specs.Prelude.{◌≡◌, [], IfOk, OnOk};
 ghost use Rattle.zq_tables.specs.Naming.{plain};
 ghost use Rattle.zq_machine.specs.declared.call.Call.TheVariants as call;
 ghost use Rattle.zq_machine.specs.Machine.{after, state_after};
-ghost use Rattle.zq_store.specs.Bus.{join_calls, local_opening, new_store, store_call};
+ghost use Rattle.zq_store.specs.Bus.{join_calls, local_opening, store_call};
+ghost use Rattle.zq_store.specs.Stores.{new_store};
 
 use crate::held::Held;
 use crate::storage::Storage;

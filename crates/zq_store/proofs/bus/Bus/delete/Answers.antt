@@ -1,16 +1,14 @@
-use Rattle.std.proofs.Common.{rules}
+use Rattle.std.specs.Prelude.{slice_get}
 use Rattle.zq_store.specs.Bus.{BusState}
 use Rattle.zq_store.specs.Held.{delete}
-use Rattle.zq_store.proofs.Answering.{seats_kept, served_still}
+use Rattle.zq_store.specs.Stores.{change_at, refusal_at}
+use Rattle.zq_store.proofs.Keeping.{changed_goes, delete_keeps}
 use Rattle.zq_store.proofs.bus.Bus.delete.Goals as goal
 
 pub invariant_of-self : goal.invariant_of-self
 invariant_of-self c =
-    let g = c.self.inside in
-    let b : BusState = record { gateway = g.gateway; asker = g.asker; next_face = g.next_face; next_request = g.next_request; next_reply = g.next_reply; stores = g.stores; spent = g.spent } in
-    record {
-      next = search rules;
-      faces = search rules;
-      held = search rules;
-      served = λ e. served_still b c.delete.new.self (seats_kept c.delete.result c.args.store.0 (delete c.args.key.now) g.stores c.delete.new.self c.delete.ensures.new c.delete.ensures.kept) (c.self.invariant.served e);
-    }
+    let i = c.self.inside in
+    let store = c.args.store.0 in
+    let key = c.args.key.now in
+    let b : BusState = record { gateway = i.gateway; asker = i.asker; next_face = i.next_face; next_request = i.next_request; next_reply = i.next_reply; stores = i.stores; spent = i.spent } in
+    changed_goes c.delete.result b c.delete.new.self (change_at store (delete key) i.stores) (refusal_at key (slice_get i.stores store)) c.delete.ensures.new c.delete.ensures.kept c.delete.ensures.refused (λ free. delete_keeps store key b c.self.invariant) c.self.invariant
