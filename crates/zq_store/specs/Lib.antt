@@ -10,3 +10,4 @@ pub mod Answered
 pub mod Lines
 pub mod Printing
 pub mod Running
+pub mod Promises
