@@ -1,20 +1,18 @@
 -- A get that nothing refuses is answered by the storages that its target picks, and leaves nothing open; and how a get is put together of its parts.
-use Rattle.std.proofs.Common.{◌≡◌, ◌∙◌, refl, sym, ap, subst, ℕ, ◌+◌, ◌<◌, ◌^◌, Bool, true, false, cond, not, List, [], ◌∷◌, ◌++◌, map, Option, Some, None, length, arith, eq-eqb, length-append}
-use Rattle.std.specs.Prelude.{◌==◌, ◌&&◌, ◌||◌, nat_lt, slice_get, Result, Ok, Err, OnOk, OnErr}
-use Rattle.std.specs.List.{list_all}
-use Rattle.std.proofs.lemmas.Bool.{and_parts, ltb-true}
+use Rattle.std.proofs.Common.{◌≡◌, ◌∙◌, refl, sym, ap, subst, ℕ, ◌+◌, ◌<◌, ◌^◌, Bool, true, false, cond, not, List, ◌∷◌, ◌++◌, map, Some, None, length}
+use Rattle.std.specs.Prelude.{◌==◌, ◌||◌, slice_get, Result, Ok, Err, OnOk, OnErr}
+use Rattle.std.proofs.lemmas.Bool.{ltb-true}
 use Rattle.zq_key.specs.Key.{is_key}
 use Rattle.zq_message.specs.declared.message.QueryTarget.{QueryTarget}
 use Rattle.zq_message.specs.declared.message.QueryTarget.TheVariants as target
-use Rattle.zq_machine.specs.Configs.{Settings}
 use Rattle.zq_machine.specs.Handing.{Handed}
 use Rattle.zq_machine.specs.Machine.{after, state_after, step, steps_from}
 use Rattle.zq_machine.specs.State.{State}
 use Rattle.zq_local.specs.Seated.{IsSeated}
 use Rattle.zq_store.specs.Held.{Change}
 use Rattle.zq_store.specs.Seats.{seats}
-use Rattle.zq_store.specs.Stores.{Stored, change_at, count_all, holds_own, new_store, numbered}
-use Rattle.zq_store.specs.Bus.{BusState, IsBus, IsServed, add_refusal, added, free_face, new_bus, new_refusal}
+use Rattle.zq_store.specs.Stores.{Stored, change_at, count_all}
+use Rattle.zq_store.specs.Bus.{BusState, IsBus, IsServed}
 use Rattle.zq_store.specs.Getting.{after_get, answers_of, ask_call, asked_of, end_call, get_answers, get_asks, get_calls, get_refusal, got_of, got_reply, handed_over, has_replies, has_request, reply_calls}
 use Rattle.zq_store.specs.Answered.{IsAnswered, meeting_replies, picked_replies}
 use Rattle.zq_store.specs.declared.answers.Answer.{Answer}
@@ -77,16 +75,16 @@ module _ (b : BusState) (key : List ℕ) (t : QueryTarget) (now : ℕ) (h i j : 
     pub whole_got : (replies : List GotReply) → j ≡ i ++ handed_over (steps_from k (map end_call asked)) → replies ≡ map got_reply answers → ◌≡◌ {A = Got} (record { replies = replies; handed = j }) (got_of b key t now)
     whole_got replies ended got =
         let handed : j ≡ handed_over (steps_from b.gateway (get_calls b key t now)) =
-            handed_whole b.gateway g k h i j (ask_call b.asker key t now) (reply_calls b.next_reply answers) (map end_call asked) hands leaves replied then ended
-            ∙ (λ x. handed_over (steps_from b.gateway (ask_call b.asker key t now ∷ (reply_calls b.next_reply (answers_are x) ++ map end_call (asks_are x))))) in
+        handed_whole b.gateway g k h i j (ask_call b.asker key t now) (reply_calls b.next_reply answers) (map end_call asked) hands leaves replied then ended
+        ∙ (λ x. handed_over (steps_from b.gateway (ask_call b.asker key t now ∷ (reply_calls b.next_reply (answers_are x) ++ map end_call (asks_are x))))) in
         λ x. record { replies = (got ∙ ap (map got_reply) answers_are) x; handed = handed x }
 
     pub whole_after : m ≡ state_after k (map end_call asked)
         → ◌≡◌ {A = BusState} (record b { gateway = m; next_request = b.next_request + 1; next_reply = b.next_reply + length answers }) (after_get b key t now)
     whole_after ended =
         let left : m ≡ state_after b.gateway (get_calls b key t now) =
-            after_whole b.gateway g k m (ask_call b.asker key t now) (reply_calls b.next_reply answers) (map end_call asked) leaves then ended
-            ∙ (λ x. state_after b.gateway (ask_call b.asker key t now ∷ (reply_calls b.next_reply (answers_are x) ++ map end_call (asks_are x)))) in
+        after_whole b.gateway g k m (ask_call b.asker key t now) (reply_calls b.next_reply answers) (map end_call asked) leaves then ended
+        ∙ (λ x. state_after b.gateway (ask_call b.asker key t now ∷ (reply_calls b.next_reply (answers_are x) ++ map end_call (asks_are x)))) in
         λ x. record b { gateway = left x; next_request = b.next_request + 1; next_reply = b.next_reply + length (answers_are x) }
 
   -- the answers have numbers

@@ -1,48 +1,37 @@
 -- A get as a run: what it hands to the asker, and what it leaves.
-use Rattle.std.proofs.Common.{◌≡◌, ◌∙◌, refl, sym, ap, subst, ℕ, ◌+◌, ◌<◌, ◌≤◌, ◌^◌, Bool, true, false, cond, not, List, [], ◌∷◌, ◌++◌, map, Option, Some, None, length, arith, append-nil, eq-eqb}
-use Rattle.std.specs.Prelude.{◌==◌, ◌&&◌, filter}
+use Rattle.std.proofs.Common.{◌≡◌, ◌∙◌, refl, ap, ℕ, ◌+◌, ◌<◌, ◌^◌, Bool, true, false, cond, List, [], ◌∷◌, ◌++◌, map, length, eq-eqb}
+use Rattle.std.specs.Prelude.{◌==◌, filter}
 use Rattle.std.specs.List.{AllByRecursion, list_all, list_any}
 use Rattle.std.proofs.lemmas.Bool.{and_parts}
 use Rattle.std.proofs.lemmas.List.{map-append}
 use Rattle.std.proofs.lemmas.List.Elements.{filter-append}
 use Rattle.zq_key.specs.Key.{includes, is_key, is_plain}
 use Rattle.zq_message.specs.declared.message.FaceId.{FaceId}
-use Rattle.zq_message.specs.declared.message.Message.{Message}
-use Rattle.zq_message.specs.declared.message.QueryTarget.{QueryTarget}
 use Rattle.zq_message.specs.declared.message.Request.{Request}
 use Rattle.zq_query.specs.Asking.{given_id}
 use Rattle.zq_query.specs.Records.{Pending, QueryState, is_entry}
 use Rattle.zq_tables.specs.Naming.{NamingState}
 use Rattle.zq_machine.specs.declared.call.Call.{Call}
 use Rattle.zq_machine.specs.declared.call.Call.TheVariants as call
-use Rattle.zq_machine.specs.Deciding.{deadline, handed_request, handed_requests}
+use Rattle.zq_machine.specs.Deciding.{handed_request}
 use Rattle.zq_machine.specs.Handing.{Handed}
-use Rattle.zq_machine.specs.Machine.{after, state_after, step, steps_from}
-use Rattle.zq_machine.specs.Selecting.{target_of}
+use Rattle.zq_machine.specs.Machine.{state_after, steps_from}
 use Rattle.zq_machine.specs.State.{Core, State, is_open}
 use Rattle.zq_machine.specs.Writing.{sent_final, write}
-use Rattle.zq_machine.proofs.Lists.{all_append, all_weaker}
-use Rattle.zq_local.specs.Picking.{Seat, picked}
-use Rattle.zq_local.specs.Seated.{IsSeated}
-use Rattle.zq_local.proofs.Asked.{all_asked, all_of_asked, asked, entries_of, get_hands, get_leaves, is_its, picks_open, queries_first, targets_mapped}
-use Rattle.zq_local.proofs.Lists.{Pairwise, all_back, all_both, pairs_back}
-use Rattle.zq_local.proofs.Picked.{above_all, not_same, offer}
-use Rattle.zq_local.proofs.Quiet.{with_all}
+use Rattle.zq_machine.proofs.Lists.{all_append}
+use Rattle.zq_local.specs.Picking.{Seat}
+use Rattle.zq_local.proofs.Lists.{Pairwise}
+use Rattle.zq_local.proofs.Picked.{offer}
 use Rattle.zq_local.proofs.Running.{AreOf, IsApart, IsAsked, IsFit, calls, ends_hand, ends_leave, replies_hand, replies_leave, sent_all, sent_one, settled, waiting}
-use Rattle.zq_local.proofs.Selected.{all_picked, picked_apart}
 use Rattle.zq_store.specs.Held.{meeting, meets_key}
-use Rattle.zq_store.specs.Stores.{Stored, count_all, fits_store, held_at, holds_own, numbered}
-use Rattle.zq_store.specs.Bus.{BusState, IsServed}
-use Rattle.zq_store.specs.Getting.{after_get, answer_by, answers_at, answers_of, ask_call, end_call, get_answers, get_asks, get_calls, got_of, got_reply, handed_over, reply_call, reply_calls}
-use Rattle.zq_store.specs.Answered.{IsAnswered, final_message, is_to, message_in, messages_to, picked_replies, reply_message}
-use Rattle.zq_store.specs.Seats.{seats}
+use Rattle.zq_store.specs.Stores.{Stored, fits_store, held_at}
+use Rattle.zq_store.specs.Getting.{answer_by, answers_at, answers_of, end_call, got_reply, handed_over, reply_call, reply_calls}
+use Rattle.zq_store.specs.Answered.{final_message, is_to, message_in, messages_to, reply_message}
 use Rattle.zq_store.specs.declared.answers.Answer.{Answer}
 use Rattle.zq_store.specs.declared.answers.AskedStore.{AskedStore}
-use Rattle.zq_store.specs.declared.got.GotReply.{GotReply}
-use Rattle.zq_store.proofs.Numbering.{IsPlaced, all_placed, numbers_are}
-use Rattle.zq_store.proofs.Replying.{ask_at, get_asks_are, get_replies_are, placed_picks}
+use Rattle.zq_store.proofs.Numbering.{IsPlaced}
+use Rattle.zq_store.proofs.Replying.{ask_at}
 use Rattle.zq_store.proofs.Runs.{after_join, handed_join}
-use Rattle.zq_store.proofs.Totals.{all_counted, answers_count, pairs_of, picked_less}
 
 -- ---- the faces and ids of asks and answers
 abbrev pub ask_face : AskedStore → FaceId

@@ -1,13 +1,12 @@
 -- Storages by number: each is found by its face, and its pairs by its number.
-use Rattle.std.proofs.Common.{◌≡◌, ◌∙◌, refl, sym, ap, subst, ℕ, zero, suc, ◌+◌, ◌<◌, Bool, true, false, cond, not, List, [], ◌∷◌, ◌++◌, Option, Some, None, length, arith, append_assoc, eqb-true, eq-eqb, length-append}
-use Rattle.std.specs.Prelude.{◌==◌, ◌&&◌, nat_lt, position, slice_get}
+use Rattle.std.proofs.Common.{◌≡◌, ◌∙◌, refl, sym, ap, ℕ, zero, suc, ◌+◌, ◌<◌, Bool, true, false, cond, not, List, [], ◌∷◌, ◌++◌, Some, None, length, arith, append_assoc, eqb-true, eq-eqb, length-append}
+use Rattle.std.specs.Prelude.{◌==◌, nat_lt, position, slice_get}
 use Rattle.std.specs.List.{AllByRecursion, list_all, position_or_len}
 use Rattle.std.specs.Option.{option_map_or}
-use Rattle.std.proofs.lemmas.Bool.{and_parts, false≢true, lt-ltb}
+use Rattle.std.proofs.lemmas.Bool.{and_parts, lt-ltb}
 use Rattle.zq_message.specs.declared.message.FaceId.{FaceId}
 use Rattle.zq_local.specs.Picking.{Seat}
 use Rattle.zq_local.specs.Seated.{AreNumbered}
-use Rattle.zq_local.proofs.Picked.{not_same}
 use Rattle.zq_store.specs.Stores.{Stored, fits_store, held_at, holds_own, is_face, numbered}
 use Rattle.zq_store.specs.Seats.{seats_from}
 
@@ -51,13 +50,14 @@ module _ (m : ℕ) (all : List Stored) where
       let here = and_parts (s.face.0 == k) (numbered (k + 1) rest) nums in
       let own = and_parts (holds_own s) (list_all holds_own rest) held in
       let there : slice_get all n ≡ Some s = (λ j. slice_get (is j) (count j)) ∙ found_behind front s rest in
-      let long : length all ≡ length front + length (s ∷ rest) = ap length is ∙ length-append front (s ∷ rest) in
-      (record {
-        face = eqb-true s.face.0 k here.0 ∙ base;
-        number = omega (arith, count, long);
-        held = ap (λ o. list_all (fits_store s.key) (option_map_or (λ (x : Stored). x.held) o [])) there ∙ own.0;
-      },
-       placed_from (n + 1) (k + 1) (front ++ s ∷ []) rest (let e = length-append front (s ∷ []) in omega (arith, count, e)) (omega (arith, base)) (is ∙ sym (append_assoc front (s ∷ []) rest)) here.1 own.1)
+      let long : length all ≡ length front + length (s ∷ rest) = ap length is ∙ length-append front (s ∷ rest) in (
+        record {
+          face = eqb-true s.face.0 k here.0 ∙ base;
+          number = omega (arith, count, long);
+          held = ap (λ o. list_all (fits_store s.key) (option_map_or (λ (x : Stored). x.held) o [])) there ∙ own.0;
+        },
+        placed_from (n + 1) (k + 1) (front ++ s ∷ []) rest (let e = length-append front (s ∷ []) in omega (arith, count, e)) (omega (arith, base)) (is ∙ sym (append_assoc front (s ∷ []) rest)) here.1 own.1,
+      )
 
   pub all_placed : numbered m all ≡ true → list_all holds_own all ≡ true → AllByRecursion IsPlaced (seats_from 0 all)
   all_placed nums held = placed_from 0 m [] all refl (omega arith) refl nums held

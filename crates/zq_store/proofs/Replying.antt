@@ -1,6 +1,6 @@
 -- The storages that a get asks are those that its target picks, and its replies are theirs.
-use Rattle.std.proofs.Common.{◌≡◌, ◌∙◌, refl, sym, ap, subst, ℕ, ◌+◌, ◌^◌, Bool, true, false, cond, not, List, [], ◌∷◌, ◌++◌, map, Option, Some, None}
-use Rattle.std.specs.Prelude.{◌==◌, ◌&&◌, filter, position}
+use Rattle.std.proofs.Common.{◌≡◌, ◌∙◌, refl, sym, ap, ℕ, ◌+◌, ◌^◌, Bool, true, false, cond, List, [], ◌∷◌, ◌++◌, map}
+use Rattle.std.specs.Prelude.{◌==◌, filter}
 use Rattle.std.specs.List.{AllByRecursion, flat_map, list_all}
 use Rattle.std.specs.Option.{option_map, option_to_list}
 use Rattle.std.proofs.lemmas.Bool.{and_parts, false≢true}
@@ -14,21 +14,18 @@ use Rattle.zq_query.specs.Asking.{given_id}
 use Rattle.zq_query.specs.Records.{QueryState}
 use Rattle.zq_tables.specs.Naming.{NamingState}
 use Rattle.zq_machine.specs.Deciding.{handed_request, handed_requests}
-use Rattle.zq_machine.specs.Machine.{step}
 use Rattle.zq_machine.specs.Writing.{write}
 use Rattle.zq_local.specs.Picking.{Seat, by_key, meets, picked}
 use Rattle.zq_local.proofs.Asked.{asked, get_hands, queries_first}
 use Rattle.zq_local.proofs.Picked.{offer}
 use Rattle.zq_local.proofs.Selected.{all_by_key, all_picked}
 use Rattle.zq_store.specs.Held.{meeting, meets_key}
-use Rattle.zq_store.specs.Stores.{Stored, fits_store, held_at, holds_own, is_face, numbered}
+use Rattle.zq_store.specs.Stores.{Stored, fits_store, held_at, holds_own, numbered}
 use Rattle.zq_store.specs.Bus.{BusState, IsServed}
-use Rattle.zq_store.specs.Getting.{answer_by, answers_at, answers_of, ask_call, asked_of, get_answers, get_asks, got_reply}
+use Rattle.zq_store.specs.Getting.{answer_by, answers_at, answers_of, asked_of, get_answers, get_asks, got_reply}
 use Rattle.zq_store.specs.Answered.{meeting_replies, picked_replies, replies_by, reply_by}
 use Rattle.zq_store.specs.Seats.{seats}
-use Rattle.zq_store.specs.declared.answers.Answer.{Answer}
 use Rattle.zq_store.specs.declared.answers.AskedStore.{AskedStore}
-use Rattle.zq_store.specs.declared.got.GotReply.{GotReply}
 use Rattle.zq_store.proofs.Meeting.{includes_meets}
 use Rattle.zq_store.proofs.Numbering.{IsPlaced, all_placed, found_by_face}
 

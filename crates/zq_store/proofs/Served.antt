@@ -3,15 +3,13 @@ use Rattle.std.proofs.Common.{◌≡◌, ◌∙◌, refl, sym, ap, subst, ℕ, z
 use Rattle.std.specs.Prelude.{◌==◌, slice_get, slice_set}
 use Rattle.zq_key.specs.Key.{is_key}
 use Rattle.zq_machine.specs.Configs.{Settings, has_local}
-use Rattle.zq_machine.specs.Machine.{state_after}
 use Rattle.zq_local.specs.Picking.{Seat}
 use Rattle.zq_local.specs.Seated.{IsSeated}
 use Rattle.zq_local.proofs.Seating.{joined_seated, new_seated}
 use Rattle.zq_store.specs.Held.{Change}
-use Rattle.zq_store.specs.Stores.{Stored, change_at, change_by, changed_store, new_store}
+use Rattle.zq_store.specs.Stores.{Stored, change_by, changed_store, new_store}
 use Rattle.zq_store.specs.Seats.{seats, seats_from}
-use Rattle.zq_store.specs.Bus.{BusState, IsServed, add_refusal, added, free_face, join_calls, new_bus, new_refusal, with_change}
-use Rattle.zq_store.specs.declared.bus.BusRefusal.{BusRefusal}
+use Rattle.zq_store.specs.Bus.{BusState, IsServed, add_refusal, added, free_face, new_bus, new_refusal, with_change}
 use Rattle.zq_store.specs.declared.bus.BusRefusal.TheVariants as refusal
 
 -- ---- refusals

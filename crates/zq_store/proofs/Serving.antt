@@ -1,16 +1,14 @@
 -- A get of a bus is answered by the storages that its target picks, and leaves nothing open; and what is kept of a bus stays.
-use Rattle.std.proofs.Common.{◌≡◌, ◌∙◌, refl, sym, ap, subst, ℕ, ◌+◌, ◌<◌, ◌≤◌, ◌^◌, Bool, true, false, cond, not, List, [], ◌∷◌, ◌++◌, map, Option, Some, None, length, arith, append-nil, eq-eqb}
+use Rattle.std.proofs.Common.{◌≡◌, ◌∙◌, refl, sym, ap, subst, ℕ, ◌+◌, ◌<◌, ◌^◌, true, false, List, [], ◌∷◌, ◌++◌, map, None, length, arith, eq-eqb}
 use Rattle.std.specs.Prelude.{◌==◌, ◌||◌}
 use Rattle.std.specs.List.{AllByRecursion, list_all, list_any}
 use Rattle.zq_key.specs.Key.{is_key}
-use Rattle.zq_message.specs.declared.message.FaceId.{FaceId}
 use Rattle.zq_message.specs.declared.message.QueryTarget.{QueryTarget}
 use Rattle.zq_message.specs.declared.message.Request.{Request}
 use Rattle.zq_query.specs.Asking.{after_ask, asking_at, given_id, giving}
 use Rattle.zq_query.specs.Records.{Pending, QueryState, is_entry}
 use Rattle.zq_machine.specs.declared.call.Call.{Call}
 use Rattle.zq_machine.specs.Deciding.{deadline, handed_request, handed_requests}
-use Rattle.zq_machine.specs.Handing.{Handed}
 use Rattle.zq_machine.specs.Machine.{after, state_after, step, steps_from}
 use Rattle.zq_machine.specs.Selecting.{target_of}
 use Rattle.zq_machine.specs.State.{State, is_open}
@@ -24,14 +22,13 @@ use Rattle.zq_local.proofs.Picked.{above_all, not_same, offer}
 use Rattle.zq_local.proofs.Quiet.{with_all}
 use Rattle.zq_local.proofs.Running.{AreOf, IsApart, IsAsked, settled, waiting}
 use Rattle.zq_local.proofs.Selected.{all_picked, picked_apart}
-use Rattle.zq_store.specs.Stores.{Stored, count_all, holds_own, numbered}
+use Rattle.zq_store.specs.Stores.{count_all, holds_own, numbered}
 use Rattle.zq_store.specs.Bus.{BusState, IsServed}
 use Rattle.zq_store.specs.Getting.{after_get, answers_of, ask_call, end_call, get_answers, get_asks, get_calls, got_of, got_reply, handed_over, reply_calls}
-use Rattle.zq_store.specs.Answered.{IsAnswered, final_message, is_to, messages_to, picked_replies, reply_message}
+use Rattle.zq_store.specs.Answered.{IsAnswered, final_message, messages_to, reply_message}
 use Rattle.zq_store.specs.Seats.{seats}
 use Rattle.zq_store.specs.declared.answers.Answer.{Answer}
-use Rattle.zq_store.specs.declared.answers.AskedStore.{AskedStore}
-use Rattle.zq_store.proofs.Numbering.{IsPlaced, all_placed, numbers_are}
+use Rattle.zq_store.proofs.Numbering.{IsPlaced}
 use Rattle.zq_store.proofs.Getting.{Fits, answers_fit, ask_face, ask_id, none_in, one_to, others_asked, run_hands, run_leaves, to_join}
 use Rattle.zq_store.proofs.Replying.{ask_at, get_asks_are, get_replies_are, placed_picks}
 use Rattle.zq_store.proofs.Totals.{all_counted, answers_count, pairs_of, picked_less}
