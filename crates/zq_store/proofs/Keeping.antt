@@ -29,6 +29,7 @@ numbered_put n [] s h is = at (s.face.0) n (is ∙ none)
   where
     none : n + 0 ≡ n
     none = omega arith
+
     at : (m k : ℕ) → m ≡ k → ((m == k) && true) ≡ true
     at m k e = grind (arith, e)
 numbered_put n (x ∷ ss) s h is =

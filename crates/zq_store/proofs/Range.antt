@@ -126,7 +126,7 @@ goes_on f t (more, is) = at more (has_first f) (sym (join_with_byte-slice_split 
     at (m ∷ ms) (h, hs, first) made =
         let rest = join_with_byte 47 (m ∷ ms) in
         let whole : join_with_byte 47 (chunks f ++ m ∷ ms) ≡ f ++ 47 ∷ rest
-              = ap (λ l. join_with_byte 47 (l ++ m ∷ ms)) first ∙ joined 47 h hs m ms ∙ ap (λ l. join_with_byte 47 l ++ 47 ∷ rest) (sym first) ∙ ap (λ l. l ++ 47 ∷ rest) (join_with_byte-slice_split 47 f) in
+        = ap (λ l. join_with_byte 47 (l ++ m ∷ ms)) first ∙ joined 47 h hs m ms ∙ ap (λ l. join_with_byte 47 l ++ 47 ∷ rest) (sym first) ∙ ap (λ l. l ++ 47 ∷ rest) (join_with_byte-slice_split 47 f) in
         subst (λ s. lies_in f (f ++ 48 ∷ []) s ≡ true) (sym (made ∙ whole)) (lies_behind f rest)
 
 -- a key whose first chunks are plain meets those that begin with these
@@ -135,7 +135,7 @@ unfolding intersects
 span_behind key f rest plain is = record {
   forward = longer f 48;
   within = λ t tame m. goes_on f t (plain_front (chunks f) (chunks t) (chunks rest) (plain-all f plain) (plain-all t tame)
-    (subst (λ l. meets_by is_stars is_verbatim chunk_meets (chunks t) l ≡ true) (ap chunks is ∙ chunks_behind f rest) m));
+      (subst (λ l. meets_by is_stars is_verbatim chunk_meets (chunks t) l ≡ true) (ap chunks is ∙ chunks_behind f rest) m));
 }
 
 -- the same of equal texts

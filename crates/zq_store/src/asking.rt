@@ -5,9 +5,9 @@ ghost use Rattle.zq_machine.specs.declared.call.Call.TheVariants as call;
 ghost use Rattle.zq_machine.specs.Machine.{after, state_after, step, steps_from};
 ghost use Rattle.zq_store.specs.Getting.{ask_call, end_call, got_reply, handed_over, reply_call, reply_calls, request_on, response_of};
 
+use crate::answers::{Answer, AskedStore};
 use crate::got::{GotList, GotReply, StoreId};
 use crate::joining::plain;
-use crate::answers::{Answer, AskedStore};
 use std::alloc::Global;
 use zq_gateway::Gateway;
 use zq_key::Key;
@@ -196,4 +196,3 @@ pub fn replies_of(alloc: Global, answers: Items<Answer>) -> Result<GotList, OutO
     }
     Ok(replies)
 }
-

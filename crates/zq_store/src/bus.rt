@@ -7,19 +7,19 @@ ghost use Rattle.zq_store.specs.Getting.{after_get, get_refusal, got_of};
 ghost use Rattle.zq_store.specs.Held.{delete, put};
 ghost use Rattle.zq_store.specs.Stores.{held_at};
 
+use crate::answers::{answers_of, asked_of};
 use crate::asking::{end_all, number_after, replies_of, reply_all, request};
 use crate::got::{Got, StoreId};
 use crate::joining::{join, open_local};
 use crate::room::has_room;
-use crate::answers::{answers_of, asked_of};
 use crate::stores::{PutRefusal, Stores};
 use std::alloc::Global;
 use std::marker::Model;
 use zq_gateway::Gateway;
+use zq_key::Key;
 use zq_key::memory::OutOfMemory;
 use zq_key::message::{FaceId, QueryTarget};
 use zq_key::text::Bytes;
-use zq_key::Key;
 use zq_machine::config::Config;
 
 /// Why a bus did not do it: the first cause of those that hold.
@@ -192,7 +192,13 @@ impl Bus {
         let Some(next) = number_after(first, answers.len()) else {
             return Err(OutOfMemory);
         };
-        reply_all(alloc, &mut self.gateway, &mut handed, first, answers.as_slice())?;
+        reply_all(
+            alloc,
+            &mut self.gateway,
+            &mut handed,
+            first,
+            answers.as_slice(),
+        )?;
         end_all(&mut self.gateway, &mut handed, asked.as_slice())?;
         let replies = replies_of(alloc, answers)?;
         self.next_request += 1;

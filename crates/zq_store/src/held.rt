@@ -166,12 +166,7 @@ impl Held {
     }
 
     /// Puts all pairs behind the others that meet the key.
-    fn push_all(
-        &self,
-        alloc: Global,
-        found: &mut Items<Pair>,
-        key: &Key,
-    ) -> Result<(), OutOfMemory>
+    fn push_all(&self, alloc: Global, found: &mut Items<Pair>, key: &Key) -> Result<(), OutOfMemory>
         ensures { OnOk result (found.new ≡ found.old ++ map pair_of (meeting key.now self.now)) }
     {
         for (text, value) in &self.pairs {

@@ -103,4 +103,3 @@ pub fn join(
         held: Held::new(alloc),
     })
 }
-

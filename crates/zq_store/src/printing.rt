@@ -135,12 +135,7 @@ fn print_put(
 }
 
 /// A storage has no value from now on.
-fn print_delete(
-    bus: &mut Bus,
-    out: &mut Vec<u8>,
-    store: u32,
-    key: &Key,
-) -> Result<(), OutOfMemory>
+fn print_delete(bus: &mut Bus, out: &mut Vec<u8>, store: u32, key: &Key) -> Result<(), OutOfMemory>
     ensures print { OnOk result (out.new.items ≡ out.old.items ++ change_print store key.now bus.old (put_refusal store key.now bus.old)) }
     ensures after { OnOk result (bus.new ≡ unless (put_refusal store key.now bus.old) (with_change store (delete key.now) bus.old) bus.old) }
 {

@@ -184,12 +184,7 @@ impl Stores {
     }
 
     /// The storage has this value at the key from now on; answers the value before.
-    pub fn put(
-        &mut self,
-        store: u32,
-        key: &Key,
-        value: &Bytes,
-    ) -> Result<Option<Bytes>, PutRefusal>
+    pub fn put(&mut self, store: u32, key: &Key, value: &Bytes) -> Result<Option<Bytes>, PutRefusal>
         ensures old { IfOk result (λ o. o ≡ at_text key.now (held_at self.old store)) }
         ensures new { OnOk result (self.new ≡ change_at store (put key.now value.now) self.old) }
         ensures refused { IfSome (refusal_at key.now (slice_get self.old store)) (λ e. result ≡ Err e) }

@@ -1,4 +1,4 @@
-//! Tests of storages, as a caller uses them.
+//! Tests of storages: a worked script with its print, and how runs end.
 #![tactic(auto)]
 
 #[cfg(test)]

@@ -1,96 +1,103 @@
-//! Worked gets.
-use zq_store::{Bus, PutRefusal, StoreId};
 use std::alloc::Global;
-use zq_key::Key;
-use zq_key::message::{Mode, QueryTarget, Zid};
-use zq_key::text::Bytes;
-use zq_machine::config::{Config, Counters, Entry};
+use zq_key::memory::OutOfMemory;
+use zq_key::text::{Bytes, Text};
+use zq_store::{MemorySink, MemorySource, Status, store_run};
 
-fn key(alloc: Global, text: &str) -> Option<Key> {
-    match Key::new(alloc, text) {
-        Ok(key) => Some(key),
-        Err(_) => None,
+/// None fails.
+const NONE: (u64, u64) = (9999, 9999);
+
+/// How a run ends, and what it wrote in pieces of 8 bytes, where the read and the write of these numbers fail.
+fn run_on(
+    alloc: Global,
+    words: &str,
+    script: &[u8],
+    fails: (u64, u64),
+) -> Result<(Status, MemorySink), OutOfMemory> {
+    let mut texts = Vec::new(alloc);
+    for word in words.split(' ') {
+        texts.push(Text::new(alloc, word)?)?;
     }
+    let bytes = Bytes::new(alloc, script)?;
+    let mut source = MemorySource::new(bytes, vec![in alloc; fails.0]?, 1 << 20);
+    let mut sink = MemorySink::new(alloc, 4096, vec![in alloc; fails.1]?, 8)?;
+    let status = store_run(alloc, texts.as_slice(), &mut source, &mut sink);
+    Ok((status, sink))
 }
 
-fn bytes(alloc: Global, text: &str) -> Option<Bytes> {
-    match Bytes::new(alloc, text.as_bytes()) {
-        Ok(bytes) => Some(bytes),
-        Err(_) => None,
-    }
+/// Whether a run ends so and wrote this.
+fn ends_as(
+    alloc: Global,
+    words: &str,
+    script: &str,
+    fails: (u64, u64),
+    wanted: (Status, &str),
+) -> Result<bool, OutOfMemory> {
+    let (ended, sink) = run_on(alloc, words, script.as_bytes(), fails)?;
+    Ok(ended == wanted.0 && sink.taken() == wanted.1.as_bytes())
 }
 
-fn bus(alloc: Global) -> Option<Bus> {
-    let entries = [Entry::North(Mode::Client), Entry::Local];
-    match Config::new(alloc, Zid(1), &entries, 10_000, Counters::default()) {
-        Ok(config) => match Bus::new(alloc, &config) {
-            Ok(bus) => Some(bus),
-            Err(_) => None,
-        },
-        Err(_) => None,
-    }
+/// Two storages, of which one is complete: gets of both and of one, and what is refused.
+const STORED: &str = "storage demo/** c\n\
+    storage demo/a p\n\
+    put 0 demo/a v1\n\
+    put 1 demo/a v2\n\
+    put 0 demo/b/c v3\n\
+    get demo/* all\n\
+    get demo/a best\n\
+    put 1 demo/b x\n\
+    delete 0 demo/a\n\
+    get demo/** all\n";
+
+/// What is printed of it.
+const PRINTED: &str = "storage 0\n\
+    storage 1\n\
+    done\n\
+    done\n\
+    done\n\
+    demo/a v1\n\
+    demo/a v2\n\
+    end\n\
+    demo/a v1\n\
+    end\n\
+    refused Outside\n\
+    old v1\n\
+    demo/b/c v3\n\
+    demo/a v2\n\
+    end\n";
+
+#[test]
+fn what_lines_print(rt: HostRuntime) {
+    let ended = ends_as(rt.alloc(), "store", STORED, NONE, (Status::Done, PRINTED));
+    assert_eq!(rt; ended, Ok(true));
 }
 
-fn add(bus: &mut Bus, alloc: Global, text: &str, complete: bool) -> Option<u32> {
-    let key = key(alloc, text)?;
-    match bus.add(&key, complete) {
-        Ok(id) => Some(id.0),
-        Err(_) => None,
-    }
-}
-
-fn put(bus: &mut Bus, alloc: Global, store: u32, text: &str, value: &str) -> Option<PutRefusal> {
-    let (Some(key), Some(value)) = (key(alloc, text), bytes(alloc, value)) else {
-        return Some(PutRefusal::OutOfMemory);
-    };
-    match bus.put(StoreId(store), &key, &value) {
-        Ok(_) => None,
-        Err(refusal) => Some(refusal),
-    }
-}
-
-fn print(bus: &mut Bus, alloc: Global, text: &str, target: QueryTarget) -> Option<Vec<u8>> {
-    let key = key(alloc, text)?;
-    let mut out = Vec::new(alloc);
-    match bus.get(&key, target, 0) {
-        Ok(got) => {
-            for reply in got.replies.as_slice() {
-                let _ = out.extend_from_slice(reply.key.as_str().as_bytes());
-                let _ = out.push(32);
-                let _ = out.extend_from_slice(reply.value.as_slice());
-                let _ = out.push(10);
-            }
-            let _ = out.push(b'0' + (got.handed.len() % 10) as u8);
-            Some(out)
-        }
-        Err(_) => None,
-    }
-}
-
-fn is(print: Option<Vec<u8>>, text: &str) -> bool {
-    match print {
-        Some(bytes) => bytes.as_slice() == text.as_bytes(),
-        None => false,
+#[test]
+fn how_runs_end(rt: HostRuntime) {
+    for (words, script, fails, status, print) in [
+        ("replay", STORED, NONE, Status::Words, ""),
+        ("store all", STORED, NONE, Status::Words, ""),
+        ("store", "", NONE, Status::Done, ""),
+        (
+            "store",
+            "get a//b all",
+            NONE,
+            Status::Script,
+            "bad line 1\n",
+        ),
+        ("store", STORED, (0, 9999), Status::ReadFault, ""),
+        ("store", STORED, (1, 9999), Status::ReadFault, ""),
+    ] {
+        let ended = ends_as(rt.alloc(), words, script, fails, (status, print));
+        assert_eq!(rt; ended, Ok(true), "{words}");
     }
 }
 
 #[test]
-fn first_row(rt: HostRuntime) {
-    let alloc = rt.alloc();
-    let Some(mut bus) = bus(alloc) else {
-        panic!(rt; "no bus");
-    };
-    assert!(rt; add(&mut bus, alloc, "demo/**", true) == Some(0));
-    assert!(rt; add(&mut bus, alloc, "demo/a", false) == Some(1));
-    assert!(rt; put(&mut bus, alloc, 0, "demo/a", "v1") == None);
-    assert!(rt; put(&mut bus, alloc, 1, "demo/a", "v2") == None);
-    assert!(rt; put(&mut bus, alloc, 0, "demo/b/c", "v3") == None);
-    assert!(rt; is(print(&mut bus, alloc, "demo/*", QueryTarget::All), "demo/a v1\ndemo/a v2\n5"));
-    assert!(rt; is(print(&mut bus, alloc, "demo/a", QueryTarget::BestMatching), "demo/a v1\n3"));
-    assert!(rt; put(&mut bus, alloc, 1, "demo/b", "x") == Some(PutRefusal::Outside));
-    let Some(a) = key(alloc, "demo/a") else {
-        panic!(rt; "no key");
-    };
-    assert!(rt; matches!(bus.delete(StoreId(0), &a), Ok(Some(_))));
-    assert!(rt; is(print(&mut bus, alloc, "demo/**", QueryTarget::All), "demo/b/c v3\ndemo/a v2\n5"));
+fn each_write_fails(rt: HostRuntime) {
+    for at in 0..14 {
+        let fails = (9999, at as u64);
+        let wanted = (Status::WriteFault, &PRINTED[..8 * at]);
+        let ended = ends_as(rt.alloc(), "store", STORED, fails, wanted);
+        assert_eq!(rt; ended, Ok(true), "{at}");
+    }
 }

@@ -18,8 +18,8 @@ loop-text-preserved c =
     let there : texts_of c.loop-text.text-iterator ≡ (text, value) ∷ left = ap texts_of c.in-Some.ensures.steps in
     record {
       found = ap (λ l. l ++ map pair_of (meeting key left)) (c.in_ok-push_pair.ensures ∙ ap (λ t. found ++ map pair_of (meeting key ((t, value) ∷ []))) c.as_str.ensures.value)
-        ∙ next_meeting key found (text, value) left
-        ∙ sym (ap (λ l. found ++ map pair_of (meeting key l)) there)
-        ∙ c.loop-text.invariant.found;
+          ∙ next_meeting key found (text, value) left
+          ∙ sym (ap (λ l. found ++ map pair_of (meeting key l)) there)
+          ∙ c.loop-text.invariant.found;
       plain = (and_parts (is_plain text) (are_plain left) (sym (ap are_plain there) ∙ c.loop-text.invariant.plain)).1;
     }

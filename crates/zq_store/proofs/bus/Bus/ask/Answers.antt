@@ -17,8 +17,8 @@ returns-clause-ok c =
     let replied = c.as_slice-3.ensures ∙ answers in
     let ended = c.as_slice-4.ensures ∙ asked in
     let handed = handed_whole i.gateway c.request.new.gateway c.reply_all.new.gateway c.in_ok-handed.handed c.reply_all.new.handed c.end_all.new.handed asks (reply_calls i.next_reply c.as_slice-3.result.now) (map end_call c.as_slice-4.result.now)
-          c.in_ok-handed.ensures.handed c.in_ok-handed.ensures.after c.in_ok-reply_all.ensures.handed c.in_ok-reply_all.ensures.after c.in_ok-end_all.ensures.handed
-        ∙ (λ j. handed_over (steps_from i.gateway (asks ∷ (reply_calls i.next_reply (replied j) ++ map end_call (ended j))))) in
+    c.in_ok-handed.ensures.handed c.in_ok-handed.ensures.after c.in_ok-reply_all.ensures.handed c.in_ok-reply_all.ensures.after c.in_ok-end_all.ensures.handed
+    ∙ (λ j. handed_over (steps_from i.gateway (asks ∷ (reply_calls i.next_reply (replied j) ++ map end_call (ended j))))) in
     let replies = c.in_ok-replies.ensures ∙ ap (map got_reply) answers in
     (λ j. record { replies = replies j; handed = handed j }) ∙ ap (λ b. got_of b key target now) c.self.view_is
 
@@ -34,8 +34,8 @@ returns-clause-new c =
     let replied = c.as_slice-3.ensures ∙ answers in
     let ended = c.as_slice-4.ensures ∙ asked in
     let after = after_whole i.gateway c.request.new.gateway c.reply_all.new.gateway c.end_all.new.gateway asks (reply_calls i.next_reply c.as_slice-3.result.now) (map end_call c.as_slice-4.result.now)
-          c.in_ok-handed.ensures.after c.in_ok-reply_all.ensures.after c.in_ok-end_all.ensures.after
-        ∙ (λ j. state_after i.gateway (asks ∷ (reply_calls i.next_reply (replied j) ++ map end_call (ended j)))) in
+    c.in_ok-handed.ensures.after c.in_ok-reply_all.ensures.after c.in_ok-end_all.ensures.after
+    ∙ (λ j. state_after i.gateway (asks ∷ (reply_calls i.next_reply (replied j) ++ map end_call (ended j)))) in
     let next = c.in-Some.ensures.value ∙ ap (λ n. i.next_reply + n) (c.len.ensures ∙ ap length answers) in
     (λ j. record { gateway = after j; asker = i.asker; next_face = i.next_face; next_request = i.next_request + 1; next_reply = next j; stores = i.stores; spent = i.spent })
     ∙ ap (λ b. after_get b key target now) c.self.view_is

@@ -12,7 +12,7 @@ invariant_of-self-2 c =
     let after = c.in_ok-storage.ensures.after in
     let stores = c.in_ok-push.ensures.ok ∙ ap (λ s. i.stores ++ s ∷ []) c.in_ok-storage.ensures.storage in
     let is : ◌≡◌ {A = BusState} (record b { gateway = c.join.new.gateway; next_face = i.next_face + 1; stores = c.push.new.self }) (added key complete b)
-          = λ j. record b { gateway = after j; next_face = i.next_face + 1; stores = stores j } in
+    = λ j. record b { gateway = after j; next_face = i.next_face + 1; stores = stores j } in
     subst IsBus (sym is) (added_keeps key complete b c.self.invariant)
 
 pub returns-clause-new : goal.returns-clause-new
