@@ -27,7 +27,7 @@ pub mod running;
 pub mod script;
 
 pub use checking::check;
-pub use load::{Counts, print_load};
+pub use load::{Counts, load_config, print_load};
 pub use refusal::ScriptRefusal;
 pub use running::{RunOutcome, Status, run, run_outcome};
 pub use script::{PartList, Script, read_script};

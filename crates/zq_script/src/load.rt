@@ -91,7 +91,7 @@ fn count_of(kind: Kind, handed: &[Handed]) -> usize
 }
 
 /// The configuration of the load: North as a client, and Local.
-fn load_config(alloc: Global) -> Result<Config, OutOfMemory>
+pub fn load_config(alloc: Global) -> Result<Config, OutOfMemory>
     ensures { IfOk result (λ c. c ≡ load_config) }
 {
     let entries = [Entry::North(Mode::Client), Entry::Local];

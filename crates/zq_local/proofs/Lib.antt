@@ -1,0 +1,12 @@
+pub mod Lists
+pub mod Sorting
+pub mod Picked
+pub mod Quiet
+pub mod Selected
+pub mod Ends
+pub mod Joining
+pub mod First
+pub mod Seating
+pub mod Running
+pub mod Asked
+pub mod Promised

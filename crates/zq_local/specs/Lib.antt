@@ -1,0 +1,3 @@
+pub mod Picking
+pub mod Seated
+pub mod Serving

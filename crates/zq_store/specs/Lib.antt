@@ -1,0 +1,13 @@
+pub mod Held
+pub mod Pair
+pub mod Span
+pub mod Stores
+pub mod Seats
+pub mod Room
+pub mod Bus
+pub mod Getting
+pub mod Answered
+pub mod Lines
+pub mod Printing
+pub mod Running
+pub mod Promises
