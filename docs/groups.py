@@ -45,6 +45,8 @@ GROUPS = {
         'zq_show': 'a run as a page',
         'zq_session': 'a script in a namespace',
         'zq_session_main': 'the command zq inside',
+        'zq_store': 'storages that answer queries',
+        'zq_store_main': 'the command zq store',
         'zq_program': 'workers in threads',
         'zq_main': 'the command zq',
     },
@@ -58,6 +60,7 @@ OTHERS = {
         'zq_tests_threads': 'tests of the lock and of callers in threads',
         'zq_tests_runs': 'whole scripts with their prints',
         'zq_tests_session': 'whole scripts in namespaces',
+        'zq_tests_store': 'scripts for storages',
         'zq_working': 'the program that bench/share times',
     },
 }
