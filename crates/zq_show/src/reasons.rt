@@ -19,8 +19,8 @@ use zq_key::items::Items;
 use zq_key::memory::OutOfMemory;
 use zq_key::message::{DEFAULT_NODE_ID, FaceId, NodeId, QueryTarget, Region, Request, Zid};
 use zq_key::text::Text;
-use zq_message::RegionMap;
 use zq_machine::config::Config;
+use zq_message::RegionMap;
 use zq_route::builder::RouteBuilder;
 use zq_route::filter::InterRegionFilter;
 use zq_route::overall::nearest;
@@ -365,12 +365,7 @@ fn has_best(panel: Panel, asker: &Asker<'_>, offers: &[QueryTargetQabl]) -> bool
 }
 
 /// Whether an offer on which the choice falls is complete.
-fn is_complete_in(
-    panel: Panel,
-    asker: &Asker<'_>,
-    hat: &Hat,
-    offers: &[QueryTargetQabl],
-) -> bool
+fn is_complete_in(panel: Panel, asker: &Asker<'_>, hat: &Hat, offers: &[QueryTargetQabl]) -> bool
     ensures { result ≡ is_complete_in panel (asker_of asker.now) hat.now offers.now }
 {
     if panel.overall {

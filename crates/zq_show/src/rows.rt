@@ -201,11 +201,7 @@ fn push_leaves_tag(out: &mut Vec<u8>, stopped: bool) -> Result<(), AllocError>
 
 /// What stands beside the arrow of a message: what a person reads of it, behind the number of its
 /// request.
-fn handed_label(
-    alloc: Global,
-    key: Option<&Text>,
-    handed: &Handed,
-) -> Result<Bytes, OutOfMemory>
+fn handed_label(alloc: Global, key: Option<&Text>, handed: &Handed) -> Result<Bytes, OutOfMemory>
     ensures { IfOk result (λ b. b ≡ handed_label (option_copied key.entry) handed.now) }
 {
     let mut out = Vec::new(alloc);
@@ -216,12 +212,7 @@ fn handed_label(
 }
 
 /// The row of a message that a call handed, whose requests are pending up to a moment.
-fn handed_row(
-    alloc: Global,
-    entry: &Entry,
-    until: u64,
-    handed: &Handed,
-) -> Result<Row, OutOfMemory>
+fn handed_row(alloc: Global, entry: &Entry, until: u64, handed: &Handed) -> Result<Row, OutOfMemory>
     ensures { IfOk result (λ r. r ≡ handed_row entry.now until handed.now) }
 {
     Ok(Row {
