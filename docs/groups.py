@@ -26,6 +26,7 @@ GROUPS = {
     'what is promised': {
         'zq_machine': 'calls, steps, promises, laws',
         'zq_moved': 'runs in a namespace',
+        'zq_local': 'an asker and storages',
     },
     'the gateway': {
         'zq_dispatcher': 'all hats, what is due',
