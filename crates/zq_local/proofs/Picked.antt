@@ -1,5 +1,5 @@
 -- What a region of storages offers for a request, in order.
-use Rattle.std.proofs.Common.{◌≡◌, ◌∙◌, refl, sym, ap, subst, ℕ, ◌+◌, ◌<◌, Bool, true, false, cond, List, [], ◌∷◌, ◌++◌, map, Option, Some, None, eqb-true, eq-eqb, arith}
+use Rattle.std.proofs.Common.{◌≡◌, ◌∙◌, refl, sym, ap, subst, ℕ, ◌+◌, ◌<◌, Bool, true, false, cond, List, [], ◌∷◌, ◌++◌, map, Option, Some, None, eqb-true, eq-eqb, append-nil, arith}
 use Rattle.std.specs.Prelude.{◌==◌, find, fold}
 use Rattle.std.specs.BTreeSet.{insert_key}
 use Rattle.std.specs.Cmp.{nat_cmp_is}
@@ -25,9 +25,11 @@ use Rattle.zq_strategy.specs.declared.offer.QueryTargetQabl.{QueryTargetQabl}
 use Rattle.zq_strategy.specs.Kept.{declared_keys, with_keys}
 use Rattle.zq_strategy.specs.OfferOrder.{offer_cmp, offer_of, sorted}
 use Rattle.zq_strategy.specs.Offers.{declared_offers, offer_list, offers_for, offers_on}
-use Rattle.zq_route.specs.Selection.{best, chosen, is_complete, may_be_complete}
+use Rattle.zq_route.specs.Selection.{best, best_overall, chosen, is_complete, may_be_complete, nearer, nearest, picked}
+use Rattle.zq_route.specs.declared.selection.Best.{Best}
+use Rattle.zq_route.specs.declared.selection.Best.TheVariants as choice
 use Rattle.zq_machine.specs.Configs.{Settings}
-use Rattle.zq_machine.proofs.Lists.{all_append, all_weaker}
+use Rattle.zq_machine.proofs.Lists.{all_append, all_filter, all_weaker}
 use Rattle.zq_local.specs.Picking.{Seat, by_key, has_all, is_on, key_of, keys_in, meets, on_keys, picks}
 use Rattle.zq_local.specs.Seated.{AreNumbered, hat_faces, seat_entry, seat_info}
 use Rattle.zq_local.proofs.Lists.{Across, Pairwise, all_both, all_of, filter_map_by, find_map_by, pairs_append, pairs_back, pairs_filter, pairs_stronger}
@@ -221,21 +223,48 @@ pub stand_apart : (n : ℕ) (ss : List Seat) → AreNumbered n ss → Pairwise (
 stand_apart n ss all =
     pairs_stronger Stands (λ s t. (t.face.0 == s.face.0) ≡ false) (λ s. Unit {0}) (λ s t a b stands. stands.1) (by_key ss) (all_of (λ s. Unit {0}) (λ s. tt) (by_key ss)) (stand_by_key n ss all)
 
+-- the offers of the storages that meet are in order
+pub met_ordered : (n : ℕ) (q : List ℕ) (ss : List Seat) → AreNumbered n ss → Pairwise (Ordered offer_cmp) (map (offer q) (filter (meets q) (by_key ss)))
+met_ordered n q ss all =
+    pairs_back (Ordered offer_cmp) (offer q) (filter (meets q) (by_key ss))
+    (pairs_filter (λ s t. Ordered offer_cmp (offer q s) (offer q t)) (meets q) (by_key ss)
+    (pairs_stronger Stands (λ s t. Ordered offer_cmp (offer q s) (offer q t)) (λ s. Unit {0}) (λ s t a b stands. stands.0) (by_key ss) (all_of (λ s. Unit {0}) (λ s. tt) (by_key ss)) (stand_by_key n ss all)))
+
 -- what the region offers, in order
 pub offers_sorted : (config : Settings) (asker n : ℕ) (q : List ℕ) (ss : List Seat) → AreNumbered n ss → sorted offer_cmp (declared_offers region.Local (hat_faces config asker ss) q) ≡ map (offer q) (filter (meets q) (by_key ss))
 offers_sorted config asker n q ss all =
     ap (sorted offer_cmp) (declared_offers_are config q asker ss)
-    ∙ sorted_whole offer_cmp (map (offer q) (filter (meets q) (by_key ss)))
-    (pairs_back (Ordered offer_cmp) (offer q) (filter (meets q) (by_key ss))
-    (pairs_filter (λ s t. Ordered offer_cmp (offer q s) (offer q t)) (meets q) (by_key ss)
-    (pairs_stronger Stands (λ s t. Ordered offer_cmp (offer q s) (offer q t)) (λ s. Unit {0}) (λ s t a b stands. stands.0) (by_key ss) (all_of (λ s. Unit {0}) (λ s. tt) (by_key ss)) (stand_by_key n ss all))))
+    ∙ sorted_whole offer_cmp (map (offer q) (filter (meets q) (by_key ss))) (met_ordered n q ss all)
 
 -- ---- what a target picks of the offers
 first_or_all : (q : List ℕ) (xs : List Seat) (o : Option Seat) → find is_complete (map (offer q) xs) ≡ option_map (offer q) o → best (map (offer q) xs) ≡ map (offer q) (option_map_or (λ s. s ∷ []) o xs)
 first_or_all q xs None e = ap (λ o. option_map_or (λ x. x ∷ []) o (map (offer q) xs)) e
 first_or_all q xs (Some s) e = ap (λ o. option_map_or (λ x. x ∷ []) o (map (offer q) xs)) e
 
-pub chosen_are : (q : List ℕ) (t : QueryTarget) (xs : List Seat) → chosen t (map (offer q) xs) ≡ map (offer q) (picks q t xs)
+chosen_are : (q : List ℕ) (t : QueryTarget) (xs : List Seat) → chosen t (map (offer q) xs) ≡ map (offer q) (picks q t xs)
 chosen_are q target.All xs = refl
 chosen_are q target.AllComplete xs = filter_map_by (offer q) may_be_complete (has_all q) (λ s. refl) xs
 chosen_are q target.BestMatching xs = first_or_all q xs (find (has_all q) xs) (find_map_by (offer q) is_complete (has_all q) (λ s. refl) xs)
+
+-- of offers in order the first is the nearest
+stays_first : (o : QueryTargetQabl) (os : List QueryTargetQabl) → AllByRecursion (Ordered offer_cmp o) os → fold nearer (Some o) os ≡ Some o
+stays_first o [] all = refl
+stays_first o (x ∷ os) all = ap (λ b. fold nearer (Some (cond b x o)) os) all.0 ∙ stays_first o os all.1
+
+first_nearest : (os : List QueryTargetQabl) → Pairwise (Ordered offer_cmp) os → nearest (filter is_complete os) ≡ find is_complete os
+first_nearest [] p = refl
+first_nearest (o ∷ os) p = by (is_complete o) (first_nearest os p.1)
+  where
+    by : (b : Bool) → nearest (filter is_complete os) ≡ find is_complete os → nearest (cond b (o ∷ filter is_complete os) (filter is_complete os)) ≡ cond b (Some o) (find is_complete os)
+    by true ih = stays_first o (filter is_complete os) (all_filter (Ordered offer_cmp o) is_complete os p.0)
+    by false ih = ih
+
+-- of one region's offers in order a target picks the same, wherever the best is looked for
+pub picked_are : (q : List ℕ) (b : Best) (t : QueryTarget) (xs : List Seat) → Pairwise (Ordered offer_cmp) (map (offer q) xs) → picked b t (map (offer q) xs ∷ []) ≡ map (offer q) (picks q t xs)
+picked_are q choice.ByRegion t xs p = append-nil (chosen t (map (offer q) xs)) ∙ chosen_are q t xs
+picked_are q choice.Overall target.All xs p = append-nil (map (offer q) xs)
+picked_are q choice.Overall target.AllComplete xs p = append-nil (chosen target.AllComplete (map (offer q) xs)) ∙ chosen_are q target.AllComplete xs
+picked_are q choice.Overall target.BestMatching xs p =
+    ap best_overall (append-nil (map (offer q) xs))
+    ∙ ap (λ o. option_map_or (λ x. x ∷ []) o (map (offer q) xs)) (first_nearest (map (offer q) xs) p)
+    ∙ chosen_are q target.BestMatching xs

@@ -1,12 +1,10 @@
 -- What is selected for a request of the asker: the storages that its target picks.
-use Rattle.std.proofs.Common.{◌≡◌, ◌∙◌, refl, ap, ℕ, ◌+◌, ◌<◌, Bool, true, false, cond, not, List, [], ◌∷◌, ◌++◌, map, Option, Some, None, arith}
-use Rattle.std.specs.Prelude.{◌==◌, ◌&&◌, find, fold}
+use Rattle.std.proofs.Common.{◌≡◌, ◌∙◌, refl, sym, ap, ℕ, ◌+◌, ◌<◌, Bool, true, false, cond, not, List, [], ◌∷◌, ◌++◌, map, append-nil, Option, Some, None, arith}
+use Rattle.std.specs.Prelude.{◌==◌, ◌&&◌, find}
 use Rattle.std.specs.List.{AllByRecursion, filter, flat_map}
 use Rattle.std.specs.Map.{values_of}
 use Rattle.std.specs.Option.{option_map_or}
 use Rattle.std.proofs.lemmas.Cmp.{nat_cmp_total}
-use Rattle.std.proofs.lemmas.List.{map-append}
-use Rattle.std.proofs.lemmas.List.Sums.{fold-append}
 use Rattle.std.proofs.lemmas.Map.Lookups.{exact_unsigned}
 use Rattle.zq_key.specs.Key.{is_key}
 use Rattle.zq_key.proofs.Lookups.{at_itself}
@@ -22,10 +20,13 @@ use Rattle.zq_strategy.specs.Offers.{bare_on, declared_offers, offers_beside, of
 use Rattle.zq_strategy.specs.Regions.{is_north, same_region, strategy_at}
 use Rattle.zq_strategy.specs.Routers.{entries_offers, source_for}
 use Rattle.zq_strategy.specs.State.{FaceState, HatState}
-use Rattle.zq_route.specs.Selection.{chosen, with_offers}
+use Rattle.zq_route.specs.Selection.{best_overall, chosen, with_offers}
+use Rattle.zq_route.specs.Selection as selection
+use Rattle.zq_route.specs.declared.selection.Best.{Best}
+use Rattle.zq_route.specs.declared.selection.Best.TheVariants as choice
 use Rattle.zq_tables.specs.declared.resolved.Resolved.TheVariants as said
 use Rattle.zq_machine.specs.Deciding.{opened}
-use Rattle.zq_machine.specs.Selecting.{AskerState, asker_in, passes, route_for, select, select_for, with_part}
+use Rattle.zq_machine.specs.Selecting.{AskerState, asker_in, part_for, parts_for, passes, route_for, select, select_for}
 use Rattle.zq_machine.specs.State.{Core, at}
 use Rattle.zq_machine.specs.declared.face.OpenFace.{OpenFace}
 use Rattle.zq_machine.proofs.Lists.{all_filter, all_weaker}
@@ -33,7 +34,7 @@ use Rattle.zq_local.specs.Picking.{Seat, by_key, has_all, is_on, keys_in, meets,
 use Rattle.zq_local.specs.Seated.{AreHats, AreNumbered, IsBare, hat_faces, hat_with, local_opening, open_entry, open_faces}
 use Rattle.zq_local.proofs.Lists.{Pairwise, all_back, all_flat, all_of, filter_whole, pairs_filter, pairs_back}
 use Rattle.zq_local.proofs.Sorting.{Apart, values_whole}
-use Rattle.zq_local.proofs.Picked.{above_all, chosen_are, not_same, offer, offers_sorted, stand_apart}
+use Rattle.zq_local.proofs.Picked.{above_all, met_ordered, not_same, offer, offers_sorted, picked_are, stand_apart}
 
 -- ---- a region without faces and entries offers nothing
 none_beside : (st : Strategy) (r src : Region) (q : List ℕ) (b c : Bool) → cond b [] (declared_offers r [] q ++ cond c (flat_map (bare_on st r q) []) []) ≡ []
@@ -61,23 +62,33 @@ none_chosen target.All = refl
 none_chosen target.AllComplete = refl
 none_chosen target.BestMatching = refl
 
-module _ (a : AskerState) (q : List ℕ) (t : QueryTarget) where
-  bare_part : (r : List (ℕ × QueryTargetQabl)) (h : HatState) → IsBare h → with_part a q t r h ≡ r
-  bare_part r h bare =
-      ap (λ os. with_offers r (chosen t (filter (passes a) (sorted offer_cmp os)))) (offers_none (strategy_at h) h bare a.opened.region q _)
-      ∙ ap (with_offers r) (none_chosen t)
+module _ (a : AskerState) (q : List ℕ) where
+  bare_part : (h : HatState) → IsBare h → part_for a q h ≡ []
+  bare_part h bare = ap (filter (passes a)) (ap (sorted offer_cmp) (offers_none (strategy_at h) h bare a.opened.region q _))
 
-  bare_route : (P : ℕ → Type 0) (r : List (ℕ × QueryTargetQabl)) (hats : List (ℕ × HatState)) → AllByRecursion (λ (e : ℕ × HatState). P e.0 × IsBare e.1) hats → fold (with_part a q t) r (values_of hats) ≡ r
-  bare_route P r [] all = refl
-  bare_route P r (e ∷ hats) all = ap (λ x. fold (with_part a q t) x (values_of hats)) (bare_part r e.1 all.0.1) ∙ bare_route P r hats all.1
+  module _ (f : List QueryTargetQabl → List QueryTargetQabl) (none : f [] ≡ []) (local : HatState) (after : List (ℕ × HatState)) where
+    bare_parts : (P : ℕ → Type 0) (hats : List (ℕ × HatState)) → AllByRecursion (λ (e : ℕ × HatState). P e.0 × IsBare e.1) hats → flat_map f (parts_for a q (values_of hats)) ≡ []
+    bare_parts P [] all = refl
+    bare_parts P (e ∷ hats) all = ap (λ l. f l ++ flat_map f (parts_for a q (values_of hats))) (bare_part e.1 all.0.1) ∙ ap (λ l. l ++ flat_map f (parts_for a q (values_of hats))) none ∙ bare_parts P hats all.1
 
-  -- a route is that of Local
-  pub route_alone : (hats : List (ℕ × HatState)) (local : HatState) → AreHats hats local → fold (with_part a q t) [] (values_of hats) ≡ with_part a q t [] local
-  route_alone hats local are =
-      ap (λ l. fold (with_part a q t) [] l) (ap values_of are.parts ∙ map-append (λ (e : ℕ × HatState). e.1) are.before ((1, local) ∷ are.after))
-      ∙ fold-append (with_part a q t) [] (values_of are.before) (local ∷ values_of are.after)
-      ∙ ap (λ r. fold (with_part a q t) (with_part a q t r local) (values_of are.after)) (bare_route (λ n. n < 1) [] are.before are.none_before)
-      ∙ bare_route (λ n. 1 < n) (with_part a q t [] local) are.after are.none_after
+    from_parts : AllByRecursion (λ (e : ℕ × HatState). (1 < e.0) × IsBare e.1) after → (before : List (ℕ × HatState)) → AllByRecursion (λ (e : ℕ × HatState). (e.0 < 1) × IsBare e.1) before
+        → flat_map f (parts_for a q (values_of (before ++ (1, local) ∷ after))) ≡ f (part_for a q local)
+    from_parts rest [] all = ap (λ l. f (part_for a q local) ++ l) (bare_parts (λ n. 1 < n) after rest) ∙ append-nil (f (part_for a q local))
+    from_parts rest (e ∷ before) all =
+        ap (λ l. f l ++ flat_map f (parts_for a q (values_of (before ++ (1, local) ∷ after)))) (bare_part e.1 all.0.1)
+        ∙ ap (λ l. l ++ flat_map f (parts_for a q (values_of (before ++ (1, local) ∷ after)))) none
+        ∙ from_parts rest before all.1
+
+  -- what is taken of each region is taken of Local alone
+  part_alone : (f : List QueryTargetQabl → List QueryTargetQabl) → f [] ≡ [] → (hats : List (ℕ × HatState)) (local : HatState) → AreHats hats local → flat_map f (parts_for a q (values_of hats)) ≡ f (part_for a q local)
+  part_alone f none hats local are = ap (λ l. flat_map f (parts_for a q (values_of l))) are.parts ∙ from_parts f none local are.after are.none_after are.before are.none_before
+
+  -- what a target picks of all regions it picks of Local
+  picked_alone : (b : Best) (t : QueryTarget) (hats : List (ℕ × HatState)) (local : HatState) → AreHats hats local → selection.picked b t (parts_for a q (values_of hats)) ≡ selection.picked b t (part_for a q local ∷ [])
+  picked_alone choice.ByRegion t hats local are = part_alone (chosen t) (none_chosen t) hats local are ∙ sym (append-nil (chosen t (part_for a q local)))
+  picked_alone choice.Overall target.All hats local are = part_alone (chosen target.All) refl hats local are ∙ sym (append-nil (part_for a q local))
+  picked_alone choice.Overall target.AllComplete hats local are = part_alone (chosen target.AllComplete) refl hats local are ∙ sym (append-nil (chosen target.AllComplete (part_for a q local)))
+  picked_alone choice.Overall target.BestMatching hats local are = ap best_overall (part_alone (λ part. part) refl hats local are ∙ sym (append-nil (part_for a q local)))
 
 -- ---- those that are picked have what all have
 pub all_by_key : (P : Seat → Type 0) (ss : List Seat) → AllByRecursion P ss → AllByRecursion P (by_key ss)
@@ -145,15 +156,17 @@ module _ (core : Core) (asker : ℕ) (ss : List Seat) (numbered : AreNumbered (a
   apart : Pairwise Apart (map (offer q) (picked q r.target ss))
   apart = pairs_back Apart (offer q) (picked q r.target ss) (picked_apart (asker + 1) q r.target ss numbered)
 
-  local_part : with_part a q r.target [] (hat_with core.config (hat_faces core.config asker ss)) ≡ with_offers [] (map (offer q) (picked q r.target ss))
+  local_part : part_for a q (hat_with core.config (hat_faces core.config asker ss)) ≡ map (offer q) met
   local_part =
-      ap (λ os. with_offers [] (chosen r.target (filter (passes a) os))) (offers_sorted core.config asker (asker + 1) q ss numbered)
-      ∙ ap (λ os. with_offers [] (chosen r.target os)) (filter_whole (passes a) (map (offer q) met) all_pass)
-      ∙ ap (λ os. with_offers [] os) (chosen_are q r.target met)
+      ap (filter (passes a)) (offers_sorted core.config asker (asker + 1) q ss numbered)
+      ∙ filter_whole (passes a) (map (offer q) met) all_pass
 
   route : values_of (route_for core a q r.target) ≡ map (offer q) (picked q r.target ss)
   route =
-      ap values_of (route_alone a q r.target core.hats (hat_with core.config (hat_faces core.config asker ss)) hats ∙ local_part)
+      ap (λ os. values_of (with_offers [] os))
+      (picked_alone a q core.config.best r.target core.hats (hat_with core.config (hat_faces core.config asker ss)) hats
+      ∙ ap (λ os. selection.picked core.config.best r.target (os ∷ [])) local_part
+      ∙ picked_are q core.config.best r.target met (met_ordered (asker + 1) q ss numbered))
       ∙ values_whole (map (offer q) (picked q r.target ss)) apart
 
   found : at asker core.faces ≡ Some mine
