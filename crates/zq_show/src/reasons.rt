@@ -11,6 +11,7 @@ ghost use Rattle.zq_show.specs.Reasons.{asker_for, barrier, candidates, first_pa
 
 use crate::carrier::carrier;
 use crate::seen::Seen;
+use std::alloc::Global;
 use zq_dispatcher::hats::{hat_at, is_region};
 use zq_egress::read::{full_text, says_key};
 use zq_egress::select::{Asker, zid_of};
