@@ -129,6 +129,7 @@ fn entry_of(
     ensures after { OnOk result (machine.new ≡ next machine.old call) }
     ensures seen { OnOk result (seen.new ≡ seen_next machine.old seen.old call) }
 {
+    let best = machine.config().best();
     let judgement = judgement_of(alloc, machine, seen, &call)?;
     let unreached = unreached_of(alloc, machine, seen, &call)?;
     let key = key_of(seen, &call)?;
@@ -140,7 +141,7 @@ fn entry_of(
         call,
         key,
         step,
-        best: machine.config().best(),
+        best,
         judgement,
         unreached,
     })
