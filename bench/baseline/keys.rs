@@ -157,7 +157,7 @@ fn ends_meet(a: &str, b: &str) -> bool {
 }
 
 /// Whether two keys meet: each chunk that begins with `@` by itself alone, and what stands between those.
-fn keys_meet(mut a: &str, mut b: &str) -> bool {
+pub fn keys_meet(mut a: &str, mut b: &str) -> bool {
     if !ends_meet(a, b) {
         return false;
     }
