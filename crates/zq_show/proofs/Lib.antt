@@ -2,3 +2,4 @@ pub mod Escaped
 pub mod Numbers
 pub mod Ended
 pub mod Replayed
+pub mod Judged

@@ -7,6 +7,7 @@ use Rattle.zq_message.specs.declared.message.FaceId.{FaceId}
 use Rattle.zq_message.specs.declared.message.Message.{Message}
 use Rattle.zq_message.specs.declared.message.Message.TheVariants as message
 use Rattle.zq_message.specs.declared.message.QueryTarget.{QueryTarget}
+use Rattle.zq_message.specs.declared.message.QueryableInfoType.{QueryableInfoType}
 use Rattle.zq_message.specs.declared.message.QueryTarget.TheVariants as target
 use Rattle.zq_message.specs.declared.message.Zid.{Zid}
 use Rattle.zq_machine.specs.declared.call.Call.{Call}
@@ -16,11 +17,11 @@ use Rattle.zq_machine.specs.declared.call.Outcome.TheVariants as outcome
 use Rattle.zq_machine.specs.Handing.{Handed}
 use Rattle.zq_route.specs.declared.selection.Best.{Best}
 use Rattle.zq_route.specs.declared.selection.Best.TheVariants as best
-use Rattle.zq_strategy.specs.OfferOrder.{distance}
 use Rattle.zq_strategy.specs.declared.offer.QueryTargetQabl.{QueryTargetQabl}
 use Rattle.zq_io.specs.Words.{field}
 use Rattle.zq_io.specs.Values.{face_word}
 use Rattle.zq_hat.specs.declared.unreached.RouterEntry.{RouterEntry}
+use Rattle.zq_show.specs.Answer.{named}
 use Rattle.zq_show.specs.declared.entry.Entry.{Entry}
 use Rattle.zq_show.specs.declared.reasons.Missed.{Missed}
 use Rattle.zq_show.specs.declared.reasons.Reason.{Reason}
@@ -70,9 +71,18 @@ mode_words b target.All = codes "`all` asks each; asked faces:"
 mode_words b target.AllComplete = codes "`complete` asks those that are complete, or not known to be; asked faces:"
 mode_words b target.BestMatching = best_words b
 
+-- how far what gives an information is
+abbrev pub far_words : Option QueryableInfoType → List ℕ
+far_words None = []
+far_words (Some i) = named (codes ", at distance ") i.distance
+
+-- on which key and how far an offer is
+unfoldable pub place_words : QueryTargetQabl → List ℕ
+place_words o = codes " on " ++ o.key ++ far_words o.info
+
 -- an offer as the nearest complete one
 unfoldable pub won_words : QueryTargetQabl → List ℕ
-won_words o = codes "; the nearest: face " ++ decimal o.face.0 ++ codes " on " ++ o.key ++ codes ", at distance " ++ decimal (distance o)
+won_words o = named (codes "; the nearest: face ") o.face.0 ++ place_words o
 
 -- the nearest complete offer of all regions, where the choice fell on it
 abbrev pub nearest_words : Option QueryTargetQabl → List ℕ

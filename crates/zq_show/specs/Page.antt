@@ -71,14 +71,17 @@ unfoldable pub short_words : List ℕ → List ℕ → List ℕ → List ℕ
 short_words before text after = before ++ shown_short BAD_ROOM text ++ after
 
 -- that the line that could not be read is not shown whole, where it is longer than that
-abbrev pub rest_of_bad : BadLine → List ℕ
+unfoldable pub rest_of_bad : BadLine → List ℕ
 rest_of_bad bad = if nat_le (length bad.text) BAD_ROOM then [] else BAD_REST.now
+
+-- the text of the line that could not be read
+unfoldable pub bad_text_words : BadLine → List ℕ
+bad_text_words bad = short_words (codes "<code>") bad.text (codes "</code>") ++ rest_of_bad bad
 
 -- the line that could not be read
 unfoldable pub bad_line_words : BadLine → List ℕ
 bad_line_words bad =
-    line_number_words bad.number false ++ short_words (codes "<code>") bad.text (codes "</code>") ++ rest_of_bad bad
-    ++ short_words (codes "<p class='no'>bad line: ") bad.reason (codes "</p></li>")
+    line_number_words bad.number false ++ bad_text_words bad ++ short_words (codes "<p class='no'>bad line: ") bad.reason (codes "</p></li>")
 
 -- the line that could not be read, if there is one
 abbrev pub bad_words : Option BadLine → List ℕ

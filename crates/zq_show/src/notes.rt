@@ -1,8 +1,8 @@
 //! Whom a request asked, and why it did not ask others.
 ghost use Rattle.std.specs.Prelude.{◌≡◌, ◌++◌, IfOk, OnOk, map};
-ghost use Rattle.zq_strategy.specs.OfferOrder.{distance};
-ghost use Rattle.zq_show.specs.Notes.{asked_note, best_words, faces_words, is_request, missed_note, mode_words, nearest_words, notes_of, numbers_words, owner_words, ids_words, picked, reason_words, stopped_words, carried_words, carrier_words, stop_words, unreached_note, won_words};
+ghost use Rattle.zq_show.specs.Notes.{asked_note, best_words, faces_words, far_words, is_request, missed_note, mode_words, nearest_words, notes_of, numbers_words, owner_words, ids_words, picked, reason_words, stopped_words, carried_words, carrier_words, stop_words, place_words, unreached_note, won_words};
 
+use crate::answer::push_named;
 use crate::entry::{Entry, FaceList};
 use crate::reasons::{Missed, Reason};
 use std::alloc::{AllocError, Global};
@@ -11,7 +11,7 @@ use zq_io::show::push_field;
 use zq_io::words::{push_number, push_text};
 use zq_key::items::Items;
 use zq_key::memory::OutOfMemory;
-use zq_key::message::{FaceId, Message, QueryTarget, Zid};
+use zq_key::message::{FaceId, Message, QueryTarget, QueryableInfoType, Zid};
 use zq_key::text::Bytes;
 use zq_machine::call::{Call, Outcome};
 use zq_machine::handed::Handed;
@@ -114,13 +114,24 @@ fn mode(best: Best, target: QueryTarget) -> &'static str
     }
 }
 
-fn distance(offer: &QueryTargetQabl) -> u16
-    ensures { result ≡ distance offer.now }
+/// Writes how far what gives an information is.
+fn push_far(out: &mut Vec<u8>, info: Option<QueryableInfoType>) -> Result<(), AllocError>
+    ensures { OnOk result (out.new.items ≡ out.old.items ++ far_words info) }
 {
-    match offer.info {
-        Some(info) => info.distance,
-        None => u16::MAX,
+    match info {
+        Some(info) => push_named(out, ", at distance ", u64::from(info.distance)),
+        None => Ok(()),
     }
+}
+
+/// Writes on which key and how far an offer is.
+#[tactic(auto, unfolding(crate::specs::Notes::place_words))]
+fn push_place(out: &mut Vec<u8>, offer: &QueryTargetQabl) -> Result<(), AllocError>
+    ensures { OnOk result (out.new.items ≡ out.old.items ++ place_words offer.now) }
+{
+    push_text(out, " on ")?;
+    push_text(out, offer.key.as_str())?;
+    push_far(out, offer.info)
 }
 
 /// Writes an offer as the nearest complete one.
@@ -128,12 +139,8 @@ fn distance(offer: &QueryTargetQabl) -> u16
 fn push_won(out: &mut Vec<u8>, offer: &QueryTargetQabl) -> Result<(), AllocError>
     ensures { OnOk result (out.new.items ≡ out.old.items ++ won_words offer.now) }
 {
-    push_text(out, "; the nearest: face ")?;
-    push_number(out, offer.face.0)?;
-    push_text(out, " on ")?;
-    push_text(out, offer.key.as_str())?;
-    push_text(out, ", at distance ")?;
-    push_number(out, distance(offer))
+    push_named(out, "; the nearest: face ", u64::from(offer.face.0))?;
+    push_place(out, offer)
 }
 
 /// Writes the nearest complete offer of all regions, where the choice fell on it.

@@ -1,7 +1,7 @@
 //! The page of a run: the head, the faces, the picture, and the lines with what came of each.
 ghost use Rattle.std.specs.Prelude.{◌≡◌, ◌++◌, IfOk, OnOk};
 ghost use Rattle.zq_show.specs.Fit.{fitted_by, room_of};
-ghost use Rattle.zq_show.specs.Page.{item_words, long_list_words, answer_open, bad_line_words, bad_words, begin_words, came_words, head_words, items_words, legend_words, line_number_words, line_words, lines_words, link_words, linked, list_words, notes_words, page_words, rest_of_bad, said_words, scene_words, short_words};
+ghost use Rattle.zq_show.specs.Page.{item_words, long_list_words, answer_open, bad_line_words, bad_text_words, bad_words, begin_words, came_words, head_words, items_words, legend_words, line_number_words, line_words, lines_words, link_words, linked, list_words, notes_words, page_words, rest_of_bad, said_words, scene_words, short_words};
 
 use crate::choice::{RowList, has_line};
 use crate::escape::{push_in_page, push_short};
@@ -314,6 +314,7 @@ fn push_short_said(
 }
 
 /// Writes that the line that could not be read is not shown whole, where it is longer than that.
+#[tactic(auto, unfolding(crate::specs::Page::rest_of_bad))]
 fn push_rest_of_bad(out: &mut Vec<u8>, bad: &BadLine) -> Result<(), AllocError>
     ensures { OnOk result (out.new.items ≡ out.old.items ++ rest_of_bad bad.now) }
 {
@@ -323,14 +324,22 @@ fn push_rest_of_bad(out: &mut Vec<u8>, bad: &BadLine) -> Result<(), AllocError>
     push_text(out, BAD_REST)
 }
 
+/// Writes the text of the line that could not be read.
+#[tactic(auto, unfolding(crate::specs::Page::bad_text_words))]
+fn push_bad_text(alloc: Global, out: &mut Vec<u8>, bad: &BadLine) -> Result<(), AllocError>
+    ensures { OnOk result (out.new.items ≡ out.old.items ++ bad_text_words bad.now) }
+{
+    push_short_said(alloc, out, "<code>", &bad.text, "</code>")?;
+    push_rest_of_bad(out, bad)
+}
+
 /// Writes the line that could not be read.
 #[tactic(auto, unfolding(crate::specs::Page::bad_line_words))]
 fn push_bad_line(alloc: Global, out: &mut Vec<u8>, bad: &BadLine) -> Result<(), AllocError>
     ensures { OnOk result (out.new.items ≡ out.old.items ++ bad_line_words bad.now) }
 {
     push_line_number(out, bad.number, false)?;
-    push_short_said(alloc, out, "<code>", &bad.text, "</code>")?;
-    push_rest_of_bad(out, bad)?;
+    push_bad_text(alloc, out, bad)?;
     push_short_said(
         alloc,
         out,
