@@ -96,8 +96,14 @@ fn how_runs_end(rt: HostRuntime) {
 fn each_write_fails(rt: HostRuntime) {
     for at in 0..14 {
         let fails = (9999, at as u64);
-        let wanted = (Status::WriteFault, &PRINTED[..8 * at]);
-        let ended = ends_as(rt.alloc(), "store", STORED, fails, wanted);
+        let taken = PRINTED.get(..8 * at).expect(&rt, "a part of the print");
+        let ended = ends_as(
+            rt.alloc(),
+            "store",
+            STORED,
+            fails,
+            (Status::WriteFault, taken),
+        );
         assert_eq!(rt; ended, Ok(true), "{at}");
     }
 }
