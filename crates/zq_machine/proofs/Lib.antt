@@ -94,6 +94,8 @@ pub mod NeighbourMoved
 pub mod ChangedMoved
 pub mod CausesMoved
 pub mod DecidingMoved
+pub mod Rows
+pub mod Rerouted
 pub mod Following
 pub mod Answering
 pub mod Keeping
