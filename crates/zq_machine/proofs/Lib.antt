@@ -47,6 +47,8 @@ pub mod RoutersMoved
 pub mod DueMoved
 pub mod Worded
 pub mod Foreign
+pub mod EntryRows
+pub mod Rows
 pub mod DueHeard
 pub mod NeighboursTold
 pub mod Sifting
@@ -94,7 +96,6 @@ pub mod NeighbourMoved
 pub mod ChangedMoved
 pub mod CausesMoved
 pub mod DecidingMoved
-pub mod Rows
 pub mod Rerouted
 pub mod Following
 pub mod Answering
