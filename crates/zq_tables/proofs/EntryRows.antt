@@ -61,7 +61,7 @@ module _ {X : Type 0} where
   Rises-with_row limit region [] rows lt rises = Rises-without_id limit 0 region rows rises
   Rises-with_row limit region (x ∷ xs) rows lt rises = Rises-with_id limit 0 region (x ∷ xs) rows (omega arith) lt rises
 
--- ---- a row that is there
+  -- ---- a row that is there
 
   -- a region with something at a place of its row has a row
   pub row_there : (rows : List (ℕ × List X)) (region at : ℕ) → at < length (row_at region rows) → (row : List X) × (lookup (is_at (nat_cmp region)) rows ≡ Some row) × (row_at region rows ≡ row)
