@@ -5,3 +5,4 @@ pub mod Neighbours
 pub mod Telling
 pub mod Reading
 pub mod Gone
+pub mod Nearest
