@@ -11,6 +11,7 @@ use Rattle.zq_message.specs.declared.message.Zid.{Zid}
 use Rattle.zq_message.specs.declared.message.Region.TheVariants as region
 use Rattle.zq_message.specs.Region.{region_index}
 use Rattle.zq_message.specs.RegionMap.{value_at, with_entry}
+use Rattle.zq_index.specs.Texts.{at_text}
 use Rattle.zq_strategy.specs.Regions.{in_routers, strategy_at}
 use Rattle.zq_strategy.specs.State.{HatState}
 use Rattle.zq_strategy.specs.declared.types.FaceRecord.{FaceRecord}
@@ -70,6 +71,10 @@ has_keys (k ∷ ks) = true
 -- the keys on which routers have entries, of each region that has one
 abbrev pub entry_rows : List (ℕ × HatState) → EntryRows
 entry_rows hats = filter (λ row. has_keys row.1) (map entry_row hats)
+
+-- routers of the region have an entry on the key
+abbrev pub has_entries : List ℕ → HatState → Bool
+has_entries key h = is_some (at_text key h.entries)
 
 -- the gateway before any call
 abbrev pub opening_state : Settings → State

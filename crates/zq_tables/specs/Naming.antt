@@ -1,9 +1,10 @@
 -- What stands for keys at each open face, by number or by the id of a queryable or an interest, and what expressions say by it.
-use Rattle.std.specs.Prelude.{ℕ, ◌==◌, Bool, false, not, ◌||◌, is_some, List, [], ◌∷◌, ◌++◌, Option, Some, None, if◌then◌else◌, unwrap_or}
-use Rattle.std.specs.List.{flat_map, list_any}
+use Rattle.std.specs.Prelude.{ℕ, ◌<◌, length, ◌==◌, Bool, false, not, ◌||◌, is_some, List, [], ◌∷◌, ◌++◌, Option, Some, None, if◌then◌else◌, unwrap_or}
+use Rattle.std.specs.List.{All, flat_map, list_any}
+use Rattle.std.specs.List.Sorted.{IsStrictlySortedBy}
 use Rattle.std.specs.Str.{bytes_eq}
 use Rattle.std.specs.Ordering.{nat_cmp}
-use Rattle.std.specs.Map.{lookup, remove_entry, set_value, values_of}
+use Rattle.std.specs.Map.{keys_of, lookup, remove_entry, set_value, values_of}
 use Rattle.std.specs.BTreeMap.{is_at, insert_entry}
 use Rattle.std.specs.BTreeSet.{insert_key}
 use Rattle.std.specs.Set.{remove_key}
@@ -178,14 +179,18 @@ closed_naming face s = record s { faces = remove_entry (is_at (nat_cmp face)) s.
 abbrev pub with_rows : EntryRows → NamingState → NamingState
 with_rows rows s = record s { rows = rows }
 
--- the keys on which routers of a region have an entry
-abbrev pub row_at : ℕ → EntryRows → List (List ℕ)
+-- what a region has in its row, nothing where it has none
+abbrev pub row_at : {X : Type 0} → ℕ → List (ℕ × List X) → List X
 row_at region rows = unwrap_or (lookup (is_at (nat_cmp region)) rows) []
 
--- a region has these keys from then on, and no row where there are none
-abbrev pub with_row : ℕ → List (List ℕ) → EntryRows → EntryRows
+-- a region has this row from then on, and none where nothing is in it
+abbrev pub with_row : {X : Type 0} → ℕ → List X → List (ℕ × List X) → List (ℕ × List X)
 with_row region [] rows = remove_entry (is_at (nat_cmp region)) rows
 with_row region (k ∷ ks) rows = insert_entry nat_cmp rows region (k ∷ ks)
+
+-- routers of the region have an entry on the key
+abbrev pub has_entry_key : ℕ → List ℕ → NamingState → Bool
+has_entry_key region key s = list_any (is_at (text_cmp key)) (row_at region s.rows)
 
 -- routers of the region have an entry on the key from then on
 abbrev pub with_entry_key : ℕ → List ℕ → NamingState → NamingState
@@ -194,6 +199,12 @@ with_entry_key region key s = with_rows (with_row region (insert_key text_cmp (r
 -- routers of the region have no entry on the key any more
 abbrev pub without_entry_key : ℕ → List ℕ → NamingState → NamingState
 without_entry_key region key s = with_rows (with_row region (remove_key (is_at (text_cmp key)) (row_at region s.rows)) s.rows) s
+
+-- the regions rise by index, each row has a key, and the keys of a row rise by text
+pub record AreEntryRows (rows : EntryRows) : Type 0 where
+  pub regions : IsStrictlySortedBy nat_cmp (keys_of rows)
+  pub some : All (λ keys. 0 < length keys) (values_of rows)
+  pub rise : All (IsStrictlySortedBy text_cmp) (values_of rows)
 
 -- another text stands there
 abbrev pub is_other : List ℕ → Option (List ℕ) → Bool
