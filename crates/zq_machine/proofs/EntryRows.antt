@@ -29,8 +29,8 @@ use Rattle.zq_machine.proofs.Foreign.{listed}
 use Rattle.zq_machine.proofs.Worded.{Any, Each, each_in}
 use Rattle.zq_message.specs.Region.{region_index}
 
-abbrev pub InOrder : {X : Type 0} → List (ℕ × X) → Type 0
-InOrder es = IsStrictlySortedBy nat_cmp (keys_of es)
+abbrev pub AreInOrder : {X : Type 0} → List (ℕ × X) → Type 0
+AreInOrder es = IsStrictlySortedBy nat_cmp (keys_of es)
 
 -- ---- keys of one region
 some_keys : (ks : List (List ℕ)) → cond (has_keys ks) (Some ks) None ≡ if_any ks
@@ -58,9 +58,9 @@ picked (e ∷ es) = by (keys_of e.1.entries) (picked es)
     by [] ih = ih
     by (k ∷ ks) ih = ap (λ l. (e.0, k ∷ ks) ∷ l) ih
 
-module _ (hats : List (ℕ × HatState)) (sorted : InOrder hats) where
-  pub rows_sorted : InOrder (entry_rows hats)
-  rows_sorted = subst (λ (l : EntryRows). InOrder l) (sym (picked hats)) (sorted_picked nat_cmp (λ e. e.0) (λ e. row_of e.1) hats sorted)
+module _ (hats : List (ℕ × HatState)) (sorted : AreInOrder hats) where
+  pub rows_sorted : AreInOrder (entry_rows hats)
+  rows_sorted = subst (λ (l : EntryRows). AreInOrder l) (sym (picked hats)) (sorted_picked nat_cmp (λ e. e.0) (λ e. row_of e.1) hats sorted)
 
   pub rows_found : (k : ℕ) → at k (entry_rows hats) ≡ option_and_then row_of (at k hats)
   rows_found k =
@@ -85,7 +85,7 @@ module _ (hats : List (ℕ × HatState)) (sorted : InOrder hats) where
   row_is k h there = ap (λ o. unwrap_or o []) (rows_found k ∙ ap (option_and_then row_of) there) ∙ or_none (keys_of h.entries)
 
 -- hats with the same entries have the same rows
-pub rows_alike : (a b : List (ℕ × HatState)) → InOrder a → InOrder b → ((k : ℕ) → option_map listed (at k a) ≡ option_map listed (at k b)) → entry_rows a ≡ entry_rows b
+pub rows_alike : (a b : List (ℕ × HatState)) → AreInOrder a → AreInOrder b → ((k : ℕ) → option_map listed (at k a) ≡ option_map listed (at k b)) → entry_rows a ≡ entry_rows b
 rows_alike a b first second same =
     same_entries nat_cmp_total exact_unsigned (entry_rows a) (entry_rows b) (rows_sorted a first) (rows_sorted b second)
     (λ k. rows_found a first k ∙ view (at k a) ∙ ap (option_and_then keys_if) (same k) ∙ sym (view (at k b)) ∙ sym (rows_found b second k))
@@ -95,12 +95,12 @@ rows_alike a b first second same =
     view (Some h) = refl
 
 -- ---- one row is changed
-module _ (region : ℕ) (rows : EntryRows) (sorted : InOrder rows) where
+module _ (region : ℕ) (rows : EntryRows) (sorted : AreInOrder rows) where
   pub row_found : (ks : List (List ℕ)) (k : ℕ) → at k (with_row region ks rows) ≡ cond (is_at (nat_cmp region) k) (if_any ks) (at k rows)
   row_found [] k = found_after_removal nat_cmp_total exact_unsigned region k rows sorted
   row_found (t ∷ ks) k = found_after_insertion nat_cmp_total exact_unsigned region k (t ∷ ks) rows
 
-  pub row_sorted : (ks : List (List ℕ)) → InOrder (with_row region ks rows)
+  pub row_sorted : (ks : List (List ℕ)) → AreInOrder (with_row region ks rows)
   row_sorted [] = sorted_out nat_cmp (is_at (nat_cmp region)) rows sorted
   row_sorted (t ∷ ks) = sorted_in nat_cmp_total rows region (t ∷ ks) sorted
 
@@ -114,9 +114,9 @@ module _ (region : ℕ) (rows : EntryRows) (sorted : InOrder rows) where
   row_with ks = ap (λ o. unwrap_or o []) (row_here ks) ∙ or_none ks
 
 -- the last change counts
-pub row_twice : (region : ℕ) (rows : EntryRows) → InOrder rows → (ks ls : List (List ℕ)) → with_row region ls (with_row region ks rows) ≡ with_row region ls rows
+pub row_twice : (region : ℕ) (rows : EntryRows) → AreInOrder rows → (ks ls : List (List ℕ)) → with_row region ls (with_row region ks rows) ≡ with_row region ls rows
 row_twice region rows sorted ks ls =
-    let once : InOrder (with_row region ks rows) = row_sorted region rows sorted ks in
+    let once : AreInOrder (with_row region ks rows) = row_sorted region rows sorted ks in
     same_entries nat_cmp_total exact_unsigned (with_row region ls (with_row region ks rows)) (with_row region ls rows) (row_sorted region (with_row region ks rows) once ls) (row_sorted region rows sorted ls)
     (λ k. row_found region (with_row region ks rows) once ls k ∙ ap (cond (is_at (nat_cmp region) k) (if_any ls)) (row_found region rows sorted ks k) ∙ by k (is_at (nat_cmp region) k) ∙ sym (row_found region rows sorted ls k))
   where
@@ -125,7 +125,7 @@ row_twice region rows sorted ks ls =
     by k false = refl
 
 -- a row that is put in its own place changes nothing
-pub row_same : (region : ℕ) (rows : EntryRows) → InOrder rows → (at region rows ≡ Some [] → ⊥) → with_row region (row_at region rows) rows ≡ rows
+pub row_same : (region : ℕ) (rows : EntryRows) → AreInOrder rows → (at region rows ≡ Some [] → ⊥) → with_row region (row_at region rows) rows ≡ rows
 row_same region rows sorted used =
     same_entries nat_cmp_total exact_unsigned (with_row region (row_at region rows) rows) rows (row_sorted region rows sorted (row_at region rows)) sorted
     (λ k. row_found region rows sorted (row_at region rows) k ∙ by k (is_at (nat_cmp region) k) refl)
@@ -140,11 +140,11 @@ row_same region rows sorted used =
     by k false e = refl
 
 -- ---- one hat is changed
-pub rows_put : (r : ℕ) (hats : List (ℕ × HatState)) (h new : HatState) → InOrder hats → at r hats ≡ Some h → entry_rows (set_value (is_at (nat_cmp r)) hats new) ≡ with_row r (keys_of new.entries) (entry_rows hats)
+pub rows_put : (r : ℕ) (hats : List (ℕ × HatState)) (h new : HatState) → AreInOrder hats → at r hats ≡ Some h → entry_rows (set_value (is_at (nat_cmp r)) hats new) ≡ with_row r (keys_of new.entries) (entry_rows hats)
 rows_put r hats h new sorted there =
     let after = set_value (is_at (nat_cmp r)) hats new in
-    let in_order : InOrder after = sorted_write nat_cmp (is_at (nat_cmp r)) new hats sorted in
-    let rows : InOrder (entry_rows hats) = rows_sorted hats sorted in
+    let in_order : AreInOrder after = sorted_write nat_cmp (is_at (nat_cmp r)) new hats sorted in
+    let rows : AreInOrder (entry_rows hats) = rows_sorted hats sorted in
     same_entries nat_cmp_total exact_unsigned (entry_rows after) (with_row r (keys_of new.entries) (entry_rows hats)) (rows_sorted after in_order) (row_sorted r (entry_rows hats) rows (keys_of new.entries))
     (λ k.
     rows_found after in_order k

@@ -48,6 +48,7 @@ pub mod DueMoved
 pub mod Worded
 pub mod Foreign
 pub mod EntryRows
+pub mod EntryKeys
 pub mod Rows
 pub mod DueHeard
 pub mod NeighboursTold

@@ -179,7 +179,7 @@ module _ (config : Settings) (gates : Gates) (next : ℕ) (gated : Gated gates n
       gate_here = gates_are n ∙ ap (λ b. cond b (gate_for o) (gate_at n gates)) (sym (number_test n n) ∙ itself n)
 
       here : now n ≡ Some (newly_opened told n o)
-      here = (whole n (opened o) no_keys (new_face (seat n o) told) (with_gate n (gate_for o) gates) _ _ _
+      here = (whole n (opened o) no_keys (new_face (seat n o) told) (with_gate n (gate_for o) gates) _ _ (opened_naming n names)
           (in_faces faces hats names t n o absent has n ∙ ap (λ b. cond b (Some (opened o)) (at n faces)) (itself n))
           (in_names faces hats names t n o absent has n ∙ ap (λ b. cond b (Some no_keys) (naming_at n names)) (itself n))
           kept_new)
