@@ -60,7 +60,7 @@ pub struct HeldAll {
 }
 
 // The node of a key is held. Answers whether it was not held so before.
-fn hold(names: &mut Naming, by: &Hold<'_>) -> Result<bool, OutOfMemory>
+fn take_hold(names: &mut Naming, by: &Hold<'_>) -> Result<bool, OutOfMemory>
     requires { CanHold by.now }
     ensures fresh { IfOk result (λ b. b ≡ holds_first by.now names.old) }
     ensures ok { OnOk result (names.new ≡ held by.now names.old) }
@@ -120,7 +120,7 @@ pub fn hold_and_tell<K: WantsKeys>(
     ensures free { OnOk result (lacks_ids Update (ears_of ears.old) dues.now ≡ false) }
     ensures no_free { IsErrOf result TellRefusal.NoFreeId → lacks_ids Update (ears_of ears.old) dues.now ≡ true }
 {
-    let fresh = match hold(names, by) {
+    let fresh = match take_hold(names, by) {
         Ok(fresh) => fresh,
         Err(_) => return Err(TellRefusal::OutOfMemory),
     };
