@@ -3,3 +3,5 @@ pub mod Gathering
 pub mod Making
 pub mod Requesting
 pub mod Routing
+pub mod Entries
+pub mod Contexts
