@@ -15,6 +15,8 @@ ghost use Rattle.zq_machine.specs.State.{opening_state};
 ghost use Rattle.zq_gateway.specs.Making.{Performs, MayPerform};
 ghost use Rattle.zq_hat.specs.Sourced.{all_queriers, all_queryables};
 
+mod deadline;
+
 use crate::tables::Tables;
 use std::alloc::Global;
 use std::marker::Model;
