@@ -1,5 +1,7 @@
 pub mod Asking
 pub mod Beside
+pub mod Crossing
+pub mod Deadlines
 pub mod Due
 pub mod Elsewhere
 pub mod Entering

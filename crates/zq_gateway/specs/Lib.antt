@@ -1,4 +1,5 @@
 pub mod Asking
+pub mod Deadline
 pub mod Gathering
 pub mod Making
 pub mod Requesting

@@ -17,6 +17,8 @@ ghost use Rattle.zq_gateway.specs.Contexts.{has_standing};
 ghost use Rattle.zq_gateway.specs.Making.{Performs, MayPerform};
 ghost use Rattle.zq_hat.specs.Sourced.{all_queriers, all_queryables};
 
+mod deadline;
+
 use crate::tables::Tables;
 use std::alloc::Global;
 use std::marker::Model;
