@@ -92,7 +92,11 @@ fn release(names: &mut Naming, by: &Hold<'_>, fresh: bool)
     }
     match *by {
         Hold::Queryable { face, id, key: _ } => names.release_queryable(face, id),
-        Hold::Entry { region, key, info: _ } => names.release_entry(&region, key.as_str()),
+        Hold::Entry {
+            region,
+            key,
+            info: _,
+        } => names.release_entry(&region, key.as_str()),
     }
 }
 

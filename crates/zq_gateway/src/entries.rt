@@ -24,12 +24,7 @@ pub(crate) fn release_gone(names: &mut Naming, hats: &RegionMap<Hat>, region: Re
 }
 
 /// The same of each of these keys.
-pub(crate) fn release_each(
-    names: &mut Naming,
-    hats: &RegionMap<Hat>,
-    region: Region,
-    keys: &[Text],
-)
+pub(crate) fn release_each(names: &mut Naming, hats: &RegionMap<Hat>, region: Region, keys: &[Text])
     requires { is_some (hat_at region hats.now) ≡ true }
     ensures { names.new ≡ fold (without_gone region hats.now) names.old keys.now }
 {

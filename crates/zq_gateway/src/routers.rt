@@ -172,7 +172,12 @@ impl Tables {
             entry.info,
         ) {
             Ok(exits) => {
-                release_gone(&mut self.names, &self.hats, entry.region, entry.key.as_str());
+                release_gone(
+                    &mut self.names,
+                    &self.hats,
+                    entry.region,
+                    entry.key.as_str(),
+                );
                 Ok(done_telling(&mut self.ears, &mut self.gates, all.told, exits))
             }
             Err(_) => {
