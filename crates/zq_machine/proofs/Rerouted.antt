@@ -1,5 +1,5 @@
 -- The keys of routers' entries among what stands for keys follow the hats: one comes with the first entry on it, and goes with the last.
-use Rattle.std.proofs.Common.{◌≡◌, ◌∙◌, refl, sym, ap, subst, ℕ, Bool, true, false, List, [], ◌∷◌, fold, Some}
+use Rattle.std.proofs.Common.{◌≡◌, ◌∙◌, sym, ap, subst, ℕ, true, false, List, [], ◌∷◌, fold, Some}
 use Rattle.std.specs.Prelude.{◌&&◌, not}
 use Rattle.std.specs.Map.{keys_of}
 use Rattle.std.specs.BTreeMap.{is_at}

@@ -9,7 +9,6 @@ use Rattle.zq_message.specs.declared.message.DeclareBody.TheVariants as body
 use Rattle.zq_message.specs.declared.message.FaceId.{FaceId}
 use Rattle.zq_message.specs.declared.message.Message.{Message}
 use Rattle.zq_message.specs.declared.message.Message.TheVariants as message
-use Rattle.zq_message.specs.declared.message.WireExpr.{WireExpr}
 use Rattle.zq_names.specs.Texts.{nonwild, text_cmp}
 use Rattle.zq_tables.specs.declared.decl.DeclKey.{DeclKey}
 use Rattle.zq_tables.specs.Naming.{EntryRows, FaceKeys, NamingState, change_naming, face_naming, naming_at, plain, put_naming, row_at, with_entry_key, with_row, with_rows, with_told_number, without_entry_key}
