@@ -154,9 +154,7 @@ impl<'a> Asker<'a> {
     {
         let test = |offer: &QueryTargetQabl| -> bool
             ensures { result ≡ passes (asker_of self.entry.now) offer.now }
-        {
-            self.passes(offer)
-        };
+        { self.passes(offer) };
         take_final_route(target, route, offers, test)
     }
 
@@ -190,9 +188,7 @@ impl<'a> Asker<'a> {
         let mut route = RouteBuilder::new(alloc);
         let test = |offer: &QueryTargetQabl| -> bool
             ensures { result ≡ passes (asker_of self.entry.now) offer.now }
-        {
-            self.passes(offer)
-        };
+        { self.passes(offer) };
         take_best_overall(alloc, &mut route, offers, test)?;
         Ok(route)
     }

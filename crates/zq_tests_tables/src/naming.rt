@@ -199,11 +199,7 @@ fn region_of(row: &Row<'_>) -> Region {
 }
 
 // Whether what is done with a router's entry comes out as it must.
-fn entry_comes_out(
-    names: &mut Naming,
-    alloc: Global,
-    row: &Row<'_>,
-) -> Result<bool, OutOfMemory> {
+fn entry_comes_out(names: &mut Naming, alloc: Global, row: &Row<'_>) -> Result<bool, OutOfMemory> {
     let region = region_of(row);
     match row.deed {
         "leave" => {
