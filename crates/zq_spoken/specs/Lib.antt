@@ -1,0 +1,4 @@
+pub mod Keys
+pub mod Line
+pub mod Speaker
+pub mod Talk
