@@ -193,7 +193,7 @@ class Speaker:
     """What is spoken to by lines. Threads may share it: a lock lets one call in at a time."""
 
     def __init__(self, opens, head):
-        self._lock, self._inside, self._handle = threading.Lock(), None, _Handle()
+        self._lock, self._busy, self._handle = threading.RLock(), False, _Handle()
         self._len, self._out = _size(), ctypes.create_string_buffer(4096)
         head, bad = _raw(head), ctypes.c_uint64()
         status = opens(head, len(head), ctypes.byref(self._handle), ctypes.byref(bad))
@@ -207,14 +207,14 @@ class Speaker:
         return known.get(status, Error)(*([] if status in known else [f'status {status}']))
 
     def _enter(self):
-        me = threading.get_ident()
-        if self._inside == me:
-            raise Busy
         self._lock.acquire()
-        self._inside = me
+        if self._busy:
+            self._lock.release()
+            raise Busy
+        self._busy = True
 
     def _leave(self):
-        self._inside = None
+        self._busy = False
         self._lock.release()
 
     def _given(self, status, line=b''):

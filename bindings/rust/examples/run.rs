@@ -18,8 +18,8 @@ fn lines(script: &[u8]) -> (Vec<&[u8]>, usize) {
     (lines, heads)
 }
 
-/// All prints, or the number of the bad line.
-fn run(script: &[u8], storages: bool, out: &mut Vec<u8>) -> Result<u64, u64> {
+/// All prints, or the number of the bad line. Each print is read as a step, where that is wanted.
+fn run(script: &[u8], storages: bool, reads: bool, out: &mut Vec<u8>) -> Result<u64, u64> {
     let (lines, heads) = lines(script);
     let heads = if storages { 0 } else { heads };
     let opened = if storages { Speaker::bus(LOAD) } else { Speaker::gateway(&lines[..heads].join(&b'\n')) };
@@ -32,8 +32,8 @@ fn run(script: &[u8], storages: bool, out: &mut Vec<u8>) -> Result<u64, u64> {
             Err(Fault::BadLine(_)) => return Err(number as u64 + 1),
             print => out.extend_from_slice(print.expect("there is memory")),
         }
-        if !storages {
-            debug_assert!(Step::read(speaker.print().expect("it was printed")).is_some());
+        if reads && !storages {
+            assert!(Step::read(speaker.print().expect("it was printed")).is_some());
         }
     }
     Ok((lines.len() - heads) as u64)
@@ -45,7 +45,7 @@ fn main() -> std::io::Result<()> {
     let script = std::fs::read(words.last().expect("a script"))?;
     let mut out = Vec::new();
     let begun = Instant::now();
-    match run(&script, has("-s"), &mut out) {
+    match run(&script, has("-s"), !has("-t"), &mut out) {
         Ok(calls) if has("-t") => {
             let s = begun.elapsed().as_secs_f64();
             println!("Rust: {calls} calls, {} bytes, {s:.3} s, {:.0} calls a second", out.len(), calls as f64 / s);
