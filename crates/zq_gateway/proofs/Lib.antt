@@ -5,6 +5,8 @@ pub mod Deadlines
 pub mod Due
 pub mod Elsewhere
 pub mod Entering
+pub mod EntryKeys
+pub mod Contexts
 pub mod GoneOut
 pub mod Hearing
 pub mod Networked

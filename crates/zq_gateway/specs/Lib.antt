@@ -4,3 +4,5 @@ pub mod Gathering
 pub mod Making
 pub mod Requesting
 pub mod Routing
+pub mod Entries
+pub mod Contexts
