@@ -1,5 +1,5 @@
 -- What C is told.
-use Rattle.std.specs.Prelude.{◌≡◌, ◌<◌, ◌++◌, ℕ, Bool, List, Option, Some, None, drop, length}
+use Rattle.std.specs.Prelude.{◌≡◌, ◌<◌, ◌≤◌, ◌⊎◌, ◌++◌, ℕ, Bool, List, Option, Some, None, drop, length}
 use Rattle.zq_spoken.specs.declared.speaker.Speaker.{Speaker}
 use Rattle.zq_spoken.specs.Speaker.{print_of}
 
@@ -23,3 +23,7 @@ IsShort (Some s) len room out = (len ≡ length (print_of s)) × (length room < 
 abbrev pub IsAsked : Option Bool → Bool → ℕ → Type 0
 IsAsked None told status = status ≡ 8
 IsAsked (Some is) told status = (status ≡ 0) × (told ≡ is)
+
+-- a status of an opening, but that a handle has something already: 0 to 2, 10 and 11
+abbrev pub IsOpeningStatus : ℕ → Type 0
+IsOpeningStatus status = (status ≤ 2) ⊎ ((status ≡ 10) ⊎ (status ≡ 11))

@@ -14,34 +14,35 @@ mod speaking;
 mod status;
 
 ghost use Rattle.std.specs.Prelude.{◌≡◌, ◌≢◌, ◌≤◌, ◌↔◌, ◌⊎◌, List, Some, None, Ok, Err, IfOk, IsSome, IsSomeAnd};
-ghost use Rattle.zq_c.specs.Told.{Becomes, IsAsked, IsGiven, IsShort};
-ghost use Rattle.zq_lines.specs.Split.{lines_of};
+ghost use Rattle.zq_c.specs.Told.{Becomes, IsAsked, IsGiven, IsOpeningStatus, IsShort};
 ghost use Rattle.zq_machine.specs.declared.call.Call.{Call};
 ghost use Rattle.zq_machine.specs.Headline.{RunPromise};
-ghost use Rattle.zq_script.specs.Head.{head_of};
 ghost use Rattle.zq_spoken.specs.Keys.{including, meeting};
-ghost use Rattle.zq_spoken.specs.Speaker.{Answers, IsNext, IsNoLine, IsUnprinted, Tells, opens_gateway, printed};
+ghost use Rattle.zq_spoken.specs.Opening.{config_of};
+ghost use Rattle.zq_spoken.specs.Speaker.{Answers, IsNext, IsNoLine, IsSpentBus, IsUnprinted, Tells, opens_bus, opens_gateway, printed};
 
 use grip::Handle;
 use speaking::{give, print_again, speak};
-use status::{BAD_KEY, BAD_LINE, CLOSED, IN_USE, NO_MEMORY, NOTHING, OK};
+use status::{BAD_KEY, BAD_LINE, CLOSED, IN_USE, NO_FREE_ID, NO_LOCAL, NO_MEMORY, NOTHING, OK};
 use std::alloc::Global;
-use zq_script::refusal::ScriptRefusal;
 use zq_spoken::keys::{key_includes, keys_meet};
+use zq_spoken::refusal::OpenRefusal;
 use zq_spoken::speaker::Speaker;
 
 /// Puts what was opened into a handle that has nothing, or says why nothing was.
 fn put_opened(
     alloc: Global,
-    opened: Result<Speaker, ScriptRefusal>,
+    opened: Result<Speaker, OpenRefusal>,
     handle: &mut Handle,
     bad_line: &mut u64,
 ) -> u32
     requires { handle.old.owned.value ≡ None }
     ensures ok { result ≡ 0 → IsSomeAnd handle.new.owned.value (λ s. opened ≡ Ok s) }
-    ensures bad { result ≡ 1 → opened ≡ Err (ScriptRefusal.BadLine bad_line.new) }
+    ensures bad { result ≡ 1 → opened ≡ Err (OpenRefusal.BadLine bad_line.new) }
+    ensures no_local { result ≡ 10 → opened ≡ Err OpenRefusal.NoLocal }
+    ensures no_free_id { result ≡ 11 → opened ≡ Err OpenRefusal.NoFreeId }
     ensures kept { result ≢ 0 → handle.new.owned.value ≡ None }
-    ensures range { result ≤ 2 }
+    ensures range { IsOpeningStatus result }
 {
     match opened {
         Ok(speaker) => match Box::new(alloc, speaker) {
@@ -51,11 +52,13 @@ fn put_opened(
             }
             Err(_) => NO_MEMORY,
         },
-        Err(ScriptRefusal::BadLine(number)) => {
+        Err(OpenRefusal::BadLine(number)) => {
             *bad_line = number;
             BAD_LINE
         }
-        Err(ScriptRefusal::OutOfMemory) => NO_MEMORY,
+        Err(OpenRefusal::NoLocal) => NO_LOCAL,
+        Err(OpenRefusal::NoFreeId) => NO_FREE_ID,
+        Err(OpenRefusal::OutOfMemory) => NO_MEMORY,
     }
 }
 
@@ -69,16 +72,38 @@ pub extern "C" fn zq_proved_open(
     bad_line: &mut u64,
 ) -> u32
     ensures ok { result ≡ 0 → IsSomeAnd handle.new.owned.value (λ s. opens_gateway head.now ≡ Ok s) }
-    ensures headline { result ≡ 0 → IfOk (head_of (lines_of head.now)) (λ h. (calls : List Call) → RunPromise h.0 calls) }
-    ensures bad { result ≡ 1 → opens_gateway head.now ≡ Err bad_line.new }
+    ensures headline { result ≡ 0 → IfOk (config_of head.now) (λ c. (calls : List Call) → RunPromise c calls) }
+    ensures bad { result ≡ 1 → opens_gateway head.now ≡ Err (OpenRefusal.BadLine bad_line.new) }
     ensures in_use { (result ≡ 6) ↔ IsSome handle.old.owned.value }
     ensures kept { result ≢ 0 → handle.new.owned.value ≡ handle.old.owned.value }
-    ensures range { (result ≤ 2) ⊎ (result ≡ 6) }
+    ensures range { IsOpeningStatus result ⊎ (result ≡ 6) }
 {
     if handle.is_live() {
         return IN_USE;
     }
     put_opened(alloc, Speaker::open_gateway(alloc, head), handle, bad_line)
+}
+
+/// Makes a bus without storages of such lines, and puts it into a handle that has nothing.
+#[unsafe(no_mangle)]
+pub extern "C" fn zq_proved_open_bus(
+    alloc: Global,
+    head: &[u8],
+    handle: &mut Handle,
+    bad_line: &mut u64,
+) -> u32
+    ensures ok { result ≡ 0 → IsSomeAnd handle.new.owned.value (λ s. opens_bus head.now ≡ Ok s) }
+    ensures bad { result ≡ 1 → opens_bus head.now ≡ Err (OpenRefusal.BadLine bad_line.new) }
+    ensures no_local { result ≡ 10 → opens_bus head.now ≡ Err OpenRefusal.NoLocal }
+    ensures no_free_id { result ≡ 11 → opens_bus head.now ≡ Err OpenRefusal.NoFreeId }
+    ensures in_use { (result ≡ 6) ↔ IsSome handle.old.owned.value }
+    ensures kept { result ≢ 0 → handle.new.owned.value ≡ handle.old.owned.value }
+    ensures range { IsOpeningStatus result ⊎ (result ≡ 6) }
+{
+    if handle.is_live() {
+        return IN_USE;
+    }
+    put_opened(alloc, Speaker::open_bus(alloc, head), handle, bad_line)
 }
 
 /// Does what a line says, and copies the print of what comes of it to `out`, where there is room for
@@ -98,8 +123,9 @@ pub extern "C" fn zq_proved_call(
     ensures short { result ≡ 4 → Becomes handle.old.owned.value handle.new.owned.value (λ s t. Tells s t line.now) }
     ensures room { result ≡ 4 → IsShort handle.new.owned.value len.new out.old out.new }
     ensures closed { (result ≡ 5) ↔ (handle.old.owned.value ≡ None) }
+    ensures spent { result ≡ 9 → Becomes handle.old.owned.value handle.new.owned.value IsSpentBus }
     ensures kept { (result ≡ 1) ⊎ ((result ≡ 2) ⊎ (result ≡ 5)) → handle.new.owned.value ≡ handle.old.owned.value }
-    ensures range { result ≤ 5 }
+    ensures range { (result ≤ 5) ⊎ (result ≡ 9) }
 {
     let Some(mut speaker) = handle.take(alloc) else {
         return CLOSED;

@@ -1,8 +1,8 @@
 //! What a line is answered.
 ghost use Rattle.std.specs.Prelude.{◌≡◌, ◌≤◌, ◌<◌, ◌++◌, ◌⊎◌, length, drop, true, false};
-ghost use Rattle.zq_spoken.specs.Speaker.{Answers, IsNoLine, IsUnprinted, Tells, print_of, printed};
+ghost use Rattle.zq_spoken.specs.Speaker.{Answers, IsNoLine, IsSpentBus, IsUnprinted, Tells, print_of, printed};
 
-use crate::status::{BAD_LINE, NO_MEMORY, OK, SHORT, UNPRINTED};
+use crate::status::{BAD_LINE, NO_MEMORY, OK, SHORT, SPENT, UNPRINTED};
 use std::alloc::Global;
 use zq_spoken::refusal::LineRefusal;
 use zq_spoken::speaker::Speaker;
@@ -14,7 +14,8 @@ pub fn speak(alloc: Global, speaker: &mut Speaker, line: &[u8]) -> u32
     ensures bad { result ≡ 1 → IsNoLine speaker.old line.now }
     ensures kept { (result ≡ 1) ⊎ (result ≡ 2) → speaker.new ≡ speaker.old }
     ensures unprinted { result ≡ 3 → Answers speaker.old speaker.new line.now }
-    ensures range { result ≤ 3 }
+    ensures spent { result ≡ 9 → IsSpentBus speaker.old speaker.new }
+    ensures range { (result ≤ 3) ⊎ (result ≡ 9) }
 {
     match speaker.call(alloc, line) {
         Ok(()) => match speaker.write() {
@@ -23,6 +24,7 @@ pub fn speak(alloc: Global, speaker: &mut Speaker, line: &[u8]) -> u32
         },
         Err(LineRefusal::Bad) => BAD_LINE,
         Err(LineRefusal::OutOfMemory) => NO_MEMORY,
+        Err(LineRefusal::Spent) => SPENT,
     }
 }
 

@@ -18,3 +18,9 @@ pub const IN_USE: u32 = 6;
 pub const NOTHING: u32 = 7;
 /// A text is no key.
 pub const BAD_KEY: u32 = 8;
+/// No memory was found amid a line of a bus: it joins and gets no more.
+pub const SPENT: u32 = 9;
+/// The configuration of a bus lacks Local.
+pub const NO_LOCAL: u32 = 10;
+/// No number is left for a face of a bus.
+pub const NO_FREE_ID: u32 = 11;

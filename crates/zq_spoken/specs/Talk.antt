@@ -1,12 +1,13 @@
 -- A gateway that is spoken to by lines.
-use Rattle.std.specs.Prelude.{◌≡◌, ℕ, List, [], ◌∷◌, Option, Some, None, Result, Ok, Err}
+use Rattle.std.specs.Prelude.{◌≡◌, ℕ, List, [], Option, Some, None, Result, Ok}
 use Rattle.zq_machine.specs.declared.call.Call.{Call}
 use Rattle.zq_machine.specs.declared.call.Step.{Step}
+use Rattle.zq_machine.specs.Configs.{Settings}
 use Rattle.zq_machine.specs.Machine.{after, step}
 use Rattle.zq_machine.specs.State.{State, opening_state}
-use Rattle.zq_lines.specs.Split.{lines_of}
 use Rattle.zq_lines.specs.Steps.{step_words}
-use Rattle.zq_script.specs.Head.{Head, head_of}
+use Rattle.zq_spoken.specs.Opening.{bind_config}
+use Rattle.zq_spoken.specs.declared.refusal.OpenRefusal.{OpenRefusal}
 
 -- the gateway's state; the step of its last call while that is not printed; and what was printed last
 pub record Spoken : Type 0 where
@@ -18,19 +19,13 @@ pub record Spoken : Type 0 where
 abbrev pub fresh : State → Spoken
 fresh s = record { state = s; step = None; print = [] }
 
--- a head, and the lines behind it, of which any is bad
-abbrev pub opened_by : Head → List (List ℕ) → Result Spoken ℕ
-opened_by head [] = Ok (fresh (opening_state head.0))
-opened_by head (line ∷ lines) = Err head.2
+-- the gateway of a configuration
+abbrev pub opened : Settings → Result Spoken OpenRefusal
+opened config = Ok (fresh (opening_state config))
 
--- what is opened by a head, or the number of its bad line
-abbrev pub opened : Result Head ℕ → Result Spoken ℕ
-opened (Ok head) = opened_by head head.3
-opened (Err n) = Err n
-
--- what these bytes open: they are the lines of a script before its calls, and no other
-abbrev pub opens : List ℕ → Result Spoken ℕ
-opens bytes = opened (head_of (lines_of bytes))
+-- the gateway that these bytes open: they are the lines of a script before its calls, and no other
+abbrev pub opens : List ℕ → Result Spoken OpenRefusal
+opens bytes = bind_config bytes opened
 
 -- a call was made, and its step is not printed yet
 pub record Answered (s then : Spoken) (c : Call) : Type 0 where

@@ -1,31 +1,28 @@
 //! A gateway that is spoken to by lines, and the step of its last call.
-ghost use Rattle.std.specs.Prelude.{◌≡◌, ◌<◌, ◌++◌, [], List, None, Some, Err, IfOk, IsTrue, OnOk, OnErr, IsSomeAnd, length, drop, true, false};
+ghost use Rattle.std.specs.Prelude.{◌≡◌, List, None, Some, Err, IfOk, OnOk, OnErr, IsSomeAnd};
 ghost use Rattle.zq_gateway.specs.Deadline.{IsNextDeadline};
-ghost use Rattle.zq_lines.specs.Split.{lines_of};
+ghost use Rattle.zq_io.specs.Words.{Reads};
+ghost use Rattle.zq_io.specs.declared.stop.Stop.TheVariants as stop;
 ghost use Rattle.zq_machine.specs.declared.call.Call.{Call};
 ghost use Rattle.zq_machine.specs.Headline.{RunPromise};
 ghost use Rattle.zq_machine.specs.Machine.{after, step};
 ghost use Rattle.zq_machine.specs.State.{opening_state};
-ghost use Rattle.zq_script.specs.Head.{head_of};
-ghost use Rattle.zq_script.specs.Script.{Gives};
 ghost use Rattle.zq_spoken.specs.Line.{said};
+ghost use Rattle.zq_spoken.specs.Opening.{Opens, config_of};
 ghost use Rattle.zq_spoken.specs.Talk.{Answered, fresh, opens, printed};
-ghost use Rattle.zq_spoken.specs.declared.refusal.LineRefusal.TheVariants as refusal;
 
 use crate::line::is_line;
-use crate::refusal::LineRefusal;
+use crate::opening::config_of;
+use crate::refusal::OpenRefusal;
 use std::alloc::Global;
 use std::marker::Model;
 use zq_gateway::gateway::Gateway;
 use zq_io::stop::Stop;
 use zq_key::memory::OutOfMemory;
 use zq_lines::lines::call_of;
-use zq_lines::split::next_line;
 use zq_lines::steps::push_step;
 use zq_machine::call::{Call, Step};
 use zq_machine::config::Config;
-use zq_script::head::head_of;
-use zq_script::refusal::ScriptRefusal;
 
 /// A gateway that is spoken to by lines, the step of its last call while that is not printed, and the
 /// print of it once it is.
@@ -65,41 +62,24 @@ fn begun(alloc: Global, config: &Config) -> Result<Talk, OutOfMemory>
     })
 }
 
-/// Whether no line is left.
-fn at_end(rest: &[u8]) -> bool
-    ensures whole { result ≡ true → lines_of rest.now ≡ [] }
-    ensures more { result ≡ false → lines_of rest.now ≡ [] → ⊥ }
-{
-    next_line(rest).is_none()
-}
-
 /// The call that the bytes say, where they are one line.
-fn said(alloc: Global, bytes: &[u8]) -> Result<Call, LineRefusal>
-    ensures call { IfOk result (λ c. said bytes.now ≡ Some c) }
-    ensures bad { result ≡ Err refusal.Bad → said bytes.now ≡ None }
+fn said(alloc: Global, bytes: &[u8]) -> Result<Call, Stop>
+    ensures { Reads result (said bytes.now) }
 {
     if !is_line(bytes) {
-        return Err(LineRefusal::Bad);
+        return Err(Stop::Bad);
     }
-    match call_of(alloc, bytes) {
-        Ok(call) => Ok(call),
-        Err(Stop::Bad) => Err(LineRefusal::Bad),
-        Err(Stop::OutOfMemory) => Err(LineRefusal::OutOfMemory),
-    }
+    call_of(alloc, bytes)
 }
 
 impl Talk {
     /// A gateway of the configuration that a script's lines before its calls say. Whatever calls are
     /// made on it, one after another, each keeps the promises of a run.
-    #[tactic(auto, using(crate::proofs::Opened::opens_whole, crate::proofs::Opened::opens_more))]
-    pub fn open(alloc: Global, head: &[u8]) -> Result<Talk, ScriptRefusal>
-        ensures opened { Gives result (opens head.now) }
-        ensures headline { OnOk result (IfOk (head_of (lines_of head.now)) (λ h. (calls : List Call) → RunPromise h.0 calls)) }
+    pub fn open(alloc: Global, head: &[u8]) -> Result<Talk, OpenRefusal>
+        ensures opened { Opens result (opens head.now) }
+        ensures headline { OnOk result (IfOk (config_of head.now) (λ c. (calls : List Call) → RunPromise c calls)) }
     {
-        let (config, _, number, rest) = head_of(alloc, head)?;
-        if !at_end(rest) {
-            return Err(ScriptRefusal::BadLine(number));
-        }
+        let config = config_of(alloc, head)?;
         Ok(begun(alloc, &config)?)
     }
 
@@ -116,9 +96,9 @@ impl Talk {
 
     /// Makes the call that the bytes say, which are to be one line; its step is kept, and not printed
     /// yet. Where they are no call, or no memory is found, nothing changes.
-    pub fn call(&mut self, alloc: Global, line: &[u8]) -> Result<(), LineRefusal>
+    pub fn call(&mut self, alloc: Global, line: &[u8]) -> Result<(), Stop>
         ensures made { OnOk result (IsSomeAnd (said line.now) (λ c. Answered self.old self.new c)) }
-        ensures bad { result ≡ Err refusal.Bad → said line.now ≡ None }
+        ensures bad { result ≡ Err stop.Bad → said line.now ≡ None }
         ensures kept { OnErr result (self.new ≡ self.old) }
     {
         let call = said(alloc, line)?;

@@ -1,6 +1,5 @@
 use std::alloc::Global;
-use zq_script::refusal::ScriptRefusal;
-use zq_spoken::refusal::LineRefusal;
+use zq_spoken::refusal::{LineRefusal, OpenRefusal};
 use zq_spoken::{Speaker, key_includes, keys_meet};
 
 const HEAD: &str = "config 1 10000 north:client local\nstart 0 0 0 0 0\n";
@@ -37,7 +36,7 @@ fn has_print(alloc: Global, speaker: &mut Speaker, line: &str, print: Option<&st
 }
 
 #[test]
-fn what_lines_print(rt: HostRuntime) -> Result<(), ScriptRefusal> {
+fn what_lines_print(rt: HostRuntime) -> Result<(), OpenRefusal> {
     let alloc = rt.alloc();
     let mut speaker = Speaker::open_gateway(alloc, HEAD.as_bytes())?;
     assert_eq!(rt; speaker.next_deadline(), None);
@@ -49,6 +48,49 @@ fn what_lines_print(rt: HostRuntime) -> Result<(), ScriptRefusal> {
     }
     assert_eq!(rt; speaker.next_deadline(), None);
     Ok(())
+}
+
+/// Lines for storages, each with its print; None is a bad line.
+const STORED: [(&str, Option<&str>); 9] = [
+    ("storage demo/** c", Some("storage 0\n")),
+    ("put 0 demo/a v1", Some("done\n")),
+    ("put 0 demo/a -", Some("old v1\n")),
+    ("put 0 demo/b v2", Some("done\n")),
+    ("put 1 demo/a v1", Some("refused UnknownStore\n")),
+    ("put 0 demo//a v1", None),
+    ("get demo/* all", Some("demo/a -\ndemo/b v2\nend\n")),
+    ("delete 0 demo/b", Some("old v2\n")),
+    ("get demo/* all\n", None),
+];
+
+#[test]
+fn what_lines_for_storages_print(rt: HostRuntime) -> Result<(), OpenRefusal> {
+    let alloc = rt.alloc();
+    let mut speaker = Speaker::open_bus(alloc, HEAD.as_bytes())?;
+    for (line, print) in STORED {
+        assert!(rt; has_print(alloc, &mut speaker, line, print), "{line}");
+    }
+    assert_eq!(rt; speaker.next_deadline(), None);
+    Ok(())
+}
+
+#[test]
+fn which_heads_open_no_bus(rt: HostRuntime) {
+    let alloc = rt.alloc();
+    for (head, refusal) in [
+        ("config 1 10000 north:client", OpenRefusal::NoLocal),
+        (
+            "config 1 10000 north:client local\nstart 4294967295 0 0 0 0",
+            OpenRefusal::NoFreeId,
+        ),
+        (
+            "config 1 10000 north:client local\nstorage demo/** c",
+            OpenRefusal::BadLine(2),
+        ),
+    ] {
+        let opened = Speaker::open_bus(alloc, head.as_bytes());
+        assert_eq!(rt; opened.err(), Some(refusal), "{head}");
+    }
 }
 
 #[test]
@@ -65,11 +107,7 @@ fn which_heads_open(rt: HostRuntime) {
         ),
     ] {
         let opened = Speaker::open_gateway(alloc, head.as_bytes());
-        assert_eq!(rt;
-            opened.err(),
-            Some(ScriptRefusal::BadLine(number)),
-            "{head}"
-        );
+        assert_eq!(rt; opened.err(), Some(OpenRefusal::BadLine(number)), "{head}");
     }
 }
 
