@@ -10,4 +10,3 @@ pub mod Answered
 pub mod Lines
 pub mod Printing
 pub mod Running
-pub mod Promises
