@@ -19,7 +19,7 @@ overflow_add-next c =
     let asked = c.in_ok-asked.ensures ∙ (λ j. asked_of (c.as_slice-stores.ensures j) (c.as_slice.ensures j)) ∙ ap (asked_of i.stores) c.in_ok-handed.ensures.handed in
     let answers = c.in_ok-answers.ensures ∙ (λ j. answers_of (c.as_slice-stores.ensures j) key (c.as_slice-2.ensures j)) ∙ ap (answers_of i.stores key) asked in
     let free : get_refusal key b ≡ None = ap (get_refusal key) c.self.view_is ∙ c.requires.free in
-    let keyed : is_key key ≡ true = ap is_key (sym c.as_str-_text.ensures.text) ∙ c.as_str-_text.ensures.key in
+    let keyed : is_key key ≡ true = ap is_key (sym c.as_str-text.ensures.text) ∙ c.as_str-text.ensures.key in
     let fit : i.next_reply + length c.in_ok-answers.answers < 2 ^ 64 = subst (λ l. i.next_reply + length l < 2 ^ 64) (sym answers) (replies_fit b c.self.invariant key keyed target now free) in
     omega (arith, fit, c.len.ensures)
 
@@ -33,13 +33,13 @@ reply_all-requires c =
     let asked = c.in_ok-asked.ensures ∙ (λ j. asked_of (c.as_slice-stores.ensures j) (c.as_slice.ensures j)) ∙ ap (asked_of i.stores) c.in_ok-handed.ensures.handed in
     let answers = c.in_ok-answers.ensures ∙ (λ j. answers_of (c.as_slice-stores.ensures j) key (c.as_slice-2.ensures j)) ∙ ap (answers_of i.stores key) asked in
     let free : get_refusal key b ≡ None = ap (get_refusal key) c.self.view_is ∙ c.requires.free in
-    let keyed : is_key key ≡ true = ap is_key (sym c.as_str-_text.ensures.text) ∙ c.as_str-_text.ensures.key in
+    let keyed : is_key key ≡ true = ap is_key (sym c.as_str-text.ensures.text) ∙ c.as_str-text.ensures.key in
     let fit : i.next_reply + length c.in_ok-answers.answers < 2 ^ 64 = subst (λ l. i.next_reply + length l < 2 ^ 64) (sym answers) (replies_fit b c.self.invariant key keyed target now free) in
     let long = ap length c.as_slice-3.ensures in
     omega (arith, fit, long)
 
-pub invariant_of-self-6 : goal.invariant_of-self-6
-invariant_of-self-6 c =
+pub invariant_of-self-2 : goal.invariant_of-self-2
+invariant_of-self-2 c =
     let i = c.self.inside in
     let key = c.args.key.now in
     let target = c.args.target in
@@ -57,7 +57,7 @@ invariant_of-self-6 c =
     let free : get_refusal key b ≡ None = ap (get_refusal key) c.self.view_is ∙ c.requires.free in
     let left : ◌≡◌ {A = BusState} (record { gateway = c.end_all.new.gateway; asker = i.asker; next_face = i.next_face; next_request = i.next_request + 1; next_reply = i.next_reply + c.len.result; stores = i.stores; spent = false }) (after_get b key target now) =
         λ j. record { gateway = after j; asker = i.asker; next_face = i.next_face; next_request = i.next_request + 1; next_reply = i.next_reply + next j; stores = i.stores; spent = sym (not_spent b key free) j } in
-    let keyed : is_key key ≡ true = ap is_key (sym c.as_str-_text.ensures.text) ∙ c.as_str-_text.ensures.key in
+    let keyed : is_key key ≡ true = ap is_key (sym c.as_str-text.ensures.text) ∙ c.as_str-text.ensures.key in
     subst IsBus (sym left) (got_keeps b c.self.invariant key keyed target now free)
 
 pub returns-clause-ok : goal.returns-clause-ok
@@ -104,19 +104,19 @@ pub returns-clause-answered : goal.returns-clause-answered
 returns-clause-answered c =
     let key = c.args.key.now in
     let bus : IsBus c.args.self.now = subst IsBus c.self.view_is c.self.invariant in
-    let keyed : is_key key ≡ true = ap is_key (sym c.as_str-_text.ensures.text) ∙ c.as_str-_text.ensures.key in
+    let keyed : is_key key ≡ true = ap is_key (sym c.as_str-text.ensures.text) ∙ c.as_str-text.ensures.key in
     subst (IsAnswered key c.args.target c.args.self.now) (sym (returns-clause-ok c)) (answered c.args.self.now bus key keyed c.args.target c.args.now c.requires.free)
 
 pub returns-clause-all : goal.returns-clause-all
 returns-clause-all c =
     let key = c.args.key.now in
     let bus : IsBus c.args.self.now = subst IsBus c.self.view_is c.self.invariant in
-    let keyed : is_key key ≡ true = ap is_key (sym c.as_str-_text.ensures.text) ∙ c.as_str-_text.ensures.key in
+    let keyed : is_key key ≡ true = ap is_key (sym c.as_str-text.ensures.text) ∙ c.as_str-text.ensures.key in
     λ e. ap (λ (x : Got). x.replies) (returns-clause-ok c) ∙ answered_all c.args.self.now bus key keyed c.args.target c.args.now c.requires.free e
 
 pub returns-clause-ended : goal.returns-clause-ended
 returns-clause-ended c =
     let key = c.args.key.now in
     let bus : IsBus c.args.self.now = subst IsBus c.self.view_is c.self.invariant in
-    let keyed : is_key key ≡ true = ap is_key (sym c.as_str-_text.ensures.text) ∙ c.as_str-_text.ensures.key in
+    let keyed : is_key key ≡ true = ap is_key (sym c.as_str-text.ensures.text) ∙ c.as_str-text.ensures.key in
     subst IsServed (sym (returns-clause-new c)) (got_served c.args.self.now bus key keyed c.args.target c.args.now c.requires.free)
