@@ -7,3 +7,4 @@ pub mod Telling
 pub mod Unsent
 pub mod Selected
 pub mod Nearest
+pub mod EntryHeld

@@ -25,26 +25,28 @@ use Rattle.zq_query.specs.declared.records.ReplyTo.{ReplyTo}
 use Rattle.zq_query.specs.Closing.{at_face}
 use Rattle.zq_query.specs.Polling.{is_due, timeouts, timing_out}
 use Rattle.zq_query.specs.Records.{QueryState, is_entry, next_reply}
-use Rattle.zq_tables.specs.Naming.{NamingState, face_queryables, with_told_number, with_interest, without_interest}
+use Rattle.zq_tables.specs.Naming.{NamingState, face_queryables, with_name, with_queryable, with_rows, with_told_number, with_interest, without_interest, without_name, without_queryable}
 use Rattle.zq_machine.specs.declared.call.Call.{Call}
 use Rattle.zq_machine.specs.declared.config.Entry.{Entry}
 use Rattle.zq_machine.specs.declared.face.OpenFace.{OpenFace}
 use Rattle.zq_machine.specs.Agreeing.{Agrees, id_and_key, keys_in, stands_in}
 use Rattle.zq_machine.specs.Configs.{Settings, region_of, north_of}
-use Rattle.zq_machine.specs.Deciding.{accepted, after_replied, announced_by, causes, deadline, refusal_of, regated, retracted_by, targets}
+use Rattle.zq_machine.specs.Deciding.{accepted, after_replied, announced_by, causes, deadline, refusal_of, regated, renamed, retracted_by, targets}
 use Rattle.zq_machine.specs.Gates.{gate_for, leave_all}
 use Rattle.zq_machine.specs.Writing.{is_unsent}
 use Rattle.zq_machine.specs.Machine.{accepted_state, state_after}
 use Rattle.zq_machine.specs.Selecting.{full_text}
-use Rattle.zq_machine.specs.State.{State, at, change_hat, clashes_in, first_hats, hat_at, hat_of, is_open, is_region, opening_state, with_hat}
+use Rattle.zq_machine.specs.State.{State, at, change_hat, clashes_in, entry_rows, first_hats, hat_at, hat_of, is_open, is_region, opening_state, with_hat}
 use Rattle.zq_machine.specs.TextCalls.{TextCall, opening, closing, naming, unnaming, declaring, withdrawing, asking, replying, ending, reporting, passing, listing, finalizing, announcing, retracting, networking, tabling, hearing, unhearing, read}
-use Rattle.zq_machine.proofs.Agreeing.{Tied, declared_tied, marked_tied, named_tied, noded_tied, renamed_tied, same_faces_tied, some_of, unnamed_tied, withdrawn_tied}
+use Rattle.zq_machine.proofs.Agreeing.{Tied, declared_tied, marked_tied, named_tied, noded_tied, renamed_tied, rerouted_tied, same_faces_tied, some_of, unnamed_tied, withdrawn_tied}
 use Rattle.zq_machine.proofs.Changing.{hat_found, itself, number_test, region_there}
 use Rattle.zq_machine.proofs.Finals.{IsSound, granted_sound, is_there, none_sorted, opening_sound, unsent_sound}
 use Rattle.zq_machine.proofs.Gates.{Gated, gated_gone, gated_joined, gated_same, left_keys}
 use Rattle.zq_machine.proofs.Spaces.{ArePlain, accepted_plain, left_plain}
 use Rattle.zq_machine.proofs.Hats.{AreHatsOf, accepted_hats, opening_hats}
-use Rattle.zq_machine.proofs.Foreign.{AreForeign, accepted_foreign, opening_foreign}
+use Rattle.zq_machine.proofs.EntryRows.{first_rows, rows_alike}
+use Rattle.zq_machine.proofs.Rows.{rows_changed}
+use Rattle.zq_machine.proofs.Foreign.{AreForeign, accepted_foreign, entries_kept, of_routers, opening_foreign}
 use Rattle.zq_machine.proofs.Frame.{accepted_config}
 use Rattle.zq_machine.proofs.AskedKeys.{AllAskKeys, accepted_asked}
 use Rattle.zq_machine.proofs.Worded.{AreWorded, accepted_worded, opening_worded}
@@ -91,6 +93,9 @@ module _ (s : State) (i : IsSound s) (t : IsTied s) where
       → Tied faces (change_hat x.0.region f s.core.hats) names → Tied faces (hats_of f (at face s.core.faces)) names
   in_its_hat face f faces names x tied = subst (λ hats. Tied faces hats names) (sym (ap (hats_of f) x.1)) tied
 
+  with_their_rows : (hats : List (ℕ × HatState)) → Tied s.core.faces hats s.names → Tied s.core.faces hats (with_rows (entry_rows hats) s.names)
+  with_their_rows hats tied = rerouted_tied s.core.faces hats s.names tied (entry_rows hats)
+
   granted_tied : (x : TextCall) → refusal_of s.core x ≡ None → IsTied (accepted_state s x)
   granted_tied (opening o) h = opened_tied s.core.faces s.core.hats s.names t s.core.next_face o (next_absent s i) (is_there (is_some (hat_at o.region s.core.hats)) (all_passed (causes s.core (opening o)) h).0)
   granted_tied (closing face) h =
@@ -119,13 +124,14 @@ module _ (s : State) (i : IsSound s) (t : IsTied s) where
       in_its_hat face.0 (finalized face.0 m set) s.core.faces s.names x (marked_tied s.core.faces s.core.hats s.names t face.0 x.0 x.1 m set)
   granted_tied (announcing face sd i node) h =
       let x : (o : OpenFace) × (at face.0 s.core.faces ≡ Some o) = opened_face face.0 (all_passed (causes s.core (announcing face sd i node)) h).0 in
-      in_its_hat face.0 (announced_by face.0 node (full_text sd) i) s.core.faces s.names x
-      (same_faces_tied s.core.faces s.core.hats s.names t x.0.region (announced_by face.0 node (full_text sd) i) (λ k. by_source (source_at face.0 node k) (λ z. announced z.0 (full_text sd) i k) k (λ z. refl)))
+      with_their_rows _ (in_its_hat face.0 (announced_by face.0 node (full_text sd) i) s.core.faces s.names x
+      (same_faces_tied s.core.faces s.core.hats s.names t x.0.region (announced_by face.0 node (full_text sd) i) (λ k. by_source (source_at face.0 node k) (λ z. announced z.0 (full_text sd) i k) k (λ z. refl))))
   granted_tied (retracting face sd node) h =
       let x : (o : OpenFace) × (at face.0 s.core.faces ≡ Some o) = opened_face face.0 (all_passed (causes s.core (retracting face sd node)) h).0 in
-      in_its_hat face.0 (retracted_by face.0 node (full_text sd)) s.core.faces s.names x
-      (same_faces_tied s.core.faces s.core.hats s.names t x.0.region (retracted_by face.0 node (full_text sd)) (λ k. by_source (source_at face.0 node k) (λ z. retracted z.0 (full_text sd) k) k (λ z. refl)))
-  granted_tied (networking r net) h = same_faces_tied s.core.faces s.core.hats s.names t r (networked net) (λ k. by_strategy (strategy_at k) (record k { network = net; entries = staying (is_listed net) k.entries }) k refl)
+      with_their_rows _ (in_its_hat face.0 (retracted_by face.0 node (full_text sd)) s.core.faces s.names x
+      (same_faces_tied s.core.faces s.core.hats s.names t x.0.region (retracted_by face.0 node (full_text sd)) (λ k. by_source (source_at face.0 node k) (λ z. retracted z.0 (full_text sd) k) k (λ z. refl))))
+  granted_tied (networking r net) h =
+      with_their_rows _ (same_faces_tied s.core.faces s.core.hats s.names t r (networked net) (λ k. by_strategy (strategy_at k) (record k { network = net; entries = staying (is_listed net) k.entries }) k refl))
   granted_tied (tabling face ids) h =
       let x : (o : OpenFace) × (at face.0 s.core.faces ≡ Some o) = opened_face face.0 (all_passed (causes s.core (tabling face ids)) h).0 in
       in_its_hat face.0 (noded face.0 ids) s.core.faces s.names x (noded_tied s.core.faces s.core.hats s.names t face.0 x.0 x.1 ids)
@@ -137,6 +143,7 @@ module _ (s : State) (i : IsSound s) (t : IsTied s) where
 pub record InOrder (config : Settings) (s : State) : Type 0 where
   pub sound : IsSound s
   pub tied : IsTied s
+  pub routed : s.names.rows ≡ entry_rows s.core.hats
   pub hats : AreHatsOf config s.core.hats
   pub numbered : InNumbers s.core.queries
   pub aims : AllAim s.core.faces s.core.queries.records
@@ -179,10 +186,32 @@ granted_gated s (opening o) i = gated_joined s.gates s.core.next_face i (gate_fo
 granted_gated s (closing face) i = gated_gone s.gates s.core.next_face i face.0
 granted_gated s x i = i
 
+-- the keys of entries stay those on which routers have entries
+granted_routed : (config : Settings) (s : State) (x : TextCall) → AreHatsOf config s.core.hats → s.names.rows ≡ entry_rows s.core.hats → (renamed s x).rows ≡ entry_rows (accepted s.core x).hats
+unfolding of_routers
+granted_routed config s x a i = by x
+  where
+    kept : (y : TextCall) → of_routers y ≡ false → s.names.rows ≡ entry_rows (accepted s.core y).hats
+    kept y e = i ∙ sym (rows_alike (accepted s.core y).hats s.core.hats (accepted_hats config.start.told (first_hats config) s.core a y).sorted a.sorted (entries_kept s.core y e))
+
+    by : (y : TextCall) → (renamed s y).rows ≡ entry_rows (accepted s.core y).hats
+    by (announcing face sd info node) = refl
+    by (retracting face sd node) = refl
+    by (networking r net) = refl
+    by (naming face id sd y) = rows_changed face.0 (with_name id (full_text sd)) s.names ∙ i
+    by (unnaming face id y) = rows_changed face.0 (without_name id) s.names ∙ i
+    by (declaring face id sd info node) = rows_changed face.0 (with_queryable id (full_text sd)) s.names ∙ kept (declaring face id sd info node) refl
+    by (withdrawing face id) = rows_changed face.0 (without_queryable id) s.names ∙ kept (withdrawing face id) refl
+    by (hearing face id keys None) = i
+    by (hearing face id keys (Some sd)) = rows_changed face.0 (with_interest id (full_text sd)) s.names ∙ i
+    by (unhearing face id) = rows_changed face.0 (without_interest id) s.names ∙ i
+    by y = kept y refl
+
 pub accepted_in_order : (config : Settings) (s : State) (x : TextCall) → refusal_of s.core x ≡ None → InOrder config s → InOrder config (accepted_state s x)
 accepted_in_order config s x h i = record {
   sound = granted_sound s.core x h i.sound;
   tied = granted_tied s i.sound i.tied x h;
+  routed = granted_routed config s x i.hats i.routed;
   hats = accepted_hats config.start.told (first_hats config) s.core i.hats x;
   numbered = granted_numbers s x h i.numbered;
   aims = accepted_aims config s.core s.names i.tied i.hats i.sound.sorted i.aims x;
@@ -202,6 +231,7 @@ stays_in_order config = record {
   numbers = λ core face text id names gates i. record {
     sound = i.sound;
     tied = renamed_tied core.faces core.hats names i.tied face (with_told_number text (Some id)) (λ n. refl);
+    routed = rows_changed face (with_told_number text (Some id)) names ∙ i.routed;
     hats = i.hats;
     numbered = i.numbered;
     aims = i.aims;
@@ -214,6 +244,7 @@ stays_in_order config = record {
   gates = λ text hs core names gates i. record {
     sound = i.sound;
     tied = i.tied;
+    routed = i.routed;
     hats = i.hats;
     numbered = i.numbered;
     aims = i.aims;
@@ -226,6 +257,7 @@ stays_in_order config = record {
   unsent = λ places core names gates i. record {
     sound = unsent_sound places core i.sound;
     tied = i.tied;
+    routed = i.routed;
     hats = i.hats;
     numbered = numbered_let_go core.queries.records core.queries.requests core.queries.replies i.numbered (is_unsent places);
     aims = let_go_aims core.faces core.queries.records i.aims (is_unsent places);
@@ -278,6 +310,7 @@ pub opening_in_order : (config : Settings) → InOrder config (opening_state con
 opening_in_order config = record {
   sound = opening_sound config;
   tied = opening_tied config;
+  routed = sym (first_rows config);
   hats = opening_hats config;
   numbered = record { numbers = none_sorted; below = tt; places = λ face id. omega arith; once = tt; flights = λ reply. omega arith; flown = tt };
   aims = tt;
@@ -303,6 +336,7 @@ agrees config s x = record {
   named = λ face. t.named face;
   copies = λ face o h f seen e f_at. (t.held face o h f seen (sym (ap (option_and_then its_hat) seen) ∙ e) f_at).copy;
   held = λ face h e. option_and_then_some its_hat (at face s.core.faces) h e (λ o seen h_at. held_by face h o seen h_at);
+  routed = x.routed;
   foreign = λ r h key e. x.foreign (region_index r) h (region_there r s.core.hats h e).1 key;
   targets = x.aims;
   numbered = x.numbered;

@@ -23,7 +23,7 @@ use Rattle.zq_strategy.specs.Kept.{change_face, declaration, declare, face_at, h
 use Rattle.zq_strategy.specs.Marks.{marked}
 use Rattle.zq_strategy.specs.Routers.{noded}
 use Rattle.zq_strategy.specs.declared.network.NodeIds.{NodeIds}
-use Rattle.zq_tables.specs.Naming.{FaceKeys, Names, NamingState, change_naming, face_queryables, first_stays, naming_at, no_keys, text_at, with_name, with_queryable, without_name, without_queryable}
+use Rattle.zq_tables.specs.Naming.{EntryRows, FaceKeys, Names, NamingState, change_naming, face_queryables, first_stays, naming_at, no_keys, text_at, with_name, with_queryable, with_rows, without_name, without_queryable}
 use Rattle.zq_tables.proofs.Entries.{insert_there}
 use Rattle.zq_machine.specs.declared.face.OpenFace.{OpenFace}
 use Rattle.zq_machine.specs.Agreeing.{IsCopy, id_and_key, is_open_in}
@@ -41,7 +41,7 @@ pub record Holds (o : OpenFace) (f : FaceState) (qs : Names) : Type 0 where
 -- faces, hats and keys agree, and what is taken out of is in order
 pub record Tied (faces : List (ℕ × OpenFace)) (hats : List (ℕ × HatState)) (names : NamingState) : Type 0 where
   pub hats_sorted : (r : Region) (h : HatState) → hat_at r hats ≡ Some h → IsStrictlySortedBy nat_cmp (keys_of h.faces)
-  pub names_sorted : IsStrictlySortedBy nat_cmp (keys_of names)
+  pub names_sorted : IsStrictlySortedBy nat_cmp (keys_of names.faces)
   pub seats : (r : Region) (h : HatState) (q : ℕ) → hat_at r hats ≡ Some h → has_face q h ≡ is_open_in r q faces
   pub homes : (q : ℕ) (o : OpenFace) → at q faces ≡ Some o → is_some (hat_at o.region hats) ≡ true
   pub named : (q : ℕ) → is_some (naming_at q names) ≡ is_some (at q faces)
@@ -57,16 +57,16 @@ some_of (Some x) h = (x, refl)
 -- ---- keys are changed at a face, and queryables with them or not
 module _ (face : ℕ) (g : FaceKeys → FaceKeys) (names : NamingState) where
   names_found : (q : ℕ) → is_some (naming_at q (change_naming face g names)) ≡ is_some (naming_at q names)
-  names_found q = ap (λ s. is_some (naming_at q s)) (naming_changed face g names) ∙ there face g names q
+  names_found q = ap (λ s. is_some (naming_at q s)) (naming_changed face g names) ∙ there face g names.faces q
 
-  names_in_order : IsStrictlySortedBy nat_cmp (keys_of names) → IsStrictlySortedBy nat_cmp (keys_of (change_naming face g names))
-  names_in_order s = subst (λ (l : NamingState). IsStrictlySortedBy nat_cmp (keys_of l)) (sym (naming_changed face g names)) (sorted_changed face g names s)
+  names_in_order : IsStrictlySortedBy nat_cmp (keys_of names.faces) → IsStrictlySortedBy nat_cmp (keys_of (change_naming face g names).faces)
+  names_in_order s = subst (λ (l : NamingState). IsStrictlySortedBy nat_cmp (keys_of l.faces)) (sym (naming_changed face g names)) (sorted_changed face g names.faces s)
 
   keys_elsewhere : (q : ℕ) → is_at (nat_cmp face) q ≡ false → face_queryables q (change_naming face g names) ≡ face_queryables q names
-  keys_elsewhere q e = ap (λ s. face_queryables q s) (naming_changed face g names) ∙ ap keys_by (found_other face g names q e)
+  keys_elsewhere q e = ap (λ s. face_queryables q s) (naming_changed face g names) ∙ ap keys_by (found_other face g names.faces q e)
 
   keys_here : (n : FaceKeys) → naming_at face names ≡ Some n → face_queryables face (change_naming face g names) ≡ (g n).queryables
-  keys_here n e = ap (λ s. face_queryables face s) (naming_changed face g names) ∙ ap keys_by (found_here face g names face (itself face) ∙ ap (option_map g) e)
+  keys_here n e = ap (λ s. face_queryables face s) (naming_changed face g names) ∙ ap keys_by (found_here face g names.faces face (itself face) ∙ ap (option_map g) e)
 
   kept_by : ((n : FaceKeys) → (g n).queryables ≡ n.queryables) → (o : Option FaceKeys) → keys_by (option_map g o) ≡ keys_by o
   kept_by same None = refl
@@ -76,7 +76,7 @@ module _ (face : ℕ) (g : FaceKeys → FaceKeys) (names : NamingState) where
   keys_kept same q = by (is_at (nat_cmp face) q) refl
     where
       by : (b : Bool) → is_at (nat_cmp face) q ≡ b → face_queryables q (change_naming face g names) ≡ face_queryables q names
-      by true e = ap (λ s. face_queryables q s) (naming_changed face g names) ∙ ap keys_by (found_here face g names q e) ∙ kept_by same (naming_at q names)
+      by true e = ap (λ s. face_queryables q s) (naming_changed face g names) ∙ ap keys_by (found_here face g names.faces q e) ∙ kept_by same (naming_at q names)
       by false e = keys_elsewhere q e
 
 module _ (faces : List (ℕ × OpenFace)) (hats : List (ℕ × HatState)) (names : NamingState) (t : Tied faces hats names) where
@@ -90,6 +90,10 @@ module _ (faces : List (ℕ × OpenFace)) (hats : List (ℕ × HatState)) (names
     named = λ q. names_found face g names q ∙ t.named q;
     held = λ q o h f e there_at f_at. subst (Holds o f) (sym (keys_kept face g names same q)) (t.held q o h f e there_at f_at);
   }
+
+  -- the keys of entries come and go
+  pub rerouted_tied : (rows : EntryRows) → Tied faces hats (with_rows rows names)
+  rerouted_tied rows = record { hats_sorted = t.hats_sorted; names_sorted = t.names_sorted; seats = t.seats; homes = t.homes; named = t.named; held = t.held }
 
   pub named_tied : (face id : ℕ) (text : List ℕ) → Tied faces hats (change_naming face (with_name id text) names)
   named_tied face id text = renamed_tied face (with_name id text) (λ n. refl)
@@ -143,7 +147,7 @@ module _ (faces : List (ℕ × OpenFace)) (hats : List (ℕ × HatState)) (names
     its_keys = some_of (naming_at face names) (t.named face ∙ ap is_some seen)
 
     module _ (k : FaceState → FaceState) (after : NamingState)
-        (sorted : IsStrictlySortedBy nat_cmp (keys_of after))
+        (sorted : IsStrictlySortedBy nat_cmp (keys_of after.faces))
         (names_same : (q : ℕ) → is_some (naming_at q after) ≡ is_some (naming_at q names))
         (others : (q : ℕ) → is_at (nat_cmp face) q ≡ false → face_queryables q after ≡ face_queryables q names)
         (kept : (h : HatState) (f : FaceState) → hat_at o.region hats ≡ Some h → face_at face h ≡ Some f → Holds o f (face_queryables face names) → Holds o (k f) (face_queryables face after)) where

@@ -2,14 +2,14 @@
 use Rattle.std.proofs.Common.{◌≡◌, ℕ, Bool, true, false, cond, not, List, [], ◌∷◌, Option, Some, None}
 use Rattle.std.specs.BTreeMap.{insert_entry, is_at}
 use Rattle.std.specs.List.{AllByRecursion, cons_option, filter_map}
-use Rattle.std.specs.Map.{remove_entry, set_value}
-use Rattle.std.specs.Option.{option_map, option_map_or}
+use Rattle.std.specs.Map.{remove_entry}
+use Rattle.std.specs.Option.{option_map_or}
 use Rattle.std.specs.Ordering.{nat_cmp}
 use Rattle.zq_interests.specs.declared.types.InterestEntry.{InterestEntry}
-use Rattle.zq_interests.specs.Interests.{Interests, interests_of, own_key, own_keys, with_interest, without_interest, closed_face}
+use Rattle.zq_interests.specs.Interests.{Interests, interests_of, own_key, own_keys}
 use Rattle.zq_tables.specs.declared.resolved.Resolved.{Resolved}
 use Rattle.zq_machine.specs.Deciding.{accepted, causes, refusal_of}
-use Rattle.zq_machine.specs.Selecting.{Manner, asked_by, full_text, says_key}
+use Rattle.zq_machine.specs.Selecting.{Manner, asked_by, says_key}
 use Rattle.zq_machine.specs.State.{Core, at}
 use Rattle.zq_machine.specs.TextCalls.{TextCall, closing, hearing, unhearing}
 use Rattle.zq_machine.proofs.Granted.{all_passed}

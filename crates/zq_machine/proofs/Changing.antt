@@ -82,10 +82,10 @@ module _ {X : Type 0} (k : ℕ) (g : X → X) (es : List (ℕ × X)) where
   sorted_changed s = sorted_by (at k es) s
 
 -- ---- the keys of a face are changed
-pub naming_changed : (face : ℕ) (g : FaceKeys → FaceKeys) (s : NamingState) → change_naming face g s ≡ changed face g s
+pub naming_changed : (face : ℕ) (g : FaceKeys → FaceKeys) (s : NamingState) → change_naming face g s ≡ record s { faces = changed face g s.faces }
 naming_changed face g s = by (naming_at face s)
   where
-    by : (o : Option FaceKeys) → put_naming face g s o ≡ option_map_or (λ x. set_value (is_at (nat_cmp face)) s (g x)) o s
+    by : (o : Option FaceKeys) → put_naming face g s o ≡ record s { faces = option_map_or (λ x. set_value (is_at (nat_cmp face)) s.faces (g x)) o s.faces }
     by None = refl
     by (Some n) = refl
 

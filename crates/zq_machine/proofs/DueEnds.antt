@@ -1,24 +1,17 @@
 -- To a face that is not open nothing is due; on which keys a call is looked at; and what stands of interests where one comes or ends.
-use Rattle.std.proofs.Common.{◌≡◌, ◌∙◌, refl, sym, ap, ℕ, Bool, true, false, cond, eq-eqb, eqb-true, List, [], ◌∷◌, fold, Option, Some, None}
-use Rattle.std.specs.Prelude.{◌==◌, ◌≢◌, ◌&&◌, ◌||◌}
-use Rattle.std.specs.BTreeMap.{insert_entry, is_at}
+use Rattle.std.proofs.Common.{◌≡◌, ◌∙◌, refl, sym, ap, ℕ, Bool, true, false, cond, eqb-true, List, [], fold, Option, Some, None}
+use Rattle.std.specs.Prelude.{◌==◌, ◌≢◌, ◌&&◌}
 use Rattle.std.specs.BTreeSet.{insert_key}
 use Rattle.std.specs.List.{list_any}
 use Rattle.std.specs.List.Sorted.{IsStrictlySortedBy}
-use Rattle.std.specs.Map.{keys_of, remove_entry}
+use Rattle.std.specs.Map.{keys_of}
 use Rattle.std.specs.Option.{is_some, option_and_then, option_map_or}
-use Rattle.std.specs.Ordering.{is_eq, match_ordering, nat_cmp}
+use Rattle.std.specs.Ordering.{nat_cmp}
 use Rattle.std.specs.Str.{bytes_eq}
-use Rattle.std.specs.declared.cmp.Ordering.{Ordering}
-use Rattle.std.specs.declared.cmp.Ordering.TheVariants.{Less, Equal, Greater}
 use Rattle.std.proofs.Math.Bool.{or-false}
-use Rattle.std.proofs.lemmas.Bool.{false≢true, true≢false}
+use Rattle.std.proofs.lemmas.Bool.{true≢false}
 use Rattle.std.proofs.lemmas.Cmp.{nat_cmp_total}
 use Rattle.std.proofs.lemmas.Map.Lookups.{exact_unsigned}
-use Rattle.std.proofs.lemmas.Map.Views.{any-filter_same}
-use Rattle.std.proofs.lemmas.Option.{same_Some}
-use Rattle.std.proofs.lemmas.Slice.Eq.{bytes_eq-Decides}
-use Rattle.zq_key.specs.Key.{intersects}
 use Rattle.zq_key.proofs.Lookups.{found_after_insertion, found_after_removal}
 use Rattle.zq_index.specs.Texts.{text_cmp}
 use Rattle.zq_interests.specs.declared.types.InterestEntry.{InterestEntry}
@@ -29,7 +22,7 @@ use Rattle.zq_interests.specs.Interests.{Interests, interests_of, with_interest,
 use Rattle.zq_machine.specs.State.{Core, at, hat_at, is_open}
 use Rattle.zq_machine.specs.TextCalls.{TextCall, opening}
 use Rattle.zq_machine.specs.Trees.{is_touched, touched}
-use Rattle.zq_machine.proofs.Changing.{number_test, one_number}
+use Rattle.zq_machine.proofs.Changing.{number_test}
 use Rattle.zq_machine.proofs.DueAsked.{listed, listed_at, none_without, with_one, without_one, written_at}
 use Rattle.zq_machine.proofs.DueKeys.{all_put, among, is_among}
 

@@ -3,7 +3,6 @@ use Rattle.std.proofs.Common.{◌≡◌, ◌∙◌, refl, sym, ap, ℕ, Bool, tr
 use Rattle.std.specs.Prelude.{◌==◌, ◌||◌, ◌&&◌}
 use Rattle.std.specs.BTreeMap.{insert_entry, is_at}
 use Rattle.std.specs.List.{list_any}
-use Rattle.std.specs.List.Sorted.{IsStrictlySortedBy}
 use Rattle.std.specs.Map.{remove_entry}
 use Rattle.std.specs.Option.{is_some, option_map_or, option_to_list}
 use Rattle.std.specs.Ordering.{is_eq, match_ordering, nat_cmp}
@@ -22,9 +21,8 @@ use Rattle.zq_strategy.specs.Regions.{is_north, strategy_at}
 use Rattle.zq_strategy.specs.State.{HatState}
 use Rattle.zq_interests.specs.declared.types.InterestEntry.{InterestEntry}
 use Rattle.zq_interests.specs.Interests.{Interests, asked_for, asks_folded, asks_for, interests_of, is_own, meets, own_key, own_keys, wants, wants_folded, with_interest, without_interest}
-use Rattle.zq_machine.specs.Due.{KeysRise, asked_keys, due, due_keys, due_touched, face_keys, folded, heard, heard_touched, is_looked, listens_by}
+use Rattle.zq_machine.specs.Due.{KeysRise, due, due_keys, face_keys, folded, heard, heard_touched, is_looked, listens_by}
 use Rattle.zq_machine.specs.State.{Core, at, hat_of}
-use Rattle.zq_machine.specs.TextCalls.{TextCall}
 use Rattle.zq_machine.proofs.Changing.{number_test, one_number}
 use Rattle.zq_machine.proofs.DueAsked.{listed, listed_at, none_without, with_one, without_one, written_at}
 use Rattle.zq_machine.proofs.DueKeys.{all_rise, due_rise, is_among, touched_rise}

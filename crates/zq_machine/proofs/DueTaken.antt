@@ -16,7 +16,6 @@ use Rattle.zq_message.specs.declared.message.QueryableInfoType.{QueryableInfoTyp
 use Rattle.zq_message.specs.declared.message.Region.{Region}
 use Rattle.zq_message.specs.declared.message.Region.TheVariants as region
 use Rattle.zq_message.specs.Region.{region_index}
-use Rattle.zq_key.specs.Key.{intersects}
 use Rattle.zq_index.specs.Infos.{joined}
 use Rattle.zq_index.proofs.Laws.{merge_self}
 use Rattle.zq_index.proofs.Merges.{joined_none, joined_regroup, joined_swap}

@@ -1,8 +1,7 @@
 -- What is due, by one entry or by keys: a call changes it on no key but those that it touches; it is on a key on which something may be due; and but by a declaration nothing becomes due to a face that is open.
-use Rattle.std.proofs.Common.{◌≡◌, ◌∙◌, refl, sym, ap, subst, ℕ, Bool, true, false, cond, not, List, [], ◌∷◌, Option, Some, None}
+use Rattle.std.proofs.Common.{◌≡◌, ◌∙◌, refl, sym, ap, ℕ, Bool, true, false, cond, not, List, [], ◌∷◌, Option, Some, None}
 use Rattle.std.specs.Prelude.{◌||◌, ◌&&◌}
 use Rattle.std.specs.List.{list_any}
-use Rattle.std.specs.List.Sorted.{IsStrictlySortedBy}
 use Rattle.std.specs.Option.{is_some, option_and_then, option_map, option_map_or}
 use Rattle.std.specs.Str.{bytes_eq}
 use Rattle.std.proofs.lemmas.Bool.{false≢true, true≢false}
@@ -10,7 +9,6 @@ use Rattle.zq_message.specs.declared.message.QueryableInfoType.{QueryableInfoTyp
 use Rattle.zq_message.specs.Region.{region_index}
 use Rattle.zq_key.specs.Key.{intersects}
 use Rattle.zq_index.specs.Infos.{joined}
-use Rattle.zq_index.specs.Texts.{text_cmp}
 use Rattle.zq_strategy.specs.declared.types.Strategy.{Strategy}
 use Rattle.zq_strategy.specs.declared.types.Strategy.TheVariants as strategy
 use Rattle.zq_strategy.specs.Fellows.{fellow_info}
@@ -35,7 +33,7 @@ use Rattle.zq_machine.proofs.Changing.{itself}
 use Rattle.zq_machine.proofs.DueAlone.{south_unasked as plain_south}
 use Rattle.zq_machine.proofs.DueKeys.{all_put, among, due_rise, is_among, keys_due as plain_keys}
 use Rattle.zq_machine.proofs.DueEnds.{closed_undue as plain_closed}
-use Rattle.zq_machine.proofs.DueLess.{accepted_less as plain_less, brings, faces_kept, listens_kept, read_brings}
+use Rattle.zq_machine.proofs.DueLess.{accepted_less as plain_less, brings, faces_kept, read_brings}
 use Rattle.zq_machine.proofs.Dues.{due_kept as plain_kept}
 use Rattle.zq_machine.proofs.Folded.{adds, folded_same, some_folded}
 use Rattle.zq_machine.proofs.Granted.{by_granted}

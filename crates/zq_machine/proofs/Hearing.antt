@@ -140,7 +140,7 @@ module _ (n : FaceNaming) (text : List ℕ) (some : 0 < length text) where
 pub found_there : (face : ℕ) (g : FaceKeys → FaceKeys) (s : NamingState) → is_some (naming_at face s) ≡ true → face_naming face (change_naming face g s) ≡ (g (face_keys face s)).numbers
 found_there face g s h =
     ap (λ z. (unwrap_or (naming_at face z) no_keys).numbers) (naming_changed face g s)
-    ∙ ap (λ (o : Option FaceKeys). (unwrap_or o no_keys).numbers) (found_here face g s face (itself face))
+    ∙ ap (λ (o : Option FaceKeys). (unwrap_or o no_keys).numbers) (found_here face g s.faces face (itself face))
     ∙ by (naming_at face s) h
   where
     by : (o : Option FaceKeys) → is_some o ≡ true → (unwrap_or (option_map g o) no_keys).numbers ≡ (g (unwrap_or o no_keys)).numbers
@@ -148,7 +148,7 @@ found_there face g s h =
     by (Some k) e = refl
 
 still_open : (face : ℕ) (g : FaceKeys → FaceKeys) (s : NamingState) (q : ℕ) → is_some (naming_at q s) ≡ true → is_some (naming_at q (change_naming face g s)) ≡ true
-still_open face g s q h = ap (λ z. is_some (naming_at q z)) (naming_changed face g s) ∙ there face g s q ∙ h
+still_open face g s q h = ap (λ z. is_some (naming_at q z)) (naming_changed face g s) ∙ there face g s.faces q ∙ h
 
 numbered_open : (to : FaceId) (text : List ℕ) (o : Option ℕ) (s : NamingState) (q : ℕ) → is_some (naming_at q s) ≡ true → is_some (naming_at q (tell_number to text o s).names) ≡ true
 numbered_open to text None s q h = h

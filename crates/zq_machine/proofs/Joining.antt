@@ -13,7 +13,7 @@ use Rattle.zq_message.specs.declared.message.Region.{Region}
 use Rattle.zq_message.specs.Region.{region_index}
 use Rattle.zq_strategy.specs.State.{FaceState, HatState}
 use Rattle.zq_strategy.specs.Kept.{face_at, has_face, new_face, with_face_opened, without_face}
-use Rattle.zq_tables.specs.Naming.{NamingState, face_queryables, naming_at, no_keys}
+use Rattle.zq_tables.specs.Naming.{NamingState, closed_naming, face_queryables, naming_at, no_keys, opened_naming}
 use Rattle.zq_machine.specs.declared.call.Opening.{Opening}
 use Rattle.zq_machine.specs.declared.face.OpenFace.{OpenFace}
 use Rattle.zq_machine.specs.Agreeing.{is_open_in, stands_in}
@@ -40,7 +40,7 @@ module _ (faces : List (ℕ × OpenFace)) (hats : List (ℕ × HatState)) (names
   more_hats = change_hat o.region (joined (seat n o)) hats
 
   abbrev more_names : NamingState
-  more_names = insert_entry nat_cmp names n no_keys
+  more_names = opened_naming n names
 
   abbrev new : FaceState
   new = new_face (seat n o) home.0.told_start
@@ -58,7 +58,7 @@ module _ (faces : List (ℕ × OpenFace)) (hats : List (ℕ × HatState)) (names
   in_faces q = found_after_insertion nat_cmp_total exact_unsigned n q (opened o) faces
 
   pub in_names : (q : ℕ) → naming_at q more_names ≡ cond (is_at (nat_cmp n) q) (Some no_keys) (naming_at q names)
-  in_names q = found_after_insertion nat_cmp_total exact_unsigned n q no_keys names
+  in_names q = found_after_insertion nat_cmp_total exact_unsigned n q no_keys names.faces
 
   each : (P : HatState → Type 0) (r : Region) (h : HatState) → hat_at r more_hats ≡ Some h
       → (is_at (nat_cmp (region_index o.region)) (region_index r) ≡ true → hat_at r hats ≡ Some home.0 → P (joined (seat n o) home.0))
@@ -128,7 +128,7 @@ module _ (faces : List (ℕ × OpenFace)) (hats : List (ℕ × HatState)) (names
     hats_sorted = λ r h e. each (λ x. IsStrictlySortedBy nat_cmp (keys_of x.faces)) r h e
         (λ b old. subst (λ (l : List (ℕ × FaceState)). IsStrictlySortedBy nat_cmp (keys_of l)) (sym joined_faces) (sorted_in nat_cmp_total home.0.faces n new (t.hats_sorted r home.0 old)))
         (λ b old. t.hats_sorted r h old);
-    names_sorted = sorted_in nat_cmp_total names n no_keys t.names_sorted;
+    names_sorted = sorted_in nat_cmp_total names.faces n no_keys t.names_sorted;
     seats = λ r h q e. each (λ x. has_face q x ≡ is_open_in r q more_faces) r h e (λ b old. seated r q b old) (λ b old. unseated r h q b old);
     homes = λ q p e. has_home q p e;
     named = λ q. all_named q;
@@ -150,7 +150,7 @@ module _ (faces : List (ℕ × OpenFace)) (hats : List (ℕ × HatState)) (names
   less_hats = change_hat o.region (without_face face) hats
 
   abbrev less_names : NamingState
-  less_names = remove_entry (is_at (nat_cmp face)) names
+  less_names = closed_naming face names
 
   pub left_in_hat : (q : ℕ) → face_at q (without_face face own.0) ≡ cond (test q) None (face_at q own.0)
   left_in_hat q = found_after_removal nat_cmp_total exact_unsigned face q own.0.faces (t.hats_sorted o.region own.0 own.1)
@@ -159,7 +159,7 @@ module _ (faces : List (ℕ × OpenFace)) (hats : List (ℕ × HatState)) (names
   left_in_faces q = found_after_removal nat_cmp_total exact_unsigned face q faces sorted
 
   pub left_in_names : (q : ℕ) → naming_at q less_names ≡ cond (test q) None (naming_at q names)
-  left_in_names q = found_after_removal nat_cmp_total exact_unsigned face q names t.names_sorted
+  left_in_names q = found_after_removal nat_cmp_total exact_unsigned face q names.faces t.names_sorted
 
   left_each : (P : HatState → Type 0) (r : Region) (h : HatState) → hat_at r less_hats ≡ Some h
       → (is_at (nat_cmp (region_index o.region)) (region_index r) ≡ true → hat_at r hats ≡ Some own.0 → P (without_face face own.0))
@@ -213,7 +213,7 @@ module _ (faces : List (ℕ × OpenFace)) (hats : List (ℕ × HatState)) (names
     hats_sorted = λ r h e. left_each (λ x. IsStrictlySortedBy nat_cmp (keys_of x.faces)) r h e
         (λ b old. sorted_out nat_cmp (is_at (nat_cmp face)) own.0.faces (t.hats_sorted r own.0 old))
         (λ b old. t.hats_sorted r h old);
-    names_sorted = sorted_out nat_cmp (is_at (nat_cmp face)) names t.names_sorted;
+    names_sorted = sorted_out nat_cmp (is_at (nat_cmp face)) names.faces t.names_sorted;
     seats = λ r h q e. left_each (λ x. has_face q x ≡ is_open_in r q less_faces) r h e (λ b old. left_seats r q old) (λ b old. other_seats r h q b old);
     homes = λ q p e. left_home q p e;
     named = λ q. left_named q;

@@ -47,6 +47,9 @@ pub mod RoutersMoved
 pub mod DueMoved
 pub mod Worded
 pub mod Foreign
+pub mod EntryRows
+pub mod EntryKeys
+pub mod Rows
 pub mod DueHeard
 pub mod NeighboursTold
 pub mod Sifting
@@ -94,6 +97,7 @@ pub mod NeighbourMoved
 pub mod ChangedMoved
 pub mod CausesMoved
 pub mod DecidingMoved
+pub mod Rerouted
 pub mod Following
 pub mod Answering
 pub mod Keeping

@@ -1,11 +1,9 @@
 -- What answers an interest; and over an interest, or its end, the asker's receiver forgets exactly the keys that are not due.
-use Rattle.std.proofs.Common.{◌≡◌, ◌∙◌, refl, sym, ap, subst, ℕ, Bool, true, false, cond, not, List, [], ◌∷◌, filter, fold, map, Option, Some, None, true≢false}
+use Rattle.std.proofs.Common.{◌≡◌, ◌∙◌, refl, sym, ap, ℕ, Bool, true, false, cond, not, List, [], ◌∷◌, filter, map, Option, Some, None, true≢false}
 use Rattle.std.specs.Prelude.{◌&&◌, ◌||◌, is_none}
 use Rattle.std.specs.BTreeMap.{is_at}
 use Rattle.std.specs.List.{AllByRecursion}
 use Rattle.std.specs.Option.{is_some, option_map, option_to_list}
-use Rattle.std.specs.Ordering.{nat_cmp}
-use Rattle.std.specs.Str.{bytes_eq}
 use Rattle.std.proofs.lemmas.Bool.{false≢true}
 use Rattle.std.proofs.lemmas.Cmp.{nat_cmp_total}
 use Rattle.std.proofs.lemmas.List.Kept.{IsStrictlySortedBy-filter}
@@ -18,7 +16,7 @@ use Rattle.zq_index.specs.Texts.{text_cmp}
 use Rattle.zq_index.proofs.Orders.{text_exact, text_total}
 use Rattle.zq_strategy.specs.declared.network.Telling.{Telling}
 use Rattle.zq_interests.specs.declared.types.InterestEntry.{InterestEntry}
-use Rattle.zq_interests.specs.Interests.{Interests, asked_for, meets, with_interest}
+use Rattle.zq_interests.specs.Interests.{Interests, asked_for, meets}
 use Rattle.zq_told.specs.declared.types.ToldEntry.{ToldEntry}
 use Rattle.zq_told.specs.declared.types.Reason.TheVariants.{Answer}
 use Rattle.zq_told.specs.ToldSets.{ToldSets}
@@ -26,11 +24,11 @@ use Rattle.zq_told.specs.Telling.{KeyDue}
 use Rattle.zq_told.specs.Receiver.{Heard, is_left, is_over}
 use Rattle.zq_told.specs.Laws.{is_to, told_in}
 use Rattle.zq_told.specs.Leaving.{news_of}
-use Rattle.zq_told.proofs.Leaving.{answers_all, answers_due}
+use Rattle.zq_told.proofs.Leaving.{answers_all}
 use Rattle.zq_machine.specs.Due.{answer_keys, asked_keys, due, face_keys, is_looked}
 use Rattle.zq_machine.specs.Neighbours.{answer_dues, answer_told, asked_dues, due_on, with_dues}
 use Rattle.zq_machine.specs.Receivers.{Hears, is_due_in}
-use Rattle.zq_machine.specs.State.{Core, at}
+use Rattle.zq_machine.specs.State.{Core}
 use Rattle.zq_machine.proofs.DueInterests.{keys_rise}
 use Rattle.zq_machine.proofs.DueKeys.{all_put, either_test, is_among}
 use Rattle.zq_machine.proofs.DueWhole.{keys_among}

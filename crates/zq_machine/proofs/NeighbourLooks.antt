@@ -1,5 +1,5 @@
 -- What a call looks at, in one form for all calls.
-use Rattle.std.proofs.Common.{◌≡◌, refl, sym, ap, ◌∙◌, ℕ, Bool, false, List, [], ◌∷◌, filter, fold}
+use Rattle.std.proofs.Common.{◌≡◌, refl, sym, ap, ◌∙◌, ℕ, List, [], ◌∷◌, filter, fold}
 use Rattle.std.specs.BTreeSet.{insert_key}
 use Rattle.zq_index.specs.Texts.{text_cmp}
 use Rattle.zq_interests.specs.Interests.{Interests, own_keys}

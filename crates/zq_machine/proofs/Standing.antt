@@ -26,7 +26,7 @@ use Rattle.zq_strategy.specs.Entries.{staying}
 use Rattle.zq_strategy.specs.Nets.{is_listed}
 use Rattle.zq_strategy.specs.Routers.{announced, networked, retracted, source_at}
 use Rattle.zq_message.specs.RegionMap.{value_at}
-use Rattle.zq_tables.specs.Naming.{FaceKeys, FaceNaming, NamingState, change_naming, face_naming, naming_at, no_keys, said_of, with_name, with_queryable, with_told_number, without_name, without_queryable, with_interest, without_interest}
+use Rattle.zq_tables.specs.Naming.{FaceKeys, FaceNaming, NamingState, change_naming, closed_naming, face_naming, naming_at, no_keys, opened_naming, said_of, with_name, with_queryable, with_told_number, without_name, without_queryable, with_interest, without_interest}
 use Rattle.zq_machine.specs.declared.call.Call.{Call}
 use Rattle.zq_machine.specs.declared.call.Call.TheVariants as call
 use Rattle.zq_machine.specs.declared.call.Opening.{Opening}
@@ -115,10 +115,10 @@ module _ (gates : Gates) (faces : List (ℕ × OpenFace)) (hats : List (ℕ × H
   stands_so = whole face o its_keys.0 its_kept.0 gates faces hats names seen its_keys.1 kept_is
 
   naming_here : (g : FaceKeys → FaceKeys) → naming_at face (change_naming face g names) ≡ Some (g its_keys.0)
-  naming_here g = ap (λ (l : NamingState). naming_at face l) (naming_changed face g names) ∙ found_here face g names face (itself face) ∙ ap (option_map g) its_keys.1
+  naming_here g = ap (λ (l : NamingState). naming_at face l) (naming_changed face g names) ∙ found_here face g names.faces face (itself face) ∙ ap (option_map g) its_keys.1
 
   naming_other : (g : FaceKeys → FaceKeys) (q : ℕ) → is_at (nat_cmp face) q ≡ false → naming_at q (change_naming face g names) ≡ naming_at q names
-  naming_other g q e = ap (λ (l : NamingState). naming_at q l) (naming_changed face g names) ∙ found_other face g names q e
+  naming_other g q e = ap (λ (l : NamingState). naming_at q l) (naming_changed face g names) ∙ found_other face g names.faces q e
 
   abbrev hats_with : (FaceState → FaceState) → List (ℕ × HatState)
   hats_with k = change_hat o.region (change_face face k) hats
@@ -153,14 +153,14 @@ module _ (config : Settings) (gates : Gates) (next : ℕ) (gated : Gated gates n
   told = config.start.told
 
   opened_stands : (n : ℕ) → next ≡ n → (o : Opening) → at n faces ≡ None → is_some (hat_at o.region hats) ≡ true
-      → stand q (with_gate n (gate_for o) gates) (insert_entry nat_cmp faces n (opened o)) (change_hat o.region (joined (seat n o)) hats) (insert_entry nat_cmp names n no_keys) ≡ cond (n == q) (Some (newly_opened told q o)) (stand q gates faces hats names)
+      → stand q (with_gate n (gate_for o) gates) (insert_entry nat_cmp faces n (opened o)) (change_hat o.region (joined (seat n o)) hats) (opened_naming n names) ≡ cond (n == q) (Some (newly_opened told q o)) (stand q gates faces hats names)
   opened_stands n is_next o absent has = by (is_at (nat_cmp n) q) refl ∙ ap (λ b. cond b (Some (newly_opened told q o)) (stand q gates faces hats names)) (number_test n q)
     where
       place : (h : HatState) × (hat_at o.region hats ≡ Some h)
       place = home faces hats names t n o absent has
 
       now : ℕ → Option Standing
-      now m = stand m (with_gate n (gate_for o) gates) (insert_entry nat_cmp faces n (opened o)) (change_hat o.region (joined (seat n o)) hats) (insert_entry nat_cmp names n no_keys)
+      now m = stand m (with_gate n (gate_for o) gates) (insert_entry nat_cmp faces n (opened o)) (change_hat o.region (joined (seat n o)) hats) (opened_naming n names)
 
       first_told : place.0.told_start ≡ told
       first_told = a.starts (region_index o.region) place.0 (region_there o.region hats place.0 place.1).1
@@ -179,7 +179,7 @@ module _ (config : Settings) (gates : Gates) (next : ℕ) (gated : Gated gates n
       gate_here = gates_are n ∙ ap (λ b. cond b (gate_for o) (gate_at n gates)) (sym (number_test n n) ∙ itself n)
 
       here : now n ≡ Some (newly_opened told n o)
-      here = (whole n (opened o) no_keys (new_face (seat n o) told) (with_gate n (gate_for o) gates) _ _ _
+      here = (whole n (opened o) no_keys (new_face (seat n o) told) (with_gate n (gate_for o) gates) _ _ (opened_naming n names)
           (in_faces faces hats names t n o absent has n ∙ ap (λ b. cond b (Some (opened o)) (at n faces)) (itself n))
           (in_names faces hats names t n o absent has n ∙ ap (λ b. cond b (Some no_keys) (naming_at n names)) (itself n))
           kept_new)
@@ -201,17 +201,17 @@ module _ (config : Settings) (gates : Gates) (next : ℕ) (gated : Gated gates n
       by false e = others e ∙ ap (λ b. cond b (Some (newly_opened told q o)) (stand q gates faces hats names)) (sym e)
 
   closed_stands : (face : ℕ) (o : OpenFace) → at face faces ≡ Some o → IsStrictlySortedBy nat_cmp (keys_of faces)
-      → stand q (remove_entry (is_at (nat_cmp face)) gates) (remove_entry (is_at (nat_cmp face)) faces) (change_hat o.region (without_face face) hats) (remove_entry (is_at (nat_cmp face)) names) ≡ cond (face == q) None (stand q gates faces hats names)
+      → stand q (remove_entry (is_at (nat_cmp face)) gates) (remove_entry (is_at (nat_cmp face)) faces) (change_hat o.region (without_face face) hats) (closed_naming face names) ≡ cond (face == q) None (stand q gates faces hats names)
   closed_stands face o seen sorted = by (is_at (nat_cmp face) q) refl ∙ ap (λ b. cond b None (stand q gates faces hats names)) (number_test face q)
     where
       place : (h : HatState) × (hat_at o.region hats ≡ Some h)
       place = own faces hats names t sorted face o seen
 
       now : Option Standing
-      now = stand q (remove_entry (is_at (nat_cmp face)) gates) (remove_entry (is_at (nat_cmp face)) faces) (change_hat o.region (without_face face) hats) (remove_entry (is_at (nat_cmp face)) names)
+      now = stand q (remove_entry (is_at (nat_cmp face)) gates) (remove_entry (is_at (nat_cmp face)) faces) (change_hat o.region (without_face face) hats) (closed_naming face names)
 
       gone : is_at (nat_cmp face) q ≡ true → now ≡ None
-      gone e = ap (λ x. standing_of (gate_at q (remove_entry (is_at (nat_cmp face)) gates)) x (naming_at q (remove_entry (is_at (nat_cmp face)) names)) (kept_by q (change_hat o.region (without_face face) hats) (at q (remove_entry (is_at (nat_cmp face)) faces))))
+      gone e = ap (λ x. standing_of (gate_at q (remove_entry (is_at (nat_cmp face)) gates)) x (naming_at q (closed_naming face names)) (kept_by q (change_hat o.region (without_face face) hats) (at q (remove_entry (is_at (nat_cmp face)) faces))))
           (left_in_faces faces hats names t sorted face o seen q ∙ ap (λ b. cond b None (at q faces)) e)
 
       others : is_at (nat_cmp face) q ≡ false → now ≡ stand q gates faces hats names
@@ -292,11 +292,11 @@ module _ (q : ℕ) where
       where
         by : (b : Bool) → is_at (nat_cmp to.0) q ≡ b → Hears names (tell_number to text (Some id) names)
         by true e =
-            ap (λ n. standing_of g o n f) (ap (λ (l : NamingState). naming_at q l) (naming_changed to.0 (with_told_number text (Some id)) names) ∙ found_here to.0 (with_told_number text (Some id)) names q e)
+            ap (λ n. standing_of g o n f) (ap (λ (l : NamingState). naming_at q l) (naming_changed to.0 (with_told_number text (Some id)) names) ∙ found_here to.0 (with_told_number text (Some id)) names.faces q e)
             ∙ more_by text id o (naming_at q names) f
             ∙ (λ j. option_map (λ st. cond ((sym e ∙ number_test to.0 q) j) (more text id st) st) (with_names names))
         by false e =
-            ap (λ n. standing_of g o n f) (ap (λ (l : NamingState). naming_at q l) (naming_changed to.0 (with_told_number text (Some id)) names) ∙ found_other to.0 (with_told_number text (Some id)) names q e)
+            ap (λ n. standing_of g o n f) (ap (λ (l : NamingState). naming_at q l) (naming_changed to.0 (with_told_number text (Some id)) names) ∙ found_other to.0 (with_told_number text (Some id)) names.faces q e)
             ∙ same_map (with_names names)
             ∙ (λ j. option_map (λ st. cond ((sym e ∙ number_test to.0 q) j) (more text id st) st) (with_names names))
 
@@ -437,7 +437,7 @@ module _ (config : Settings) (q : ℕ) (s : State) (i : InOrder config s) where
       opened_stands config s.gates s.core.next_face i.gated s.core.faces s.core.hats s.names i.tied i.hats q s.core.next_face refl o (next_absent s i.sound) (is_there (is_some (hat_at o.region s.core.hats)) (all_passed (causes s.core (opening o)) h).0)
   granted_stands (call.Close f) h =
       let x = opened_face s i.sound i.tied f.0 (all_passed (causes s.core (closing f)) h).0 in
-      subst (λ hats. stand q (remove_entry (is_at (nat_cmp f.0)) s.gates) (remove_entry (is_at (nat_cmp f.0)) s.core.faces) hats (remove_entry (is_at (nat_cmp f.0)) s.names) ≡ cond (f.0 == q) None (standing_at q s)) (sym (ap (its_hats (without_face f.0)) x.1))
+      subst (λ hats. stand q (remove_entry (is_at (nat_cmp f.0)) s.gates) (remove_entry (is_at (nat_cmp f.0)) s.core.faces) hats (closed_naming f.0 s.names) ≡ cond (f.0 == q) None (standing_at q s)) (sym (ap (its_hats (without_face f.0)) x.1))
       (closed_stands config s.gates s.core.next_face i.gated s.core.faces s.core.hats s.names i.tied i.hats q f.0 x.0 x.1 i.sound.sorted)
   granted_stands (call.DeclareKeyExpr f id w) h =
       let x = opened_face s i.sound i.tied f.0 (all_passed (causes s.core (read s (call.DeclareKeyExpr f id w))) h).0 in

@@ -184,7 +184,7 @@ network_worded test (e ∷ es) all = by (if_any (filter (is_by test) e.1)) refl 
     by None s ih = ih
     by (Some xs) s ih = ((all.0.0, some_stay (filter (is_by test) e.1) xs s), ih)
 
-networked_worded : (net : Network) (h : HatState) → IsWorded h → IsWorded (networked net h)
+pub networked_worded : (net : Network) (h : HatState) → IsWorded h → IsWorded (networked net h)
 networked_worded net h w = by (strategy_at h)
   where
     by : (k : Strategy) → IsWorded (in_routers k (record h { network = net; entries = staying (is_listed net) h.entries }) h)

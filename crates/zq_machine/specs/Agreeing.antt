@@ -14,7 +14,7 @@ use Rattle.zq_query.specs.Closing.{at_face}
 use Rattle.zq_query.specs.Records.{Pending, Record, is_closed, is_entry, is_reply}
 use Rattle.zq_tables.specs.Naming.{Names, face_queryables, naming_at}
 use Rattle.zq_machine.specs.declared.face.OpenFace.{OpenFace}
-use Rattle.zq_machine.specs.State.{State, at, hat_at, hat_of, is_open}
+use Rattle.zq_machine.specs.State.{State, at, entry_rows, hat_at, hat_of, is_open}
 
 -- the open face is one of the region's
 abbrev pub stands_in : Region → OpenFace → Bool
@@ -67,7 +67,7 @@ pub record IsNumbered (records : List Record) (requests replies : ℕ) : Type 0 
   pub flights : (reply : ℕ) → length (filter (is_reply reply) (all_in_flight records)) ≤ 1
   pub flown : AllByRecursion (λ n. n < replies) (all_in_flight records)
 
--- no open face counts as closed; the hat of a region has the faces that are open there and no others, each as it was opened; each open face has a hat; what stands for keys is kept for the open faces and no others; and the queryables that hold the nodes of their keys at a face are those that its hat has, under the same ids with the same keys; no router's entry is under the gateway's own id; the face of each entry that is pending is open
+-- no open face counts as closed; the hat of a region has the faces that are open there and no others, each as it was opened; each open face has a hat; what stands for keys is kept for the open faces and no others; and the queryables that hold the nodes of their keys at a face are those that its hat has, under the same ids with the same keys; the keys of entries that hold nodes are those on which routers of the regions have entries; no router's entry is under the gateway's own id; the face of each entry that is pending is open
 pub record Agrees (s : State) : Type 0 where
   pub apart : (face : ℕ) → is_open face s.core ≡ true → is_closed s.core.queries.closed face ≡ false
   pub seats : (r : Region) (h : HatState) (face : ℕ) → hat_at r s.core.hats ≡ Some h → has_face face h ≡ is_open_in r face s.core.faces
@@ -75,6 +75,7 @@ pub record Agrees (s : State) : Type 0 where
   pub copies : (face : ℕ) (o : OpenFace) (h : HatState) (f : FaceState) → at face s.core.faces ≡ Some o → hat_of face s.core ≡ Some h → face_at face h ≡ Some f → IsCopy o f
   pub named : (face : ℕ) → is_some (naming_at face s.names) ≡ is_open face s.core
   pub held : (face : ℕ) (h : HatState) → hat_of face s.core ≡ Some h → face_queryables face s.names ≡ keys_in face h
+  pub routed : s.names.rows ≡ entry_rows s.core.hats
   pub foreign : (r : Region) (h : HatState) (key : List ℕ) → hat_at r s.core.hats ≡ Some h → entry_at s.core.config.zid.0 key h ≡ None
   pub targets : AllByRecursion (λ (e : Pending). is_open e.face s.core ≡ true) (all_pending s.core.queries.records)
   pub numbered : IsNumbered s.core.queries.records s.core.queries.requests s.core.queries.replies

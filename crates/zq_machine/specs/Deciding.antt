@@ -32,7 +32,7 @@ use Rattle.zq_query.specs.Closing.{closing_finals, after_close, finals_after, fi
 use Rattle.zq_query.specs.Polling.{is_due, timing_out, timeouts, after_poll, lacks_replies}
 use Rattle.zq_query.specs.Asking.{lacks_number, given_id, after_ask}
 use Rattle.zq_tables.specs.declared.resolved.Resolved.{Resolved}
-use Rattle.zq_tables.specs.Naming.{NamingState, no_keys, remaps, with_name, without_name, with_queryable, without_queryable, with_interest as holding_interest, without_interest as letting_interest, change_naming}
+use Rattle.zq_tables.specs.Naming.{NamingState, opened_naming, closed_naming, with_rows, remaps, with_name, without_name, with_queryable, without_queryable, with_interest as holding_interest, without_interest as letting_interest, change_naming}
 use Rattle.zq_machine.specs.declared.call.Opening.{Opening}
 use Rattle.zq_machine.specs.declared.call.Outcome.{Outcome}
 use Rattle.zq_machine.specs.declared.call.Outcome.TheVariants as outcome
@@ -42,7 +42,7 @@ use Rattle.zq_machine.specs.Messages.{Decided, Telling, TextMessage, text_final,
 use Rattle.zq_machine.specs.Neighbours.{due_told, marked, near_after, near_lack, with_new}
 use Rattle.zq_machine.specs.declared.face.OpenFace.{OpenFace}
 use Rattle.zq_machine.specs.Gates.{Gates, gate_for, is_sound, with_gate}
-use Rattle.zq_machine.specs.State.{Core, State, is_open, has_hat, is_full_region, hat_of, has_declared_in, clashes_in, joined, change_hat, change_hat_of}
+use Rattle.zq_machine.specs.State.{Core, State, is_open, has_hat, is_full_region, hat_of, has_declared_in, clashes_in, joined, change_hat, change_hat_of, entry_rows}
 use Rattle.zq_machine.specs.TextCalls.{TextCall, opening, closing, naming, unnaming, declaring, withdrawing, asking, replying, ending, reporting, passing, listing, finalizing, announcing, retracting, networking, tabling, hearing, unhearing}
 use Rattle.zq_machine.specs.Selecting.{asked_by, router_by, select, target_of, zid_of, is_unscoped, says_key, says_key_or_nothing, full_text}
 
@@ -338,16 +338,20 @@ is_accepted outcome.Done = true
 
 -- nothing stands for a key at a new face yet
 abbrev pub with_numbers : State → NamingState
-with_numbers s = insert_entry nat_cmp s.names s.core.next_face no_keys
+with_numbers s = opened_naming s.core.next_face s.names
 
 -- a face joins the open ones, with nothing that stands for a key yet
 abbrev pub seated : Opening → State → State
 seated o s = record s { core = with_open o s.core; names = with_numbers s }
 
+-- the keys of entries are those that the hats have after a call that was accepted
+abbrev pub rerouted : State → TextCall → NamingState
+rerouted s c = with_rows (entry_rows (accepted s.core c).hats) s.names
+
 -- what stands for keys after a call that was accepted
 abbrev pub renamed : State → TextCall → NamingState
 renamed s (opening o) = with_numbers s
-renamed s (closing face) = remove_entry (is_at (nat_cmp face.0)) s.names
+renamed s (closing face) = closed_naming face.0 s.names
 renamed s (naming face id said standing) = change_naming face.0 (with_name id (full_text said)) s.names
 renamed s (unnaming face id standing) = change_naming face.0 (without_name id) s.names
 renamed s (declaring face id said info node) = change_naming face.0 (with_queryable id (full_text said)) s.names
@@ -355,6 +359,9 @@ renamed s (withdrawing face id) = change_naming face.0 (without_queryable id) s.
 renamed s (hearing face id m None) = s.names
 renamed s (hearing face id m (Some said)) = change_naming face.0 (holding_interest id (full_text said)) s.names
 renamed s (unhearing face id) = change_naming face.0 (letting_interest id) s.names
+renamed s (announcing face said info node) = rerouted s (announcing face said info node)
+renamed s (retracting face said node) = rerouted s (retracting face said node)
+renamed s (networking r net) = rerouted s (networking r net)
 renamed s c = s.names
 
 -- ---- the gates of faces after it

@@ -1,7 +1,7 @@
 -- What a gateway is seen as between two calls: lists.
-use Rattle.std.specs.Prelude.{ℕ, ◌<◌, Bool, true, false, not, List, [], fold, Option, Some, None, if◌then◌else◌, nat_lt}
+use Rattle.std.specs.Prelude.{ℕ, ◌<◌, Bool, true, false, not, List, [], ◌∷◌, fold, map, Option, Some, None, if◌then◌else◌, nat_lt}
 use Rattle.std.specs.Option.{is_some, option_map, option_map_or, option_and_then}
-use Rattle.std.specs.List.{All}
+use Rattle.std.specs.List.{All, filter}
 use Rattle.std.specs.Map.{keys_of, lookup, set_value}
 use Rattle.std.specs.BTreeMap.{is_at}
 use Rattle.std.specs.Ordering.{nat_cmp}
@@ -11,13 +11,14 @@ use Rattle.zq_message.specs.declared.message.Zid.{Zid}
 use Rattle.zq_message.specs.declared.message.Region.TheVariants as region
 use Rattle.zq_message.specs.Region.{region_index}
 use Rattle.zq_message.specs.RegionMap.{value_at, with_entry}
+use Rattle.zq_index.specs.Texts.{at_text}
 use Rattle.zq_strategy.specs.Regions.{in_routers, strategy_at}
 use Rattle.zq_strategy.specs.State.{HatState}
 use Rattle.zq_strategy.specs.declared.types.FaceRecord.{FaceRecord}
 use Rattle.zq_strategy.specs.Kept.{clashes_at, declaration_at, has_face, is_full, new_hat, with_face_opened}
 use Rattle.zq_interests.specs.Interests.{Interests}
 use Rattle.zq_query.specs.Records.{QueryState}
-use Rattle.zq_tables.specs.Naming.{NamingState}
+use Rattle.zq_tables.specs.Naming.{EntryRows, NamingState, no_naming}
 use Rattle.zq_told.specs.ToldSets.{ToldSets}
 use Rattle.zq_route.specs.declared.gateways.Gateways.{Gateways}
 use Rattle.zq_machine.specs.declared.config.Entry.{Entry}
@@ -58,11 +59,28 @@ kind_of h = (h.region, (h.north_mode, h.own))
 abbrev pub no_queries : Settings → QueryState
 no_queries config = record { records = []; last_ids = []; closed = []; requests = config.start.requests; replies = config.start.replies; request_ids = config.start.request_ids }
 
+-- the keys on which routers of a region have an entry
+abbrev pub entry_row : ℕ × HatState → ℕ × List (List ℕ)
+entry_row p = (p.0, keys_of p.1.entries)
+
+-- there is a key
+abbrev pub has_keys : List (List ℕ) → Bool
+has_keys [] = false
+has_keys (k ∷ ks) = true
+
+-- the keys on which routers have entries, of each region that has one
+abbrev pub entry_rows : List (ℕ × HatState) → EntryRows
+entry_rows hats = filter (λ row. has_keys row.1) (map entry_row hats)
+
+-- routers of the region have an entry on the key
+abbrev pub has_entries : List ℕ → HatState → Bool
+has_entries key h = is_some (at_text key h.entries)
+
 -- the gateway before any call
 abbrev pub opening_state : Settings → State
 opening_state config = record {
   core = record { config = config; faces = []; next_face = config.start.faces; hats = first_hats config; tables = []; queries = no_queries config; interests = []; ears = [] };
-  names = [];
+  names = no_naming;
   gates = [];
 }
 

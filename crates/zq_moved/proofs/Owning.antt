@@ -23,7 +23,7 @@ use Rattle.zq_namespace.specs.Exit.{is_receiver}
 use Rattle.zq_namespace.specs.Leaves.{ExitState}
 use Rattle.zq_tables.specs.declared.resolved.Resolved.{Resolved}
 use Rattle.zq_tables.specs.declared.resolved.Resolved.TheVariants as said
-use Rattle.zq_tables.specs.Naming.{FaceKeys, FaceNaming, NamingState, change_naming, face_naming, naming_at, no_keys, no_names, said_of, said_plainly, said_under, sent_side, text_at, with_name, with_queryable, without_name, without_queryable, with_interest, without_interest}
+use Rattle.zq_tables.specs.Naming.{FaceKeys, FaceNaming, NamingState, change_naming, closed_naming, face_naming, naming_at, no_keys, no_names, opened_naming, said_of, said_plainly, said_under, sent_side, text_at, with_name, with_queryable, without_name, without_queryable, with_interest, without_interest}
 use Rattle.zq_machine.specs.declared.call.Call.{Call}
 use Rattle.zq_machine.specs.declared.call.Call.TheVariants as call
 use Rattle.zq_machine.specs.declared.call.Opening.{Opening}
@@ -34,7 +34,7 @@ use Rattle.zq_machine.specs.Gates.{Gate, Gates, denied_by, entered_by, gate_at, 
 use Rattle.zq_machine.specs.Hearing.{has_text}
 use Rattle.zq_machine.specs.Moved.{move_said}
 use Rattle.zq_machine.specs.Selecting.{full_text, says_key}
-use Rattle.zq_machine.specs.State.{Core, State, is_open}
+use Rattle.zq_machine.specs.State.{Core, State, at, is_open}
 use Rattle.zq_machine.specs.TextCalls.{read, said as says}
 use Rattle.zq_machine.proofs.Changing.{changed, found_here, found_other, naming_changed, number_test}
 use Rattle.zq_machine.proofs.Finals.{is_there}
@@ -76,9 +76,9 @@ unnamed_fits (Some e) k known id fits = record {
 changed_at : (face q : ℕ) (g : FaceKeys → FaceKeys) (names : NamingState) → naming_at q (change_naming face g names) ≡ cond (face == q) (option_map g (naming_at q names)) (naming_at q names)
 changed_at face q g names = ap (naming_at q) (naming_changed face g names) ∙ by (face == q) refl
   where
-    by : (b : Bool) → (face == q) ≡ b → naming_at q (changed face g names) ≡ cond b (option_map g (naming_at q names)) (naming_at q names)
-    by true e = found_here face g names q (number_test face q ∙ e)
-    by false e = found_other face g names q (number_test face q ∙ e)
+    by : (b : Bool) → (face == q) ≡ b → at q (changed face g names.faces) ≡ cond b (option_map g (naming_at q names)) (naming_at q names)
+    by true e = found_here face g names.faces q (number_test face q ∙ e)
+    by false e = found_other face g names.faces q (number_test face q ∙ e)
 
 -- what stands for keys at a face is changed
 module _ (o : Option (List ℕ)) (face q : ℕ) (g : FaceKeys → FaceKeys) (names : NamingState) (gate : Option Gate) (known known' : FaceNaming) (ready : Ready o (naming_at q names) gate known) where
@@ -142,19 +142,19 @@ first_there n o plain = record {
 
 module _ (o : Option (List ℕ)) (q next : ℕ) (names : NamingState) (gates : Gates) (g : Option Gate) (known : FaceNaming) (gated : Gated gates next) where
   joins_ready : Ready o (Some no_keys) g no_names → Ready o (naming_at q names) (gate_at q gates) known
-      → Ready o (naming_at q (insert_entry nat_cmp names next no_keys)) (gate_at q (with_gate next g gates)) (cond (next == q) no_names known)
+      → Ready o (naming_at q (opened_naming next names)) (gate_at q (with_gate next g gates)) (cond (next == q) no_names known)
   joins_ready first ready =
-      subst (λ x. Ready o x (gate_at q (with_gate next g gates)) (cond (next == q) no_names known)) (sym (found_after_insertion nat_cmp_total exact_unsigned next q no_keys names ∙ ap (λ b. cond b (Some no_keys) (naming_at q names)) (number_test next q)))
+      subst (λ x. Ready o x (gate_at q (with_gate next g gates)) (cond (next == q) no_names known)) (sym (found_after_insertion nat_cmp_total exact_unsigned next q no_keys names.faces ∙ ap (λ b. cond b (Some no_keys) (naming_at q names)) (number_test next q)))
       (subst (λ x. Ready o (cond (next == q) (Some no_keys) (naming_at q names)) x (cond (next == q) no_names known)) (sym (gate_joins gates next gated g q)) (by (next == q)))
     where
       by : (b : Bool) → Ready o (cond b (Some no_keys) (naming_at q names)) (cond b g (gate_at q gates)) (cond b no_names known)
       by true = first
       by false = ready
 
-  goes_ready : (face : ℕ) → IsStrictlySortedBy nat_cmp (keys_of names) → Ready o (naming_at q names) (gate_at q gates) known
-      → Ready o (naming_at q (remove_entry (is_at (nat_cmp face)) names)) (gate_at q (remove_entry (is_at (nat_cmp face)) gates)) known
+  goes_ready : (face : ℕ) → IsStrictlySortedBy nat_cmp (keys_of names.faces) → Ready o (naming_at q names) (gate_at q gates) known
+      → Ready o (naming_at q (closed_naming face names)) (gate_at q (remove_entry (is_at (nat_cmp face)) gates)) known
   goes_ready face sorted ready =
-      subst (λ x. Ready o x (gate_at q (remove_entry (is_at (nat_cmp face)) gates)) known) (sym (found_after_removal nat_cmp_total exact_unsigned face q names sorted ∙ ap (λ b. cond b None (naming_at q names)) (number_test face q)))
+      subst (λ x. Ready o x (gate_at q (remove_entry (is_at (nat_cmp face)) gates)) known) (sym (found_after_removal nat_cmp_total exact_unsigned face q names.faces sorted ∙ ap (λ b. cond b None (naming_at q names)) (number_test face q)))
       (subst (λ x. Ready o (cond (face == q) None (naming_at q names)) x known) (sym (gate_goes gates next gated face q)) (by (face == q)))
     where
       by : (b : Bool) → Ready o (cond b None (naming_at q names)) (cond b None (gate_at q gates)) known

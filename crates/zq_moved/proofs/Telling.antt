@@ -239,7 +239,7 @@ module _ (q : ℕ) (o : Option (List ℕ)) (text : List ℕ) where
         let after = change_naming to.0 (with_told_number (shift_by o t) (Some id)) names in
         let now : naming_at q after ≡ Some k1 =
         ap (naming_at q) (naming_changed to.0 (with_told_number (shift_by o t) (Some id)) names)
-        ∙ found_here to.0 (with_told_number (shift_by o t) (Some id)) names q (ap (λ f. is_at (nat_cmp f) q) (same_face to.0 q mine) ∙ itself q)
+        ∙ found_here to.0 (with_told_number (shift_by o t) (Some id)) names.faces q (ap (λ f. is_at (nat_cmp f) q) (same_face to.0 q mine) ∙ itself q)
         ∙ ap (option_map (with_told_number (shift_by o t) (Some id))) there in
         number_hears q o text to mine t id k known gates (next_unused k.numbers.theirs k.numbers.ours id new.next) new.part ready (declared to (make d.wire) ∷ rest after) keys (message.Declare (make (plain t)) ∷ rs)
         (λ g kn r. declared_mine mine d.wire (rest after) g k1 kn r says (more g kn (subst (λ z. Ready o z (gate_at q g) kn) (sym now) r)))
@@ -260,7 +260,7 @@ module _ (q : ℕ) (o : Option (List ℕ)) (text : List ℕ) where
         let i = declared to (make d.wire) in
         let g2 = with_given (through text g1 i) g1 in
         let same : naming_at q after ≡ naming_at q names =
-        ap (naming_at q) (naming_changed to.0 (with_told_number (shift_by o t) (Some id)) names) ∙ found_other to.0 (with_told_number (shift_by o t) (Some id)) names q (number_test to.0 q ∙ other) in
+        ap (naming_at q) (naming_changed to.0 (with_told_number (shift_by o t) (Some id)) names) ∙ found_other to.0 (with_told_number (shift_by o t) (Some id)) names.faces q (number_test to.0 q ∙ other) in
         let gate : gate_at q g2 ≡ gate_at q gates = other_given q (through text g1 i) g1 other ∙ other_given q (through text gates h) gates other in
         hears_other q text h (i ∷ rest after) gates known keys rs other
         (hears_other q text i (rest after) g1 known keys rs other

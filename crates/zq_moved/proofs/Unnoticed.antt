@@ -229,7 +229,7 @@ finish_moved φ c (p ∷ ps) = refl
 tells_open : (q : ℕ) (c : Core) (ts : List Telling) (names : NamingState) → is_some (naming_at q (tell c ts names).names) ≡ is_some (naming_at q names)
 tells_open q c ts names =
     told_keeps (λ w. is_some (naming_at q w) ≡ is_some (naming_at q names))
-    (λ face text id w e. ap (λ x. is_some (naming_at q x)) (naming_changed face (with_told_number text (Some id)) w) ∙ there face (with_told_number text (Some id)) w q ∙ e)
+    (λ face text id w e. ap (λ x. is_some (naming_at q x)) (naming_changed face (with_told_number text (Some id)) w) ∙ there face (with_told_number text (Some id)) w.faces q ∙ e)
     c ts names refl
 
 some_behind : (n t : List ℕ) → has_text (behind n t) ≡ true

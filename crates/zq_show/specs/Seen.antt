@@ -20,7 +20,7 @@ use Rattle.zq_route.specs.declared.gateways.Gateways.{Gateways}
 use Rattle.zq_tables.specs.declared.resolved.Resolved.{Resolved}
 use Rattle.zq_tables.specs.declared.resolved.Resolved.TheVariants as said
 use Rattle.zq_tables.specs.FaceTexts.{declared_key}
-use Rattle.zq_tables.specs.Naming.{NamingState, change_naming, declare_refusal, face_naming, no_keys, said_of, with_name, with_told_number, without_name}
+use Rattle.zq_tables.specs.Naming.{NamingState, change_naming, closed_naming, declare_refusal, face_naming, no_naming, opened_naming, said_of, with_name, with_told_number, without_name}
 use Rattle.zq_machine.specs.declared.call.Call.{Call}
 use Rattle.zq_machine.specs.declared.call.Call.TheVariants as call
 use Rattle.zq_machine.specs.declared.call.Opening.{Opening}
@@ -50,7 +50,7 @@ pub record SeenState : Type 0 where
 
 -- before any call
 abbrev pub no_faces : SeenState
-no_faces = record { faces = []; lists = []; names = []; gates = []; owned = [] }
+no_faces = record { faces = []; lists = []; names = no_naming; gates = []; owned = [] }
 
 -- what an expression says that a face sends, behind its namespace
 abbrev pub said_in : NamingState → Gates → FaceId → WireExpr → Resolved
@@ -108,13 +108,13 @@ named face id text names = option_map_or (λ _. names) (declare_refusal id text 
 
 -- a face that was opened has no numbers
 abbrev pub with_opened_names : Outcome → NamingState → NamingState
-with_opened_names (outcome.Opened face) names = insert_entry nat_cmp names face.0 no_keys
+with_opened_names (outcome.Opened face) names = opened_naming face.0 names
 with_opened_names _ names = names
 
 -- the numbers after a call that was not refused, but for those that the gateway gives
 abbrev pub names_after : Gates → Outcome → Call → NamingState → NamingState
 names_after gates o (call.Open opening) names = with_opened_names o names
-names_after gates o (call.Close face) names = remove_entry (is_at (nat_cmp face.0)) names
+names_after gates o (call.Close face) names = closed_naming face.0 names
 names_after gates o (call.DeclareKeyExpr face id wire) names = named face.0 id (full_text (said_in names gates face wire)) names
 names_after gates o (call.UndeclareKeyExpr face id) names = change_naming face.0 (without_name id) names
 names_after gates o _ names = names

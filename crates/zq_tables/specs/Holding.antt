@@ -1,16 +1,20 @@
--- How the numbers, the queryables and the interests of the faces stand for nodes of the names, and hold them.
-use Rattle.std.specs.Prelude.{◌≡◌, ℕ, suc, ◌+◌, ◌<◌, ◌≤◌, ◌==◌, Bool, true, false, List, [], ◌∷◌, map, Option, Some, None, if◌then◌else◌, ◌⊎◌}
+-- How the numbers, the queryables and the interests of the faces, and the entries of routers, stand for nodes of the names, and hold them.
+use Rattle.std.specs.Prelude.{◌≡◌, ℕ, suc, ◌+◌, ◌<◌, ◌≤◌, ◌==◌, Bool, true, false, List, [], ◌∷◌, map, length, Option, Some, None, if◌then◌else◌, ◌⊎◌}
 use Rattle.std.specs.Option.{is_some}
-use Rattle.std.specs.List.{All, Contains}
+use Rattle.std.specs.List.{All, Contains, insert, list_any, remove}
+use Rattle.std.specs.List.Sorted.{IsStrictlySortedBy}
 use Rattle.std.specs.Ordering.{nat_cmp}
 use Rattle.std.specs.Map.{lookup, set_value, values_of}
 use Rattle.std.specs.BTreeMap.{is_at}
+use Rattle.std.specs.BTreeSet.{insert_key}
+use Rattle.std.specs.Set.{remove_key}
+use Rattle.zq_names.specs.Texts.{text_cmp}
 use Rattle.zq_names.specs.Names.{NameEntry, ids, entry_at}
 use Rattle.zq_names.specs.Keeping.{AllStay}
 use Rattle.zq_names.specs.Idle.{IdleAt, NoneIdle}
 use Rattle.zq_tables.specs.FaceIds.{FaceIds, of_id, next_id, side, with_side, with_id, without_id}
 use Rattle.zq_tables.specs.FaceTexts.{id_texts, texts_of}
-use Rattle.zq_tables.specs.Naming.{FaceKeys, Names, NamingState, first_stays, sent_side, with_sent}
+use Rattle.zq_tables.specs.Naming.{EntryRows, FaceKeys, IsEntryRow, Names, NamingState, first_stays, sent_side, with_sent}
 use Rattle.zq_tables.specs.declared.holder.Holder.{Holder}
 use Rattle.zq_tables.specs.declared.holder.Holder.TheVariants.{Number, Queryable, Interest}
 
@@ -28,9 +32,25 @@ Faces = List (ℕ × FaceHolds)
 abbrev pub keys_of_face : List NameEntry → FaceHolds → FaceKeys
 keys_of_face names f = record { numbers = texts_of names f.numbers; queryables = id_texts names f.queryables; interests = id_texts names f.interests }
 
+-- the regions where routers have an entry, each with the nodes of the entries' keys, by text
+abbrev pub EntryNodes : Type 0
+EntryNodes = List (ℕ × List ℕ)
+
+-- the texts of nodes
+abbrev pub node_texts : List NameEntry → List ℕ → List (List ℕ)
+node_texts names nodes = map (λ n. (entry_at names n).text) nodes
+
 -- each face with the texts of its nodes
-abbrev pub texts_by : List NameEntry → Faces → NamingState
-texts_by names faces = map (λ p. (p.0, keys_of_face names p.1)) faces
+abbrev pub keys_by : List NameEntry → Faces → List (ℕ × FaceKeys)
+keys_by names faces = map (λ p. (p.0, keys_of_face names p.1)) faces
+
+-- each region with the texts of its nodes
+abbrev pub rows_by : List NameEntry → EntryNodes → EntryRows
+rows_by names rows = map (λ p. (p.0, node_texts names p.1)) rows
+
+-- each face and each region with the texts of its nodes
+abbrev pub texts_by : List NameEntry → Faces → EntryNodes → NamingState
+texts_by names faces rows = record { faces = keys_by names faces; rows = rows_by names rows }
 
 -- what holds nodes at an open face
 abbrev pub ids_at : ℕ → Faces → Option FaceHolds
@@ -146,6 +166,19 @@ face_holds i f = side_holds i f.numbers.theirs + side_holds i f.numbers.ours + s
 abbrev pub holds_by : ℕ → Faces → ℕ
 holds_by i faces = weigh (face_holds i) faces
 
+-- how many nodes of a row are the node i
+abbrev pub row_holds : ℕ → List ℕ → ℕ
+row_holds i [] = 0
+row_holds i (n ∷ nodes) = hold_of i n + row_holds i nodes
+
+-- how many regions have an entry whose key stands for the node i
+abbrev pub rows_hold : ℕ → EntryNodes → ℕ
+rows_hold i rows = weigh (row_holds i) rows
+
+-- how often all of these hold the node i
+abbrev pub all_holds : ℕ → Faces → EntryNodes → ℕ
+all_holds i faces rows = holds_by i faces + rows_hold i rows
+
 -- the ids rise from the first one on, and are below the limit
 abbrev pub Rises : {X : Type 0} → ℕ → ℕ → List (ℕ × X) → Type 0
 Rises limit first [] = first ≤ limit
@@ -167,19 +200,47 @@ limit Interest = 4294967296
 pub record IsFace (f : FaceHolds) : Type 0 where
   pub rises : (h : Holder) → Rises (limit h) (least h) (held_ids h f)
 
--- each node that is stood for is live, each node is held once for each number, queryable and interest that stands for it, and none is there for nothing
-pub record IsHeld (names : List NameEntry) (faces : Faces) : Type 0 where
-  pub live : (i : ℕ) → 0 < holds_by i faces → Contains (ids names) i
-  pub counted : (i : ℕ) → Contains (ids names) i → (entry_at names i).holds ≡ holds_by i faces
+-- the indices of the regions rise, each has a node, and the nodes rise by their texts
+pub record AreRows (names : List NameEntry) (rows : EntryNodes) : Type 0 where
+  pub regions : Rises 770 0 rows
+  pub each : All IsEntryRow (values_of (rows_by names rows))
+
+-- each node that is stood for is live, each node is held once for each number, queryable and interest that stands for it and once for each region with an entry on its text, and none is there for nothing
+pub record IsHeld (names : List NameEntry) (faces : Faces) (rows : EntryNodes) : Type 0 where
+  pub live : (i : ℕ) → 0 < all_holds i faces rows → Contains (ids names) i
+  pub counted : (i : ℕ) → Contains (ids names) i → (entry_at names i).holds ≡ all_holds i faces rows
   pub sides : All IsFace (values_of faces)
+  pub order : AreRows names rows
   pub lean : NoneIdle names
 
 -- the same, with the node n held once more
-pub record InHand (names : List NameEntry) (faces : Faces) (n : ℕ) : Type 0 where
-  pub live : (i : ℕ) → 0 < holds_by i faces + hold_of i n → Contains (ids names) i
-  pub counted : (i : ℕ) → Contains (ids names) i → (entry_at names i).holds ≡ holds_by i faces + hold_of i n
+pub record InHand (names : List NameEntry) (faces : Faces) (rows : EntryNodes) (n : ℕ) : Type 0 where
+  pub live : (i : ℕ) → 0 < all_holds i faces rows + hold_of i n → Contains (ids names) i
+  pub counted : (i : ℕ) → Contains (ids names) i → (entry_at names i).holds ≡ all_holds i faces rows + hold_of i n
   pub sides : All IsFace (values_of faces)
+  pub order : AreRows names rows
   pub lean : NoneIdle names
+
+-- ---- where a key stands in a row
+
+-- the number is a node's
+pub record IsNode (names : List NameEntry) (n : ℕ) : Type 0 where
+  pub live : Contains (ids names) n
+
+-- the key is the text at a place
+pub record StandsAt (texts : List (List ℕ)) (key : List ℕ) (at : ℕ) : Type 0 where
+  pub in_range : at < length texts
+  pub there : list_any (is_at (text_cmp key)) texts ≡ true
+  pub stays : insert_key text_cmp texts key ≡ texts
+  pub out : remove_key (is_at (text_cmp key)) texts ≡ remove texts at
+  pub rise : IsStrictlySortedBy text_cmp (remove texts at)
+
+-- the key is none of the texts, and would go to a place
+pub record GoesTo (texts : List (List ℕ)) (key : List ℕ) (at : ℕ) : Type 0 where
+  pub in_range : at ≤ length texts
+  pub absent : list_any (is_at (text_cmp key)) texts ≡ false
+  pub put : insert_key text_cmp texts key ≡ insert texts at key
+  pub rise : IsStrictlySortedBy text_cmp (insert texts at key)
 
 -- ---- a hold is taken, and released
 

@@ -1,15 +1,18 @@
 -- What stands for keys at each open face, by number or by the id of a queryable or an interest, and what expressions say by it.
-use Rattle.std.specs.Prelude.{ℕ, ◌==◌, Bool, false, not, ◌||◌, is_some, List, [], ◌∷◌, ◌++◌, Option, Some, None, if◌then◌else◌, unwrap_or}
-use Rattle.std.specs.List.{flat_map, list_any}
+use Rattle.std.specs.Prelude.{ℕ, ◌<◌, length, ◌==◌, Bool, false, not, ◌||◌, is_some, List, [], ◌∷◌, ◌++◌, Option, Some, None, if◌then◌else◌, unwrap_or}
+use Rattle.std.specs.List.{All, flat_map, list_any}
+use Rattle.std.specs.List.Sorted.{IsStrictlySortedBy}
 use Rattle.std.specs.Str.{bytes_eq}
 use Rattle.std.specs.Ordering.{nat_cmp}
-use Rattle.std.specs.Map.{lookup, remove_entry, set_value, values_of}
+use Rattle.std.specs.Map.{keys_of, lookup, remove_entry, set_value, values_of}
 use Rattle.std.specs.BTreeMap.{is_at, insert_entry}
+use Rattle.std.specs.BTreeSet.{insert_key}
+use Rattle.std.specs.Set.{remove_key}
 use Rattle.zq_key.specs.Key.{is_key}
 use Rattle.zq_message.specs.declared.message.Mapping.{Mapping}
 use Rattle.zq_message.specs.declared.message.Mapping.TheVariants as mapping
 use Rattle.zq_message.specs.declared.message.WireExpr.{WireExpr}
-use Rattle.zq_names.specs.Texts.{heads}
+use Rattle.zq_names.specs.Texts.{heads, text_cmp}
 use Rattle.zq_names.specs.declared.refusal.NameRefusal.{NameRefusal}
 use Rattle.zq_names.specs.declared.refusal.NameRefusal.TheVariants as refusal
 use Rattle.zq_tables.specs.FaceIds.{of_id}
@@ -31,21 +34,30 @@ pub record FaceKeys : Type 0 where
   pub queryables : Names
   pub interests : Names
 
--- the open faces, each with what stands for keys there, by face number
-abbrev pub NamingState : Type 0
-NamingState = List (ℕ × FaceKeys)
+-- the keys on which routers of a region have an entry, by region index and by text; a region without an entry has no row
+abbrev pub EntryRows : Type 0
+EntryRows = List (ℕ × List (List ℕ))
+
+-- what stands for keys: at the open faces, by face number, and for the entries of routers
+pub record NamingState : Type 0 where
+  pub faces : List (ℕ × FaceKeys)
+  pub rows : EntryRows
 
 -- no number is declared on either side
 abbrev pub no_names : FaceNaming
 no_names = record { theirs = []; ours = [] }
 
--- nothing stands for a key
+-- nothing stands for a key at a face
 abbrev pub no_keys : FaceKeys
 no_keys = record { numbers = no_names; queryables = []; interests = [] }
 
+-- no face is open, and no router has an entry
+abbrev pub no_naming : NamingState
+no_naming = record { faces = []; rows = [] }
+
 -- what stands for keys at a face, if it is open
 abbrev pub naming_at : ℕ → NamingState → Option FaceKeys
-naming_at face s = lookup (is_at (nat_cmp face)) s
+naming_at face s = lookup (is_at (nat_cmp face)) s.faces
 
 -- what stands for keys at a face, nothing where it isn't open
 abbrev pub face_keys : ℕ → NamingState → FaceKeys
@@ -147,11 +159,56 @@ with_told_number text id n = record n { numbers = with_declared n.numbers text i
 -- what stands for keys at a face is changed, where the face is open
 abbrev pub put_naming : ℕ → (FaceKeys → FaceKeys) → NamingState → Option FaceKeys → NamingState
 put_naming face f s None = s
-put_naming face f s (Some n) = set_value (is_at (nat_cmp face)) s (f n)
+put_naming face f s (Some n) = record s { faces = set_value (is_at (nat_cmp face)) s.faces (f n) }
 
 -- what stands for keys at an open face is changed
 abbrev pub change_naming : ℕ → (FaceKeys → FaceKeys) → NamingState → NamingState
 change_naming face f s = put_naming face f s (naming_at face s)
+
+-- a face is opened, with nothing that stands for a key there
+abbrev pub opened_naming : ℕ → NamingState → NamingState
+opened_naming face s = record s { faces = insert_entry nat_cmp s.faces face no_keys }
+
+-- a face is closed, with all that stood for keys there
+abbrev pub closed_naming : ℕ → NamingState → NamingState
+closed_naming face s = record s { faces = remove_entry (is_at (nat_cmp face)) s.faces }
+
+-- ---- entries of routers
+
+-- with other rows of entries
+abbrev pub with_rows : EntryRows → NamingState → NamingState
+with_rows rows s = record s { rows = rows }
+
+-- what a region has in its row, nothing where it has none
+abbrev pub row_at : {X : Type 0} → ℕ → List (ℕ × List X) → List X
+row_at region rows = unwrap_or (lookup (is_at (nat_cmp region)) rows) []
+
+-- a region has this row from then on, and none where nothing is in it
+abbrev pub with_row : {X : Type 0} → ℕ → List X → List (ℕ × List X) → List (ℕ × List X)
+with_row region [] rows = remove_entry (is_at (nat_cmp region)) rows
+with_row region (k ∷ ks) rows = insert_entry nat_cmp rows region (k ∷ ks)
+
+-- routers of the region have an entry on the key
+abbrev pub has_entry_key : ℕ → List ℕ → NamingState → Bool
+has_entry_key region key s = list_any (is_at (text_cmp key)) (row_at region s.rows)
+
+-- routers of the region have an entry on the key from then on
+abbrev pub with_entry_key : ℕ → List ℕ → NamingState → NamingState
+with_entry_key region key s = with_rows (with_row region (insert_key text_cmp (row_at region s.rows) key) s.rows) s
+
+-- routers of the region have no entry on the key any more
+abbrev pub without_entry_key : ℕ → List ℕ → NamingState → NamingState
+without_entry_key region key s = with_rows (with_row region (remove_key (is_at (text_cmp key)) (row_at region s.rows)) s.rows) s
+
+-- a row has keys, which rise by text
+pub record IsEntryRow (keys : List (List ℕ)) : Type 0 where
+  pub some : 0 < length keys
+  pub rise : IsStrictlySortedBy text_cmp keys
+
+-- the regions rise by index, and each has a row
+pub record AreEntryRows (rows : EntryRows) : Type 0 where
+  pub regions : IsStrictlySortedBy nat_cmp (keys_of rows)
+  pub each : All IsEntryRow (values_of rows)
 
 -- another text stands there
 abbrev pub is_other : List ℕ → Option (List ℕ) → Bool
@@ -178,11 +235,11 @@ best n text = best_key n text
 abbrev pub face_texts : FaceKeys → List (List ℕ)
 face_texts n = values_of n.numbers.theirs ++ values_of n.numbers.ours ++ values_of n.queryables ++ values_of n.interests
 
--- the texts that the numbers, the queryables and the interests of all open faces stand for
+-- the texts that the numbers, the queryables and the interests of all open faces stand for, and those of the entries of routers
 abbrev pub all_texts : NamingState → List (List ℕ)
-all_texts s = flat_map face_texts (values_of s)
+all_texts s = flat_map face_texts (values_of s.faces) ++ flat_map (λ (p : ℕ × List (List ℕ)). p.1) s.rows
 
--- a number, a queryable or an interest stands for the text, or for one of which it is a part that ends before a `/`; the empty text is the root's, and no such part
+-- a number, a queryable, an interest or an entry of a router stands for the text, or for one of which it is a part that ends before a `/`; the empty text is the root's, and no such part
 abbrev pub has_context : List ℕ → NamingState → Bool
 has_context [] s = false
 has_context (b ∷ t) s = list_any (bytes_eq (b ∷ t)) (flat_map heads (all_texts s))

@@ -1,7 +1,9 @@
 //! What holds nodes of the names at each face.
-ghost use Rattle.std.specs.Prelude.{◌≡◌, IfOk, IfNone, OnOk, OnErr, option_map, false, slice_get};
+ghost use Rattle.std.specs.Prelude.{◌≡◌, ℕ, ◌<◌, IfOk, IfNone, OnOk, OnErr, option_map, false, slice_get};
+ghost use Rattle.std.specs.List.{Contains};
 ghost use Rattle.std.specs.Map.{keys_of};
-ghost use Rattle.zq_tables.specs.Holding.{Declares, IsHeld, IsNext, are_numbers, change_ids, ids_at, ids_in, node_at as node_of, settled_at, with_node, without_node};
+ghost use Rattle.zq_names.specs.Names.{ids};
+ghost use Rattle.zq_tables.specs.Holding.{Declares, IsNext, are_numbers, change_ids, holds_by, ids_at, ids_in, node_at as node_of, settled_at, with_node, without_node};
 
 use crate::face_nodes::FaceNodes;
 use crate::holder::Holder;
@@ -100,7 +102,7 @@ pub(crate) fn declare_at(
     id: u16,
     wire: &WireExpr,
 ) -> Result<ResourceId, OutOfMemory>
-    requires held { IsHeld names.old faces.old.entries }
+    requires live { (i : ℕ) → 0 < holds_by i faces.old.entries → Contains (ids names.old) i }
     requires new { settled_at (Holder.Number Mapping.Sender) face id faces.old.entries ≡ false }
     requires whole { wire.now.scope ≡ 0 }
     ensures ok { IfOk result (λ r. Declares names.old names.new faces.old.entries faces.new.entries face id wire.now.suffix r.0) }

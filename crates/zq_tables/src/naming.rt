@@ -1,13 +1,12 @@
-//! The numbers, the queryables and the interests of every open face.
-ghost use Rattle.std.specs.Prelude.{◌≡◌, ◌<◌, [], false, None, Some, IfErr, IfOk, IfNone, IfSome, OnOk, OnErr, true, is_none, is_some, option_copied, length, slice_get};
-ghost use Rattle.std.specs.Ordering.{nat_cmp};
-ghost use Rattle.std.specs.Map.{keys_of, remove_entry};
-ghost use Rattle.std.specs.BTreeMap.{is_at, insert_entry};
+//! The numbers, the queryables and the interests of every open face, and the keys on which routers of a region have an entry.
+ghost use Rattle.std.specs.Prelude.{◌≡◌, ◌<◌, [], false, None, Some, IfErr, IfOk, IfNone, IfSome, OnOk, OnErr, not, true, is_none, is_some, option_copied, length, slice_get};
+ghost use Rattle.std.specs.Map.{keys_of};
 ghost use Rattle.zq_key.specs.Key.{is_key as key_of};
+ghost use Rattle.zq_message.specs.Region.{HasIndex, region_index};
 ghost use Rattle.zq_tables.specs.FaceIds.{next_id};
 ghost use Rattle.zq_tables.specs.FaceTexts.{IsReason, declared_key};
 ghost use Rattle.zq_tables.specs.Holding.{are_numbers, held_keys, with_first_key, with_key, without_key, without_keys};
-ghost use Rattle.zq_tables.specs.Naming.{best, change_naming, declare_refusal, face_interests, face_keys, face_naming, face_queryables, has_context as has_context_of, no_keys, read_by, said_of, text_at, with_interest, with_name, with_queryable, with_told_number, without_interest, without_name, without_queryable, without_sent};
+ghost use Rattle.zq_tables.specs.Naming.{AreEntryRows, best, change_naming, closed_naming, declare_refusal, face_interests, face_keys, face_naming, face_queryables, has_context as has_context_of, has_entry_key, no_keys, no_naming, opened_naming, read_by, said_of, text_at, with_entry_key, with_interest, with_name, with_queryable, with_told_number, without_entry_key, without_interest, without_name, without_queryable, without_sent};
 
 use crate::choice::{plain, whole};
 use crate::face_nodes::FaceNodes;
@@ -16,21 +15,25 @@ use crate::hold::{let_go, take_hold};
 use crate::holder::Holder;
 use crate::number::{remaps, said_plainly, said_under};
 use crate::resolved::Resolved;
-use crate::{DeclKey, FaceNames};
+use crate::rows::{EntryNodes, find, put, take};
+use crate::{DeclKey, FaceNames, region_to_index};
 use std::alloc::Global;
 use std::collections::BTreeMap;
 use std::marker::Model;
 use zq_key::memory::OutOfMemory;
-use zq_key::message::{FaceId, Mapping, WireExpr};
+use zq_key::message::{FaceId, Mapping, Region, WireExpr};
 use zq_key::text::Text;
 use zq_key::{Key, is_key};
 use zq_names::{NameRefusal, Names, nonwild};
 
-/// The numbers, the queryables and the interests of every open face, which hold the nodes that they
-/// stand for. An interest without a key holds none. A node goes with its last hold.
+/// The numbers, the queryables and the interests of every open face, and the keys on which routers
+/// of a region have an entry, which hold the nodes that they stand for. An interest without a key
+/// holds none; the entries of a region on one key hold its node once. A node goes with its last
+/// hold.
 pub struct Naming {
     names: Names,
     faces: Faces,
+    rows: EntryNodes,
     alloc: Global,
 }
 
@@ -39,6 +42,7 @@ impl Drop for Naming {
         let Naming {
             names,
             faces,
+            rows,
             alloc,
         } = self;
     }
@@ -50,26 +54,27 @@ impl Model for Naming {
 
     ghost Value = { NamingState };
 
-    ghost view = { λ s. texts_by s.names s.faces.entries };
+    ghost view = { λ s. texts_by s.names s.faces.entries s.rows.entries };
 
-    ghost invariant = { λ s. IsHeld s.names s.faces.entries };
+    ghost invariant = { λ s. IsHeld s.names s.faces.entries s.rows.entries };
 }
 
 impl Naming {
-    /// No face is open.
+    /// No face is open, and no router has an entry.
     pub fn new(alloc: Global) -> Result<Naming, OutOfMemory>
-        ensures { IfOk result (λ n. n ≡ []) }
+        ensures { IfOk result (λ n. n ≡ no_naming) }
     {
         Ok(Naming {
             names: Names::new(alloc)?,
             faces: BTreeMap::new(alloc),
+            rows: BTreeMap::new(alloc),
             alloc,
         })
     }
 
     /// A face is opened, with no numbers, no queryables and no interests.
     pub fn open(&mut self, face: FaceId) -> Result<(), OutOfMemory>
-        ensures ok { OnOk result (self.new ≡ insert_entry nat_cmp self.old face.0 no_keys) }
+        ensures ok { OnOk result (self.new ≡ opened_naming face.0 self.old) }
         ensures err { OnErr result (self.new ≡ self.old) }
     {
         // the faces stand in order, so that a face that is open stays at its place
@@ -87,7 +92,7 @@ impl Naming {
     /// A face is closed, and gives up its numbers, its queryables and its interests. It takes no
     /// memory.
     pub fn close(&mut self, face: FaceId)
-        ensures { self.new ≡ remove_entry (is_at (nat_cmp face.0)) self.old }
+        ensures { self.new ≡ closed_naming face.0 self.old }
     {
         self.give_up(face);
         let _ = self.faces.remove(&face.0);
@@ -170,8 +175,8 @@ impl Naming {
     }
 
     /// Whether the text, or one of which it is a part that ends before a `/`, is what a number, a
-    /// queryable or an interest of an open face stands for: whether the names have its node. The
-    /// root has none.
+    /// queryable or an interest of an open face stands for, or the key of a router's entry: whether
+    /// the names have its node. The root has none.
     pub fn has_context(&self, text: &str) -> bool
         ensures { result ≡ has_context_of text.now self.now }
     {
@@ -424,5 +429,53 @@ impl Naming {
         ensures { self.new ≡ change_naming face.0 (without_interest id) self.old }
     {
         self.release(face, Holder::Interest, id);
+    }
+
+    /// Whether routers of the region have an entry on the key.
+    pub fn holds_entry(&self, region: &Region, key: &str) -> bool
+        requires { HasIndex region.now }
+        ensures { result ≡ has_entry_key (region_index region.now) key.now self.now }
+    {
+        find(&self.rows, &self.names, region_to_index(region), key).is_ok()
+    }
+
+    /// Routers of the region have an entry on the key from then on, which holds its node; where
+    /// they have one, nothing changes and no memory is taken. Answers whether they had none before.
+    pub fn hold_entry(&mut self, region: &Region, key: &Key) -> Result<bool, OutOfMemory>
+        requires { HasIndex region.now }
+        ensures fresh { IfOk result (λ b. b ≡ not (has_entry_key (region_index region.now) key.now self.old)) }
+        ensures ok { OnOk result (self.new ≡ with_entry_key (region_index region.now) key.now self.old) }
+        ensures err { OnErr result (self.new ≡ self.old) }
+        ensures rows { AreEntryRows self.old.rows }
+    {
+        // so many faces at most bound how often a node is held
+        let _open = self.faces.len();
+        let index = region_to_index(region);
+        let text = key.as_str();
+        let Err(at) = find(&self.rows, &self.names, index, text) else {
+            return Ok(false);
+        };
+        let node = take_hold(&mut self.names, text)?;
+        match put(self.alloc, &mut self.rows, index, at, node) {
+            Ok(()) => Ok(true),
+            Err(refusal) => {
+                let_go(&mut self.names, node);
+                Err(refusal)
+            }
+        }
+    }
+
+    /// Routers of the region have no entry on the key any more, and its node goes with its last
+    /// hold. It takes no memory. Where they have none, nothing changes.
+    pub fn release_entry(&mut self, region: &Region, key: &str)
+        requires { HasIndex region.now }
+        ensures { self.new ≡ without_entry_key (region_index region.now) key.now self.old }
+    {
+        let index = region_to_index(region);
+        let Ok(at) = find(&self.rows, &self.names, index, key) else {
+            return;
+        };
+        let node = take(&mut self.rows, index, at);
+        let_go(&mut self.names, node);
     }
 }

@@ -1,4 +1,4 @@
-//! Tests of declared keys, networks, what faces ask to hear and were told, of hats, and of the choice among offers.
+//! Tests of declared keys, networks, what faces ask to hear and were told, of hats, of the choice among offers, and of routes that are kept.
 #![tactic(auto)]
 
 #[cfg(test)]
@@ -13,6 +13,8 @@ mod interests;
 mod region;
 #[cfg(test)]
 mod route;
+#[cfg(test)]
+mod routes;
 #[cfg(test)]
 mod sources;
 #[cfg(test)]
