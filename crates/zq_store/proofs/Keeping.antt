@@ -10,7 +10,7 @@ use Rattle.zq_key.specs.Key.{includes, is_key, is_plain}
 use Rattle.zq_local.specs.Seated.{IsSeated}
 use Rattle.zq_machine.specs.Configs.{Settings}
 use Rattle.zq_store.specs.Held.{Change, delete, put}
-use Rattle.zq_store.specs.Stores.{Stored, change_at, change_by, changed_store, fits_store, holds_own, new_store, numbered, refusal_at}
+use Rattle.zq_store.specs.Stores.{Stored, change_by, changed_store, holds_own, new_store, numbered, refusal_at}
 use Rattle.zq_store.specs.Bus.{BusState, IsBus, add_refusal, added, free_face, new_bus, new_refusal, put_refusal, with_change}
 use Rattle.zq_store.specs.declared.stores.PutRefusal.{PutRefusal}
 use Rattle.zq_store.specs.declared.stores.PutRefusal.TheVariants as unput

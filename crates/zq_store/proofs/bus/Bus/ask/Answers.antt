@@ -1,9 +1,9 @@
 use Rattle.std.proofs.Common.{◌≡◌, ◌∙◌, ◌++◌, ◌∷◌, ◌+◌, ◌<◌, ◌^◌, None, true, false, ap, arith, length, map, subst, sym}
 use Rattle.zq_key.specs.Key.{is_key}
-use Rattle.zq_machine.specs.Machine.{state_after, step, steps_from}
+use Rattle.zq_machine.specs.Machine.{state_after, steps_from}
 use Rattle.zq_store.specs.Answered.{IsAnswered}
 use Rattle.zq_store.specs.Bus.{BusState, IsBus, IsServed}
-use Rattle.zq_store.specs.Getting.{after_get, answers_of, ask_call, asked_of, end_call, get_answers, get_asks, get_refusal, got_of, got_reply, handed_over, reply_calls}
+use Rattle.zq_store.specs.Getting.{after_get, answers_of, ask_call, asked_of, end_call, get_refusal, got_of, got_reply, handed_over, reply_calls}
 use Rattle.zq_store.specs.declared.got.Got.{Got}
 use Rattle.zq_store.proofs.Answering.{answered, answered_all, got_keeps, got_served, not_spent, replies_fit}
 use Rattle.zq_store.proofs.Runs.{after_whole, handed_whole}
@@ -56,7 +56,7 @@ invariant_of-self-2 c =
     let next = c.len.ensures ∙ ap length answers in
     let free : get_refusal key b ≡ None = ap (get_refusal key) c.self.view_is ∙ c.requires.free in
     let left : ◌≡◌ {A = BusState} (record { gateway = c.end_all.new.gateway; asker = i.asker; next_face = i.next_face; next_request = i.next_request + 1; next_reply = i.next_reply + c.len.result; stores = i.stores; spent = false }) (after_get b key target now) =
-        λ j. record { gateway = after j; asker = i.asker; next_face = i.next_face; next_request = i.next_request + 1; next_reply = i.next_reply + next j; stores = i.stores; spent = sym (not_spent b key free) j } in
+    λ j. record { gateway = after j; asker = i.asker; next_face = i.next_face; next_request = i.next_request + 1; next_reply = i.next_reply + next j; stores = i.stores; spent = sym (not_spent b key free) j } in
     let keyed : is_key key ≡ true = ap is_key (sym c.as_str-text.ensures.text) ∙ c.as_str-text.ensures.key in
     subst IsBus (sym left) (got_keeps b c.self.invariant key keyed target now free)
 
@@ -97,7 +97,7 @@ returns-clause-new c =
     let next = c.len.ensures ∙ ap length answers in
     let free : get_refusal key b ≡ None = ap (get_refusal key) c.self.view_is ∙ c.requires.free in
     let left : ◌≡◌ {A = BusState} (record { gateway = c.end_all.new.gateway; asker = i.asker; next_face = i.next_face; next_request = i.next_request + 1; next_reply = i.next_reply + c.len.result; stores = i.stores; spent = false }) (after_get b key target now) =
-        λ j. record { gateway = after j; asker = i.asker; next_face = i.next_face; next_request = i.next_request + 1; next_reply = i.next_reply + next j; stores = i.stores; spent = sym (not_spent b key free) j } in
+    λ j. record { gateway = after j; asker = i.asker; next_face = i.next_face; next_request = i.next_request + 1; next_reply = i.next_reply + next j; stores = i.stores; spent = sym (not_spent b key free) j } in
     left ∙ ap (λ x. after_get x key target now) c.self.view_is
 
 pub returns-clause-answered : goal.returns-clause-answered
