@@ -8,3 +8,4 @@ pub mod Unsent
 pub mod Selected
 pub mod Nearest
 pub mod EntryHeld
+pub mod Lasting

@@ -152,7 +152,10 @@ impl<'a> Asker<'a> {
     ) -> Result<(), OutOfMemory>
         ensures { OnOk result (route.new ≡ with_offers route.old (chosen target (filter (passes (asker_of self.now)) offers))) }
     {
-        take_final_route(target, route, offers, |offer| self.passes(offer))
+        let test = |offer: &QueryTargetQabl| -> bool
+            ensures { result ≡ passes (asker_of self.entry.now) offer.now }
+        { self.passes(offer) };
+        take_final_route(target, route, offers, test)
     }
 
     // What the target picks region by region, in the order of their places.
@@ -183,7 +186,10 @@ impl<'a> Asker<'a> {
     {
         let offers = all_of(alloc, offered)?;
         let mut route = RouteBuilder::new(alloc);
-        take_best_overall(alloc, &mut route, offers, |offer| self.passes(offer))?;
+        let test = |offer: &QueryTargetQabl| -> bool
+            ensures { result ≡ passes (asker_of self.entry.now) offer.now }
+        { self.passes(offer) };
+        take_best_overall(alloc, &mut route, offers, test)?;
         Ok(route)
     }
 

@@ -2,6 +2,7 @@
 use Rattle.std.specs.Prelude.{◌&&◌, ◌||◌, not}
 use Rattle.std.proofs.Common.{◌≡◌, ◌∙◌, refl, sym, ap, ℕ, Bool, true, false, cond, List, [], ◌∷◌, ◌++◌, filter, fold, Option, Some, None}
 use Rattle.std.specs.BTreeMap.{is_at}
+use Rattle.std.specs.Map.{keys_of}
 use Rattle.std.specs.Option.{is_some, option_map_or}
 use Rattle.std.specs.Set.{remove_key}
 use Rattle.std.specs.Ordering.{nat_cmp}
@@ -89,8 +90,8 @@ put_there : (router : ℕ) (key : List ℕ) (i : QueryableInfoType) (h : HatStat
 put_there router key i h w =
     has_is key (announced router key i h).entries
     ∙ ap (has_text key) (keys_put router key h.entries w.ordered i)
-    ∙ has_put text_total text_exact key key _
-    ∙ ap (λ b. cond b true (has_text key _)) (at_itself text_total text_exact key)
+    ∙ has_put text_total text_exact key key (keys_of h.entries)
+    ∙ ap (λ b. b || has_text key (keys_of h.entries)) (at_itself text_total text_exact key)
 
 -- ---- what stands for keys after a call that changes entries of a region
 module _ (s : State) (reached : IsReached s) (r : Region) (h : HatState) (there : hat_at r s.core.hats ≡ Some h) (hats : List (ℕ × HatState)) where

@@ -1,7 +1,7 @@
 -- Facts about what the crates below define, which are proved there for those crates alone.
 use Rattle.std.proofs.Common.{◌≡◌, ◌∙◌, refl, sym, ap, ℕ, Bool, true, false, cond, List, [], ◌∷◌, ◌++◌, Option, Some, None, ◌⊎◌, inr, length, arith, eqb-true, append_assoc, ◌<◌, inl, take, drop}
 use Rattle.std.specs.Prelude.{find, ◌==◌, ◌&&◌, is_none}
-use Rattle.std.specs.List.{AllByRecursion, filter, list_any, position}
+use Rattle.std.specs.List.{AllByRecursion, list_any, position}
 use Rattle.std.specs.Map.{values_of}
 use Rattle.std.specs.Option.{option_map}
 use Rattle.std.proofs.lemmas.Bool.{false≢true, and_parts}
